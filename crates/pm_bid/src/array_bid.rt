@@ -1,0 +1,221 @@
+ghost use Rattle.std.specs.Prelude.{◌≡◌, ◌+◌, ◌*◌, ◌<◌, ◌≤◌, ◌≤ℤ◌, length, slice_set, pos, IfOk, vec_len};
+ghost use Rattle.pm_bid.specs.Bids.{demand_at, added, taken_off, zeros, clamped, sum_limit, demand_limit, IsWithin, AllWithinLimit, NeverRises};
+ghost use Rattle.pm_bid.specs.Checks.{checked_bid};
+ghost use Rattle.pm_bid.specs.Clearing.{clearing_step, first_at_most, last_at_least, Clears};
+
+use crate::fault::BidFault;
+use crate::pointwise::{add_each, clamp_each, clear_each, exchange_each, take_each};
+use crate::search::{find_at_least, find_at_most, find_rising, find_too_large};
+use crate::steps::Steps;
+use std::alloc::{AllocError, Global};
+use std::marker::Model;
+use std::sync::ledger::Ledger;
+
+/// A list of 2 to 1000 whole numbers in watts, one for each step of a market basis, each within
+/// ±256,000,000,000: a bid, or a sum of up to 256 bids.
+///
+/// Contracts see it as the list. The last parameter of each call that touches elements is the
+/// counter of element steps, on which each touched element counts one.
+#[derive(Drop)]
+pub struct ArrayBid {
+    demands: Vec<i64>,
+}
+
+impl Model for ArrayBid {
+    ghost use Rattle.std.specs.Prelude.{List, ℤ};
+    ghost use Rattle.pm_bid.specs.Bids.{IsArrayBid};
+
+    ghost Value = { List ℤ };
+
+    ghost view = { λ b. b.demands.items };
+
+    ghost invariant = { λ b. IsArrayBid b.demands.items };
+}
+
+impl ArrayBid {
+    /// The bid of these demands. They are as many as the steps, none is above the one before, and
+    /// each lies within ±1,000,000,000 watts; else the answer is the first fault, in the order of
+    /// [`BidFault`]. The counter rises by the length of the list in each case.
+    pub fn new<L: Ledger>(
+        demands: Vec<i64>,
+        steps: usize,
+        counter: &mut Steps<L>,
+    ) -> Result<ArrayBid, BidFault>
+        requires at_least_two { 2 ≤ steps }
+        requires at_most_thousand { steps ≤ 1000 }
+        ensures bid { result ≡ checked_bid steps demands.items }
+        ensures falls { IfOk result (λ bid. NeverRises bid) }
+        ensures small { IfOk result (λ bid. AllWithinLimit demand_limit bid) }
+        ensures cost { counter.new ≡ counter.old + vec_len demands }
+    {
+        counter.count(demands.len());
+        if demands.len() != steps {
+            return Err(BidFault::WrongLength {
+                have: demands.len(),
+            });
+        }
+        let at = find_rising(&demands);
+        if at < demands.len() {
+            return Err(BidFault::Rising { at });
+        }
+        let at = find_too_large(&demands);
+        if at < demands.len() {
+            return Err(BidFault::TooLarge { at });
+        }
+        Ok(ArrayBid { demands })
+    }
+
+    /// No power at any step.
+    pub fn zero<L: Ledger>(
+        alloc: Global,
+        steps: usize,
+        counter: &mut Steps<L>,
+    ) -> Result<ArrayBid, AllocError>
+        requires at_least_two { 2 ≤ steps }
+        requires at_most_thousand { steps ≤ 1000 }
+        ensures bid { IfOk result (λ bid. bid ≡ zeros steps) }
+        ensures cost { counter.new ≡ counter.old + steps }
+    {
+        counter.count(steps);
+        let demands = vec![in alloc; 0; steps]?;
+        Ok(ArrayBid { demands })
+    }
+
+    /// How many steps the bid has. No element is touched.
+    pub fn steps(&self) -> usize
+        ensures steps { result ≡ length self.now }
+        ensures at_least_two { 2 ≤ result }
+        ensures at_most_thousand { result ≤ 1000 }
+    {
+        self.demands.len()
+    }
+
+    /// The demand at a step, in watts.
+    pub fn at<L: Ledger>(&self, k: usize, steps: &mut Steps<L>) -> i64
+        requires { k < length self.now }
+        ensures demand { result ≡ demand_at self.now k }
+        ensures within { IsWithin sum_limit result }
+        ensures cost { steps.new ≡ steps.old + 1 }
+    {
+        steps.tick();
+        self.demands[k]
+    }
+
+    /// Sets the demand at a step, in watts.
+    pub fn set<L: Ledger>(&mut self, k: usize, demand: i64, steps: &mut Steps<L>)
+        requires step { k < length self.old }
+        requires within { IsWithin sum_limit demand }
+        ensures bid { self.new ≡ slice_set self.old k demand }
+        ensures cost { steps.new ≡ steps.old + 1 }
+    {
+        steps.tick();
+        self.demands[k] = demand;
+    }
+
+    /// Makes every demand 0.
+    pub fn clear<L: Ledger>(&mut self, steps: &mut Steps<L>)
+        ensures bid { self.new ≡ zeros (length self.old) }
+        ensures cost { steps.new ≡ steps.old + length self.old }
+    {
+        clear_each(&mut self.demands, steps);
+    }
+
+    /// Adds the other bid at every step. The bids have equal lengths, and each sum stays within
+    /// ±256,000,000,000 watts.
+    pub fn add_into<L: Ledger>(&mut self, other: &ArrayBid, steps: &mut Steps<L>)
+        requires equal_lengths { length self.old ≡ length other.now }
+        requires within { AllWithinLimit sum_limit (added self.old other.now) }
+        ensures sum { self.new ≡ added self.old other.now }
+        ensures cost { steps.new ≡ steps.old + length self.old }
+    {
+        add_each(&mut self.demands, &other.demands, steps);
+    }
+
+    /// Takes the other bid off at every step, under the conditions of [`ArrayBid::add_into`].
+    pub fn take_from<L: Ledger>(&mut self, other: &ArrayBid, steps: &mut Steps<L>)
+        requires equal_lengths { length self.old ≡ length other.now }
+        requires within { AllWithinLimit sum_limit (taken_off self.old other.now) }
+        ensures rest { self.new ≡ taken_off self.old other.now }
+        ensures cost { steps.new ≡ steps.old + length self.old }
+    {
+        take_each(&mut self.demands, &other.demands, steps);
+    }
+
+    /// Takes the old bid off and adds the new one at every step, in one pass: a running sum
+    /// follows a child's newer bid. Only the outcome has to stay within ±256,000,000,000 watts.
+    pub fn exchange<L: Ledger>(&mut self, old: &ArrayBid, new: &ArrayBid, steps: &mut Steps<L>)
+        requires old_length { length self.old ≡ length old.now }
+        requires new_length { length self.old ≡ length new.now }
+        requires within { AllWithinLimit sum_limit (added (taken_off self.old old.now) new.now) }
+        ensures exchanged { self.new ≡ added (taken_off self.old old.now) new.now }
+        ensures cost { steps.new ≡ steps.old + 2 * length self.old }
+    {
+        exchange_each(&mut self.demands, &old.demands, &new.demands, steps);
+    }
+
+    /// The step at which a market with this total demand clears: the first step whose demand is
+    /// not positive, and the last step where all are positive. That the total demand balances is
+    /// Kok's rule; taking the first such step of a list is this project's profile.
+    pub fn first_not_positive<L: Ledger>(&self, steps: &mut Steps<L>) -> usize
+        ensures step { result ≡ clearing_step self.now }
+        ensures clears { Clears self.now result }
+        ensures small { result < 1000 }
+        ensures cost { steps.new ≤ steps.old + length self.now }
+        ensures rises { steps.old ≤ steps.new }
+    {
+        self.first_at_most(0, steps)
+    }
+
+    /// The first step whose demand is at most the limit, and the last step where there is none.
+    pub fn first_at_most<L: Ledger>(&self, limit: i64, steps: &mut Steps<L>) -> usize
+        ensures step { result ≡ first_at_most limit self.now }
+        ensures inside { result < length self.now }
+        ensures small { result < 1000 }
+        ensures cost { steps.new ≤ steps.old + length self.now }
+        ensures rises { steps.old ≤ steps.new }
+    {
+        find_at_most(&self.demands, limit, steps)
+    }
+
+    /// The last step whose demand is at least the limit, and step 0 where there is none.
+    pub fn last_at_least<L: Ledger>(&self, limit: i64, steps: &mut Steps<L>) -> usize
+        ensures step { result ≡ last_at_least limit self.now }
+        ensures inside { result < length self.now }
+        ensures small { result < 1000 }
+        ensures cost { steps.new ≤ steps.old + length self.now }
+        ensures rises { steps.old ≤ steps.new }
+    {
+        find_at_least(&self.demands, limit, steps)
+    }
+
+    /// Makes the target, which has as many steps, this bid.
+    pub fn copy_into<L: Ledger>(&self, target: &mut ArrayBid, steps: &mut Steps<L>)
+        requires { length self.now ≡ length target.old }
+        ensures bid { target.new ≡ self.now }
+        ensures cost { steps.new ≡ steps.old + length self.now }
+    {
+        steps.count(self.demands.len());
+        target.demands.copy_from_slice(&self.demands);
+    }
+
+    /// Makes the target, which has as many steps, this bid with each demand moved to the nearest
+    /// number between floor and ceiling, in watts: what a part of the cluster with limited power
+    /// announces.
+    pub fn clamp_into<L: Ledger>(
+        &self,
+        floor: i64,
+        ceiling: i64,
+        target: &mut ArrayBid,
+        steps: &mut Steps<L>,
+    )
+        requires equal_lengths { length self.now ≡ length target.old }
+        requires floor_not_positive { floor ≤ℤ pos 0 }
+        requires ceiling_not_negative { pos 0 ≤ℤ ceiling }
+        requires floor_within { IsWithin sum_limit floor }
+        requires ceiling_within { IsWithin sum_limit ceiling }
+        ensures bid { target.new ≡ clamped floor ceiling self.now }
+        ensures cost { steps.new ≡ steps.old + length self.now }
+    {
+        clamp_each(&self.demands, floor, ceiling, &mut target.demands, steps);
+    }
+}

@@ -1,0 +1,85 @@
+ghost use Rattle.std.specs.Prelude.{◌≡◌, ◌+◌, ◌*◌, ◌≤ℤ◌, length};
+ghost use Rattle.pm_bid.specs.Bids.{added, taken_off, zeros, clamped, sum_limit, IsWithin, AllWithinLimit};
+
+use crate::steps::Steps;
+use std::sync::ledger::Ledger;
+
+/// Adds the others step by step.
+pub(crate) fn add_each<L: Ledger>(demands: &mut [i64], others: &[i64], steps: &mut Steps<L>)
+    requires equal_lengths { length demands.old ≡ length others.now }
+    requires within { AllWithinLimit sum_limit (added demands.old others.now) }
+    ensures sum { demands.new ≡ added demands.old others.now }
+    ensures cost { steps.new ≡ steps.old + length demands.old }
+{
+    for (step, demand) in demands.iter_mut().enumerate() {
+        *demand += others[step];
+        steps.tick();
+    }
+}
+
+/// Takes the others off step by step.
+pub(crate) fn take_each<L: Ledger>(demands: &mut [i64], others: &[i64], steps: &mut Steps<L>)
+    requires equal_lengths { length demands.old ≡ length others.now }
+    requires within { AllWithinLimit sum_limit (taken_off demands.old others.now) }
+    ensures rest { demands.new ≡ taken_off demands.old others.now }
+    ensures cost { steps.new ≡ steps.old + length demands.old }
+{
+    for (step, demand) in demands.iter_mut().enumerate() {
+        *demand -= others[step];
+        steps.tick();
+    }
+}
+
+/// Takes the olds off and adds the news step by step.
+pub(crate) fn exchange_each<L: Ledger>(
+    demands: &mut [i64],
+    olds: &[i64],
+    news: &[i64],
+    steps: &mut Steps<L>,
+)
+    requires old_length { length demands.old ≡ length olds.now }
+    requires new_length { length demands.old ≡ length news.now }
+    requires demands_within { AllWithinLimit sum_limit demands.old }
+    requires olds_within { AllWithinLimit sum_limit olds.now }
+    requires within { AllWithinLimit sum_limit (added (taken_off demands.old olds.now) news.now) }
+    ensures exchanged { demands.new ≡ added (taken_off demands.old olds.now) news.now }
+    ensures cost { steps.new ≡ steps.old + 2 * length demands.old }
+{
+    for (step, demand) in demands.iter_mut().enumerate() {
+        *demand -= olds[step];
+        steps.tick();
+        *demand += news[step];
+        steps.tick();
+    }
+}
+
+/// Writes each demand moved to the nearest between floor and ceiling.
+pub(crate) fn clamp_each<L: Ledger>(
+    demands: &[i64],
+    floor: i64,
+    ceiling: i64,
+    targets: &mut [i64],
+    steps: &mut Steps<L>,
+)
+    requires equal_lengths { length demands.now ≡ length targets.old }
+    requires order { floor ≤ℤ ceiling }
+    requires floor_within { IsWithin sum_limit floor }
+    requires ceiling_within { IsWithin sum_limit ceiling }
+    ensures clamped { targets.new ≡ clamped floor ceiling demands.now }
+    ensures within { AllWithinLimit sum_limit targets.new }
+    ensures cost { steps.new ≡ steps.old + length demands.now }
+{
+    for (step, target) in targets.iter_mut().enumerate() {
+        *target = demands[step].clamp(floor, ceiling);
+        steps.tick();
+    }
+}
+
+/// Makes each demand 0.
+pub(crate) fn clear_each<L: Ledger>(demands: &mut [i64], steps: &mut Steps<L>)
+    ensures zeros { demands.new ≡ zeros (length demands.old) }
+    ensures cost { steps.new ≡ steps.old + length demands.old }
+{
+    steps.count(demands.len());
+    demands.fill(0);
+}

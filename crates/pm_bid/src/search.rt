@@ -1,0 +1,68 @@
+ghost use Rattle.std.specs.Prelude.{◌≡◌, ◌+◌, ◌<◌, ◌≤◌, length};
+ghost use Rattle.pm_bid.specs.Checks.{first_rising, first_too_large};
+ghost use Rattle.pm_bid.specs.Clearing.{first_at_most, last_at_least};
+
+use crate::steps::Steps;
+use std::sync::ledger::Ledger;
+
+/// The largest absolute value of one demand, in watts.
+const DEMAND_LIMIT: i64 = 1_000_000_000;
+
+/// The first step whose demand is above the one before, else a step past the end.
+pub(crate) fn find_rising(demands: &[i64]) -> usize
+    requires { 2 ≤ length demands.now }
+    ensures { result ≡ first_rising demands.now }
+{
+    for step in 1..demands.len() {
+        if demands[step - 1] < demands[step] {
+            return step;
+        }
+    }
+    demands.len()
+}
+
+/// The first step whose demand is too large, else the number of steps.
+pub(crate) fn find_too_large(demands: &[i64]) -> usize
+    ensures { result ≡ first_too_large demands.now }
+{
+    for (step, demand) in demands.iter().enumerate() {
+        if *demand > DEMAND_LIMIT || *demand < -DEMAND_LIMIT {
+            return step;
+        }
+    }
+    demands.len()
+}
+
+/// The first step whose demand is at most the limit, else the last one.
+pub(crate) fn find_at_most<L: Ledger>(demands: &[i64], limit: i64, steps: &mut Steps<L>) -> usize
+    requires { 1 ≤ length demands.now }
+    ensures step { result ≡ first_at_most limit demands.now }
+    ensures inside { result < length demands.now }
+    ensures cost { steps.new ≤ steps.old + length demands.now }
+    ensures rises { steps.old ≤ steps.new }
+{
+    for (step, demand) in demands.iter().enumerate() {
+        steps.tick();
+        if *demand <= limit {
+            return step;
+        }
+    }
+    demands.len() - 1
+}
+
+/// The last step whose demand is at least the limit, else step 0.
+pub(crate) fn find_at_least<L: Ledger>(demands: &[i64], limit: i64, steps: &mut Steps<L>) -> usize
+    requires { 1 ≤ length demands.now }
+    ensures step { result ≡ last_at_least limit demands.now }
+    ensures inside { result < length demands.now }
+    ensures cost { steps.new ≤ steps.old + length demands.now }
+    ensures rises { steps.old ≤ steps.new }
+{
+    for step in (0..demands.len()).rev() {
+        steps.tick();
+        if demands[step] >= limit {
+            return step;
+        }
+    }
+    0
+}
