@@ -44,6 +44,7 @@ impl ArrayBid {
         requires at_least_two { 2 ≤ steps }
         requires at_most_thousand { steps ≤ 1000 }
         ensures bid { result ≡ checked_bid steps demands.items }
+        ensures length { IfOk result (λ bid. length bid ≡ steps) }
         ensures falls { IfOk result (λ bid. NeverRises bid) }
         ensures small { IfOk result (λ bid. AllWithinLimit demand_limit bid) }
         ensures cost { counter.new ≡ counter.old + vec_len demands }

@@ -1,0 +1,20 @@
+use Rattle.std.proofs.Common.{◌≡◌, ◌∙◌, sym, ap, ℤ, pos, to_z, of_z, w64, false, arith}
+use Rattle.std.specs.Prelude.{◌-ℤ◌, unsigned_abs}
+use Rattle.std.proofs.lemmas.Int.{ints}
+use Rattle.pm_basis.proofs.Rises.{no_rest}
+use Rattle.pm_basis.proofs.basis.Basis.new.Goals as goal
+
+pub invariant_of-result : goal.invariant_of-result
+invariant_of-result c =
+    let min = to_z w64 (of_z w64 c.args.min) in
+    let max = to_z w64 (of_z w64 c.args.max) in
+    let steps = to_z w64 (of_z w64 c.args.steps) in
+    let parts : pos (unsigned_abs steps) ≡ steps = omega (arith, ints) in
+    record {
+      at_least_two = omega (arith, ints);
+      at_most_thousand = omega (arith, ints);
+      order = grind (arith, ints);
+      low = grind (arith, ints);
+      high = grind (arith, ints);
+      even = no_rest (to_z w64 (of_z w64 (max -ℤ min))) (to_z w64 (of_z w64 (steps -ℤ pos 1))) (max -ℤ min) (pos (unsigned_abs steps) -ℤ pos 1) (sym c.leaves_rest.ensures ∙ c.if-leaves_rest.false) (omega (arith, ints)) (omega (arith, ints));
+    }
