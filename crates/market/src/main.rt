@@ -1,0 +1,48 @@
+//! The program `market`: reads a cluster file from standard input and writes to standard output.
+//!
+//! It hands the words of the command line, standard input and standard output to the top call, and
+//! ends with the code of its status. It prints nothing itself.
+#![tactic(auto)]
+
+use pm_io::{StdSink, StdSource};
+use pm_top::{Status, market};
+use std::alloc::Global;
+use std::env;
+use std::io::ErrorKind;
+use std::process::ExitCode;
+
+/// The exit code where the system refuses the words of the command line.
+const NO_WORDS: u8 = 8;
+
+/// The words after the program's name, or the exit code where they cannot be had: want of memory,
+/// or a word that the system does not give as text.
+fn words_of(rt: &HostRuntime) -> Result<Vec<String>, u8> {
+    let words = match env::args(rt) {
+        Ok(words) => words,
+        Err(e) => {
+            let code = if e.kind() == ErrorKind::OutOfMemory {
+                Status::NoMemory.code()
+            } else {
+                NO_WORDS
+            };
+            return Err(code);
+        }
+    };
+    let alloc: Global = rt.alloc();
+    match words.skip(1).collect(alloc) {
+        Ok(words) => Ok(words),
+        Err(_) => Err(Status::NoMemory.code()),
+    }
+}
+
+fn main(rt: HostRuntime) -> ExitCode {
+    match words_of(&rt) {
+        Ok(words) => {
+            let mut source = StdSource::new(rt.stdin());
+            let mut sink = StdSink::new(rt.stdout());
+            let status = market(rt.alloc(), &words, &mut source, &mut sink);
+            ExitCode::from(status.code())
+        }
+        Err(code) => ExitCode::from(code),
+    }
+}
