@@ -1,5 +1,5 @@
 -- The prices of a market basis.
-use Rattle.std.specs.Prelude.{◌≡◌, ℕ, ◌-◌, ◌≤◌, ℤ, pos, ◌+ℤ◌, ◌-ℤ◌, ◌*ℤ◌, neg_ℤ, ◌≤ℤ◌, ◌<ℤ◌, int_lt, int_div, int_rem, unsigned_abs, Bool, ◌||◌, not, if◌then◌else◌, Result, Ok, Err}
+use Rattle.std.specs.Prelude.{◌≡◌, ℕ, ◌≤◌, ℤ, pos, ◌+ℤ◌, ◌-ℤ◌, ◌*ℤ◌, neg_ℤ, ◌≤ℤ◌, ◌<ℤ◌, int_lt, int_div, int_rem, unsigned_abs, Bool, ◌||◌, not, if◌then◌else◌, Result, Ok, Err}
 use Rattle.std.specs.Ordering.{int_eq}
 use Rattle.pm_basis.specs.declared.fault.BasisFault.{BasisFault}
 use Rattle.pm_basis.specs.declared.fault.BasisFault.TheVariants.{BadSteps, BadRange, Uneven}

@@ -7,13 +7,16 @@ const LOAD: &str = "100,100,100,100,100,100,100,100,100,100";
 
 const GENERATOR: &str = "0,0,0,0,-150,-150,-150,-150,-150,-150";
 
-const TWO_BIDS: &str = "phase 1 price 4 step 4 total -50 members 2\nmember load1 power 100 bid 1\nmember gen1 power -150 bid 1\nend phases 1 changes 2\n";
+const TWO_BIDS: &str =
+    "phase 1 price 4 step 4 total -50 members 2\nmember load1 power 100 bid 1\nmember gen1 power -150 bid 1\nend phases 1 changes 2\n";
 
 const USAGE: &str = "usage: market run | market trace | market demo SIZE NUMBER\n";
 
 /// The cluster file of two manual devices with these demands, both joined.
 fn two_devices(alloc: Global, load: &str, generator: &str) -> Result<String, AllocError> {
-    format!(in alloc; "{{\"version\":1,\"basis\":{{\"min\":0,\"max\":9,\"steps\":10}},\"nodes\":[{{\"name\":\"load1\",\"kind\":\"manual\",\"parent\":\"auctioneer\",\"demand\":[{load}]}},{{\"name\":\"gen1\",\"kind\":\"manual\",\"parent\":\"auctioneer\",\"demand\":[{generator}]}}],\"phases\":[{{\"events\":[{{\"join\":\"load1\"}},{{\"join\":\"gen1\"}}]}}]}}")
+    format!(in alloc;
+        "{{\"version\":1,\"basis\":{{\"min\":0,\"max\":9,\"steps\":10}},\"nodes\":[{{\"name\":\"load1\",\"kind\":\"manual\",\"parent\":\"auctioneer\",\"demand\":[{load}]}},{{\"name\":\"gen1\",\"kind\":\"manual\",\"parent\":\"auctioneer\",\"demand\":[{generator}]}}],\"phases\":[{{\"events\":[{{\"join\":\"load1\"}},{{\"join\":\"gen1\"}}]}}]}}"
+    )
 }
 
 /// What a call answers, and what the sink holds afterwards. Reads give at most 100 bytes and writes
@@ -41,10 +44,14 @@ fn ran(
 #[test]
 fn files_have_their_texts(rt: HostRuntime) -> Result<(), Fail> {
     let alloc = rt.alloc();
-    let balanced = "phase 1 price 4 step 4 total 0 members 2\nmember load1 power 100 bid 1\nmember gen1 power -100 bid 1\nend phases 1 changes 2\n";
-    let m1 = "{\"version\":1,\"basis\":{\"min\":-100,\"max\":100,\"steps\":5},\"nodes\":[{\"name\":\"m1\",\"kind\":\"manual\",\"parent\":\"auctioneer\",\"demand\":[40,20,10,-5,-10]}],\"phases\":[{\"events\":[{\"join\":\"m1\"}]}]}";
-    let below_zero = "phase 1 price 50 step 3 total -5 members 1\nmember m1 power -5 bid 1\nend phases 1 changes 1\n";
-    let nobody = "{\"version\":1,\"basis\":{\"min\":0,\"max\":9,\"steps\":10},\"nodes\":[],\"phases\":[{\"events\":[]}]}";
+    let balanced =
+        "phase 1 price 4 step 4 total 0 members 2\nmember load1 power 100 bid 1\nmember gen1 power -100 bid 1\nend phases 1 changes 2\n";
+    let m1 =
+        "{\"version\":1,\"basis\":{\"min\":-100,\"max\":100,\"steps\":5},\"nodes\":[{\"name\":\"m1\",\"kind\":\"manual\",\"parent\":\"auctioneer\",\"demand\":[40,20,10,-5,-10]}],\"phases\":[{\"events\":[{\"join\":\"m1\"}]}]}";
+    let below_zero =
+        "phase 1 price 50 step 3 total -5 members 1\nmember m1 power -5 bid 1\nend phases 1 changes 1\n";
+    let nobody =
+        "{\"version\":1,\"basis\":{\"min\":0,\"max\":9,\"steps\":10},\"nodes\":[],\"phases\":[{\"events\":[]}]}";
     let vacant = "phase 1 price 0 step 0 total 0 members 0\nend phases 1 changes 0\n";
     let other = "refused 21 document\n";
     let rows = [
@@ -66,7 +73,11 @@ fn files_have_their_texts(rt: HostRuntime) -> Result<(), Fail> {
             Status::Refused,
             other,
         ),
-        (two_devices(alloc, "1,0", GENERATOR)?, Status::Refused, other),
+        (
+            two_devices(alloc, "1,0", GENERATOR)?,
+            Status::Refused,
+            other,
+        ),
         (two_devices(alloc, LOAD, "0.0")?, Status::Refused, other),
     ];
     for (file, status, text) in &rows {
@@ -167,7 +178,9 @@ fn words_and_faults_have_their_answers(rt: HostRuntime) -> Result<(), Fail> {
 #[test]
 fn the_longest_input_is_read(rt: HostRuntime) -> Result<(), Fail> {
     let alloc = rt.alloc();
-    let mut input = two_devices(alloc, LOAD, GENERATOR)?.as_bytes().to_vec(alloc)?;
+    let mut input = two_devices(alloc, LOAD, GENERATOR)?
+        .as_bytes()
+        .to_vec(alloc)?;
     input.resize(4_194_304, 32)?;
     let ended = ran(alloc, "run", &input, &[], &[])?;
     assert_eq!(rt; ended.0, Status::Done);

@@ -8,9 +8,9 @@ ghost use Rattle.pm_top.specs.Words.{command};
 ghost use Rattle.pm_top.specs.Report.{refusal_line, usage_line, too_long_line};
 ghost use Rattle.pm_top.specs.Top.{text_of, status_of, input_limit, status_for, ReadsToEnd, WroteFront, IsDue};
 
-use crate::status::Status;
 use crate::reading::{SceneError, read_scene};
 use crate::report::{refusal_line, report};
+use crate::status::Status;
 use crate::words::{Command, command_of};
 use pm_io::{ReadAllFault, Sink, Source, read_all, write_all};
 use std::alloc::Global;

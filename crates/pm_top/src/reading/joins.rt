@@ -102,11 +102,7 @@ pub(crate) fn has_known_names(nodes: &[Member], names: &[String]) -> bool
 }
 
 /// The nodes whose names are among these, in file order.
-fn joined(
-    alloc: Global,
-    nodes: Vec<Member>,
-    names: &[String],
-) -> Result<Vec<Member>, AllocError>
+fn joined(alloc: Global, nodes: Vec<Member>, names: &[String]) -> Result<Vec<Member>, AllocError>
     ensures { IfOk result (λ v. v.items ≡ filter (λ m. list_any (λ n.
         bytes_eq (string_bytes m.name) (string_bytes n)) names.now) nodes.items) }
 {

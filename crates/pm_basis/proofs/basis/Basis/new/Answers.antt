@@ -1,4 +1,4 @@
-use Rattle.std.proofs.Common.{◌≡◌, ◌∙◌, sym, ap, ℤ, pos, to_z, of_z, w64, false, arith}
+use Rattle.std.proofs.Common.{◌≡◌, ◌∙◌, sym, pos, to_z, of_z, w64, arith}
 use Rattle.std.specs.Prelude.{◌-ℤ◌, unsigned_abs}
 use Rattle.std.proofs.lemmas.Int.{ints}
 use Rattle.pm_basis.proofs.Rises.{no_rest}

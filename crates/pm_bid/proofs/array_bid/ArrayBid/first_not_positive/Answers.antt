@@ -1,5 +1,4 @@
-use Rattle.std.proofs.Common.{subst, sym, ◌≡◌, arith}
-use Rattle.pm_bid.specs.Clearing.{Clears}
+use Rattle.std.proofs.Common.{arith}
 use Rattle.pm_bid.proofs.array_bid.ArrayBid.first_not_positive.Goals as goal
 use Rattle.pm_bid.proofs.FoundStep.{clears_at_clearing_step}
 

@@ -10,7 +10,7 @@ invariant_of-result c = record {
   few =
       let nodes = c.in_ok-nodes.nodes.items in
       let few : length (map node_view nodes) ≤ 256 = names_few (map node_view nodes)
-          (ap (λ (ms : List Member). has_names_of (map node_view ms)) (sym c.deref.ensures.value) ∙ sym c.in_ok-has_names.ensures ∙ c.if-not-branch.false) in
+      (ap (λ (ms : List Member). has_names_of (map node_view ms)) (sym c.deref.ensures.value) ∙ sym c.in_ok-has_names.ensures ∙ c.if-not-branch.false) in
       omega (arith, few, length-map nodes node_view, c.in_ok-members.ensures.few, c.in_ok-members.members.ok);
   same_steps = c.in_ok-members.ensures.same_steps c.in_ok-basis.basis.steps
       (subst (λ (steps : ℕ). All (λ (m : Member). length m.bid ≡ steps) c.in_ok-nodes.nodes.items) c.steps.ensures.steps c.in_ok-nodes.ensures.same_steps);

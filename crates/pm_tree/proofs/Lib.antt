@@ -1,0 +1,9 @@
+pub mod Paths
+pub mod Ranges
+pub mod Named
+pub mod Refusals
+pub mod Rows
+pub mod Checks
+pub mod TableLists
+pub mod Loop
+pub mod Whole

@@ -1,0 +1,43 @@
+-- When an entry is refused, and the first refusal of a list.
+use Rattle.std.proofs.Common.{◌≡◌, ℕ, ◌+◌, ◌-◌, ◌<◌, ◌≤◌, Bool, true, false, cond, ◌&&◌, not, if◌then◌else◌, List, [], ◌∷◌, ◌++◌, length, map, get_or, take, Option, Some, None, is_some, unwrap_or, refl, sym, ap, subst, ◌∙◌, arith, nat_le, append_assoc, append-nil}
+use Rattle.std.specs.Option.{option_to_list}
+use Rattle.pm_tree.specs.Names.{is_name}
+use Rattle.pm_tree.specs.Shape.{depth_at}
+use Rattle.pm_tree.specs.Entries.{Entry, node_named, number_named, parents_of, leaves_of, is_leaf_at, depth_of, can_be_parent, entry_refusal, refusals_after}
+use Rattle.pm_tree.specs.declared.fault.TreeFault.{TreeFault}
+use Rattle.pm_tree.specs.declared.fault.TreeFault.TheVariants.{BadName, Twice, NoParent, TooDeep}
+
+module _ (before : List Entry) (e : Entry) where
+  pub refused_name : is_name e.name ≡ false → entry_refusal before e ≡ Some (BadName (length before + 1))
+  unfolding entry_refusal
+  refused_name bad = rw bad
+
+  pub refused_twice : is_name e.name ≡ true → is_some (node_named before e.name) ≡ true → entry_refusal before e ≡ Some (Twice (length before + 1))
+  unfolding entry_refusal
+  refused_twice good taken = rw (good, taken)
+
+  pub refused_parent : is_name e.name ≡ true → is_some (node_named before e.name) ≡ false → can_be_parent before e.parent ≡ false → entry_refusal before e ≡ Some (NoParent (length before + 1))
+  unfolding entry_refusal
+  refused_parent good free orphan = rw (good, free, orphan)
+
+  pub refused_depth : is_name e.name ≡ true → is_some (node_named before e.name) ≡ false → can_be_parent before e.parent ≡ true → e.leaf ≡ false → nat_le 6 (depth_of before (number_named before e.parent)) ≡ true → entry_refusal before e ≡ Some (TooDeep (length before + 1))
+  unfolding entry_refusal
+  refused_depth good free below concentrator deep = rw (good, free, below, concentrator, deep)
+
+  pub accepted_leaf : is_name e.name ≡ true → is_some (node_named before e.name) ≡ false → can_be_parent before e.parent ≡ true → e.leaf ≡ true → entry_refusal before e ≡ None
+  unfolding entry_refusal
+  accepted_leaf good free below leaf = rw (good, free, below, leaf)
+
+  pub accepted_concentrator : is_name e.name ≡ true → is_some (node_named before e.name) ≡ false → can_be_parent before e.parent ≡ true → e.leaf ≡ false → nat_le 6 (depth_of before (number_named before e.parent)) ≡ false → entry_refusal before e ≡ None
+  unfolding entry_refusal
+  accepted_concentrator good free below concentrator shallow = rw (good, free, below, concentrator, shallow)
+
+-- the refusals of a list, and then of what comes after it
+pub refusals_after-append : (before first rest : List Entry) → refusals_after before (first ++ rest) ≡ refusals_after before first ++ refusals_after (before ++ first) rest
+refusals_after-append before [] rest = ap (λ es. refusals_after es rest) (sym (append-nil before))
+refusals_after-append before (e ∷ first) rest =
+    let later = refusals_after-append (before ++ e ∷ []) first rest in
+    let same : (before ++ e ∷ []) ++ first ≡ before ++ e ∷ first = append_assoc before (e ∷ []) first in
+    let refusals : List TreeFault = option_to_list (entry_refusal before e) in
+    ap (λ faults. refusals ++ faults) (later ∙ ap (λ es. refusals_after (before ++ e ∷ []) first ++ refusals_after es rest) same)
+    ∙ sym (append_assoc refusals (refusals_after (before ++ e ∷ []) first) (refusals_after (before ++ (e ∷ first)) rest))

@@ -1,0 +1,4 @@
+pub mod Shape
+pub mod Names
+pub mod Entries
+pub mod Tables

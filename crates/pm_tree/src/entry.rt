@@ -1,0 +1,10 @@
+/// One entry of a tree: a device or a concentrator.
+#[derive(Debug, Drop)]
+pub struct TreeEntry {
+    /// The node's name.
+    pub name: String,
+    /// The name of its parent: `auctioneer` or an earlier concentrator.
+    pub parent: String,
+    /// Whether the node is a leaf, which is a device.
+    pub leaf: bool,
+}

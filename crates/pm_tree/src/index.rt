@@ -1,0 +1,129 @@
+ghost use Rattle.std.specs.Prelude.{◌≡◌, ℕ, ◌+◌, ◌<◌, ◌≤◌, [], ◌∷◌, ◌++◌, length, map, take, slice_get, IfOk, IfErr, OnOk, Some, None, IfSome, ◌⊎◌, string_bytes, option_map, position};
+ghost use Rattle.std.specs.Str.{bytes_eq};
+ghost use Rattle.pm_tree.specs.Entries.{entry_of, entries_of, entry_at, entry_refusal, node_named, refusals_after, parents_of, leaves_of};
+ghost use Rattle.pm_tree.specs.Shape.{IsTree};
+ghost use Rattle.pm_tree.specs.Tables.{IsIndexOf, IsRowOf};
+
+use crate::entry::TreeEntry;
+use crate::fault::TreeFault;
+use crate::name::{AUCTIONEER, is_name};
+use crate::node::{Node, NodeId};
+use indexmap::IndexSet;
+use std::alloc::{AllocError, Global};
+
+/// The most concentrators on a path to the auctioneer.
+const MAX_DEPTH: u32 = 6;
+
+/// The names and the node table of the entries so far, both with the auctioneer first.
+#[derive(Drop)]
+pub(crate) struct Index {
+    pub(crate) names: IndexSet<String>,
+    pub(crate) nodes: Vec<Node>,
+}
+
+/// Checks the entries in list order, and gives the index of all of them.
+pub(crate) fn index_entries(alloc: Global, entries: &[TreeEntry]) -> Result<Index, TreeFault>
+    requires { length entries.now ≤ 256 }
+    ensures index { IfOk result (λ index.
+        IsIndexOf (entries_of entries.now) (map string_bytes index.names.keys) index.nodes.items) }
+    ensures lawful { let es = entries_of entries.now in OnOk result (IsTree (parents_of es) (leaves_of es)) }
+    ensures accepted { OnOk result (slice_get (refusals_after [] (entries_of entries.now)) 0 ≡ None) }
+    ensures refused { IfErr result (λ fault.
+        (slice_get (refusals_after [] (entries_of entries.now)) 0 ≡ Some fault)
+        ⊎ (fault ≡ TreeFault.NoMemory)) }
+{
+    let mut index = Index::new(alloc)?;
+    for place in 0..entries.len() {
+        let row = index.check(entries, place)?;
+        index.push(alloc, entries[place].name.as_str(), row)?;
+    }
+    Ok(index)
+}
+
+impl Index {
+    /// The index of no entries: the auctioneer alone.
+    fn new(alloc: Global) -> Result<Index, AllocError>
+        ensures { IfOk result (λ index. IsIndexOf [] (map string_bytes index.names.keys) index.nodes.items) }
+    {
+        let mut names = IndexSet::new(alloc);
+        names.insert(String::from_str(alloc, AUCTIONEER)?)?;
+        let mut nodes = Vec::new(alloc);
+        nodes.push(Node {
+            parent: NodeId(0),
+            leaf: false,
+            depth: 0,
+        })?;
+        Ok(Index { names, nodes })
+    }
+
+    /// Checks the entry at a place after the entries before it, and gives its row.
+    fn check(&self, entries: &[TreeEntry], place: usize) -> Result<Node, TreeFault>
+        requires inside { place < length entries.now }
+        requires few { length entries.now ≤ 256 }
+        requires index { let before = take place (entries_of entries.now) in
+            IsIndexOf before (map string_bytes self.now.names.keys) self.now.nodes.items }
+        requires lawful { let before = take place (entries_of entries.now) in
+            IsTree (parents_of before) (leaves_of before) }
+        ensures accepted { let es = entries_of entries.now in
+            OnOk result (entry_refusal (take place es) (entry_at es place) ≡ None) }
+        ensures row { let es = entries_of entries.now in
+            IfOk result (IsRowOf (take place es) (entry_at es place)) }
+        ensures refused { let es = entries_of entries.now in
+            IfErr result (λ fault. entry_refusal (take place es) (entry_at es place) ≡ Some fault) }
+    {
+        let entry = &entries[place];
+        let at = place as u32 + 1;
+        if !is_name(entry.name.as_str()) {
+            return Err(TreeFault::BadName { at });
+        }
+        if find_node(&self.names, entry.name.as_str()).is_some() {
+            return Err(TreeFault::Twice { at });
+        }
+        let Some(parent) = find_node(&self.names, entry.parent.as_str()) else {
+            return Err(TreeFault::NoParent { at });
+        };
+        let above = self.nodes[parent.0 as usize];
+        if above.leaf {
+            return Err(TreeFault::NoParent { at });
+        }
+        if entry.leaf {
+            return Ok(Node {
+                parent,
+                leaf: true,
+                depth: above.depth,
+            });
+        }
+        if above.depth >= MAX_DEPTH {
+            return Err(TreeFault::TooDeep { at });
+        }
+        Ok(Node {
+            parent,
+            leaf: false,
+            depth: above.depth + 1,
+        })
+    }
+
+    /// Adds a node that no node so far has the name of.
+    fn push(&mut self, alloc: Global, name: &str, row: Node) -> Result<(), AllocError>
+        requires { position (bytes_eq name.now) (map string_bytes self.old.names.keys) ≡ None }
+        ensures names { OnOk result (map string_bytes self.new.names.keys
+            ≡ map string_bytes self.old.names.keys ++ name.now ∷ []) }
+        ensures nodes { OnOk result (self.new.nodes.items ≡ self.old.nodes.items ++ row ∷ []) }
+    {
+        self.names.insert(String::from_str(alloc, name)?)?;
+        self.nodes.push(row)?;
+        Ok(())
+    }
+}
+
+/// The node with the name, among names with the auctioneer's first.
+pub(crate) fn find_node(names: &IndexSet<String>, name: &str) -> Option<NodeId>
+    requires { length names.now.keys ≤ 257 }
+    ensures { option_map (λ node. node.0) result
+        ≡ position (bytes_eq name.now) (map string_bytes names.now.keys) }
+{
+    match names.get_index_of(name) {
+        Some(index) => Some(NodeId(index as u32)),
+        None => None,
+    }
+}
