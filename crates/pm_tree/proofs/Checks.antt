@@ -1,14 +1,14 @@
 -- The checks of an entry that is read from the list.
-use Rattle.std.proofs.Common.{◌≡◌, ℕ, ◌+◌, ◌-◌, ◌<◌, ◌≤◌, Bool, true, false, ◌&&◌, not, if◌then◌else◌, List, [], ◌∷◌, ◌++◌, length, map, get_or, take, Option, Some, None, is_some, unwrap_or, refl, sym, ap, subst, ◌∙◌, arith, nat_le, string_bytes, length-take-le, true≢false, add-zero}
+use Rattle.std.proofs.Common.{◌≡◌, ℕ, ◌+◌, ◌<◌, ◌≤◌, Bool, true, false, ◌&&◌, not, if◌then◌else◌, List, [], length, get_or, take, Option, Some, None, is_some, unwrap_or, refl, sym, ap, subst, ◌∙◌, arith, nat_le, string_bytes, length-take-le, true≢false, add-zero}
 use Rattle.std.specs.List.{position}
 use Rattle.std.specs.Option.{option_map}
 use Rattle.std.specs.Str.{bytes_eq}
 use Rattle.std.proofs.lemmas.Bool.Decides.{nat_tests}
 use Rattle.std.proofs.lemmas.List.{length-map, get_or-map}
 use Rattle.pm_tree.specs.Names.{is_name}
-use Rattle.pm_tree.specs.Shape.{leaf_at, depth_at, IsTree}
+use Rattle.pm_tree.specs.Shape.{IsTree}
 use Rattle.pm_tree.specs.Entries.{Entry, entry_of, entries_of, entry_at, names_of, node_named, number_named, parents_of, leaves_of, is_leaf_at, depth_of, can_be_parent, entry_refusal}
-use Rattle.pm_tree.specs.Tables.{IsNodeTable, IsRowOf, IsIndexOf}
+use Rattle.pm_tree.specs.Tables.{IsRowOf, IsIndexOf}
 use Rattle.pm_tree.specs.declared.entry.TreeEntry.{TreeEntry}
 use Rattle.pm_tree.specs.declared.fault.TreeFault.{TreeFault}
 use Rattle.pm_tree.specs.declared.fault.TreeFault.TheVariants.{BadName, Twice, NoParent, TooDeep}

@@ -1,10 +1,10 @@
 -- The entries one after another.
-use Rattle.std.proofs.Common.{◌≡◌, ℕ, ◌+◌, ◌<◌, ◌≤◌, zero, suc, false, List, [], ◌∷◌, ◌++◌, length, map, get_or, take, drop, Option, Some, None, refl, sym, ap, subst, ◌∙◌, arith, string_bytes, slice_get}
+use Rattle.std.proofs.Common.{◌≡◌, ℕ, ◌+◌, ◌<◌, suc, false, List, [], ◌∷◌, ◌++◌, length, get_or, take, drop, Some, None, sym, ap, ◌∙◌, arith, string_bytes, slice_get}
 use Rattle.std.specs.Option.{option_to_list}
 use Rattle.std.proofs.Math.Seq.{drop-cons}
 use Rattle.std.proofs.lemmas.List.{length-map, get_or-map, take_more, take-append-drop}
 use Rattle.pm_tree.specs.Shape.{IsTree}
-use Rattle.pm_tree.specs.Entries.{Entry, entry_of, entries_of, entry_at, parents_of, leaves_of, number_named, is_leaf_at, depth_of, entry_refusal, refusals_after, node_named, names_of}
+use Rattle.pm_tree.specs.Entries.{Entry, entry_of, entries_of, entry_at, parents_of, leaves_of, is_leaf_at, entry_refusal, refusals_after, node_named, names_of}
 use Rattle.std.specs.List.{position}
 use Rattle.std.specs.Str.{bytes_eq}
 use Rattle.pm_tree.specs.Tables.{IsRowOf, IsIndexOf}

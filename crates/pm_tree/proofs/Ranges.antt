@@ -1,10 +1,9 @@
 -- Lists of the first nodes, one node more at a time.
-use Rattle.std.proofs.Common.{◌≡◌, ℕ, ◌+◌, ◌-◌, ◌<◌, ◌≤◌, zero, suc, Bool, true, false, cond, ◌&&◌, if◌then◌else◌, List, [], ◌∷◌, ◌++◌, length, get_or, filter, take, count_by, refl, sym, ap, ◌∙◌, arith, ◌==◌, length-append, add-zero}
+use Rattle.std.proofs.Common.{◌≡◌, ℕ, ◌+◌, ◌<◌, ◌≤◌, zero, suc, Bool, true, false, ◌&&◌, if◌then◌else◌, List, [], ◌∷◌, ◌++◌, length, get_or, filter, take, count_by, refl, sym, ap, ◌∙◌, arith, ◌==◌, length-append, add-zero}
 use Rattle.std.specs.List.{range_with_len}
-use Rattle.std.proofs.lemmas.Bool.Decides.{nat_tests}
 use Rattle.std.proofs.lemmas.List.Elements.{filter-append}
 use Rattle.std.proofs.lemmas.List.Sums.{count_by_more_no, count_by_more_yes}
-use Rattle.pm_tree.specs.Shape.{parent_at, leaf_at, is_on_path, children_among, leaves_among, children_at, leaves_below_at, place_at}
+use Rattle.pm_tree.specs.Shape.{parent_at, leaf_at, is_on_path, children_among, leaves_among}
 
 range_with_len-more : (first count : ℕ) → range_with_len first (count + 1) ≡ range_with_len first count ++ (first + count) ∷ []
 range_with_len-more first zero = let same : first ≡ first + 0 = omega arith in ap (λ n. n ∷ []) same

@@ -1,9 +1,8 @@
 -- When an entry is refused, and the first refusal of a list.
-use Rattle.std.proofs.Common.{◌≡◌, ℕ, ◌+◌, ◌-◌, ◌<◌, ◌≤◌, Bool, true, false, cond, ◌&&◌, not, if◌then◌else◌, List, [], ◌∷◌, ◌++◌, length, map, get_or, take, Option, Some, None, is_some, unwrap_or, refl, sym, ap, subst, ◌∙◌, arith, nat_le, append_assoc, append-nil}
+use Rattle.std.proofs.Common.{◌≡◌, ◌+◌, true, false, List, [], ◌∷◌, ◌++◌, length, Some, None, is_some, sym, ap, ◌∙◌, nat_le, append_assoc, append-nil}
 use Rattle.std.specs.Option.{option_to_list}
 use Rattle.pm_tree.specs.Names.{is_name}
-use Rattle.pm_tree.specs.Shape.{depth_at}
-use Rattle.pm_tree.specs.Entries.{Entry, node_named, number_named, parents_of, leaves_of, is_leaf_at, depth_of, can_be_parent, entry_refusal, refusals_after}
+use Rattle.pm_tree.specs.Entries.{Entry, node_named, number_named, depth_of, can_be_parent, entry_refusal, refusals_after}
 use Rattle.pm_tree.specs.declared.fault.TreeFault.{TreeFault}
 use Rattle.pm_tree.specs.declared.fault.TreeFault.TheVariants.{BadName, Twice, NoParent, TooDeep}
 

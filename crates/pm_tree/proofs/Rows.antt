@@ -1,16 +1,15 @@
 -- The node table, one row more at a time.
-use Rattle.std.proofs.Common.{◌≡◌, ℕ, ◌+◌, ◌-◌, ◌<◌, ◌≤◌, Bool, true, false, cond, ◌&&◌, not, if◌then◌else◌, List, [], ◌∷◌, ◌++◌, length, map, get_or, take, drop, Option, Some, None, is_some, unwrap_or, refl, sym, ap, subst, ◌∙◌, arith, nat_le, length-append, add-zero, leb, ◌⊎◌, inl, inr}
+use Rattle.std.proofs.Common.{◌≡◌, ℕ, ◌+◌, ◌<◌, ◌≤◌, Bool, true, false, if◌then◌else◌, List, [], ◌∷◌, ◌++◌, length, get_or, is_some, refl, sym, ap, subst, ◌∙◌, arith, length-append, leb, ◌⊎◌, inl, inr}
 use Rattle.std.proofs.lemmas.Bool.Decides.{leb_tells}
 use Rattle.std.proofs.lemmas.List.{length-map, map-append, get_or-map, get_or_append_left}
 use Rattle.std.proofs.Math.Seq.{get_or-append_seam}
 use Rattle.pm_tree.specs.Shape.{parent_at, leaf_at, depth_at, IsTree}
-use Rattle.pm_tree.specs.Entries.{Entry, names_of, node_named, number_named, parents_of, leaves_of, is_leaf_at, depth_of, can_be_parent, entry_refusal}
-use Rattle.pm_tree.specs.Tables.{parent_numbers, leaf_marks, depth_numbers, shape_parents, shape_leaves, IsNodeTable, IsRowOf, IsIndexOf}
+use Rattle.pm_tree.specs.Entries.{Entry, node_named, number_named, parents_of, leaves_of, is_leaf_at, depth_of}
+use Rattle.pm_tree.specs.Tables.{parent_numbers, leaf_marks, depth_numbers, IsNodeTable, IsRowOf, IsIndexOf}
 use Rattle.pm_tree.specs.declared.node.Node.{Node}
-use Rattle.pm_tree.specs.declared.node.NodeId.{NodeId}
 use Rattle.pm_tree.proofs.Paths.{Falls, falls, parent_at-append, leaf_at-append, depth_at-append, depth_at-step, depth_at-auctioneer, parent_at-past}
 use Rattle.pm_tree.specs.Names.{auctioneer}
-use Rattle.pm_tree.proofs.Named.{parents_of-more, leaves_of-more, are_named-more, are_named, names_of-append, number_named-inside, length-parents_of, length-leaves_of}
+use Rattle.pm_tree.proofs.Named.{parents_of-more, leaves_of-more, are_named-more, are_named, names_of-append, number_named-inside, length-parents_of}
 
 -- what a row that is read says
 module _ (parents : List ℕ) (leaves : List Bool) (nodes : List Node) (table : IsNodeTable parents leaves nodes) where

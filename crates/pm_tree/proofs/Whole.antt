@@ -1,5 +1,5 @@
 -- The tree of a list that is accepted, and the refusals of a list.
-use Rattle.std.proofs.Common.{◌≡◌, ℕ, ◌+◌, ◌<◌, ◌≤◌, Bool, true, false, if◌then◌else◌, List, [], ◌∷◌, length, map, drop, Option, Some, None, Result, Ok, Err, refl, sym, ap, subst, ◌∙◌, arith, nat_lt, slice_get, ◌⊎◌, inl, inr}
+use Rattle.std.proofs.Common.{◌≡◌, ℕ, ◌+◌, ◌<◌, ◌≤◌, true, false, if◌then◌else◌, List, [], length, drop, Some, None, Result, Ok, Err, sym, ap, subst, ◌∙◌, arith, nat_lt, slice_get, ◌⊎◌, inl, inr}
 use Rattle.std.proofs.lemmas.Bool.Decides.{nat_tests}
 use Rattle.pm_tree.specs.Shape.{children_at, leaves_below_at, place_at, IsTree}
 use Rattle.pm_tree.specs.Entries.{Entry, parents_of, leaves_of, refusals_after, first_refusal, tree_unless, checked_tree}

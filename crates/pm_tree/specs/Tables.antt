@@ -1,8 +1,8 @@
 -- The tables that a tree keeps for its look-ups.
-use Rattle.std.specs.Prelude.{◌≡◌, ℕ, ◌+◌, ◌<◌, ◌≤◌, Bool, true, false, is_some, List, [], ◌∷◌, map, drop, length, slice_index, slice_index_or, Option, None, Vec, if◌then◌else◌}
+use Rattle.std.specs.Prelude.{◌≡◌, ℕ, ◌+◌, ◌<◌, ◌≤◌, Bool, true, false, is_some, List, [], ◌∷◌, map, drop, length, slice_index, slice_index_or, None, Vec, if◌then◌else◌}
 use Rattle.std.specs.List.{list_all}
 use Rattle.std.specs.declared.alloc.Global.{Global}
-use Rattle.pm_tree.specs.Shape.{parent_at, depth_at, place_at, is_on_path, IsTree}
+use Rattle.pm_tree.specs.Shape.{depth_at, is_on_path, IsTree}
 use Rattle.pm_tree.specs.Entries.{Entry, names_of, parents_of, leaves_of, children_of, leaves_below_of, place_of, first_refusal, number_named, node_named, is_leaf_at, depth_of}
 use Rattle.pm_tree.specs.declared.node.Node.{Node}
 use Rattle.pm_tree.specs.declared.node.NodeId.{NodeId}

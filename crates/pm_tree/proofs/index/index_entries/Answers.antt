@@ -1,10 +1,8 @@
-use Rattle.std.proofs.Common.{◌≡◌, ◌≤◌, ◌<◌, ◌∙◌, ap, sym, subst, refl, map, length, take, [], None, string_bytes, arith, option_map, List, ℕ, ◌++◌, ◌∷◌, inl}
-use Rattle.std.specs.List.{position}
-use Rattle.std.specs.Str.{bytes_eq}
+use Rattle.std.proofs.Common.{◌≡◌, ◌<◌, ◌∙◌, ap, sym, subst, refl, map, length, take, [], string_bytes, arith, List, ℕ, ◌++◌, ◌∷◌, inl}
 use Rattle.std.proofs.lemmas.List.{take_all}
 use Rattle.std.proofs.lemmas.Result.{err_from_is_err_and}
 use Rattle.pm_tree.specs.Shape.{IsTree}
-use Rattle.pm_tree.specs.Entries.{Entry, entries_of, entry_at, parents_of, leaves_of, refusals_after, entry_refusal}
+use Rattle.pm_tree.specs.Entries.{Entry, entries_of, entry_at, parents_of, leaves_of}
 use Rattle.pm_tree.proofs.Rows.{IsTree-nil}
 use Rattle.pm_tree.proofs.Loop.{index_step, lawful_step, accepted_step, refused_here, entry_read, length-entries_of, unknown_name}
 use Rattle.pm_tree.proofs.index.index_entries.Goals as goal

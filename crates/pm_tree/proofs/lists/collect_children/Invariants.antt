@@ -1,4 +1,4 @@
-use Rattle.std.proofs.Common.{◌≡◌, ◌<◌, ◌≤◌, ◌-◌, ℕ, length}
+use Rattle.std.proofs.Common.{◌-◌, length}
 use Rattle.pm_tree.specs.Shape.{children_among, place_at}
 use Rattle.pm_tree.specs.Tables.{lists_of, shape_parents, AreLists, AreNumbers}
 use Rattle.pm_tree.proofs.lists.collect_children.Given as goal

@@ -1,4 +1,4 @@
-use Rattle.std.proofs.Common.{◌≡◌, ◌≤◌, ◌<◌, ◌∙◌, ap, sym, refl, arith, subst, length, get_or, List, [], ◌++◌, ◌+◌, ◌-◌, Vec}
+use Rattle.std.proofs.Common.{◌≡◌, ◌∙◌, ap, sym, arith, subst, length, get_or, List, [], ◌++◌, ◌+◌, ◌-◌, Vec}
 use Rattle.std.specs.declared.alloc.Global.{Global}
 use Rattle.std.proofs.lemmas.List.{with_items_is}
 use Rattle.pm_tree.specs.Shape.{leaves_among}

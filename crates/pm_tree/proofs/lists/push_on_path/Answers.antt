@@ -1,4 +1,4 @@
-use Rattle.std.proofs.Common.{◌≡◌, ◌≤◌, ◌<◌, ◌∙◌, ap, sym, refl, arith, length, get_or}
+use Rattle.std.proofs.Common.{◌≡◌, ◌<◌, arith, get_or}
 use Rattle.std.proofs.lemmas.Result.{on_ok_weaker}
 use Rattle.pm_tree.specs.Shape.{parent_at}
 use Rattle.pm_tree.specs.Tables.{shape_parents, shape_leaves}

@@ -1,5 +1,3 @@
-use Rattle.std.proofs.Common.{◌≡◌, ◌∙◌, ap, ◌++◌, ◌∷◌, [], List, ℕ}
-use Rattle.pm_tree.specs.Tables.{numbers}
 use Rattle.pm_tree.proofs.TableLists.{lists_of-set}
 use Rattle.pm_tree.proofs.lists.push_to.Goals as goal
 

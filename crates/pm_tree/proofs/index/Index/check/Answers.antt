@@ -1,5 +1,4 @@
-use Rattle.std.proofs.Common.{◌≡◌, ◌≤◌, ◌∙◌, ap, sym, refl, map, string_bytes, arith, true, false, nat_le, add-zero}
-use Rattle.std.proofs.lemmas.Bool.Decides.{nat_tests}
+use Rattle.std.proofs.Common.{◌∙◌, ap, sym, refl, arith}
 use Rattle.pm_tree.specs.Names.{is_name}
 use Rattle.pm_tree.proofs.Checks.{bad_name, twice, no_parent, parent_inside, leaf_above, leaf_accepted, too_deep, concentrator_accepted, row_is, row_shallow, at_least_six, below_six, leaf_depth, concentrator_depth}
 use Rattle.pm_tree.proofs.index.Index.check.Goals as goal

@@ -1,7 +1,7 @@
-use Rattle.std.proofs.Common.{◌≡◌, ◌≤◌, ◌∙◌, ap, sym, subst, inl, inr, length, arith, List, [], map, slice_get, string_bytes, Err, None, Some, ◌⊎◌}
+use Rattle.std.proofs.Common.{◌≡◌, ◌≤◌, ◌∙◌, ap, subst, inl, length, arith, List, [], map, slice_get, string_bytes, Err, None, Some, ◌⊎◌}
 use Rattle.std.proofs.lemmas.Result.{err_from_is_err_and}
 use Rattle.pm_tree.specs.Shape.{IsTree, children_at, leaves_below_at, place_at}
-use Rattle.pm_tree.specs.Entries.{entries_of, parents_of, leaves_of, refusals_after, first_refusal}
+use Rattle.pm_tree.specs.Entries.{entries_of, parents_of, leaves_of, refusals_after}
 use Rattle.pm_tree.specs.Tables.{IsIndexOf, AreLists, AreNumbers, shape_parents, shape_leaves, lists_of}
 use Rattle.pm_tree.specs.declared.entry.TreeEntry.{TreeEntry}
 use Rattle.pm_tree.specs.declared.fault.TreeFault.{TreeFault}

@@ -1,9 +1,8 @@
-use Rattle.std.proofs.Common.{◌≡◌, ◌≤◌, ◌<◌, ◌∙◌, ap, sym, refl, arith, length, get_or}
-use Rattle.pm_tree.specs.Shape.{parent_at, depth_at}
+use Rattle.std.proofs.Common.{◌∙◌, ap, arith}
 use Rattle.pm_tree.specs.Entries.{parents_of, leaves_of}
 use Rattle.pm_tree.specs.declared.node.Node.{Node}
 use Rattle.pm_tree.proofs.Named.{length-parents_of}
-use Rattle.pm_tree.proofs.Rows.{row_parent, row_leaf, row_depth, length-table}
+use Rattle.pm_tree.proofs.Rows.{row_parent, length-table}
 use Rattle.pm_tree.proofs.tree.Tree.parent.Goals as goal
 
 pub index-requires : goal.index-requires
