@@ -1,0 +1,15 @@
+pub mod Facts
+pub mod Kept
+pub mod Order
+pub mod Quiet
+pub mod Sums
+pub mod Bound
+pub mod Numbers
+pub mod Legality
+pub mod Progress
+pub mod Held
+pub mod Offers
+pub mod Depth
+pub mod Examples
+pub mod Published
+pub mod Learnt

@@ -1,0 +1,168 @@
+-- In an idle state the last clearing is current.
+use Rattle.std.proofs.Common.{◌≡◌, ℕ, zero, suc, ◌+◌, ◌-◌, ◌<◌, ◌≤◌, true, false, not, inl, inr, length, refl, sym, ◌∙◌, ap, subst, arith}
+use Rattle.std.proofs.lemmas.Bool.{cases_eq, cases_lt, cases_Bool, cond-true, cond-false, both_ways}
+use Rattle.std.specs.List.{Contains}
+use Rattle.pm_market.specs.Lists.{Lists, parent, is_leaf, is_member, IsNode, IsLeaf, IsInner, IsConcentrator, IsLeafOf, Lawful}
+use Rattle.pm_market.specs.State.{Cut, State, zeros, is_same_on, SameOn, cut_at, greatest_number, newest, part, known, number, last, clearings, cleared, addresses, addresses_of}
+use Rattle.pm_market.specs.Moves.{Reached, Idle}
+use Rattle.pm_market.specs.Sound.{Sound}
+use Rattle.pm_market.specs.declared.moves.Move.TheVariants.{Learn, Publish, Clear, Pass}
+use Rattle.pm_market.proofs.Tree.{leaf_node, leaf_of_itself, leaf_of_parent}
+use Rattle.pm_market.proofs.Cuts.{not_same, same_from, is_same_from, entry_zero, newest_leaf, newest_inner, part_leaf, part_inner, known_at, greatest_from}
+use Rattle.pm_laws.proofs.Facts.{last_cases, last_within, window_of}
+
+in_zero : (lists : Lists) (d : ℕ) → is_member lists d 0 ≡ false
+unfolding is_member
+in_zero lists d = refl
+
+pub addresses_leaf : (lists : Lists) (cut : Cut) (x : ℕ) → IsLeaf lists x → addresses_of lists cut x ≡ is_member lists x (cut x)
+unfolding addresses_of
+addresses_leaf lists cut x leaf = cond-true (is_leaf lists x) (is_member lists x (cut x)) (not (is_same_on lists x cut zeros)) leaf
+
+pub addresses_inner : (lists : Lists) (cut : Cut) (x : ℕ) → IsInner lists x → addresses_of lists cut x ≡ not (is_same_on lists x cut zeros)
+unfolding addresses_of
+addresses_inner lists cut x inner = cond-false (is_leaf lists x) (is_member lists x (cut x)) (not (is_same_on lists x cut zeros)) inner
+
+-- a cut that is all zeros on the leaves of a node does not address it
+pub zeros_address_none : (lists : Lists) → Lawful lists → (cut : Cut) (x : ℕ) → SameOn lists x cut zeros → addresses_of lists cut x ≡ true → ⊥
+zeros_address_none lists law cut x same h =
+    elim (cases_Bool (is_leaf lists x)) [
+      | inl e ↦ both_ways (is_member lists x (cut x)) (ap (is_member lists x) (same x (leaf_of_itself lists law x e)) ∙ in_zero lists x) (sym (addresses_leaf lists cut x e) ∙ h)
+      | inr e ↦ both_ways (not (is_same_on lists x cut zeros)) (ap not (is_same_from lists x cut zeros same)) (sym (addresses_inner lists cut x e) ∙ h)
+    ]
+
+-- a concentrator that it does not address has all zeros
+not_addressed : (lists : Lists) → Lawful lists → (cut : Cut) (x : ℕ) → IsInner lists x → addresses_of lists cut x ≡ false → SameOn lists x cut zeros
+not_addressed lists law cut x inner h =
+    elim (cases_Bool (is_same_on lists x cut zeros)) [
+      | inl e ↦ same_from lists law x cut zeros e
+      | inr e ↦ absurd (both_ways (addresses_of lists cut x) h (addresses_inner lists cut x inner ∙ ap not e))
+    ]
+
+addresses_up : (lists : Lists) → Lawful lists → (cut : Cut) (x : ℕ) → IsNode lists x → addresses_of lists cut x ≡ true → addresses_of lists cut (parent lists x) ≡ true
+addresses_up lists law cut x node h =
+    elim (cases_Bool (addresses_of lists cut (parent lists x))) [
+      | inl e ↦ e
+      | inr e ↦
+          let same = not_addressed lists law cut (parent lists x) (law.inner x node) e in
+          absurd (zeros_address_none lists law cut x (λ d leaf. same d (leaf_of_parent lists law x d leaf)) h)
+    ]
+
+pub addressed_index : (lists : Lists) → Lawful lists → (s : State) (j x : ℕ) → addresses lists s j x ≡ true → 1 ≤ j
+addressed_index lists law s j x h =
+    elim (cases_eq j 0) [
+      | inl e ↦ absurd (zeros_address_none lists law (cleared s j) x (λ d leaf. ap (λ (k : ℕ). cleared s k d) e ∙ ap (λ (a : Cut). a d) (entry_zero (s.published 0))) h)
+      | inr n ↦ omega arith
+    ]
+
+-- what idle says of each kind of move
+
+idle_learnt : (lists : Lists) (s : State) → Sound lists s → Idle lists s → (x : ℕ) → IsNode lists x → s.learnt x ≡ newest lists s x
+idle_learnt lists s sound idle x node =
+    elim (cases_lt (s.learnt x) (newest lists s x)) [
+      | inl lt ↦ absurd (idle (Learn x (newest lists s x)) (node, lt, omega arith))
+      | inr ge ↦ omega (arith, sound.learnt_within x node)
+    ]
+
+idle_known : (lists : Lists) → Lawful lists → (s : State) → Idle lists s → (c : ℕ) → IsConcentrator lists c → newest lists s c - number lists s c (cleared s (last s c)) < 8 → SameOn lists c (known lists s c) (part lists s c (newest lists s c))
+idle_known lists law s idle c conc room =
+    elim (cases_Bool (is_same_on lists c (known lists s c) (part lists s c (newest lists s c)))) [
+      | inl e ↦ same_from lists law c (known lists s c) (part lists s c (newest lists s c)) e
+      | inr e ↦ absurd (idle (Publish c (newest lists s c + 1)) (conc, e, room, refl))
+    ]
+
+idle_cleared : (lists : Lists) → Lawful lists → (s : State) → Idle lists s → SameOn lists 0 (known lists s 0) (cleared s (clearings s))
+idle_cleared lists law s idle =
+    elim (cases_Bool (is_same_on lists 0 (known lists s 0) (cleared s (clearings s)))) [
+      | inl e ↦ same_from lists law 0 (known lists s 0) (cleared s (clearings s)) e
+      | inr e ↦ absurd (idle (Clear (clearings s + 1)) (e, refl))
+    ]
+
+idle_passed : (lists : Lists) (s : State) → Sound lists s → Idle lists s → (x : ℕ) → IsNode lists x → Reached s (parent lists x) (clearings s) → addresses lists s (clearings s) x ≡ true → last s x ≡ clearings s
+idle_passed lists s sound idle x node came addressed =
+    elim (cases_lt (last s x) (clearings s)) [
+      | inl lt ↦ absurd (idle (Pass x (clearings s)) (node, came, lt, addressed))
+      | inr ge ↦ omega (arith, last_within lists s sound x)
+    ]
+
+-- the claim at a node: the last clearing has its newest number, and was passed to it where it addresses it
+record Current (lists : Lists) (s : State) (x : ℕ) : Type 0 where
+  newest : SameOn lists x (cleared s (clearings s)) (part lists s x (newest lists s x))
+  passed : addresses lists s (clearings s) x ≡ true → last s x ≡ clearings s
+
+-- nothing of a concentrator is unanswered then
+current_answered : (lists : Lists) → Lawful lists → (s : State) → Sound lists s → (c : ℕ) → IsConcentrator lists c → Current lists s c → newest lists s c - number lists s c (cleared s (last s c)) ≡ 0
+current_answered lists law s sound c conc current =
+    let len : ℕ = length (s.published c) in
+    let top : part lists s c (newest lists s c) ≡ cut_at (s.published c) len = part_inner lists s.published c (newest lists s c) conc.2 ∙ ap (cut_at (s.published c)) (newest_inner lists s.counts s.published c conc.2) in
+    elim (cases_Bool (addresses lists s (clearings s) c)) [
+      | inl e ↦
+          let at : last s c ≡ clearings s = current.passed e in
+          let same : SameOn lists c (cut_at (s.published c) len) (cleared s (clearings s)) = λ d leaf. sym (current.newest d leaf ∙ ap (λ (a : Cut). a d) top) in
+          let most : len ≤ greatest_number lists (s.published c) c (cleared s (clearings s)) len = greatest_from lists (s.published c) c (cleared s (clearings s)) len len (omega arith) same in
+          omega (arith, window_of lists s c (cleared s (last s c)) conc.2, most, ap (λ (j : ℕ). greatest_number lists (s.published c) c (cleared s j) len) at)
+      | inr e ↦
+          let none = not_addressed lists law (cleared s (clearings s)) c conc.2 e in
+          elim (cases_eq len 0) [
+            | inl empty ↦ omega (arith, window_of lists s c (cleared s (last s c)) conc.2)
+            | inr n ↦
+                let rise = sound.published_rise c 0 len conc.2 (omega arith) (omega arith) in
+                absurd (not_same lists c (cut_at (s.published c) 0) (cut_at (s.published c) len) rise.not_same (λ d leaf.
+                ap (λ (a : Cut). a d) (entry_zero (s.published c)) ∙ sym (none d leaf) ∙ current.newest d leaf ∙ ap (λ (a : Cut). a d) top))
+          ]
+    ]
+
+current_in : (lists : Lists) → Lawful lists → (s : State) → Sound lists s → Idle lists s → (bound x : ℕ) → x ≤ bound → IsNode lists x → Current lists s x
+current_in lists law s sound idle zero x h node = absurd (omega arith)
+current_in lists law s sound idle (suc bound) x h node =
+    let learnt_is : s.learnt x ≡ newest lists s x = idle_learnt lists s sound idle x node in
+    let at_parent : (d : ℕ) → IsLeafOf lists x d → known lists s (parent lists x) d ≡ part lists s x (newest lists s x) d =
+    λ d leaf. known_at lists law s.published s.learnt x d node.0 leaf ∙ ap (λ (k : ℕ). part lists s x k d) learnt_is in
+    elim (cases_eq (parent lists x) 0) [
+      | inl e ↦ record {
+        newest = λ d leaf.
+            sym (idle_cleared lists law s idle d (subst (λ (z : ℕ). IsLeafOf lists z d) e (leaf_of_parent lists law x d leaf)))
+            ∙ ap (λ (z : ℕ). known lists s z d) (sym e) ∙ at_parent d leaf;
+        passed = λ addressed. idle_passed lists s sound idle x node (inl (e, addressed_index lists law s (clearings s) x addressed, omega arith)) addressed;
+      }
+      | inr n ↦
+          let c : ℕ = parent lists x in
+          let c_conc : IsConcentrator lists c = (omega arith, omega (arith, law.earlier x node, node.1), law.inner x node) in
+          let above : Current lists s c = current_in lists law s sound idle bound c (omega (arith, law.earlier x node)) (c_conc.0, c_conc.1) in
+          let room = current_answered lists law s sound c c_conc above in
+          let heard = idle_known lists law s idle c c_conc (omega arith) in
+          record {
+            newest = λ d leaf.
+                above.newest d (leaf_of_parent lists law x d leaf) ∙ sym (heard d (leaf_of_parent lists law x d leaf)) ∙ at_parent d leaf;
+            passed = λ addressed.
+                let last_is : last s c ≡ clearings s = above.passed (addresses_up lists law (cleared s (clearings s)) x node addressed) in
+                let one : 1 ≤ clearings s = addressed_index lists law s (clearings s) x addressed in
+                let came : Contains (s.passed c) (clearings s) = elim (last_cases (s.passed c)) [
+                  | inl w ↦ absurd (omega (arith, w.1))
+                  | inr w ↦ subst (λ (j : ℕ). Contains (s.passed c) j) last_is w
+                ] in
+                idle_passed lists s sound idle x node (inr came) addressed;
+          }
+    ]
+
+current : (lists : Lists) → Lawful lists → (s : State) → Sound lists s → Idle lists s → (x : ℕ) → IsNode lists x → Current lists s x
+current lists law s sound idle x node = current_in lists law s sound idle x x (omega arith) node
+
+-- the last cleared cut is the counts
+pub quiet_counts : (lists : Lists) → Lawful lists → (s : State) → Sound lists s → Idle lists s → (d : ℕ) → IsLeaf lists d → cleared s (clearings s) d ≡ s.counts d
+quiet_counts lists law s sound idle d leaf =
+    (current lists law s sound idle d (leaf_node lists law d leaf)).newest d (leaf_of_itself lists law d leaf)
+    ∙ part_leaf lists s.published d (newest lists s d) d leaf
+    ∙ newest_leaf lists s.counts s.published d leaf
+
+-- each device that is in was passed the last clearing
+pub quiet_passed : (lists : Lists) → Lawful lists → (s : State) → Sound lists s → Idle lists s → (d : ℕ) → IsLeaf lists d → is_member lists d (s.counts d) ≡ true →
+    (1 ≤ clearings s) × (last s d ≡ clearings s)
+quiet_passed lists law s sound idle d leaf at =
+    let addressed : addresses lists s (clearings s) d ≡ true =
+    addresses_leaf lists (cleared s (clearings s)) d leaf ∙ ap (is_member lists d) (quiet_counts lists law s sound idle d leaf) ∙ at in
+    (addressed_index lists law s (clearings s) d addressed, (current lists law s sound idle d (leaf_node lists law d leaf)).passed addressed)
+
+-- and no number of a concentrator is unanswered
+pub quiet_window : (lists : Lists) → Lawful lists → (s : State) → Sound lists s → Idle lists s → (c : ℕ) → IsConcentrator lists c → newest lists s c - number lists s c (cleared s (last s c)) ≡ 0
+quiet_window lists law s sound idle c conc = current_answered lists law s sound c conc (current lists law s sound idle c (conc.0, conc.1))

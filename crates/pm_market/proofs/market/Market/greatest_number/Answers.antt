@@ -1,0 +1,32 @@
+use Rattle.std.proofs.Common.{◌≡◌, ◌-◌, ◌+◌, ℕ, List, ap, sym, ◌∙◌, arith}
+use Rattle.pm_market.specs.State.{Cut, is_same_on, greatest_number}
+use Rattle.pm_market.specs.Market.{lists_of, state_of, cut_of}
+use Rattle.pm_market.proofs.Steps.{greatest_here, greatest_below}
+use Rattle.pm_market.proofs.market.Market.greatest_number.Goals as goal
+
+pub returns-then-is_same_on : goal.returns-then-is_same_on
+returns-then-is_same_on c =
+    let lists = lists_of c.args.self.now in
+    let cuts : List Cut = (state_of c.args.self.now).published c.args.node in
+    let at : ℕ = c.published_by-newest.result - c.loop-back.back in
+    sym (greatest_here lists cuts c.args.node (cut_of c.args.cut.now) at (omega arith)
+    (ap (λ (a : Cut). is_same_on lists c.args.node a (cut_of c.args.cut.now)) (sym c.cut_row.ensures) ∙ sym c.is_same_on.ensures ∙ c.if-is_same_on.true))
+    ∙ c.loop-back.invariant ∙ ap (greatest_number lists cuts c.args.node (cut_of c.args.cut.now)) c.published_by-newest.ensures
+
+pub loop-back-preserved : goal.loop-back-preserved
+loop-back-preserved c =
+    let lists = lists_of c.args.self.now in
+    let cuts : List Cut = (state_of c.args.self.now).published c.args.node in
+    let at : ℕ = c.published_by-newest.result - c.loop-back.back in
+    sym (greatest_below lists cuts c.args.node (cut_of c.args.cut.now) at (c.published_by-newest.result - (c.loop-back.back + 1)) (omega arith)
+    (ap (λ (a : Cut). is_same_on lists c.args.node a (cut_of c.args.cut.now)) (sym c.cut_row.ensures) ∙ sym c.is_same_on.ensures ∙ c.if-is_same_on.false))
+    ∙ c.loop-back.invariant
+
+pub returns : goal.returns
+unfolding greatest_number
+returns c =
+    let lists = lists_of c.args.self.now in
+    let cuts : List Cut = (state_of c.args.self.now).published c.args.node in
+    let e : c.published_by-newest.result - c.loop-back.back ≡ 0 = omega arith in
+    sym (ap (greatest_number lists cuts c.args.node (cut_of c.args.cut.now)) e)
+    ∙ c.loop-back.invariant ∙ ap (greatest_number lists cuts c.args.node (cut_of c.args.cut.now)) c.published_by-newest.ensures

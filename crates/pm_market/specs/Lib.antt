@@ -1,0 +1,10 @@
+pub mod Lists
+pub mod State
+pub mod Moves
+pub mod Sound
+pub mod Bound
+pub mod Legality
+pub mod Held
+pub mod Offers
+pub mod Journal
+pub mod Market

@@ -1,0 +1,36 @@
+-- The lists and the state that a market's tables stand for.
+use Rattle.std.specs.Prelude.{◌≡◌, ℕ, List, [], ◌∷◌, ◌++◌, map, slice_index_or}
+use Rattle.pm_market.specs.Lists.{Lists}
+use Rattle.pm_market.specs.State.{Cut, State, updated, known}
+use Rattle.pm_market.specs.declared.market.Market.{Market}
+
+-- the cut of a row of numbers, one for each node from the auctioneer's on
+abbrev pub cut_of : List ℕ → Cut
+cut_of row d = slice_index_or row d 0
+
+-- the four lists of a market
+abbrev pub lists_of : Market → Lists
+lists_of m = record {
+  parents = m.parents.items;
+  leaves = m.leaves.items;
+  members = map (λ row. row.items) m.members.items;
+  ends = map (λ row. row.items) m.ends.items;
+}
+
+-- the state of a market; each table has a place for each node, the auctioneer's first
+abbrev pub state_of : Market → State
+state_of m = record {
+  counts = cut_of m.counts.items;
+  closed = m.closed;
+  published = λ c. map cut_of (map (λ row. row.items) (slice_index_or (map (λ rows. rows.items) m.published.items) c []));
+  learnt = λ x. slice_index_or m.learnt.items x 0;
+  passed = λ x. slice_index_or (map (λ row. row.items) m.passed.items) x [];
+}
+
+-- what a node knows joins the cuts that it published or cleared
+abbrev pub Publishes : Lists → State → State → ℕ → Type 0
+Publishes lists old new node = new ≡ record old { published = updated old.published node (old.published node ++ known lists old node ∷ []) }
+
+-- a clearing joins those passed to a node
+abbrev pub Passes : State → State → ℕ → ℕ → Type 0
+Passes old new node index = new ≡ record old { passed = updated old.passed node (old.passed node ++ index ∷ []) }

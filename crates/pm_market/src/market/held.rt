@@ -1,0 +1,65 @@
+use super::Market;
+use crate::rows::item_at;
+
+/// What a device holds, and whether a run is over.
+impl Market {
+    ghost use Rattle.std.specs.Prelude.{◌≡◌, ◌↔◌, ◌-◌, ◌≤◌, ◌&&◌, not, IsTrue};
+    ghost use Rattle.pm_market.specs.Lists.{phases, is_member};
+    ghost use Rattle.pm_market.specs.State.{cleared, last};
+    ghost use Rattle.pm_market.specs.Held.{last_join, holds_price};
+    ghost use Rattle.pm_market.specs.Market.{lists_of, state_of, cut_of};
+
+    /// Whether every phase is closed.
+    pub fn is_complete(&self) -> bool
+        ensures { IsTrue result ↔ ((state_of self.now).closed ≡ phases (lists_of self.now)) }
+    {
+        self.closed as usize == self.ends.len()
+    }
+
+    /// The index of the clearing passed to a node last, 0 where there was none.
+    pub fn last_passed(&self, node: usize) -> usize
+        ensures { result ≡ last (state_of self.now) node }
+    {
+        self.last(node)
+    }
+
+    /// The cut of a clearing, a number for each node from the auctioneer's on. What is missing is 0.
+    pub fn cleared(&self, index: usize) -> &[u32]
+        ensures { cut_of result.now ≡ cleared (state_of self.now) index }
+    {
+        self.cut_row(0, index)
+    }
+
+    /// Whether a change of a device is a join: it is a member after the change, and was none before it.
+    fn is_join(&self, device: usize, number: usize) -> bool
+        requires { 1 ≤ number }
+        ensures { result ≡ (is_member (lists_of self.now) device number && not (is_member (lists_of self.now) device (number - 1))) }
+    {
+        self.is_member(device, number) && !self.is_member(device, number - 1)
+    }
+
+    /// The number of the last join of a device among so many changes, 0 where there is none.
+    fn last_join(&self, device: usize, changes: usize) -> usize
+        ensures { result ≡ last_join (lists_of self.now) device changes }
+    {
+        for back in 0..changes {
+            let number = changes - back;
+            if self.is_join(device, number) {
+                return number;
+            }
+        }
+        0
+    }
+
+    /// Whether a device holds a price: that of the clearing passed to it last, unless it is of a former membership.
+    #[tactic(auto, unfolding(crate::specs::Held::holds_price))]
+    pub fn holds_price(&self, device: usize) -> bool
+        ensures { result ≡ holds_price (lists_of self.now) (state_of self.now) device }
+    {
+        let last = self.last(device);
+        let changes = item_at(&self.counts, device, 0) as usize;
+        0 < last
+            && self.is_member(device, changes)
+            && self.last_join(device, changes) <= item_at(self.cut_row(0, last), device, 0) as usize
+    }
+}

@@ -1,0 +1,118 @@
+use super::Market;
+use crate::moves::Move;
+use crate::rows::{empty_rows, push_at};
+use std::alloc::{AllocError, Global};
+
+/// Making moves.
+impl Market {
+    ghost use Rattle.std.specs.Prelude.{◌≡◌, ◌≤◌, true, map, vec_len, IfOk, OnOk, OnErr};
+    ghost use Rattle.pm_market.specs.Lists.{nodes, IsNode};
+    ghost use Rattle.pm_market.specs.State.{start, known, updated};
+    ghost use Rattle.pm_market.specs.Moves.{step};
+    ghost use Rattle.pm_market.specs.Legality.{is_legal};
+    ghost use Rattle.pm_market.specs.Market.{lists_of, state_of, cut_of, Publishes, Passes};
+
+    /// A market at its start, over these lists: the parent of each node, which nodes are devices, for each node whether it
+    /// is a member after each of its changes, and for each phase the number of changes of each node at its end.
+    pub fn new(
+        alloc: Global,
+        parents: Vec<u32>,
+        leaves: Vec<bool>,
+        members: Vec<Vec<bool>>,
+        ends: Vec<Vec<u32>>,
+    ) -> Result<Market, AllocError>
+        requires { vec_len leaves ≡ vec_len parents }
+        ensures lists { IfOk result (λ market. lists_of market ≡ record { parents = parents.items; leaves = leaves.items; members = map (λ row. row.items) members.items; ends = map (λ row. row.items) ends.items }) }
+        ensures start { IfOk result (λ market. state_of market ≡ start) }
+    {
+        let places = parents.len() + 1;
+        Ok(Market {
+            counts: vec![in alloc; 0; places]?,
+            published: empty_rows(alloc, places)?,
+            learnt: vec![in alloc; 0; places]?,
+            passed: empty_rows(alloc, places)?,
+            closed: 0,
+            alloc,
+            parents,
+            leaves,
+            members,
+            ends,
+        })
+    }
+
+    /// What a node knows, a number for each node from the auctioneer's on.
+    fn known_row(&self, node: usize) -> Result<Vec<u32>, AllocError>
+        ensures { IfOk result (λ row. cut_of row.items ≡ known (lists_of self.now) (state_of self.now) node) }
+    {
+        let mut row = Vec::with_capacity(self.alloc, self.counts.len())?;
+        for device in 0..self.counts.len() {
+            row.push(self.known_number(node, device))?;
+        }
+        Ok(row)
+    }
+
+    /// A device has so many changes.
+    fn count(&mut self, device: usize, number: u32)
+        requires { device ≤ nodes (lists_of self.old) }
+        ensures lists { lists_of self.new ≡ lists_of self.old }
+        ensures state { state_of self.new ≡ record (state_of self.old) { counts = updated (state_of self.old).counts device number } }
+    {
+        self.counts[device] = number;
+    }
+
+    /// The parent of a node learnt a number of it.
+    fn learn(&mut self, child: usize, number: u32)
+        requires { IsNode (lists_of self.old) child }
+        ensures lists { lists_of self.new ≡ lists_of self.old }
+        ensures state { state_of self.new ≡ record (state_of self.old) { learnt = updated (state_of self.old).learnt child number } }
+    {
+        self.learnt[child] = number;
+    }
+
+    /// What a node knows joins the cuts that it published or cleared.
+    fn publish(&mut self, node: usize) -> Result<(), AllocError>
+        requires { node ≤ nodes (lists_of self.old) }
+        ensures lists { lists_of self.new ≡ lists_of self.old }
+        ensures ok { OnOk result (Publishes (lists_of self.old) (state_of self.old) (state_of self.new) node) }
+        ensures err { OnErr result (state_of self.new ≡ state_of self.old) }
+    {
+        let row = self.known_row(node)?;
+        push_at(&mut self.published, node, row)
+    }
+
+    /// A clearing was passed to a node.
+    fn pass(&mut self, node: usize, index: usize) -> Result<(), AllocError>
+        requires { node ≤ nodes (lists_of self.old) }
+        ensures lists { lists_of self.new ≡ lists_of self.old }
+        ensures ok { OnOk result (Passes (state_of self.old) (state_of self.new) node index) }
+        ensures err { OnErr result (state_of self.new ≡ state_of self.old) }
+    {
+        push_at(&mut self.passed, node, index)
+    }
+
+    /// Makes a legal move. On an error all is as before.
+    pub fn apply(&mut self, what: Move) -> Result<(), AllocError>
+        requires { is_legal (lists_of self.old) (state_of self.old) what ≡ true }
+        ensures lists { lists_of self.new ≡ lists_of self.old }
+        ensures ok { OnOk result (state_of self.new ≡ step (lists_of self.old) (state_of self.old) what) }
+        ensures err { OnErr result (state_of self.new ≡ state_of self.old) }
+    {
+        match what {
+            Move::Change { device, number } => {
+                self.count(device as usize, number);
+                Ok(())
+            }
+            Move::Learn { child, number } => {
+                self.learn(child as usize, number);
+                Ok(())
+            }
+            Move::Publish { node, .. } => self.publish(node as usize),
+            Move::Clear { .. } => self.publish(0),
+            Move::Pass { node, index } => self.pass(node as usize, index as usize),
+            Move::Close { phase } => {
+                self.closed = phase;
+                Ok(())
+            }
+        }
+    }
+}

@@ -1,0 +1,84 @@
+ghost use Rattle.std.specs.Prelude.{◌≡◌, ◌<◌, ◌∷◌, ◌++◌, [], length, map, replicate, slice_index_or, slice_set, IfOk, OnErr, OnOk};
+ghost use Rattle.pm_market.specs.Legality.{is_one_of};
+
+use std::alloc::{AllocError, Global};
+
+/// The item at a place of a list that is counted from 1, else none.
+pub(crate) fn item_from_one<T: Copy>(list: &[T], place: usize, none: T) -> T
+    ensures { result ≡ slice_index_or (none ∷ list.now) place none }
+{
+    match place.checked_sub(1) {
+        Some(at) => item_at(list, at, none),
+        None => none,
+    }
+}
+
+/// The item at a place that is counted from 0, else none.
+pub(crate) fn item_at<T: Copy>(list: &[T], place: usize, none: T) -> T
+    ensures { result ≡ slice_index_or list.now place none }
+{
+    if place < list.len() {
+        list[place]
+    } else {
+        none
+    }
+}
+
+/// The row at a place of a table that is counted from 1; a row that is missing is empty.
+pub(crate) fn row_from_one<T>(table: &[Vec<T>], place: usize) -> &[T]
+    ensures { result.now ≡ slice_index_or ([] ∷ map (λ row. row.items) table.now) place [] }
+{
+    match place.checked_sub(1) {
+        Some(at) => row_at(table, at),
+        None => &[],
+    }
+}
+
+/// The row at a place that is counted from 0; a row that is missing is empty.
+pub(crate) fn row_at<T>(table: &[Vec<T>], place: usize) -> &[T]
+    ensures { result.now ≡ slice_index_or (map (λ row. row.items) table.now) place [] }
+{
+    match table.get(place) {
+        Some(row) => row,
+        None => &[],
+    }
+}
+
+/// Adds an item at the end of a row. On an error the table is as before.
+pub(crate) fn push_at<T: Drop>(
+    table: &mut [Vec<T>],
+    place: usize,
+    item: T,
+) -> Result<(), AllocError>
+    requires { place < length table.old }
+    ensures ok { OnOk result (map (λ row. row.items) table.new ≡ slice_set (map (λ row. row.items) table.old) place (slice_index_or (map (λ row. row.items) table.old) place [] ++ item ∷ [])) }
+    ensures err { OnErr result (map (λ row. row.items) table.new ≡ map (λ row. row.items) table.old) }
+{
+    let row = &mut table[place];
+    row.push(item)?;
+    Ok(())
+}
+
+/// So many empty rows.
+pub(crate) fn empty_rows<T: Drop>(alloc: Global, rows: usize) -> Result<Vec<Vec<T>>, AllocError>
+    ensures { IfOk result (λ table. map (λ row. row.items) table.items ≡ replicate rows []) }
+{
+    let mut table = Vec::with_capacity(alloc, rows)?;
+    for _row in 0..rows {
+        table.push(Vec::new(alloc))?;
+    }
+    Ok(table)
+}
+
+/// Whether an item is in a list, sought from its end.
+pub(crate) fn is_among(list: &[usize], item: usize) -> bool
+    ensures { result ≡ is_one_of list.now item }
+{
+    let len = list.len();
+    for back in 0..len {
+        if list[len - back - 1] == item {
+            return true;
+        }
+    }
+    false
+}
