@@ -1,0 +1,2 @@
+pub mod AgentLaws
+pub mod MadeLaws

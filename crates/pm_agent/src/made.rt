@@ -1,0 +1,94 @@
+ghost use Rattle.std.specs.Prelude.{◌≡◌, length, IsTrue};
+ghost use Rattle.pm_bid.specs.Bids.{HaveSteps, zeros};
+ghost use Rattle.pm_device.specs.Kinds.{is_valid, state_fits};
+ghost use Rattle.pm_agent.specs.MadeBids.{IsMade, demand_in};
+
+use pm_bid::{ArrayBid, Steps};
+use pm_device::{DeviceState, Kind, Next};
+use pm_strategy::fill_bid;
+use std::marker::{Brand, Model};
+
+/// What a device's next change makes of it: the change, the device's kind, and its demand afterwards.
+///
+/// Contracts see it as these three. Its type keeps that the demand is 0 at every step where the device is no member
+/// afterwards, and that it is else the bid of the kind in the state, for every kind but manual.
+#[derive(Drop)]
+pub struct Made {
+    next: Next,
+    kind: Kind,
+    demand: ArrayBid,
+}
+
+impl Model for Made {
+    ghost use Rattle.pm_agent.specs.MadeBids.{MadeBid, IsMade};
+
+    ghost Value = { MadeBid };
+
+    ghost view = { λ m. record { next = m.next; kind = m.kind; demand = m.demand } };
+
+    ghost invariant = { λ m. IsMade (record { next = m.next; kind = m.kind; demand = m.demand }) };
+}
+
+impl Made {
+    /// A device that has not changed yet: it is no member.
+    pub(crate) fn unchanged(kind: Kind, device: u32, none: ArrayBid) -> Made
+        requires { none ≡ zeros (length none) }
+        ensures device { result.next.device ≡ device }
+        ensures kind { result.kind ≡ kind }
+        ensures demand { result.demand ≡ none }
+    {
+        Made {
+            next: Next {
+                device,
+                number: 0,
+                member: false,
+                state: DeviceState(0),
+            },
+            kind,
+            demand: none,
+        }
+    }
+
+    /// What the next change of the device makes of it.
+    pub fn next(&self) -> Next
+        ensures next { result ≡ self.now.next }
+        ensures made { IsMade self.now }
+    {
+        self.next
+    }
+
+    /// The device's kind.
+    pub fn kind(&self) -> Kind
+        ensures kind { result ≡ self.now.kind }
+        ensures made { IsMade self.now }
+    {
+        self.kind
+    }
+
+    /// The device's demand after the change, in watts at each step: 0 where it is no member, else its bid.
+    pub fn demand(&self) -> &ArrayBid
+        ensures demand { result.now ≡ self.now.demand }
+        ensures made { IsMade self.now }
+    {
+        &self.demand
+    }
+
+    /// Makes the demand that of the next change.
+    pub(crate) fn follow(&mut self, next: Next, arrays: &[ArrayBid])
+        requires valid { IsTrue (is_valid self.old.kind) }
+        requires fits { IsTrue (state_fits self.old.kind next.state.0) }
+        requires arrays { HaveSteps (length self.old.demand) arrays.now }
+        ensures next { self.new.next ≡ next }
+        ensures kind { self.new.kind ≡ self.old.kind }
+        ensures demand { self.new.demand ≡ demand_in self.old.kind next arrays.now (length self.old.demand) }
+        ensures steps { length self.new.demand ≡ length self.old.demand }
+        ensures made { IsMade self.new }
+    {
+        self.next = next;
+        if next.member {
+            fill_bid(&self.kind, next.state, arrays, &mut self.demand);
+        } else {
+            self.demand.clear(&mut Steps::<Brand>::start());
+        }
+    }
+}

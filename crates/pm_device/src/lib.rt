@@ -1,0 +1,23 @@
+//! Devices: their kinds with parameters, their states, and what a tick makes of a state.
+//!
+//! A device is a leaf of the cluster (a device agent of the PowerMatcher has one, J. K. Kok, "The PowerMatcher:
+//! Smart Coordination for the Smart Electricity Grid", 2013). The kinds, their limits and their ticks are this
+//! project's own profile, in whole numbers:
+//!
+//! - Power is in watts, and positive where the device takes power from the cluster. Charge is in watt-hours, time
+//!   in minutes. Temperatures are plain numbers in the units of the cluster file.
+//! - A tick changes a temperature by fixed amounts, whatever its minutes, and a battery's charge by the energy of
+//!   the minutes, rounded down to whole watt-hours.
+//! - No call takes memory.
+#![tactic(auto)]
+
+mod kind;
+mod limits;
+mod state;
+#[cfg(test)]
+mod tests;
+mod tick;
+
+pub use kind::Kind;
+pub use state::{DeviceState, Next};
+pub use tick::advance;

@@ -1,0 +1,4 @@
+pub mod BidLaws
+pub mod LevelLaws
+pub mod Rounded
+pub mod StepLists

@@ -1,0 +1,64 @@
+-- The bid of a device, by its kind and its state.
+use Rattle.std.specs.Prelude.{ℕ, ◌-◌, ℤ, pos, ◌+ℤ◌, ◌-ℤ◌, neg_ℤ, nat_abs, int_lt, int_le, if◌then◌else◌, List, slice_index_or}
+use Rattle.pm_bid.specs.Bids.{zeros}
+use Rattle.pm_device.specs.declared.kind.Kind.{Kind}
+use Rattle.pm_device.specs.declared.kind.Kind.TheVariants.{Freezer, HeatPump, Cogeneration, Battery, Solar, Load, Objective, Manual}
+use Rattle.pm_strategy.specs.Steps.{by_step, share, share_up, up_to, from_on}
+
+-- a freezer's demand in watts at a step: always where it is too warm, never where it is cold enough, and between
+-- these up to a step that is higher the warmer it is
+abbrev pub freezer_demand : ℤ → ℤ → ℤ → ℤ → ℕ → ℕ → ℤ
+freezer_demand low high power temperature last step =
+    if int_le high temperature then power
+    else (if int_le temperature low then pos 0
+    else up_to power (share (temperature -ℤ low) (high -ℤ low) last) step)
+
+-- a heat pump's demand: always where the room is too cold, never where it is warm enough, and between these up to a
+-- step that is higher the colder it is
+abbrev pub heat_pump_demand : ℤ → ℤ → ℤ → ℤ → ℕ → ℕ → ℤ
+heat_pump_demand low high power temperature last step =
+    if int_le temperature low then power
+    else (if int_le high temperature then pos 0
+    else up_to power (share (high -ℤ temperature) (high -ℤ low) last) step)
+
+-- a cogeneration unit's demand, which is negative where it delivers: always where the buffer is too cold, never where
+-- it is hot enough, and between these from a step on that is lower the colder it is
+abbrev pub cogeneration_demand : ℤ → ℤ → ℤ → ℤ → ℕ → ℕ → ℤ
+cogeneration_demand low high power temperature last step =
+    if int_le temperature low then neg_ℤ power
+    else (if int_le high temperature then pos 0
+    else from_on (neg_ℤ power) (share_up (temperature -ℤ low) (high -ℤ low) last) step)
+
+-- a battery's demand round a middle step, which is lower the fuller the battery is: it charges more than `spread`
+-- steps below, and discharges more than `spread` steps above
+abbrev pub around : ℤ → ℤ → ℤ → ℤ → ℕ → ℤ
+around middle charge discharge spread step =
+    if int_lt (pos step +ℤ spread) middle then charge
+    else (if int_lt (middle +ℤ spread) (pos step) then neg_ℤ discharge else pos 0)
+
+abbrev pub battery_demand : ℤ → ℤ → ℤ → ℤ → ℤ → ℕ → ℕ → ℤ
+battery_demand capacity charge discharge spread stored last step =
+    around (share (capacity -ℤ stored) capacity last) charge discharge spread step
+
+-- the demand in watts of a kind in a state at a step of a basis with this last step; a manual device has none of its
+-- own, since its bid is an array
+unfoldable pub demand_of : Kind → ℤ → ℕ → ℕ → ℤ
+demand_of (Freezer low high power warm cool) temperature last step = freezer_demand low high power temperature last step
+demand_of (HeatPump low high power loss gain) temperature last step = heat_pump_demand low high power temperature last step
+demand_of (Cogeneration low high power loss gain) temperature last step =
+    cogeneration_demand low high power temperature last step
+demand_of (Battery capacity charge discharge spread) stored last step =
+    battery_demand capacity charge discharge spread stored last step
+demand_of Solar output last step = neg_ℤ output
+demand_of Load power last step = power
+demand_of Objective target last step = neg_ℤ target
+demand_of Manual number last step = pos 0
+
+-- the array of a number, and zeros where there is none
+abbrev pub array_of : List (List ℤ) → ℤ → ℕ → List ℤ
+array_of arrays number steps = slice_index_or arrays (nat_abs number) (zeros steps)
+
+-- the bid of a kind in a state: its array where it is manual, else its demand at each step
+unfoldable pub bid_of : Kind → ℤ → List (List ℤ) → ℕ → List ℤ
+bid_of Manual number arrays steps = array_of arrays number steps
+bid_of kind state arrays steps = by_step steps (demand_of kind state (steps - 1))

@@ -1,0 +1,56 @@
+ghost use Rattle.std.specs.Prelude.{◌≡◌, ℕ, ◌≤ℤ◌, pos, length, slice_index_or, nat_abs, All, IsTrue};
+ghost use Rattle.pm_bid.specs.Bids.{zeros, HaveSteps, AllWithinLimit, NeverRises, demand_limit};
+ghost use Rattle.pm_device.specs.Kinds.{is_valid, state_fits};
+ghost use Rattle.pm_strategy.specs.Strategies.{bid_of, array_of};
+
+use crate::kinds::levels_of;
+use pm_bid::{ArrayBid, Steps};
+use pm_device::{DeviceState, Kind};
+use std::marker::Brand;
+
+/// Makes `out` the bid of a device of this kind in this state, with as many steps as `out` has. With `k` the step,
+/// `m` the last one, `/` rounding down and `ceil` rounding up, the demand in watts at `k` is:
+///
+/// - freezer at temperature `t`: `power` where `t >= high`; else 0 where `t <= low`; else `power` where
+///   `k <= (t-low)*m/(high-low)`, and 0 above;
+/// - heat pump at `t`: `power` where `t <= low`; else 0 where `t >= high`; else `power` where
+///   `k <= (high-t)*m/(high-low)`, and 0 above;
+/// - cogeneration unit at buffer temperature `t`: `-power` where `t <= low`; else 0 where `t >= high`; else `-power`
+///   where `k >= ceil((t-low)*m/(high-low))`, and 0 below;
+/// - battery with charge `s` and `mid = (capacity-s)*m/capacity`: `charge` where `k + spread < mid`, `-discharge`
+///   where `k > mid + spread`, else 0;
+/// - solar panel: its output, negative; load: its power; objective: its target, negative;
+/// - manual device: the demand of the array whose number, from 0, is the state, and 0 where there is no such array.
+///
+/// The arrays have as many steps as `out`.
+pub fn fill_bid(kind: &Kind, state: DeviceState, arrays: &[ArrayBid], out: &mut ArrayBid)
+    requires valid { IsTrue (is_valid kind.now) }
+    requires fits { IsTrue (state_fits kind.now state.0) }
+    requires arrays { HaveSteps (length out.old) arrays.now }
+    ensures bid { out.new ≡ bid_of kind.now state.0 arrays.now (length out.old) }
+    ensures steps { length out.new ≡ length out.old }
+
+    // A manual device's array is the caller's: here it is the bid that never rises and is within the limit.
+    ensures falls { (kind.now ≡ Kind.Manual → All NeverRises arrays.now) → NeverRises out.new }
+    ensures within { (kind.now ≡ Kind.Manual → All (AllWithinLimit demand_limit) arrays.now)
+        → AllWithinLimit demand_limit out.new }
+{
+    match levels_of(kind, state, out.steps() - 1) {
+        Some(levels) => levels.fill(out),
+        None => fill_from_array(state, arrays, out),
+    }
+}
+
+/// Makes `out` the array whose number is the state, and zeros where there is none.
+fn fill_from_array(state: DeviceState, arrays: &[ArrayBid], out: &mut ArrayBid)
+    requires number { pos 0 ≤ℤ state.0 }
+    requires arrays { HaveSteps (length out.old) arrays.now }
+    ensures { out.new ≡ array_of arrays.now state.0 (length out.old) }
+{
+    let DeviceState(number) = state;
+    let mut steps = Steps::<Brand>::start();
+    match arrays.get(number as usize) {
+        Some(array) => array.copy_into(out, &mut steps),
+        None => out.clear(&mut steps),
+    }
+}
