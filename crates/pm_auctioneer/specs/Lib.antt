@@ -1,0 +1,2 @@
+pub mod Auctions
+pub mod AuctioneerFields

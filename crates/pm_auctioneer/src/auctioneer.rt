@@ -1,0 +1,142 @@
+ghost use Rattle.std.specs.Prelude.{◌≡◌, ◌+◌, ◌<◌, ◌≤◌, ◌^◌, true, false, length, IfOk, IfErr, ◌||◌, not, nat_le};
+ghost use Rattle.std.specs.Option.{option_copied};
+ghost use Rattle.pm_cache.specs.Cache.{kept_number, answer_to};
+ghost use Rattle.pm_cache.specs.Learning.{CanLearn, learnt};
+ghost use Rattle.pm_session.specs.Prices.{IsNewIndex};
+ghost use Rattle.pm_auctioneer.specs.Auctions.{new_auction, ClearedAt};
+ghost use Rattle.pm_auctioneer.specs.declared.fault.ClearFault.TheVariants.{NotChanged};
+
+use crate::fault::ClearFault;
+use pm_bid::{ArrayBid, Steps};
+use pm_cache::{BidCache, CacheFault};
+use pm_session::{Link, offer_prices};
+use std::alloc::{AllocError, Global};
+use std::marker::{Brand, Model};
+
+/// A clearing of the market.
+#[derive(Clone, Copy, Debug, PartialEq, Eq)]
+pub struct Cleared {
+    /// The index of the clearing, from 1.
+    pub index: u32,
+    /// The step of the market basis at which the market clears.
+    pub step: u32,
+}
+
+/// The root of the tree, with up to 256 children, which count from 0.
+///
+/// Contracts see the entries of its children (see [`BidCache`]), the step and the index of the last
+/// clearing, and whether something was learnt since.
+#[derive(Drop)]
+pub struct Auctioneer {
+    cache: BidCache,
+    step: u32,
+    index: u32,
+    changed: bool,
+}
+
+impl Model for Auctioneer {
+    ghost use Rattle.pm_auctioneer.specs.Auctions.{Auction};
+
+    ghost Value = { Auction };
+
+    ghost use Rattle.pm_auctioneer.specs.AuctioneerFields.{auction_of};
+
+    ghost view = { auction_of };
+}
+
+impl Auctioneer {
+    /// An auctioneer whose children sent nothing. All its memory is taken here.
+    pub fn new(alloc: Global, children: usize, steps: usize) -> Result<Auctioneer, AllocError>
+        requires few_children { children ≤ 256 }
+        requires at_least_two { 2 ≤ steps }
+        requires at_most_thousand { steps ≤ 1000 }
+        ensures new { IfOk result (λ a. a ≡ new_auction children steps) }
+    {
+        let cache = BidCache::new(alloc, children, steps, &mut Steps::<Brand>::start())?;
+        Ok(Auctioneer {
+            cache,
+            step: 0,
+            index: 0,
+            changed: false,
+        })
+    }
+
+    /// Learns a child's bid with its number; None is a bid that is gone. `Old` comes exactly where
+    /// the number is at most the kept one; nothing changes then.
+    pub fn learn(
+        &mut self,
+        child: usize,
+        number: u32,
+        demand: Option<&ArrayBid>,
+    ) -> Result<(), CacheFault>
+        requires bid { CanLearn self.old.cache child (option_copied demand) }
+        ensures answer { result ≡ answer_to (kept_number self.old.cache child) number }
+        ensures learnt { self.new ≡ record self.old {
+          cache = learnt self.old.cache child number (option_copied demand.entry);
+          changed = self.old.changed || not (nat_le number (kept_number self.old.cache child));
+        } }
+    {
+        let mut steps = Steps::<Brand>::start();
+        let answer = match demand {
+            Some(bid) => self.cache.replace(child, number, bid, &mut steps),
+            None => self.cache.remove(child, number, &mut steps),
+        };
+        if answer.is_ok() {
+            self.changed = true;
+        }
+        answer
+    }
+
+    /// Clears the market: the step is the clearing step of the children's sum, the index the next
+    /// one. The price is offered to each child that is not gone, with the number of its head.
+    /// `NotChanged` comes exactly where nothing was learnt since the last clearing; nothing changes
+    /// then.
+    pub fn clear(&mut self, downs: &mut [Link]) -> Result<Cleared, ClearFault>
+        requires same_length { length downs.old ≡ length self.old.cache.heads }
+        requires last { self.old.index + 1 < 2 ^ 32 }
+        requires index { IsNewIndex (self.old.index + 1) downs.old }
+        ensures cleared { IfOk result (λ cleared. ClearedAt self.old self.new downs.old downs.new cleared.index cleared.step) }
+        ensures refused { IfErr result (λ fault. (self.old.changed ≡ false) × (fault ≡ NotChanged)) }
+        ensures unchanged { IfErr result (λ fault. (self.new ≡ self.old) × (downs.new ≡ downs.old)) }
+    {
+        if !self.changed {
+            return Err(ClearFault::NotChanged);
+        }
+        let total = self.cache.aggregate();
+        let step = total.first_not_positive(&mut Steps::<Brand>::start()) as u32;
+        let index = self.index + 1;
+        offer_prices(self.cache.heads(), step, index, downs);
+        self.step = step;
+        self.index = index;
+        self.changed = false;
+        Ok(Cleared { index, step })
+    }
+
+    /// The entries of the children.
+    pub fn cache(&self) -> &BidCache
+        ensures cache { result.now ≡ self.now.cache }
+    {
+        &self.cache
+    }
+
+    /// The step of the last clearing, 0 where there is none.
+    pub fn step(&self) -> u32
+        ensures step { result ≡ self.now.step }
+    {
+        self.step
+    }
+
+    /// The index of the last clearing, 0 where there is none.
+    pub fn index(&self) -> u32
+        ensures index { result ≡ self.now.index }
+    {
+        self.index
+    }
+
+    /// Whether something was learnt since the last clearing.
+    pub fn changed(&self) -> bool
+        ensures changed { result ≡ self.now.changed }
+    {
+        self.changed
+    }
+}

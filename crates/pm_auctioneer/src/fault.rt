@@ -1,0 +1,12 @@
+use thiserror::Error;
+
+/// Why the market is not cleared.
+#[derive(Clone, Copy, Debug, PartialEq, Eq, Error)]
+pub enum ClearFault {
+    /// Nothing was learnt since the last clearing, or since the opening where there is none.
+    #[error("nothing was learnt since the last clearing")]
+    NotChanged,
+    /// Memory ran out. It never comes: clearing takes no memory.
+    #[error("no memory")]
+    NoMemory,
+}

@@ -1,0 +1,19 @@
+//! The auctioneer: the root of the tree, where the market clears.
+//!
+//! The auctioneer adds all bids, seeks the price at which the total balances, and sends the price
+//! to the agents (Kok, "The PowerMatcher", 2013). Here it clears when it is told to, if something
+//! was learnt since the last clearing. Clearings are numbered from 1, and a price names for each
+//! child the number of the bid that it answers: that is this project's own profile.
+//!
+//! All memory of an auctioneer is taken when it is made. Where a later call has want of memory in
+//! its result, it is proved never to come.
+#![tactic(auto)]
+
+mod auctioneer;
+mod fault;
+
+pub use auctioneer::{Auctioneer, Cleared};
+pub use fault::ClearFault;
+
+#[cfg(test)]
+mod tests;

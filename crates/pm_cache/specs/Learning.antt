@@ -1,0 +1,29 @@
+-- A child's bid on its way into the cache of its parent.
+use Rattle.std.specs.Prelude.{◌≡◌, ℕ, ◌<◌, ℤ, List, length, Option, Some, None, if◌then◌else◌, nat_le, All}
+use Rattle.pm_bid.specs.Bids.{AllWithinLimit, sum_limit, demand_limit, zeros}
+use Rattle.pm_cache.specs.Cache.{Cache, with_bid, with_gone, kept_number, aggregate_with}
+
+-- the demand that a child offers: none is all zeros
+abbrev pub offered : Cache → Option (List ℤ) → List ℤ
+offered cache None = zeros cache.steps
+offered cache (Some bid) = bid
+
+-- a bid may be learnt: it is a child's, it has the cache's steps, and all entries with it in the
+-- child's place sum within the limit
+pub record CanLearn (cache : Cache) (child : ℕ) (demand : Option (List ℤ)) : Type 0 where
+  pub is_child : child < length cache.heads
+  pub equal_lengths : length (offered cache demand) ≡ cache.steps
+  pub within : AllWithinLimit sum_limit (aggregate_with cache child (offered cache demand))
+
+-- the cache with the child's newer bid; none makes the child gone
+abbrev pub entered : Cache → ℕ → ℕ → Option (List ℤ) → Cache
+entered cache child number None = with_gone cache child number
+entered cache child number (Some bid) = with_bid cache child number bid
+
+-- the cache after a bid of that number: a bid that is not newer changes nothing
+abbrev pub learnt : Cache → ℕ → ℕ → Option (List ℤ) → Cache
+learnt cache child number demand = if nat_le number (kept_number cache child) then cache else entered cache child number demand
+
+-- each entry is one bid and no sum: within the limit of one demand
+abbrev pub HasSingleBids : Cache → Type 0
+HasSingleBids cache = All (λ bid. AllWithinLimit demand_limit bid) cache.demands

@@ -1,0 +1,158 @@
+ghost use Rattle.std.specs.Prelude.{◌≡◌, ◌+◌, ◌*◌, ◌<◌, ◌≤◌, length, IfOk, OnOk, OnErr};
+ghost use Rattle.pm_bid.specs.Bids.{AllWithinLimit, sum_limit, demand_at, zeros, IsWithin};
+ghost use Rattle.pm_cache.specs.Cache.{kept_number, demand_of, aggregate_of, aggregate_with, empty_cache, with_bid, with_gone, answer_to, IsCache};
+
+use crate::fault::CacheFault;
+use pm_bid::{ArrayBid, BidHead, Steps};
+use std::alloc::{AllocError, Global};
+use std::marker::Model;
+use std::sync::ledger::Ledger;
+
+/// The newest bid of each of up to 256 children, and the sum of these bids.
+///
+/// Contracts see it as its entries: for each child the head of its newest bid and the demand in
+/// watts at each step, all zeros where the child is gone. Children count from 0. The last
+/// parameter of each call that touches demands is the counter of element steps.
+#[derive(Drop)]
+pub struct BidCache {
+    heads: Vec<BidHead>,
+    demands: Vec<ArrayBid>,
+    aggregate: ArrayBid,
+}
+
+impl Model for BidCache {
+    ghost use Rattle.pm_cache.specs.Cache.{Cache};
+
+    ghost Value = { Cache };
+
+    ghost use Rattle.pm_cache.specs.Kept.{cache_of, IsKept};
+
+    ghost view = { cache_of };
+
+    ghost invariant = { IsKept };
+}
+
+impl BidCache {
+    /// A cache of children that sent nothing: every entry has number 0 and is gone. All memory of
+    /// the cache is taken here.
+    pub fn new<L: Ledger>(
+        alloc: Global,
+        children: usize,
+        steps: usize,
+        counter: &mut Steps<L>,
+    ) -> Result<BidCache, AllocError>
+        requires few_children { children ≤ 256 }
+        requires at_least_two { 2 ≤ steps }
+        requires at_most_thousand { steps ≤ 1000 }
+        ensures empty { IfOk result (λ cache. cache ≡ empty_cache children steps) }
+        ensures cost { OnOk result (counter.new ≡ counter.old + (children + 1) * steps) }
+    {
+        let nothing_sent = BidHead {
+            number: 0,
+            gone: true,
+        };
+        let heads = vec![in alloc; nothing_sent; children]?;
+        let mut demands = Vec::with_capacity(alloc, children)?;
+        for _child in 0..children {
+            demands.push(ArrayBid::zero(alloc, steps, counter)?)?;
+        }
+        let aggregate = ArrayBid::zero(alloc, steps, counter)?;
+        Ok(BidCache {
+            heads,
+            demands,
+            aggregate,
+        })
+    }
+
+    /// Takes a child's newer bid in the place of the one before. The bid has as many steps as the
+    /// cache, and all entries with it in the child's place sum within ±256,000,000,000 watts. `Old`
+    /// comes exactly where the number is at most the kept one; nothing changes then.
+    pub fn replace<L: Ledger>(
+        &mut self,
+        child: usize,
+        number: u32,
+        bid: &ArrayBid,
+        steps: &mut Steps<L>,
+    ) -> Result<(), CacheFault>
+        requires child { child < length self.old.heads }
+        requires equal_lengths { length bid.now ≡ self.old.steps }
+        requires within { AllWithinLimit sum_limit (aggregate_with self.old child bid.now) }
+        ensures answer { result ≡ answer_to (kept_number self.old child) number }
+        ensures replaced { OnOk result (self.new ≡ with_bid self.old child number bid.now) }
+        ensures unchanged { OnErr result (self.new ≡ self.old) }
+        ensures cost { steps.new ≤ steps.old + 3 * self.old.steps }
+        ensures rises { steps.old ≤ steps.new }
+    {
+        check_newer(self.heads[child].number, number)?;
+        let old = &mut self.demands[child];
+        self.aggregate.exchange(old, bid, steps);
+        bid.copy_into(old, steps);
+        self.heads[child] = BidHead {
+            number,
+            gone: false,
+        };
+        Ok(())
+    }
+
+    /// Makes a child gone, with this newer number. The entries that remain sum within
+    /// ±256,000,000,000 watts. `Old` comes as in [`BidCache::replace`].
+    pub fn remove<L: Ledger>(
+        &mut self,
+        child: usize,
+        number: u32,
+        steps: &mut Steps<L>,
+    ) -> Result<(), CacheFault>
+        requires child { child < length self.old.heads }
+        requires within { AllWithinLimit sum_limit (aggregate_with self.old child (zeros self.old.steps)) }
+        ensures answer { result ≡ answer_to (kept_number self.old child) number }
+        ensures removed { OnOk result (self.new ≡ with_gone self.old child number) }
+        ensures unchanged { OnErr result (self.new ≡ self.old) }
+        ensures cost { steps.new ≤ steps.old + 3 * self.old.steps }
+        ensures rises { steps.old ≤ steps.new }
+    {
+        check_newer(self.heads[child].number, number)?;
+        let old = &mut self.demands[child];
+        self.aggregate.take_from(old, steps);
+        old.clear(steps);
+        self.heads[child] = BidHead { number, gone: true };
+        Ok(())
+    }
+
+    /// The sum of all entries. No element is touched.
+    pub fn aggregate(&self) -> &ArrayBid
+        ensures sum { result.now ≡ aggregate_of self.now }
+        ensures steps { length result.now ≡ self.now.steps }
+        ensures sound { IsCache self.now }
+    {
+        &self.aggregate
+    }
+
+    /// For each child the number of its newest bid, and whether the child is gone.
+    pub fn heads(&self) -> &[BidHead]
+        ensures heads { result.now ≡ self.now.heads }
+        ensures sound { IsCache self.now }
+    {
+        &self.heads
+    }
+
+    /// The demand of a child at a step, in watts.
+    pub fn demand<L: Ledger>(&self, child: usize, step: usize, steps: &mut Steps<L>) -> i64
+        requires child { child < length self.now.heads }
+        requires step { step < self.now.steps }
+        ensures demand { result ≡ demand_at (demand_of self.now child) step }
+        ensures within { IsWithin sum_limit result }
+        ensures cost { steps.new ≡ steps.old + 1 }
+    {
+        self.demands[child].at(step, steps)
+    }
+}
+
+/// Refuses a number that is at most the kept one.
+fn check_newer(kept: u32, number: u32) -> Result<(), CacheFault>
+    ensures { result ≡ answer_to kept number }
+{
+    if number <= kept {
+        return Err(CacheFault::Old { kept });
+    }
+    Ok(())
+}

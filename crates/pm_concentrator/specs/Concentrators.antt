@@ -1,0 +1,46 @@
+-- What a concentrator keeps, and what publishing and passing do.
+use Rattle.std.specs.Prelude.{◌≡◌, ℕ, ◌+◌, ◌<◌, false, List, length, Option, Some}
+use Rattle.pm_bid.specs.declared.head.BidHead.{BidHead}
+use Rattle.pm_cache.specs.Cache.{Cache, aggregate_of, empty_cache}
+use Rattle.pm_session.specs.Links.{Session, BidOffered}
+use Rattle.pm_session.specs.Windows.{Kept, newest_record, unanswered, RecordSent, RecordAnswered, IsNewWindow}
+use Rattle.pm_concentrator.specs.Limits.{Limits, announced, sum_kept, sum_steps}
+
+-- the entries of the children, the records of what was published, and the limits where there are some
+pub record Gathered : Type 0 where
+  pub cache : Cache
+  pub window : Kept
+  pub limits : Option Limits
+
+-- the heads that were published last, at first those of the opening
+abbrev pub published_heads : Gathered → List BidHead
+published_heads c = (newest_record c.window).heads
+
+-- a concentrator whose children sent nothing
+pub record IsNewConcentrator (children steps : ℕ) (limits' : Option Limits) (c : Gathered) : Type 0 where
+  pub cache : c.cache ≡ empty_cache children steps
+  pub window : IsNewWindow children (sum_steps limits' steps) c.window
+  pub limits : c.limits ≡ limits'
+
+-- the children's sum, within the limits, was offered to the parent under the next number, and the
+-- heads that went into it are its record
+pub record Published (old new : Gathered) (up_old up_new : Session) (number' : ℕ) : Type 0 where
+  pub changed : old.cache.heads ≡ published_heads old → ⊥
+  pub room : unanswered old.window < 8
+  pub number : number' ≡ old.window.last + 1
+  pub bid : BidOffered up_old up_new (record { number = number'; gone = false; demand = announced old.limits (aggregate_of old.cache) })
+  pub sent : RecordSent old.window new.window (record { number = number'; heads = old.cache.heads; sum = sum_kept old.limits (aggregate_of old.cache) })
+  pub cache : new.cache ≡ old.cache
+  pub limits : new.limits ≡ old.limits
+
+-- the number that the price names was answered
+pub record Passed (old new : Gathered) (number : ℕ) : Type 0 where
+  pub window : RecordAnswered old.window new.window number
+  pub cache : new.cache ≡ old.cache
+  pub limits : new.limits ≡ old.limits
+
+-- what holds of each concentrator
+pub record IsGathered (c : Gathered) : Type 0 where
+  pub same_children : c.window.children ≡ length c.cache.heads
+  pub steps : c.window.steps ≡ sum_steps c.limits c.cache.steps
+  pub same_steps : (limits : Limits) → c.limits ≡ Some limits → limits.steps ≡ c.cache.steps

@@ -1,0 +1,243 @@
+ghost use Rattle.std.specs.Prelude.{◌≡◌, ◌+◌, ◌-◌, ◌<◌, ◌≤◌, ◌^◌, ◌≤ℤ◌, pos, false, length, Some, None, IfOk, IfErr, IsTrue, IsFalse, ◌↔◌};
+ghost use Rattle.std.specs.Option.{option_copied};
+ghost use Rattle.pm_bid.specs.Bids.{IsWithin, sum_limit};
+ghost use Rattle.pm_cache.specs.Cache.{aggregate_of, kept_number, answer_to, IsCache};
+ghost use Rattle.pm_cache.specs.Learning.{CanLearn, learnt};
+ghost use Rattle.pm_session.specs.Links.{BidOffered};
+ghost use Rattle.pm_session.specs.Prices.{PricesOffered, IsNewIndex};
+ghost use Rattle.pm_session.specs.Windows.{Keeps, unanswered, record_of, RecordSent, IsWindow, steps_of};
+ghost use Rattle.pm_concentrator.specs.Limits.{Limits, announced, sum_kept, sum_steps, passed_step, IsStepOf};
+ghost use Rattle.pm_concentrator.specs.Concentrators.{published_heads, IsNewConcentrator, Published, Passed, IsGathered};
+ghost use Rattle.pm_concentrator.specs.Faults.{NotPublished};
+
+use crate::fault::PublishFault;
+use crate::limited::Limited;
+use pm_bid::{ArrayBid, BidHead, Steps};
+use pm_cache::{BidCache, CacheFault};
+use pm_session::{Link, PriceUpdate, Record, Window, offer_prices};
+use std::alloc::{AllocError, Global};
+use std::marker::{Brand, Model};
+
+/// A node between the devices and the auctioneer, with up to 256 children, which count from 0.
+///
+/// Contracts see the entries of its children (see [`BidCache`]), the records of what it published
+/// (see [`Window`]), and its limits where it has some.
+#[derive(Drop)]
+pub struct Concentrator {
+    cache: BidCache,
+    window: Window,
+    limited: Option<Limited>,
+}
+
+impl Model for Concentrator {
+    ghost use Rattle.pm_concentrator.specs.Concentrators.{Gathered, IsGathered};
+
+    ghost Value = { Gathered };
+
+    ghost use Rattle.pm_concentrator.specs.ConcentratorFields.{gathered_of};
+
+    ghost view = { gathered_of };
+
+    ghost invariant = { λ inside. IsGathered (gathered_of inside) };
+}
+
+impl Concentrator {
+    /// A concentrator without limits whose children sent nothing. All its memory is taken here.
+    pub fn new(alloc: Global, children: usize, steps: usize) -> Result<Concentrator, AllocError>
+        requires few_children { children ≤ 256 }
+        requires at_least_two { 2 ≤ steps }
+        requires at_most_thousand { steps ≤ 1000 }
+        ensures new { IfOk result (λ c. IsNewConcentrator children steps None c) }
+    {
+        let cache = BidCache::new(alloc, children, steps, &mut Steps::<Brand>::start())?;
+        let window = Window::new(alloc, children)?;
+        Ok(Concentrator {
+            cache,
+            window,
+            limited: None,
+        })
+    }
+
+    /// A concentrator whose children sent nothing, with limits on the power that it announces, in
+    /// watts. All its memory is taken here.
+    pub fn limited(
+        alloc: Global,
+        children: usize,
+        steps: usize,
+        floor: i64,
+        ceiling: i64,
+    ) -> Result<Concentrator, AllocError>
+        requires few_children { children ≤ 256 }
+        requires at_least_two { 2 ≤ steps }
+        requires at_most_thousand { steps ≤ 1000 }
+        requires floor_not_positive { floor ≤ℤ pos 0 }
+        requires ceiling_not_negative { pos 0 ≤ℤ ceiling }
+        requires floor_within { IsWithin sum_limit floor }
+        requires ceiling_within { IsWithin sum_limit ceiling }
+        ensures new { IfOk result (λ c. IsNewConcentrator children steps (Some (record { floor = floor; ceiling = ceiling; steps = steps })) c) }
+    {
+        let cache = BidCache::new(alloc, children, steps, &mut Steps::<Brand>::start())?;
+        let window = Window::limited(alloc, children, steps)?;
+        let limited = Limited::new(alloc, steps, floor, ceiling)?;
+        Ok(Concentrator {
+            cache,
+            window,
+            limited: Some(limited),
+        })
+    }
+
+    /// Learns a child's bid with its number; None is a bid that is gone. `Old` comes exactly where
+    /// the number is at most the kept one; nothing changes then.
+    pub fn learn(
+        &mut self,
+        child: usize,
+        number: u32,
+        demand: Option<&ArrayBid>,
+    ) -> Result<(), CacheFault>
+        requires bid { CanLearn self.old.cache child (option_copied demand) }
+        ensures answer { result ≡ answer_to (kept_number self.old.cache child) number }
+        ensures learnt { self.new ≡ record self.old { cache = learnt self.old.cache child number (option_copied demand.entry) } }
+    {
+        let mut steps = Steps::<Brand>::start();
+        match demand {
+            Some(bid) => self.cache.replace(child, number, bid, &mut steps),
+            None => self.cache.remove(child, number, &mut steps),
+        }
+    }
+
+    /// Offers the sum of the children's bids, within the limits where there are some, to the parent
+    /// under the next number, which is the answer. The heads of the children are its record, with
+    /// the sum as it was before the limits. `NotChanged` comes exactly where the heads equal those
+    /// of the last record, or of the opening where there is none; else `WindowFull` exactly where
+    /// eight numbers are unanswered. Nothing changes then.
+    pub fn publish(&mut self, up: &mut Link) -> Result<u32, PublishFault>
+        requires steps { up.old.steps ≡ self.old.cache.steps }
+        requires last { self.old.window.last + 1 < 2 ^ 32 }
+        requires number { up.old.up.offered < self.old.window.last + 1 }
+        ensures published { IfOk result (λ number. Published self.old self.new up.old up.new number) }
+        ensures refused { IfErr result (λ fault. NotPublished self.old fault) }
+        ensures unchanged { IfErr result (λ fault. (self.new ≡ self.old) × (up.new ≡ up.old)) }
+    {
+        if !self.changed() {
+            return Err(PublishFault::NotChanged);
+        }
+        if self.window.room() == 0 {
+            return Err(PublishFault::WindowFull { unanswered: 8 });
+        }
+        let number = self.window.last() + 1;
+        send(&self.cache, &mut self.limited, &mut self.window, number, up);
+        Ok(number)
+    }
+
+    /// Passes a price on to each child that is not gone in the record of the number that the price
+    /// names, with the child's number in that record. That record is then the one answered last.
+    /// A limited concentrator passes the local step of the record's sum in place of the price's
+    /// step, which is one of its steps.
+    pub fn pass(&mut self, price: PriceUpdate, downs: &mut [Link]) -> Result<(), AllocError>
+        requires kept { Keeps self.old.window price.number }
+        requires same_length { length downs.old ≡ length self.old.cache.heads }
+        requires index { IsNewIndex price.index downs.old }
+        requires step { IsStepOf self.old.limits price.step }
+        ensures ok { result ≡ Ok tt }
+        ensures passed { Passed self.old self.new price.number }
+        ensures prices { let sent = record_of self.old.window price.number in
+            PricesOffered sent.heads (passed_step self.old.limits price.step sent.sum) price.index downs.old downs.new }
+    {
+        let record = self.window.answered(price.number);
+        let step = step_below(&self.limited, price.step, record);
+        offer_prices(record.children(), step, price.index, downs);
+        Ok(())
+    }
+
+    /// The entries of the children.
+    pub fn cache(&self) -> &BidCache
+        ensures cache { result.now ≡ self.now.cache }
+        ensures sound { IsGathered self.now }
+    {
+        &self.cache
+    }
+
+    /// How many more numbers may be published: 8 less those that are unanswered.
+    pub fn room(&self) -> usize
+        ensures room { result ≡ 8 - unanswered self.now.window }
+        ensures sound { IsWindow self.now.window }
+    {
+        self.window.room()
+    }
+
+    /// The number published last, 0 where there is none.
+    pub fn last(&self) -> u32
+        ensures last { result ≡ self.now.window.last }
+    {
+        self.window.last()
+    }
+
+    /// Whether the record of the number is kept.
+    pub fn keeps(&self, number: u32) -> bool
+        ensures keeps { IsTrue result ↔ Keeps self.now.window number }
+    {
+        self.window.keeps(number)
+    }
+
+    /// Whether something was learnt since the last publish: false exactly where the heads equal
+    /// those of the last record, or of the opening where there is none.
+    pub fn changed(&self) -> bool
+        ensures changed { IsFalse result ↔ (self.now.cache.heads ≡ published_heads self.now) }
+    {
+        !same_heads(self.cache.heads(), self.window.newest().children())
+    }
+}
+
+/// Offers the sum, within the limits where there are some, and keeps its record.
+fn send(
+    cache: &BidCache,
+    limited: &mut Option<Limited>,
+    window: &mut Window,
+    number: u32,
+    up: &mut Link,
+)
+    requires up_steps { up.old.steps ≡ cache.now.steps }
+    requires limits { (limits : Limits) → limited.old ≡ Some limits → limits.steps ≡ cache.now.steps }
+    requires room { unanswered window.old < 8 }
+    requires number { number ≡ window.old.last + 1 }
+    requires offered { up.old.up.offered < number }
+    requires children { window.old.children ≡ length cache.now.heads }
+    requires sum_steps { window.old.steps ≡ sum_steps limited.old cache.now.steps }
+    ensures bid { BidOffered up.old up.new (record { number = number; gone = false; demand = announced limited.old (aggregate_of cache.now) }) }
+    ensures sent { RecordSent window.old window.new (record { number = number; heads = cache.now.heads; sum = sum_kept limited.old (aggregate_of cache.now) }) }
+    ensures limits { limited.new ≡ limited.old }
+{
+    let sum = cache.aggregate();
+    match limited {
+        None => {
+            let _ = up.offer_bid(number, Some(sum));
+            let _ = window.sent(number, cache.heads());
+        }
+        Some(limits) => {
+            limits.offer(number, sum, up);
+            window.sent_limited(number, cache.heads(), sum);
+        }
+    }
+}
+
+/// The step that a price of this step has for the children.
+fn step_below(limited: &Option<Limited>, step: u32, sent: &Record) -> u32
+    requires step { IsStepOf limited.now step }
+    requires sum_steps { (limits : Limits) → limited.now ≡ Some limits → steps_of sent.now.sum ≡ Some limits.steps }
+    ensures step { result ≡ passed_step limited.now step sent.now.sum }
+{
+    match limited {
+        None => step,
+        Some(limits) => match sent.sum() {
+            None => step,
+            Some(sum) => limits.local_step(step, sum),
+        },
+    }
+}
+
+/// Whether the heads are the same.
+fn same_heads(heads: &[BidHead], others: &[BidHead]) -> bool
+    ensures same { IsTrue result ↔ (heads.now ≡ others.now) }
+{
+    heads == others
+}

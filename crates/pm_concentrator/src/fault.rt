@@ -1,0 +1,15 @@
+use thiserror::Error;
+
+/// Why nothing is published. The causes are tested in this order.
+#[derive(Clone, Copy, Debug, PartialEq, Eq, Error)]
+pub enum PublishFault {
+    /// The children's heads are those of the last record, or of the opening where there is none.
+    #[error("nothing changed since the last publish")]
+    NotChanged,
+    /// Eight numbers, `unanswered`, lie above the one answered last.
+    #[error("{unanswered} numbers are unanswered")]
+    WindowFull { unanswered: u32 },
+    /// Memory ran out. It never comes: publishing takes no memory.
+    #[error("no memory")]
+    NoMemory,
+}

@@ -1,0 +1,13 @@
+use Rattle.std.proofs.Common.{◌≡◌, ℕ, ◌<◌, ◌≤◌, true, false, length}
+use Rattle.pm_session.specs.Links.{PriceOffered}
+use Rattle.pm_session.specs.Prices.{session_at, head_at}
+use Rattle.pm_session.proofs.prices.offer_prices.Given as goal
+
+abbrev pub invariant-loop-child : goal.invariant-loop-child
+invariant-loop-child l = record {
+  same_length : length l.downs ≡ length l.initial.downs;
+  offered : (k : ℕ) → k < l.child → (head_at l.heads k).gone ≡ false →
+      PriceOffered (session_at l.initial.downs k) (session_at l.downs k) (record { step = l.step; number = (head_at l.heads k).number; index = l.index });
+  others : (k : ℕ) → k < l.child → (head_at l.heads k).gone ≡ true → session_at l.downs k ≡ session_at l.initial.downs k;
+  ahead : (k : ℕ) → l.child ≤ k → session_at l.downs k ≡ session_at l.initial.downs k;
+}

@@ -1,0 +1,28 @@
+-- A price on its way to the children of a node.
+use Rattle.std.specs.Prelude.{◌≡◌, ℕ, ◌<◌, true, false, List, length, slice_index_or}
+use Rattle.pm_bid.specs.declared.head.BidHead.{BidHead}
+use Rattle.pm_session.specs.Links.{Session, new_session, PriceOffered}
+
+-- the head of a child that sent nothing
+abbrev pub nothing_sent : BidHead
+nothing_sent = record { number = 0; gone = true }
+
+-- the head of a child
+abbrev pub head_at : List BidHead → ℕ → BidHead
+head_at heads child = slice_index_or heads child nothing_sent
+
+-- the link of a child
+abbrev pub session_at : List Session → ℕ → Session
+session_at sessions child = slice_index_or sessions child (new_session 0)
+
+-- the index is above all that were offered to the children
+abbrev pub IsNewIndex : ℕ → List Session → Type 0
+IsNewIndex index sessions = (child : ℕ) → child < length sessions → (session_at sessions child).down.offered < index
+
+-- each child whose head is not gone is offered the price with the number of its head; the links of
+-- the others stay as they were
+pub record PricesOffered (heads : List BidHead) (step index : ℕ) (old new : List Session) : Type 0 where
+  pub same_length : length new ≡ length old
+  pub offered : (child : ℕ) → child < length old → (head_at heads child).gone ≡ false →
+      PriceOffered (session_at old child) (session_at new child) (record { step = step; number = (head_at heads child).number; index = index })
+  pub others : (child : ℕ) → child < length old → (head_at heads child).gone ≡ true → session_at new child ≡ session_at old child

@@ -1,0 +1,29 @@
+-- What the fields of a window stand for: a ring of nine places.
+use Rattle.std.specs.Prelude.{◌≡◌, ℕ, ◌+◌, ◌-◌, ◌%◌, zero, suc, List, [], ◌∷◌, length, slice_index_or}
+use Rattle.pm_session.specs.Windows.{Kept, Sent, Fits, IsWindow, no_record}
+use Rattle.pm_session.specs.declared.window.Window.TheInside.{Inside}
+
+-- the record of a number stands in the place of its remainder by nine
+abbrev pub record_in : List Sent → ℕ → Sent
+record_in places number = slice_index_or places (number % 9) no_record
+
+-- so many records from a number on
+abbrev pub records_from : List Sent → ℕ → ℕ → List Sent
+records_from places number zero = []
+records_from places number (suc count) = record_in places number ∷ records_from places (number + 1) count
+
+-- the records that the fields have
+abbrev pub kept_of : Inside → Kept
+kept_of inside = record {
+  children = inside.children;
+  steps = inside.steps;
+  records = records_from inside.places.items inside.answered (inside.last - inside.answered + 1);
+  answered = inside.answered;
+  last = inside.last;
+}
+
+-- what the fields keep
+pub record IsRing (inside : Inside) : Type 0 where
+  pub nine : length inside.places.items ≡ 9
+  pub each : (number : ℕ) → Fits (kept_of inside) (record_in inside.places.items number)
+  pub sound : IsWindow (kept_of inside)
