@@ -1,0 +1,29 @@
+-- A list of points that passes every check is a point bid.
+use Rattle.std.proofs.Common.{◌≡◌, ◌≤◌, ℤ, pos, false, List, length, arith}
+use Rattle.std.proofs.lemmas.Int.{ints}
+use Rattle.std.proofs.lemmas.List.Sums.{fails_before_first}
+use Rattle.pm_basis.specs.Prices.{BasisValue, IsBasis, price_limit}
+use Rattle.pm_bid.specs.Bids.{demand_limit, IsWithin}
+use Rattle.pm_bid.specs.Checks.{is_too_large}
+use Rattle.pm_points.specs.Points.{Point, IsPointBid, point_at, price_of, demand_of, max_points}
+use Rattle.pm_points.specs.Checks.{price_falls, demand_rises, first_price_fall, first_rise, first_too_large, first_outside, is_outside}
+use Rattle.pm_points.proofs.FoundPoint.{fails_after, is_not_above}
+
+small_demand : (demand : ℤ) → is_too_large demand ≡ false → IsWithin demand_limit demand
+small_demand demand small = record { low = grind (arith, ints); high = grind (arith, ints) }
+
+inside_price : (basis : BasisValue) (price : ℤ) → IsBasis basis → is_outside basis price ≡ false → IsWithin price_limit price
+inside_price basis price sound inside =
+    let low = sound.low in
+    let high = sound.high in
+    record { low = grind (arith, ints); high = grind (arith, ints) }
+
+pub passed_all : (basis : BasisValue) (points : List Point) → IsBasis basis → 1 ≤ length points → length points ≤ max_points → length points ≤ first_price_fall points → length points ≤ first_rise points → length points ≤ first_too_large points → length points ≤ first_outside basis points → IsPointBid points
+passed_all basis points sound some few fall rise large outside = record {
+  at_least_one = some;
+  at_most_limit = few;
+  prices_never_fall = λ k inside. is_not_above _ _ (fails_after price_falls points fall k inside);
+  demands_never_rise = λ k inside. is_not_above _ _ (fails_after demand_rises points rise k inside);
+  prices_within = λ k inside. inside_price basis (price_of (point_at points k)) sound (fails_before_first (λ point. is_outside basis (price_of point)) points k (pos 0, pos 0) (omega arith));
+  demands_within = λ k inside. small_demand (demand_of (point_at points k)) (fails_before_first (λ point. is_too_large (demand_of point)) points k (pos 0, pos 0) (omega arith));
+}

@@ -1,0 +1,9 @@
+use Rattle.std.proofs.Common.{◌≡◌}
+use Rattle.pm_points.proofs.Falls.{Filled}
+use Rattle.pm_points.proofs.point_bid.PointBid.to_array.Given as goal
+
+abbrev pub invariant-loop-step : goal.invariant-loop-step
+invariant-loop-step l = record {
+  filled : Filled l.self l.basis l.array l.step;
+  all : l.steps ≡ l.basis.steps;
+}

@@ -1,0 +1,76 @@
+ghost use Rattle.std.specs.Prelude.{◌≡◌, ◌≤◌, length};
+ghost use Rattle.pm_basis.specs.Prices.{IsBasis};
+ghost use Rattle.pm_points.specs.Points.{reached};
+ghost use Rattle.pm_points.specs.Checks.{first_price_fall, first_rise, first_too_large, first_outside};
+
+use pm_basis::Basis;
+
+/// The largest absolute value of one demand, in watts.
+const DEMAND_LIMIT: i64 = 1_000_000_000;
+
+/// The first point whose price is below the one before, else the number of points.
+pub(crate) fn find_price_fall(points: &[(i64, i64)]) -> usize
+    requires { 1 ≤ length points.now }
+    ensures { result ≡ first_price_fall points.now }
+{
+    for at in 1..points.len() {
+        if points[at].0 < points[at - 1].0 {
+            return at;
+        }
+    }
+    points.len()
+}
+
+/// The first point whose demand is above the one before, else the number of points.
+pub(crate) fn find_rise(points: &[(i64, i64)]) -> usize
+    requires { 1 ≤ length points.now }
+    ensures { result ≡ first_rise points.now }
+{
+    for at in 1..points.len() {
+        if points[at - 1].1 < points[at].1 {
+            return at;
+        }
+    }
+    points.len()
+}
+
+/// The first point whose demand is too large, else the number of points.
+pub(crate) fn find_too_large(points: &[(i64, i64)]) -> usize
+    ensures { result ≡ first_too_large points.now }
+{
+    for (at, point) in points.iter().enumerate() {
+        if point.1 < -DEMAND_LIMIT || DEMAND_LIMIT < point.1 {
+            return at;
+        }
+    }
+    points.len()
+}
+
+/// The first point whose price is no price of the range of the basis, else the number of points.
+pub(crate) fn find_outside(points: &[(i64, i64)], basis: &Basis) -> usize
+    ensures position { result ≡ first_outside basis.now points.now }
+    ensures sound { IsBasis basis.now }
+{
+    let min = basis.min();
+    let max = basis.max();
+    for (at, point) in points.iter().enumerate() {
+        if point.0 < min || max < point.0 {
+            return at;
+        }
+    }
+    points.len()
+}
+
+/// How many points stand up to the last one whose price is at most this price; 0 where there is
+/// none.
+pub(crate) fn count_reached(points: &[(i64, i64)], price: i64) -> usize
+    ensures reached { result ≡ reached points.now price }
+    ensures inside { result ≤ length points.now }
+{
+    for at in (0..points.len()).rev() {
+        if points[at].0 <= price {
+            return at + 1;
+        }
+    }
+    0
+}
