@@ -2,8 +2,10 @@ use crate::{Act, Journal, Line, Move};
 use std::test::Fail;
 
 mod plays;
+mod walk;
 
 use plays::{count_journals, market_of, nine_rounds, play, two_levels};
+use walk::longest_journal;
 
 fn is_shared<T: Send + Sync>(_value: &T) {}
 
@@ -50,6 +52,75 @@ const OPENS: [Move; 4] = [
     Move::Clear { index: 1 },
     Move::Pass { node: 1, index: 1 },
     Move::Publish { node: 1, number: 9 },
+];
+
+/// The devices 2 and 3 make two changes each, and concentrator 1 publishes all four in one cut.
+const ONE_CUT: [Move; 7] = [
+    Move::Change {
+        device: 2,
+        number: 1,
+    },
+    Move::Change {
+        device: 2,
+        number: 2,
+    },
+    Move::Change {
+        device: 3,
+        number: 1,
+    },
+    Move::Change {
+        device: 3,
+        number: 2,
+    },
+    Move::Learn {
+        child: 2,
+        number: 2,
+    },
+    Move::Learn {
+        child: 3,
+        number: 2,
+    },
+    Move::Publish { node: 1, number: 1 },
+];
+
+/// Each of the four changes is published in a cut of its own.
+const FOUR_CUTS: [Move; 12] = [
+    Move::Change {
+        device: 2,
+        number: 1,
+    },
+    Move::Learn {
+        child: 2,
+        number: 1,
+    },
+    Move::Publish { node: 1, number: 1 },
+    Move::Change {
+        device: 3,
+        number: 1,
+    },
+    Move::Learn {
+        child: 3,
+        number: 1,
+    },
+    Move::Publish { node: 1, number: 2 },
+    Move::Change {
+        device: 2,
+        number: 2,
+    },
+    Move::Learn {
+        child: 2,
+        number: 2,
+    },
+    Move::Publish { node: 1, number: 3 },
+    Move::Change {
+        device: 3,
+        number: 2,
+    },
+    Move::Learn {
+        child: 3,
+        number: 2,
+    },
+    Move::Publish { node: 1, number: 4 },
 ];
 
 #[test]
@@ -129,5 +200,30 @@ fn every_journal_ends_complete_within_the_bound(rt: HostRuntime) -> Result<(), F
     ];
     assert_eq!(rt; count_journals(rt.alloc(), &flat, 35)?, Some(88));
     assert!(rt; count_journals(rt.alloc(), &gathered, 37)?.is_some());
+    Ok(())
+}
+
+/// Every journal of two devices under a concentrator with two changes each ends complete and within the bound,
+/// 4 * (3 + 15) + 1 = 73: a walk over all the states that they reach. Both devices join, the first stays a member and
+/// the second leaves.
+///
+/// The longest has 31 moves: the 4 changes are one by one learnt, published, learnt, cleared and passed to the
+/// concentrator, 24. The device that stays is passed all 4 clearings where its join is the first change, else 3. The
+/// other is passed those from its join to before its leaving: 2 at most, and 3 where its join is the first change. That
+/// is 6 either way, and fewer clearings bring no more. The closing is the last.
+#[test]
+fn every_journal_of_four_changes_ends_complete_within_the_bound(
+    rt: HostRuntime,
+) -> Result<(), Fail> {
+    let paths: [&[Move]; 2] = [&ONE_CUT, &FOUR_CUTS];
+    let stays: &[bool] = &[true, true];
+    let leaves: &[bool] = &[true, false];
+    let nodes = [
+        (0, false, [].as_slice()),
+        (1, true, stays),
+        (1, true, leaves),
+    ];
+    let longest = longest_journal(rt.alloc(), &nodes, 73, &paths)?;
+    assert_eq!(rt; longest, Some((31, 2)));
     Ok(())
 }
