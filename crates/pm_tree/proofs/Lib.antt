@@ -7,3 +7,4 @@ pub mod Checks
 pub mod TableLists
 pub mod Loop
 pub mod Whole
+pub mod Alike

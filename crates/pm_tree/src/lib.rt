@@ -14,6 +14,7 @@ mod index;
 mod lists;
 mod name;
 mod node;
+mod same;
 #[cfg(test)]
 mod tests;
 mod tree;

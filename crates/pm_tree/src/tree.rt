@@ -1,4 +1,4 @@
-ghost use Rattle.std.specs.Prelude.{◌≡◌, ℕ, ◌<◌, ◌≤◌, ◌⊎◌, ◌==◌, length, false, Ok, Err, option_map};
+ghost use Rattle.std.specs.Prelude.{◌≡◌, ℕ, ◌<◌, ◌≤◌, ◌⊎◌, ◌==◌, ◌↔◌, IsTrue, length, false, Ok, Err, option_map};
 ghost use Rattle.pm_tree.specs.Entries.{entries_of, checked_tree, node_named, name_of, parent_of, is_leaf_at, depth_of, children_of, leaves_below_of, place_of, parents_of, leaves_of};
 ghost use Rattle.pm_tree.specs.Shape.{IsTree};
 ghost use Rattle.pm_tree.specs.Tables.{numbers};
@@ -8,6 +8,7 @@ use crate::fault::TreeFault;
 use crate::index::{find_node, index_entries};
 use crate::lists::{collect_children, collect_leaves};
 use crate::node::{Node, NodeId};
+use crate::same::same_entries;
 use indexmap::IndexSet;
 use std::alloc::Global;
 use std::marker::Model;
@@ -153,5 +154,12 @@ impl Tree {
         ensures { result ≡ place_of self.now node.0 }
     {
         self.places[node.0 as usize]
+    }
+
+    /// True exactly where both trees have the same entries in the same order.
+    pub fn same(&self, other: &Tree) -> bool
+        ensures { IsTrue result ↔ (self.now ≡ other.now) }
+    {
+        same_entries(&self.entries, &other.entries)
     }
 }
