@@ -1,0 +1,101 @@
+-- What holds of one node and its changes, and stays where a change is added.
+use Rattle.std.proofs.Common.{◌≡◌, ◌∙◌, sym, ap, ℕ, ◌+◌, ◌<◌, ◌≤◌, ℤ, List, [], ◌∷◌, ◌++◌, length, get_or, refl, arith, subst, inl, inr, IsTrue, Some}
+use Rattle.std.proofs.Math.ListN.{get_or-append}
+use Rattle.std.proofs.Math.Seq.{get_or-append_seam}
+use Rattle.std.proofs.lemmas.Bool.{cases_lt}
+use Rattle.std.proofs.lemmas.List.{length-append}
+use Rattle.pm_device.specs.Kinds.{is_valid, state_fits}
+use Rattle.pm_device.specs.declared.kind.Kind.{Kind}
+use Rattle.pm_device.specs.declared.kind.Kind.TheVariants.{Manual}
+use Rattle.pm_plan.specs.declared.planned.Change.{Change}
+use Rattle.pm_plan.specs.declared.planned.Planned.{Planned}
+use Rattle.pm_plan.specs.Plans.{NodeData, no_node}
+use Rattle.pm_plan.specs.Kept.{no_change, change_fits, AreLimits}
+use Rattle.pm_plan.specs.Building.{with_change}
+
+abbrev change_in : List Change → ℕ → Change
+change_in changes n = get_or changes n no_change
+
+-- the changes of a device of this kind, where phase p is the last so far
+pub record ChangesHold (kind : Kind) (p : ℕ) (changes : List Change) : Type 0 where
+  pub fit : (n : ℕ) → n < length changes → IsTrue (change_fits kind (get_or changes n no_change).what)
+  pub first : (n : ℕ) → n < length changes → 1 ≤ (get_or changes n no_change).phase
+  pub last : (n : ℕ) → n < length changes → (get_or changes n no_change).phase ≤ p
+  pub rise : (m n : ℕ) → m ≤ n → n < length changes → (get_or changes m no_change).phase ≤ (get_or changes n no_change).phase
+
+pub record NodeHolds (p : ℕ) (n : NodeData) : Type 0 where
+  pub valid : IsTrue (is_valid n.kind)
+  pub start : IsTrue (state_fits n.kind n.start)
+  pub changes : ChangesHold n.kind p n.changes
+  pub limits : (floor ceiling : ℤ) → n.limits ≡ Some (floor, ceiling) → AreLimits floor ceiling
+
+pub no_changes-hold : (kind : Kind) (p : ℕ) → ChangesHold kind p []
+no_changes-hold kind p = record {
+  fit = λ n h. absurd (omega arith);
+  first = λ n h. absurd (omega arith);
+  last = λ n h. absurd (omega arith);
+  rise = λ m n h i. absurd (omega arith);
+}
+
+pub no_node-holds : (p : ℕ) → NodeHolds p no_node
+no_node-holds p = record { valid = refl; start = refl; changes = no_changes-hold Manual p; limits = λ floor ceiling h. absurd (cc h) }
+
+-- an element of a list with one more is an old one or the new one
+before : (changes : List Change) (new : Change) (n : ℕ) → n < length changes → get_or (changes ++ new ∷ []) n no_change ≡ get_or changes n no_change
+before changes new n h = get_or-append changes (new ∷ []) no_change n h
+
+at_end : (changes : List Change) (new : Change) (n : ℕ) → n ≡ length changes → get_or (changes ++ new ∷ []) n no_change ≡ new
+at_end changes new n h = ap (λ m. get_or (changes ++ new ∷ []) m no_change) h ∙ get_or-append_seam changes new [] no_change
+
+-- what holds of each old element and of the new one holds of each element
+each_of_more : (P : Change → Type 0) (changes : List Change) (new : Change) → ((n : ℕ) → n < length changes → P (get_or changes n no_change)) → P new → (n : ℕ) → n < length (changes ++ new ∷ []) → P (get_or (changes ++ new ∷ []) n no_change)
+each_of_more P changes new all one n h = elim (cases_lt n (length changes)) [
+  | inl below ↦ subst P (sym (before changes new n below)) (all n below)
+  | inr above ↦ subst P (sym (at_end changes new n (let long = length-append changes (new ∷ []) in omega arith))) one
+]
+
+rises_with : (kind : Kind) (p : ℕ) (changes : List Change) (new : Change) → ChangesHold kind p changes → new.phase ≡ p → (m n : ℕ) → m ≤ n → n < length (changes ++ new ∷ []) → (get_or (changes ++ new ∷ []) m no_change).phase ≤ (get_or (changes ++ new ∷ []) n no_change).phase
+rises_with kind p changes new hold is m n le h =
+    let long = length-append changes (new ∷ []) in
+    elim (cases_lt n (length changes)) [
+      | inl below ↦
+          let one = ap (λ (c : Change). c.phase) (before changes new m (omega arith)) in
+          let two = ap (λ (c : Change). c.phase) (before changes new n below) in
+          omega (arith, one, two, hold.rise m n le below)
+      | inr above ↦
+          let two = ap (λ (c : Change). c.phase) (at_end changes new n (omega arith)) in
+          elim (cases_lt m (length changes)) [
+            | inl early ↦
+                let one = ap (λ (c : Change). c.phase) (before changes new m early) in
+                omega (arith, one, two, is, hold.last m early)
+            | inr late ↦
+                let one = ap (λ (c : Change). c.phase) (at_end changes new m (omega arith)) in
+                omega (arith, one, two)
+          ]
+    ]
+
+pub one_more_change : (kind : Kind) (p : ℕ) (changes : List Change) (new : Change) → ChangesHold kind p changes → new.phase ≡ p → 1 ≤ p → IsTrue (change_fits kind new.what) → ChangesHold kind p (changes ++ new ∷ [])
+one_more_change kind p changes new hold is low fits = record {
+  fit = each_of_more (λ c. IsTrue (change_fits kind c.what)) changes new hold.fit fits;
+  first = each_of_more (λ c. 1 ≤ c.phase) changes new hold.first (omega arith);
+  last = each_of_more (λ c. c.phase ≤ p) changes new hold.last (omega arith);
+  rise = rises_with kind p changes new hold is;
+}
+
+-- a node with one more change of the last phase
+pub with_change-holds : (p : ℕ) (n : NodeData) (what : Planned) → NodeHolds p n → 1 ≤ p → IsTrue (change_fits n.kind what) → NodeHolds p (with_change n p what)
+with_change-holds p n what hold low fits = record {
+  valid = hold.valid;
+  start = hold.start;
+  changes = one_more_change n.kind p n.changes (record { phase = p; what = what }) hold.changes refl low fits;
+  limits = hold.limits;
+}
+
+-- one phase more may have changes
+pub next_phase : (p : ℕ) (n : NodeData) → NodeHolds p n → NodeHolds (p + 1) n
+next_phase p n hold = record {
+  valid = hold.valid;
+  start = hold.start;
+  changes = record { fit = hold.changes.fit; first = hold.changes.first; last = λ k h. (let le = hold.changes.last k h in omega arith); rise = hold.changes.rise };
+  limits = hold.limits;
+}

@@ -1,0 +1,58 @@
+-- One more change of a device, the group of a node, and names of devices.
+use Rattle.std.proofs.Common.{◌≡◌, ◌∙◌, sym, ap, ℕ, zero, suc, ◌+◌, ◌-◌, ◌<◌, ◌≤◌, ℤ, true, false, List, [], ◌++◌, Some, length, get_or, map, take, drop, arith}
+use Rattle.std.proofs.Math.ListN.{set}
+use Rattle.std.proofs.lemmas.Bool.{cond-true, cond-false}
+use Rattle.std.proofs.lemmas.List.{get_or_read, get_or_default, length-map}
+use Rattle.std.proofs.lemmas.List.Quantifiers.{position-Some}
+use Rattle.std.specs.Str.{bytes_eq}
+use Rattle.std.proofs.lemmas.List.Edits.{map_over_more}
+use Rattle.pm_tree.specs.Entries.{Entry, parents_of, leaves_of, node_named, names_of, is_leaf_at}
+use Rattle.pm_tree.specs.Shape.{IsTree}
+use Rattle.pm_plan.specs.declared.planned.Planned.{Planned}
+use Rattle.pm_plan.specs.Plans.{PlanData, NodeData, no_node, node, is_limited, parent, group, group_in}
+use Rattle.pm_plan.proofs.Groups.{Earlier, group-up, length-parents_of}
+use Rattle.pm_plan.specs.Building.{with_change, with_change_of, ticked}
+
+-- where the parent is limited, it is the group
+pub group_is_parent : (plan : PlanData) (x : ℕ) → 1 ≤ x → is_limited plan (parent plan x) ≡ true → group plan x ≡ parent plan x
+unfolding group group_in
+group_is_parent plan zero low limited = absurd (omega arith)
+group_is_parent plan (suc x) low limited = cond-true {A = ℕ} (is_limited plan (parent plan (suc x))) (parent plan (suc x)) (group_in plan x (parent plan (suc x))) limited
+
+-- else the parent's group is the group
+pub group_of_parent : (plan : PlanData) (x : ℕ) → IsTree (parents_of plan.entries) (leaves_of plan.entries) → 1 ≤ x → x ≤ length plan.entries → is_limited plan (parent plan x) ≡ false → group plan (parent plan x) ≡ group plan x
+group_of_parent plan x tree low inside limited =
+    let earlier : Earlier plan (length plan.entries) = λ y first last. tree.earlier y first (omega (arith, length-parents_of plan.entries)) in
+    sym (group-up plan (length plan.entries) x earlier low inside ∙ cond-false {A = ℕ} (is_limited plan (parent plan x)) (parent plan x) (group plan (parent plan x)) limited)
+
+pub limited_is_no_root : (plan : PlanData) (x : ℕ) → is_limited plan x ≡ true → 1 ≤ x
+limited_is_no_root plan zero limited = absurd (let h : false ≡ true = limited in cc)
+limited_is_no_root plan (suc x) limited = omega arith
+
+-- a device's node was exchanged for one with one more change
+pub changed_is : (plan : PlanData) (d p : ℕ) (what : Planned) (old new : NodeData) → 1 ≤ d → d ≤ length plan.nodes → old ≡ get_or plan.nodes (d - 1) old → new ≡ with_change old p what →
+    (let changed : PlanData = record plan { nodes = set plan.nodes (d - 1) new } in changed) ≡ with_change_of plan d p what
+unfolding with_change_of
+changed_is plan zero p what old new low high read made = absurd (omega arith)
+changed_is plan (suc k) p what old new low high read made =
+    let place : suc k - 1 ≡ k = omega arith in
+    let here : old ≡ node plan (suc k) = get_or_read plan.nodes k old (omega arith) (read ∙ ap (λ i. get_or plan.nodes i old) place) no_node in
+    ap (λ n. (let changed : PlanData = record plan { nodes = set plan.nodes (suc k - 1) n } in changed)) (made ∙ ap (λ n. with_change n p what) here)
+
+-- one more node was ticked
+pub ticked_more : (p : ℕ) (minutes : ℤ) (xs ys : List NodeData) (i : ℕ) (d y : NodeData) → i < length xs → i < length ys → ys ≡ map (ticked p minutes) (take i xs) ++ drop i xs → y ≡ ticked p minutes (get_or ys i d) →
+    set ys i y ≡ map (ticked p minutes) (take (i + 1) xs) ++ drop (i + 1) xs
+ticked_more p minutes xs ys i d y inside within before made =
+    ap (set ys i) made ∙ map_over_more (ticked p minutes) xs ys i (get_or ys i d) inside before (get_or_default ys i d (get_or ys i d) within)
+
+-- the node of a name is one of the tree, and a device is not the auctioneer
+pub named_inside : (entries : List Entry) (name : List ℕ) (x : ℕ) → node_named entries name ≡ Some x → x ≤ length entries
+unfolding node_named
+named_inside entries name x named =
+    let found = position-Some (bytes_eq name) (names_of entries) x [] named in
+    let inside : x < length (names_of entries) = found.0 in
+    omega (arith, length-map entries (λ (entry : Entry). entry.name))
+
+pub device_is_no_root : (entries : List Entry) (x : ℕ) → is_leaf_at entries x ≡ true → 1 ≤ x
+device_is_no_root entries zero leaf = absurd (let h : false ≡ true = leaf in cc)
+device_is_no_root entries (suc x) leaf = omega arith

@@ -1,0 +1,99 @@
+-- The state of each device fits its kind, and so its bid lies within the limits.
+use Rattle.std.proofs.Common.{◌≡◌, ◌∙◌, sym, ap, ℕ, zero, suc, ◌-◌, ◌≤◌, ℤ, pos, ◌≤ℤ◌, ◌+ℤ◌, ◌-ℤ◌, ◌*ℤ◌, neg_ℤ, List, length, Bool, true, false, cond, refl, arith, subst, add-one, IsTrue, inl, inr}
+use Rattle.std.proofs.Math.ListN.{get_or-eq_default}
+use Rattle.std.proofs.lemmas.Bool.{cases_lt}
+use Rattle.std.proofs.lemmas.Int.{ints, clamps}
+use Rattle.pm_bid.specs.Bids.{IsWithin, AllWithinLimit, NeverRises, demand_limit, demand_at, zeros}
+use Rattle.pm_device.specs.Kinds.{is_valid, state_fits, temperature_limit, is_temperature, is_between}
+use Rattle.pm_device.specs.Ticks.{tick, nearest_between, nearest_temperature, change_if, took, delivered, floor_div}
+use Rattle.pm_device.specs.declared.kind.Kind.{Kind}
+use Rattle.pm_device.specs.declared.kind.Kind.TheVariants.{Freezer, HeatPump, Cogeneration, Battery, Solar, Load, Objective, Manual}
+use Rattle.pm_device.proofs.Between.{is_between-holds, is_battery-tells}
+use Rattle.pm_strategy.specs.Strategies.{bid_of}
+use Rattle.pm_strategy.proofs.BidLaws.{length-bid_of, bid_of-within, bid_of-falls}
+use Rattle.pm_plan.specs.declared.planned.Planned.{Planned}
+use Rattle.pm_plan.specs.declared.planned.Planned.TheVariants.{Join, Leave, Set, Tick}
+use Rattle.pm_plan.specs.Plans.{PlanData, node, change_count, is_member, end}
+use Rattle.pm_plan.specs.Auction.{Cut, demand_of, local, power}
+use Rattle.pm_plan.specs.States.{changed_state, state}
+use Rattle.pm_plan.specs.Kept.{IsPlan, change_fits, change_at}
+use Rattle.pm_plan.proofs.StateLaws.{state-start, state-next}
+
+nearest-fits : (low high x : ℤ) → low ≤ℤ high → IsTrue (is_between low high (nearest_between low high x))
+nearest-fits low high x order = is_between-holds low high (nearest_between low high x) (record { from = omega (arith, ints, clamps); to = omega (arith, ints, clamps) })
+
+temperature-fits : (x : ℤ) → IsTrue (is_temperature (nearest_temperature x))
+temperature-fits x = nearest-fits (neg_ℤ (pos temperature_limit)) (pos temperature_limit) x (omega (arith, ints))
+
+-- what a tick makes of a state that fits, fits
+pub tick-fits : (kind : Kind) (state power minutes : ℤ) → IsTrue (is_valid kind) → IsTrue (state_fits kind state) → IsTrue (state_fits kind (tick kind state power minutes))
+unfolding tick
+tick-fits (Freezer low high rated warm cool) state power minutes valid fits = temperature-fits ((state +ℤ warm) -ℤ change_if (took power) cool)
+tick-fits (HeatPump low high rated loss gain) state power minutes valid fits = temperature-fits ((state -ℤ loss) +ℤ change_if (took power) gain)
+tick-fits (Cogeneration low high rated loss gain) state power minutes valid fits = temperature-fits ((state -ℤ loss) +ℤ change_if (delivered power) gain)
+tick-fits (Battery capacity charge discharge spread) state power minutes valid fits =
+    let least = (is_battery-tells capacity charge discharge spread valid).capacity_within in
+    nearest-fits (pos 0) capacity (state +ℤ floor_div (power *ℤ minutes) (pos 60)) (omega (arith, ints, least.from))
+tick-fits Solar state power minutes valid fits = fits
+tick-fits Load state power minutes valid fits = fits
+tick-fits Objective state power minutes valid fits = fits
+tick-fits Manual state power minutes valid fits = fits
+
+changed-fits : (kind : Kind) (state power : ℤ) (what : Planned) → IsTrue (is_valid kind) → IsTrue (state_fits kind state) → IsTrue (change_fits kind what) → IsTrue (state_fits kind (changed_state kind state power what))
+changed-fits kind state power Join valid fits change = fits
+changed-fits kind state power Leave valid fits change = fits
+changed-fits kind state power (Set value) valid fits change = change
+changed-fits kind state power (Tick minutes) valid fits change = tick-fits kind state power minutes valid fits
+
+pub state-fits : (plan : PlanData) (d n : ℕ) → IsPlan plan → 1 ≤ d → d ≤ length plan.nodes → n ≤ change_count plan d → IsTrue (state_fits (node plan d).kind (state plan d n))
+state-fits plan d zero is low high within = subst (λ z. IsTrue (state_fits (node plan d).kind z)) (sym (state-start plan d)) (is.within.starts d)
+state-fits plan d (suc n) is low high within =
+    let kind = (node plan d).kind in
+    let P = λ (z : ℤ). IsTrue (state_fits kind z) in
+    let what = (change_at plan d n).what in
+    let used = power plan (state plan) (end plan ((change_at plan d n).phase - 1)) d in
+    let before = state-fits plan d n is low high (omega arith) in
+    let next = ap (state plan d) (sym (add-one n)) ∙ state-next plan d n is.in_phases low (omega arith) (omega arith) in
+    subst P (sym next) (changed-fits kind (state plan d n) used what (is.within.kinds d) before (is.within.changes d n (omega arith)))
+
+pub bid-steps : (plan : PlanData) (d n : ℕ) → IsPlan plan → length (bid_of (node plan d).kind (state plan d n) plan.arrays plan.basis.steps) ≡ plan.basis.steps
+bid-steps plan d n is = length-bid_of (node plan d).kind (state plan d n) plan.arrays plan.basis.steps is.arrays.steps
+
+pub bid-within : (plan : PlanData) (d n : ℕ) → IsPlan plan → 1 ≤ d → d ≤ length plan.nodes → n ≤ change_count plan d → AllWithinLimit demand_limit (bid_of (node plan d).kind (state plan d n) plan.arrays plan.basis.steps)
+bid-within plan d n is low high within =
+    bid_of-within (node plan d).kind (state plan d n) plan.arrays plan.basis.steps (is.within.kinds d) (state-fits plan d n is low high within) (λ _. is.arrays.within)
+
+pub bid-falls : (plan : PlanData) (d n : ℕ) → IsPlan plan → NeverRises (bid_of (node plan d).kind (state plan d n) plan.arrays plan.basis.steps)
+bid-falls plan d n is = bid_of-falls (node plan d).kind (state plan d n) plan.arrays plan.basis.steps (is.within.kinds d) (λ _. is.arrays.fall)
+
+none-within : (limit : ℕ) → IsWithin limit (pos 0)
+none-within limit = record { low = omega (arith, ints); high = omega (arith, ints) }
+
+zero-at : (steps k : ℕ) → demand_at (zeros steps) k ≡ pos 0
+zero-at zero k = refl
+zero-at (suc steps) zero = refl
+zero-at (suc steps) (suc k) = zero-at steps k
+
+zeros-within : (limit steps : ℕ) → AllWithinLimit limit (zeros steps)
+zeros-within limit steps k inside = subst (IsWithin limit) (sym (zero-at steps k)) (none-within limit)
+
+either : (P : List ℤ → Type 0) (b : Bool) (x y : List ℤ) → P x → P y → P (cond b x y)
+either P true x y here there = here
+either P false x y here there = there
+
+pub demand-within : (plan : PlanData) (cut : Cut) (d : ℕ) → IsPlan plan → 1 ≤ d → d ≤ length plan.nodes → cut d ≤ change_count plan d → AllWithinLimit demand_limit (demand_of plan (state plan) cut d)
+unfolding demand_of
+demand-within plan cut d is low high within =
+    either (AllWithinLimit demand_limit) (is_member plan d (cut d)) _ _ (bid-within plan d (cut d) is low high within) (zeros-within demand_limit plan.basis.steps)
+
+-- an element of a list within a limit, or nothing beyond its end
+element-within : (limit : ℕ) (bid : List ℤ) (k : ℕ) → AllWithinLimit limit bid → IsWithin limit (demand_at bid k)
+element-within limit bid k all = elim (cases_lt k (length bid)) [
+  | inl inside ↦ all k inside
+  | inr beyond ↦ subst (IsWithin limit) (sym (get_or-eq_default bid (pos 0) {n = k} beyond)) (none-within limit)
+]
+
+pub power-within : (plan : PlanData) (cut : Cut) (d : ℕ) → IsPlan plan → 1 ≤ d → d ≤ length plan.nodes → cut d ≤ change_count plan d → IsWithin demand_limit (power plan (state plan) cut d)
+unfolding power
+power-within plan cut d is low high within =
+    element-within demand_limit (demand_of plan (state plan) cut d) (local plan (state plan) cut d) (demand-within plan cut d is low high within)

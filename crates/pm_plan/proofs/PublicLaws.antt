@@ -1,0 +1,56 @@
+-- The laws in the order of their clauses.
+use Rattle.std.proofs.Common.{◌≡◌, ℕ, ◌+◌, ◌-◌, ◌<◌, ◌≤◌, length, arith, IsTrue, List, Ok}
+use Rattle.pm_basis.specs.Prices.{BasisValue, IsBasis}
+use Rattle.pm_tree.specs.Entries.{Entry, checked_tree, parents_of, leaves_of}
+use Rattle.pm_tree.specs.Shape.{IsTree}
+use Rattle.pm_plan.specs.Parts.{NodePart, PhasePart, AreNodesOf}
+use Rattle.pm_plan.specs.Building.{checked_plan}
+use Rattle.pm_plan.proofs.Sound.{checked_plan-keeps}
+use Rattle.pm_bid.specs.Bids.{AllWithinLimit, IsWithin, NeverRises, demand_limit}
+use Rattle.pm_device.specs.Kinds.{state_fits}
+use Rattle.pm_strategy.specs.Strategies.{bid_of}
+use Rattle.pm_market.specs.Lists.{Lawful}
+use Rattle.pm_market.specs.Lists as market
+use Rattle.pm_market.specs.Bound as market_bound
+use Rattle.pm_plan.specs.Plans.{PlanData, node, end, is_member, change_count, bound}
+use Rattle.pm_plan.specs.Auction.{Cut, power}
+use Rattle.pm_plan.specs.States.{changed_state, state}
+use Rattle.pm_plan.specs.Kept.{IsPlan, InPhases, change_at}
+use Rattle.pm_plan.specs.Market.{lists_of}
+use Rattle.pm_plan.proofs.StateLaws.{state-start, state-next}
+use Rattle.pm_plan.proofs.Fits.{state-fits, bid-steps, bid-within, bid-falls, power-within}
+use Rattle.pm_plan.proofs.MarketLists.{lawful, is_member-is, bound-is}
+
+pub starts : (plan : PlanData) (d : ℕ) → state plan d 0 ≡ (node plan d).start
+starts plan d = state-start plan d
+
+pub follows : (plan : PlanData) (d n : ℕ) → InPhases plan → 1 ≤ d → d ≤ length plan.nodes → n < change_count plan d →
+    state plan d (n + 1) ≡ changed_state (node plan d).kind (state plan d n) (power plan (state plan) (end plan ((change_at plan d n).phase - 1)) d) (change_at plan d n).what
+follows plan d n fits low high inside = state-next plan d n fits low (omega arith) inside
+
+pub fits : (plan : PlanData) (d n : ℕ) → IsPlan plan → 1 ≤ d → d ≤ length plan.nodes → n ≤ change_count plan d → IsTrue (state_fits (node plan d).kind (state plan d n))
+fits plan d n is low high inside = state-fits plan d n is low high inside
+
+pub steps : (plan : PlanData) (d n : ℕ) → IsPlan plan → length (bid_of (node plan d).kind (state plan d n) plan.arrays plan.basis.steps) ≡ plan.basis.steps
+steps plan d n is = bid-steps plan d n is
+
+pub within : (plan : PlanData) (d n : ℕ) → IsPlan plan → 1 ≤ d → d ≤ length plan.nodes → n ≤ change_count plan d → AllWithinLimit demand_limit (bid_of (node plan d).kind (state plan d n) plan.arrays plan.basis.steps)
+within plan d n is low high inside = bid-within plan d n is low high inside
+
+pub falls : (plan : PlanData) (d n : ℕ) → IsPlan plan → NeverRises (bid_of (node plan d).kind (state plan d n) plan.arrays plan.basis.steps)
+falls plan d n is = bid-falls plan d n is
+
+pub powers : (plan : PlanData) (cut : Cut) (d : ℕ) → IsPlan plan → 1 ≤ d → d ≤ length plan.nodes → cut d ≤ change_count plan d → IsWithin demand_limit (power plan (state plan) cut d)
+powers plan cut d is low high inside = power-within plan cut d is low high inside
+
+pub lawful_lists : (plan : PlanData) → IsPlan plan → Lawful (lists_of plan)
+lawful_lists plan is = lawful plan is
+
+pub members : (plan : PlanData) (d n : ℕ) → 1 ≤ d → d ≤ length plan.nodes → n ≤ change_count plan d → market.is_member (lists_of plan) d n ≡ is_member plan d n
+members plan d n low high inside = is_member-is plan d n low high inside
+
+pub bounds : (plan : PlanData) → IsPlan plan → market_bound.bound (lists_of plan) ≡ bound plan
+bounds plan is = bound-is plan is
+
+pub plans : (basis : BasisValue) (entries : List Entry) (nodes : List NodePart) (phases : List PhasePart) (plan : PlanData) → IsBasis basis → checked_tree entries ≡ Ok entries → IsTree (parents_of entries) (leaves_of entries) → AreNodesOf entries nodes → checked_plan basis entries nodes phases ≡ Ok plan → IsPlan plan
+plans basis entries nodes phases plan sound accepted tree fit h = checked_plan-keeps basis entries nodes phases plan sound accepted tree fit h

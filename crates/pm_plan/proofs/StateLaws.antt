@@ -1,0 +1,109 @@
+-- The states of the devices: a change makes the next state of the one before, a tick by the power at the end of the phase before.
+use Rattle.std.proofs.Common.{◌≡◌, ◌∙◌, sym, ap, ℕ, zero, suc, ◌+◌, ◌-◌, ◌<◌, ◌≤◌, ℤ, pos, List, [], ◌∷◌, length, take, get_or, refl, arith, add-one, length-append, inl, inr, subst}
+use Rattle.std.proofs.lemmas.Bool.{cases_lt, leb-true}
+use Rattle.std.proofs.Math.ListN.{get_or-append}
+use Rattle.std.proofs.Math.Seq.{get_or-append_seam}
+use Rattle.std.specs.Prelude.{All}
+use Rattle.std.specs.List.{fold, prefix_len}
+use Rattle.std.proofs.lemmas.List.{take_more, get_or_default, get_or-take, length-take-le}
+use Rattle.std.proofs.lemmas.List.Sums.{fold-append, prefix_len_passes, prefix_len-le-length}
+use Rattle.std.proofs.lemmas.List.FromFn.{get_or-map-range_with_len}
+use Rattle.std.proofs.lemmas.List.Elements.{All-head, All-tail}
+use Rattle.pm_plan.specs.declared.planned.Change.{Change}
+use Rattle.pm_plan.specs.Plans.{PlanData, node, end, phases, is_up_to}
+use Rattle.pm_plan.specs.Auction.{power}
+use Rattle.pm_plan.specs.States.{changed_state, power_at, state_in, row, one_more, rows, state}
+use Rattle.pm_plan.proofs.Auctions.{power_same}
+use Rattle.pm_plan.specs.Kept.{no_change, change_at, InPhases}
+use Rattle.pm_plan.specs.Plans.{change_count}
+
+length-rows : (plan : PlanData) (p : ℕ) → length (rows plan p) ≡ p
+unfolding rows one_more
+length-rows plan zero = refl
+length-rows plan (suc p) = length-append (rows plan p) _ ∙ ap (λ n. n + 1) (length-rows plan p) ∙ add-one p
+
+-- row p stays as it was made
+rows-at : (plan : PlanData) (k p : ℕ) → p < k → get_or (rows plan k) p [] ≡ row plan (rows plan p) p
+unfolding rows one_more
+rows-at plan zero p h = absurd (omega arith)
+rows-at plan (suc k) p h =
+    let long = length-rows plan k in
+    elim (cases_lt p k) [
+      | inl below ↦ get_or-append (rows plan k) _ [] p (omega arith) ∙ rows-at plan k p below
+      | inr above ↦
+          let here : p ≡ k = omega arith in
+          subst (λ (q : ℕ). get_or (rows plan (suc k)) q [] ≡ row plan (rows plan q) q) (sym here)
+          (subst (λ (q : ℕ). get_or (rows plan (suc k)) q [] ≡ row plan (rows plan k) q) long
+          (get_or-append_seam (rows plan k) (row plan (rows plan k) (length (rows plan k))) [] []))
+    ]
+
+power_at-rows : (plan : PlanData) (k p d : ℕ) → p < k → 1 ≤ d → d < 1 + length plan.nodes → power_at (rows plan k) p d ≡ power plan (state_in plan (rows plan p)) (end plan p) d
+unfolding row
+power_at-rows plan k p zero h low high = absurd (omega arith)
+power_at-rows plan k p (suc d) h low high =
+    ap (λ r. get_or r (suc d) (pos 0)) (rows-at plan k p h)
+    ∙ get_or-map-range_with_len (power plan (state_in plan (rows plan p)) (end plan p)) 1 (length plan.nodes) d (suc d) (pos 0) (omega arith) (omega arith)
+
+fold_same : {A B : Type 0} (f g : B → A → B) (P : A → Type 0) → ((b : B) (x : A) → P x → f b x ≡ g b x) → (b : B) (xs : List A) → All P xs → fold f b xs ≡ fold g b xs
+fold_same f g P same b [] all = refl
+fold_same f g P same b (x ∷ xs) all =
+    ap (λ z. fold f z xs) (same b x (All-head P x xs all)) ∙ fold_same f g P same (g b x) xs (All-tail P x xs all)
+
+-- a change of the phases up to p
+abbrev Before : ℕ → Change → Type 0
+Before p c = c.phase - 1 < p
+
+changes_before : (plan : PlanData) (p d n : ℕ) → n ≤ end plan p d → InPhases plan → All (Before p) (take n (node plan d).changes)
+unfolding end
+changes_before plan p d n upto fits k c inside =
+    let changes = (node plan d).changes in
+    let short : prefix_len (is_up_to p) changes ≤ length changes = prefix_len-le-length (is_up_to p) changes in
+    let below : k < n = omega (arith, length-take-le n changes (omega arith)) in
+    let passed = prefix_len_passes (is_up_to p) changes k no_change (omega arith) in
+    let low : 1 ≤ (get_or changes k no_change).phase = fits.first d k (omega arith) in
+    let high : (get_or changes k no_change).phase ≤ p = leb-true _ p passed in
+    let here : Before p (get_or changes k no_change) = omega arith in
+    subst (Before p) (sym (get_or-take n changes k c below ∙ get_or_default changes k c no_change (omega arith))) here
+
+-- the states up to the end of phase p use the rows below p alone
+state_in-same : (plan : PlanData) (some all : List (List ℤ)) (p d n : ℕ) → n ≤ end plan p d → InPhases plan → ((q : ℕ) → q < p → power_at some q d ≡ power_at all q d) → state_in plan some d n ≡ state_in plan all d n
+unfolding state_in
+state_in-same plan some all p d n upto fits same =
+    let step = λ (rows' : List (List ℤ)) (state' : ℤ) (c : Change). changed_state (node plan d).kind state' (power_at rows' (c.phase - 1) d) c.what in
+    fold_same (step some) (step all) (Before p) (λ z c h. ap (λ power'. changed_state (node plan d).kind z power' c.what) (same (c.phase - 1) h))
+    (node plan d).start (take n (node plan d).changes) (changes_before plan p d n upto fits)
+
+-- the rows of fewer phases are the same
+power_at-fewer : (plan : PlanData) (j k q d : ℕ) → q < j → j ≤ k → power_at (rows plan j) q d ≡ power_at (rows plan k) q d
+power_at-fewer plan j k q d below within =
+    ap (λ r. get_or r d (pos 0)) (rows-at plan j q below ∙ sym (rows-at plan k q (omega arith)))
+
+-- up to the end of phase p the rows below p are enough
+pub state_in-rows : (plan : PlanData) (p d n : ℕ) → p ≤ phases plan → n ≤ end plan p d → InPhases plan → state_in plan (rows plan p) d n ≡ state plan d n
+unfolding state
+state_in-rows plan p d n within upto fits =
+    state_in-same plan (rows plan p) (rows plan (phases plan)) p d n upto fits (λ q below. power_at-fewer plan p (phases plan) q d below within)
+
+-- row p is the plain auction at the end of phase p
+pub power_at-is : (plan : PlanData) (p d : ℕ) → p < phases plan → 1 ≤ d → d < 1 + length plan.nodes → InPhases plan → power_at (rows plan (phases plan)) p d ≡ power plan (state plan) (end plan p) d
+power_at-is plan p d within low high fits =
+    power_at-rows plan (phases plan) p d within low high
+    ∙ power_same plan (state_in plan (rows plan p)) (state plan) (end plan p) d low high (λ e _ _. state_in-rows plan p e (end plan p e) (omega arith) (omega arith) fits)
+
+pub state-start : (plan : PlanData) (d : ℕ) → state plan d 0 ≡ (node plan d).start
+unfolding state state_in
+state-start plan d = refl
+
+-- the state after one more change
+pub state-next : (plan : PlanData) (d n : ℕ) → InPhases plan → 1 ≤ d → d < 1 + length plan.nodes → n < change_count plan d →
+    state plan d (n + 1) ≡ changed_state (node plan d).kind (state plan d n) (power plan (state plan) (end plan ((change_at plan d n).phase - 1)) d) (change_at plan d n).what
+unfolding state state_in
+state-next plan d n fits low high inside =
+    let changes = (node plan d).changes in
+    let all = rows plan (phases plan) in
+    let step = λ (state' : ℤ) (c : Change). changed_state (node plan d).kind state' (power_at all (c.phase - 1) d) c.what in
+    let first : 1 ≤ (change_at plan d n).phase = fits.first d n inside in
+    let last : (change_at plan d n).phase ≤ phases plan = fits.last d n inside in
+    ap (fold step (node plan d).start) (take_more changes n no_change inside)
+    ∙ fold-append step (node plan d).start (take n changes) (change_at plan d n ∷ [])
+    ∙ ap (λ power'. changed_state (node plan d).kind (state plan d n) power' (change_at plan d n).what) (power_at-is plan ((change_at plan d n).phase - 1) d (omega arith) low high fits)

@@ -1,0 +1,99 @@
+-- The plain auction over a cut, for any states of the devices after their changes.
+use Rattle.std.specs.Prelude.{ℕ, ◌==◌, ℤ, cond, int_lt, List, ◌∷◌, map, filter, Option, Some, None}
+use Rattle.pm_basis.specs.Prices.{price_at}
+use Rattle.pm_bid.specs.Bids.{demand_at, zeros, sum_of, clamped}
+use Rattle.pm_bid.specs.Clearing.{clearing_step, first_at_most, last_at_least}
+use Rattle.pm_strategy.specs.Strategies.{bid_of}
+use Rattle.pm_plan.specs.declared.end.MemberLine.{MemberLine}
+use Rattle.pm_plan.specs.declared.end.LimitedLine.{LimitedLine}
+use Rattle.pm_plan.specs.Plans.{PlanData, node, numbers, is_member, is_limited, group}
+
+-- a cut gives each device a number of its changes
+abbrev pub Cut : Type 0
+Cut = ℕ → ℕ
+
+-- the state of each device after so many of its changes
+abbrev pub States : Type 0
+States = ℕ → ℕ → ℤ
+
+-- the demand of a device in a cut: its bid where it is a member, else zeros
+unfoldable pub demand_of : PlanData → States → Cut → ℕ → List ℤ
+demand_of plan states cut d =
+    cond (is_member plan d (cut d)) (bid_of (node plan d).kind (states d (cut d)) plan.arrays plan.basis.steps) (zeros plan.basis.steps)
+
+-- what a device adds to a group: its demand where it belongs to the group
+unfoldable pub part_in : PlanData → States → Cut → ℕ → ℕ → List ℤ
+part_in plan states cut g d = cond (group plan d == g) (demand_of plan states cut d) (zeros plan.basis.steps)
+
+-- the sum of a group: of the devices below the limited concentrator g, and of those below none where g is 0
+unfoldable pub sum_in : PlanData → States → Cut → ℕ → List ℤ
+sum_in plan states cut g = sum_of plan.basis.steps (map (part_in plan states cut g) (numbers plan))
+
+-- the limited concentrators in file order
+abbrev pub limited : PlanData → List ℕ
+limited plan = filter (is_limited plan) (numbers plan)
+
+-- a sum with each element moved to the nearest number within the limits
+abbrev pub within_limits : Option (ℤ × ℤ) → List ℤ → List ℤ
+within_limits None sum = sum
+within_limits (Some limits) sum = clamped limits.0 limits.1 sum
+
+-- what a limited concentrator announces: the sum of its group, within its limits
+unfoldable pub announced : PlanData → States → Cut → ℕ → List ℤ
+announced plan states cut g = within_limits (node plan g).limits (sum_in plan states cut g)
+
+-- the total: the sum of the devices below no limited concentrator, and what each limited concentrator announces
+unfoldable pub total : PlanData → States → Cut → List ℤ
+total plan states cut = sum_of plan.basis.steps (sum_in plan states cut 0 ∷ map (announced plan states cut) (limited plan))
+
+-- the step of the plain auction: the first at which the total is not positive, and the last where it always is
+unfoldable pub plain : PlanData → States → Cut → ℕ
+plain plan states cut = clearing_step (total plan states cut)
+
+-- the step at which a sum stays within limits, where k is the step of the whole: the first step at most the ceiling
+-- where the sum is above it at k, the last step at least the floor where the sum is below it at k, and else k
+abbrev pub local_step : Option (ℤ × ℤ) → ℕ → List ℤ → ℕ
+local_step None k sum = k
+local_step (Some limits) k sum =
+    cond (int_lt limits.1 (demand_at sum k)) (first_at_most limits.1 sum) (cond (int_lt (demand_at sum k) limits.0) (last_at_least limits.0 sum) k)
+
+-- the step of a group, where k is the step of the whole
+unfoldable pub group_step : PlanData → States → Cut → ℕ → ℕ → ℕ
+group_step plan states cut k g = local_step (node plan g).limits k (sum_in plan states cut g)
+
+-- the step of a node: that of its group
+unfoldable pub local : PlanData → States → Cut → ℕ → ℕ
+local plan states cut x = group_step plan states cut (plain plan states cut) (group plan x)
+
+-- the power of a device in watts: its demand at the step of its group, so 0 where it is no member
+unfoldable pub power : PlanData → States → Cut → ℕ → ℤ
+power plan states cut d = demand_at (demand_of plan states cut d) (local plan states cut d)
+
+-- a phase's end: the step, its price and the total there; a line for each member and for each limited concentrator,
+-- both in file order
+pub record EndData : Type 0 where
+  pub step : ℕ
+  pub price : ℤ
+  pub total : ℤ
+  pub members : List MemberLine
+  pub limited : List LimitedLine
+
+-- a member, its power, and the number of its changes
+unfoldable pub member_line : PlanData → States → Cut → ℕ → MemberLine
+member_line plan states cut d = record { node = d; power = power plan states cut d; number = cut d }
+
+-- a limited concentrator, the step of the nodes below it, and the sum of its group there
+unfoldable pub limited_line : PlanData → States → Cut → ℕ → LimitedLine
+limited_line plan states cut g =
+    let k = group_step plan states cut (plain plan states cut) g in
+    record { node = g; step = k; total = demand_at (sum_in plan states cut g) k }
+
+unfoldable pub end_in : PlanData → States → Cut → EndData
+end_in plan states cut = let k = plain plan states cut in
+    record {
+      step = k;
+      price = price_at plan.basis k;
+      total = demand_at (total plan states cut) k;
+      members = map (member_line plan states cut) (filter (λ d. is_member plan d (cut d)) (numbers plan));
+      limited = map (limited_line plan states cut) (limited plan);
+    }

@@ -1,0 +1,192 @@
+-- The plan that the parts of a cluster file give, or the first refusal: first the nodes in order, then the phases in
+-- order, each by the plan as far as it goes before.
+use Rattle.std.specs.Prelude.{ℕ, ◌-◌, ◌==◌, ℤ, pos, neg_ℤ, Bool, true, false, not, ◌&&◌, nat_le, if◌then◌else◌, List, [], ◌∷◌, ◌++◌, length, map, slice_set, Option, Some, None, option_and_then, Result, Ok, Err}
+use Rattle.pm_basis.specs.Prices.{BasisValue}
+use Rattle.pm_bid.specs.Bids.{sum_limit}
+use Rattle.pm_bid.specs.Checks.{checked_bid}
+use Rattle.pm_bid.specs.declared.fault.BidFault.{BidFault}
+use Rattle.pm_bid.specs.declared.fault.BidFault.TheVariants as bid_faults
+use Rattle.pm_points.specs.Points.{Point, array_of}
+use Rattle.pm_points.specs.Checks.{checked_points}
+use Rattle.pm_points.specs.declared.fault.PointFault.{PointFault}
+use Rattle.pm_points.specs.declared.fault.PointFault.TheVariants as point_faults
+use Rattle.pm_device.specs.Kinds.{is_valid, state_fits, has_ticks, is_between}
+use Rattle.pm_device.specs.declared.kind.Kind.{Kind}
+use Rattle.pm_device.specs.declared.kind.Kind.TheVariants as kinds
+use Rattle.pm_tree.specs.Entries.{Entry, node_named, is_leaf_at}
+use Rattle.pm_plan.specs.declared.planned.Planned.{Planned}
+use Rattle.pm_plan.specs.declared.planned.Planned.TheVariants.{Join, Leave, Set, Tick}
+use Rattle.pm_plan.specs.declared.refusal.Place.{Place}
+use Rattle.pm_plan.specs.declared.refusal.Place.TheVariants.{Document, Node, Phase, Event}
+use Rattle.pm_plan.specs.declared.refusal.Refusal.{Refusal}
+use Rattle.pm_plan.specs.Parts.{StatePart, number, array, points, NodePart, concentrator, limited, device, EventPart, join, state, leave, PhasePart, events, tick}
+use Rattle.pm_plan.specs.Plans.{PlanData, NodeData, no_node, node, group, all_changes, is_member_after}
+use Rattle.pm_plan.specs.Kept.{are_minutes, phases_limit, events_limit, changes_limit}
+use Rattle.pm_plan.specs.Refusals.{refuse, refuse_item, need, check, fold_from, ◌>>=◌, ◌>>◌}
+
+-- ---- states
+
+-- the item of a refusal: the length that was wrong, else the first step at fault
+abbrev pub item_of_bid : BidFault → ℕ
+item_of_bid (bid_faults.WrongLength have) = have
+item_of_bid (bid_faults.Rising at) = at
+item_of_bid (bid_faults.TooLarge at) = at
+
+-- the item of a refusal: 0 where there are no points, their number where there are too many, else the first at fault
+abbrev pub item_of_points : PointFault → ℕ
+item_of_points point_faults.NoPoints = 0
+item_of_points (point_faults.TooMany have) = have
+item_of_points (point_faults.PriceFalls at) = at
+item_of_points (point_faults.Rising at) = at
+item_of_points (point_faults.TooLarge at) = at
+item_of_points (point_faults.PriceOutside at) = at
+
+-- the bid of these demands, and of these points
+abbrev pub array_or_refuse : Place → Result (List ℤ) BidFault → Result (List ℤ) Refusal
+array_or_refuse place (Ok bid) = Ok bid
+array_or_refuse place (Err fault) = refuse_item 17 place (item_of_bid fault)
+
+abbrev pub points_or_refuse : BasisValue → Place → Result (List Point) PointFault → Result (List ℤ) Refusal
+points_or_refuse basis place (Ok bid) = Ok (array_of bid basis)
+points_or_refuse basis place (Err fault) = refuse_item 18 place (item_of_points fault)
+
+-- a state and the plan with it: a manual device's bid joins the arrays, and its state is the number of that array
+abbrev pub with_array : PlanData → List ℤ → ℤ × PlanData
+with_array plan bid = (pos (length plan.arrays), record plan { arrays = plan.arrays ++ bid ∷ [] })
+
+unfoldable pub manual_state : Place → PlanData → StatePart → Result (ℤ × PlanData) Refusal
+manual_state place plan (number z) = refuse 19 place
+manual_state place plan (array demands) = do
+  bid ← array_or_refuse place (checked_bid plan.basis.steps demands)
+  Ok (with_array plan bid)
+manual_state place plan (points pairs) = do
+  bid ← points_or_refuse plan.basis place (checked_points plan.basis pairs)
+  Ok (with_array plan bid)
+
+-- every other kind has a number that fits it
+abbrev pub number_state : Place → Kind → PlanData → StatePart → Result (ℤ × PlanData) Refusal
+number_state place kind plan (number z) = if state_fits kind z then Ok (z, plan) else refuse 19 place
+number_state place kind plan (array demands) = refuse 19 place
+number_state place kind plan (points pairs) = refuse 19 place
+
+abbrev pub is_manual : Kind → Bool
+is_manual kinds.Manual = true
+is_manual _ = false
+
+unfoldable pub state_of : Place → Kind → PlanData → StatePart → Result (ℤ × PlanData) Refusal
+state_of place kind plan part = if is_manual kind then manual_state place plan part else number_state place kind plan part
+
+-- ---- nodes
+
+-- whether these are a floor and a ceiling
+abbrev pub are_limits : ℤ → ℤ → Bool
+are_limits floor ceiling = is_between (neg_ℤ (pos sum_limit)) (pos 0) floor && is_between (pos 0) (pos sum_limit) ceiling
+
+abbrev pub with_node : PlanData → NodeData → PlanData
+with_node plan new = record plan { nodes = plan.nodes ++ new ∷ [] }
+
+-- the plan with one more node, whose number is n
+unfoldable pub add_node : ℕ → PlanData → NodePart → Result PlanData Refusal
+add_node n plan concentrator = Ok (with_node plan no_node)
+add_node n plan (limited floor ceiling) = do
+  check 13 (Node n) (are_limits floor ceiling)
+  check 22 (Node n) (group plan n == 0)
+  Ok (with_node plan (record { limits = Some (floor, ceiling); kind = kinds.Manual; start = pos 0; changes = [] }))
+add_node n plan (device kind start) = do
+  check 13 (Node n) (is_valid kind)
+  made ← state_of (Node n) kind plan start
+  Ok (with_node made.1 (record { limits = None; kind = kind; start = made.0; changes = [] }))
+
+-- ---- events
+
+-- the device of a name
+abbrev pub leaf_or_none : List Entry → ℕ → Option ℕ
+leaf_or_none entries x = if is_leaf_at entries x then Some x else None
+
+abbrev pub device_named : List Entry → List ℕ → Option ℕ
+device_named entries name = option_and_then (leaf_or_none entries) (node_named entries name)
+
+-- a node with one more change
+abbrev pub with_change : NodeData → ℕ → Planned → NodeData
+with_change old p what = record old { changes = old.changes ++ (record { phase = p; what = what }) ∷ [] }
+
+-- the plan with one more change of a device
+unfoldable pub with_change_of : PlanData → ℕ → ℕ → Planned → PlanData
+with_change_of plan d p what = record plan { nodes = slice_set plan.nodes (d - 1) (with_change (node plan d) p what) }
+
+-- whether a device is a member after all events before
+abbrev pub is_member_now : PlanData → ℕ → Bool
+is_member_now plan d = is_member_after (node plan d).changes
+
+-- the device of a name, which has to be a member, or has to be none
+unfoldable pub member_named : Place → PlanData → List ℕ → Result ℕ Refusal
+member_named place plan name = do
+  d ← need 14 place (device_named plan.entries name)
+  check 16 place (is_member_now plan d)
+  Ok d
+
+unfoldable pub stranger_named : Place → PlanData → List ℕ → Result ℕ Refusal
+stranger_named place plan name = do
+  d ← need 14 place (device_named plan.entries name)
+  check 15 place (not (is_member_now plan d))
+  Ok d
+
+-- the plan with one more event of phase p
+unfoldable pub event_of : Place → ℕ → PlanData → EventPart → Result PlanData Refusal
+event_of place p plan (join name) = do
+  d ← stranger_named place plan name
+  Ok (with_change_of plan d p Join)
+event_of place p plan (leave name) = do
+  d ← member_named place plan name
+  Ok (with_change_of plan d p Leave)
+event_of place p plan (state name value) = do
+  d ← member_named place plan name
+  made ← state_of place (node plan d).kind plan value
+  Ok (with_change_of made.1 d p (Set (record { 0 = made.0 })))
+
+-- event n of phase p
+abbrev pub add_event : ℕ → ℕ → PlanData → EventPart → Result PlanData Refusal
+add_event p n plan part = event_of (Event p n) p plan part
+
+-- ---- phases
+
+-- a tick is a change of each member whose state changes by itself
+abbrev pub ticks_now : NodeData → Bool
+ticks_now old = has_ticks old.kind && is_member_after old.changes
+
+abbrev pub ticked : ℕ → ℤ → NodeData → NodeData
+ticked p minutes old = if ticks_now old then with_change old p (Tick minutes) else old
+
+abbrev pub with_phase : PlanData → Option ℤ → PlanData
+with_phase plan minutes = record plan { minutes = plan.minutes ++ minutes ∷ [] }
+
+abbrev pub with_tick : ℕ → ℤ → PlanData → PlanData
+with_tick p minutes plan = record plan { nodes = map (ticked p minutes) plan.nodes; minutes = plan.minutes ++ Some minutes ∷ [] }
+
+unfoldable pub phase_of : ℕ → PlanData → PhasePart → Result PlanData Refusal
+phase_of p plan (tick minutes) = do
+  check 13 (Phase p) (are_minutes minutes)
+  Ok (with_tick p minutes plan)
+phase_of p plan (events list) = do
+  check 20 (Phase p) (nat_le (length list) events_limit)
+  after ← fold_from 1 (add_event p) plan list
+  Ok (with_phase after None)
+
+-- the plan with one more phase, whose number is p
+unfoldable pub add_phase : ℕ → PlanData → PhasePart → Result PlanData Refusal
+add_phase p plan part = do
+  after ← phase_of p plan part
+  check 20 (Phase p) (nat_le (all_changes after.nodes) changes_limit)
+  Ok after
+
+-- ---- the whole
+
+abbrev pub empty_plan : BasisValue → List Entry → PlanData
+empty_plan basis entries = record { basis = basis; entries = entries; nodes = []; arrays = []; minutes = [] }
+
+-- the plan of a basis, a tree, its nodes and the phases, or the first refusal
+unfoldable pub checked_plan : BasisValue → List Entry → List NodePart → List PhasePart → Result PlanData Refusal
+checked_plan basis entries nodes phases = do
+  check 20 Document (nat_le (length phases) phases_limit)
+  plan ← fold_from 1 add_node (empty_plan basis entries) nodes
+  fold_from 1 add_phase plan phases

@@ -1,0 +1,10 @@
+pub mod Parts
+pub mod Plans
+pub mod Auction
+pub mod States
+pub mod Market
+pub mod Kept
+pub mod Refusals
+pub mod Building
+pub mod Ends
+pub mod Keys

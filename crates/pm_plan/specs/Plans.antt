@@ -1,0 +1,147 @@
+-- A plan: the basis, the tree, what is planned for each node, the arrays, and the minutes of the phases.
+use Rattle.std.specs.Prelude.{ℕ, zero, suc, ◌+◌, ◌-◌, ◌*◌, ◌==◌, nat_le, ℤ, pos, Bool, true, false, cond, List, [], ◌∷◌, length, take, Option, Some, None, is_some, option_map, slice_get, slice_index_or}
+use Rattle.std.specs.List.{fold, sum_by, count_by, prefix_len, range_with_len}
+use Rattle.pm_basis.specs.Prices.{BasisValue}
+use Rattle.pm_tree.specs.Entries.{Entry, parent_of, is_leaf_at}
+use Rattle.pm_device.specs.declared.kind.Kind.{Kind}
+use Rattle.pm_device.specs.declared.kind.Kind.TheVariants.{Manual}
+use Rattle.pm_plan.specs.declared.planned.Change.{Change}
+use Rattle.pm_plan.specs.declared.planned.Planned.{Planned}
+use Rattle.pm_plan.specs.declared.planned.Planned.TheVariants.{Join, Leave, Set, Tick}
+
+-- what is planned for a node: the limits of a limited concentrator, and the kind, the start and the changes of a
+-- device. A node that is no leaf has no changes, and only a limited concentrator has limits
+pub record NodeData : Type 0 where
+  pub limits : Option (ℤ × ℤ)
+  pub kind : Kind
+  pub start : ℤ
+  pub changes : List Change
+
+-- the nodes stand in the order of the tree's entries, so they are 1, 2, ..; the arrays are the bids of the manual
+-- devices, each by its number from 0; a phase has minutes where it is a tick, and none where it has events
+pub record PlanData : Type 0 where
+  pub basis : BasisValue
+  pub entries : List Entry
+  pub nodes : List NodeData
+  pub arrays : List (List ℤ)
+  pub minutes : List (Option ℤ)
+
+-- a node with nothing planned: the auctioneer and each concentrator without limits
+abbrev pub no_node : NodeData
+no_node = record { limits = None; kind = Manual; start = pos 0; changes = [] }
+
+-- what is planned for a node; the auctioneer is node 0
+abbrev pub node_at : List NodeData → ℕ → NodeData
+node_at nodes x = slice_index_or (no_node ∷ nodes) x no_node
+
+abbrev pub node : PlanData → ℕ → NodeData
+node plan x = node_at plan.nodes x
+
+-- the numbers of all nodes of the file
+abbrev pub numbers : PlanData → List ℕ
+numbers plan = range_with_len 1 (length plan.nodes)
+
+abbrev pub parent : PlanData → ℕ → ℕ
+parent plan x = parent_of plan.entries x
+
+-- whether a node is a device
+abbrev pub is_leaf : PlanData → ℕ → Bool
+is_leaf plan x = is_leaf_at plan.entries x
+
+-- whether a node is a limited concentrator
+abbrev pub is_limited : PlanData → ℕ → Bool
+is_limited plan x = is_some (node plan x).limits
+
+-- the limited concentrator above a node, at most so many steps up; 0 where there is none
+unfoldable pub group_in : PlanData → ℕ → ℕ → ℕ
+group_in plan zero x = 0
+group_in plan (suc steps) x = cond (is_limited plan (parent plan x)) (parent plan x) (group_in plan steps (parent plan x))
+
+-- the limited concentrator above a node, 0 where there is none: the group that a device belongs to. Parents have
+-- smaller numbers, so a node has no more nodes above it than its number
+unfoldable pub group : PlanData → ℕ → ℕ
+group plan x = group_in plan x x
+
+-- a node that is not the auctioneer
+abbrev pub unless_zero : ℕ → Option ℕ
+unless_zero zero = None
+unless_zero (suc x) = Some (suc x)
+
+-- the same, none where there is none
+abbrev pub group_above : PlanData → ℕ → Option ℕ
+group_above plan x = unless_zero (group plan x)
+
+abbrev pub phases : PlanData → ℕ
+phases plan = length plan.minutes
+
+-- the minutes of a phase, counted from 1; none where it has events
+abbrev pub minutes_of : PlanData → ℕ → Option ℤ
+minutes_of plan p = slice_index_or plan.minutes (p - 1) None
+
+-- whether a change belongs to one of the phases up to p
+abbrev pub is_up_to : ℕ → Change → Bool
+is_up_to p change = nat_le change.phase p
+
+-- how many changes of a device belong to the phases 1 to p
+unfoldable pub end : PlanData → ℕ → ℕ → ℕ
+end plan p d = prefix_len (is_up_to p) (node plan d).changes
+
+-- how many changes of a device belong to phase p
+abbrev pub phase_changes : PlanData → ℕ → ℕ → ℕ
+phase_changes plan p d = end plan p d - end plan (p - 1) d
+
+-- how many changes a device makes
+abbrev pub change_count : PlanData → ℕ → ℕ
+change_count plan d = length (node plan d).changes
+
+-- how many changes all devices make
+abbrev pub all_changes : List NodeData → ℕ
+all_changes nodes = sum_by (λ node. length node.changes) nodes
+
+-- how many changes belong to phase p
+abbrev pub changes_in : List NodeData → ℕ → ℕ
+changes_in nodes p = sum_by (λ node. count_by (λ change. change.phase == p) node.changes) nodes
+
+-- how many moves a run has at most: a change is counted at most once as itself, 7 times as a learning, 6 times in
+-- publishing, once in clearing and once for each node in passing, and each phase is closed once
+abbrev pub bound : PlanData → ℕ
+bound plan = all_changes plan.nodes * (length plan.nodes + 15) + phases plan
+
+-- whether a device is a member after a change: a join makes it one, a leave ends it
+abbrev pub member_after : Bool → Planned → Bool
+member_after member Join = true
+member_after member Leave = false
+member_after member (Set state) = member
+member_after member (Tick minutes) = member
+
+-- whether a device is a member after these changes
+abbrev pub is_member_after : List Change → Bool
+is_member_after changes = fold (λ member change. member_after member change.what) false changes
+
+-- whether a device is a member after its first n changes
+unfoldable pub is_member : PlanData → ℕ → ℕ → Bool
+is_member plan d n = is_member_after (take n (node plan d).changes)
+
+abbrev pub is_join : Planned → Bool
+is_join Join = true
+is_join Leave = false
+is_join (Set state) = false
+is_join (Tick minutes) = false
+
+-- the number of the last join among these changes, the first of which has the number n + 1; m where there is none
+abbrev pub last_join_in : ℕ → ℕ → List Change → ℕ
+last_join_in m n [] = m
+last_join_in m n (change ∷ changes) = last_join_in (cond (is_join change.what) (n + 1) m) (n + 1) changes
+
+-- the number of the last join among the first n changes of a device, 0 where there is none
+unfoldable pub last_join : PlanData → ℕ → ℕ → ℕ
+last_join plan d n = last_join_in 0 0 (take n (node plan d).changes)
+
+-- the change at a place of a list, counted from 0
+abbrev pub planned_at : List Change → ℕ → Option Planned
+planned_at changes place = option_map (λ change. change.what) (slice_get changes place)
+
+-- change number n of a device, counted from 1; none where the number is 0 or above the device's changes
+abbrev pub planned : PlanData → ℕ → ℕ → Option Planned
+planned plan d zero = None
+planned plan d (suc place) = planned_at (node plan d).changes place

@@ -1,0 +1,82 @@
+ghost use Rattle.std.specs.Prelude.{◌≡◌, Ok, map, length, OnOk, IfOk};
+ghost use Rattle.pm_plan.specs.Plans.{phases as phase_count};
+ghost use Rattle.pm_basis.specs.Prices.{IsBasis};
+ghost use Rattle.pm_tree.specs.Entries.{checked_tree, parents_of, leaves_of};
+ghost use Rattle.pm_tree.specs.Shape.{IsTree};
+ghost use Rattle.pm_plan.specs.Parts.{AreNodesOf, node_part, phase_part};
+ghost use Rattle.pm_plan.specs.Building.{checked_plan};
+ghost use Rattle.pm_plan.specs.Kept.{IsPlan};
+ghost use Rattle.pm_plan.specs.Refusals.{Gives};
+
+use crate::building::nodes::add_nodes;
+use crate::building::phases::add_phases;
+use crate::draft::Draft;
+use crate::parts::{NodeSpec, PhaseSpec};
+use crate::plan::Plan;
+use crate::refusal::{Place, PlanFault, Refusal};
+use pm_basis::Basis;
+use pm_tree::Tree;
+use std::alloc::Global;
+
+/// The most phases of a run.
+const PHASES_LIMIT: usize = 1000;
+
+impl Plan {
+    /// The plan of a market basis, a tree, what a file says of the tree's nodes in their order, and its phases; or the
+    /// first refusal.
+    ///
+    /// More than 1000 phases are refused first, with code 20 at the document. Then come the nodes in order:
+    ///
+    /// - 13 where the floor of a limited concentrator lies outside -256,000,000,000..=0, its ceiling outside
+    ///   0..=256,000,000,000, or a parameter of a device's kind outside its limits;
+    /// - 22 where a limited concentrator stands above a limited one;
+    /// - 17 and 18 where a manual device's demands or points are no bid, with the item at fault, and 19 where a start
+    ///   does not fit its kind.
+    ///
+    /// Then the phases in order:
+    ///
+    /// - 13 where a tick's minutes lie outside 1..=1440, and 20 where a phase has more than 4096 events;
+    /// - of each event 14 where no device has its name, 15 where a member joins, 16 where a device that is no member
+    ///   leaves or is set, and 17, 18 and 19 for its state as above;
+    /// - 20 where all changes up to the phase's end are more than 20,000.
+    ///
+    /// Want of memory may be answered at any parts.
+    pub fn new(
+        alloc: Global,
+        basis: Basis,
+        tree: Tree,
+        nodes: Vec<NodeSpec>,
+        phases: Vec<PhaseSpec>,
+    ) -> Result<Plan, PlanFault>
+        requires nodes { AreNodesOf tree (map node_part nodes.items) }
+        ensures plan { Gives (λ p. p) result (checked_plan basis tree (map node_part nodes.items) (map phase_part phases.items)) }
+        ensures phases { IfOk result (λ p. phase_count p ≡ length phases.items) }
+    {
+        let draft = build(alloc, basis, tree, &nodes, &phases)?;
+        Ok(Plan { draft })
+    }
+}
+
+/// Takes all parts in order.
+#[tactic(auto, unfolding(crate::specs::Building::checked_plan))]
+fn build(
+    alloc: Global,
+    basis: Basis,
+    tree: Tree,
+    nodes: &[NodeSpec],
+    phases: &[PhaseSpec],
+) -> Result<Draft, PlanFault>
+    requires nodes { AreNodesOf tree (map node_part nodes.now) }
+    ensures draft { Gives (λ draft. draft) result (checked_plan basis tree (map node_part nodes.now) (map phase_part phases.now)) }
+    ensures sound { OnOk result (IsBasis basis) }
+    ensures accepted { OnOk result (checked_tree tree ≡ Ok tree) }
+    ensures lawful { OnOk result (IsTree (parents_of tree) (leaves_of tree)) }
+{
+    if PHASES_LIMIT < phases.len() {
+        return Err(PlanFault::Refused(Refusal::at(20, Place::Document)));
+    }
+    let mut draft = Draft::new(alloc, basis, tree)?;
+    add_nodes(alloc, &mut draft, nodes)?;
+    add_phases(alloc, &mut draft, phases)?;
+    Ok(draft)
+}

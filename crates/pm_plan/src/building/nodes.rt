@@ -1,0 +1,83 @@
+ghost use Rattle.std.specs.Prelude.{◌≡◌, ◌+◌, ◌<◌, ◌≤◌, ◌^◌, length, map, OnOk};
+ghost use Rattle.pm_tree.specs.Entries.{parents_of, leaves_of};
+ghost use Rattle.pm_tree.specs.Shape.{IsTree};
+ghost use Rattle.pm_plan.specs.Parts.{node_part};
+ghost use Rattle.pm_plan.specs.Building.{add_node, are_limits};
+ghost use Rattle.pm_plan.specs.Refusals.{Makes, fold_from};
+
+use crate::building::states::take_state;
+use crate::draft::Draft;
+use crate::node::Node;
+use crate::parts::NodeSpec;
+use crate::refusal::{Place, PlanFault, Refusal};
+use pm_device::DeviceState;
+use pm_tree::NodeId;
+use std::alloc::Global;
+
+/// The greatest absolute value of a floor or a ceiling, in watts.
+const SUM_LIMIT: i64 = 256_000_000_000;
+
+/// Takes the nodes in order, from node 1 on.
+pub(crate) fn add_nodes(
+    alloc: Global,
+    draft: &mut Draft,
+    specs: &[NodeSpec],
+) -> Result<(), PlanFault>
+    requires lawful { IsTree (parents_of draft.old.entries) (leaves_of draft.old.entries) }
+    requires first { length draft.old.nodes ≡ 0 }
+    requires one_each { length specs.now ≡ length draft.old.entries }
+    requires few { length specs.now ≤ 256 }
+    requires arrays { length draft.old.arrays ≡ 0 }
+    ensures made { Makes result draft.new (fold_from 1 add_node draft.old (map node_part specs.now)) }
+    ensures entries { OnOk result (draft.new.entries ≡ draft.old.entries) }
+    ensures nodes { OnOk result (length draft.new.nodes ≡ length draft.new.entries) }
+    ensures arrays { OnOk result (length draft.new.arrays ≤ 256) }
+{
+    let mut number = 0;
+    for spec in specs {
+        number += 1;
+        add_node(alloc, draft, number, spec)?;
+    }
+    Ok(())
+}
+
+/// Takes the node with this number, which is the next one.
+#[tactic(auto, unfolding(crate::specs::Building::add_node))]
+fn add_node(alloc: Global, draft: &mut Draft, number: u32, spec: &NodeSpec) -> Result<(), PlanFault>
+    requires lawful { IsTree (parents_of draft.old.entries) (leaves_of draft.old.entries) }
+    requires next { number ≡ length draft.old.nodes + 1 }
+    requires inside { number ≤ length draft.old.entries }
+    requires few { length draft.old.arrays < 2 ^ 63 }
+    ensures made { Makes result draft.new (add_node number draft.old (node_part spec.now)) }
+    ensures entries { OnOk result (draft.new.entries ≡ draft.old.entries) }
+    ensures nodes { OnOk result (length draft.new.nodes ≡ length draft.old.nodes + 1) }
+    ensures arrays { OnOk result (length draft.new.arrays ≤ length draft.old.arrays + 1) }
+{
+    let place = Place::Node { number };
+    match spec {
+        NodeSpec::Concentrator => Ok(draft.push_node(Node::concentrator(alloc))?),
+        NodeSpec::Limited { floor, ceiling } => {
+            if !are_limits(*floor, *ceiling) {
+                return Err(PlanFault::Refused(Refusal::at(13, place)));
+            }
+            if !draft.is_under_no_limit(NodeId(number)) {
+                return Err(PlanFault::Refused(Refusal::at(22, place)));
+            }
+            Ok(draft.push_node(Node::limited(alloc, *floor, *ceiling))?)
+        }
+        NodeSpec::Device { kind, start } => {
+            if !kind.valid() {
+                return Err(PlanFault::Refused(Refusal::at(13, place)));
+            }
+            let state = take_state(alloc, draft, place, *kind, start)?;
+            Ok(draft.push_node(Node::device(alloc, *kind, DeviceState(state)))?)
+        }
+    }
+}
+
+/// Whether these are a floor and a ceiling.
+fn are_limits(floor: i64, ceiling: i64) -> bool
+    ensures { result ≡ are_limits floor ceiling }
+{
+    (-SUM_LIMIT..=0).contains(&floor) && (0..=SUM_LIMIT).contains(&ceiling)
+}

@@ -1,0 +1,128 @@
+ghost use Rattle.std.specs.Prelude.{◌≡◌, ◌≤◌, IfOk, length};
+ghost use Rattle.pm_plan.specs.Ends.{no_end};
+
+use crate::plan::Plan;
+use std::alloc::{AllocError, Global};
+use std::marker::Model;
+
+/// A member at a phase's end.
+#[derive(Clone, Copy, Debug, PartialEq, Eq)]
+pub struct MemberLine {
+    /// The device's node.
+    pub node: u32,
+    /// Its power in watts, positive where it takes power: its bid at the step of its group.
+    pub power: i64,
+    /// The number of its bid, which is that of its last change.
+    pub number: u32,
+}
+
+/// A limited concentrator at a phase's end.
+#[derive(Clone, Copy, Debug, PartialEq, Eq)]
+pub struct LimitedLine {
+    /// The concentrator's node.
+    pub node: u32,
+    /// The step of the nodes below it.
+    pub step: u32,
+    /// The sum of the bids below it at that step, in watts.
+    pub total: i64,
+}
+
+/// A phase's end: the step at which the cluster balances with its price and the total there, the members and the
+/// limited concentrators, both in file order.
+///
+/// Contracts see it as these, and for how many more members and limited concentrators it has room.
+#[derive(Debug, Drop)]
+pub struct PhaseEnd {
+    step: u32,
+    price: i64,
+    total: i64,
+    members: Vec<MemberLine>,
+    limited: Vec<LimitedLine>,
+}
+
+impl Model for PhaseEnd {
+    ghost use Rattle.std.specs.Prelude.{◌-◌, length};
+    ghost use Rattle.std.specs.Vec.{vec_capacity};
+    ghost use Rattle.pm_plan.specs.Ends.{EndValue};
+
+    ghost Value = { EndValue };
+
+    ghost view = { λ e. record {
+      end = record { step = e.step; price = e.price; total = e.total; members = e.members.items; limited = e.limited.items };
+      member_room = vec_capacity e.members - length e.members.items;
+      limited_room = vec_capacity e.limited - length e.limited.items;
+    } };
+}
+
+impl PhaseEnd {
+    /// The end of these parts: the step, its price, the total there in watts, and the lines in file order.
+    pub fn new(
+        step: u32,
+        price: i64,
+        total: i64,
+        members: Vec<MemberLine>,
+        limited: Vec<LimitedLine>,
+    ) -> PhaseEnd
+        ensures { result.end ≡ record { step = step; price = price; total = total; members = members.items; limited = limited.items } }
+    {
+        PhaseEnd {
+            step,
+            price,
+            total,
+            members,
+            limited,
+        }
+    }
+
+    /// An end without lines, at step, price and total 0, with room for every device and every limited concentrator of
+    /// a plan.
+    pub fn vacant(alloc: Global, plan: &Plan) -> Result<PhaseEnd, AllocError>
+        ensures end { IfOk result (λ e. e.end ≡ no_end) }
+        ensures members { IfOk result (λ e. length plan.now.entries ≤ e.member_room) }
+        ensures limited { IfOk result (λ e. length plan.now.entries ≤ e.limited_room) }
+    {
+        let nodes = plan.tree().len() as usize;
+        Ok(PhaseEnd {
+            step: 0,
+            price: 0,
+            total: 0,
+            members: Vec::with_capacity(alloc, nodes)?,
+            limited: Vec::with_capacity(alloc, nodes)?,
+        })
+    }
+
+    /// The step at which the cluster balances.
+    pub fn step(&self) -> u32
+        ensures { result ≡ self.now.end.step }
+    {
+        self.step
+    }
+
+    /// The price of that step, in price units.
+    pub fn price(&self) -> i64
+        ensures { result ≡ self.now.end.price }
+    {
+        self.price
+    }
+
+    /// The total of all bids at that step, in watts.
+    pub fn total(&self) -> i64
+        ensures { result ≡ self.now.end.total }
+    {
+        self.total
+    }
+
+    /// The members in file order.
+    pub fn members(&self) -> &[MemberLine]
+        ensures { result.now ≡ self.now.end.members }
+    {
+        &self.members
+    }
+
+    /// The limited concentrators in file order.
+    pub fn limited(&self) -> &[LimitedLine]
+        ensures { result.now ≡ self.now.end.limited }
+    {
+        &self.limited
+    }
+}

@@ -1,0 +1,52 @@
+ghost use Rattle.std.specs.Prelude.{◌≡◌, ℕ, ◌+◌, ◌-◌, ◌<◌, ◌≤◌, length, IsTrue, List, Ok};
+ghost use Rattle.pm_basis.specs.Prices.{BasisValue, IsBasis};
+ghost use Rattle.pm_tree.specs.Entries.{Entry, checked_tree, parents_of, leaves_of};
+ghost use Rattle.pm_tree.specs.Shape.{IsTree};
+ghost use Rattle.pm_plan.specs.Parts.{NodePart, PhasePart, AreNodesOf};
+ghost use Rattle.pm_plan.specs.Building.{checked_plan};
+ghost use Rattle.pm_bid.specs.Bids.{AllWithinLimit, IsWithin, NeverRises, demand_limit};
+ghost use Rattle.pm_device.specs.Kinds.{state_fits};
+ghost use Rattle.pm_strategy.specs.Strategies.{bid_of};
+ghost use Rattle.pm_market.specs.Lists.{Lawful, is_member as market_member};
+ghost use Rattle.pm_market.specs.Bound.{bound as market_bound};
+ghost use Rattle.pm_plan.specs.Plans.{PlanData, node, end, is_member, change_count, bound};
+ghost use Rattle.pm_plan.specs.Auction.{Cut, power};
+ghost use Rattle.pm_plan.specs.States.{changed_state, state};
+ghost use Rattle.pm_plan.specs.Kept.{IsPlan, InPhases, change_at};
+ghost use Rattle.pm_plan.specs.Market.{lists_of};
+
+/// A law: a device begins in its start, and each change makes the next state of the one before, a tick by the power of
+/// the plain auction at the end of the phase before.
+#[tactic(auto, using(crate::proofs::PublicLaws::starts, crate::proofs::PublicLaws::follows))]
+pub fn states_follow_the_changes()
+    ensures start { (plan : PlanData) (d : ℕ) → state plan d 0 ≡ (node plan d).start }
+    ensures next { (plan : PlanData) (d n : ℕ) → InPhases plan → 1 ≤ d → d ≤ length plan.nodes → n < change_count plan d →
+        state plan d (n + 1) ≡ changed_state (node plan d).kind (state plan d n) (power plan (state plan) (end plan ((change_at plan d n).phase - 1)) d) (change_at plan d n).what }
+{}
+
+/// A law: each state that a device comes to fits its kind, its bid has a demand for each step, which lies within
+/// ±1,000,000,000 watts and never rises, and so does its power in each cut.
+#[tactic(auto, using(crate::proofs::PublicLaws::fits, crate::proofs::PublicLaws::steps, crate::proofs::PublicLaws::falls))]
+pub fn states_fit()
+    ensures fits { (plan : PlanData) (d n : ℕ) → IsPlan plan → 1 ≤ d → d ≤ length plan.nodes → n ≤ change_count plan d → IsTrue (state_fits (node plan d).kind (state plan d n)) }
+    ensures steps { (plan : PlanData) (d n : ℕ) → IsPlan plan → length (bid_of (node plan d).kind (state plan d n) plan.arrays plan.basis.steps) ≡ plan.basis.steps }
+    ensures within { (plan : PlanData) (d n : ℕ) → IsPlan plan → 1 ≤ d → d ≤ length plan.nodes → n ≤ change_count plan d → AllWithinLimit demand_limit (bid_of (node plan d).kind (state plan d n) plan.arrays plan.basis.steps) }
+    ensures falls { (plan : PlanData) (d n : ℕ) → IsPlan plan → NeverRises (bid_of (node plan d).kind (state plan d n) plan.arrays plan.basis.steps) }
+    ensures powers { (plan : PlanData) (cut : Cut) (d : ℕ) → IsPlan plan → 1 ≤ d → d ≤ length plan.nodes → cut d ≤ change_count plan d → IsWithin demand_limit (power plan (state plan) cut d) }
+{}
+
+/// A law: the lists that a plan stands for are lawful in the market of cuts, say who is a member after which change,
+/// and have the plan's bound of moves.
+#[tactic(auto, using(crate::proofs::PublicLaws::lawful_lists, crate::proofs::PublicLaws::members, crate::proofs::PublicLaws::bounds))]
+pub fn lists_are_lawful()
+    ensures lawful { (plan : PlanData) → IsPlan plan → Lawful (lists_of plan) }
+    ensures members { (plan : PlanData) (d n : ℕ) → 1 ≤ d → d ≤ length plan.nodes → n ≤ change_count plan d → market_member (lists_of plan) d n ≡ is_member plan d n }
+    ensures bounds { (plan : PlanData) → IsPlan plan → market_bound (lists_of plan) ≡ bound plan }
+{}
+
+/// A law: what the parts of a file give without a refusal is a plan that the type [`crate::Plan`] keeps.
+pub fn plans_keep_the_limits()
+    ensures { (basis : BasisValue) (entries : List Entry) (nodes : List NodePart) (phases : List PhasePart) (plan : PlanData) →
+        IsBasis basis → checked_tree entries ≡ Ok entries → IsTree (parents_of entries) (leaves_of entries) → AreNodesOf entries nodes →
+        checked_plan basis entries nodes phases ≡ Ok plan → IsPlan plan }
+{}

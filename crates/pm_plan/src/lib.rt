@@ -1,0 +1,41 @@
+//! The plan of a run, and its plain auction.
+//!
+//! A plan is what a cluster file says: the prices of the market, the tree of names, what is planned for each node, and
+//! the phases. Each event and each tick is one numbered change of its device, which belongs to one phase. From the
+//! plan alone the definitions in `specs/` say what a run comes to:
+//!
+//! - `Plans`: the planned changes, who is a member after how many of them, the group that a node belongs to.
+//! - `Auction`: the plain auction over a cut, which gives each device a number of its changes: the sum of each group,
+//!   what a limited concentrator announces, the total, its step, the step and the power of each device, and the
+//!   phase's end as lists of lines.
+//! - `States`: the state of each device after its changes, where a tick uses the power at the end of the phase before.
+//! - `Building`: the plan that the parts of a file give, or the first refusal.
+//! - `Market`: the lists of the market of cuts (`pm_market`) that a plan stands for.
+//! - `Kept`: what the type of a plan keeps.
+//! - `Keys`: kinds as rows of numbers, by which they are compared.
+//!
+//! That the demands of all devices are added up and the price is found where they balance is the PowerMatcher's (J. K.
+//! Kok, "The PowerMatcher: Smart Coordination for the Smart Electricity Grid", 2013). Phases, numbered changes, limited
+//! concentrators and the refusals are this project's own profile.
+#![tactic(auto)]
+
+mod building;
+mod draft;
+mod end;
+mod laws;
+mod node;
+mod parts;
+mod plan;
+mod planned;
+mod refusal;
+mod same;
+
+pub use end::{LimitedLine, MemberLine, PhaseEnd};
+pub use laws::{lists_are_lawful, plans_keep_the_limits, states_fit, states_follow_the_changes};
+pub use parts::{EventSpec, NodeSpec, PhaseSpec, StateSpec};
+pub use plan::Plan;
+pub use planned::Planned;
+pub use refusal::{Place, PlanFault, Refusal};
+
+#[cfg(test)]
+mod tests;

@@ -1,0 +1,157 @@
+ghost use Rattle.std.specs.Prelude.{◌≡◌, ◌<◌, ◌↔◌, IsTrue, length};
+ghost use Rattle.std.specs.Bool.{Decides};
+ghost use Rattle.pm_bid.specs.Bids.{demand_at};
+ghost use Rattle.pm_plan.specs.Keys.{key_of};
+
+use crate::node::Node;
+use crate::plan::Plan;
+use crate::planned::Change;
+use pm_basis::Basis;
+use pm_bid::{ArrayBid, Steps};
+use pm_device::Kind;
+use std::marker::Brand;
+
+impl Plan {
+    /// True exactly where both plans have the same basis, tree, nodes, arrays and phases, each in the same order.
+    pub fn same(&self, other: &Plan) -> bool
+        ensures { IsTrue result ↔ (self.now ≡ other.now) }
+    {
+        same_basis(&self.draft.basis, &other.draft.basis)
+            && self.draft.tree.same(&other.draft.tree)
+            && same_nodes(&self.draft.nodes, &other.draft.nodes)
+            && same_arrays(&self.draft.arrays, &other.draft.arrays)
+            && same_minutes(&self.draft.minutes, &other.draft.minutes)
+    }
+}
+
+/// Whether two bases have the same prices.
+fn same_basis(basis: &Basis, other: &Basis) -> bool
+    ensures { Decides result (basis.now ≡ other.now) }
+{
+    basis.min() == other.min() && basis.max() == other.max() && basis.steps() == other.steps()
+}
+
+/// Whether the same is planned for two lists of nodes.
+fn same_nodes(nodes: &[Node], others: &[Node]) -> bool
+    ensures { Decides result (nodes.now ≡ others.now) }
+{
+    if nodes.len() != others.len() {
+        return false;
+    }
+    for place in 0..nodes.len() {
+        if !same_node(&nodes[place], &others[place]) {
+            return false;
+        }
+    }
+    true
+}
+
+/// Whether the same is planned for two nodes.
+fn same_node(node: &Node, other: &Node) -> bool
+    ensures { Decides result (node.now ≡ other.now) }
+{
+    node.limits() == other.limits()
+        && same_kind(node.kind(), other.kind())
+        && node.start().0 == other.start().0
+        && same_changes(node.changes(), other.changes())
+}
+
+/// Whether two kinds are the same, with the same parameters.
+fn same_kind(kind: Kind, other: Kind) -> bool
+    ensures { Decides result (kind ≡ other) }
+{
+    key(kind) == key(other)
+}
+
+/// The number of a kind among the kinds, and its parameters in their order with zeros after them.
+fn key(kind: Kind) -> (u8, i64, i64, i64, i64, i64)
+    ensures { result ≡ key_of kind }
+{
+    match kind {
+        Kind::Freezer {
+            low,
+            high,
+            power,
+            warm,
+            cool,
+        } => (0, low, high, power, warm, cool),
+        Kind::HeatPump {
+            low,
+            high,
+            power,
+            loss,
+            gain,
+        } => (1, low, high, power, loss, gain),
+        Kind::Cogeneration {
+            low,
+            high,
+            power,
+            loss,
+            gain,
+        } => (2, low, high, power, loss, gain),
+        Kind::Battery {
+            capacity,
+            charge,
+            discharge,
+            spread,
+        } => (3, capacity, charge, discharge, spread, 0),
+        Kind::Solar => (4, 0, 0, 0, 0, 0),
+        Kind::Load => (5, 0, 0, 0, 0, 0),
+        Kind::Objective => (6, 0, 0, 0, 0, 0),
+        Kind::Manual => (7, 0, 0, 0, 0, 0),
+    }
+}
+
+/// Whether two lists have the same changes.
+fn same_changes(changes: &[Change], others: &[Change]) -> bool
+    ensures { Decides result (changes.now ≡ others.now) }
+{
+    changes == others
+}
+
+/// Whether two lists have the same bids.
+fn same_arrays(arrays: &[ArrayBid], others: &[ArrayBid]) -> bool
+    ensures { Decides result (arrays.now ≡ others.now) }
+{
+    if arrays.len() != others.len() {
+        return false;
+    }
+    for place in 0..arrays.len() {
+        if !same_array(&arrays[place], &others[place]) {
+            return false;
+        }
+    }
+    true
+}
+
+/// Whether two bids have the same demand at every step.
+fn same_array(array: &ArrayBid, other: &ArrayBid) -> bool
+    ensures { Decides result (array.now ≡ other.now) }
+{
+    if array.steps() != other.steps() {
+        return false;
+    }
+    for step in 0..array.steps() {
+        if !same_demand(array, other, step) {
+            return false;
+        }
+    }
+    true
+}
+
+/// Whether two bids have the same demand at a step.
+fn same_demand(array: &ArrayBid, other: &ArrayBid, step: usize) -> bool
+    requires inside { step < length array.now }
+    requires within { step < length other.now }
+    ensures { Decides result (demand_at array.now step ≡ demand_at other.now step) }
+{
+    let mut counter = Steps::<Brand>::start();
+    array.at(step, &mut counter) == other.at(step, &mut counter)
+}
+
+/// Whether two lists of phases have the same minutes.
+fn same_minutes(minutes: &[Option<i64>], others: &[Option<i64>]) -> bool
+    ensures { Decides result (minutes.now ≡ others.now) }
+{
+    minutes == others
+}
