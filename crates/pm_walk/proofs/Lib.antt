@@ -1,0 +1,8 @@
+pub mod Nodes
+pub mod Devices
+pub mod Sums
+pub mod Standings
+pub mod GroupTotals
+pub mod EndLines
+pub mod Phases
+pub mod TestPlans

@@ -1,0 +1,30 @@
+use Rattle.std.proofs.Common.{◌≡◌, ◌∙◌, ap, sym, subst, arith, length}
+use Rattle.std.proofs.lemmas.List.{with_items_is}
+use Rattle.pm_bid.specs.Clearing.{clearing_step}
+use Rattle.pm_plan.specs.Auction.{plain}
+use Rattle.pm_walk.specs.Standing.{made}
+use Rattle.pm_walk.specs.Clearing.{AreGroupSteps, ArePowers}
+use Rattle.pm_walk.proofs.clearing.Clearing.clear.Goals as goal
+
+pub fill_group_steps-requires-clause-step : goal.fill_group_steps-requires-clause-step
+unfolding plain
+fill_group_steps-requires-clause-step c = c.first_not_positive-step.ensures.step ∙ ap clearing_step c.fill_total.ensures.total
+
+pub returns-clause-clearing : goal.returns-clause-clearing
+unfolding plain
+returns-clause-clearing c =
+    let plan = c.args.plan.now in
+    let cut = made c.args.standing.now.progress in
+    let steps = c.args.self.now.group_steps in
+    let powers = c.args.self.now.powers in
+    let many_steps : length c.fill_group_steps.new.group_steps ≡ steps.len = omega (arith, c.fill_group_steps.ensures.one_each, c.requires.room.group_steps, steps.ok) in
+    let many_powers : length c.fill_powers.new.powers ≡ powers.len = omega (arith, c.fill_powers.ensures.one_each, c.requires.room.powers, powers.ok) in
+    record {
+      total = c.fill_total.ensures.total;
+      long = c.fill_total.ensures.steps;
+      step = c.first_not_positive-step.ensures.step ∙ ap clearing_step c.fill_total.ensures.total;
+      inside = omega (arith, c.first_not_positive-step.ensures.clears.inside, c.fill_total.ensures.steps);
+      small = c.first_not_positive-step.ensures.small;
+      group_steps = subst (AreGroupSteps plan cut) (sym (with_items_is steps c.fill_group_steps.new.group_steps many_steps)) c.fill_group_steps.ensures;
+      powers = subst (ArePowers plan cut) (sym (with_items_is powers c.fill_powers.new.powers many_powers)) c.fill_powers.ensures;
+    }

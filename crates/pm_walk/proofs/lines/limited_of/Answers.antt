@@ -1,0 +1,30 @@
+use Rattle.std.proofs.Common.{◌∙◌, ◌≡◌, ◌-◌, ◌++◌, ◌∷◌, [], sym, ap, Vec, Global}
+use Rattle.std.specs.Prelude.{is_some}
+use Rattle.pm_plan.specs.Plans.{is_limited}
+use Rattle.pm_plan.specs.declared.end.LimitedLine.{LimitedLine}
+use Rattle.pm_walk.specs.Parts.{limited_to}
+use Rattle.pm_walk.specs.Standing.{made}
+use Rattle.pm_walk.proofs.EndLines.{limited-yes, limited-no}
+use Rattle.pm_walk.proofs.lines.limited_of.Goals as goal
+use Rattle.pm_walk.proofs.lines.limited_of.Goals.{then-is_some+in_ok-push, else-is_some}
+
+pub loop-number-init : goal.loop-number-init
+unfolding limited_to
+loop-number-init c = c.new-lines.ensures.items
+
+pub loop-number-preserved : goal.loop-number-preserved
+loop-number-preserved c =
+    let plan = c.args.plan.now in
+    let cut = made c.args.standing.now.progress in
+    let n = c.loop-number.number in
+    let limited : is_limited plan n ≡ c.is_some.result = sym (c.is_some.ensures ∙ ap (λ o. is_some o) c.limits.ensures) in
+    elim c.if-is_some.branch [
+      | then-is_some+in_ok-push w ↦
+          ap (λ (v : Vec LimitedLine Global). v.items) w.lines-is ∙ w.in_ok-push.ensures.items
+          ∙ ap (λ xs. xs ++ w.limited_line.result ∷ []) c.loop-number.invariant
+          ∙ ap (λ x. limited_to plan cut (n - 1) ++ x ∷ []) w.limited_line.ensures
+          ∙ sym (limited-yes plan cut n c.loop-number.auto.number (limited ∙ w.if-is_some.true))
+      | else-is_some w ↦
+          ap (λ (v : Vec LimitedLine Global). v.items) w.lines-is ∙ c.loop-number.invariant
+          ∙ sym (limited-no plan cut n c.loop-number.auto.number (limited ∙ w.if-is_some.false))
+    ]

@@ -1,0 +1,32 @@
+use Rattle.std.proofs.Common.{◌∙◌, ◌≡◌, ◌-◌, ◌≤◌, ◌++◌, ◌∷◌, [], sym, ap, arith, length, Vec, Global}
+use Rattle.pm_plan.specs.Plans.{is_member}
+use Rattle.pm_plan.specs.declared.end.MemberLine.{MemberLine}
+use Rattle.pm_walk.specs.declared.changes.Progress.{Progress}
+use Rattle.pm_walk.specs.Parts.{members_to}
+use Rattle.pm_walk.specs.Standing.{made}
+use Rattle.pm_walk.proofs.EndLines.{members-yes, members-no}
+use Rattle.pm_walk.proofs.lines.members_of.Goals as goal
+use Rattle.pm_walk.proofs.lines.members_of.Goals.{then-progress+in_ok-push, else-progress}
+
+pub loop-number-init : goal.loop-number-init
+unfolding members_to
+loop-number-init c = c.new-lines.ensures.items
+
+pub loop-number-preserved : goal.loop-number-preserved
+loop-number-preserved c =
+    let plan = c.args.plan.now in
+    let cut = made c.args.standing.now.progress in
+    let n = c.loop-number.number in
+    let inside : n ≤ length plan.nodes = omega (arith, c.tree.ensures.sound.nodes.one_each, c.len-number-end.ensures.len, ap (λ e. length e) c.tree.ensures.tree) in
+    let member : is_member plan n (cut n) ≡ c.progress.result.member =
+    sym (ap (λ (p : Progress). p.member) c.progress.ensures.progress ∙ (c.requires.stands.progress.reached n inside).member) in
+    elim c.if-progress.branch [
+      | then-progress+in_ok-push w ↦
+          ap (λ (v : Vec MemberLine Global). v.items) w.lines-is ∙ w.in_ok-push.ensures.items
+          ∙ ap (λ xs. xs ++ w.member_line.result ∷ []) c.loop-number.invariant
+          ∙ ap (λ x. members_to plan cut (n - 1) ++ x ∷ []) w.member_line.ensures
+          ∙ sym (members-yes plan cut n c.loop-number.auto.number (member ∙ w.if-progress.true))
+      | else-progress w ↦
+          ap (λ (v : Vec MemberLine Global). v.items) w.lines-is ∙ c.loop-number.invariant
+          ∙ sym (members-no plan cut n c.loop-number.auto.number (member ∙ w.if-progress.false))
+    ]

@@ -1,0 +1,64 @@
+use Rattle.std.proofs.Common.{◌≡◌, ◌∙◌, ◌-◌, ◌+◌, ◌<◌, ap, sym, subst, refl, Bool, true, false, length, arith}
+use Rattle.std.specs.Prelude.{◌||◌}
+use Rattle.pm_tree.specs.Entries.{is_leaf_at}
+use Rattle.pm_plan.specs.Plans.{end, is_leaf}
+use Rattle.pm_plan.specs.Auction.{Cut}
+use Rattle.pm_walk.specs.Standing.{StandingValue, Stands, made}
+use Rattle.pm_walk.proofs.Nodes.{end-other, end-zero}
+use Rattle.pm_walk.proofs.Standings.{AreBetween, first_node, made-zero, between-more, between-passed, all_done}
+use Rattle.pm_walk.proofs.standing.Standing.change_devices.Goals as goal
+use Rattle.pm_walk.proofs.standing.Standing.change_devices.Goals.{then-is_leaf, else-is_leaf}
+
+or_first : (a b : Bool) → (a || b) ≡ false → a ≡ false
+or_first true b h = h
+or_first false b h = refl
+
+or_second : (a b : Bool) → (a || b) ≡ false → b ≡ false
+or_second true b h = absurd (cc h)
+or_second false b h = h
+
+pub loop-number-init : goal.loop-number-init
+loop-number-init c = record {
+  stands = c.requires.stands;
+  between = record {
+    done = λ x below. first_node (made c.args.self.now.progress) (end c.args.plan.now c.args.phase) x below (made-zero c.args.plan.now c.args.self.now.progress c.requires.stands.progress ∙ sym (end-zero c.args.plan.now c.args.phase));
+    left = λ x from. ap (λ (cut : Cut). cut x) c.requires.begun;
+  };
+  same = λ _. refl;
+  spare = c.requires.spare;
+}
+
+pub loop-number-preserved : goal.loop-number-preserved
+loop-number-preserved c =
+    let plan = c.args.plan.now in
+    let n = c.loop-number.number in
+    let between = c.loop-number.invariant.between in
+    elim c.if-is_leaf.branch [
+      | then-is_leaf w ↦
+          let made_changes = w.change_device-changed.ensures in
+          record {
+            stands = subst (Stands plan) (sym w.self-is) made_changes.stands;
+            between = subst (λ (s : StandingValue). AreBetween (n + 1) s.progress (end plan c.args.phase) (end plan (c.args.phase - 1))) (sym w.self-is)
+                (between-more n c.loop-number.self.progress _ (end plan c.args.phase) (end plan (c.args.phase - 1)) between made_changes.done made_changes.others);
+            same = λ none.
+                let neither = sym w.changed-is ∙ none in
+                w.self-is ∙ made_changes.same (or_second c.loop-number.changed _ neither) ∙ c.loop-number.invariant.same (or_first c.loop-number.changed _ neither);
+            spare = ap (λ l. length l) w.spare-is ∙ made_changes.spare;
+          }
+      | else-is_leaf w ↦
+          let other : is_leaf plan n ≡ false = ap (λ e. is_leaf_at e n) (sym c.tree-tree.ensures.tree) ∙ sym c.is_leaf.ensures ∙ w.if-is_leaf.false in
+          let is = c.tree-tree.ensures.sound in
+          record {
+            stands = subst (Stands plan) (sym w.self-is) c.loop-number.invariant.stands;
+            between = subst (λ (s : StandingValue). AreBetween (n + 1) s.progress (end plan c.args.phase) (end plan (c.args.phase - 1))) (sym w.self-is)
+                (between-passed n c.loop-number.self.progress (end plan c.args.phase) (end plan (c.args.phase - 1)) between (end-other plan (c.args.phase - 1) n is other ∙ sym (end-other plan c.args.phase n is other)));
+            same = λ none. w.self-is ∙ c.loop-number.invariant.same (sym w.changed-is ∙ none);
+            spare = ap (λ l. length l) w.spare-is ∙ c.loop-number.invariant.spare;
+          }
+    ]
+
+pub returns-clause-done : goal.returns-clause-done
+returns-clause-done c =
+    let plan = c.args.plan.now in
+    let all : length plan.nodes < c.loop-number.number = omega (arith, c.tree-tree.ensures.sound.nodes.one_each, c.len-number-end.ensures.len, ap (λ e. length e) c.tree-tree.ensures.tree) in
+    all_done plan c.loop-number.self.progress c.loop-number.number c.args.phase (c.args.phase - 1) c.loop-number.invariant.between all

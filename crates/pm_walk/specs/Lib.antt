@@ -1,0 +1,5 @@
+pub mod Cuts
+pub mod Standing
+pub mod Clearing
+pub mod Runs
+pub mod Parts

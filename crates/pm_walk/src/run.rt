@@ -1,0 +1,108 @@
+ghost use Rattle.std.specs.Prelude.{◌≡◌, ℕ, ◌-◌, ◌≤◌, length, map, IfOk};
+ghost use Rattle.pm_plan.specs.Plans.{end, phases, change_count};
+ghost use Rattle.pm_plan.specs.States.{end_of, all_ends};
+ghost use Rattle.pm_walk.specs.Cuts.{cut_of};
+ghost use Rattle.pm_walk.specs.Standing.{Stands, made};
+ghost use Rattle.pm_walk.specs.Runs.{IsRun, IsAtEnd};
+
+use crate::clearing::Clearing;
+use crate::lines::end_of;
+use crate::standing::{Standing, starts};
+use crate::stops::change_stops;
+use pm_bid::{ArrayBid, Steps};
+use pm_plan::{PhaseEnd, Plan};
+use std::alloc::{AllocError, Global};
+use std::marker::Brand;
+
+/// A run over the phases: how far it has come, and the plain auction there.
+#[derive(Drop)]
+pub(crate) struct Run {
+    pub(crate) standing: Standing,
+    pub(crate) clearing: Clearing,
+    /// A bid to write in.
+    pub(crate) spare: ArrayBid,
+}
+
+impl Run {
+    /// A run that has come so far.
+    fn over(alloc: Global, plan: &Plan, standing: Standing) -> Result<Run, AllocError>
+        requires { Stands plan.now standing }
+        ensures run { IfOk result (IsRun plan.now) }
+        ensures standing { IfOk result (λ run. run.standing ≡ standing) }
+    {
+        let mut clearing = Clearing::new(alloc, plan)?;
+        let mut spare = ArrayBid::zero(alloc, plan.basis().steps(), &mut Steps::<Brand>::start())?;
+        clearing.clear(plan, &standing, &mut spare);
+        Ok(Run {
+            standing,
+            clearing,
+            spare,
+        })
+    }
+
+    /// A run before the first phase.
+    fn start(alloc: Global, plan: &Plan) -> Result<Run, AllocError>
+        ensures { IfOk result (IsAtEnd plan.now 0) }
+    {
+        let standing = Standing::start(alloc, plan)?;
+        Run::over(alloc, plan, standing)
+    }
+
+    /// Makes the changes of the next phase, and finds the auction over them; where no device has any, the auction of
+    /// the phase before holds.
+    fn pass(&mut self, plan: &Plan, phase: u32)
+        requires first { 1 ≤ phase }
+        requires last { phase ≤ phases plan.now }
+        requires before { IsAtEnd plan.now (phase - 1) self.old }
+        ensures { IsAtEnd plan.now phase self.new }
+    {
+        let changed = self
+            .standing
+            .change_devices(plan, phase, &self.clearing.powers, &mut self.spare);
+        if changed {
+            self.clearing.clear(plan, &self.standing, &mut self.spare);
+        }
+    }
+
+    /// The end over what the run has come to.
+    fn end(&self, alloc: Global, plan: &Plan) -> Result<PhaseEnd, AllocError>
+        requires { IsRun plan.now self.now }
+        ensures { IfOk result (λ e. e.end ≡ end_of plan.now (made self.now.standing.progress)) }
+    {
+        end_of(alloc, plan, &self.standing, &self.clearing)
+    }
+}
+
+/// The ends of all phases of a plan, from the first to the last, each by the plain auction over the changes of the
+/// phases up to it. The answer is an error only for want of memory.
+pub fn all_ends(alloc: Global, plan: &Plan) -> Result<Vec<PhaseEnd>, AllocError>
+    ensures { IfOk result (λ v. map (λ e. e.end) v.items ≡ all_ends plan.now) }
+{
+    let mut run = Run::start(alloc, plan)?;
+    let mut ends = Vec::new(alloc);
+    for phase in 1..plan.phases() + 1 {
+        run.pass(plan, phase);
+        ends.push(run.end(alloc, plan)?)?;
+    }
+    Ok(ends)
+}
+
+/// The end over a cut, by the plain auction there. The cut has one number for each node of the file, in file order: how
+/// many changes the node has made, at most as many as the plan has for it. The answer is an error only for want of
+/// memory.
+///
+/// A device that stops early has the state after its changes made, where its ticks use the powers of the whole run.
+pub fn end_of_cut(alloc: Global, plan: &Plan, cut: &[u32]) -> Result<PhaseEnd, AllocError>
+    requires one_each { length cut.now ≡ length plan.now.nodes }
+    requires planned { (x : ℕ) → 1 ≤ x → x ≤ length plan.now.nodes → cut_of cut.now x ≤ change_count plan.now x }
+    ensures { IfOk result (λ e. e.end ≡ end_of plan.now (cut_of cut.now)) }
+{
+    let mut run = Run::start(alloc, plan)?;
+    let mut stops = starts(alloc, plan)?;
+    for phase in 1..plan.phases() + 1 {
+        change_stops(plan, phase, &run.clearing.powers, cut, &mut stops);
+        run.pass(plan, phase);
+    }
+    let standing = Standing::over(alloc, plan, &stops)?;
+    Run::over(alloc, plan, standing)?.end(alloc, plan)
+}

@@ -1,0 +1,241 @@
+ghost use Rattle.std.specs.Prelude.{◌≡◌, ◌≢◌, ℕ, ◌-◌, ◌≤◌, length, replicate, slice_set, true, false, IfOk};
+ghost use Rattle.pm_bid.specs.Bids.{zeros};
+ghost use Rattle.pm_plan.specs.Plans.{is_leaf, end, phases, group};
+ghost use Rattle.pm_plan.specs.Kept.{IsPlan};
+ghost use Rattle.pm_plan.specs.Auction.{sum_in, demand_of, power};
+ghost use Rattle.pm_plan.specs.States.{state};
+ghost use Rattle.pm_walk.specs.Standing.{Reached, AreReached, Stands, demand_after, no_progress, progress_at, made};
+ghost use Rattle.pm_walk.specs.Clearing.{ArePowers};
+
+use crate::changes::{Progress, fill_demand, make_changes};
+use pm_bid::{ArrayBid, Steps};
+use pm_device::DeviceState;
+use pm_plan::Plan;
+use pm_tree::NodeId;
+use std::alloc::{AllocError, Global};
+use std::marker::{Brand, Model};
+
+/// How far a run has come, with the demands and the sums there. Place 0 of each list is the auctioneer's.
+#[derive(Drop)]
+pub(crate) struct Standing {
+    /// How far each node has come.
+    progress: Vec<Progress>,
+    /// The demand of each node.
+    demands: Vec<ArrayBid>,
+    /// The sum of each group by its concentrator; of the devices below no limited concentrator at place 0.
+    sums: Vec<ArrayBid>,
+}
+
+impl Model for Standing {
+    ghost use Rattle.pm_walk.specs.Standing.{StandingValue};
+
+    ghost Value = { StandingValue };
+
+    ghost view = { λ s. record { progress = s.progress.items; demands = s.demands.items; sums = s.sums.items } };
+}
+
+impl Standing {
+    /// Before the first change: each device in its start, none a member.
+    pub(crate) fn start(alloc: Global, plan: &Plan) -> Result<Standing, AllocError>
+        ensures stands { IfOk result (λ s. Stands plan.now s) }
+        ensures none { IfOk result (λ s. (x : ℕ) → made s.progress x ≡ 0) }
+    {
+        let many = plan.tree().len() as usize + 1;
+        let steps = plan.basis().steps();
+        Ok(Standing {
+            progress: starts(alloc, plan)?,
+            demands: blanks(alloc, many, steps)?,
+            sums: blanks(alloc, many, steps)?,
+        })
+    }
+
+    /// How far a node has come.
+    pub(crate) fn progress(&self, plan: &Plan, at: NodeId) -> Progress
+        requires stands { Stands plan.now self.now }
+        requires inside { at.0 ≤ length plan.now.nodes }
+        ensures progress { result ≡ progress_at self.now.progress at.0 }
+    {
+        self.progress[at.0 as usize]
+    }
+
+    /// The demand of a node.
+    pub(crate) fn demand(&self, plan: &Plan, at: NodeId) -> &ArrayBid
+        requires stands { Stands plan.now self.now }
+        requires inside { at.0 ≤ length plan.now.nodes }
+        ensures demand { result.now ≡ demand_of plan.now (state plan.now) (made self.now.progress) at.0 }
+        ensures steps { length result.now ≡ plan.now.basis.steps }
+    {
+        &self.demands[at.0 as usize]
+    }
+
+    /// The sum of a group.
+    pub(crate) fn sum(&self, plan: &Plan, group: NodeId) -> &ArrayBid
+        requires stands { Stands plan.now self.now }
+        requires inside { group.0 ≤ length plan.now.nodes }
+        ensures sum { result.now ≡ sum_in plan.now (state plan.now) (made self.now.progress) group.0 }
+        ensures steps { length result.now ≡ plan.now.basis.steps }
+    {
+        &self.sums[group.0 as usize]
+    }
+
+    /// Keeps that a device has come so far. It writes the device's demand in `spare`.
+    pub(crate) fn reach(
+        &mut self,
+        plan: &Plan,
+        device: NodeId,
+        here: Progress,
+        spare: &mut ArrayBid,
+    )
+        requires leaf { is_leaf plan.now device.0 ≡ true }
+        requires inside { device.0 ≤ length plan.now.nodes }
+        requires stands { Stands plan.now self.old }
+        requires reached { Reached plan.now device.0 here }
+        requires spare { length spare.old ≡ plan.now.basis.steps }
+        ensures stands { Stands plan.now self.new }
+        ensures progress { self.new.progress ≡ slice_set self.old.progress device.0 here }
+        ensures spare { length spare.new ≡ plan.now.basis.steps }
+    {
+        fill_demand(plan, device, here, spare);
+        self.put(plan, device, here, spare);
+    }
+
+    /// Keeps that a device has come so far, with this demand.
+    fn put(&mut self, plan: &Plan, device: NodeId, here: Progress, demand: &ArrayBid)
+        requires leaf { is_leaf plan.now device.0 ≡ true }
+        requires inside { device.0 ≤ length plan.now.nodes }
+        requires stands { Stands plan.now self.old }
+        requires reached { Reached plan.now device.0 here }
+        requires demand { demand.now ≡ demand_after plan.now device.0 here }
+        requires steps { length demand.now ≡ plan.now.basis.steps }
+        ensures stands { Stands plan.now self.new }
+        ensures progress { self.new.progress ≡ slice_set self.old.progress device.0 here }
+    {
+        let at = device.0 as usize;
+        let group = group_of(plan, device);
+        let mut steps = Steps::<Brand>::start();
+        self.progress[at] = here;
+        self.sums[group].exchange(&self.demands[at], demand, &mut steps);
+        demand.copy_into(&mut self.demands[at], &mut steps);
+    }
+
+    /// Makes the changes of a device in a phase, where `used` is its power at the end of the phase before. Tells
+    /// whether there were any.
+    fn change_device(
+        &mut self,
+        plan: &Plan,
+        device: NodeId,
+        phase: u32,
+        used: i64,
+        spare: &mut ArrayBid,
+    ) -> bool
+        requires leaf { is_leaf plan.now device.0 ≡ true }
+        requires inside { device.0 ≤ length plan.now.nodes }
+        requires first { 1 ≤ phase }
+        requires last { phase ≤ phases plan.now }
+        requires stands { Stands plan.now self.old }
+        requires begun { made self.old.progress device.0 ≡ end plan.now (phase - 1) device.0 }
+        requires used { used ≡ power plan.now (state plan.now) (end plan.now (phase - 1)) device.0 }
+        requires spare { length spare.old ≡ plan.now.basis.steps }
+        ensures stands { Stands plan.now self.new }
+        ensures done { made self.new.progress device.0 ≡ end plan.now phase device.0 }
+        ensures others { (x : ℕ) → x ≢ device.0 → made self.new.progress x ≡ made self.old.progress x }
+        ensures same { result ≡ false → self.new ≡ self.old }
+        ensures spare { length spare.new ≡ plan.now.basis.steps }
+    {
+        let many = plan.changes_of(phase, device);
+        if many == 0 {
+            return false;
+        }
+        let before = self.progress(plan, device);
+        let here = make_changes(plan, device, phase, used, many, before);
+        self.reach(plan, device, here, spare);
+        true
+    }
+
+    /// Makes the changes of all devices in a phase, where `powers` are those at the end of the phase before. Tells
+    /// whether there were any.
+    pub(crate) fn change_devices(
+        &mut self,
+        plan: &Plan,
+        phase: u32,
+        powers: &[i64],
+        spare: &mut ArrayBid,
+    ) -> bool
+        requires first { 1 ≤ phase }
+        requires last { phase ≤ phases plan.now }
+        requires stands { Stands plan.now self.old }
+        requires begun { made self.old.progress ≡ end plan.now (phase - 1) }
+        requires powers { ArePowers plan.now (end plan.now (phase - 1)) powers.now }
+        requires spare { length spare.old ≡ plan.now.basis.steps }
+        ensures stands { Stands plan.now self.new }
+        ensures done { made self.new.progress ≡ end plan.now phase }
+        ensures same { result ≡ false → self.new ≡ self.old }
+        ensures spare { length spare.new ≡ plan.now.basis.steps }
+    {
+        let tree = plan.tree();
+        let mut changed = false;
+        for number in 1..tree.len() + 1 {
+            let device = NodeId(number);
+            if tree.is_leaf(device) {
+                changed |= self.change_device(plan, device, phase, powers[number as usize], spare);
+            }
+        }
+        changed
+    }
+}
+
+/// How far the nodes have come before the first change.
+pub(crate) fn starts(alloc: Global, plan: &Plan) -> Result<Vec<Progress>, AllocError>
+    ensures reached { IfOk result (λ v. AreReached plan.now v.items) }
+    ensures none { IfOk result (λ v. (x : ℕ) → made v.items x ≡ 0) }
+{
+    let mut progress = Vec::new(alloc);
+    for number in 0..plan.tree().len() + 1 {
+        progress.push(start_of(plan, NodeId(number)))?;
+    }
+    Ok(progress)
+}
+
+/// A node before its first change.
+fn start_of(plan: &Plan, at: NodeId) -> Progress
+    requires inside { at.0 ≤ length plan.now.nodes }
+    ensures reached { Reached plan.now at.0 result }
+    ensures none { result.count ≡ 0 }
+{
+    let state = if plan.tree().is_leaf(at) {
+        plan.start(at)
+    } else {
+        DeviceState(0)
+    };
+    Progress {
+        count: 0,
+        state,
+        member: false,
+    }
+}
+
+/// As many bids that are all zeros.
+fn blanks(alloc: Global, many: usize, steps: usize) -> Result<Vec<ArrayBid>, AllocError>
+    requires at_least_two { 2 ≤ steps }
+    requires at_most_thousand { steps ≤ 1000 }
+    ensures { IfOk result (λ v. v.items ≡ replicate many (zeros steps)) }
+{
+    let mut bids = Vec::new(alloc);
+    for _ in 0..many {
+        bids.push(ArrayBid::zero(alloc, steps, &mut Steps::<Brand>::start())?)?;
+    }
+    Ok(bids)
+}
+
+/// The place of the group of a node: that of the limited concentrator above it, 0 where there is none.
+pub(crate) fn group_of(plan: &Plan, at: NodeId) -> usize
+    requires { at.0 ≤ length plan.now.nodes }
+    ensures group { result ≡ group plan.now at.0 }
+    ensures inside { result ≤ length plan.now.nodes }
+    ensures sound { IsPlan plan.now }
+{
+    match plan.group(at) {
+        Some(above) => above.0 as usize,
+        None => 0,
+    }
+}
