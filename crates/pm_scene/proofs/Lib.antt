@@ -1,0 +1,4 @@
+pub mod Lists
+pub mod Documents
+pub mod EachFrom
+pub mod Nodes

@@ -1,0 +1,10 @@
+pub mod Values
+pub mod Members
+pub mod Forms
+pub mod Rows
+pub mod Faults
+pub mod Nodes
+pub mod Phases
+pub mod Shape
+pub mod Trees
+pub mod Scene

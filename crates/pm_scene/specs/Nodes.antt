@@ -1,0 +1,107 @@
+-- The nodes of a file: what their names, parents and members say, or the first refusal.
+use Rattle.std.specs.Prelude.{ℕ, min, Bool, true, false, not, ◌&&◌, List, is_some, Result, Ok, codes, string_bytes}
+use Rattle.serde_json.specs.Data.{Data}
+use Rattle.serde_json.specs.Find.{get, as_str, as_object}
+use Rattle.pm_device.specs.declared.kind.Kind.{Kind}
+use Rattle.pm_device.specs.declared.kind.Kind.TheVariants as kinds
+use Rattle.pm_plan.specs.Parts.{StatePart, number, array, points, NodePart, concentrator, limited, device, node_part}
+use Rattle.pm_plan.specs.Refusals.{need, check, each_from, ◌>>=◌, ◌>>◌}
+use Rattle.pm_plan.specs.declared.refusal.Place.{Place}
+use Rattle.pm_plan.specs.declared.refusal.Place.TheVariants.{Node}
+use Rattle.pm_plan.specs.declared.refusal.Refusal.{Refusal}
+use Rattle.pm_scene.specs.Values.{whole_at, text_at, elements_at, wholes_of, pairs_of}
+use Rattle.pm_scene.specs.Members.{members_check}
+use Rattle.pm_scene.specs.Forms.{kind_named, start_form}
+use Rattle.pm_scene.specs.Rows.{node_row}
+use Rattle.pm_scene.specs.declared.forms.KindName.{KindName}
+use Rattle.pm_scene.specs.declared.forms.KindName.TheVariants as names
+use Rattle.pm_scene.specs.declared.forms.StartForm.{StartForm}
+use Rattle.pm_scene.specs.declared.forms.StartForm.TheVariants as starts
+use Rattle.pm_scene.specs.declared.shape.nodes.NamedNode.{NamedNode}
+
+-- a node with its name and the name of its parent
+pub record NamedPart : Type 0 where
+  pub name : List ℕ
+  pub parent : List ℕ
+  pub part : NodePart
+
+abbrev pub named_part : NamedNode → NamedPart
+named_part n = record { name = string_bytes n.name; parent = string_bytes n.parent; part = node_part n.spec }
+
+-- the number that stands in a place: the largest number of 32 bits stands for those past it too
+abbrev pub place_number : ℕ → ℕ
+place_number n = min n 4294967295
+
+-- a demand for each step, and points, as an object has them
+abbrev pub demand_in : Data → StatePart
+demand_in d = array (wholes_of (elements_at (codes "demand") d))
+
+abbrev pub points_in : Data → StatePart
+points_in d = points (pairs_of (elements_at (codes "points") d))
+
+abbrev pub is_limited : KindName → Bool
+is_limited names.Limited = true
+is_limited _ = false
+
+-- the kind that a node names; limited concentrators are known or not
+unfoldable pub kind_at : Bool → Place → Data → Result KindName Refusal
+kind_at knows_limited place d = do
+  check 2 place (is_some (as_object d))
+  member ← need 3 place (get (codes "kind") d)
+  text ← need 2 place (as_str member)
+  kind ← need 12 place (kind_named text)
+  check 12 place (not (is_limited kind && not knows_limited))
+  Ok kind
+
+-- the kind of a device with its parameters
+abbrev pub device_kind : KindName → Data → Kind
+device_kind names.Freezer d =
+    kinds.Freezer (whole_at (codes "low") d) (whole_at (codes "high") d) (whole_at (codes "power") d)
+    (whole_at (codes "warm") d) (whole_at (codes "cool") d)
+device_kind names.HeatPump d =
+    kinds.HeatPump (whole_at (codes "low") d) (whole_at (codes "high") d) (whole_at (codes "power") d)
+    (whole_at (codes "loss") d) (whole_at (codes "gain") d)
+device_kind names.Cogeneration d =
+    kinds.Cogeneration (whole_at (codes "low") d) (whole_at (codes "high") d) (whole_at (codes "power") d)
+    (whole_at (codes "loss") d) (whole_at (codes "gain") d)
+device_kind names.Battery d =
+    kinds.Battery (whole_at (codes "capacity") d) (whole_at (codes "charge") d) (whole_at (codes "discharge") d)
+    (whole_at (codes "spread") d)
+device_kind names.Solar d = kinds.Solar
+device_kind names.Load d = kinds.Load
+device_kind names.Objective d = kinds.Objective
+device_kind names.Manual d = kinds.Manual
+device_kind names.Concentrator d = kinds.Manual
+device_kind names.Limited d = kinds.Manual
+
+abbrev pub manual_start : StartForm → Data → StatePart
+manual_start starts.Demand d = demand_in d
+manual_start starts.Points d = points_in d
+
+-- the start of a device
+abbrev pub start_of : KindName → Data → StatePart
+start_of names.Manual d = manual_start (start_form d) d
+start_of kind d = number (whole_at (codes "start") d)
+
+abbrev pub part_of : KindName → Data → NodePart
+part_of names.Concentrator d = concentrator
+part_of names.Limited d = limited (whole_at (codes "floor") d) (whole_at (codes "ceiling") d)
+part_of kind d = device (device_kind kind d) (start_of kind d)
+
+-- the name of the parent; an objective stands under the auctioneer
+abbrev pub parent_in : KindName → Data → List ℕ
+parent_in names.Objective d = codes "auctioneer"
+parent_in kind d = text_at (codes "parent") d
+
+unfoldable pub node_of : Bool → Place → Data → Result NamedPart Refusal
+node_of knows_limited place d = do
+  kind ← kind_at knows_limited place d
+  members_check (node_row kind d) place d
+  Ok (record { name = text_at (codes "name") d; parent = parent_in kind d; part = part_of kind d })
+
+-- node n of the file, counted from 1
+abbrev pub numbered_node : Bool → ℕ → Data → Result NamedPart Refusal
+numbered_node knows_limited n d = node_of knows_limited (Node (place_number n)) d
+
+unfoldable pub nodes_of : Bool → List Data → Result (List NamedPart) Refusal
+nodes_of knows_limited ds = each_from 1 (numbered_node knows_limited) ds

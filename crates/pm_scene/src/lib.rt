@@ -1,0 +1,28 @@
+//! The reader of cluster files.
+//!
+//! A cluster file is one JSON value: the market basis, the nodes of the tree with their kinds, and the phases with
+//! their events. `docs/CLUSTER_FILE.md` describes it. [`read_scene`] gives the plan of a file, or the first refusal that
+//! three passes meet:
+//!
+//! 1. the shape (`shape`): each object has the members of its table and no others, each of its type, and the basis is
+//!    one;
+//! 2. the tree (`tree`): names and parents;
+//! 3. the plan (`pm_plan`): limits, starts and events.
+//!
+//! The definitions in `specs/` stand in the same layers, the whole in `Scene`. The members of each kind of object stand in
+//! one table of the code (`rows`) and one of the definitions (`Rows`), and the same check goes by both.
+#![tactic(auto)]
+
+mod fault;
+mod forms;
+mod members;
+mod rows;
+mod scene;
+mod shape;
+#[cfg(test)]
+mod tests;
+mod tree;
+mod values;
+
+pub use fault::SceneFault;
+pub use scene::read_scene;

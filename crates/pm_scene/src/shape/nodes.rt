@@ -1,0 +1,169 @@
+ghost use Rattle.std.specs.Prelude.{◌≡◌, map, IfOk};
+ghost use Rattle.serde_json.specs.View.{view};
+ghost use Rattle.pm_plan.specs.Parts.{state_part, node_part};
+ghost use Rattle.pm_scene.specs.Faults.{Gives};
+ghost use Rattle.pm_scene.specs.Nodes.{kind_at, device_kind, start_of, part_of, parent_in, node_of, nodes_of, named_part, manual_start};
+
+use super::states::{read_demand, read_points};
+use crate::fault::SceneFault;
+use crate::forms::{KindName, StartForm, kind_named, start_form};
+use crate::members::check_members;
+use crate::rows::node_row;
+use crate::values::{text_at, whole_at};
+use pm_device::Kind;
+use pm_plan::{NodeSpec, Place, Refusal, StateSpec};
+use serde_json::Value;
+use std::alloc::{AllocError, Global};
+
+/// A node with its name and the name of its parent.
+#[derive(Debug, Drop)]
+pub(crate) struct NamedNode {
+    pub(crate) name: String,
+    pub(crate) parent: String,
+    pub(crate) spec: NodeSpec,
+}
+
+/// The kind of a device with its parameters.
+fn device_kind(kind: KindName, value: &Value) -> Kind
+    ensures { result ≡ device_kind kind (view value.now) }
+{
+    match kind {
+        KindName::Freezer => Kind::Freezer {
+            low: whole_at(value, "low"),
+            high: whole_at(value, "high"),
+            power: whole_at(value, "power"),
+            warm: whole_at(value, "warm"),
+            cool: whole_at(value, "cool"),
+        },
+        KindName::HeatPump => Kind::HeatPump {
+            low: whole_at(value, "low"),
+            high: whole_at(value, "high"),
+            power: whole_at(value, "power"),
+            loss: whole_at(value, "loss"),
+            gain: whole_at(value, "gain"),
+        },
+        KindName::Cogeneration => Kind::Cogeneration {
+            low: whole_at(value, "low"),
+            high: whole_at(value, "high"),
+            power: whole_at(value, "power"),
+            loss: whole_at(value, "loss"),
+            gain: whole_at(value, "gain"),
+        },
+        KindName::Battery => Kind::Battery {
+            capacity: whole_at(value, "capacity"),
+            charge: whole_at(value, "charge"),
+            discharge: whole_at(value, "discharge"),
+            spread: whole_at(value, "spread"),
+        },
+        KindName::Solar => Kind::Solar,
+        KindName::Load => Kind::Load,
+        KindName::Objective => Kind::Objective,
+        KindName::Concentrator | KindName::Limited | KindName::Manual => Kind::Manual,
+    }
+}
+
+/// The start of a manual device.
+fn read_manual_start(alloc: Global, form: StartForm, value: &Value) -> Result<StateSpec, AllocError>
+    ensures { IfOk result (λ s. state_part s ≡ manual_start form (view value.now)) }
+{
+    match form {
+        StartForm::Demand => read_demand(alloc, value),
+        StartForm::Points => read_points(alloc, value),
+    }
+}
+
+/// The start of a device.
+fn read_start(alloc: Global, kind: KindName, value: &Value) -> Result<StateSpec, AllocError>
+    ensures { IfOk result (λ s. state_part s ≡ start_of kind (view value.now)) }
+{
+    match kind {
+        KindName::Manual => read_manual_start(alloc, start_form(value), value),
+        _ => Ok(StateSpec::Number(whole_at(value, "start"))),
+    }
+}
+
+/// What a node of a kind is.
+fn read_spec(alloc: Global, kind: KindName, value: &Value) -> Result<NodeSpec, AllocError>
+    ensures { IfOk result (λ s. node_part s ≡ part_of kind (view value.now)) }
+{
+    match kind {
+        KindName::Concentrator => Ok(NodeSpec::Concentrator),
+        KindName::Limited => Ok(NodeSpec::Limited {
+            floor: whole_at(value, "floor"),
+            ceiling: whole_at(value, "ceiling"),
+        }),
+        _ => Ok(NodeSpec::Device {
+            kind: device_kind(kind, value),
+            start: read_start(alloc, kind, value)?,
+        }),
+    }
+}
+
+/// The kind that a node names, where limited concentrators are known or not.
+#[tactic(auto, unfolding(crate::specs::Nodes::kind_at))]
+fn read_kind(knows_limited: bool, place: Place, value: &Value) -> Result<KindName, Refusal>
+    ensures { result ≡ kind_at knows_limited place (view value.now) }
+{
+    if value.as_object().is_none() {
+        return Err(Refusal::at(2, place));
+    }
+    let Some(member) = value.get("kind") else {
+        return Err(Refusal::at(3, place));
+    };
+    let Some(text) = member.as_str() else {
+        return Err(Refusal::at(2, place));
+    };
+    let Some(kind) = kind_named(text) else {
+        return Err(Refusal::at(12, place));
+    };
+    if kind == KindName::Limited && !knows_limited {
+        return Err(Refusal::at(12, place));
+    }
+    Ok(kind)
+}
+
+/// The name of a node's parent.
+fn parent_in(kind: KindName, value: &Value) -> &str
+    ensures { result.now ≡ parent_in kind (view value.now) }
+{
+    if kind == KindName::Objective {
+        "auctioneer"
+    } else {
+        text_at(value, "parent")
+    }
+}
+
+/// A node of the file.
+#[tactic(auto, unfolding(crate::specs::Nodes::node_of))]
+fn read_node(
+    alloc: Global,
+    knows_limited: bool,
+    place: Place,
+    value: &Value,
+) -> Result<NamedNode, SceneFault>
+    ensures { Gives named_part result (node_of knows_limited place (view value.now)) }
+{
+    let kind = read_kind(knows_limited, place, value)?;
+    check_members(value, node_row(kind, value), place)?;
+    let name = String::from_str(alloc, text_at(value, "name"))?;
+    let parent = String::from_str(alloc, parent_in(kind, value))?;
+    let spec = read_spec(alloc, kind, value)?;
+    Ok(NamedNode { name, parent, spec })
+}
+
+/// The nodes of the file, counted from 1.
+pub(super) fn read_nodes(
+    alloc: Global,
+    knows_limited: bool,
+    values: &[Value],
+) -> Result<Vec<NamedNode>, SceneFault>
+    ensures { Gives (λ v. map named_part v.items) result (nodes_of knows_limited (map view values.now)) }
+{
+    let mut nodes = Vec::new(alloc);
+    let mut number: u32 = 0;
+    for value in values {
+        number = number.saturating_add(1);
+        nodes.push(read_node(alloc, knows_limited, Place::Node { number }, value)?)?;
+    }
+    Ok(nodes)
+}

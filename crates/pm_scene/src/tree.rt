@@ -1,0 +1,61 @@
+ghost use Rattle.std.specs.Prelude.{◌≡◌, map, IfOk};
+ghost use Rattle.pm_tree.specs.Entries.{entries_of};
+ghost use Rattle.pm_plan.specs.Parts.{is_device, node_part};
+ghost use Rattle.pm_scene.specs.Faults.{Gives};
+ghost use Rattle.pm_scene.specs.Nodes.{named_part};
+ghost use Rattle.pm_scene.specs.Trees.{entries_in, parts_in, tree_of};
+
+use crate::fault::SceneFault;
+use crate::shape::NamedNode;
+use pm_plan::{NodeSpec, Place, Refusal};
+use pm_tree::{Tree, TreeEntry, TreeFault};
+use std::alloc::{AllocError, Global};
+
+/// The entries of the tree and what its nodes are, both in file order.
+#[derive(Drop)]
+pub(crate) struct Parts {
+    pub(crate) entries: Vec<TreeEntry>,
+    pub(crate) specs: Vec<NodeSpec>,
+}
+
+fn is_device(spec: &NodeSpec) -> bool
+    ensures { result ≡ is_device (node_part spec.now) }
+{
+    match spec {
+        NodeSpec::Concentrator => false,
+        NodeSpec::Limited { .. } => false,
+        NodeSpec::Device { .. } => true,
+    }
+}
+
+/// The nodes without their names, and the entries of their names.
+pub(crate) fn parts_of(alloc: Global, nodes: Vec<NamedNode>) -> Result<Parts, AllocError>
+    ensures entries { IfOk result (λ p. entries_of p.entries.items ≡ entries_in (map named_part nodes.items)) }
+    ensures parts { IfOk result (λ p. map node_part p.specs.items ≡ parts_in (map named_part nodes.items)) }
+{
+    let mut entries = Vec::new(alloc);
+    let mut specs = Vec::new(alloc);
+    for node in nodes {
+        let NamedNode { name, parent, spec } = node;
+        let leaf = is_device(&spec);
+        entries.push(TreeEntry { name, parent, leaf })?;
+        specs.push(spec)?;
+    }
+    Ok(Parts { entries, specs })
+}
+
+/// The tree of the entries.
+pub(crate) fn read_tree(alloc: Global, entries: Vec<TreeEntry>) -> Result<Tree, SceneFault>
+    ensures { Gives (λ t. t) result (tree_of (entries_of entries.items)) }
+{
+    let refusal = match Tree::new(alloc, entries) {
+        Ok(tree) => return Ok(tree),
+        Err(TreeFault::NoMemory) => return Err(SceneFault::NoMemory),
+        Err(TreeFault::TooMany { .. }) => Refusal::at(11, Place::Document),
+        Err(TreeFault::BadName { at }) => Refusal::at(7, Place::Node { number: at }),
+        Err(TreeFault::Twice { at }) => Refusal::at(8, Place::Node { number: at }),
+        Err(TreeFault::NoParent { at }) => Refusal::at(9, Place::Node { number: at }),
+        Err(TreeFault::TooDeep { at }) => Refusal::at(10, Place::Node { number: at }),
+    };
+    Err(SceneFault::Refused(refusal))
+}
