@@ -1,0 +1,5 @@
+pub mod Words
+pub mod Refusal
+pub mod Report
+pub mod Trace
+pub mod Summary
