@@ -1,0 +1,11 @@
+pub mod Examples
+pub mod Ranges
+pub mod Search
+pub mod Naming
+pub mod Trees
+pub mod Parts
+pub mod Drafts
+pub mod Turns
+pub mod Plans
+pub mod Drawing
+pub mod Flags

@@ -1,0 +1,7 @@
+use Rattle.std.proofs.Common.{◌≡◌, ◌++◌}
+use Rattle.pm_tree.specs.Entries.{entries_of}
+use Rattle.pm_gen.specs.Nodes.{concentrator_entries}
+use Rattle.pm_gen.proofs.tree.push_concentrators.Given as goal
+
+abbrev pub invariant-loop-place : goal.invariant-loop-place
+invariant-loop-place l = entries_of l.entries.items ≡ entries_of l.fn.entries.items ++ concentrator_entries l.place

@@ -1,0 +1,4 @@
+pub mod Draws
+pub mod Nodes
+pub mod Rounds
+pub mod Demo
