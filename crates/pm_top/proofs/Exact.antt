@@ -1,19 +1,19 @@
 -- A refusal's line stands in the sink only where the answer is that refusal.
-use Rattle.std.proofs.Common.{◌≡◌, ◌⊎◌, ℕ, ◌-◌, ◌<◌, ◌≤◌, List, [], ◌++◌, length, take, Option, Some, IfSome, Err, sym, ap, ◌∙◌, subst, arith, length-append, append-nil, inl, inr}
+use Rattle.std.proofs.Common.{◌≡◌, ◌⊎◌, ℕ, ◌-◌, ◌<◌, ◌≤◌, List, [], ◌∷◌, ◌++◌, length, take, Option, Some, IfSome, Err, sym, ap, ◌∙◌, subst, arith, length-append, append-nil, inl, inr}
+use Rattle.std.specs.Prelude.{codes, decimal}
 use Rattle.std.proofs.lemmas.List.{length-take}
 use Rattle.std.proofs.lemmas.Bool.{le-ltb}
-use Rattle.pm_top.specs.Form.{scene}
-use Rattle.pm_top.specs.declared.reading.faults.Refusal.{Refusal}
-use Rattle.pm_top.specs.declared.reading.faults.Refusal.TheVariants.{Unreadable, OtherForm}
-use Rattle.pm_top.specs.Report.{refusal_line}
+use Rattle.pm_plan.specs.declared.refusal.Refusal.{Refusal}
+use Rattle.pm_scene.specs.Scene.{scene}
+use Rattle.pm_report.specs.Words.{line_of}
+use Rattle.pm_report.specs.Refusal.{refusal_line, place_text, item_words}
 use Rattle.pm_top.specs.Top.{text_of, input_limit, status_for, WroteFront, IsDue}
 use Rattle.pm_top.specs.declared.words.Command.TheVariants.{Run}
 use Rattle.pm_top.specs.declared.status.Status.{Status}
 use Rattle.pm_top.specs.declared.status.Status.TheVariants.{Refused, ReadFault, WriteFault, NoMemory}
 
 not_empty : (r : Refusal) → 0 < length (refusal_line r)
-not_empty Unreadable = omega arith
-not_empty OtherForm = omega arith
+not_empty r = omega (arith, length-append (codes "refused") (32 ∷ line_of (decimal r.code ∷ place_text r.place ∷ item_words r.item)))
 
 not_grown : (before line : List ℕ) → 0 < length line → before ≡ before ++ line → ⊥
 not_grown before line some e = omega (arith, ap length e, length-append before line)

@@ -1,7 +1,3 @@
-pub mod EachLemmas
+pub mod Digits
+pub mod Ends
 pub mod Exact
-pub mod Joins
-pub mod Names
-pub mod Reports
-pub mod Totals
-pub mod ValuesLemmas

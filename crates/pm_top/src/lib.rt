@@ -1,18 +1,13 @@
 //! The work of the program `market`, over any source of bytes and any sink.
 //!
-//! [`market`] takes the words of the command line, reads a cluster file from the source and appends
-//! the text due to the sink: a bid becomes a price on the way `reading` (the file to a plan),
-//! `auction` (the bids of the members to a clearing), `report` (the clearing to lines of text). Its
-//! contract says when each status comes and exactly which bytes are appended.
-//!
-//! The form of cluster file that is read so far has manual devices under the auctioneer and one
-//! phase of joins.
+//! [`market`] takes the words of the command line, reads what the command asks for from the source, and appends the
+//! text due to the sink: a cluster file becomes a plan (`pm_scene`), the plan its phases' ends (`pm_walk`, the plain
+//! auction), and the ends lines of text (`pm_report`). Its contract says when each status comes and exactly which
+//! bytes are appended.
 #![tactic(auto)]
 
-mod auction;
-mod reading;
-mod report;
 mod status;
+mod texts;
 mod top;
 mod words;
 

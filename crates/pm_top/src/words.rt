@@ -1,10 +1,15 @@
-ghost use Rattle.std.specs.Prelude.{◌≡◌, map, string_bytes};
-ghost use Rattle.pm_top.specs.Words.{command};
+ghost use Rattle.std.specs.Prelude.{◌≡◌, ◌<◌, ◌≤◌, ◌^◌, map, string_bytes, IfSome};
+ghost use Rattle.std.specs.List.{list_all};
+ghost use Rattle.std.specs.Char.{is_ascii_digit};
+ghost use Rattle.pm_top.specs.Words.{command, demo_of, is_number, number_within, value_up_to};
 
 /// What the program is asked to do.
 #[derive(Clone, Copy, Debug, PartialEq, Eq)]
 pub(crate) enum Command {
+    /// Report the phases of a cluster file.
     Run,
+    /// Sum up the demo cluster of so many devices, made by this number.
+    Demo { size: u32, number: u32 },
 }
 
 /// The command that the words are, where they are one.
@@ -12,13 +17,59 @@ pub(crate) fn command_of(words: &[String]) -> Option<Command>
     ensures { result ≡ command (map string_bytes words.now) }
 {
     match words {
-        [word] => {
-            if word.as_str() == "run" {
-                Some(Command::Run)
-            } else {
-                None
-            }
-        }
+        [word] if word.as_str() == "run" => Some(Command::Run),
+        [word, size, number] if word.as_str() == "demo" => demo_of(size.as_str(), number.as_str()),
         _ => None,
     }
+}
+
+/// The demo of these two words, where they are numbers within its limits.
+fn demo_of(size: &str, number: &str) -> Option<Command>
+    ensures { result ≡ demo_of size.now number.now }
+{
+    let size = number_within(1, 200, size.as_bytes())?;
+    let number = number_within(0, u32::MAX, number.as_bytes())?;
+    Some(Command::Demo { size, number })
+}
+
+/// The number that a word writes, where it is one within these limits.
+fn number_within(low: u32, high: u32, word: &[u8]) -> Option<u32>
+    ensures { result ≡ number_within low high word.now }
+{
+    if !is_number(word) {
+        return None;
+    }
+    let value = value_up_to(high, word)?;
+    if value < low { None } else { Some(value) }
+}
+
+/// Whether these bytes are ASCII digits without a leading zero; 0 itself is one digit.
+fn is_number(word: &[u8]) -> bool
+    ensures { result ≡ is_number word.now }
+{
+    match word {
+        [] => false,
+        [digit] => digit.is_ascii_digit(),
+        [first, more @ ..] => first.is_ascii_digit() && *first != b'0' && are_digits(more),
+    }
+}
+
+fn are_digits(bytes: &[u8]) -> bool
+    ensures { result ≡ list_all is_ascii_digit bytes.now }
+{
+    bytes.iter().all(|byte| byte.is_ascii_digit())
+}
+
+/// The number that decimal digits write, where it is at most this one.
+fn value_up_to(high: u32, digits: &[u8]) -> Option<u32>
+    ensures { result ≡ value_up_to high digits.now }
+{
+    let mut value = 0;
+    for digit in digits {
+        value = value * 10 + u64::from(digit.saturating_sub(b'0'));
+        if value > u64::from(high) {
+            return None;
+        }
+    }
+    Some(value as u32)
 }

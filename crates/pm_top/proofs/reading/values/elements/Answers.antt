@@ -1,5 +1,0 @@
-use Rattle.pm_top.proofs.ValuesLemmas.{data_list-items_view}
-use Rattle.pm_top.proofs.reading.values.elements.Goals as goal
-
-pub returns-in-Some : goal.returns-in-Some
-returns-in-Some c = rw (← c.in-Some.ensures, data_list-items_view, c.as_slice.ensures.value)
