@@ -19,7 +19,7 @@ fn repeated(alloc: Global, text: &str, count: usize) -> Result<String, AllocErro
 /// So many loads under the auctioneer.
 fn loads(alloc: Global, count: usize) -> Result<String, AllocError> {
     let mut all = String::new(alloc);
-    for number in 1..count + 1 {
+    for number in 1..=count {
         if number > 1 {
             all.push_str(",")?;
         }
