@@ -1,0 +1,17 @@
+//! What several crates of the market share: the limits of its profile, and the words of their contracts.
+//!
+//! The numbers are this project's own profile; that a part of the cluster may have its power bounded is peak shaving.
+//! `specs/` has the same limits as definitions (`Limits`), the cut that gives each device a number of its changes
+//! (`Cuts`), and steps that give a value or the first refusal (`Outcomes`). `proofs/` has the lemmas that several crates
+//! cite, by subject.
+#![tactic(auto)]
+
+mod limits;
+
+pub use limits::{
+    DEMAND_LIMIT, LEAST_STEPS, Limits, MOST_CHANGES, MOST_DEPTH, MOST_EVENTS, MOST_NODES,
+    MOST_PHASES, MOST_STEPS, PRICE_LIMIT, SUM_LIMIT, WINDOW_SIZE, constants_are_the_limits,
+};
+
+#[cfg(test)]
+mod tests;
