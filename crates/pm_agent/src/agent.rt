@@ -1,4 +1,5 @@
 ghost use Rattle.std.specs.Prelude.{◌≡◌, ◌≤◌, length, IsTrue, IfOk};
+ghost use Rattle.pm_base.specs.Limits.{AreSteps};
 ghost use Rattle.pm_bid.specs.Bids.{HaveSteps};
 ghost use Rattle.pm_device.specs.Kinds.{is_valid, state_fits};
 ghost use Rattle.pm_agent.specs.MadeBids.{IsMade, demand_in};
@@ -52,8 +53,7 @@ impl DeviceAgent {
         steps: usize,
     ) -> Result<DeviceAgent, AllocError>
         requires valid { IsTrue (is_valid kind) }
-        requires at_least_two { 2 ≤ steps }
-        requires at_most_thousand { steps ≤ 1000 }
+        requires steps { AreSteps steps }
         ensures agent { IfOk result (λ agent. agent ≡ record { kind = kind; device = device; steps = steps }) }
     {
         let none = ArrayBid::zero(alloc, steps, &mut Steps::<Brand>::start())?;

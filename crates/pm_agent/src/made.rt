@@ -88,7 +88,7 @@ impl Made {
         if next.member {
             fill_bid(&self.kind, next.state, arrays, &mut self.demand);
         } else {
-            self.demand.clear(&mut Steps::<Brand>::start());
+            self.demand.set_zero(&mut Steps::<Brand>::start());
         }
     }
 }

@@ -1,5 +1,6 @@
 ghost use Rattle.std.specs.Prelude.{◌≡◌, ◌+◌, ◌<◌, ◌≤◌, ◌^◌, true, false, length, IfOk, IfErr, ◌||◌, not, nat_le};
 ghost use Rattle.std.specs.Option.{option_copied};
+ghost use Rattle.pm_base.specs.Limits.{AreSteps};
 ghost use Rattle.pm_cache.specs.Cache.{kept_number, answer_to};
 ghost use Rattle.pm_cache.specs.Learning.{CanLearn, learnt};
 ghost use Rattle.pm_session.specs.Prices.{IsNewIndex};
@@ -48,8 +49,7 @@ impl Auctioneer {
     /// An auctioneer whose children sent nothing. All its memory is taken here.
     pub fn new(alloc: Global, children: usize, steps: usize) -> Result<Auctioneer, AllocError>
         requires few_children { children ≤ 256 }
-        requires at_least_two { 2 ≤ steps }
-        requires at_most_thousand { steps ≤ 1000 }
+        requires steps { AreSteps steps }
         ensures new { IfOk result (λ a. a ≡ new_auction children steps) }
     {
         let cache = BidCache::new(alloc, children, steps, &mut Steps::<Brand>::start())?;
@@ -76,10 +76,10 @@ impl Auctioneer {
           changed = self.old.changed || not (nat_le number (kept_number self.old.cache child));
         } }
     {
-        let mut steps = Steps::<Brand>::start();
+        let mut counter = Steps::<Brand>::start();
         let answer = match demand {
-            Some(bid) => self.cache.replace(child, number, bid, &mut steps),
-            None => self.cache.remove(child, number, &mut steps),
+            Some(bid) => self.cache.replace(child, number, bid, &mut counter),
+            None => self.cache.remove(child, number, &mut counter),
         };
         if answer.is_ok() {
             self.changed = true;

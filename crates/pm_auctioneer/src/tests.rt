@@ -1,5 +1,6 @@
 ghost use Rattle.std.specs.Prelude.{◌≡◌, length, IfOk};
-ghost use Rattle.pm_bid.specs.Bids.{AllWithinLimit, demand_limit};
+ghost use Rattle.pm_bid.specs.Bids.{AllWithinLimit};
+ghost use Rattle.pm_base.specs.Limits.{demand_limit};
 ghost use Rattle.pm_cache.specs.Learning.{HasSingleBids};
 ghost use Rattle.pm_session.specs.Prices.{IsNewIndex};
 

@@ -1,6 +1,7 @@
 -- The prices of a market basis.
 use Rattle.std.specs.Prelude.{◌≡◌, ℕ, ◌≤◌, ℤ, pos, ◌+ℤ◌, ◌-ℤ◌, ◌*ℤ◌, neg_ℤ, ◌≤ℤ◌, ◌<ℤ◌, int_lt, int_div, int_rem, unsigned_abs, Bool, ◌||◌, not, if◌then◌else◌, Result, Ok, Err}
 use Rattle.std.specs.Ordering.{int_eq}
+use Rattle.pm_base.specs.Limits.{price_limit}
 use Rattle.pm_basis.specs.declared.fault.BasisFault.{BasisFault}
 use Rattle.pm_basis.specs.declared.fault.BasisFault.TheVariants.{BadSteps, BadRange, Uneven}
 
@@ -9,10 +10,6 @@ pub record BasisValue : Type 0 where
   pub min : ℤ
   pub max : ℤ
   pub steps : ℕ
-
--- the largest absolute value of a price
-abbrev pub price_limit : ℕ
-price_limit = 1000000000
 
 -- the price of a step: min + k * (max - min) / (steps - 1)
 abbrev pub price_at : BasisValue → ℕ → ℤ

@@ -2,7 +2,7 @@
 use Rattle.std.specs.Prelude.{ℕ, ◌+◌, ℤ, pos, neg_ℤ, int_lt, Bool, ◌||◌, if◌then◌else◌, ◌==◌, nat_lt, List, length, drop, Result, Ok, Err}
 use Rattle.std.specs.List.{position_or_len}
 use Rattle.std.specs.Simd.Lanes.{zip2}
-use Rattle.pm_bid.specs.Bids.{demand_limit}
+use Rattle.pm_base.specs.Limits.{demand_limit}
 use Rattle.pm_bid.specs.declared.fault.BidFault.{BidFault}
 use Rattle.pm_bid.specs.declared.fault.BidFault.TheVariants.{WrongLength, Rising, TooLarge}
 

@@ -1,10 +1,11 @@
 ghost use Rattle.std.specs.Prelude.{◌≡◌, ◌+◌, ◌*◌, ◌<◌, ◌≤◌, ◌≤ℤ◌, length, slice_set, pos, IfOk, vec_len};
-ghost use Rattle.pm_bid.specs.Bids.{demand_at, added, taken_off, zeros, clamped, sum_limit, demand_limit, IsWithin, AllWithinLimit, NeverRises};
+ghost use Rattle.pm_bid.specs.Bids.{demand_at, added, taken_off, zeros, clamped, AllWithinLimit, NeverRises};
+ghost use Rattle.pm_base.specs.Limits.{demand_limit, sum_limit, IsWithin, AreSteps};
 ghost use Rattle.pm_bid.specs.Checks.{checked_bid};
 ghost use Rattle.pm_bid.specs.Clearing.{clearing_step, first_at_most, last_at_least, Clears};
 
 use crate::fault::BidFault;
-use crate::pointwise::{add_each, clamp_each, clear_each, exchange_each, take_each};
+use crate::pointwise::{add_each, clamp_each, set_each_zero, exchange_each, take_each};
 use crate::search::{find_at_least, find_at_most, find_rising, find_too_large};
 use crate::steps::Steps;
 use std::alloc::{AllocError, Global};
@@ -41,8 +42,7 @@ impl ArrayBid {
         steps: usize,
         counter: &mut Steps<L>,
     ) -> Result<ArrayBid, BidFault>
-        requires at_least_two { 2 ≤ steps }
-        requires at_most_thousand { steps ≤ 1000 }
+        requires steps { AreSteps steps }
         ensures bid { result ≡ checked_bid steps demands.items }
         ensures length { IfOk result (λ bid. length bid ≡ steps) }
         ensures falls { IfOk result (λ bid. NeverRises bid) }
@@ -72,8 +72,7 @@ impl ArrayBid {
         steps: usize,
         counter: &mut Steps<L>,
     ) -> Result<ArrayBid, AllocError>
-        requires at_least_two { 2 ≤ steps }
-        requires at_most_thousand { steps ≤ 1000 }
+        requires steps { AreSteps steps }
         ensures bid { IfOk result (λ bid. bid ≡ zeros steps) }
         ensures cost { counter.new ≡ counter.old + steps }
     {
@@ -92,110 +91,110 @@ impl ArrayBid {
     }
 
     /// The demand at a step, in watts.
-    pub fn at<L: Ledger>(&self, k: usize, steps: &mut Steps<L>) -> i64
+    pub fn at<L: Ledger>(&self, k: usize, counter: &mut Steps<L>) -> i64
         requires { k < length self.now }
         ensures demand { result ≡ demand_at self.now k }
         ensures within { IsWithin sum_limit result }
-        ensures cost { steps.new ≡ steps.old + 1 }
+        ensures cost { counter.new ≡ counter.old + 1 }
     {
-        steps.tick();
+        counter.tick();
         self.demands[k]
     }
 
     /// Sets the demand at a step, in watts.
-    pub fn set<L: Ledger>(&mut self, k: usize, demand: i64, steps: &mut Steps<L>)
+    pub fn set<L: Ledger>(&mut self, k: usize, demand: i64, counter: &mut Steps<L>)
         requires step { k < length self.old }
         requires within { IsWithin sum_limit demand }
         ensures bid { self.new ≡ slice_set self.old k demand }
-        ensures cost { steps.new ≡ steps.old + 1 }
+        ensures cost { counter.new ≡ counter.old + 1 }
     {
-        steps.tick();
+        counter.tick();
         self.demands[k] = demand;
     }
 
     /// Makes every demand 0.
-    pub fn clear<L: Ledger>(&mut self, steps: &mut Steps<L>)
+    pub fn set_zero<L: Ledger>(&mut self, counter: &mut Steps<L>)
         ensures bid { self.new ≡ zeros (length self.old) }
-        ensures cost { steps.new ≡ steps.old + length self.old }
+        ensures cost { counter.new ≡ counter.old + length self.old }
     {
-        clear_each(&mut self.demands, steps);
+        set_each_zero(&mut self.demands, counter);
     }
 
     /// Adds the other bid at every step. The bids have equal lengths, and each sum stays within
     /// ±256,000,000,000 watts.
-    pub fn add_into<L: Ledger>(&mut self, other: &ArrayBid, steps: &mut Steps<L>)
+    pub fn add_into<L: Ledger>(&mut self, other: &ArrayBid, counter: &mut Steps<L>)
         requires equal_lengths { length self.old ≡ length other.now }
         requires within { AllWithinLimit sum_limit (added self.old other.now) }
         ensures sum { self.new ≡ added self.old other.now }
-        ensures cost { steps.new ≡ steps.old + length self.old }
+        ensures cost { counter.new ≡ counter.old + length self.old }
     {
-        add_each(&mut self.demands, &other.demands, steps);
+        add_each(&mut self.demands, &other.demands, counter);
     }
 
     /// Takes the other bid off at every step, under the conditions of [`ArrayBid::add_into`].
-    pub fn take_from<L: Ledger>(&mut self, other: &ArrayBid, steps: &mut Steps<L>)
+    pub fn take_from<L: Ledger>(&mut self, other: &ArrayBid, counter: &mut Steps<L>)
         requires equal_lengths { length self.old ≡ length other.now }
         requires within { AllWithinLimit sum_limit (taken_off self.old other.now) }
         ensures rest { self.new ≡ taken_off self.old other.now }
-        ensures cost { steps.new ≡ steps.old + length self.old }
+        ensures cost { counter.new ≡ counter.old + length self.old }
     {
-        take_each(&mut self.demands, &other.demands, steps);
+        take_each(&mut self.demands, &other.demands, counter);
     }
 
     /// Takes the old bid off and adds the new one at every step, in one pass: a running sum
     /// follows a child's newer bid. Only the outcome has to stay within ±256,000,000,000 watts.
-    pub fn exchange<L: Ledger>(&mut self, old: &ArrayBid, new: &ArrayBid, steps: &mut Steps<L>)
+    pub fn exchange<L: Ledger>(&mut self, old: &ArrayBid, new: &ArrayBid, counter: &mut Steps<L>)
         requires old_length { length self.old ≡ length old.now }
         requires new_length { length self.old ≡ length new.now }
         requires within { AllWithinLimit sum_limit (added (taken_off self.old old.now) new.now) }
         ensures exchanged { self.new ≡ added (taken_off self.old old.now) new.now }
-        ensures cost { steps.new ≡ steps.old + 2 * length self.old }
+        ensures cost { counter.new ≡ counter.old + 2 * length self.old }
     {
-        exchange_each(&mut self.demands, &old.demands, &new.demands, steps);
+        exchange_each(&mut self.demands, &old.demands, &new.demands, counter);
     }
 
     /// The step at which a market with this total demand clears: the first step whose demand is
     /// not positive, and the last step where all are positive. That the total demand balances is
     /// Kok's rule; taking the first such step of a list is this project's profile.
-    pub fn first_not_positive<L: Ledger>(&self, steps: &mut Steps<L>) -> usize
+    pub fn first_not_positive<L: Ledger>(&self, counter: &mut Steps<L>) -> usize
         ensures step { result ≡ clearing_step self.now }
         ensures clears { Clears self.now result }
         ensures small { result < 1000 }
-        ensures cost { steps.new ≤ steps.old + length self.now }
-        ensures rises { steps.old ≤ steps.new }
+        ensures cost { counter.new ≤ counter.old + length self.now }
+        ensures rises { counter.old ≤ counter.new }
     {
-        self.first_at_most(0, steps)
+        self.first_at_most(0, counter)
     }
 
     /// The first step whose demand is at most the limit, and the last step where there is none.
-    pub fn first_at_most<L: Ledger>(&self, limit: i64, steps: &mut Steps<L>) -> usize
+    pub fn first_at_most<L: Ledger>(&self, limit: i64, counter: &mut Steps<L>) -> usize
         ensures step { result ≡ first_at_most limit self.now }
         ensures inside { result < length self.now }
         ensures small { result < 1000 }
-        ensures cost { steps.new ≤ steps.old + length self.now }
-        ensures rises { steps.old ≤ steps.new }
+        ensures cost { counter.new ≤ counter.old + length self.now }
+        ensures rises { counter.old ≤ counter.new }
     {
-        find_at_most(&self.demands, limit, steps)
+        find_at_most(&self.demands, limit, counter)
     }
 
     /// The last step whose demand is at least the limit, and step 0 where there is none.
-    pub fn last_at_least<L: Ledger>(&self, limit: i64, steps: &mut Steps<L>) -> usize
+    pub fn last_at_least<L: Ledger>(&self, limit: i64, counter: &mut Steps<L>) -> usize
         ensures step { result ≡ last_at_least limit self.now }
         ensures inside { result < length self.now }
         ensures small { result < 1000 }
-        ensures cost { steps.new ≤ steps.old + length self.now }
-        ensures rises { steps.old ≤ steps.new }
+        ensures cost { counter.new ≤ counter.old + length self.now }
+        ensures rises { counter.old ≤ counter.new }
     {
-        find_at_least(&self.demands, limit, steps)
+        find_at_least(&self.demands, limit, counter)
     }
 
     /// Makes the target, which has as many steps, this bid.
-    pub fn copy_into<L: Ledger>(&self, target: &mut ArrayBid, steps: &mut Steps<L>)
+    pub fn copy_into<L: Ledger>(&self, target: &mut ArrayBid, counter: &mut Steps<L>)
         requires { length self.now ≡ length target.old }
         ensures bid { target.new ≡ self.now }
-        ensures cost { steps.new ≡ steps.old + length self.now }
+        ensures cost { counter.new ≡ counter.old + length self.now }
     {
-        steps.count(self.demands.len());
+        counter.count(self.demands.len());
         target.demands.copy_from_slice(&self.demands);
     }
 
@@ -207,7 +206,7 @@ impl ArrayBid {
         floor: i64,
         ceiling: i64,
         target: &mut ArrayBid,
-        steps: &mut Steps<L>,
+        counter: &mut Steps<L>,
     )
         requires equal_lengths { length self.now ≡ length target.old }
         requires floor_not_positive { floor ≤ℤ pos 0 }
@@ -215,8 +214,8 @@ impl ArrayBid {
         requires floor_within { IsWithin sum_limit floor }
         requires ceiling_within { IsWithin sum_limit ceiling }
         ensures bid { target.new ≡ clamped floor ceiling self.now }
-        ensures cost { steps.new ≡ steps.old + length self.now }
+        ensures cost { counter.new ≡ counter.old + length self.now }
     {
-        clamp_each(&self.demands, floor, ceiling, &mut target.demands, steps);
+        clamp_each(&self.demands, floor, ceiling, &mut target.demands, counter);
     }
 }

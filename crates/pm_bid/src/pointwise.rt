@@ -1,32 +1,33 @@
 ghost use Rattle.std.specs.Prelude.{◌≡◌, ◌+◌, ◌*◌, ◌≤ℤ◌, length};
-ghost use Rattle.pm_bid.specs.Bids.{added, taken_off, zeros, clamped, sum_limit, IsWithin, AllWithinLimit};
+ghost use Rattle.pm_bid.specs.Bids.{added, taken_off, zeros, clamped, AllWithinLimit};
+ghost use Rattle.pm_base.specs.Limits.{sum_limit, IsWithin};
 
 use crate::steps::Steps;
 use std::sync::ledger::Ledger;
 
 /// Adds the others step by step.
-pub(crate) fn add_each<L: Ledger>(demands: &mut [i64], others: &[i64], steps: &mut Steps<L>)
+pub(crate) fn add_each<L: Ledger>(demands: &mut [i64], others: &[i64], counter: &mut Steps<L>)
     requires equal_lengths { length demands.old ≡ length others.now }
     requires within { AllWithinLimit sum_limit (added demands.old others.now) }
     ensures sum { demands.new ≡ added demands.old others.now }
-    ensures cost { steps.new ≡ steps.old + length demands.old }
+    ensures cost { counter.new ≡ counter.old + length demands.old }
 {
     for (step, demand) in demands.iter_mut().enumerate() {
         *demand += others[step];
-        steps.tick();
+        counter.tick();
     }
 }
 
 /// Takes the others off step by step.
-pub(crate) fn take_each<L: Ledger>(demands: &mut [i64], others: &[i64], steps: &mut Steps<L>)
+pub(crate) fn take_each<L: Ledger>(demands: &mut [i64], others: &[i64], counter: &mut Steps<L>)
     requires equal_lengths { length demands.old ≡ length others.now }
     requires within { AllWithinLimit sum_limit (taken_off demands.old others.now) }
     ensures rest { demands.new ≡ taken_off demands.old others.now }
-    ensures cost { steps.new ≡ steps.old + length demands.old }
+    ensures cost { counter.new ≡ counter.old + length demands.old }
 {
     for (step, demand) in demands.iter_mut().enumerate() {
         *demand -= others[step];
-        steps.tick();
+        counter.tick();
     }
 }
 
@@ -35,7 +36,7 @@ pub(crate) fn exchange_each<L: Ledger>(
     demands: &mut [i64],
     olds: &[i64],
     news: &[i64],
-    steps: &mut Steps<L>,
+    counter: &mut Steps<L>,
 )
     requires old_length { length demands.old ≡ length olds.now }
     requires new_length { length demands.old ≡ length news.now }
@@ -43,13 +44,13 @@ pub(crate) fn exchange_each<L: Ledger>(
     requires olds_within { AllWithinLimit sum_limit olds.now }
     requires within { AllWithinLimit sum_limit (added (taken_off demands.old olds.now) news.now) }
     ensures exchanged { demands.new ≡ added (taken_off demands.old olds.now) news.now }
-    ensures cost { steps.new ≡ steps.old + 2 * length demands.old }
+    ensures cost { counter.new ≡ counter.old + 2 * length demands.old }
 {
     for (step, demand) in demands.iter_mut().enumerate() {
         *demand -= olds[step];
-        steps.tick();
+        counter.tick();
         *demand += news[step];
-        steps.tick();
+        counter.tick();
     }
 }
 
@@ -59,7 +60,7 @@ pub(crate) fn clamp_each<L: Ledger>(
     floor: i64,
     ceiling: i64,
     targets: &mut [i64],
-    steps: &mut Steps<L>,
+    counter: &mut Steps<L>,
 )
     requires equal_lengths { length demands.now ≡ length targets.old }
     requires order { floor ≤ℤ ceiling }
@@ -67,19 +68,19 @@ pub(crate) fn clamp_each<L: Ledger>(
     requires ceiling_within { IsWithin sum_limit ceiling }
     ensures clamped { targets.new ≡ clamped floor ceiling demands.now }
     ensures within { AllWithinLimit sum_limit targets.new }
-    ensures cost { steps.new ≡ steps.old + length demands.now }
+    ensures cost { counter.new ≡ counter.old + length demands.now }
 {
     for (step, target) in targets.iter_mut().enumerate() {
         *target = demands[step].clamp(floor, ceiling);
-        steps.tick();
+        counter.tick();
     }
 }
 
 /// Makes each demand 0.
-pub(crate) fn clear_each<L: Ledger>(demands: &mut [i64], steps: &mut Steps<L>)
+pub(crate) fn set_each_zero<L: Ledger>(demands: &mut [i64], counter: &mut Steps<L>)
     ensures zeros { demands.new ≡ zeros (length demands.old) }
-    ensures cost { steps.new ≡ steps.old + length demands.old }
+    ensures cost { counter.new ≡ counter.old + length demands.old }
 {
-    steps.count(demands.len());
+    counter.count(demands.len());
     demands.fill(0);
 }

@@ -34,15 +34,15 @@ pub(crate) fn find_too_large(demands: &[i64]) -> usize
 }
 
 /// The first step whose demand is at most the limit, else the last one.
-pub(crate) fn find_at_most<L: Ledger>(demands: &[i64], limit: i64, steps: &mut Steps<L>) -> usize
+pub(crate) fn find_at_most<L: Ledger>(demands: &[i64], limit: i64, counter: &mut Steps<L>) -> usize
     requires { 1 ≤ length demands.now }
     ensures step { result ≡ first_at_most limit demands.now }
     ensures inside { result < length demands.now }
-    ensures cost { steps.new ≤ steps.old + length demands.now }
-    ensures rises { steps.old ≤ steps.new }
+    ensures cost { counter.new ≤ counter.old + length demands.now }
+    ensures rises { counter.old ≤ counter.new }
 {
     for (step, demand) in demands.iter().enumerate() {
-        steps.tick();
+        counter.tick();
         if *demand <= limit {
             return step;
         }
@@ -51,15 +51,15 @@ pub(crate) fn find_at_most<L: Ledger>(demands: &[i64], limit: i64, steps: &mut S
 }
 
 /// The last step whose demand is at least the limit, else step 0.
-pub(crate) fn find_at_least<L: Ledger>(demands: &[i64], limit: i64, steps: &mut Steps<L>) -> usize
+pub(crate) fn find_at_least<L: Ledger>(demands: &[i64], limit: i64, counter: &mut Steps<L>) -> usize
     requires { 1 ≤ length demands.now }
     ensures step { result ≡ last_at_least limit demands.now }
     ensures inside { result < length demands.now }
-    ensures cost { steps.new ≤ steps.old + length demands.now }
-    ensures rises { steps.old ≤ steps.new }
+    ensures cost { counter.new ≤ counter.old + length demands.now }
+    ensures rises { counter.old ≤ counter.new }
 {
     for step in (0..demands.len()).rev() {
-        steps.tick();
+        counter.tick();
         if demands[step] >= limit {
             return step;
         }

@@ -2,7 +2,8 @@
 use Rattle.std.proofs.Common.{◌≡◌, sym, subst, ℕ, ◌*◌, ◌<◌, ◌≤◌, ℤ, List, length, arith, All}
 use Rattle.std.proofs.Math.ListN.{set, length-set}
 use Rattle.std.proofs.lemmas.Int.{ints}
-use Rattle.pm_bid.specs.Bids.{IsWithin, AllWithinLimit, sum_limit, demand_limit, sum_of, HaveSteps}
+use Rattle.pm_bid.specs.Bids.{AllWithinLimit, sum_of, HaveSteps}
+use Rattle.pm_base.specs.Limits.{demand_limit, sum_limit, IsWithin}
 use Rattle.pm_bid.proofs.Sums.{length-sum_of, have_steps-set, sum_of-at}
 use Rattle.pm_bid.proofs.SumLaws.{total_within, Bounded}
 use Rattle.pm_cache.specs.Cache.{Cache, IsCache, aggregate_with}

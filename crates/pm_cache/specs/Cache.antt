@@ -1,5 +1,6 @@
 -- The newest bid of each child of a node, and the sum of these bids.
 use Rattle.std.specs.Prelude.{◌≡◌, ℕ, ◌<◌, ◌≤◌, ℤ, true, false, if◌then◌else◌, nat_le, List, [], length, replicate, slice_set, slice_index_or, Result, Ok, Err}
+use Rattle.pm_bid.specs.Heads.{nothing_sent}
 use Rattle.pm_bid.specs.Bids.{zeros, sum_of, HaveSteps}
 use Rattle.pm_bid.specs.declared.head.BidHead.{BidHead}
 use Rattle.pm_cache.specs.declared.fault.CacheFault.{CacheFault}
@@ -11,10 +12,6 @@ pub record Cache : Type 0 where
   pub steps : ℕ
   pub heads : List BidHead
   pub demands : List (List ℤ)
-
--- the head of a child that sent nothing
-abbrev pub nothing_sent : BidHead
-nothing_sent = record { number = 0; gone = true }
 
 -- the head of a child
 abbrev pub head_of : Cache → ℕ → BidHead

@@ -1,6 +1,7 @@
 -- A child's bid on its way into the cache of its parent.
 use Rattle.std.specs.Prelude.{◌≡◌, ℕ, ◌<◌, ℤ, List, length, Option, Some, None, if◌then◌else◌, nat_le, All}
-use Rattle.pm_bid.specs.Bids.{AllWithinLimit, sum_limit, demand_limit, zeros}
+use Rattle.pm_bid.specs.Bids.{AllWithinLimit, zeros}
+use Rattle.pm_base.specs.Limits.{demand_limit, sum_limit}
 use Rattle.pm_cache.specs.Cache.{Cache, with_bid, with_gone, kept_number, aggregate_with}
 
 -- the demand that a child offers: none is all zeros

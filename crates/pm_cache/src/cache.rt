@@ -1,5 +1,6 @@
 ghost use Rattle.std.specs.Prelude.{◌≡◌, ◌+◌, ◌*◌, ◌<◌, ◌≤◌, length, IfOk, OnOk, OnErr};
-ghost use Rattle.pm_bid.specs.Bids.{AllWithinLimit, sum_limit, demand_at, zeros, IsWithin};
+ghost use Rattle.pm_bid.specs.Bids.{AllWithinLimit, demand_at, zeros};
+ghost use Rattle.pm_base.specs.Limits.{sum_limit, IsWithin, AreSteps};
 ghost use Rattle.pm_cache.specs.Cache.{kept_number, demand_of, aggregate_of, aggregate_with, empty_cache, with_bid, with_gone, answer_to, IsCache};
 
 use crate::fault::CacheFault;
@@ -42,8 +43,7 @@ impl BidCache {
         counter: &mut Steps<L>,
     ) -> Result<BidCache, AllocError>
         requires few_children { children ≤ 256 }
-        requires at_least_two { 2 ≤ steps }
-        requires at_most_thousand { steps ≤ 1000 }
+        requires steps { AreSteps steps }
         ensures empty { IfOk result (λ cache. cache ≡ empty_cache children steps) }
         ensures cost { OnOk result (counter.new ≡ counter.old + (children + 1) * steps) }
     {
@@ -72,7 +72,7 @@ impl BidCache {
         child: usize,
         number: u32,
         bid: &ArrayBid,
-        steps: &mut Steps<L>,
+        counter: &mut Steps<L>,
     ) -> Result<(), CacheFault>
         requires child { child < length self.old.heads }
         requires equal_lengths { length bid.now ≡ self.old.steps }
@@ -80,13 +80,13 @@ impl BidCache {
         ensures answer { result ≡ answer_to (kept_number self.old child) number }
         ensures replaced { OnOk result (self.new ≡ with_bid self.old child number bid.now) }
         ensures unchanged { OnErr result (self.new ≡ self.old) }
-        ensures cost { steps.new ≤ steps.old + 3 * self.old.steps }
-        ensures rises { steps.old ≤ steps.new }
+        ensures cost { counter.new ≤ counter.old + 3 * self.old.steps }
+        ensures rises { counter.old ≤ counter.new }
     {
         check_newer(self.heads[child].number, number)?;
         let old = &mut self.demands[child];
-        self.aggregate.exchange(old, bid, steps);
-        bid.copy_into(old, steps);
+        self.aggregate.exchange(old, bid, counter);
+        bid.copy_into(old, counter);
         self.heads[child] = BidHead {
             number,
             gone: false,
@@ -100,20 +100,20 @@ impl BidCache {
         &mut self,
         child: usize,
         number: u32,
-        steps: &mut Steps<L>,
+        counter: &mut Steps<L>,
     ) -> Result<(), CacheFault>
         requires child { child < length self.old.heads }
         requires within { AllWithinLimit sum_limit (aggregate_with self.old child (zeros self.old.steps)) }
         ensures answer { result ≡ answer_to (kept_number self.old child) number }
         ensures removed { OnOk result (self.new ≡ with_gone self.old child number) }
         ensures unchanged { OnErr result (self.new ≡ self.old) }
-        ensures cost { steps.new ≤ steps.old + 3 * self.old.steps }
-        ensures rises { steps.old ≤ steps.new }
+        ensures cost { counter.new ≤ counter.old + 3 * self.old.steps }
+        ensures rises { counter.old ≤ counter.new }
     {
         check_newer(self.heads[child].number, number)?;
         let old = &mut self.demands[child];
-        self.aggregate.take_from(old, steps);
-        old.clear(steps);
+        self.aggregate.take_from(old, counter);
+        old.set_zero(counter);
         self.heads[child] = BidHead { number, gone: true };
         Ok(())
     }
@@ -136,14 +136,14 @@ impl BidCache {
     }
 
     /// The demand of a child at a step, in watts.
-    pub fn demand<L: Ledger>(&self, child: usize, step: usize, steps: &mut Steps<L>) -> i64
+    pub fn demand<L: Ledger>(&self, child: usize, step: usize, counter: &mut Steps<L>) -> i64
         requires child { child < length self.now.heads }
         requires step { step < self.now.steps }
         ensures demand { result ≡ demand_at (demand_of self.now child) step }
         ensures within { IsWithin sum_limit result }
-        ensures cost { steps.new ≡ steps.old + 1 }
+        ensures cost { counter.new ≡ counter.old + 1 }
     {
-        self.demands[child].at(step, steps)
+        self.demands[child].at(step, counter)
     }
 }
 

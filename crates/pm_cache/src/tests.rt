@@ -1,6 +1,7 @@
 ghost use Rattle.std.specs.Prelude.{◌≡◌, ◌<◌, ◌≤◌, length, IfOk};
 ghost use Rattle.std.specs.Option.{option_copied};
-ghost use Rattle.pm_bid.specs.Bids.{AllWithinLimit, demand_limit, sum_limit};
+ghost use Rattle.pm_bid.specs.Bids.{AllWithinLimit};
+ghost use Rattle.pm_base.specs.Limits.{demand_limit, sum_limit};
 ghost use Rattle.pm_cache.specs.Cache.{IsCache};
 ghost use Rattle.pm_cache.specs.Learning.{HasSingleBids, offered};
 
@@ -35,11 +36,11 @@ fn learn(
     ensures children { length cache.new.heads ≡ length cache.old.heads }
     ensures single { HasSingleBids cache.new }
 {
-    let mut steps = Steps::<Brand>::start();
+    let mut counter = Steps::<Brand>::start();
     let _heads = cache.heads();
     match bid {
-        Some(bid) => cache.replace(child, number, bid, &mut steps),
-        None => cache.remove(child, number, &mut steps),
+        Some(bid) => cache.replace(child, number, bid, &mut counter),
+        None => cache.remove(child, number, &mut counter),
     }
 }
 
@@ -51,8 +52,8 @@ fn steps_of_a_newer_bid(alloc: Global, bid: &ArrayBid) -> Result<Steps<Brand>, A
     ensures cost { IfOk result (λ steps. steps ≤ 3000) }
 {
     let mut cache = BidCache::new(alloc, 256, 1000, &mut Steps::<Brand>::start())?;
-    let mut steps = Steps::<Brand>::start();
-    let _ = cache.replace(0, 1, bid, &mut steps);
+    let mut counter = Steps::<Brand>::start();
+    let _ = cache.replace(0, 1, bid, &mut counter);
     Ok(steps)
 }
 
@@ -76,10 +77,10 @@ fn learns(
 {
     let (answer, sum) = wanted;
     assert_eq!(rt; learn(cache, child, number, bid), answer);
-    let mut steps = Steps::<Brand>::start();
+    let mut counter = Steps::<Brand>::start();
     let aggregate = cache.aggregate();
-    assert_eq!(rt; aggregate.at(0, &mut steps), sum[0]);
-    assert_eq!(rt; aggregate.at(1, &mut steps), sum[1]);
+    assert_eq!(rt; aggregate.at(0, &mut counter), sum[0]);
+    assert_eq!(rt; aggregate.at(1, &mut counter), sum[1]);
 }
 
 #[test]

@@ -1,6 +1,7 @@
 -- The limits of a concentrator's power, in the manner of peak shaving.
 use Rattle.std.specs.Prelude.{ℕ, ◌<◌, ◌≤◌, ℤ, ◌≤ℤ◌, pos, int_lt, if◌then◌else◌, List, Option, Some, None}
-use Rattle.pm_bid.specs.Bids.{demand_at, clamped, IsWithin, sum_limit}
+use Rattle.pm_bid.specs.Bids.{demand_at, clamped}
+use Rattle.pm_base.specs.Limits.{sum_limit, IsWithin}
 use Rattle.pm_bid.specs.Clearing.{first_at_most, last_at_least}
 
 -- the least and the greatest power that is announced, for sums of so many steps

@@ -1,6 +1,6 @@
 ghost use Rattle.std.specs.Prelude.{◌≡◌, ◌+◌, ◌-◌, ◌<◌, ◌≤◌, ◌^◌, ◌≤ℤ◌, pos, false, length, Some, None, IfOk, IfErr, IsTrue, IsFalse, ◌↔◌};
 ghost use Rattle.std.specs.Option.{option_copied};
-ghost use Rattle.pm_bid.specs.Bids.{IsWithin, sum_limit};
+ghost use Rattle.pm_base.specs.Limits.{sum_limit, IsWithin, AreSteps};
 ghost use Rattle.pm_cache.specs.Cache.{aggregate_of, kept_number, answer_to, IsCache};
 ghost use Rattle.pm_cache.specs.Learning.{CanLearn, learnt};
 ghost use Rattle.pm_session.specs.Links.{BidOffered};
@@ -45,8 +45,7 @@ impl Concentrator {
     /// A concentrator without limits whose children sent nothing. All its memory is taken here.
     pub fn new(alloc: Global, children: usize, steps: usize) -> Result<Concentrator, AllocError>
         requires few_children { children ≤ 256 }
-        requires at_least_two { 2 ≤ steps }
-        requires at_most_thousand { steps ≤ 1000 }
+        requires steps { AreSteps steps }
         ensures new { IfOk result (λ c. IsNewConcentrator children steps None c) }
     {
         let cache = BidCache::new(alloc, children, steps, &mut Steps::<Brand>::start())?;
@@ -68,8 +67,7 @@ impl Concentrator {
         ceiling: i64,
     ) -> Result<Concentrator, AllocError>
         requires few_children { children ≤ 256 }
-        requires at_least_two { 2 ≤ steps }
-        requires at_most_thousand { steps ≤ 1000 }
+        requires steps { AreSteps steps }
         requires floor_not_positive { floor ≤ℤ pos 0 }
         requires ceiling_not_negative { pos 0 ≤ℤ ceiling }
         requires floor_within { IsWithin sum_limit floor }
@@ -98,10 +96,10 @@ impl Concentrator {
         ensures answer { result ≡ answer_to (kept_number self.old.cache child) number }
         ensures learnt { self.new ≡ record self.old { cache = learnt self.old.cache child number (option_copied demand.entry) } }
     {
-        let mut steps = Steps::<Brand>::start();
+        let mut counter = Steps::<Brand>::start();
         match demand {
-            Some(bid) => self.cache.replace(child, number, bid, &mut steps),
-            None => self.cache.remove(child, number, &mut steps),
+            Some(bid) => self.cache.replace(child, number, bid, &mut counter),
+            None => self.cache.remove(child, number, &mut counter),
         }
     }
 

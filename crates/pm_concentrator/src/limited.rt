@@ -1,5 +1,6 @@
 ghost use Rattle.std.specs.Prelude.{◌≡◌, ◌<◌, ◌≤◌, ◌≤ℤ◌, pos, false, length, IfOk};
-ghost use Rattle.pm_bid.specs.Bids.{clamped, IsWithin, sum_limit};
+ghost use Rattle.pm_bid.specs.Bids.{clamped};
+ghost use Rattle.pm_base.specs.Limits.{sum_limit, IsWithin, AreSteps};
 ghost use Rattle.pm_session.specs.Links.{BidOffered};
 ghost use Rattle.pm_concentrator.specs.Limits.{local_step, AreLimits};
 
@@ -37,8 +38,7 @@ impl Limited {
         floor: i64,
         ceiling: i64,
     ) -> Result<Limited, AllocError>
-        requires at_least_two { 2 ≤ steps }
-        requires at_most_thousand { steps ≤ 1000 }
+        requires steps { AreSteps steps }
         requires floor_not_positive { floor ≤ℤ pos 0 }
         requires ceiling_not_negative { pos 0 ≤ℤ ceiling }
         requires floor_within { IsWithin sum_limit floor }
@@ -61,9 +61,9 @@ impl Limited {
         ensures bid { BidOffered up.old up.new (record { number = number; gone = false; demand = clamped self.old.floor self.old.ceiling sum.now }) }
         ensures same { self.new ≡ self.old }
     {
-        let mut steps = Steps::<Brand>::start();
+        let mut counter = Steps::<Brand>::start();
         let clamped = &mut self.clamped;
-        sum.clamp_into(self.floor, self.ceiling, clamped, &mut steps);
+        sum.clamp_into(self.floor, self.ceiling, clamped, &mut counter);
         let _ = up.offer_bid(number, Some(&self.clamped));
     }
 
@@ -73,12 +73,12 @@ impl Limited {
         ensures step { result ≡ local_step self.now.floor self.now.ceiling step sum.now }
         ensures inside { result < length sum.now }
     {
-        let mut steps = Steps::<Brand>::start();
-        let demand = sum.at(step as usize, &mut steps);
+        let mut counter = Steps::<Brand>::start();
+        let demand = sum.at(step as usize, &mut counter);
         if demand > self.ceiling {
-            sum.first_at_most(self.ceiling, &mut steps) as u32
+            sum.first_at_most(self.ceiling, &mut counter) as u32
         } else if demand < self.floor {
-            sum.last_at_least(self.floor, &mut steps) as u32
+            sum.last_at_least(self.floor, &mut counter) as u32
         } else {
             step
         }

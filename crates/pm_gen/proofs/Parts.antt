@@ -12,7 +12,7 @@ use Rattle.pm_plan.specs.Parts.{number, array, points, NodePart, concentrator, l
 use Rattle.pm_tree.specs.Entries.{Entry, leaves_of}
 use Rattle.pm_plan.specs.Plans.{PlanData, NodeData, no_node}
 use Rattle.pm_plan.specs.Building.{add_node, with_node, state_of, is_manual}
-use Rattle.pm_plan.specs.Refusals.{fold_from, ◌>>=◌}
+use Rattle.pm_base.specs.Outcomes.{◌>>=◌, fold_from}
 use Rattle.pm_gen.specs.Draws.{next, drawn}
 use Rattle.pm_gen.specs.Nodes.{with_start, at_power, device_of, drawn_power, drawn_device, drawn_devices, demo_nodes, concentrators, demo_entries, concentrator_entry, device_entry, concentrator_entries, device_entries}
 

@@ -14,9 +14,10 @@ use Rattle.pm_plan.specs.declared.refusal.Place.TheVariants.{Document, Phase}
 use Rattle.pm_plan.specs.declared.refusal.Refusal.{Refusal}
 use Rattle.pm_plan.specs.Parts.{NodePart, concentrator, limited, device, number, array, points, PhasePart, events, tick, is_device, AreNodesOf}
 use Rattle.pm_plan.specs.Plans.{PlanData, NodeData, no_node, node_at, all_changes, is_member_after}
-use Rattle.pm_plan.specs.Kept.{phases_limit, events_limit, changes_limit}
+use Rattle.pm_base.specs.Limits.{most_phases, most_events, most_changes}
 use Rattle.pm_plan.specs.Building.{add_node, add_event, phase_of, add_phase, with_tick, with_phase, empty_plan, checked_plan}
-use Rattle.pm_plan.specs.Refusals.{check, fold_from, refusal_in, Fails, ◌>>=◌, ◌>>◌}
+use Rattle.pm_plan.specs.Refusals.{check, refusal_in}
+use Rattle.pm_base.specs.Outcomes.{◌>>=◌, ◌>>◌, fold_from, Refuses}
 use Rattle.pm_gen.specs.Draws.{first_seed}
 use Rattle.pm_gen.specs.Nodes.{concentrators, demo_entries, demo_nodes}
 use Rattle.pm_gen.specs.Rounds.{after, is_joined, turns, round_len, round_picks, rounds, demo_phases}
@@ -75,7 +76,7 @@ module _ (size : ℕ) (some : 1 ≤ size) (few : size ≤ 200) where
   unfolding add_phase phase_of
   tick-accepted p most earlier plan stands small =
       let ticked = stands-ticked size earlier most plan p (pos 15) stands in
-      let fits = few_enough changes_limit (all_changes (with_tick p (pos 15) plan).nodes) (omega (arith, ticked.few)) in (
+      let fits = few_enough most_changes (all_changes (with_tick p (pos 15) plan).nodes) (omega (arith, ticked.few)) in (
         with_tick p (pos 15) plan,
         ap (λ b. check 20 (Phase p) b >> Ok (with_tick p (pos 15) plan)) fits,
         record { entries_are = ticked.entries_are; one_each = ticked.one_each; joined = ticked.joined; few = omega (arith, ticked.few) },
@@ -86,11 +87,11 @@ module _ (size : ℕ) (some : 1 ≤ size) (few : size ≤ 200) where
   unfolding add_phase phase_of
   events-accepted p most earlier devices plan stands all short small =
       let made = turns-accepted size few 1 p earlier devices most plan all stands in
-      let listed = few_enough events_limit (length (turns earlier devices)) (omega (arith, length-turns earlier devices)) in
-      let fits = few_enough changes_limit (all_changes made.0.nodes) (omega (arith, made.2.few)) in (
+      let listed = few_enough most_events (length (turns earlier devices)) (omega (arith, length-turns earlier devices)) in
+      let fits = few_enough most_changes (all_changes made.0.nodes) (omega (arith, made.2.few)) in (
         with_phase made.0 None,
-        ap (λ b. (check 20 (Phase p) b >> (fold_from 1 (add_event p) plan (turns earlier devices) >>= λ draft. Ok (with_phase draft None))) >>= λ draft. check 20 (Phase p) (nat_le (all_changes draft.nodes) changes_limit) >> Ok draft) listed
-            ∙ ap (λ draft. (draft >>= λ d. Ok (with_phase d None)) >>= λ d. check 20 (Phase p) (nat_le (all_changes d.nodes) changes_limit) >> Ok d) made.1
+        ap (λ b. (check 20 (Phase p) b >> (fold_from 1 (add_event p) plan (turns earlier devices) >>= λ draft. Ok (with_phase draft None))) >>= λ draft. check 20 (Phase p) (nat_le (all_changes draft.nodes) most_changes) >> Ok draft) listed
+            ∙ ap (λ draft. (draft >>= λ d. Ok (with_phase d None)) >>= λ d. check 20 (Phase p) (nat_le (all_changes d.nodes) most_changes) >> Ok d) made.1
             ∙ ap (λ b. check 20 (Phase p) b >> Ok (with_phase made.0 None)) fits,
         record { entries_are = made.2.entries_are; one_each = made.2.one_each; joined = made.2.joined; few = made.2.few },
       )
@@ -140,7 +141,7 @@ module _ (size : ℕ) (some : 1 ≤ size) (few : size ≤ 200) where
   unfolding made_from checked_plan
   made_from-is_plan seed =
       let later = seed_after_devices size seed in
-      let short = few_enough phases_limit (length (demo_phases size later)) (omega (arith, length-demo_phases later)) in
+      let short = few_enough most_phases (length (demo_phases size later)) (omega (arith, length-demo_phases later)) in
       let nodes = add_plain_nodes 1 (empty_plan demo_basis (demo_entries size)) (demo_nodes size seed) (demo_nodes-plain size seed) in
       let phases = phases-accepted later (nodes_alone seed) (stands-first seed) in (
         phases.0,
@@ -162,7 +163,7 @@ unfolding made_from
 read_is_made size seed basis entries nodes phases basis_is entries_are nodes_are phases_are = (λ i. checked_plan (basis_is i) (entries_are i) (nodes_are i) (phases_are i))
 
 -- only want of memory keeps the plan from being made
-pub plan_fault_is_memory : (size seed : ℕ) (fault : PlanFault) (read : Result PlanData Refusal) → 0 < size → size ≤ 200 → read ≡ made_from size seed → Fails (refusal_in fault) read → fault ≡ faults.NoMemory
+pub plan_fault_is_memory : (size seed : ℕ) (fault : PlanFault) (read : Result PlanData Refusal) → 0 < size → size ≤ 200 → read ≡ made_from size seed → Refuses (refusal_in fault) read → fault ≡ faults.NoMemory
 plan_fault_is_memory size seed faults.NoMemory read some few same fails = refl
 plan_fault_is_memory size seed (faults.Refused refusal) read some few same fails =
     let made = made_from-is_plan size some few seed in

@@ -9,7 +9,8 @@ use Rattle.pm_plan.specs.declared.refusal.Refusal.{Refusal}
 use Rattle.pm_plan.specs.Parts.{join, leave}
 use Rattle.pm_plan.specs.Plans.{PlanData}
 use Rattle.pm_plan.specs.Building.{device_named, with_change_of, is_member_now, member_named, stranger_named, event_of, add_event}
-use Rattle.pm_plan.specs.Refusals.{need, check, fold_from, ◌>>=◌, ◌>>◌}
+use Rattle.pm_plan.specs.Refusals.{need, check}
+use Rattle.pm_base.specs.Outcomes.{◌>>=◌, ◌>>◌, fold_from}
 use Rattle.pm_gen.specs.Draws.{next}
 use Rattle.pm_gen.specs.Nodes.{concentrators, device_name}
 use Rattle.pm_gen.specs.Rounds.{picks, is_joined, turn, turns}

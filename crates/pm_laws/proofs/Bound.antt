@@ -4,7 +4,8 @@ use Rattle.std.proofs.Math.Nat.{mul-le-mul_left, mul-le-mul_right}
 use Rattle.std.proofs.lemmas.List.{get_or_default}
 use Rattle.std.proofs.lemmas.Bool.{cases_eq, cases_lt, cases_Bool, eq-eqb, ne_eqb, cond-true, cond-false, both_ways}
 use Rattle.pm_market.specs.Lists.{Lists, nodes, parent, is_leaf, changes, IsNode, IsLeaf, IsInner, IsLeafOf, is_leaf_of, is_below_in, is_below, concentrators_in, concentrators, Lawful}
-use Rattle.pm_market.specs.State.{Cut, State, start, is_same_on, sum_to, AtMostOn, RisesOn, cut_at, newest_of, newest, part, known, clearings}
+use Rattle.pm_market.specs.State.{State, start, is_same_on, sum_to, AtMostOn, RisesOn, cut_at, newest_of, newest, part, known, clearings}
+use Rattle.pm_base.specs.Cuts.{Cut}
 use Rattle.pm_market.specs.Moves.{Legal, step, after_from, LegalFrom, after, LegalJournal}
 use Rattle.pm_market.specs.Sound.{Sound}
 use Rattle.pm_market.specs.Bound.{all_changes, bound}

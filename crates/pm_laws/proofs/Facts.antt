@@ -4,7 +4,8 @@ use Rattle.std.proofs.lemmas.Bool.{cases_eq, cases_lt, cases_Bool}
 use Rattle.std.proofs.lemmas.List.{get_or_append_left, get_or_push, length_push, get_or_default}
 use Rattle.std.specs.List.{Contains}
 use Rattle.pm_market.specs.Lists.{Lists, phases, parent, is_leaf, end, changes, IsNode, IsLeaf, IsInner, Lawful}
-use Rattle.pm_market.specs.State.{Cut, State, updated, SameOn, AtMostOn, cut_at, greatest_number, last_of, newest, part, number, last, clearings, cleared}
+use Rattle.pm_market.specs.State.{State, updated, SameOn, AtMostOn, cut_at, greatest_number, last_of, newest, part, number, last, clearings, cleared}
+use Rattle.pm_base.specs.Cuts.{Cut}
 use Rattle.pm_market.specs.Moves.{Reached}
 use Rattle.pm_market.specs.Sound.{Sound}
 use Rattle.pm_market.proofs.Tree.{leaf_of_parts, leaf_of_parent, leaf_of_auctioneer, leaf_zero}

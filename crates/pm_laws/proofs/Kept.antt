@@ -4,7 +4,8 @@ use Rattle.std.proofs.lemmas.Bool.{cases_eq, cases_lt, cases_Bool}
 use Rattle.std.proofs.lemmas.List.{get_or_append_left, get_or_push, length_push}
 use Rattle.std.specs.List.{Contains}
 use Rattle.pm_market.specs.Lists.{Lists, phases, child_toward, parent, is_leaf, end, changes, IsInner, IsConcentrator, IsLeafOf, Lawful}
-use Rattle.pm_market.specs.State.{Cut, State, start, updated, is_same_on, RisesOn, cut_at, part_of, known_of, greatest_number, last_of, newest, part, known, number, last, clearings, cleared, addresses, addresses_of}
+use Rattle.pm_market.specs.State.{State, start, updated, is_same_on, RisesOn, cut_at, part_of, known_of, greatest_number, last_of, newest, part, known, number, last, clearings, cleared, addresses, addresses_of}
+use Rattle.pm_base.specs.Cuts.{Cut}
 use Rattle.pm_market.specs.Moves.{Idle, Legal, step, after_from, LegalFrom, after, LegalJournal}
 use Rattle.pm_market.specs.Sound.{Sound}
 use Rattle.pm_market.specs.declared.moves.Move.{Move}

@@ -2,7 +2,8 @@
 use Rattle.std.proofs.Common.{◌≡◌, ◌∙◌, sym, ap, ℕ, false, length, refl, arith, inl, inr}
 use Rattle.std.proofs.lemmas.Bool.{cases_Bool, both_ways}
 use Rattle.pm_market.specs.Lists.{Lists, parent, IsInner, Lawful}
-use Rattle.pm_market.specs.State.{Cut, State, updated, is_same_on, SameOn, cut_at, known_of, part, known}
+use Rattle.pm_market.specs.State.{State, updated, is_same_on, SameOn, cut_at, known_of, part, known}
+use Rattle.pm_base.specs.Cuts.{Cut}
 use Rattle.pm_market.specs.Moves.{Legal, step}
 use Rattle.pm_market.specs.Sound.{Sound}
 use Rattle.pm_market.specs.declared.moves.Move.TheVariants.{Learn}

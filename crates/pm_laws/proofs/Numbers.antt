@@ -2,7 +2,8 @@
 use Rattle.std.proofs.Common.{◌≡◌, ℕ, ◌≤◌, true, inl, inr, ◌↔◌, List, length, sym, ◌∙◌, ap, subst, arith}
 use Rattle.std.proofs.lemmas.Bool.{cases_eq, cases_lt, cases_Bool, cond-true, not_from_false}
 use Rattle.pm_market.specs.Lists.{Lists, parent, is_leaf, IsNode, IsLeaf, IsInner, IsConcentrator, IsLeafOf, Lawful}
-use Rattle.pm_market.specs.State.{Cut, State, zeros, is_same_on, SameOn, cut_at, greatest_number, number_of, newest, part, known, number, clearings, cleared, addresses}
+use Rattle.pm_market.specs.State.{State, zeros, is_same_on, SameOn, cut_at, greatest_number, number_of, newest, part, known, number, clearings, cleared, addresses}
+use Rattle.pm_base.specs.Cuts.{Cut}
 use Rattle.pm_market.specs.Sound.{Sound}
 use Rattle.pm_market.proofs.Tree.{leaf_of_itself, leaf_of_parent, child_of}
 use Rattle.pm_market.proofs.Cuts.{not_same, not_same_from, same_from, is_same_from, entry_zero, part_leaf, part_inner, part_zero, newest_inner, known_at, greatest_le, greatest_from, greatest_same, number_inner}

@@ -2,7 +2,8 @@
 use Rattle.std.proofs.Common.{◌≡◌, ◌∙◌, sym, ap, ℕ, ◌+◌, ◌≤◌, true, ◌&&◌, ◌||◌, eqb, leb, List, length, arith, inl, inr}
 use Rattle.std.proofs.lemmas.Bool.{cases_eq, cases_Bool, and_parts}
 use Rattle.pm_market.specs.Lists.{Lists, parent, is_leaf, IsNode, IsInner, Lawful}
-use Rattle.pm_market.specs.State.{Cut, State, SameOn, cut_at, newest, part, known, number, clearings, cleared, addresses, addresses_of}
+use Rattle.pm_market.specs.State.{State, SameOn, cut_at, newest, part, known, number, clearings, cleared, addresses, addresses_of}
+use Rattle.pm_base.specs.Cuts.{Cut}
 use Rattle.pm_market.specs.Legality.{has_reached, is_one_of}
 use Rattle.pm_market.specs.Sound.{Sound}
 use Rattle.pm_market.proofs.Tree.{child_of}

@@ -3,7 +3,8 @@ use Rattle.std.proofs.Common.{◌≡◌, ℕ, zero, suc, ◌+◌, ◌-◌, ◌<�
 use Rattle.std.proofs.lemmas.Bool.{cases_eq, cases_lt, cases_Bool, cond-true, cond-false, both_ways}
 use Rattle.std.specs.List.{Contains}
 use Rattle.pm_market.specs.Lists.{Lists, parent, is_leaf, is_member, IsNode, IsLeaf, IsInner, IsConcentrator, IsLeafOf, Lawful}
-use Rattle.pm_market.specs.State.{Cut, State, zeros, is_same_on, SameOn, cut_at, greatest_number, newest, part, known, number, last, clearings, cleared, addresses, addresses_of}
+use Rattle.pm_market.specs.State.{State, zeros, is_same_on, SameOn, cut_at, greatest_number, newest, part, known, number, last, clearings, cleared, addresses, addresses_of}
+use Rattle.pm_base.specs.Cuts.{Cut}
 use Rattle.pm_market.specs.Moves.{Reached, Idle}
 use Rattle.pm_market.specs.Sound.{Sound}
 use Rattle.pm_market.specs.declared.moves.Move.TheVariants.{Learn, Publish, Clear, Pass}

@@ -3,7 +3,8 @@ use Rattle.std.proofs.Common.{◌≡◌, ℕ, zero, suc, ◌+◌, ◌≤◌, Boo
 use Rattle.std.proofs.lemmas.Bool.{cases_eq, cases_Bool, eqb-true, eq-eqb, ne_eqb, and_parts, and_from, and_cases, cond-true, cond-false, both_ways, false_from_ne_true}
 use Rattle.std.proofs.lemmas.List.{get_or_append_left, get_or_push, length_push}
 use Rattle.pm_market.specs.Lists.{Lists, nodes, parent, is_leaf, IsLeaf, IsInner, IsLeafOf, is_leaf_of, Lawful}
-use Rattle.pm_market.specs.State.{Cut, zeros, updated, all_to, is_same_on, SameOn, AtMostOn, RisesOn, cut_at, newest_of, part_of, known_of, greatest_number, number_of}
+use Rattle.pm_market.specs.State.{zeros, updated, all_to, is_same_on, SameOn, AtMostOn, RisesOn, cut_at, newest_of, part_of, known_of, greatest_number, number_of}
+use Rattle.pm_base.specs.Cuts.{Cut}
 use Rattle.pm_market.proofs.Tree.{leaf_node, leaf_of_parts, child_toward_is}
 
 pub updated_same : {A : Type 0} → (f : ℕ → A) (x : ℕ) (v : A) → updated f x v x ≡ v

@@ -3,9 +3,9 @@ use Rattle.std.proofs.Common.{◌≡◌, ℕ, zero, suc, ◌+◌, ◌-◌, ◌�
 use Rattle.std.proofs.lemmas.Bool.{cases_eq, cases_Bool, cond-true, cond-false, and_from, both_ways, false_from_ne_true, eq-eqb, ne_eqb}
 use Rattle.std.proofs.Math.ListN.{get_or-map}
 use Rattle.pm_market.specs.Lists.{Lists, parent, is_leaf, is_member, is_below_in, child_toward_in, child_toward, IsInner}
-use Rattle.pm_market.specs.State.{Cut, State, all_to, cut_at, part, part_of, known_of, newest, is_same_on, greatest_number}
+use Rattle.pm_market.specs.State.{State, all_to, cut_at, part, part_of, known_of, newest, is_same_on, greatest_number}
+use Rattle.pm_base.specs.Cuts.{Cut, cut_of}
 use Rattle.pm_market.specs.Held.{last_join}
-use Rattle.pm_market.specs.Market.{cut_of}
 use Rattle.pm_market.proofs.Tree.{parent_zero}
 use Rattle.pm_market.proofs.Cuts.{all_to_at, part_inner, part_zero, newest_inner}
 

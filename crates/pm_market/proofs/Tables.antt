@@ -4,7 +4,8 @@ use Rattle.std.specs.Prelude.{Result, Ok, Err, OnErr, OnOk}
 use Rattle.std.proofs.lemmas.Bool.{cases_eq}
 use Rattle.std.proofs.Common.{get_or-set_same, get_or-set_other}
 use Rattle.std.proofs.Math.Path.{fun_ext}
-use Rattle.pm_market.specs.State.{Cut, State, updated}
+use Rattle.pm_market.specs.State.{State, updated}
+use Rattle.pm_base.specs.Cuts.{Cut}
 use Rattle.pm_market.proofs.Cuts.{updated_same, updated_other}
 
 -- what holds at all holds on an error

@@ -1,7 +1,8 @@
 -- Which price a device holds, and the lines of a journal.
 use Rattle.std.specs.Prelude.{ℕ, zero, suc, Bool, cond, ◌&&◌, not, nat_lt, nat_le, Option, Some, None, List, [], ◌∷◌}
 use Rattle.pm_market.specs.Lists.{Lists, is_leaf, is_member}
-use Rattle.pm_market.specs.State.{Cut, State, start, last, cleared}
+use Rattle.pm_market.specs.State.{State, start, last, cleared}
+use Rattle.pm_base.specs.Cuts.{Cut}
 use Rattle.pm_market.specs.Moves.{step}
 use Rattle.pm_market.specs.declared.moves.Move.{Move}
 use Rattle.pm_market.specs.declared.moves.Move.TheVariants.{Pass}

@@ -1,12 +1,9 @@
 -- The lists and the state that a market's tables stand for.
 use Rattle.std.specs.Prelude.{◌≡◌, ℕ, List, [], ◌∷◌, ◌++◌, map, slice_index_or}
 use Rattle.pm_market.specs.Lists.{Lists}
-use Rattle.pm_market.specs.State.{Cut, State, updated, known}
+use Rattle.pm_market.specs.State.{State, updated, known}
+use Rattle.pm_base.specs.Cuts.{Cut, cut_of}
 use Rattle.pm_market.specs.declared.market.Market.{Market}
-
--- the cut of a row of numbers, one for each node from the auctioneer's on
-abbrev pub cut_of : List ℕ → Cut
-cut_of row d = slice_index_or row d 0
 
 -- the four lists of a market
 abbrev pub lists_of : Market → Lists

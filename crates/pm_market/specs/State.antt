@@ -1,10 +1,7 @@
 -- Cuts, and the states of the market.
 use Rattle.std.specs.Prelude.{◌≡◌, ℕ, zero, suc, ◌+◌, ◌≤◌, Bool, true, false, cond, ◌==◌, ◌&&◌, not, List, [], ◌∷◌, length, slice_index_or}
+use Rattle.pm_base.specs.Cuts.{Cut}
 use Rattle.pm_market.specs.Lists.{Lists, nodes, is_leaf, is_member, is_leaf_of, IsLeafOf, child_toward}
-
--- a cut: for each device the number of its changes that the cut contains
-abbrev pub Cut : Type 0
-Cut = ℕ → ℕ
 
 -- the cut that contains no change
 abbrev pub zeros : Cut

@@ -41,7 +41,8 @@ impl Market {
     ghost use Rattle.std.specs.Prelude.{◌≡◌, ◌==◌, ◌+◌, ◌≤◌, true, if◌then◌else◌, length};
     ghost use Rattle.pm_market.specs.Lists.{parent, is_leaf, is_member, end, is_below, is_leaf_of, child_toward};
     ghost use Rattle.pm_market.specs.State.{is_same_on};
-    ghost use Rattle.pm_market.specs.Market.{lists_of, state_of, cut_of};
+    ghost use Rattle.pm_market.specs.Market.{lists_of, state_of};
+    ghost use Rattle.pm_base.specs.Cuts.{cut_of};
 
     /// The parent of a node.
     #[tactic(auto, unfolding(crate::specs::Lists::parent))]
@@ -144,7 +145,8 @@ impl Market {
     ghost use Rattle.pm_market.specs.Lists.{is_leaf_of};
     ghost use Rattle.pm_market.specs.State.{cut_at, is_same_on, newest, known, number, greatest_number, last, clearings, cleared, addresses};
     ghost use Rattle.pm_market.specs.Legality.{has_reached, is_node, is_one_of};
-    ghost use Rattle.pm_market.specs.Market.{lists_of, state_of, cut_of};
+    ghost use Rattle.pm_market.specs.Market.{lists_of, state_of};
+    ghost use Rattle.pm_base.specs.Cuts.{cut_of};
 
     /// How many cuts a node published, or the auctioneer cleared.
     fn published_by(&self, node: usize) -> usize

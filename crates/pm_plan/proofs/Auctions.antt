@@ -6,7 +6,8 @@ use Rattle.pm_bid.specs.Bids.{demand_at, sum_of, zeros}
 use Rattle.pm_bid.specs.Clearing.{clearing_step}
 use Rattle.pm_strategy.specs.Strategies.{bid_of}
 use Rattle.pm_plan.specs.Plans.{PlanData, node, is_member, group}
-use Rattle.pm_plan.specs.Auction.{Cut, States, demand_of, part_in, sum_in, announced, within_limits, total, plain, local_step, group_step, local, power, limited}
+use Rattle.pm_plan.specs.Auction.{States, demand_of, part_in, sum_in, announced, within_limits, total, plain, local_step, group_step, local, power, limited}
+use Rattle.pm_base.specs.Cuts.{Cut}
 
 pub map_range_same : {X : Type 0} (f g : ℕ → X) (a n : ℕ) → ((k : ℕ) → a ≤ k → k < a + n → f k ≡ g k) → map f (range_with_len a n) ≡ map g (range_with_len a n)
 map_range_same f g a zero same = refl

@@ -3,7 +3,8 @@ use Rattle.std.proofs.Common.{◌≡◌, ◌∙◌, sym, ap, ℕ, zero, suc, ◌
 use Rattle.std.proofs.Math.ListN.{get_or-eq_default}
 use Rattle.std.proofs.lemmas.Bool.{cases_lt}
 use Rattle.std.proofs.lemmas.Int.{ints, clamps}
-use Rattle.pm_bid.specs.Bids.{IsWithin, AllWithinLimit, NeverRises, demand_limit, demand_at, zeros}
+use Rattle.pm_bid.specs.Bids.{AllWithinLimit, NeverRises, demand_at, zeros}
+use Rattle.pm_base.specs.Limits.{demand_limit, IsWithin}
 use Rattle.pm_device.specs.Kinds.{is_valid, state_fits, temperature_limit, is_temperature, is_between}
 use Rattle.pm_device.specs.Ticks.{tick, nearest_between, nearest_temperature, change_if, took, delivered, floor_div}
 use Rattle.pm_device.specs.declared.kind.Kind.{Kind}
@@ -14,7 +15,8 @@ use Rattle.pm_strategy.proofs.BidLaws.{length-bid_of, bid_of-within, bid_of-fall
 use Rattle.pm_plan.specs.declared.planned.Planned.{Planned}
 use Rattle.pm_plan.specs.declared.planned.Planned.TheVariants.{Join, Leave, Set, Tick}
 use Rattle.pm_plan.specs.Plans.{PlanData, node, change_count, is_member, end}
-use Rattle.pm_plan.specs.Auction.{Cut, demand_of, local, power}
+use Rattle.pm_plan.specs.Auction.{demand_of, local, power}
+use Rattle.pm_base.specs.Cuts.{Cut}
 use Rattle.pm_plan.specs.States.{changed_state, state}
 use Rattle.pm_plan.specs.Kept.{IsPlan, change_fits, change_at}
 use Rattle.pm_plan.proofs.StateLaws.{state-start, state-next}

@@ -10,7 +10,8 @@ use Rattle.pm_plan.specs.declared.refusal.Refusal.{Refusal}
 use Rattle.pm_plan.specs.Plans.{PlanData}
 use Rattle.pm_plan.specs.Parts.{NodePart, PhasePart, AreNodesOf, is_device, node_part}
 use Rattle.pm_plan.specs.Building.{checked_plan, add_node, add_phase, empty_plan}
-use Rattle.pm_plan.specs.Refusals.{fold_from, check, ◌>>=◌, ◌>>◌, Fails}
+use Rattle.pm_plan.specs.Refusals.{check}
+use Rattle.pm_base.specs.Outcomes.{◌>>=◌, ◌>>◌, fold_from, Refuses}
 use Rattle.pm_plan.proofs.Folds.{Fails-first}
 
 -- there is a part for each entry
@@ -29,12 +30,12 @@ nodes_then_phases basis entries nodes phases few =
     ap (λ b. check 20 Document b >> (fold_from 1 add_node (empty_plan basis entries) nodes >>= λ plan. fold_from 1 add_phase plan phases)) (sym (le-leb (length phases) 1000 few))
 
 pub nodes_refused : (basis : BasisValue) (entries : List Entry) (nodes : List NodePart) (phases : List PhasePart) (refusal : Option Refusal) → length phases ≤ 1000 →
-    Fails refusal (fold_from 1 add_node (empty_plan basis entries) nodes) → Fails refusal (checked_plan basis entries nodes phases)
+    Refuses refusal (fold_from 1 add_node (empty_plan basis entries) nodes) → Refuses refusal (checked_plan basis entries nodes phases)
 nodes_refused basis entries nodes phases refusal few fails =
-    subst (Fails refusal) (nodes_then_phases basis entries nodes phases few)
+    subst (Refuses refusal) (nodes_then_phases basis entries nodes phases few)
     (Fails-first refusal (fold_from 1 add_node (empty_plan basis entries) nodes) (λ plan. fold_from 1 add_phase plan phases) fails)
 
 pub phases_refused : (basis : BasisValue) (entries : List Entry) (nodes : List NodePart) (phases : List PhasePart) (plan : PlanData) (refusal : Option Refusal) → length phases ≤ 1000 →
-    fold_from 1 add_node (empty_plan basis entries) nodes ≡ Ok plan → Fails refusal (fold_from 1 add_phase plan phases) → Fails refusal (checked_plan basis entries nodes phases)
+    fold_from 1 add_node (empty_plan basis entries) nodes ≡ Ok plan → Refuses refusal (fold_from 1 add_phase plan phases) → Refuses refusal (checked_plan basis entries nodes phases)
 phases_refused basis entries nodes phases plan refusal few made fails =
-    subst (Fails refusal) (ap (λ r. r >>= λ p. fold_from 1 add_phase p phases) (sym made) ∙ nodes_then_phases basis entries nodes phases few) fails
+    subst (Refuses refusal) (ap (λ r. r >>= λ p. fold_from 1 add_phase p phases) (sym made) ∙ nodes_then_phases basis entries nodes phases few) fails

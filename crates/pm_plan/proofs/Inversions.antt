@@ -3,7 +3,8 @@ use Rattle.std.proofs.Common.{◌≡◌, sym, ap, ℕ, ◌+◌, Bool, true, fals
 use Rattle.std.proofs.lemmas.List.{append_assoc, append-nil, length-append}
 use Rattle.pm_plan.specs.declared.refusal.Place.{Place}
 use Rattle.pm_plan.specs.declared.refusal.Refusal.{Refusal}
-use Rattle.pm_plan.specs.Refusals.{check, fold_from, ◌>>=◌, ◌>>◌}
+use Rattle.pm_plan.specs.Refusals.{check}
+use Rattle.pm_base.specs.Outcomes.{◌>>=◌, ◌>>◌, fold_from}
 
 pub record BindOk {A B : Type 0} (r : Result A Refusal) (f : A → Result B Refusal) (y : B) : Type 0 where
   pub value : A

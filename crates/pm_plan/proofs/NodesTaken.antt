@@ -12,14 +12,14 @@ use Rattle.pm_device.specs.Kinds.{is_valid, is_between}
 use Rattle.pm_device.proofs.Between.{is_between-tells, both_true}
 use Rattle.pm_device.specs.declared.kind.Kind.{Kind}
 use Rattle.pm_device.specs.declared.kind.Kind.TheVariants.{Manual}
-use Rattle.pm_bid.specs.Bids.{sum_limit}
+use Rattle.pm_base.specs.Limits.{sum_limit}
 use Rattle.pm_tree.specs.Entries.{Entry, parents_of, leaves_of, parent_of}
 use Rattle.pm_tree.specs.Shape.{IsTree}
 use Rattle.pm_plan.specs.declared.refusal.Place.TheVariants.{Node}
 use Rattle.pm_plan.specs.Parts.{NodePart, concentrator, limited, device, is_device}
 use Rattle.pm_plan.specs.Plans.{PlanData, NodeData, no_node, node, node_at, is_limited, group}
 use Rattle.pm_plan.specs.Kept.{AreArrays, AreLimits}
-use Rattle.pm_plan.specs.Refusals.{fold_from}
+use Rattle.pm_base.specs.Outcomes.{fold_from}
 use Rattle.pm_plan.specs.Building.{are_limits, with_node, add_node, state_of, empty_plan}
 use Rattle.pm_plan.proofs.Inversions.{bind-ok, check-ok, ok-is, fold_keeps}
 use Rattle.pm_plan.proofs.Changes.{NodeHolds, no_node-holds, no_changes-hold}

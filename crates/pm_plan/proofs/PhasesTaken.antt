@@ -17,8 +17,10 @@ use Rattle.pm_plan.specs.declared.refusal.Place.{Place}
 use Rattle.pm_plan.specs.declared.refusal.Place.TheVariants.{Phase, Event}
 use Rattle.pm_plan.specs.Parts.{EventPart, join, state, leave, PhasePart, events, tick}
 use Rattle.pm_plan.specs.Plans.{PlanData, NodeData, no_node, node, is_leaf, phases, minutes_of, all_changes, changes_in, is_member_after}
-use Rattle.pm_plan.specs.Kept.{AreArrays, no_change, change_fits, are_minutes, events_limit, changes_limit}
-use Rattle.pm_plan.specs.Refusals.{◌>>=◌, need, fold_from}
+use Rattle.pm_plan.specs.Kept.{AreArrays, no_change, change_fits, are_minutes}
+use Rattle.pm_base.specs.Limits.{most_events, most_changes}
+use Rattle.pm_plan.specs.Refusals.{need}
+use Rattle.pm_base.specs.Outcomes.{◌>>=◌, fold_from}
 use Rattle.pm_plan.specs.Building.{leaf_or_none, device_named, with_change, with_change_of, is_member_now, member_named, stranger_named, state_of, event_of, add_event, ticks_now, ticked, with_phase, with_tick, phase_of, add_phase}
 use Rattle.pm_plan.proofs.Leaves.{leaf_inside}
 use Rattle.pm_plan.proofs.Inversions.{bind-ok, check-ok, ok-is, fold_keeps}
@@ -93,7 +95,7 @@ pub record OnWay (entries : List Entry) (p k : ℕ) (plan : PlanData) : Type 0 w
   pub concentrators : (x : ℕ) → is_leaf plan x ≡ true → (node plan x).limits ≡ None
   pub closed : phases plan ≡ k
   pub minutes : (q : ℕ) (m : ℤ) → minutes_of plan q ≡ Some m → IsTrue (are_minutes m)
-  pub few_events : (q : ℕ) → 1 ≤ q → q ≤ k → minutes_of plan q ≡ None → changes_in plan.nodes q ≤ events_limit
+  pub few_events : (q : ℕ) → 1 ≤ q → q ≤ k → minutes_of plan q ≡ None → changes_in plan.nodes q ≤ most_events
   pub one_limit : OneLimit plan
   pub holds : Holds p plan
 
@@ -275,17 +277,17 @@ minutes_with minutes new all one q m is = elim (cases_lt (q - 1) (length minutes
 ]
 
 -- the events of one phase more, whose number is k + 1
-events_with : (minutes : List (Option ℤ)) (new : Option ℤ) (k : ℕ) (count : ℕ → ℕ) → length minutes ≡ k → ((q : ℕ) → 1 ≤ q → q ≤ k → get_or minutes (q - 1) None ≡ None → count q ≤ events_limit) → (new ≡ None → count (k + 1) ≤ events_limit) →
-    (q : ℕ) → 1 ≤ q → q ≤ k + 1 → get_or (minutes ++ new ∷ []) (q - 1) None ≡ None → count q ≤ events_limit
+events_with : (minutes : List (Option ℤ)) (new : Option ℤ) (k : ℕ) (count : ℕ → ℕ) → length minutes ≡ k → ((q : ℕ) → 1 ≤ q → q ≤ k → get_or minutes (q - 1) None ≡ None → count q ≤ most_events) → (new ≡ None → count (k + 1) ≤ most_events) →
+    (q : ℕ) → 1 ≤ q → q ≤ k + 1 → get_or (minutes ++ new ∷ []) (q - 1) None ≡ None → count q ≤ most_events
 events_with minutes new k count closed all one q first last none = elim (cases_lt (q - 1) (length minutes)) [
   | inl old ↦ all q first (omega arith) (sym (minutes_before minutes new q old) ∙ none)
   | inr late ↦
       let here : q ≡ k + 1 = omega arith in
-      subst (λ r. count r ≤ events_limit) (sym here) (one (sym (minutes_here minutes new q (omega arith)) ∙ none))
+      subst (λ r. count r ≤ most_events) (sym here) (one (sym (minutes_here minutes new q (omega arith)) ∙ none))
 ]
 
 -- a phase of events is closed
-events_closed : (entries : List Entry) (k : ℕ) (plan : PlanData) → OnWay entries (k + 1) k plan → changes_in plan.nodes (k + 1) ≤ events_limit → OnWay entries (k + 1) (k + 1) (with_phase plan None)
+events_closed : (entries : List Entry) (k : ℕ) (plan : PlanData) → OnWay entries (k + 1) k plan → changes_in plan.nodes (k + 1) ≤ most_events → OnWay entries (k + 1) (k + 1) (with_phase plan None)
 events_closed entries k plan way few = record {
   same_entries = way.same_entries;
   many = way.many;
@@ -355,7 +357,7 @@ tick_closed entries k plan minutes way fits =
 -- what holds once these phases were taken
 pub record PhasesTaken (entries : List Entry) (done : List PhasePart) (plan : PlanData) : Type 0 where
   pub way : OnWay entries (length done) (length done) plan
-  pub few_changes : all_changes plan.nodes ≤ changes_limit
+  pub few_changes : all_changes plan.nodes ≤ most_changes
 
 phase_taken : (entries : List Entry) (k : ℕ) (plan made : PlanData) (part : PhasePart) → OnWay entries k k plan → phase_of (k + 1) plan part ≡ Ok made → OnWay entries (k + 1) (k + 1) made
 unfolding phase_of
@@ -363,26 +365,26 @@ phase_taken entries k plan made (tick minutes) before h =
     let fits = check-ok 13 (Phase (k + 1)) (are_minutes minutes) _ made h in
     subst (OnWay entries (k + 1) (k + 1)) (ok-is (with_tick (k + 1) minutes plan) made fits.rest) (tick_closed entries k plan minutes (open_phase entries k plan before) fits.holds)
 phase_taken entries k plan made (events list) before h =
-    let few = check-ok 20 (Phase (k + 1)) (nat_le (length list) events_limit) _ made h in
+    let few = check-ok 20 (Phase (k + 1)) (nat_le (length list) most_events) _ made h in
     let all = bind-ok (fold_from 1 (add_event (k + 1)) plan list) (λ after. Ok (with_phase after None)) made few.rest in
     let start : EventsTaken entries (k + 1) k [] plan = record { way = open_phase entries k plan before; count = none_later_of k (k + 1) plan before.holds (omega arith) } in
     let taken =
     fold_keeps (EventsTaken entries (k + 1) k) (add_event (k + 1)) (λ done s t x held is. add_event_taken entries (k + 1) k (length done + 1) done s t x (omega arith) held is)
     [] list plan all.value start all.first in
-    let within : length list ≤ events_limit = leb-true (length list) events_limit few.holds in
+    let within : length list ≤ events_limit = leb-true (length list) most_events few.holds in
     subst (OnWay entries (k + 1) (k + 1)) (ok-is (with_phase all.value None) made all.rest) (events_closed entries k all.value taken.way (let c = taken.count in omega arith))
 
 add_phase_taken : (entries : List Entry) (done : List PhasePart) (plan made : PlanData) (part : PhasePart) → PhasesTaken entries done plan → add_phase (length done + 1) plan part ≡ Ok made → PhasesTaken entries (done ++ part ∷ []) made
 unfolding add_phase
 add_phase_taken entries done plan made part before h =
     let after = bind-ok (phase_of (length done + 1) plan part) _ made h in
-    let few = check-ok 20 (Phase (length done + 1)) (nat_le (all_changes after.value.nodes) changes_limit) _ made after.rest in
+    let few = check-ok 20 (Phase (length done + 1)) (nat_le (all_changes after.value.nodes) most_changes) _ made after.rest in
     let way = phase_taken entries (length done) plan after.value part before.way after.first in
     let long : length done + 1 ≡ length (done ++ part ∷ []) = sym (length-append done (part ∷ [])) in
     let taken : PhasesTaken entries (done ++ part ∷ []) after.value =
     record {
       way = subst (λ n. OnWay entries n n after.value) long way;
-      few_changes = leb-true (all_changes after.value.nodes) changes_limit few.holds;
+      few_changes = leb-true (all_changes after.value.nodes) most_changes few.holds;
     } in
     subst (PhasesTaken entries (done ++ part ∷ [])) (ok-is after.value made few.rest) taken
 

@@ -6,14 +6,16 @@ use Rattle.pm_tree.specs.Shape.{IsTree}
 use Rattle.pm_plan.specs.Parts.{NodePart, PhasePart, AreNodesOf}
 use Rattle.pm_plan.specs.Building.{checked_plan}
 use Rattle.pm_plan.proofs.Sound.{checked_plan-keeps}
-use Rattle.pm_bid.specs.Bids.{AllWithinLimit, IsWithin, NeverRises, demand_limit}
+use Rattle.pm_bid.specs.Bids.{AllWithinLimit, NeverRises}
+use Rattle.pm_base.specs.Limits.{demand_limit, IsWithin}
 use Rattle.pm_device.specs.Kinds.{state_fits}
 use Rattle.pm_strategy.specs.Strategies.{bid_of}
 use Rattle.pm_market.specs.Lists.{Lawful}
 use Rattle.pm_market.specs.Lists as market
 use Rattle.pm_market.specs.Bound as market_bound
 use Rattle.pm_plan.specs.Plans.{PlanData, node, end, is_member, change_count, bound}
-use Rattle.pm_plan.specs.Auction.{Cut, power}
+use Rattle.pm_plan.specs.Auction.{power}
+use Rattle.pm_base.specs.Cuts.{Cut}
 use Rattle.pm_plan.specs.States.{changed_state, state}
 use Rattle.pm_plan.specs.Kept.{IsPlan, InPhases, change_at}
 use Rattle.pm_plan.specs.Market.{lists_of}

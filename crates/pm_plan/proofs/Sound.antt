@@ -11,8 +11,9 @@ use Rattle.pm_tree.specs.Shape.{IsTree}
 use Rattle.pm_plan.specs.declared.refusal.Place.TheVariants.{Document}
 use Rattle.pm_plan.specs.Parts.{NodePart, concentrator, is_device, PhasePart, AreNodesOf}
 use Rattle.pm_plan.specs.Plans.{PlanData, NodeData, no_node, node, is_leaf, is_limited, group, phases, minutes_of, all_changes}
-use Rattle.pm_plan.specs.Kept.{IsPlan, phases_limit}
-use Rattle.pm_plan.specs.Refusals.{fold_from}
+use Rattle.pm_plan.specs.Kept.{IsPlan}
+use Rattle.pm_base.specs.Limits.{most_phases}
+use Rattle.pm_base.specs.Outcomes.{fold_from}
 use Rattle.pm_plan.specs.Building.{add_node, add_phase, empty_plan, checked_plan}
 use Rattle.pm_plan.proofs.Inversions.{bind-ok, check-ok}
 use Rattle.pm_plan.proofs.NodesAt.{node-beyond}
@@ -87,7 +88,7 @@ one_limit_all entries p k plan way x bounded = elim (cases_lt (length plan.entri
 ]
 
 -- the end of the way
-arrived : (entries : List Entry) (parts : List PhasePart) (plan : PlanData) → checked_tree entries ≡ Ok entries → IsTree (parents_of entries) (leaves_of entries) → length parts ≤ phases_limit → PhasesTaken entries parts plan → IsPlan plan
+arrived : (entries : List Entry) (parts : List PhasePart) (plan : PlanData) → checked_tree entries ≡ Ok entries → IsTree (parents_of entries) (leaves_of entries) → length parts ≤ most_phases → PhasesTaken entries parts plan → IsPlan plan
 arrived entries parts plan accepted tree few taken =
     let way = taken.way in
     let same = sym way.same_entries in
@@ -125,16 +126,16 @@ arrived entries parts plan accepted tree few taken =
 taken_all : (basis : BasisValue) (entries : List Entry) (nodes : List NodePart) (phases : List PhasePart) (plan : PlanData) → IsBasis basis → IsTree (parents_of entries) (leaves_of entries) → AreNodesOf entries nodes → checked_plan basis entries nodes phases ≡ Ok plan → PhasesTaken entries phases plan
 unfolding checked_plan
 taken_all basis entries nodes phases plan sound tree fit h =
-    let few = check-ok 20 Document (nat_le (length phases) phases_limit) _ plan h in
+    let few = check-ok 20 Document (nat_le (length phases) most_phases) _ plan h in
     let made = bind-ok (fold_from 1 add_node (empty_plan basis entries) nodes) (λ p. fold_from 1 add_phase p phases) plan few.rest in
     let start = begun entries nodes made.value fit (nodes_taken basis entries nodes made.value sound tree made.first) in
     phases_taken entries phases made.value plan start made.rest
 
-few_phases : (basis : BasisValue) (entries : List Entry) (nodes : List NodePart) (phases : List PhasePart) (plan : PlanData) → checked_plan basis entries nodes phases ≡ Ok plan → length phases ≤ phases_limit
+few_phases : (basis : BasisValue) (entries : List Entry) (nodes : List NodePart) (phases : List PhasePart) (plan : PlanData) → checked_plan basis entries nodes phases ≡ Ok plan → length phases ≤ most_phases
 unfolding checked_plan
 few_phases basis entries nodes phases plan h =
-    let few = check-ok 20 Document (nat_le (length phases) phases_limit) _ plan h in
-    leb-true (length phases) phases_limit few.holds
+    let few = check-ok 20 Document (nat_le (length phases) most_phases) _ plan h in
+    leb-true (length phases) most_phases few.holds
 
 pub checked_plan-keeps : (basis : BasisValue) (entries : List Entry) (nodes : List NodePart) (phases : List PhasePart) (plan : PlanData) → IsBasis basis → checked_tree entries ≡ Ok entries → IsTree (parents_of entries) (leaves_of entries) → AreNodesOf entries nodes → checked_plan basis entries nodes phases ≡ Ok plan → IsPlan plan
 checked_plan-keeps basis entries nodes phases plan sound accepted tree fit h =

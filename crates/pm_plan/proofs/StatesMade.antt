@@ -5,7 +5,8 @@ use Rattle.std.proofs.lemmas.Int.{ints}
 use Rattle.std.proofs.lemmas.Bool.Decides.{nat_tests}
 use Rattle.std.proofs.lemmas.List.Elements.{All-push}
 use Rattle.pm_basis.specs.Prices.{BasisValue, IsBasis}
-use Rattle.pm_bid.specs.Bids.{NeverRises, AllWithinLimit, demand_limit}
+use Rattle.pm_bid.specs.Bids.{NeverRises, AllWithinLimit}
+use Rattle.pm_base.specs.Limits.{demand_limit}
 use Rattle.pm_bid.specs.Checks.{checked_bid, first_rising, first_too_large}
 use Rattle.pm_bid.specs.declared.fault.BidFault.{BidFault}
 use Rattle.pm_points.specs.declared.fault.PointFault.{PointFault}

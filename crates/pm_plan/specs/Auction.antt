@@ -1,5 +1,6 @@
 -- The plain auction over a cut, for any states of the devices after their changes.
 use Rattle.std.specs.Prelude.{ℕ, ◌==◌, ℤ, cond, int_lt, List, ◌∷◌, map, filter, Option, Some, None}
+use Rattle.pm_base.specs.Cuts.{Cut}
 use Rattle.pm_basis.specs.Prices.{price_at}
 use Rattle.pm_bid.specs.Bids.{demand_at, zeros, sum_of, clamped}
 use Rattle.pm_bid.specs.Clearing.{clearing_step, first_at_most, last_at_least}
@@ -7,10 +8,6 @@ use Rattle.pm_strategy.specs.Strategies.{bid_of}
 use Rattle.pm_plan.specs.declared.end.MemberLine.{MemberLine}
 use Rattle.pm_plan.specs.declared.end.LimitedLine.{LimitedLine}
 use Rattle.pm_plan.specs.Plans.{PlanData, node, numbers, is_member, is_limited, group}
-
--- a cut gives each device a number of its changes
-abbrev pub Cut : Type 0
-Cut = ℕ → ℕ
 
 -- the state of each device after so many of its changes
 abbrev pub States : Type 0

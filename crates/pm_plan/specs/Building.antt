@@ -2,7 +2,7 @@
 -- order, each by the plan as far as it goes before.
 use Rattle.std.specs.Prelude.{ℕ, ◌-◌, ◌==◌, ℤ, pos, neg_ℤ, Bool, true, false, not, ◌&&◌, nat_le, if◌then◌else◌, List, [], ◌∷◌, ◌++◌, length, map, slice_set, Option, Some, None, option_and_then, Result, Ok, Err}
 use Rattle.pm_basis.specs.Prices.{BasisValue}
-use Rattle.pm_bid.specs.Bids.{sum_limit}
+use Rattle.pm_base.specs.Limits.{sum_limit, most_phases, most_events, most_changes}
 use Rattle.pm_bid.specs.Checks.{checked_bid}
 use Rattle.pm_bid.specs.declared.fault.BidFault.{BidFault}
 use Rattle.pm_bid.specs.declared.fault.BidFault.TheVariants as bid_faults
@@ -21,8 +21,9 @@ use Rattle.pm_plan.specs.declared.refusal.Place.TheVariants.{Document, Node, Pha
 use Rattle.pm_plan.specs.declared.refusal.Refusal.{Refusal}
 use Rattle.pm_plan.specs.Parts.{StatePart, number, array, points, NodePart, concentrator, limited, device, EventPart, join, state, leave, PhasePart, events, tick}
 use Rattle.pm_plan.specs.Plans.{PlanData, NodeData, no_node, node, group, all_changes, is_member_after}
-use Rattle.pm_plan.specs.Kept.{are_minutes, phases_limit, events_limit, changes_limit}
-use Rattle.pm_plan.specs.Refusals.{refuse, refuse_item, need, check, fold_from, ◌>>=◌, ◌>>◌}
+use Rattle.pm_plan.specs.Kept.{are_minutes}
+use Rattle.pm_plan.specs.Refusals.{refuse, refuse_item, need, check}
+use Rattle.pm_base.specs.Outcomes.{◌>>=◌, ◌>>◌, fold_from}
 
 -- ---- states
 
@@ -168,7 +169,7 @@ phase_of p plan (tick minutes) = do
   check 13 (Phase p) (are_minutes minutes)
   Ok (with_tick p minutes plan)
 phase_of p plan (events list) = do
-  check 20 (Phase p) (nat_le (length list) events_limit)
+  check 20 (Phase p) (nat_le (length list) most_events)
   after ← fold_from 1 (add_event p) plan list
   Ok (with_phase after None)
 
@@ -176,7 +177,7 @@ phase_of p plan (events list) = do
 unfoldable pub add_phase : ℕ → PlanData → PhasePart → Result PlanData Refusal
 add_phase p plan part = do
   after ← phase_of p plan part
-  check 20 (Phase p) (nat_le (all_changes after.nodes) changes_limit)
+  check 20 (Phase p) (nat_le (all_changes after.nodes) most_changes)
   Ok after
 
 -- ---- the whole
@@ -187,6 +188,6 @@ empty_plan basis entries = record { basis = basis; entries = entries; nodes = []
 -- the plan of a basis, a tree, its nodes and the phases, or the first refusal
 unfoldable pub checked_plan : BasisValue → List Entry → List NodePart → List PhasePart → Result PlanData Refusal
 checked_plan basis entries nodes phases = do
-  check 20 Document (nat_le (length phases) phases_limit)
+  check 20 Document (nat_le (length phases) most_phases)
   plan ← fold_from 1 add_node (empty_plan basis entries) nodes
   fold_from 1 add_phase plan phases

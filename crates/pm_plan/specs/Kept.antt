@@ -1,7 +1,8 @@
 -- What the type of a plan keeps.
 use Rattle.std.specs.Prelude.{◌≡◌, ℕ, ◌<◌, ◌≤◌, ℤ, pos, ◌≤ℤ◌, Bool, false, true, length, [], slice_index_or, Some, None, All, IsTrue, Ok}
 use Rattle.pm_basis.specs.Prices.{IsBasis}
-use Rattle.pm_bid.specs.Bids.{HaveSteps, IsWithin, sum_limit, AllWithinLimit, demand_limit, NeverRises}
+use Rattle.pm_bid.specs.Bids.{HaveSteps, AllWithinLimit, NeverRises}
+use Rattle.pm_base.specs.Limits.{demand_limit, sum_limit, IsWithin, most_phases, most_events, most_changes}
 use Rattle.pm_device.specs.Kinds.{is_valid, state_fits, is_between, minutes_limit}
 use Rattle.pm_device.specs.declared.kind.Kind.{Kind}
 use Rattle.pm_tree.specs.Entries.{checked_tree, parents_of, leaves_of}
@@ -10,16 +11,6 @@ use Rattle.pm_plan.specs.declared.planned.Change.{Change}
 use Rattle.pm_plan.specs.declared.planned.Planned.{Planned}
 use Rattle.pm_plan.specs.declared.planned.Planned.TheVariants.{Join, Leave, Set, Tick}
 use Rattle.pm_plan.specs.Plans.{PlanData, node, phases, minutes_of, is_leaf, is_limited, group, change_count, all_changes, changes_in}
-
--- the greatest numbers of phases, of events of a phase, and of changes of a run
-abbrev pub phases_limit : ℕ
-phases_limit = 1000
-
-abbrev pub events_limit : ℕ
-events_limit = 4096
-
-abbrev pub changes_limit : ℕ
-changes_limit = 20000
 
 abbrev pub no_change : Change
 no_change = record { phase = 0; what = Join }
@@ -72,9 +63,9 @@ pub record AreWithinLimits (plan : PlanData) : Type 0 where
   pub changes : (d n : ℕ) → n < change_count plan d → IsTrue (change_fits (node plan d).kind (change_at plan d n).what)
   pub limits : (x : ℕ) (floor ceiling : ℤ) → (node plan x).limits ≡ Some (floor, ceiling) → AreLimits floor ceiling
   pub minutes : (p : ℕ) (minutes : ℤ) → minutes_of plan p ≡ Some minutes → IsTrue (are_minutes minutes)
-  pub few_phases : phases plan ≤ phases_limit
-  pub few_events : (p : ℕ) → 1 ≤ p → p ≤ phases plan → minutes_of plan p ≡ None → changes_in plan.nodes p ≤ events_limit
-  pub few_changes : all_changes plan.nodes ≤ changes_limit
+  pub few_phases : phases plan ≤ most_phases
+  pub few_events : (p : ℕ) → 1 ≤ p → p ≤ phases plan → minutes_of plan p ≡ None → changes_in plan.nodes p ≤ most_events
+  pub few_changes : all_changes plan.nodes ≤ most_changes
 
 pub record IsPlan (plan : PlanData) : Type 0 where
   pub basis : IsBasis plan.basis

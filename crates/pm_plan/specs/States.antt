@@ -7,7 +7,8 @@ use Rattle.pm_plan.specs.declared.planned.Change.{Change}
 use Rattle.pm_plan.specs.declared.planned.Planned.{Planned}
 use Rattle.pm_plan.specs.declared.planned.Planned.TheVariants.{Join, Leave, Set, Tick}
 use Rattle.pm_plan.specs.Plans.{PlanData, NodeData, node, numbers, end, phases}
-use Rattle.pm_plan.specs.Auction.{Cut, power, end_in, EndData}
+use Rattle.pm_plan.specs.Auction.{power, end_in, EndData}
+use Rattle.pm_base.specs.Cuts.{Cut}
 
 -- the state after one change, where the device had this power before: a join and a leave keep it, a tick moves it
 abbrev pub changed_state : Kind → ℤ → ℤ → Planned → ℤ

@@ -4,13 +4,15 @@ ghost use Rattle.pm_tree.specs.Entries.{Entry, checked_tree, parents_of, leaves_
 ghost use Rattle.pm_tree.specs.Shape.{IsTree};
 ghost use Rattle.pm_plan.specs.Parts.{NodePart, PhasePart, AreNodesOf};
 ghost use Rattle.pm_plan.specs.Building.{checked_plan};
-ghost use Rattle.pm_bid.specs.Bids.{AllWithinLimit, IsWithin, NeverRises, demand_limit};
+ghost use Rattle.pm_bid.specs.Bids.{AllWithinLimit, NeverRises};
+ghost use Rattle.pm_base.specs.Limits.{demand_limit, IsWithin};
 ghost use Rattle.pm_device.specs.Kinds.{state_fits};
 ghost use Rattle.pm_strategy.specs.Strategies.{bid_of};
 ghost use Rattle.pm_market.specs.Lists.{Lawful, is_member as market_member};
 ghost use Rattle.pm_market.specs.Bound.{bound as market_bound};
 ghost use Rattle.pm_plan.specs.Plans.{PlanData, node, end, is_member, change_count, bound};
-ghost use Rattle.pm_plan.specs.Auction.{Cut, power};
+ghost use Rattle.pm_plan.specs.Auction.{power};
+ghost use Rattle.pm_base.specs.Cuts.{Cut};
 ghost use Rattle.pm_plan.specs.States.{changed_state, state};
 ghost use Rattle.pm_plan.specs.Kept.{IsPlan, InPhases, change_at};
 ghost use Rattle.pm_plan.specs.Market.{lists_of};

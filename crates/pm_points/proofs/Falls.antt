@@ -8,7 +8,8 @@ use Rattle.std.proofs.lemmas.Bool.Decides.{nat_tests}
 use Rattle.std.proofs.Math.ListN.{set, length-set}
 use Rattle.std.proofs.lemmas.List.FromFn.{get_or-map-range_with_len, length-map-range_with_len, fill_by_all}
 use Rattle.pm_basis.specs.Prices.{BasisValue, IsBasis, price_at}
-use Rattle.pm_bid.specs.Bids.{demand_limit, IsWithin, AllWithinLimit, NeverRises}
+use Rattle.pm_bid.specs.Bids.{AllWithinLimit, NeverRises}
+use Rattle.pm_base.specs.Limits.{demand_limit, IsWithin}
 use Rattle.pm_points.specs.Points.{Point, IsPointBid, point_at, price_of, demand_of, reached, demand_between, demand_after, demand_at, array_of, IsBetween}
 use Rattle.pm_points.proofs.Floors.{share_le}
 use Rattle.pm_points.proofs.Lines.{line_at_most, line_at_least, line_falls}

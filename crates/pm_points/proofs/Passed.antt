@@ -2,8 +2,8 @@
 use Rattle.std.proofs.Common.{◌≡◌, ◌≤◌, ℤ, pos, false, List, length, arith}
 use Rattle.std.proofs.lemmas.Int.{ints}
 use Rattle.std.proofs.lemmas.List.Sums.{fails_before_first}
-use Rattle.pm_basis.specs.Prices.{BasisValue, IsBasis, price_limit}
-use Rattle.pm_bid.specs.Bids.{demand_limit, IsWithin}
+use Rattle.pm_basis.specs.Prices.{BasisValue, IsBasis}
+use Rattle.pm_base.specs.Limits.{demand_limit, IsWithin, price_limit}
 use Rattle.pm_bid.specs.Checks.{is_too_large}
 use Rattle.pm_points.specs.Points.{Point, IsPointBid, point_at, price_of, demand_of, max_points}
 use Rattle.pm_points.specs.Checks.{price_falls, demand_rises, first_price_fall, first_rise, first_too_large, first_outside, is_outside}

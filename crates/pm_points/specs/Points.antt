@@ -2,8 +2,8 @@
 use Rattle.std.specs.Prelude.{ℕ, ◌+◌, ◌-◌, ◌<◌, ◌≤◌, ◌==◌, ℤ, pos, ◌+ℤ◌, ◌-ℤ◌, ◌*ℤ◌, neg_ℤ, ◌≤ℤ◌, ◌<ℤ◌, int_lt, if◌then◌else◌, List, length, map, slice_index_or}
 use Rattle.std.specs.Int.{int_div_euclid}
 use Rattle.std.specs.List.{suffix_len, range_with_len}
-use Rattle.pm_basis.specs.Prices.{BasisValue, price_limit, price_at}
-use Rattle.pm_bid.specs.Bids.{demand_limit, IsWithin}
+use Rattle.pm_basis.specs.Prices.{BasisValue, price_at}
+use Rattle.pm_base.specs.Limits.{demand_limit, IsWithin, price_limit}
 
 -- a price in price units, and the demand at that price in watts
 abbrev pub Point : Type 0

@@ -1,6 +1,6 @@
 ghost use Rattle.std.specs.Prelude.{◌≡◌, ◌<◌, length, IfOk};
-ghost use Rattle.pm_basis.specs.Prices.{price_limit};
-ghost use Rattle.pm_bid.specs.Bids.{demand_limit, IsWithin, AllWithinLimit, NeverRises};
+ghost use Rattle.pm_bid.specs.Bids.{AllWithinLimit, NeverRises};
+ghost use Rattle.pm_base.specs.Limits.{demand_limit, IsWithin, price_limit};
 ghost use Rattle.pm_points.specs.Points.{demand_at, array_of};
 ghost use Rattle.pm_points.specs.Checks.{checked_points};
 

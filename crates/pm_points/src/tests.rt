@@ -54,11 +54,11 @@ fn has_array(
 ) -> Result<bool, Fail> {
     let bid = PointBid::new(points.to_vec(alloc)?, basis)?;
     let array = bid.to_array(basis)?;
-    let mut steps = Steps::<Brand>::start();
+    let mut counter = Steps::<Brand>::start();
     let mut same = array.steps() == demands.len();
     for (step, demand) in demands.iter().enumerate() {
         if step < array.steps() {
-            same = same && array.at(step, &mut steps) == *demand;
+            same = same && array.at(step, &mut counter) == *demand;
         }
     }
     Ok(same)

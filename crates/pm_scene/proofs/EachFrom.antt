@@ -2,7 +2,7 @@
 use Rattle.std.proofs.Common.{◌≡◌, ℕ, ◌+◌, ◌<◌, List, [], ◌∷◌, ◌++◌, map, length, take, drop, get_or, Result, Ok, Err, refl, sym, ap, ◌∙◌, suc, add-one, subst, arith}
 use Rattle.std.proofs.Math.Seq.{take-suc, drop-cons}
 use Rattle.std.proofs.lemmas.List.{take-append-drop, length-take-le}
-use Rattle.pm_plan.specs.Refusals.{each_from, ◌>>=◌, Fails}
+use Rattle.pm_base.specs.Outcomes.{◌>>=◌, each_from, Refuses}
 use Rattle.pm_plan.specs.declared.refusal.Refusal.{Refusal}
 use Rattle.pm_scene.specs.Faults.{refusal_of, Gives}
 use Rattle.pm_scene.specs.declared.fault.SceneFault.{SceneFault}
@@ -49,10 +49,10 @@ each_from-map n f g [] = refl
 each_from-map n f g (x ∷ xs) = ap (λ r. f n (g x) >>= λ y. r >>= λ ys. Ok (y ∷ ys)) (each_from-map (n + 1) f g xs)
 
 -- what the exit of a `?` returns in a loop over the elements
-pub Fails-each_from : {A B : Type 0} (n : ℕ) (f : ℕ → A → Result B Refusal) (xs : List A) (i : ℕ) (d : A) (ys : List B) (e : SceneFault) → i < length xs → each_from n f (take i xs) ≡ Ok ys → Fails (refusal_of e) (f (n + i) (get_or xs i d)) → Fails (refusal_of e) (each_from n f xs)
+pub Fails-each_from : {A B : Type 0} (n : ℕ) (f : ℕ → A → Result B Refusal) (xs : List A) (i : ℕ) (d : A) (ys : List B) (e : SceneFault) → i < length xs → each_from n f (take i xs) ≡ Ok ys → Refuses (refusal_of e) (f (n + i) (get_or xs i d)) → Refuses (refusal_of e) (each_from n f xs)
 Fails-each_from n f xs i d ys faults.NoMemory within before here = tt
 Fails-each_from n f xs i d ys (faults.Refused r) within before here = each_from_fails n f xs i d ys r within before here
 
-pub Gives-err : {X Y : Type 0} (view : X → Y) (r : Result X SceneFault) (e : SceneFault) (read : Result Y Refusal) → IsErrAnd r (λ y. y ≡ e) → Fails (refusal_of e) read → Gives view r read
+pub Gives-err : {X Y : Type 0} (view : X → Y) (r : Result X SceneFault) (e : SceneFault) (read : Result Y Refusal) → IsErrAnd r (λ y. y ≡ e) → Refuses (refusal_of e) read → Gives view r read
 Gives-err view (Ok x) e read h f = absurd h
-Gives-err view (Err y) e read h f = subst (λ z. Fails (refusal_of z) read) (sym h) f
+Gives-err view (Err y) e read h f = subst (λ z. Refuses (refusal_of z) read) (sym h) f

@@ -5,7 +5,8 @@ use Rattle.serde_json.specs.Find.{get, as_str, as_object}
 use Rattle.pm_device.specs.declared.kind.Kind.{Kind}
 use Rattle.pm_device.specs.declared.kind.Kind.TheVariants as kinds
 use Rattle.pm_plan.specs.Parts.{StatePart, number, array, points, NodePart, concentrator, limited, device, node_part}
-use Rattle.pm_plan.specs.Refusals.{need, check, each_from, ◌>>=◌, ◌>>◌}
+use Rattle.pm_plan.specs.Refusals.{need, check}
+use Rattle.pm_base.specs.Outcomes.{◌>>=◌, ◌>>◌, each_from}
 use Rattle.pm_plan.specs.declared.refusal.Place.{Place}
 use Rattle.pm_plan.specs.declared.refusal.Place.TheVariants.{Node}
 use Rattle.pm_plan.specs.declared.refusal.Refusal.{Refusal}

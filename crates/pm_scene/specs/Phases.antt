@@ -2,7 +2,7 @@
 use Rattle.std.specs.Prelude.{ℕ, List, Result, Ok, codes}
 use Rattle.serde_json.specs.Data.{Data}
 use Rattle.pm_plan.specs.Parts.{StatePart, number, EventPart, join, state, leave, PhasePart, events, tick}
-use Rattle.pm_plan.specs.Refusals.{each_from, ◌>>=◌, ◌>>◌}
+use Rattle.pm_base.specs.Outcomes.{◌>>=◌, ◌>>◌, each_from}
 use Rattle.pm_plan.specs.declared.refusal.Place.{Place}
 use Rattle.pm_plan.specs.declared.refusal.Place.TheVariants.{Phase, Event}
 use Rattle.pm_plan.specs.declared.refusal.Refusal.{Refusal}

@@ -2,7 +2,8 @@
 use Rattle.std.specs.Prelude.{ℕ, List, Result}
 use Rattle.pm_plan.specs.Plans.{PlanData}
 use Rattle.pm_plan.specs.Building.{checked_plan}
-use Rattle.pm_plan.specs.Refusals.{need, ◌>>=◌}
+use Rattle.pm_plan.specs.Refusals.{need}
+use Rattle.pm_base.specs.Outcomes.{◌>>=◌}
 use Rattle.pm_plan.specs.declared.refusal.Place.TheVariants.{Document}
 use Rattle.pm_plan.specs.declared.refusal.Refusal.{Refusal}
 use Rattle.pm_scene.specs.Values.{reading}

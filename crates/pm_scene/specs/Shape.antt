@@ -6,7 +6,8 @@ use Rattle.serde_json.specs.Find.{get}
 use Rattle.pm_basis.specs.Prices.{BasisValue, checked_basis}
 use Rattle.pm_basis.specs.declared.fault.BasisFault.{BasisFault}
 use Rattle.pm_plan.specs.Parts.{PhasePart, phase_part}
-use Rattle.pm_plan.specs.Refusals.{refuse, need, check, ◌>>=◌, ◌>>◌}
+use Rattle.pm_plan.specs.Refusals.{refuse, need, check}
+use Rattle.pm_base.specs.Outcomes.{◌>>=◌, ◌>>◌}
 use Rattle.pm_plan.specs.declared.refusal.Place.TheVariants.{Document, Basis}
 use Rattle.pm_plan.specs.declared.refusal.Refusal.{Refusal}
 use Rattle.pm_scene.specs.Values.{whole_at, elements_at}

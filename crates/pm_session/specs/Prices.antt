@@ -1,11 +1,8 @@
 -- A price on its way to the children of a node.
 use Rattle.std.specs.Prelude.{◌≡◌, ℕ, ◌<◌, true, false, List, length, slice_index_or}
+use Rattle.pm_bid.specs.Heads.{nothing_sent}
 use Rattle.pm_bid.specs.declared.head.BidHead.{BidHead}
 use Rattle.pm_session.specs.Links.{Session, new_session, PriceOffered}
-
--- the head of a child that sent nothing
-abbrev pub nothing_sent : BidHead
-nothing_sent = record { number = 0; gone = true }
 
 -- the head of a child
 abbrev pub head_at : List BidHead → ℕ → BidHead

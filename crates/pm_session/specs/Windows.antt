@@ -1,7 +1,7 @@
 -- The records of what a concentrator sent to its parent.
 use Rattle.std.specs.Prelude.{◌≡◌, ℕ, ◌+◌, ◌-◌, ◌≤◌, ℤ, List, [], length, replicate, slice_index_or, Option, Some, None}
 use Rattle.pm_bid.specs.declared.head.BidHead.{BidHead}
-use Rattle.pm_session.specs.Prices.{nothing_sent}
+use Rattle.pm_bid.specs.Heads.{nothing_sent}
 
 -- what went into a number: the heads of the children, and their sum where the window keeps sums
 pub record Sent : Type 0 where

@@ -1,5 +1,6 @@
 ghost use Rattle.std.specs.Prelude.{◌≡◌, ◌<◌, ◌≤◌, length, None, IfOk, MatchOption, IsFalse, ◌↔◌};
 ghost use Rattle.std.specs.Option.{option_copied};
+ghost use Rattle.pm_base.specs.Limits.{AreSteps};
 ghost use Rattle.pm_session.specs.Links.{new_session, bid_offered, demand_offered, BidOffered, BidTaken, PriceOffered, PriceTaken, NothingWaited, IsSession};
 
 use crate::price::PriceUpdate;
@@ -41,8 +42,7 @@ impl Link {
     /// A link for bids of so many steps, on which nothing was offered. All memory of the link is
     /// taken here.
     pub fn new(alloc: Global, steps: usize) -> Result<Link, AllocError>
-        requires at_least_two { 2 ≤ steps }
-        requires at_most_thousand { steps ≤ 1000 }
+        requires steps { AreSteps steps }
         ensures new { IfOk result (λ link. link ≡ new_session steps) }
     {
         let demand = ArrayBid::zero(alloc, steps, &mut Steps::<Brand>::start())?;
@@ -65,14 +65,14 @@ impl Link {
         ensures ok { result ≡ Ok tt }
         ensures offered { BidOffered self.old self.new (bid_offered self.old.steps number (option_copied demand.entry)) }
     {
-        let mut steps = Steps::<Brand>::start();
+        let mut counter = Steps::<Brand>::start();
         let gone = match demand {
             Some(bid) => {
-                bid.copy_into(&mut self.demand, &mut steps);
+                bid.copy_into(&mut self.demand, &mut counter);
                 false
             }
             None => {
-                self.demand.clear(&mut steps);
+                self.demand.set_zero(&mut counter);
                 true
             }
         };

@@ -1,6 +1,6 @@
 ghost use Rattle.std.specs.Prelude.{◌≡◌, length, replicate, Some, IfOk};
 ghost use Rattle.std.specs.Option.{option_copied};
-ghost use Rattle.pm_session.specs.Prices.{nothing_sent};
+ghost use Rattle.pm_bid.specs.Heads.{nothing_sent};
 ghost use Rattle.pm_session.specs.Windows.{HasSteps, steps_of};
 
 use pm_bid::{ArrayBid, BidHead, Steps};

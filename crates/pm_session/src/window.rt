@@ -1,4 +1,5 @@
 ghost use Rattle.std.specs.Prelude.{◌≡◌, ◌+◌, ◌-◌, ◌<◌, ◌≤◌, length, Some, None, IfOk, IsTrue, ◌↔◌};
+ghost use Rattle.pm_base.specs.Limits.{AreSteps};
 ghost use Rattle.pm_session.specs.Windows.{Keeps, unanswered, record_of, newest_record, RecordSent, RecordAnswered, IsWindow, IsNewWindow, HasSteps, Fits};
 
 use crate::record::Record;
@@ -52,8 +53,7 @@ impl Window {
 
     /// The same, with sums of so many steps: for a limited concentrator.
     pub fn limited(alloc: Global, children: usize, steps: usize) -> Result<Window, AllocError>
-        requires at_least_two { 2 ≤ steps }
-        requires at_most_thousand { steps ≤ 1000 }
+        requires steps { AreSteps steps }
         ensures new { IfOk result (λ window. IsNewWindow children (Some steps) window) }
     {
         Window::opened(alloc, children, Some(steps))

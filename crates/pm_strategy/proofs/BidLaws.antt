@@ -4,7 +4,8 @@ use Rattle.std.specs.Prelude.{All}
 use Rattle.std.proofs.lemmas.Int.{ints}
 use Rattle.std.proofs.lemmas.List.{get_or-replicate, length-replicate}
 use Rattle.std.proofs.lemmas.List.Elements.{All-head, All-tail}
-use Rattle.pm_bid.specs.Bids.{demand_at, demand_limit, IsWithin, AllWithinLimit, NeverRises, HaveSteps, zeros}
+use Rattle.pm_bid.specs.Bids.{demand_at, AllWithinLimit, NeverRises, HaveSteps, zeros}
+use Rattle.pm_base.specs.Limits.{demand_limit, IsWithin}
 use Rattle.pm_device.specs.declared.kind.Kind.{Kind}
 use Rattle.pm_device.specs.declared.kind.Kind.TheVariants.{Freezer, HeatPump, Cogeneration, Battery, Solar, Load, Objective, Manual}
 use Rattle.pm_device.specs.Kinds.{is_valid, state_fits, power_limit}

@@ -2,7 +2,7 @@
 use Rattle.std.proofs.Common.{ℕ, ◌*◌, ◌≤◌, ℤ, pos, negsuc, ◌*ℤ◌, ◌≤ℤ◌, ◌<ℤ◌, arith}
 use Rattle.std.proofs.Math.Nat.{div-le_self, mul-le-mul}
 use Rattle.std.proofs.lemmas.Int.{ints}
-use Rattle.pm_bid.specs.Bids.{IsWithin, demand_limit}
+use Rattle.pm_base.specs.Limits.{demand_limit, IsWithin}
 use Rattle.pm_device.specs.Ticks.{floor_div}
 use Rattle.pm_strategy.specs.Steps.{last_limit}
 

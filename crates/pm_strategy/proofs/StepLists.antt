@@ -2,7 +2,8 @@
 use Rattle.std.proofs.Common.{◌≡◌, ℕ, ◌+◌, ◌<◌, ℤ, pos, ◌≤ℤ◌, length, sym, ap, arith, subst}
 use Rattle.std.proofs.Math.Path.{fun_ext}
 use Rattle.std.proofs.lemmas.List.FromFn.{length-map-range_with_len, get_or-map-range_with_len}
-use Rattle.pm_bid.specs.Bids.{demand_at, demand_limit, IsWithin, AllWithinLimit, NeverRises}
+use Rattle.pm_bid.specs.Bids.{demand_at, AllWithinLimit, NeverRises}
+use Rattle.pm_base.specs.Limits.{demand_limit, IsWithin}
 use Rattle.pm_strategy.specs.Steps.{by_step}
 
 pub length-by_step : (steps : ℕ) (demand : ℕ → ℤ) → length (by_step steps demand) ≡ steps

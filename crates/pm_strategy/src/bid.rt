@@ -1,5 +1,6 @@
 ghost use Rattle.std.specs.Prelude.{◌≡◌, ℕ, ◌≤ℤ◌, pos, length, slice_index_or, nat_abs, All, IsTrue};
-ghost use Rattle.pm_bid.specs.Bids.{zeros, HaveSteps, AllWithinLimit, NeverRises, demand_limit};
+ghost use Rattle.pm_bid.specs.Bids.{zeros, HaveSteps, AllWithinLimit, NeverRises};
+ghost use Rattle.pm_base.specs.Limits.{demand_limit};
 ghost use Rattle.pm_device.specs.Kinds.{is_valid, state_fits};
 ghost use Rattle.pm_strategy.specs.Strategies.{bid_of, array_of};
 
@@ -48,9 +49,9 @@ fn fill_from_array(state: DeviceState, arrays: &[ArrayBid], out: &mut ArrayBid)
     ensures { out.new ≡ array_of arrays.now state.0 (length out.old) }
 {
     let DeviceState(number) = state;
-    let mut steps = Steps::<Brand>::start();
+    let mut counter = Steps::<Brand>::start();
     match arrays.get(number as usize) {
-        Some(array) => array.copy_into(out, &mut steps),
-        None => out.clear(&mut steps),
+        Some(array) => array.copy_into(out, &mut counter),
+        None => out.set_zero(&mut counter),
     }
 }

@@ -1,5 +1,5 @@
 ghost use Rattle.std.specs.Prelude.{◌≡◌, ℕ, ◌≤◌, ◌*◌, pos, ◌≤ℤ◌, ◌<ℤ◌, IsTrue, MatchOption};
-ghost use Rattle.pm_bid.specs.Bids.{demand_limit};
+ghost use Rattle.pm_base.specs.Limits.{demand_limit};
 ghost use Rattle.pm_device.specs.Kinds.{is_temperature, is_band, is_power, is_battery, is_between, spread_limit, is_valid, state_fits};
 ghost use Rattle.pm_strategy.specs.Steps.{last_limit, share, share_up, up_to, from_on};
 ghost use Rattle.pm_strategy.specs.Levels.{level_at, AreLevelsOf};

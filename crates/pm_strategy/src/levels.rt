@@ -1,5 +1,5 @@
 ghost use Rattle.std.specs.Prelude.{◌≡◌, ℕ, ◌≤◌, ◌<◌, length};
-ghost use Rattle.pm_bid.specs.Bids.{demand_limit, IsWithin};
+ghost use Rattle.pm_base.specs.Limits.{demand_limit, IsWithin};
 ghost use Rattle.pm_strategy.specs.Steps.{by_step};
 
 use pm_bid::{ArrayBid, Steps};
@@ -60,9 +60,9 @@ impl Levels {
         requires within { (step : ℕ) → IsWithin demand_limit (level_at self.now step) }
         ensures bid { out.new ≡ by_step (length out.old) (level_at self.now) }
     {
-        let mut steps = Steps::<Brand>::start();
+        let mut counter = Steps::<Brand>::start();
         for step in 0..out.steps() {
-            out.set(step, self.at(step), &mut steps);
+            out.set(step, self.at(step), &mut counter);
         }
     }
 }

@@ -1,5 +1,5 @@
 ghost use Rattle.std.specs.Prelude.{◌≡◌, ◌≤◌, ◌*◌, pos, ◌≤ℤ◌, ◌<ℤ◌};
-ghost use Rattle.pm_bid.specs.Bids.{demand_limit};
+ghost use Rattle.pm_base.specs.Limits.{demand_limit};
 ghost use Rattle.pm_strategy.specs.Steps.{share, share_up, last_limit};
 
 /// The step that stands as far between 0 and the last one as the part stands between 0 and the whole, rounded down.

@@ -10,7 +10,8 @@ use Rattle.pm_plan.specs.declared.end.MemberLine.{MemberLine}
 use Rattle.pm_plan.specs.declared.end.LimitedLine.{LimitedLine}
 use Rattle.pm_plan.specs.Plans.{PlanData, node, numbers, end, phases, change_count, is_limited, is_member}
 use Rattle.pm_plan.specs.Kept.{IsPlan}
-use Rattle.pm_plan.specs.Auction.{Cut, sum_in, total, plain, local_step, group_step, member_line, limited_line, end_in}
+use Rattle.pm_plan.specs.Auction.{sum_in, total, plain, local_step, group_step, member_line, limited_line, end_in}
+use Rattle.pm_base.specs.Cuts.{Cut}
 use Rattle.pm_plan.specs.States.{state, end_of, all_ends}
 use Rattle.pm_plan.proofs.Ends.{end-within}
 use Rattle.pm_walk.proofs.Sums.{fits, sum_fits}

@@ -6,13 +6,13 @@ use Rattle.std.proofs.lemmas.Bool.{leb-true}
 use Rattle.std.proofs.lemmas.Bool.Decides.{nat_tests}
 use Rattle.std.proofs.lemmas.List.{take_more}
 use Rattle.std.proofs.lemmas.List.Sums.{fold-append, sum_by-cons, prefix_len_passes, prefix_len_stops}
-use Rattle.pm_bid.specs.Bids.{IsWithin, demand_limit}
+use Rattle.pm_base.specs.Limits.{demand_limit, IsWithin, most_changes}
 use Rattle.pm_device.specs.Kinds.{state_fits}
 use Rattle.pm_device.specs.declared.kind.Kind.{Kind}
 use Rattle.pm_plan.specs.declared.planned.Change.{Change}
 use Rattle.pm_plan.specs.declared.planned.Planned.{Planned}
 use Rattle.pm_plan.specs.Plans.{PlanData, node, is_leaf, end, is_up_to, is_member, is_member_after, member_after, change_count, all_changes, NodeData, node_at, planned, planned_at}
-use Rattle.pm_plan.specs.Kept.{IsPlan, no_change, change_at, change_fits, changes_limit, InPhases}
+use Rattle.pm_plan.specs.Kept.{IsPlan, no_change, change_at, change_fits, InPhases}
 use Rattle.pm_plan.specs.Auction.{power}
 use Rattle.pm_plan.specs.States.{state, changed_state}
 use Rattle.pm_plan.proofs.Leaves.{first_of, last_of}
@@ -112,5 +112,5 @@ few_of [] (suc x) = omega arith
 few_of (n ∷ ns) (suc zero) = omega (arith, sum_by-cons (λ (m : NodeData). length m.changes) n ns)
 few_of (n ∷ ns) (suc (suc x)) = omega (arith, sum_by-cons (λ (m : NodeData). length m.changes) n ns, few_of ns (suc x))
 
-pub few_changes : (plan : PlanData) (d : ℕ) → IsPlan plan → change_count plan d ≤ changes_limit
+pub few_changes : (plan : PlanData) (d : ℕ) → IsPlan plan → change_count plan d ≤ most_changes
 few_changes plan d is = omega (arith, few_of plan.nodes d, is.within.few_changes)

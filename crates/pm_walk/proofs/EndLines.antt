@@ -8,7 +8,8 @@ use Rattle.std.proofs.lemmas.List.Elements.{filter-append}
 use Rattle.pm_basis.specs.Prices.{price_at}
 use Rattle.pm_bid.specs.Bids.{demand_at}
 use Rattle.pm_plan.specs.Plans.{PlanData, node, group, is_member, is_limited}
-use Rattle.pm_plan.specs.Auction.{Cut, States, demand_of, sum_in, plain, local, local_step, group_step, power, member_line, limited_line, total, end_in, EndData}
+use Rattle.pm_plan.specs.Auction.{States, demand_of, sum_in, plain, local, local_step, group_step, power, member_line, limited_line, total, end_in, EndData}
+use Rattle.pm_base.specs.Cuts.{Cut}
 use Rattle.pm_plan.specs.States.{state, end_of}
 use Rattle.pm_plan.specs.declared.end.MemberLine.{MemberLine}
 use Rattle.pm_plan.specs.declared.end.LimitedLine.{LimitedLine}

@@ -6,12 +6,14 @@ use Rattle.std.proofs.lemmas.Bool.{cases_eq, eq-eqb, ne_eqb, cond-true, cond-fal
 use Rattle.std.proofs.lemmas.Int.{ints, clamps}
 use Rattle.std.proofs.lemmas.List.{get_or-map, length-map, map-append, append-nil}
 use Rattle.std.proofs.lemmas.List.Elements.{All-cons, All-nil, filter-append}
-use Rattle.pm_bid.specs.Bids.{demand_at, added, sum_of, HaveSteps, IsWithin, AllWithinLimit, demand_limit, sum_limit, clamped, nearest}
+use Rattle.pm_bid.specs.Bids.{demand_at, added, sum_of, HaveSteps, AllWithinLimit, clamped, nearest}
+use Rattle.pm_base.specs.Limits.{demand_limit, sum_limit, IsWithin}
 use Rattle.pm_bid.proofs.Sums.{length-sum_of, sum_of-at, total_at, Has}
 use Rattle.pm_bid.proofs.SumLaws.{sum_of-append, added_zeros}
 use Rattle.pm_plan.specs.Plans.{PlanData, node, numbers, group, is_limited}
 use Rattle.pm_plan.specs.Kept.{IsPlan}
-use Rattle.pm_plan.specs.Auction.{Cut, States, part_in, sum_in, announced, within_limits, total, limited}
+use Rattle.pm_plan.specs.Auction.{States, part_in, sum_in, announced, within_limits, total, limited}
+use Rattle.pm_base.specs.Cuts.{Cut}
 use Rattle.pm_walk.specs.Parts.{groups_to, total_to}
 use Rattle.pm_walk.proofs.Sums.{Fit, part_other, part_within, parts_fit, sum_fits, zero_at, wider}
 

@@ -8,7 +8,8 @@ use Rattle.std.proofs.lemmas.Bool.{cases_lt}
 use Rattle.std.proofs.lemmas.List.FromFn.{map-range_with_len_more}
 use Rattle.pm_plan.specs.Plans.{PlanData, end, phases, change_count}
 use Rattle.pm_plan.specs.Kept.{IsPlan}
-use Rattle.pm_plan.specs.Auction.{Cut, EndData}
+use Rattle.pm_plan.specs.Auction.{EndData}
+use Rattle.pm_base.specs.Cuts.{Cut}
 use Rattle.pm_plan.specs.States.{end_of}
 use Rattle.pm_plan.specs.Ends.{EndValue}
 use Rattle.pm_plan.proofs.Ends.{end-none, end-last}

@@ -6,12 +6,14 @@ use Rattle.std.specs.Prelude.{◌==◌}
 use Rattle.std.specs.List.{range_with_len}
 use Rattle.std.proofs.lemmas.Bool.{cases_eq, cases_lt}
 use Rattle.std.proofs.lemmas.List.{get_or-set_same, get_or-set_other, get_or_default, get_or-replicate, length-replicate}
-use Rattle.pm_bid.specs.Bids.{added, taken_off, zeros, sum_of, AllWithinLimit, sum_limit}
+use Rattle.pm_bid.specs.Bids.{added, taken_off, zeros, sum_of, AllWithinLimit}
+use Rattle.pm_base.specs.Limits.{sum_limit}
 use Rattle.pm_bid.proofs.Sums.{sum_of-replicate_zeros, length-zeros}
 use Rattle.pm_strategy.specs.Strategies.{bid_of}
 use Rattle.pm_plan.specs.Plans.{PlanData, node, is_leaf, is_member, group, change_count, end}
 use Rattle.pm_plan.specs.Kept.{IsPlan}
-use Rattle.pm_plan.specs.Auction.{Cut, States, demand_of, part_in, sum_in}
+use Rattle.pm_plan.specs.Auction.{States, demand_of, part_in, sum_in}
+use Rattle.pm_base.specs.Cuts.{Cut}
 use Rattle.pm_plan.specs.States.{state}
 use Rattle.pm_plan.proofs.Leaves.{first_of, last_of}
 use Rattle.pm_plan.proofs.StateLaws.{state-start}

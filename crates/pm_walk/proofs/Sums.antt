@@ -6,13 +6,15 @@ use Rattle.std.specs.List.{range_with_len}
 use Rattle.std.proofs.lemmas.Bool.{cases_eq, eq-eqb, ne_eqb, cond-true, cond-false}
 use Rattle.std.proofs.lemmas.Int.{ints}
 use Rattle.std.proofs.lemmas.List.FromFn.{length-map-range_with_len, get_or-map-range_with_len}
-use Rattle.pm_bid.specs.Bids.{demand_at, added, taken_off, zeros, sum_of, HaveSteps, IsWithin, AllWithinLimit, demand_limit, sum_limit}
+use Rattle.pm_bid.specs.Bids.{demand_at, added, taken_off, zeros, sum_of, HaveSteps, AllWithinLimit}
+use Rattle.pm_base.specs.Limits.{demand_limit, sum_limit, IsWithin}
 use Rattle.pm_bid.proofs.Sums.{sum_of-set, length-sum_of, length-zeros, sum_of-at}
 use Rattle.pm_bid.proofs.SumLaws.{Bounded, total_within}
 use Rattle.pm_strategy.specs.Strategies.{bid_of}
 use Rattle.pm_plan.specs.Plans.{PlanData, node, numbers, is_member, group, change_count}
 use Rattle.pm_plan.specs.Kept.{IsPlan}
-use Rattle.pm_plan.specs.Auction.{Cut, States, demand_of, part_in, sum_in}
+use Rattle.pm_plan.specs.Auction.{States, demand_of, part_in, sum_in}
+use Rattle.pm_base.specs.Cuts.{Cut}
 use Rattle.pm_plan.specs.States.{state}
 use Rattle.pm_plan.proofs.Auctions.{map_range_same}
 use Rattle.pm_plan.proofs.Fits.{bid-steps, demand-within}

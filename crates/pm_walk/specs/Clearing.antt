@@ -1,7 +1,8 @@
 -- The plain auction of a cut, as far as it is kept.
 use Rattle.std.specs.Prelude.{◌≡◌, ℕ, ◌+◌, ◌<◌, ◌≤◌, ℤ, pos, List, length, slice_index_or}
 use Rattle.pm_plan.specs.Plans.{PlanData}
-use Rattle.pm_plan.specs.Auction.{Cut, total, plain, group_step, power}
+use Rattle.pm_plan.specs.Auction.{total, plain, group_step, power}
+use Rattle.pm_base.specs.Cuts.{Cut}
 use Rattle.pm_plan.specs.States.{state}
 use Rattle.pm_walk.specs.declared.clearing.Clearing.{Clearing}
 

@@ -1,7 +1,7 @@
 -- A cut as a list of numbers, and where the devices stop on the way to it.
 use Rattle.std.specs.Prelude.{◌≡◌, ℕ, min, List, ◌∷◌, slice_index_or}
 use Rattle.pm_plan.specs.Plans.{PlanData, end}
-use Rattle.pm_plan.specs.Auction.{Cut}
+use Rattle.pm_base.specs.Cuts.{Cut}
 use Rattle.pm_walk.specs.Standing.{AreReached, made}
 use Rattle.pm_walk.specs.declared.changes.Progress.{Progress}
 

@@ -5,7 +5,8 @@ use Rattle.pm_bid.specs.Bids.{sum_of}
 use Rattle.pm_plan.specs.declared.end.MemberLine.{MemberLine}
 use Rattle.pm_plan.specs.declared.end.LimitedLine.{LimitedLine}
 use Rattle.pm_plan.specs.Plans.{PlanData, is_limited, is_member}
-use Rattle.pm_plan.specs.Auction.{Cut, States, announced, member_line, limited_line}
+use Rattle.pm_plan.specs.Auction.{States, announced, member_line, limited_line}
+use Rattle.pm_base.specs.Cuts.{Cut}
 use Rattle.pm_plan.specs.States.{state}
 
 -- group 0, and the groups of the limited concentrators among the first k nodes

@@ -5,7 +5,8 @@ use Rattle.pm_bid.specs.Bids.{zeros}
 use Rattle.pm_strategy.specs.Strategies.{bid_of}
 use Rattle.pm_plan.specs.Plans.{PlanData, node, is_leaf, is_member, change_count}
 use Rattle.pm_plan.specs.Kept.{IsPlan}
-use Rattle.pm_plan.specs.Auction.{Cut, demand_of, sum_in}
+use Rattle.pm_plan.specs.Auction.{demand_of, sum_in}
+use Rattle.pm_base.specs.Cuts.{Cut}
 use Rattle.pm_plan.specs.States.{state}
 use Rattle.pm_walk.specs.declared.changes.Progress.{Progress}
 

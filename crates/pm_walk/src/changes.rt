@@ -1,10 +1,10 @@
 ghost use Rattle.std.specs.Prelude.{◌≡◌, ℕ, ◌+◌, ◌-◌, ◌<◌, ◌≤◌, IsTrue, true, length};
-ghost use Rattle.pm_bid.specs.Bids.{IsWithin, demand_limit};
+ghost use Rattle.pm_base.specs.Limits.{demand_limit, IsWithin, most_changes};
 ghost use Rattle.pm_device.specs.Kinds.{is_valid, state_fits};
 ghost use Rattle.pm_plan.specs.Plans.{is_leaf, end, phases, member_after};
 ghost use Rattle.pm_plan.specs.Auction.{power};
 ghost use Rattle.pm_plan.specs.States.{state, changed_state};
-ghost use Rattle.pm_plan.specs.Kept.{change_fits, changes_limit};
+ghost use Rattle.pm_plan.specs.Kept.{change_fits};
 ghost use Rattle.pm_walk.specs.Standing.{Reached, demand_after};
 
 use pm_bid::{ArrayBid, Steps};
@@ -27,7 +27,7 @@ pub(crate) struct Progress {
 
 /// Makes a change of a device of this kind, which had the power `used` at the end of the phase before.
 fn make_change(kind: Kind, what: Planned, used: i64, before: Progress) -> Progress
-    requires few { before.count < changes_limit }
+    requires few { before.count < most_changes }
     requires valid { IsTrue (is_valid kind) }
     requires fits { IsTrue (state_fits kind before.state.0) }
     requires change { IsTrue (change_fits kind what) }
@@ -88,6 +88,6 @@ pub(crate) fn fill_demand(plan: &Plan, device: NodeId, here: Progress, out: &mut
     if here.member {
         fill_bid(&plan.kind(device), here.state, plan.arrays(), out);
     } else {
-        out.clear(&mut Steps::<Brand>::start());
+        out.set_zero(&mut Steps::<Brand>::start());
     }
 }

@@ -1,4 +1,5 @@
 ghost use Rattle.std.specs.Prelude.{◌≡◌, ◌≢◌, ℕ, ◌-◌, ◌≤◌, length, replicate, slice_set, true, false, IfOk};
+ghost use Rattle.pm_base.specs.Limits.{AreSteps};
 ghost use Rattle.pm_bid.specs.Bids.{zeros};
 ghost use Rattle.pm_plan.specs.Plans.{is_leaf, end, phases, group};
 ghost use Rattle.pm_plan.specs.Kept.{IsPlan};
@@ -112,10 +113,10 @@ impl Standing {
     {
         let at = device.0 as usize;
         let group = group_of(plan, device);
-        let mut steps = Steps::<Brand>::start();
+        let mut counter = Steps::<Brand>::start();
         self.progress[at] = here;
-        self.sums[group].exchange(&self.demands[at], demand, &mut steps);
-        demand.copy_into(&mut self.demands[at], &mut steps);
+        self.sums[group].exchange(&self.demands[at], demand, &mut counter);
+        demand.copy_into(&mut self.demands[at], &mut counter);
     }
 
     /// Makes the changes of a device in a phase, where `used` is its power at the end of the phase before. Tells
@@ -216,8 +217,7 @@ fn start_of(plan: &Plan, at: NodeId) -> Progress
 
 /// As many bids that are all zeros.
 fn blanks(alloc: Global, many: usize, steps: usize) -> Result<Vec<ArrayBid>, AllocError>
-    requires at_least_two { 2 ≤ steps }
-    requires at_most_thousand { steps ≤ 1000 }
+    requires steps { AreSteps steps }
     ensures { IfOk result (λ v. v.items ≡ replicate many (zeros steps)) }
 {
     let mut bids = Vec::new(alloc);

@@ -87,13 +87,13 @@ fn step_within(sum: &ArrayBid, step: usize, floor: i64, ceiling: i64) -> usize
     ensures step { result ≡ local_step (Some (record { 0 = floor; 1 = ceiling })) step sum.now }
     ensures inside { result < length sum.now }
 {
-    let mut steps = Steps::<Brand>::start();
-    let here = sum.at(step, &mut steps);
+    let mut counter = Steps::<Brand>::start();
+    let here = sum.at(step, &mut counter);
     if here > ceiling {
-        return sum.first_at_most(ceiling, &mut steps);
+        return sum.first_at_most(ceiling, &mut counter);
     }
     if here < floor {
-        return sum.last_at_least(floor, &mut steps);
+        return sum.last_at_least(floor, &mut counter);
     }
     step
 }

@@ -7,7 +7,8 @@ impl Market {
     ghost use Rattle.pm_market.specs.Lists.{phases, is_member};
     ghost use Rattle.pm_market.specs.State.{cleared, last};
     ghost use Rattle.pm_market.specs.Held.{last_join, holds_price};
-    ghost use Rattle.pm_market.specs.Market.{lists_of, state_of, cut_of};
+    ghost use Rattle.pm_market.specs.Market.{lists_of, state_of};
+    ghost use Rattle.pm_base.specs.Cuts.{cut_of};
 
     /// Whether every phase is closed.
     pub fn is_complete(&self) -> bool

@@ -10,7 +10,8 @@ impl Market {
     ghost use Rattle.pm_market.specs.State.{start, known, updated};
     ghost use Rattle.pm_market.specs.Moves.{step};
     ghost use Rattle.pm_market.specs.Legality.{is_legal};
-    ghost use Rattle.pm_market.specs.Market.{lists_of, state_of, cut_of, Publishes, Passes};
+    ghost use Rattle.pm_market.specs.Market.{lists_of, state_of, Publishes, Passes};
+    ghost use Rattle.pm_base.specs.Cuts.{cut_of};
 
     /// A market at its start, over these lists: the parent of each node, which nodes are devices, for each node whether it
     /// is a member after each of its changes, and for each phase the number of changes of each node at its end.

@@ -3,7 +3,7 @@ ghost use Rattle.pm_basis.specs.Prices.{IsBasis};
 ghost use Rattle.pm_tree.specs.Entries.{checked_tree, parents_of, leaves_of};
 ghost use Rattle.pm_tree.specs.Shape.{IsTree};
 ghost use Rattle.pm_plan.specs.Plans.{node as planned_node, group, is_limited, all_changes};
-ghost use Rattle.pm_plan.specs.Kept.{changes_limit};
+ghost use Rattle.pm_base.specs.Limits.{most_changes};
 ghost use Rattle.pm_plan.specs.Building.{empty_plan, with_array, with_node, with_phase, with_tick, with_change_of, is_member_now, ticked};
 
 use crate::draft::Draft;
@@ -130,7 +130,7 @@ impl Draft {
 
     /// Whether all changes so far are few enough for a run.
     pub(crate) fn has_few_changes(&self) -> bool
-        ensures { result ≡ nat_le (all_changes self.now.nodes) changes_limit }
+        ensures { result ≡ nat_le (all_changes self.now.nodes) most_changes }
     {
         are_few(&self.nodes)
     }
@@ -148,7 +148,7 @@ fn tick_each(nodes: &mut [Node], phase: u32, minutes: i64) -> Result<(), AllocEr
 
 /// Whether the changes of all these nodes are few enough for a run.
 fn are_few(nodes: &[Node]) -> bool
-    ensures { result ≡ nat_le (all_changes nodes.now) changes_limit }
+    ensures { result ≡ nat_le (all_changes nodes.now) most_changes }
 {
     let mut left = CHANGES_LIMIT;
     for node in nodes {

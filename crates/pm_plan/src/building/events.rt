@@ -1,7 +1,8 @@
 ghost use Rattle.std.specs.Prelude.{◌≡◌, ◌+◌, ◌<◌, ◌≤◌, ◌^◌, length, map, OnOk, IfOk, IfSome};
 ghost use Rattle.pm_plan.specs.Parts.{event_part};
 ghost use Rattle.pm_plan.specs.Building.{add_event, event_of, device_named, member_named, stranger_named};
-ghost use Rattle.pm_plan.specs.Refusals.{Makes, fold_from};
+ghost use Rattle.pm_plan.specs.Refusals.{Makes};
+ghost use Rattle.pm_base.specs.Outcomes.{fold_from};
 
 use crate::building::states::take_state;
 use crate::draft::Draft;

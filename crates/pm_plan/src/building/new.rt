@@ -6,7 +6,7 @@ ghost use Rattle.pm_tree.specs.Shape.{IsTree};
 ghost use Rattle.pm_plan.specs.Parts.{AreNodesOf, node_part, phase_part};
 ghost use Rattle.pm_plan.specs.Building.{checked_plan};
 ghost use Rattle.pm_plan.specs.Kept.{IsPlan};
-ghost use Rattle.pm_plan.specs.Refusals.{Gives};
+ghost use Rattle.pm_base.specs.Outcomes.{Gives};
 
 use crate::building::nodes::add_nodes;
 use crate::building::phases::add_phases;

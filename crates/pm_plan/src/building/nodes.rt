@@ -3,7 +3,8 @@ ghost use Rattle.pm_tree.specs.Entries.{parents_of, leaves_of};
 ghost use Rattle.pm_tree.specs.Shape.{IsTree};
 ghost use Rattle.pm_plan.specs.Parts.{node_part};
 ghost use Rattle.pm_plan.specs.Building.{add_node, are_limits};
-ghost use Rattle.pm_plan.specs.Refusals.{Makes, fold_from};
+ghost use Rattle.pm_plan.specs.Refusals.{Makes};
+ghost use Rattle.pm_base.specs.Outcomes.{fold_from};
 
 use crate::building::states::take_state;
 use crate::draft::Draft;

@@ -2,7 +2,8 @@ ghost use Rattle.std.specs.Prelude.{◌≡◌, ◌+◌, ◌*◌, ◌<◌, ◌≤
 ghost use Rattle.pm_plan.specs.Parts.{phase_part};
 ghost use Rattle.pm_plan.specs.Kept.{are_minutes};
 ghost use Rattle.pm_plan.specs.Building.{add_phase, phase_of};
-ghost use Rattle.pm_plan.specs.Refusals.{Makes, fold_from};
+ghost use Rattle.pm_plan.specs.Refusals.{Makes};
+ghost use Rattle.pm_base.specs.Outcomes.{fold_from};
 
 use crate::building::events::add_events;
 use crate::draft::Draft;

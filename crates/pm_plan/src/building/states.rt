@@ -3,7 +3,8 @@ ghost use Rattle.pm_bid.specs.Checks.{checked_bid};
 ghost use Rattle.pm_points.specs.Checks.{checked_points};
 ghost use Rattle.pm_plan.specs.Parts.{state_part};
 ghost use Rattle.pm_plan.specs.Building.{item_of_bid, item_of_points, array_or_refuse, points_or_refuse, manual_state, is_manual, state_of};
-ghost use Rattle.pm_plan.specs.Refusals.{Gives, MakesValue};
+ghost use Rattle.pm_plan.specs.Refusals.{MakesValue};
+ghost use Rattle.pm_base.specs.Outcomes.{Gives};
 
 use crate::draft::Draft;
 use crate::parts::StateSpec;

@@ -1,6 +1,7 @@
 use Rattle.std.proofs.Common.{rules, arith, ◌≡◌, ◌∙◌, ap, sym, subst, List, ℤ, FitsSigned, w64, to_z, of_z}
 use Rattle.std.proofs.lemmas.Int.{to_z-of_z}
-use Rattle.pm_bid.specs.Bids.{demand_at, nearest, clamped, AllWithinLimit, sum_limit}
+use Rattle.pm_bid.specs.Bids.{demand_at, nearest, clamped, AllWithinLimit}
+use Rattle.pm_base.specs.Limits.{sum_limit}
 use Rattle.pm_bid.proofs.pointwise.clamp_each.Given.{Over}
 use Rattle.pm_bid.proofs.pointwise.clamp_each.Goals as goal
 use Rattle.pm_bid.proofs.EachStep.{clamped-at, length-clamped, clamped_within, progress_more, progress_all}

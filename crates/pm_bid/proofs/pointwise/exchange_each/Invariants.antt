@@ -6,5 +6,5 @@ use Rattle.pm_bid.proofs.pointwise.exchange_each.Given as goal
 abbrev pub invariant-loop-step : goal.invariant-loop-step
 invariant-loop-step g l = record {
   progress : Progress l.fn.demands (added (taken_off l.fn.demands l.olds) l.news) l.demands l.step;
-  cost : l.steps ≡ l.fn.steps + 2 * l.step;
+  cost : l.counter ≡ l.fn.counter + 2 * l.step;
 }

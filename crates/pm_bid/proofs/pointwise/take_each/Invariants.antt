@@ -6,5 +6,5 @@ use Rattle.pm_bid.proofs.pointwise.take_each.Given as goal
 abbrev pub invariant-loop-step : goal.invariant-loop-step
 invariant-loop-step g l = record {
   progress : Progress l.fn.demands (taken_off l.fn.demands l.others) l.demands l.step;
-  cost : l.steps ≡ l.fn.steps + l.step;
+  cost : l.counter ≡ l.fn.counter + l.step;
 }

@@ -6,5 +6,5 @@ use Rattle.pm_bid.proofs.search.find_at_least.Given as goal
 abbrev pub invariant-loop-step : goal.invariant-loop-step
 invariant-loop-step g l = record {
   below : (k : ℕ) → l.step ≤ k → k < length l.demands → int_lt (demand_at l.demands k) l.fn.limit ≡ true;
-  cost : l.steps + l.step ≡ l.fn.steps + length l.demands;
+  cost : l.counter + l.step ≡ l.fn.counter + length l.demands;
 }

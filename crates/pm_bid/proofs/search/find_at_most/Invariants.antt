@@ -6,5 +6,5 @@ use Rattle.pm_bid.proofs.search.find_at_most.Given as goal
 abbrev pub invariant-loop-step : goal.invariant-loop-step
 invariant-loop-step g l = record {
   above : (k : ℕ) → k < l.step → int_lt l.fn.limit (demand_at l.demands k) ≡ true;
-  cost : l.steps ≡ l.fn.steps + l.step;
+  cost : l.counter ≡ l.fn.counter + l.step;
 }

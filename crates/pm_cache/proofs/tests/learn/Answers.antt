@@ -1,5 +1,6 @@
 use Rattle.std.proofs.Common.{rules, ◌≡◌, length}
-use Rattle.pm_bid.specs.Bids.{AllWithinLimit, demand_limit, zeros}
+use Rattle.pm_bid.specs.Bids.{AllWithinLimit, zeros}
+use Rattle.pm_base.specs.Limits.{demand_limit}
 use Rattle.pm_cache.proofs.SingleBids.{single_within}
 use Rattle.pm_cache.proofs.tests.learn.Goals as goal
 

@@ -1,5 +1,6 @@
 use Rattle.std.proofs.Common.{◌∙◌, ap, sym, subst, ℤ, List, length}
-use Rattle.pm_bid.specs.Bids.{demand_limit, IsWithin, AllWithinLimit, NeverRises}
+use Rattle.pm_bid.specs.Bids.{AllWithinLimit, NeverRises}
+use Rattle.pm_base.specs.Limits.{demand_limit, IsWithin}
 use Rattle.pm_strategy.proofs.BidLaws.{demand_of-within, filled, bid_of-manual, bid_of-within, bid_of-falls, length-bid_of}
 use Rattle.pm_strategy.proofs.bid.fill_bid.Goals as goal
 

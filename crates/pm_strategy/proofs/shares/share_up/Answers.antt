@@ -1,6 +1,6 @@
 use Rattle.std.proofs.Common.{arith, ap, ◌∙◌, ◌≡◌, pos, neg_ℤ, w64, FitsSigned, ◌-ℤ◌, ◌*ℤ◌, ◌*◌, to_z}
 use Rattle.std.proofs.lemmas.Int.{ints, to_z-of_z}
-use Rattle.pm_bid.specs.Bids.{demand_limit}
+use Rattle.pm_base.specs.Limits.{demand_limit}
 use Rattle.pm_device.specs.Ticks.{floor_div}
 use Rattle.pm_strategy.specs.Steps.{last_limit}
 use Rattle.pm_strategy.proofs.Rounded.{product_within, floor_div-within}

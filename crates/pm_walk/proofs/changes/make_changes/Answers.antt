@@ -2,7 +2,7 @@ use Rattle.std.proofs.Common.{◌∙◌, ap, sym, subst, ◌-◌, ◌<◌, arith
 use Rattle.std.proofs.lemmas.Int.{to_z-of_z}
 use Rattle.std.specs.Prelude.{IsSome, Option}
 use mir.Syntax.{w64}
-use Rattle.pm_bid.specs.Bids.{IsWithin, demand_limit}
+use Rattle.pm_base.specs.Limits.{demand_limit, IsWithin}
 use Rattle.pm_device.specs.declared.kind.Kind.{Kind}
 use Rattle.pm_plan.specs.declared.planned.Planned.{Planned}
 use Rattle.pm_plan.specs.Plans.{change_count}

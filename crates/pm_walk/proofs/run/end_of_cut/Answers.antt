@@ -4,7 +4,7 @@ use Rattle.std.specs.Prelude.{IfOk}
 use Rattle.std.specs.Vec.{with_items}
 use Rattle.pm_plan.specs.Ends.{EndValue}
 use Rattle.pm_plan.specs.Plans.{end, phases}
-use Rattle.pm_plan.specs.Auction.{Cut}
+use Rattle.pm_base.specs.Cuts.{Cut}
 use Rattle.pm_plan.specs.States.{end_of}
 use Rattle.pm_walk.specs.declared.changes.Progress.{Progress}
 use Rattle.pm_walk.specs.Cuts.{cut_of, first_of, AreStops}

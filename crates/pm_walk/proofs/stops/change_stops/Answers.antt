@@ -2,7 +2,7 @@ use Rattle.std.proofs.Common.{◌≡◌, ◌∙◌, ◌-◌, ◌+◌, ◌<◌, �
 use Rattle.std.specs.Prelude.{min}
 use Rattle.pm_tree.specs.Entries.{is_leaf_at}
 use Rattle.pm_plan.specs.Plans.{end, is_leaf}
-use Rattle.pm_plan.specs.Auction.{Cut}
+use Rattle.pm_base.specs.Cuts.{Cut}
 use Rattle.pm_walk.specs.declared.changes.Progress.{Progress}
 use Rattle.pm_walk.specs.Cuts.{cut_of, first_of}
 use Rattle.pm_walk.specs.Standing.{AreReached, made}

@@ -1,5 +1,6 @@
 use Rattle.std.proofs.Common.{◌∙◌, ◌-◌, ap, sym, subst, length}
-use Rattle.pm_bid.specs.Bids.{AllWithinLimit, sum_limit}
+use Rattle.pm_bid.specs.Bids.{AllWithinLimit}
+use Rattle.pm_base.specs.Limits.{sum_limit}
 use Rattle.pm_plan.specs.States.{state}
 use Rattle.pm_walk.specs.Standing.{made}
 use Rattle.pm_walk.proofs.Standings.{standing_fits}

@@ -1,6 +1,7 @@
 use Rattle.std.proofs.Common.{rules, arith, ◌≡◌, ◌∙◌, ap, sym, subst, replicate}
 use Rattle.pm_bid.specs.Bids.{zeros}
-use Rattle.pm_cache.specs.Cache.{Cache, IsCache, nothing_sent}
+use Rattle.pm_cache.specs.Cache.{Cache, IsCache}
+use Rattle.pm_bid.specs.Heads.{nothing_sent}
 use Rattle.pm_cache.proofs.Entries.{empty_sound, empty_sum, empty_parts}
 use Rattle.pm_cache.proofs.cache.BidCache.new.Goals as goal
 

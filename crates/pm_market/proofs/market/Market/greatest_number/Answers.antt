@@ -1,6 +1,7 @@
 use Rattle.std.proofs.Common.{◌≡◌, ◌-◌, ◌+◌, ℕ, List, ap, sym, ◌∙◌, arith}
-use Rattle.pm_market.specs.State.{Cut, is_same_on, greatest_number}
-use Rattle.pm_market.specs.Market.{lists_of, state_of, cut_of}
+use Rattle.pm_market.specs.State.{is_same_on, greatest_number}
+use Rattle.pm_base.specs.Cuts.{Cut, cut_of}
+use Rattle.pm_market.specs.Market.{lists_of, state_of}
 use Rattle.pm_market.proofs.Steps.{greatest_here, greatest_below}
 use Rattle.pm_market.proofs.market.Market.greatest_number.Goals as goal
 

@@ -1,6 +1,7 @@
 use Rattle.std.proofs.Common.{◌≡◌, ◌-◌}
 use Rattle.pm_market.specs.State.{greatest_number}
-use Rattle.pm_market.specs.Market.{lists_of, state_of, cut_of}
+use Rattle.pm_market.specs.Market.{lists_of, state_of}
+use Rattle.pm_base.specs.Cuts.{cut_of}
 use Rattle.pm_market.proofs.market.Market.greatest_number.Given as goal
 
 abbrev pub invariant-loop-back : goal.invariant-loop-back

@@ -1,7 +1,8 @@
 use Rattle.std.proofs.Common.{◌≡◌, ◌+◌, ℕ, Bool, true, cond, eqb, refl, sym, ◌∙◌, arith, ap}
 use Rattle.pm_market.specs.Lists.{nodes, is_leaf_of}
 use Rattle.pm_market.specs.State.{all_to, is_same_on}
-use Rattle.pm_market.specs.Market.{lists_of, cut_of}
+use Rattle.pm_market.specs.Market.{lists_of}
+use Rattle.pm_base.specs.Cuts.{cut_of}
 use Rattle.pm_market.proofs.Steps.{all_to_more, all_to_false}
 use Rattle.pm_market.proofs.market.Market.is_same_on.Goals as goal
 

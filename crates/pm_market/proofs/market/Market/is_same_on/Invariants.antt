@@ -1,7 +1,8 @@
 use Rattle.std.proofs.Common.{◌≡◌, true, cond, eqb}
 use Rattle.pm_market.specs.State.{all_to}
 use Rattle.pm_market.specs.Lists.{is_leaf_of}
-use Rattle.pm_market.specs.Market.{lists_of, cut_of}
+use Rattle.pm_market.specs.Market.{lists_of}
+use Rattle.pm_base.specs.Cuts.{cut_of}
 use Rattle.pm_market.proofs.market.Market.is_same_on.Given as goal
 
 abbrev pub invariant-loop-before : goal.invariant-loop-before

@@ -1,5 +1,6 @@
 use Rattle.std.proofs.Common.{ℕ, ap, sym, ◌∙◌}
-use Rattle.pm_market.specs.State.{Cut, part_of, known_of}
+use Rattle.pm_market.specs.State.{part_of, known_of}
+use Rattle.pm_base.specs.Cuts.{Cut}
 use Rattle.pm_market.specs.Market.{lists_of, state_of}
 use Rattle.pm_market.proofs.Cuts.{part_leaf, part_inner}
 use Rattle.pm_market.proofs.market.Market.known_number.Goals as goal

@@ -2,7 +2,8 @@ use Rattle.std.proofs.Common.{◌<◌, ◌≤◌, ap, sym, ◌∙◌, [], map, l
 use Rattle.std.proofs.lemmas.Bool.{cases_lt}
 use Rattle.std.proofs.lemmas.List.{get_or_past, length-map}
 use Rattle.std.proofs.Math.Path.{fun_ext}
-use Rattle.pm_market.specs.Market.{cut_of, lists_of, state_of}
+use Rattle.pm_market.specs.Market.{lists_of, state_of}
+use Rattle.pm_base.specs.Cuts.{cut_of}
 use Rattle.pm_market.specs.Lists.{nodes}
 use Rattle.pm_market.proofs.Tree.{parent_past, leaf_past}
 use Rattle.pm_market.proofs.Steps.{known_past}

@@ -1,6 +1,7 @@
 use Rattle.std.proofs.Common.{◌+◌, refl, sym, ◌∙◌, arith, ap}
 use Rattle.std.proofs.lemmas.Bool.{both_ways, ltb-true, lt-ltb}
-use Rattle.pm_market.specs.State.{Cut, is_same_on, newest, known}
+use Rattle.pm_market.specs.State.{is_same_on, newest, known}
+use Rattle.pm_base.specs.Cuts.{Cut}
 use Rattle.pm_market.specs.Legality.{publish_is_legal}
 use Rattle.pm_market.specs.Market.{lists_of, state_of}
 use Rattle.pm_market.proofs.Legality.{publish_from, publish_at, is_node_from, is_node_at}

@@ -1,6 +1,6 @@
 use Rattle.std.proofs.Common.{ap, ◌∙◌, ◌+◌, [], map, get_or, ℕ, List}
 use Rattle.std.proofs.Math.Path.{fun_ext}
-use Rattle.pm_market.specs.Market.{cut_of}
+use Rattle.pm_base.specs.Cuts.{cut_of}
 use Rattle.pm_market.proofs.Tables.{state_same, replicate_default}
 use Rattle.pm_market.proofs.market.Market.new.Goals as goal
 

@@ -1,7 +1,8 @@
 use Rattle.std.proofs.Common.{◌<◌, ap, refl, arith, ◌∙◌, [], ◌∷◌, ◌++◌, map, set, get_or, length, ℕ}
 use Rattle.std.proofs.lemmas.List.{with_items_is, length-map, map-append}
-use Rattle.pm_market.specs.State.{Cut, known}
-use Rattle.pm_market.specs.Market.{cut_of, lists_of, state_of}
+use Rattle.pm_market.specs.State.{known}
+use Rattle.pm_base.specs.Cuts.{Cut, cut_of}
+use Rattle.pm_market.specs.Market.{lists_of, state_of}
 use Rattle.pm_market.proofs.Tables.{state_same, row_pushed, on_success}
 use Rattle.pm_market.proofs.market.Market.publish.Goals as goal
 

@@ -3,7 +3,8 @@ use Rattle.std.proofs.lemmas.List.{length-map}
 use Rattle.pm_plan.specs.Plans.{PlanData}
 use Rattle.pm_plan.specs.Parts.{NodePart, PhasePart, node_part, phase_part}
 use Rattle.pm_plan.specs.Building.{add_node}
-use Rattle.pm_plan.specs.Refusals.{fold_from, refusal_in, Fails}
+use Rattle.pm_plan.specs.Refusals.{refusal_in}
+use Rattle.pm_base.specs.Outcomes.{fold_from, Refuses}
 use Rattle.pm_plan.proofs.Folds.{Gives-err}
 use Rattle.pm_plan.proofs.InOrder.{one_part_each, nodes_refused, phases_refused}
 use Rattle.pm_plan.proofs.building.new.build.Goals as goal
@@ -21,7 +22,7 @@ returns-in_err-add_nodes-clause-draft c =
     let later : List PhasePart = map phase_part c.args.phases.now in
     Gives-err _ _ _ _ c.from_residual-in_err-add_nodes.ensures.1
     (nodes_refused c.args.basis c.args.tree parts later (refusal_in c.in_err-add_nodes.field-0.0) (omega (arith, length-map c.args.phases.now phase_part))
-    (subst (λ (plan : PlanData). Fails (refusal_in c.in_err-add_nodes.field-0.0) (fold_from 1 add_node plan parts)) c.in_ok-draft.ensures.draft c.in_err-add_nodes.ensures.made))
+    (subst (λ (plan : PlanData). Refuses (refusal_in c.in_err-add_nodes.field-0.0) (fold_from 1 add_node plan parts)) c.in_ok-draft.ensures.draft c.in_err-add_nodes.ensures.made))
 
 pub returns-in_err-add_phases-clause-draft : goal.returns-in_err-add_phases-clause-draft
 returns-in_err-add_phases-clause-draft c =

@@ -1,7 +1,7 @@
 use Rattle.std.proofs.Common.{◌≡◌, ◌∙◌, sym, ap, subst, refl, ℤ, pos, ◌-◌, ◌<◌, List, length, w64, to_z, of_z, arith}
 use Rattle.std.proofs.lemmas.Int.{ints, to_z-of_z}
 use Rattle.std.proofs.lemmas.List.{get_or_read_under}
-use Rattle.pm_bid.specs.Bids.{demand_limit, IsWithin}
+use Rattle.pm_base.specs.Limits.{demand_limit, IsWithin}
 use Rattle.pm_points.specs.Points.{Point, point_at, demand_of, reached, demand_at}
 use Rattle.pm_points.proofs.Falls.{counted, reads_line, found_line, found_last, demand_within}
 use Rattle.pm_points.proofs.point_bid.PointBid.demand_at.Goals as goal

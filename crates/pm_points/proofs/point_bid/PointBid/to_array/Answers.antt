@@ -1,7 +1,8 @@
 use Rattle.std.proofs.Common.{rules, ◌≡◌, ◌∙◌, sym, ap, subst, ◌+◌, ℤ, List, FitsSigned, w64, to_z, of_z, arith}
 use Rattle.std.proofs.lemmas.Int.{to_z-of_z}
 use Rattle.pm_basis.specs.Prices.{price_at}
-use Rattle.pm_bid.specs.Bids.{demand_limit, AllWithinLimit, NeverRises}
+use Rattle.pm_bid.specs.Bids.{AllWithinLimit, NeverRises}
+use Rattle.pm_base.specs.Limits.{demand_limit}
 use Rattle.pm_points.specs.Points.{Point, IsPointBid, demand_at, array_of}
 use Rattle.pm_points.proofs.Falls.{Filled, filled_more, filled_all, array_falls, array_within}
 use Rattle.pm_points.proofs.point_bid.PointBid.to_array.Goals as goal

@@ -1,7 +1,7 @@
 use Rattle.std.proofs.Common.{◌≡◌, take, map, min, Ok}
 use Rattle.serde_json.specs.View.{view}
 use Rattle.serde_json.specs.declared.value.Value.{Value}
-use Rattle.pm_plan.specs.Refusals.{each_from}
+use Rattle.pm_base.specs.Outcomes.{each_from}
 use Rattle.pm_scene.specs.Nodes.{numbered_node, named_part}
 use Rattle.pm_scene.proofs.shape.nodes.read_nodes.Given as goal
 

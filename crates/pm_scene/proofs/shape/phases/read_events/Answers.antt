@@ -2,7 +2,7 @@ use Rattle.std.proofs.Common.{◌≡◌, ◌+◌, ◌∙◌, sym, ap, map, min, 
 use Rattle.std.proofs.lemmas.List.{map-append}
 use Rattle.serde_json.specs.View.{view}
 use Rattle.serde_json.specs.declared.value.Value.{Value}
-use Rattle.pm_plan.specs.Refusals.{each_from, Fails}
+use Rattle.pm_base.specs.Outcomes.{each_from, Refuses}
 use Rattle.pm_plan.specs.Parts.{event_part}
 use Rattle.pm_plan.specs.declared.refusal.Place.TheVariants.{Event}
 use Rattle.pm_scene.specs.Phases.{numbered_event, event_of, events_of}
@@ -15,9 +15,9 @@ unfolding events_of
 returns-in_err-read_event c =
     let f = λ (n : ℕ) (v : Value). numbered_event c.args.phase n (view v) in
     let number : c.saturating_add-number.result ≡ min (1 + c.loop-value.value-index) 4294967295 = omega (arith, c.saturating_add-number.ensures) in
-    let here = subst (λ (v : Value). Fails (refusal_of c.in_err-read_event.field-0.0) (numbered_event c.args.phase (1 + c.loop-value.value-index) (view v))) c.value-item.is
-    (subst (λ (n : ℕ). Fails (refusal_of c.in_err-read_event.field-0.0) (event_of (Event c.args.phase n) (view c.value-item.result))) number c.in_err-read_event.ensures) in
-    Gives-err _ _ _ _ c.from_residual.ensures.1 (subst (Fails (refusal_of c.in_err-read_event.field-0.0)) (each_from-map 1 (numbered_event c.args.phase) view _)
+    let here = subst (λ (v : Value). Refuses (refusal_of c.in_err-read_event.field-0.0) (numbered_event c.args.phase (1 + c.loop-value.value-index) (view v))) c.value-item.is
+    (subst (λ (n : ℕ). Refuses (refusal_of c.in_err-read_event.field-0.0) (event_of (Event c.args.phase n) (view c.value-item.result))) number c.in_err-read_event.ensures) in
+    Gives-err _ _ _ _ c.from_residual.ensures.1 (subst (Refuses (refusal_of c.in_err-read_event.field-0.0)) (each_from-map 1 (numbered_event c.args.phase) view _)
     (Fails-each_from 1 f _ _ _ _ _ c.loop-value-test.true c.loop-value.invariant.read here))
 
 pub loop-value-preserved : goal.loop-value-preserved

@@ -2,7 +2,7 @@ use Rattle.std.proofs.Common.{◌≡◌, take, map, min, Ok}
 use Rattle.serde_json.specs.View.{view}
 use Rattle.serde_json.specs.declared.value.Value.{Value}
 use Rattle.pm_plan.specs.Parts.{event_part}
-use Rattle.pm_plan.specs.Refusals.{each_from}
+use Rattle.pm_base.specs.Outcomes.{each_from}
 use Rattle.pm_scene.specs.Phases.{numbered_event}
 use Rattle.pm_scene.proofs.shape.phases.read_events.Given as goal
 

@@ -1,5 +1,5 @@
 use Rattle.std.proofs.Common.{◌≡◌, ℕ, ◌<◌, length, get_or, replicate}
-use Rattle.pm_session.specs.Prices.{nothing_sent}
+use Rattle.pm_bid.specs.Heads.{nothing_sent}
 use Rattle.pm_session.specs.Windows.{steps_of, no_record}
 use Rattle.pm_session.proofs.window.Window.opened.Given as goal
 

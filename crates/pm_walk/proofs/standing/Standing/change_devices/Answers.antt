@@ -2,7 +2,7 @@ use Rattle.std.proofs.Common.{◌≡◌, ◌∙◌, ◌-◌, ◌+◌, ◌<◌, a
 use Rattle.std.specs.Prelude.{◌||◌}
 use Rattle.pm_tree.specs.Entries.{is_leaf_at}
 use Rattle.pm_plan.specs.Plans.{end, is_leaf}
-use Rattle.pm_plan.specs.Auction.{Cut}
+use Rattle.pm_base.specs.Cuts.{Cut}
 use Rattle.pm_walk.specs.Standing.{StandingValue, Stands, made}
 use Rattle.pm_walk.proofs.Nodes.{end-other, end-zero}
 use Rattle.pm_walk.proofs.Standings.{AreBetween, first_node, made-zero, between-more, between-passed, all_done}
