@@ -1,6 +1,6 @@
 ghost use Rattle.std.specs.Prelude.{◌≡◌, ◌+◌, ◌<◌, ◌≤◌, ◌^◌, true, false, length, IfOk, IfErr, ◌||◌, not, nat_le};
 ghost use Rattle.std.specs.Option.{option_copied};
-ghost use Rattle.pm_base.specs.Limits.{AreSteps};
+ghost use Rattle.pm_base.specs.Limits.{AreSteps, most_nodes};
 ghost use Rattle.pm_cache.specs.Cache.{kept_number, answer_to};
 ghost use Rattle.pm_cache.specs.Learning.{CanLearn, learnt};
 ghost use Rattle.pm_session.specs.Prices.{IsNewIndex};
@@ -48,7 +48,7 @@ impl Model for Auctioneer {
 impl Auctioneer {
     /// An auctioneer whose children sent nothing. All its memory is taken here.
     pub fn new(alloc: Global, children: usize, steps: usize) -> Result<Auctioneer, AllocError>
-        requires few_children { children ≤ 256 }
+        requires few_children { children ≤ most_nodes }
         requires steps { AreSteps steps }
         ensures new { IfOk result (λ a. a ≡ new_auction children steps) }
     {
@@ -76,11 +76,9 @@ impl Auctioneer {
           changed = self.old.changed || not (nat_le number (kept_number self.old.cache child));
         } }
     {
-        let mut counter = Steps::<Brand>::start();
-        let answer = match demand {
-            Some(bid) => self.cache.replace(child, number, bid, &mut counter),
-            None => self.cache.remove(child, number, &mut counter),
-        };
+        let answer = self
+            .cache
+            .learn(child, number, demand, &mut Steps::<Brand>::start());
         if answer.is_ok() {
             self.changed = true;
         }

@@ -1,0 +1,4 @@
+pub mod Bools
+pub mod Ints
+pub mod Lists
+pub mod Searches

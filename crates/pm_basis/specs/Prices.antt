@@ -1,7 +1,7 @@
 -- The prices of a market basis.
 use Rattle.std.specs.Prelude.{◌≡◌, ℕ, ◌≤◌, ℤ, pos, ◌+ℤ◌, ◌-ℤ◌, ◌*ℤ◌, neg_ℤ, ◌≤ℤ◌, ◌<ℤ◌, int_lt, int_div, int_rem, unsigned_abs, Bool, ◌||◌, not, if◌then◌else◌, Result, Ok, Err}
 use Rattle.std.specs.Ordering.{int_eq}
-use Rattle.pm_base.specs.Limits.{price_limit}
+use Rattle.pm_base.specs.Limits.{least_steps, most_steps, AreSteps, price_limit}
 use Rattle.pm_basis.specs.declared.fault.BasisFault.{BasisFault}
 use Rattle.pm_basis.specs.declared.fault.BasisFault.TheVariants.{BadSteps, BadRange, Uneven}
 
@@ -17,8 +17,7 @@ price_at basis step = basis.min +ℤ int_div (pos step *ℤ (basis.max -ℤ basi
 
 -- what holds of each basis
 pub record IsBasis (basis : BasisValue) : Type 0 where
-  pub at_least_two : 2 ≤ basis.steps
-  pub at_most_thousand : basis.steps ≤ 1000
+  pub steps : AreSteps basis.steps
   pub order : basis.min <ℤ basis.max
   pub low : neg_ℤ (pos price_limit) ≤ℤ basis.min
   pub high : basis.max ≤ℤ pos price_limit
@@ -26,7 +25,7 @@ pub record IsBasis (basis : BasisValue) : Type 0 where
 
 -- whether the number of steps is outside its limits
 abbrev pub has_bad_steps : ℤ → Bool
-has_bad_steps steps = int_lt steps (pos 2) || int_lt (pos 1000) steps
+has_bad_steps steps = int_lt steps (pos least_steps) || int_lt (pos most_steps) steps
 
 -- whether the prices are no range within the limits
 abbrev pub has_bad_range : ℤ → ℤ → Bool

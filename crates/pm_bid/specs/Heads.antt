@@ -1,4 +1,5 @@
 -- The heads of bids: the number under which a child sent its newest bid, and whether the bid is gone.
+use Rattle.std.specs.Prelude.{true}
 use Rattle.pm_bid.specs.declared.head.BidHead.{BidHead}
 
 -- the head of a child that sent nothing

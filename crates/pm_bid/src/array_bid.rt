@@ -1,13 +1,15 @@
 ghost use Rattle.std.specs.Prelude.{◌≡◌, ◌+◌, ◌*◌, ◌<◌, ◌≤◌, ◌≤ℤ◌, length, slice_set, pos, IfOk, vec_len};
 ghost use Rattle.pm_bid.specs.Bids.{demand_at, added, taken_off, zeros, clamped, AllWithinLimit, NeverRises};
-ghost use Rattle.pm_base.specs.Limits.{demand_limit, sum_limit, IsWithin, AreSteps};
+ghost use Rattle.pm_base.specs.Limits.{AreSteps, most_steps, IsWithin, sum_limit, demand_limit};
 ghost use Rattle.pm_bid.specs.Checks.{checked_bid};
-ghost use Rattle.pm_bid.specs.Clearing.{clearing_step, first_at_most, last_at_least, Clears};
+ghost use Rattle.pm_bid.specs.Limited.{step_within};
+ghost use Rattle.pm_bid.specs.Clearing.{clearing_step, first_at_most, last_at_least, Clears, IsFirstAtMost, IsLastAtLeast};
 
 use crate::fault::BidFault;
-use crate::pointwise::{add_each, clamp_each, set_each_zero, exchange_each, take_each};
+use crate::pointwise::{add_each, clamp_each, exchange_each, set_each_zero, take_each};
 use crate::search::{find_at_least, find_at_most, find_rising, find_too_large};
 use crate::steps::Steps;
+use pm_base::Limits;
 use std::alloc::{AllocError, Global};
 use std::marker::Model;
 use std::sync::ledger::Ledger;
@@ -84,8 +86,7 @@ impl ArrayBid {
     /// How many steps the bid has. No element is touched.
     pub fn steps(&self) -> usize
         ensures steps { result ≡ length self.now }
-        ensures at_least_two { 2 ≤ result }
-        ensures at_most_thousand { result ≤ 1000 }
+        ensures within { AreSteps result }
     {
         self.demands.len()
     }
@@ -95,6 +96,7 @@ impl ArrayBid {
         requires { k < length self.now }
         ensures demand { result ≡ demand_at self.now k }
         ensures within { IsWithin sum_limit result }
+        ensures steps { AreSteps (length self.now) }
         ensures cost { counter.new ≡ counter.old + 1 }
     {
         counter.tick();
@@ -159,7 +161,7 @@ impl ArrayBid {
     pub fn first_not_positive<L: Ledger>(&self, counter: &mut Steps<L>) -> usize
         ensures step { result ≡ clearing_step self.now }
         ensures clears { Clears self.now result }
-        ensures small { result < 1000 }
+        ensures small { result < most_steps }
         ensures cost { counter.new ≤ counter.old + length self.now }
         ensures rises { counter.old ≤ counter.new }
     {
@@ -167,10 +169,12 @@ impl ArrayBid {
     }
 
     /// The first step whose demand is at most the limit, and the last step where there is none.
+    #[tactic(auto, using(crate::proofs::FoundStep::first_at_most_is_first))]
     pub fn first_at_most<L: Ledger>(&self, limit: i64, counter: &mut Steps<L>) -> usize
         ensures step { result ≡ first_at_most limit self.now }
+        ensures first { IsFirstAtMost limit self.now result }
         ensures inside { result < length self.now }
-        ensures small { result < 1000 }
+        ensures small { result < most_steps }
         ensures cost { counter.new ≤ counter.old + length self.now }
         ensures rises { counter.old ≤ counter.new }
     {
@@ -178,14 +182,43 @@ impl ArrayBid {
     }
 
     /// The last step whose demand is at least the limit, and step 0 where there is none.
+    #[tactic(auto, using(crate::proofs::FoundStep::last_at_least_is_last))]
     pub fn last_at_least<L: Ledger>(&self, limit: i64, counter: &mut Steps<L>) -> usize
         ensures step { result ≡ last_at_least limit self.now }
+        ensures last { IsLastAtLeast limit self.now result }
         ensures inside { result < length self.now }
-        ensures small { result < 1000 }
+        ensures small { result < most_steps }
         ensures cost { counter.new ≤ counter.old + length self.now }
         ensures rises { counter.old ≤ counter.new }
     {
         find_at_least(&self.demands, limit, counter)
+    }
+
+    /// The step of the nodes below a part of the cluster whose power is limited, where this is the sum of their bids and
+    /// the whole clears at `step`: that step where the sum there lies within the limits; where it is above the ceiling,
+    /// the first step at which it is at most the ceiling; where it is below the floor, the last step at which it is at
+    /// least the floor. Bounding a part's power in this way is this project's own profile.
+    pub fn step_within<L: Ledger>(
+        &self,
+        limits: &Limits,
+        step: usize,
+        counter: &mut Steps<L>,
+    ) -> usize
+        requires { step < length self.now }
+        ensures step { result ≡ step_within limits.now step self.now }
+        ensures inside { result < length self.now }
+        ensures small { result < most_steps }
+        ensures cost { counter.new ≤ counter.old + length self.now + 1 }
+        ensures rises { counter.old ≤ counter.new }
+    {
+        let demand = self.at(step, counter);
+        if demand > limits.ceiling {
+            self.first_at_most(limits.ceiling, counter)
+        } else if demand < limits.floor {
+            self.last_at_least(limits.floor, counter)
+        } else {
+            step
+        }
     }
 
     /// Makes the target, which has as many steps, this bid.

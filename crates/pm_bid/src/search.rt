@@ -3,10 +3,8 @@ ghost use Rattle.pm_bid.specs.Checks.{first_rising, first_too_large};
 ghost use Rattle.pm_bid.specs.Clearing.{first_at_most, last_at_least};
 
 use crate::steps::Steps;
+use pm_base::DEMAND_LIMIT;
 use std::sync::ledger::Ledger;
-
-/// The largest absolute value of one demand, in watts.
-const DEMAND_LIMIT: i64 = 1_000_000_000;
 
 /// The first step whose demand is above the one before, else a step past the end.
 pub(crate) fn find_rising(demands: &[i64]) -> usize

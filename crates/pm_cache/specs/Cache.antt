@@ -1,6 +1,7 @@
 -- The newest bid of each child of a node, and the sum of these bids.
 use Rattle.std.specs.Prelude.{◌≡◌, ℕ, ◌<◌, ◌≤◌, ℤ, true, false, if◌then◌else◌, nat_le, List, [], length, replicate, slice_set, slice_index_or, Result, Ok, Err}
 use Rattle.pm_bid.specs.Heads.{nothing_sent}
+use Rattle.pm_base.specs.Limits.{AreSteps, most_nodes}
 use Rattle.pm_bid.specs.Bids.{zeros, sum_of, HaveSteps}
 use Rattle.pm_bid.specs.declared.head.BidHead.{BidHead}
 use Rattle.pm_cache.specs.declared.fault.CacheFault.{CacheFault}
@@ -63,9 +64,8 @@ answer_to kept number = if nat_le number kept then Err (Old kept) else Ok tt
 
 -- what holds of each cache
 pub record IsCache (cache : Cache) : Type 0 where
-  pub at_least_two : 2 ≤ cache.steps
-  pub at_most_thousand : cache.steps ≤ 1000
-  pub few_children : length cache.heads ≤ 256
+  pub basis : AreSteps cache.steps
+  pub few_children : length cache.heads ≤ most_nodes
   pub same_children : length cache.demands ≡ length cache.heads
   pub same_steps : HaveSteps cache.steps cache.demands
   pub zeros_where_gone : (child : ℕ) → child < length cache.heads → (head_of cache child).gone ≡ true → demand_of cache child ≡ zeros cache.steps

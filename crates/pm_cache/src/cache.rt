@@ -1,6 +1,8 @@
 ghost use Rattle.std.specs.Prelude.{◌≡◌, ◌+◌, ◌*◌, ◌<◌, ◌≤◌, length, IfOk, OnOk, OnErr};
 ghost use Rattle.pm_bid.specs.Bids.{AllWithinLimit, demand_at, zeros};
-ghost use Rattle.pm_base.specs.Limits.{sum_limit, IsWithin, AreSteps};
+ghost use Rattle.pm_base.specs.Limits.{AreSteps, most_nodes, sum_limit, IsWithin};
+ghost use Rattle.std.specs.Option.{option_copied};
+ghost use Rattle.pm_cache.specs.Learning.{CanLearn, learnt};
 ghost use Rattle.pm_cache.specs.Cache.{kept_number, demand_of, aggregate_of, aggregate_with, empty_cache, with_bid, with_gone, answer_to, IsCache};
 
 use crate::fault::CacheFault;
@@ -22,15 +24,17 @@ pub struct BidCache {
 }
 
 impl Model for BidCache {
+    ghost use Rattle.std.specs.Option.{option_copied};
+    ghost use Rattle.pm_cache.specs.Learning.{CanLearn, learnt};
     ghost use Rattle.pm_cache.specs.Cache.{Cache};
 
     ghost Value = { Cache };
 
-    ghost use Rattle.pm_cache.specs.Kept.{cache_of, IsKept};
+    ghost use Rattle.pm_cache.specs.CacheFields.{cache_of, KeepsSum};
 
     ghost view = { cache_of };
 
-    ghost invariant = { IsKept };
+    ghost invariant = { KeepsSum };
 }
 
 impl BidCache {
@@ -42,10 +46,11 @@ impl BidCache {
         steps: usize,
         counter: &mut Steps<L>,
     ) -> Result<BidCache, AllocError>
-        requires few_children { children ≤ 256 }
+        requires few_children { children ≤ most_nodes }
         requires steps { AreSteps steps }
         ensures empty { IfOk result (λ cache. cache ≡ empty_cache children steps) }
         ensures cost { OnOk result (counter.new ≡ counter.old + (children + 1) * steps) }
+        ensures rises { counter.old ≤ counter.new }
     {
         let nothing_sent = BidHead {
             number: 0,
@@ -116,6 +121,28 @@ impl BidCache {
         old.set_zero(counter);
         self.heads[child] = BidHead { number, gone: true };
         Ok(())
+    }
+
+    /// Learns a child's bid under this number: [`BidCache::replace`] where there is a demand, else
+    /// [`BidCache::remove`]. `Old` comes exactly where the number is at most the kept one; nothing
+    /// changes then.
+    pub fn learn<L: Ledger>(
+        &mut self,
+        child: usize,
+        number: u32,
+        demand: Option<&ArrayBid>,
+        counter: &mut Steps<L>,
+    ) -> Result<(), CacheFault>
+        requires bid { CanLearn self.old child (option_copied demand) }
+        ensures answer { result ≡ answer_to (kept_number self.old child) number }
+        ensures learnt { self.new ≡ learnt self.old child number (option_copied demand.entry) }
+        ensures cost { counter.new ≤ counter.old + 3 * self.old.steps }
+        ensures rises { counter.old ≤ counter.new }
+    {
+        match demand {
+            Some(bid) => self.replace(child, number, bid, counter),
+            None => self.remove(child, number, counter),
+        }
     }
 
     /// The sum of all entries. No element is touched.

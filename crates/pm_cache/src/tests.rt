@@ -38,10 +38,7 @@ fn learn(
 {
     let mut counter = Steps::<Brand>::start();
     let _heads = cache.heads();
-    match bid {
-        Some(bid) => cache.replace(child, number, bid, &mut counter),
-        None => cache.remove(child, number, &mut counter),
-    }
+    cache.learn(child, number, bid, &mut counter)
 }
 
 /// What the newer bid of a child counts on a counter at 0, where there are 256 children and 1000
@@ -54,7 +51,7 @@ fn steps_of_a_newer_bid(alloc: Global, bid: &ArrayBid) -> Result<Steps<Brand>, A
     let mut cache = BidCache::new(alloc, 256, 1000, &mut Steps::<Brand>::start())?;
     let mut counter = Steps::<Brand>::start();
     let _ = cache.replace(0, 1, bid, &mut counter);
-    Ok(steps)
+    Ok(counter)
 }
 
 /// Makes the call of [`learn`], and compares its answer and the aggregate after it.

@@ -1,10 +1,13 @@
 -- What a concentrator keeps, and what publishing and passing do.
-use Rattle.std.specs.Prelude.{◌≡◌, ℕ, ◌+◌, ◌<◌, false, List, length, Option, Some}
+use Rattle.std.specs.Prelude.{◌≡◌, ℕ, ◌+◌, ◌<◌, false, List, length, Option}
+use Rattle.pm_base.specs.Limits.{window_size}
+use Rattle.pm_base.specs.declared.limits.Limits.{Limits}
+use Rattle.pm_bid.specs.Limited.{within_limits}
 use Rattle.pm_bid.specs.declared.head.BidHead.{BidHead}
 use Rattle.pm_cache.specs.Cache.{Cache, aggregate_of, empty_cache}
 use Rattle.pm_session.specs.Links.{Session, BidOffered}
 use Rattle.pm_session.specs.Windows.{Kept, newest_record, unanswered, RecordSent, RecordAnswered, IsNewWindow}
-use Rattle.pm_concentrator.specs.Limits.{Limits, announced, sum_kept, sum_steps}
+use Rattle.pm_concentrator.specs.Limited.{sum_kept, sum_steps}
 
 -- the entries of the children, the records of what was published, and the limits where there are some
 pub record Gathered : Type 0 where
@@ -26,9 +29,9 @@ pub record IsNewConcentrator (children steps : ℕ) (limits' : Option Limits) (c
 -- heads that went into it are its record
 pub record Published (old new : Gathered) (up_old up_new : Session) (number' : ℕ) : Type 0 where
   pub changed : old.cache.heads ≡ published_heads old → ⊥
-  pub room : unanswered old.window < 8
+  pub room : unanswered old.window < window_size
   pub number : number' ≡ old.window.last + 1
-  pub bid : BidOffered up_old up_new (record { number = number'; gone = false; demand = announced old.limits (aggregate_of old.cache) })
+  pub bid : BidOffered up_old up_new (record { number = number'; gone = false; demand = within_limits old.limits (aggregate_of old.cache) })
   pub sent : RecordSent old.window new.window (record { number = number'; heads = old.cache.heads; sum = sum_kept old.limits (aggregate_of old.cache) })
   pub cache : new.cache ≡ old.cache
   pub limits : new.limits ≡ old.limits
@@ -43,4 +46,3 @@ pub record Passed (old new : Gathered) (number : ℕ) : Type 0 where
 pub record IsGathered (c : Gathered) : Type 0 where
   pub same_children : c.window.children ≡ length c.cache.heads
   pub steps : c.window.steps ≡ sum_steps c.limits c.cache.steps
-  pub same_steps : (limits : Limits) → c.limits ≡ Some limits → limits.steps ≡ c.cache.steps

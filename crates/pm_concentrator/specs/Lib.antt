@@ -1,4 +1,4 @@
-pub mod Limits
+pub mod Limited
 pub mod LimitedFields
 pub mod Concentrators
 pub mod ConcentratorFields

@@ -1,7 +1,7 @@
 -- What the fields of the limits stand for.
 use Rattle.std.specs.Prelude.{length}
-use Rattle.pm_concentrator.specs.Limits.{Limits}
+use Rattle.pm_concentrator.specs.Limited.{LimitedValue}
 use Rattle.pm_concentrator.specs.declared.limited.Limited.TheInside.{Inside}
 
-abbrev pub limits_of : Inside → Limits
-limits_of inside = record { floor = inside.floor; ceiling = inside.ceiling; steps = length inside.clamped }
+abbrev pub limited_of : Inside → LimitedValue
+limited_of inside = record { limits = inside.limits; steps = length inside.clamped }

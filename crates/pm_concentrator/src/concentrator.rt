@@ -1,17 +1,19 @@
-ghost use Rattle.std.specs.Prelude.{◌≡◌, ◌+◌, ◌-◌, ◌<◌, ◌≤◌, ◌^◌, ◌≤ℤ◌, pos, false, length, Some, None, IfOk, IfErr, IsTrue, IsFalse, ◌↔◌};
+ghost use Rattle.std.specs.Prelude.{◌≡◌, ◌+◌, ◌-◌, ◌<◌, ◌≤◌, ◌^◌, false, length, option_map, Some, None, IfOk, IfErr, IsTrue, IsFalse, ◌↔◌};
 ghost use Rattle.std.specs.Option.{option_copied};
-ghost use Rattle.pm_base.specs.Limits.{sum_limit, IsWithin, AreSteps};
+ghost use Rattle.pm_base.specs.Limits.{AreSteps, AreLimits, most_nodes, window_size};
+ghost use Rattle.pm_bid.specs.Limited.{within_limits};
 ghost use Rattle.pm_cache.specs.Cache.{aggregate_of, kept_number, answer_to, IsCache};
 ghost use Rattle.pm_cache.specs.Learning.{CanLearn, learnt};
 ghost use Rattle.pm_session.specs.Links.{BidOffered};
 ghost use Rattle.pm_session.specs.Prices.{PricesOffered, IsNewIndex};
 ghost use Rattle.pm_session.specs.Windows.{Keeps, unanswered, record_of, RecordSent, IsWindow, steps_of};
-ghost use Rattle.pm_concentrator.specs.Limits.{Limits, announced, sum_kept, sum_steps, passed_step, IsStepOf};
+ghost use Rattle.pm_concentrator.specs.Limited.{LimitedValue, sum_kept, sum_steps, passed_step, IsStepOf};
 ghost use Rattle.pm_concentrator.specs.Concentrators.{published_heads, IsNewConcentrator, Published, Passed, IsGathered};
 ghost use Rattle.pm_concentrator.specs.Faults.{NotPublished};
 
 use crate::fault::PublishFault;
 use crate::limited::Limited;
+use pm_base::{Limits, WINDOW_SIZE};
 use pm_bid::{ArrayBid, BidHead, Steps};
 use pm_cache::{BidCache, CacheFault};
 use pm_session::{Link, PriceUpdate, Record, Window, offer_prices};
@@ -30,21 +32,21 @@ pub struct Concentrator {
 }
 
 impl Model for Concentrator {
-    ghost use Rattle.pm_concentrator.specs.Concentrators.{Gathered, IsGathered};
+    ghost use Rattle.pm_concentrator.specs.Concentrators.{Gathered};
 
     ghost Value = { Gathered };
 
-    ghost use Rattle.pm_concentrator.specs.ConcentratorFields.{gathered_of};
+    ghost use Rattle.pm_concentrator.specs.ConcentratorFields.{gathered_of, IsConcentrator};
 
     ghost view = { gathered_of };
 
-    ghost invariant = { λ inside. IsGathered (gathered_of inside) };
+    ghost invariant = { IsConcentrator };
 }
 
 impl Concentrator {
     /// A concentrator without limits whose children sent nothing. All its memory is taken here.
     pub fn new(alloc: Global, children: usize, steps: usize) -> Result<Concentrator, AllocError>
-        requires few_children { children ≤ 256 }
+        requires few_children { children ≤ most_nodes }
         requires steps { AreSteps steps }
         ensures new { IfOk result (λ c. IsNewConcentrator children steps None c) }
     {
@@ -66,17 +68,14 @@ impl Concentrator {
         floor: i64,
         ceiling: i64,
     ) -> Result<Concentrator, AllocError>
-        requires few_children { children ≤ 256 }
+        requires few_children { children ≤ most_nodes }
         requires steps { AreSteps steps }
-        requires floor_not_positive { floor ≤ℤ pos 0 }
-        requires ceiling_not_negative { pos 0 ≤ℤ ceiling }
-        requires floor_within { IsWithin sum_limit floor }
-        requires ceiling_within { IsWithin sum_limit ceiling }
-        ensures new { IfOk result (λ c. IsNewConcentrator children steps (Some (record { floor = floor; ceiling = ceiling; steps = steps })) c) }
+        requires limits { AreLimits (record { floor = floor; ceiling = ceiling }) }
+        ensures new { IfOk result (λ c. IsNewConcentrator children steps (Some (record { floor = floor; ceiling = ceiling })) c) }
     {
         let cache = BidCache::new(alloc, children, steps, &mut Steps::<Brand>::start())?;
         let window = Window::limited(alloc, children, steps)?;
-        let limited = Limited::new(alloc, steps, floor, ceiling)?;
+        let limited = Limited::new(alloc, steps, Limits { floor, ceiling })?;
         Ok(Concentrator {
             cache,
             window,
@@ -96,11 +95,8 @@ impl Concentrator {
         ensures answer { result ≡ answer_to (kept_number self.old.cache child) number }
         ensures learnt { self.new ≡ record self.old { cache = learnt self.old.cache child number (option_copied demand.entry) } }
     {
-        let mut counter = Steps::<Brand>::start();
-        match demand {
-            Some(bid) => self.cache.replace(child, number, bid, &mut counter),
-            None => self.cache.remove(child, number, &mut counter),
-        }
+        self.cache
+            .learn(child, number, demand, &mut Steps::<Brand>::start())
     }
 
     /// Offers the sum of the children's bids, within the limits where there are some, to the parent
@@ -120,7 +116,9 @@ impl Concentrator {
             return Err(PublishFault::NotChanged);
         }
         if self.window.room() == 0 {
-            return Err(PublishFault::WindowFull { unanswered: 8 });
+            return Err(PublishFault::WindowFull {
+                unanswered: WINDOW_SIZE,
+            });
         }
         let number = self.window.last() + 1;
         send(&self.cache, &mut self.limited, &mut self.window, number, up);
@@ -135,7 +133,7 @@ impl Concentrator {
         requires kept { Keeps self.old.window price.number }
         requires same_length { length downs.old ≡ length self.old.cache.heads }
         requires index { IsNewIndex price.index downs.old }
-        requires step { IsStepOf self.old.limits price.step }
+        requires step { IsStepOf self.old.limits self.old.cache.steps price.step }
         ensures ok { result ≡ Ok tt }
         ensures passed { Passed self.old self.new price.number }
         ensures prices { let sent = record_of self.old.window price.number in
@@ -157,7 +155,7 @@ impl Concentrator {
 
     /// How many more numbers may be published: 8 less those that are unanswered.
     pub fn room(&self) -> usize
-        ensures room { result ≡ 8 - unanswered self.now.window }
+        ensures room { result ≡ window_size - unanswered self.now.window }
         ensures sound { IsWindow self.now.window }
     {
         self.window.room()
@@ -195,14 +193,14 @@ fn send(
     up: &mut Link,
 )
     requires up_steps { up.old.steps ≡ cache.now.steps }
-    requires limits { (limits : Limits) → limited.old ≡ Some limits → limits.steps ≡ cache.now.steps }
-    requires room { unanswered window.old < 8 }
+    requires limits { (limits : LimitedValue) → limited.old ≡ Some limits → limits.steps ≡ cache.now.steps }
+    requires room { unanswered window.old < window_size }
     requires number { number ≡ window.old.last + 1 }
     requires offered { up.old.up.offered < number }
     requires children { window.old.children ≡ length cache.now.heads }
-    requires sum_steps { window.old.steps ≡ sum_steps limited.old cache.now.steps }
-    ensures bid { BidOffered up.old up.new (record { number = number; gone = false; demand = announced limited.old (aggregate_of cache.now) }) }
-    ensures sent { RecordSent window.old window.new (record { number = number; heads = cache.now.heads; sum = sum_kept limited.old (aggregate_of cache.now) }) }
+    requires sum_steps { window.old.steps ≡ sum_steps (option_map (λ l. l.limits) limited.old) cache.now.steps }
+    ensures bid { BidOffered up.old up.new (record { number = number; gone = false; demand = within_limits (option_map (λ l. l.limits) limited.old) (aggregate_of cache.now) }) }
+    ensures sent { RecordSent window.old window.new (record { number = number; heads = cache.now.heads; sum = sum_kept (option_map (λ l. l.limits) limited.old) (aggregate_of cache.now) }) }
     ensures limits { limited.new ≡ limited.old }
 {
     let sum = cache.aggregate();
@@ -218,11 +216,12 @@ fn send(
     }
 }
 
-/// The step that a price of this step has for the children.
+/// The step that a price of this step has for the children, whose bids have so many steps.
 fn step_below(limited: &Option<Limited>, step: u32, sent: &Record) -> u32
-    requires step { IsStepOf limited.now step }
-    requires sum_steps { (limits : Limits) → limited.now ≡ Some limits → steps_of sent.now.sum ≡ Some limits.steps }
-    ensures step { result ≡ passed_step limited.now step sent.now.sum }
+    requires step { (limits : LimitedValue) → limited.now ≡ Some limits → step < limits.steps }
+    requires sums { (limits : LimitedValue) → limited.now ≡ Some limits → steps_of sent.now.sum ≡ Some limits.steps }
+    requires no_sums { limited.now ≡ None → sent.now.sum ≡ None }
+    ensures step { result ≡ passed_step (option_map (λ l. l.limits) limited.now) step sent.now.sum }
 {
     match limited {
         None => step,

@@ -3,7 +3,7 @@ ghost use Rattle.pm_bid.specs.Bids.{AllWithinLimit};
 ghost use Rattle.pm_base.specs.Limits.{demand_limit};
 ghost use Rattle.pm_cache.specs.Learning.{HasSingleBids};
 ghost use Rattle.pm_session.specs.Prices.{IsNewIndex};
-ghost use Rattle.pm_concentrator.specs.Limits.{IsStepOf};
+ghost use Rattle.pm_concentrator.specs.Limited.{IsStepOf};
 
 use crate::{Concentrator, PublishFault};
 use pm_bid::{ArrayBid, Steps};
@@ -86,7 +86,7 @@ fn passed(
     requires downs { length downs.old ≡ length c.old.cache.heads }
     requires child { 1 ≤ length downs.old }
     requires new { IsNewIndex 1 downs.old }
-    requires step { IsStepOf c.old.limits step }
+    requires step { IsStepOf c.old.limits c.old.cache.steps step }
     ensures cache { c.new.cache ≡ c.old.cache }
     ensures limits { c.new.limits ≡ c.old.limits }
     ensures last { c.new.window.last ≡ c.old.window.last }
@@ -126,7 +126,7 @@ fn a_full_window_publishes_after_a_price(rt: HostRuntime) -> Result<(), Fail> {
 /// The step that goes down to child 0 of two for a price of this step that answers number 1.
 fn step_below(rt: &impl Abort, alloc: Global, c: &mut Concentrator, step: u32) -> Result<u32, Fail>
     requires children { length c.old.cache.heads ≡ 2 }
-    requires step { IsStepOf c.old.limits step }
+    requires step { IsStepOf c.old.limits c.old.cache.steps step }
     ensures children { length c.new.cache.heads ≡ 2 }
     ensures limits { c.new.limits ≡ c.old.limits }
 {

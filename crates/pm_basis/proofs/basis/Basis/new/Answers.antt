@@ -11,8 +11,7 @@ invariant_of-result c =
     let steps = to_z w64 (of_z w64 c.args.steps) in
     let parts : pos (unsigned_abs steps) ≡ steps = omega (arith, ints) in
     record {
-      at_least_two = omega (arith, ints);
-      at_most_thousand = omega (arith, ints);
+      steps = record { least = omega (arith, ints); most = omega (arith, ints) };
       order = grind (arith, ints);
       low = grind (arith, ints);
       high = grind (arith, ints);

@@ -5,8 +5,7 @@ use Rattle.pm_bid.proofs.FoundStep.{never_rises}
 
 pub invariant_of-result : goal.invariant_of-result
 invariant_of-result g c = record {
-  at_least_two = omega arith;
-  at_most_thousand = omega arith;
+  steps = record { least = omega arith; most = omega arith };
   within = rw (← c.deref-2.ensures.value) (within_sums c.deref-2.result.now (all_small c.deref-2.result.now (omega arith)));
 }
 

@@ -12,5 +12,5 @@ invariant_of-result g c =
     let P : Cache → Type 0 = λ cache. IsCache cache in
     record {
       aggregate = empty_sum _ _ _ _ demands c.in_ok-aggregate.ensures.bid;
-      sound = subst P (sym (empty_parts _ _ _ _ _ heads demands c.in_ok-aggregate.ensures.bid)) (empty_sound c.args.children c.args.steps c.requires.few_children c.requires.at_least_two c.requires.at_most_thousand);
+      sound = subst P (sym (empty_parts _ _ _ _ _ heads demands c.in_ok-aggregate.ensures.bid)) (empty_sound c.args.children c.args.steps c.requires.few_children c.requires.steps);
     }

@@ -1,4 +1,4 @@
-use Rattle.pm_cache.specs.Kept.{cache_of}
+use Rattle.pm_cache.specs.CacheFields.{cache_of}
 use Rattle.pm_cache.proofs.Entries.{replace_within, replace_enters, resized}
 use Rattle.pm_cache.proofs.cache.BidCache.replace.Goals as goal
 

@@ -12,6 +12,6 @@ cache_of inside = record {
 }
 
 -- the kept aggregate is the sum of the entries
-pub record IsKept (inside : Inside) : Type 0 where
+pub record KeepsSum (inside : Inside) : Type 0 where
   pub aggregate : inside.aggregate ≡ aggregate_of (cache_of inside)
   pub sound : IsCache (cache_of inside)

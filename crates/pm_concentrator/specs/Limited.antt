@@ -1,0 +1,29 @@
+-- What limits on its power add to a concentrator.
+use Rattle.std.specs.Prelude.{ℕ, ◌<◌, ℤ, List, Option, Some, None}
+use Rattle.pm_base.specs.declared.limits.Limits.{Limits}
+use Rattle.pm_bid.specs.Limited.{local_step}
+
+-- the limits, and how many steps the sums have that are moved within them
+pub record LimitedValue : Type 0 where
+  pub limits : Limits
+  pub steps : ℕ
+
+-- the sum that a record keeps: one only where there are limits
+abbrev pub sum_kept : Option Limits → List ℤ → Option (List ℤ)
+sum_kept None sum = None
+sum_kept (Some limits) sum = Some sum
+
+-- how many steps the sums of the records have
+abbrev pub sum_steps : Option Limits → ℕ → Option ℕ
+sum_steps None steps = None
+sum_steps (Some limits) steps = Some steps
+
+-- the step that is passed down for a price of step k and the sum that its record keeps
+abbrev pub passed_step : Option Limits → ℕ → Option (List ℤ) → ℕ
+passed_step limits k None = k
+passed_step limits k (Some sum) = local_step limits k sum
+
+-- where there are limits, the step of a price is one of the steps
+abbrev pub IsStepOf : Option Limits → ℕ → ℕ → Type 0
+IsStepOf None steps k = Unit {0}
+IsStepOf (Some limits) steps k = k < steps
