@@ -65,7 +65,9 @@ impl Made {
         self.kind
     }
 
-    /// The device's demand after the change, in watts at each step: 0 where it is no member, else its bid.
+    /// The device's demand after the change, in watts at each step: 0 where it is no member, else its kind's bid in its
+    /// state. Of a manual device that is a member the type keeps nothing of the demand: it is what
+    /// [`crate::DeviceAgent::work`] made of the arrays that it was handed.
     pub fn demand(&self) -> &ArrayBid
         ensures demand { result.now ≡ self.now.demand }
         ensures made { IsMade self.now }

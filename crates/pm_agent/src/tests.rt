@@ -63,9 +63,10 @@ fn an_agent_answers_with_its_bid(rt: HostRuntime) -> Result<(), Fail> {
     Ok(())
 }
 
+/// What it is called with may be sent to threads and shared by them: that is proved at each call.
 fn is_shared<T: Send + Sync>(_value: &T) {}
 
-/// Agents and their answers may be sent to threads and shared by them: it is proved here.
+/// The agent and its answer may also be shared by threads.
 #[test]
 fn a_manual_device_answers_with_its_array(rt: HostRuntime) -> Result<(), Fail> {
     let mut counter = Steps::<Brand>::start();

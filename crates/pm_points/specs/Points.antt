@@ -1,7 +1,9 @@
 -- Point bids: a demand function of the price, drawn through a list of points.
-use Rattle.std.specs.Prelude.{ℕ, ◌+◌, ◌-◌, ◌<◌, ◌≤◌, ◌==◌, ℤ, pos, ◌+ℤ◌, ◌-ℤ◌, ◌*ℤ◌, neg_ℤ, ◌≤ℤ◌, ◌<ℤ◌, int_lt, if◌then◌else◌, List, length, map, slice_index_or}
+use Rattle.std.specs.Prelude.{ℕ, ◌+◌, ◌<◌, ◌≤◌, ◌==◌, ℤ, pos, ◌+ℤ◌, ◌-ℤ◌, ◌*ℤ◌, neg_ℤ, ◌≤ℤ◌, ◌<ℤ◌, int_lt, if◌then◌else◌, List, [], ◌∷◌, length, map}
+use Rattle.std.specs.Prelude.{slice_index_or, Option, Some, None, option_map}
 use Rattle.std.specs.Int.{int_div_euclid}
-use Rattle.std.specs.List.{suffix_len, range_with_len}
+use Rattle.std.specs.List.{range_with_len}
+use Rattle.std.specs.Option.{option_or}
 use Rattle.pm_basis.specs.Prices.{BasisValue, price_at}
 use Rattle.pm_base.specs.Limits.{demand_limit, IsWithin, price_limit}
 
@@ -32,27 +34,34 @@ pub record IsPointBid (points : List Point) : Type 0 where
   pub prices_within : (k : ℕ) → k < length points → IsWithin price_limit (price_of (point_at points k))
   pub demands_within : (k : ℕ) → k < length points → IsWithin demand_limit (demand_of (point_at points k))
 
--- how many points stand up to the last one whose price is at most this price; 0 where there is none
-abbrev pub reached : List Point → ℤ → ℕ
-reached points price = length points - suffix_len (λ point. int_lt price (price_of point)) points
+-- the place of the last point whose price is at most this price, where there is one
+abbrev pub last_at_most : List Point → ℤ → Option ℕ
+last_at_most [] price = None
+last_at_most (point ∷ later) price =
+    option_or (option_map (λ place. place + 1) (last_at_most later price)) (if int_lt price (price_of point) then None else Some 0)
+
+-- the point at this place has a price that is at most this price, and no later point has
+pub record IsLastAtMost (points : List Point) (price : ℤ) (place : ℕ) : Type 0 where
+  pub inside : place < length points
+  pub at_most : price_of (point_at points place) ≤ℤ price
+  pub later_above : (k : ℕ) → place < k → k < length points → price <ℤ price_of (point_at points k)
 
 -- the demand at a price on the straight line from one point to the next, rounded down
 abbrev pub demand_between : Point → Point → ℤ → ℤ
 demand_between from to price = demand_of from +ℤ int_div_euclid ((demand_of to -ℤ demand_of from) *ℤ (price -ℤ price_of from)) (price_of to -ℤ price_of from)
 
--- the demand at a price up to which so many points stand
-abbrev pub demand_after : List Point → ℕ → ℤ → ℤ
-demand_after points count price =
-    if count == 0
-    then demand_of (point_at points 0)
-    else (if count == length points
-    then demand_of (point_at points (count - 1))
-    else demand_between (point_at points (count - 1)) (point_at points count) price)
+-- the demand at a price, given the place of the last point whose price is at most it: that of the first point where
+-- there is none, that of the last point from there on, and else the one between that point and the next
+abbrev pub demand_from : List Point → ℤ → Option ℕ → ℤ
+demand_from points price None = demand_of (point_at points 0)
+demand_from points price (Some place) =
+    if place + 1 == length points
+    then demand_of (point_at points place)
+    else demand_between (point_at points place) (point_at points (place + 1)) price
 
--- the demand at a price: before all points that of the first, after all points that of the last, and
--- else the one between the last point whose price is at most this price and the next point
+-- the demand at a price
 abbrev pub demand_at : List Point → ℤ → ℤ
-demand_at points price = demand_after points (reached points price) price
+demand_at points price = demand_from points price (last_at_most points price)
 
 -- the demand at the price of each step of a basis
 abbrev pub array_of : List Point → BasisValue → List ℤ

@@ -6,7 +6,7 @@ ghost use Rattle.pm_points.specs.Checks.{checked_points};
 
 use crate::fault::PointFault;
 use crate::line::demand_between;
-use crate::search::{count_reached, find_outside, find_price_fall, find_rise, find_too_large};
+use crate::search::{find_last_at_most, find_outside, find_price_fall, find_rise, find_too_large};
 use pm_basis::Basis;
 use pm_bid::{ArrayBid, Steps};
 use std::alloc::AllocError;
@@ -93,14 +93,13 @@ impl PointBid {
         ensures demand { result ≡ demand_at self.now price }
         ensures within { IsWithin demand_limit result }
     {
-        let reached = count_reached(&self.points, price);
-        if reached == 0 {
+        let Some(last) = find_last_at_most(&self.points, price) else {
             return self.points[0].1;
-        }
-        let from = self.points[reached - 1];
-        if reached == self.points.len() {
+        };
+        let from = self.points[last];
+        if last + 1 == self.points.len() {
             return from.1;
         }
-        demand_between(from, self.points[reached], price)
+        demand_between(from, self.points[last + 1], price)
     }
 }

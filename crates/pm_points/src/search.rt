@@ -1,6 +1,6 @@
-ghost use Rattle.std.specs.Prelude.{◌≡◌, ◌≤◌, length};
+ghost use Rattle.std.specs.Prelude.{◌≡◌, ◌≤◌, ◌<ℤ◌, length, All, IfSome, IfNone};
 ghost use Rattle.pm_basis.specs.Prices.{IsBasis};
-ghost use Rattle.pm_points.specs.Points.{reached};
+ghost use Rattle.pm_points.specs.Points.{price_of, last_at_most, IsLastAtMost};
 ghost use Rattle.pm_points.specs.Checks.{first_price_fall, first_rise, first_too_large, first_outside};
 
 use pm_basis::Basis;
@@ -61,16 +61,16 @@ pub(crate) fn find_outside(points: &[(i64, i64)], basis: &Basis) -> usize
     points.len()
 }
 
-/// How many points stand up to the last one whose price is at most this price; 0 where there is
-/// none.
-pub(crate) fn count_reached(points: &[(i64, i64)], price: i64) -> usize
-    ensures reached { result ≡ reached points.now price }
-    ensures inside { result ≤ length points.now }
+/// The place of the last point whose price is at most this price, if there is one.
+pub(crate) fn find_last_at_most(points: &[(i64, i64)], price: i64) -> Option<usize>
+    ensures place { result ≡ last_at_most points.now price }
+    ensures last { IfSome result (IsLastAtMost points.now price) }
+    ensures none { IfNone result (All (λ point. price <ℤ price_of point) points.now) }
 {
     for at in (0..points.len()).rev() {
         if points[at].0 <= price {
-            return at + 1;
+            return Some(at);
         }
     }
-    0
+    None
 }

@@ -1,5 +1,5 @@
 -- Laws of the bids of the kinds: they have the basis's steps, never rise, and lie within the limit.
-use Rattle.std.proofs.Common.{◌≡◌, ◌≢◌, ℕ, ◌+◌, ◌-◌, ◌<◌, zero, suc, ℤ, pos, ◌+ℤ◌, neg_ℤ, ◌≤ℤ◌, Bool, true, false, if◌then◌else◌, int_lt, int_le, nat_abs, IsTrue, List, [], ◌∷◌, length, get_or, arith, refl, subst, sym, ◌∙◌, inl, inr, ◌⊎◌}
+use Rattle.std.proofs.Common.{◌≡◌, ◌≢◌, ℕ, ◌+◌, ◌-◌, ◌<◌, zero, suc, ℤ, pos, negsuc, ◌+ℤ◌, neg_ℤ, ◌≤ℤ◌, Bool, true, false, if◌then◌else◌, int_lt, int_le, nat_abs, IsTrue, List, [], ◌∷◌, length, get_or, arith, refl, subst, sym, ◌∙◌, inl, inr, ◌⊎◌}
 use Rattle.std.specs.Prelude.{All}
 use Rattle.std.proofs.lemmas.Int.{ints}
 use Rattle.std.proofs.lemmas.List.{get_or-replicate, length-replicate}
@@ -146,6 +146,12 @@ pub bid_of-manual : (kind : Kind) (state : ℤ) (arrays : List (List ℤ)) (step
 unfolding bid_of
 bid_of-manual kind state arrays steps is = rw is refl
 
+-- a number that is not negative is the place of its array
+pub array_of_number : (arrays : List (List ℤ)) (number : ℤ) (steps : ℕ) → pos 0 ≤ℤ number →
+    array_of arrays number steps ≡ get_or arrays (nat_abs number) (zeros steps)
+array_of_number arrays (pos number) steps from = refl
+array_of_number arrays (negsuc number) steps from = absurd (omega (arith, ints))
+
 -- a fact of each array and of zeros holds of the array of any number
 get_or-holds : {X : Type 0} (P : X → Type 0) (xs : List X) (i : ℕ) (d : X) → All P xs → P d → P (get_or xs i d)
 get_or-holds P [] i d all none = none
@@ -162,7 +168,8 @@ bid_of-holds P (Battery capacity charge discharge spread) state arrays steps all
 bid_of-holds P Solar state arrays steps all none here = here
 bid_of-holds P Load state arrays steps all none here = here
 bid_of-holds P Objective state arrays steps all none here = here
-bid_of-holds P Manual number arrays steps all none here = get_or-holds P arrays (nat_abs number) (zeros steps) (all refl) none
+bid_of-holds P Manual (pos number) arrays steps all none here = get_or-holds P arrays number (zeros steps) (all refl) none
+bid_of-holds P Manual (negsuc number) arrays steps all none here = none
 
 -- the bid of a kind has the steps of the basis
 pub length-bid_of : (kind : Kind) (state : ℤ) (arrays : List (List ℤ)) (steps : ℕ) → HaveSteps steps arrays → length (bid_of kind state arrays steps) ≡ steps

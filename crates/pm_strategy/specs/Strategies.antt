@@ -1,5 +1,5 @@
 -- The bid of a device, by its kind and its state.
-use Rattle.std.specs.Prelude.{ℕ, ◌-◌, ℤ, pos, ◌+ℤ◌, ◌-ℤ◌, neg_ℤ, nat_abs, int_lt, int_le, if◌then◌else◌, List, slice_index_or}
+use Rattle.std.specs.Prelude.{ℕ, ◌-◌, ℤ, pos, negsuc, ◌+ℤ◌, ◌-ℤ◌, neg_ℤ, int_lt, int_le, if◌then◌else◌, List, slice_index_or}
 use Rattle.pm_bid.specs.Bids.{zeros}
 use Rattle.pm_device.specs.declared.kind.Kind.{Kind}
 use Rattle.pm_device.specs.declared.kind.Kind.TheVariants.{Freezer, HeatPump, Cogeneration, Battery, Solar, Load, Objective, Manual}
@@ -54,9 +54,10 @@ demand_of Load power last step = power
 demand_of Objective target last step = neg_ℤ target
 demand_of Manual number last step = pos 0
 
--- the array of a number, and zeros where there is none
+-- the array of a number, counted from 0, and zeros where no array has the number
 abbrev pub array_of : List (List ℤ) → ℤ → ℕ → List ℤ
-array_of arrays number steps = slice_index_or arrays (nat_abs number) (zeros steps)
+array_of arrays (pos number) steps = slice_index_or arrays number (zeros steps)
+array_of arrays (negsuc number) steps = zeros steps
 
 -- the bid of a kind in a state: its array where it is manual, else its demand at each step
 unfoldable pub bid_of : Kind → ℤ → List (List ℤ) → ℕ → List ℤ

@@ -1,4 +1,4 @@
-ghost use Rattle.std.specs.Prelude.{◌≡◌, ℕ, ◌≤ℤ◌, pos, length, slice_index_or, nat_abs, All, IsTrue};
+ghost use Rattle.std.specs.Prelude.{◌≡◌, ℕ, ◌≤ℤ◌, pos, length, All, IsTrue};
 ghost use Rattle.pm_bid.specs.Bids.{zeros, HaveSteps, AllWithinLimit, NeverRises};
 ghost use Rattle.pm_base.specs.Limits.{demand_limit};
 ghost use Rattle.pm_device.specs.Kinds.{is_valid, state_fits};
@@ -23,7 +23,8 @@ use std::marker::Brand;
 /// - solar panel: its output, negative; load: its power; objective: its target, negative;
 /// - manual device: the demand of the array whose number, from 0, is the state, and 0 where there is no such array.
 ///
-/// The arrays have as many steps as `out`.
+/// The arrays have as many steps as `out`. The bid never rises and lies within ±1,000,000,000 watts; for a manual
+/// device that holds where it holds of the arrays.
 pub fn fill_bid(kind: &Kind, state: DeviceState, arrays: &[ArrayBid], out: &mut ArrayBid)
     requires valid { IsTrue (is_valid kind.now) }
     requires fits { IsTrue (state_fits kind.now state.0) }
@@ -31,7 +32,7 @@ pub fn fill_bid(kind: &Kind, state: DeviceState, arrays: &[ArrayBid], out: &mut 
     ensures bid { out.new ≡ bid_of kind.now state.0 arrays.now (length out.old) }
     ensures steps { length out.new ≡ length out.old }
 
-    // A manual device's array is the caller's: here it is the bid that never rises and is within the limit.
+    // A manual device's bid is one of the caller's arrays.
     ensures falls { (kind.now ≡ Kind.Manual → All NeverRises arrays.now) → NeverRises out.new }
     ensures within { (kind.now ≡ Kind.Manual → All (AllWithinLimit demand_limit) arrays.now)
         → AllWithinLimit demand_limit out.new }
@@ -43,6 +44,7 @@ pub fn fill_bid(kind: &Kind, state: DeviceState, arrays: &[ArrayBid], out: &mut 
 }
 
 /// Makes `out` the array whose number is the state, and zeros where there is none.
+#[tactic(auto, using(crate::proofs::BidLaws::array_of_number))]
 fn fill_from_array(state: DeviceState, arrays: &[ArrayBid], out: &mut ArrayBid)
     requires number { pos 0 ≤ℤ state.0 }
     requires arrays { HaveSteps (length out.old) arrays.now }

@@ -5,6 +5,7 @@ use Rattle.std.specs.Option.{option_map}
 use Rattle.std.specs.Str.{bytes_eq}
 use Rattle.std.proofs.lemmas.Bool.Decides.{nat_tests}
 use Rattle.std.proofs.lemmas.List.{length-map, get_or-map}
+use Rattle.pm_base.specs.Limits.{most_depth}
 use Rattle.pm_tree.specs.Names.{is_name}
 use Rattle.pm_tree.specs.Shape.{IsTree}
 use Rattle.pm_tree.specs.Entries.{Entry, entry_of, entries_of, entry_at, names_of, node_named, number_named, parents_of, leaves_of, is_leaf_at, depth_of, can_be_parent, entry_refusal}
@@ -28,11 +29,11 @@ is_some-option_map : {A B : Type 0} (f : A → B) (o : Option A) → is_some (op
 is_some-option_map f None = refl
 is_some-option_map f (Some x) = refl
 
-pub at_least_six : (depth : ℕ) → 6 ≤ depth → nat_le 6 depth ≡ true
-at_least_six depth high = grind (arith, nat_tests)
+pub at_least_most : (depth : ℕ) → most_depth ≤ depth → nat_le most_depth depth ≡ true
+at_least_most depth high = grind (arith, nat_tests)
 
-pub below_six : (depth : ℕ) → depth < 6 → nat_le 6 depth ≡ false
-below_six depth low = grind (arith, nat_tests)
+pub below_most : (depth : ℕ) → depth < most_depth → nat_le most_depth depth ≡ false
+below_most depth low = grind (arith, nat_tests)
 
 pub leaf_depth : (leaf : Bool) (depth : ℕ) → leaf ≡ true → depth ≡ depth + (if leaf then 0 else 1)
 leaf_depth leaf depth is = sym (ap (λ b. depth + (if b then 0 else 1)) is ∙ add-zero depth)
@@ -102,8 +103,8 @@ module _ (entries : List TreeEntry) (place : ℕ) (e : TreeEntry) (inside : plac
           parent_kind : can_be_parent before (string_bytes e.parent) ≡ not row.leaf
           parent_kind = ap (λ o. is_some o && not (is_leaf_at before (unwrap_or o 0))) named_is ∙ ap not leaf_is
 
-          parent_depth : (b : Bool) → nat_le 6 row.depth ≡ b → nat_le 6 (depth_of before (number_named before (string_bytes e.parent))) ≡ b
-          parent_depth b is = ap (λ n. nat_le 6 (depth_of before n)) number_is ∙ ap (nat_le 6) depth_is ∙ is
+          parent_depth : (b : Bool) → nat_le most_depth row.depth ≡ b → nat_le most_depth (depth_of before (number_named before (string_bytes e.parent))) ≡ b
+          parent_depth b is = ap (λ n. nat_le most_depth (depth_of before n)) number_is ∙ ap (nat_le most_depth) depth_is ∙ is
 
           pub leaf_above : row.leaf ≡ true → entry_refusal before (entry_at (entries_of entries) place) ≡ Some (NoParent (place + 1))
           leaf_above leaf = at_here NoParent (refused_parent before (entry_of e) good (taken_is ∙ free) (parent_kind ∙ ap not leaf))
@@ -112,20 +113,22 @@ module _ (entries : List TreeEntry) (place : ℕ) (e : TreeEntry) (inside : plac
             pub leaf_accepted : e.leaf ≡ true → entry_refusal before (entry_at (entries_of entries) place) ≡ None
             leaf_accepted leaf = none_here (accepted_leaf before (entry_of e) good (taken_is ∙ free) (parent_kind ∙ ap not no_leaf) leaf)
 
-            pub too_deep : e.leaf ≡ false → nat_le 6 row.depth ≡ true → entry_refusal before (entry_at (entries_of entries) place) ≡ Some (TooDeep (place + 1))
+            pub too_deep : e.leaf ≡ false → nat_le most_depth row.depth ≡ true →
+                entry_refusal before (entry_at (entries_of entries) place) ≡ Some (TooDeep (place + 1))
             too_deep concentrator deep = at_here TooDeep (refused_depth before (entry_of e) good (taken_is ∙ free) (parent_kind ∙ ap not no_leaf) concentrator (parent_depth true deep))
 
-            pub concentrator_accepted : e.leaf ≡ false → nat_le 6 row.depth ≡ false → entry_refusal before (entry_at (entries_of entries) place) ≡ None
+            pub concentrator_accepted : e.leaf ≡ false → nat_le most_depth row.depth ≡ false → entry_refusal before (entry_at (entries_of entries) place) ≡ None
             concentrator_accepted concentrator shallow = none_here (accepted_concentrator before (entry_of e) good (taken_is ∙ free) (parent_kind ∙ ap not no_leaf) concentrator (parent_depth false shallow))
 
             -- a leaf is no deeper than its parent
-            pub row_shallow : IsTree (parents_of before) (leaves_of before) → row.depth ≤ 6
+            pub row_shallow : IsTree (parents_of before) (leaves_of before) → row.depth ≤ most_depth
             row_shallow tree =
                 let low : above.0 ≤ length (parents_of before) = omega (arith, parent_inside, length-table (parents_of before) (leaves_of before) nodes index.nodes_are) in
                 omega (arith, depth_is, tree.shallow above.0 low)
 
             -- the new row
-            pub row_is : (new : Node) → new.parent ≡ above → new.leaf ≡ e.leaf → new.depth ≡ row.depth + (if e.leaf then 0 else 1) → new.depth ≤ 6 → IsRowOf before (entry_at (entries_of entries) place) new
+            pub row_is : (new : Node) → new.parent ≡ above → new.leaf ≡ e.leaf → new.depth ≡ row.depth + (if e.leaf then 0 else 1) → new.depth ≤ most_depth →
+                IsRowOf before (entry_at (entries_of entries) place) new
             row_is new parent_same leaf_same depth_same shallow = subst (λ entry. IsRowOf before entry new) entry_here (record {
               name_is_new = none_from (node_named before (string_bytes e.name)) (taken_is ∙ free);
               parent_is_named = ap is_some named_is;

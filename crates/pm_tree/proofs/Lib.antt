@@ -5,6 +5,7 @@ pub mod Refusals
 pub mod Rows
 pub mod Checks
 pub mod TableLists
+pub mod Places
 pub mod Loop
 pub mod Whole
 pub mod Alike

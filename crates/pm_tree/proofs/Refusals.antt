@@ -1,6 +1,7 @@
 -- When an entry is refused, and the first refusal of a list.
 use Rattle.std.proofs.Common.{◌≡◌, ◌+◌, true, false, List, [], ◌∷◌, ◌++◌, length, Some, None, is_some, sym, ap, ◌∙◌, nat_le, append_assoc, append-nil}
 use Rattle.std.specs.Option.{option_to_list}
+use Rattle.pm_base.specs.Limits.{most_depth}
 use Rattle.pm_tree.specs.Names.{is_name}
 use Rattle.pm_tree.specs.Entries.{Entry, node_named, number_named, depth_of, can_be_parent, entry_refusal, refusals_after}
 use Rattle.pm_tree.specs.declared.fault.TreeFault.{TreeFault}
@@ -19,7 +20,8 @@ module _ (before : List Entry) (e : Entry) where
   unfolding entry_refusal
   refused_parent good free orphan = rw (good, free, orphan)
 
-  pub refused_depth : is_name e.name ≡ true → is_some (node_named before e.name) ≡ false → can_be_parent before e.parent ≡ true → e.leaf ≡ false → nat_le 6 (depth_of before (number_named before e.parent)) ≡ true → entry_refusal before e ≡ Some (TooDeep (length before + 1))
+  pub refused_depth : is_name e.name ≡ true → is_some (node_named before e.name) ≡ false → can_be_parent before e.parent ≡ true → e.leaf ≡ false →
+      nat_le most_depth (depth_of before (number_named before e.parent)) ≡ true → entry_refusal before e ≡ Some (TooDeep (length before + 1))
   unfolding entry_refusal
   refused_depth good free below concentrator deep = rw (good, free, below, concentrator, deep)
 
@@ -27,7 +29,8 @@ module _ (before : List Entry) (e : Entry) where
   unfolding entry_refusal
   accepted_leaf good free below leaf = rw (good, free, below, leaf)
 
-  pub accepted_concentrator : is_name e.name ≡ true → is_some (node_named before e.name) ≡ false → can_be_parent before e.parent ≡ true → e.leaf ≡ false → nat_le 6 (depth_of before (number_named before e.parent)) ≡ false → entry_refusal before e ≡ None
+  pub accepted_concentrator : is_name e.name ≡ true → is_some (node_named before e.name) ≡ false → can_be_parent before e.parent ≡ true → e.leaf ≡ false →
+      nat_le most_depth (depth_of before (number_named before e.parent)) ≡ false → entry_refusal before e ≡ None
   unfolding entry_refusal
   accepted_concentrator good free below concentrator shallow = rw (good, free, below, concentrator, shallow)
 

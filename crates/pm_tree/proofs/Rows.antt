@@ -3,6 +3,7 @@ use Rattle.std.proofs.Common.{◌≡◌, ℕ, ◌+◌, ◌<◌, ◌≤◌, Bool,
 use Rattle.std.proofs.lemmas.Bool.Decides.{leb_tells}
 use Rattle.std.proofs.lemmas.List.{length-map, map-append, get_or-map, get_or_append_left}
 use Rattle.std.proofs.Math.Seq.{get_or-append_seam}
+use Rattle.pm_base.specs.Limits.{most_depth}
 use Rattle.pm_tree.specs.Shape.{parent_at, leaf_at, depth_at, IsTree}
 use Rattle.pm_tree.specs.Entries.{Entry, node_named, number_named, parents_of, leaves_of, is_leaf_at, depth_of}
 use Rattle.pm_tree.specs.Tables.{parent_numbers, leaf_marks, depth_numbers, IsNodeTable, IsRowOf, IsIndexOf}
@@ -85,7 +86,8 @@ module _ (parents : List ℕ) (leaves : List Bool) (parent : ℕ) (leaf : Bool) 
       ∙ ap (λ n. n + (if leaf then 0 else 1)) (depth_at-earlier parent inside)
 
   -- the tree stays lawful where the parent is no leaf and the path is not too long
-  pub IsTree-more : leaf_at leaves parent ≡ false → depth_at parents leaves parent + (if leaf then 0 else 1) ≤ 6 → IsTree (parents ++ parent ∷ []) (leaves ++ leaf ∷ [])
+  pub IsTree-more : leaf_at leaves parent ≡ false → depth_at parents leaves parent + (if leaf then 0 else 1) ≤ most_depth →
+      IsTree (parents ++ parent ∷ []) (leaves ++ leaf ∷ [])
   IsTree-more no_leaf shallow = record {
     one_each = length-append leaves (leaf ∷ []) ∙ ap (λ n. n + 1) tree.one_each ∙ sym length-new;
     earlier = λ node positive within. earlier-more node (omega arith);
@@ -93,7 +95,8 @@ module _ (parents : List ℕ) (leaves : List Bool) (parent : ℕ) (leaf : Bool) 
         (λ low. let up : parent_at parents node ≤ length parents = up_inside node low in
         ap (leaf_at (leaves ++ leaf ∷ [])) (parent_at-append parents (parent ∷ []) node low) ∙ leaf_at-append leaves (leaf ∷ []) (parent_at parents node) (omega (arith, tree.one_each)) ∙ tree.under_no_leaf node low)
         (ap (leaf_at (leaves ++ leaf ∷ [])) parent_at-new ∙ leaf_at-append leaves (leaf ∷ []) parent (omega (arith, tree.one_each)) ∙ no_leaf);
-    shallow = λ node within. each_by (λ n. depth_at (parents ++ parent ∷ []) (leaves ++ leaf ∷ []) n ≤ 6) (length parents) node (omega (arith, length-new))
+    shallow = λ node within.
+        each_by (λ n. depth_at (parents ++ parent ∷ []) (leaves ++ leaf ∷ []) n ≤ most_depth) (length parents) node (omega (arith, length-new))
         (λ low. omega (arith, depth_at-earlier node low, tree.shallow node low))
         (omega (arith, depth_at-new));
   }
@@ -122,7 +125,9 @@ module _ (before : List Entry) (e : Entry) (tree : IsTree (parents_of before) (l
   pub row_inside : number_named before e.parent ≤ length (parents_of before)
   row_inside = omega (arith, number_named-inside before e.parent, length-parents_of before)
 
-  pub lawful-more : is_some (node_named before e.parent) ≡ true → are_named before before ≡ true → is_leaf_at before (number_named before e.parent) ≡ false → depth_of before (number_named before e.parent) + (if e.leaf then 0 else 1) ≤ 6 → IsTree (parents_of (before ++ e ∷ [])) (leaves_of (before ++ e ∷ []))
+  pub lawful-more : is_some (node_named before e.parent) ≡ true → are_named before before ≡ true → is_leaf_at before (number_named before e.parent) ≡ false →
+      depth_of before (number_named before e.parent) + (if e.leaf then 0 else 1) ≤ most_depth →
+      IsTree (parents_of (before ++ e ∷ [])) (leaves_of (before ++ e ∷ []))
   lawful-more parent_named all_named no_leaf shallow =
       let parents = parents_of-more before e all_named parent_named in
       let leaves = leaves_of-more before e in
@@ -167,5 +172,5 @@ IsTree-nil = record {
   one_each = refl;
   earlier = λ node positive low. absurd (omega arith);
   under_no_leaf = λ node low. let top : 0 ≡ node = omega arith in subst (λ n. leaf_at [] (parent_at [] n) ≡ false) top refl;
-  shallow = λ node low. let top : 0 ≡ node = omega arith in subst (λ n. depth_at [] [] n ≤ 6) top (omega (arith, depth_at-auctioneer [] []));
+  shallow = λ node low. let top : 0 ≡ node = omega arith in subst (λ n. depth_at [] [] n ≤ most_depth) top (omega (arith, depth_at-auctioneer [] []));
 }

@@ -1,6 +1,7 @@
 -- The tree of a list that is accepted, and the refusals of a list.
 use Rattle.std.proofs.Common.{◌≡◌, ℕ, ◌+◌, ◌<◌, ◌≤◌, true, false, if◌then◌else◌, List, [], length, drop, Some, None, Result, Ok, Err, sym, ap, subst, ◌∙◌, arith, nat_lt, slice_get, ◌⊎◌, inl, inr}
 use Rattle.std.proofs.lemmas.Bool.Decides.{nat_tests}
+use Rattle.pm_base.specs.Limits.{most_nodes}
 use Rattle.pm_tree.specs.Shape.{children_at, leaves_below_at, place_at, IsTree}
 use Rattle.pm_tree.specs.Entries.{Entry, parents_of, leaves_of, refusals_after, first_refusal, tree_unless, checked_tree}
 use Rattle.pm_tree.specs.Tables.{shape_parents, shape_leaves, AreLists, AreNumbers, IsIndexOf, IsKept}
@@ -10,23 +11,23 @@ use Rattle.pm_tree.specs.declared.node.Node.{Node}
 use Rattle.pm_tree.proofs.Named.{length-parents_of}
 use Rattle.pm_tree.proofs.Rows.{length-table}
 
-above_limit : (n : ℕ) → 256 < n → nat_lt 256 n ≡ true
+above_limit : (n : ℕ) → most_nodes < n → nat_lt most_nodes n ≡ true
 above_limit n high = grind (arith, nat_tests)
 
-within_limit : (n : ℕ) → n ≤ 256 → nat_lt 256 n ≡ false
+within_limit : (n : ℕ) → n ≤ most_nodes → nat_lt most_nodes n ≡ false
 within_limit n low = grind (arith, nat_tests)
 
-pub too_many : (entries : List Entry) (have : ℕ) → have ≡ length entries → 256 < have → Err (TooMany have) ≡ checked_tree entries
+pub too_many : (entries : List Entry) (have : ℕ) → have ≡ length entries → most_nodes < have → Err (TooMany have) ≡ checked_tree entries
 unfolding first_refusal
 too_many entries have is high =
     ap (λ n. Err (TooMany n)) is
     ∙ sym (ap (λ b. tree_unless entries (if b then Some (TooMany (length entries)) else slice_get (refusals_after [] entries) 0)) (above_limit (length entries) (omega arith)))
 
-pub first_refusal-few : (entries : List Entry) → length entries ≤ 256 → first_refusal entries ≡ slice_get (refusals_after [] entries) 0
+pub first_refusal-few : (entries : List Entry) → length entries ≤ most_nodes → first_refusal entries ≡ slice_get (refusals_after [] entries) 0
 unfolding first_refusal
 first_refusal-few entries few = ap (λ b. if b then Some (TooMany (length entries)) else slice_get (refusals_after [] entries) 0) (within_limit (length entries) few)
 
-pub entry_refused : (entries : List Entry) (result : Result (List Entry) TreeFault) (fault : TreeFault) → length entries ≤ 256 → result ≡ Err fault
+pub entry_refused : (entries : List Entry) (result : Result (List Entry) TreeFault) (fault : TreeFault) → length entries ≤ most_nodes → result ≡ Err fault
     → (slice_get (refusals_after [] entries) 0 ≡ Some fault) ⊎ (fault ≡ NoMemory) → (result ≡ checked_tree entries) ⊎ (result ≡ Err NoMemory)
 entry_refused entries result fault few is (inl first) = inl (is ∙ sym (ap (tree_unless entries) (first_refusal-few entries few ∙ first)))
 entry_refused entries result fault few is (inr memory) = inr (is ∙ ap (λ e. Err e) memory)
@@ -39,7 +40,7 @@ length-index entries names nodes index = length-table (parents_of entries) (leav
 
 -- the tables that were collected are those of the entries
 pub kept_all : (entries : List Entry) (names : List (List ℕ)) (nodes : List Node) (children : List (List ℕ)) (places : List ℕ) (leaf_lists : List (List ℕ))
-    → first_refusal entries ≡ None → length entries ≤ 256 → IsTree (parents_of entries) (leaves_of entries) → IsIndexOf entries names nodes
+    → first_refusal entries ≡ None → length entries ≤ most_nodes → IsTree (parents_of entries) (leaves_of entries) → IsIndexOf entries names nodes
     → AreLists (length nodes) (children_at (shape_parents nodes)) children → AreNumbers (length nodes) (place_at (shape_parents nodes)) places
     → AreLists (length nodes) (leaves_below_at (shape_parents nodes) (shape_leaves nodes)) leaf_lists → IsKept entries names nodes children places leaf_lists
 kept_all entries names nodes children places leaf_lists accepted few lawful index children_are places_are leaf_lists_are =

@@ -3,6 +3,7 @@
 use Rattle.std.specs.Prelude.{ℕ, ◌+◌, Bool, false, not, ◌&&◌, nat_lt, nat_le, if◌then◌else◌, List, [], ◌∷◌, ◌++◌, map, length, position, slice_get, slice_index_or, Option, Some, None, is_some, unwrap_or, Result, Ok, Err, string_bytes}
 use Rattle.std.specs.Option.{option_to_list}
 use Rattle.std.specs.Str.{bytes_eq}
+use Rattle.pm_base.specs.Limits.{most_nodes, most_depth}
 use Rattle.pm_tree.specs.Names.{auctioneer, is_name}
 use Rattle.pm_tree.specs.Shape.{parent_at, leaf_at, depth_at, children_at, leaves_below_at, place_at}
 use Rattle.pm_tree.specs.declared.entry.TreeEntry.{TreeEntry}
@@ -80,13 +81,13 @@ can_be_parent entries name =
     is_some (node_named entries name) && not (is_leaf_at entries (number_named entries name))
 
 -- the first check that an entry fails, after the entries before it: its name, that no node before has the name,
--- its parent among the nodes before, and at most 5 concentrators above a concentrator
+-- its parent among the nodes before, and that a concentrator has fewer concentrators above it than the most on a path
 unfoldable pub entry_refusal : List Entry → Entry → Option TreeFault
 entry_refusal before entry =
     if not (is_name entry.name) then Some (BadName (length before + 1))
     else (if is_some (node_named before entry.name) then Some (Twice (length before + 1))
     else (if not (can_be_parent before entry.parent) then Some (NoParent (length before + 1))
-    else (if not entry.leaf && nat_le 6 (depth_of before (number_named before entry.parent))
+    else (if not entry.leaf && nat_le most_depth (depth_of before (number_named before entry.parent))
     then Some (TooDeep (length before + 1)) else None)))
 
 -- the refusals of the entries that fail a check, in list order, each judged by the entries before it
@@ -95,10 +96,11 @@ refusals_after before [] = []
 refusals_after before (entry ∷ rest) =
     option_to_list (entry_refusal before entry) ++ refusals_after (before ++ entry ∷ []) rest
 
--- the first refusal of a list: that it has more than 256 entries, else that of the first entry that fails a check
+-- the first refusal of a list: that it has more entries than the most nodes, else that of the first entry that fails a
+-- check
 unfoldable pub first_refusal : List Entry → Option TreeFault
 first_refusal entries =
-    if nat_lt 256 (length entries) then Some (TooMany (length entries)) else slice_get (refusals_after [] entries) 0
+    if nat_lt most_nodes (length entries) then Some (TooMany (length entries)) else slice_get (refusals_after [] entries) 0
 
 -- the tree of a list, or the first refusal of the list
 abbrev pub tree_unless : List Entry → Option TreeFault → Result (List Entry) TreeFault

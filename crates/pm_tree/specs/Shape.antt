@@ -2,6 +2,7 @@
 -- Node 0 is the auctioneer.
 use Rattle.std.specs.Prelude.{◌≡◌, ℕ, ◌-◌, ◌<◌, ◌≤◌, zero, suc, Bool, false, ◌&&◌, not, ◌==◌, nat_lt, if◌then◌else◌, List, [], ◌∷◌, length, filter, count_by, take, slice_index_or}
 use Rattle.std.specs.List.{list_any, range_with_len}
+use Rattle.pm_base.specs.Limits.{most_depth}
 
 -- the parent of a node; of the auctioneer the auctioneer itself
 abbrev pub parent_at : List ℕ → ℕ → ℕ
@@ -54,9 +55,10 @@ leaves_below_at parents leaves node = leaves_among parents leaves (length parent
 unfoldable pub place_at : List ℕ → ℕ → ℕ
 place_at parents node = count_by (λ parent. parent == parent_at parents node) (take (node - 1) parents)
 
--- a lawful tree: each parent is an earlier node and no leaf, and at most 6 concentrators stand on a path to the auctioneer
+-- a lawful tree: each parent is an earlier node and no leaf, and no path to the auctioneer has more concentrators than
+-- the most
 pub record IsTree (parents : List ℕ) (leaves : List Bool) : Type 0 where
   pub one_each : length leaves ≡ length parents
   pub earlier : (node : ℕ) → 1 ≤ node → node ≤ length parents → parent_at parents node < node
   pub under_no_leaf : (node : ℕ) → node ≤ length parents → leaf_at leaves (parent_at parents node) ≡ false
-  pub shallow : (node : ℕ) → node ≤ length parents → depth_at parents leaves node ≤ 6
+  pub shallow : (node : ℕ) → node ≤ length parents → depth_at parents leaves node ≤ most_depth

@@ -2,6 +2,7 @@
 use Rattle.std.specs.Prelude.{◌≡◌, ℕ, ◌+◌, ◌<◌, ◌≤◌, Bool, true, false, is_some, List, [], ◌∷◌, map, drop, length, slice_index, slice_index_or, None, Vec, if◌then◌else◌}
 use Rattle.std.specs.List.{list_all}
 use Rattle.std.specs.declared.alloc.Global.{Global}
+use Rattle.pm_base.specs.Limits.{most_nodes, most_depth}
 use Rattle.pm_tree.specs.Shape.{depth_at, is_on_path, IsTree}
 use Rattle.pm_tree.specs.Entries.{Entry, names_of, parents_of, leaves_of, children_of, leaves_below_of, place_of, first_refusal, number_named, node_named, is_leaf_at, depth_of}
 use Rattle.pm_tree.specs.declared.node.Node.{Node}
@@ -48,7 +49,7 @@ pub record IsRowOf (before : List Entry) (entry : Entry) (row : Node) : Type 0 w
   pub parent_is_no_leaf : is_leaf_at before row.parent.0 ≡ false
   pub leaf_is : row.leaf ≡ entry.leaf
   pub depth_is : row.depth ≡ depth_of before (number_named before entry.parent) + (if entry.leaf then 0 else 1)
-  pub shallow : row.depth ≤ 6
+  pub shallow : row.depth ≤ most_depth
 
 -- a table of so many lists, of which each is the list of its node
 pub record AreLists (count : ℕ) (list_at : ℕ → List ℕ) (lists : List (List ℕ)) : Type 0 where
@@ -73,7 +74,7 @@ pub record IsIndexOf (entries : List Entry) (names : List (List ℕ)) (nodes : L
 -- the tables of a lawful list of entries
 pub record IsKept (entries : List Entry) (names : List (List ℕ)) (nodes : List Node) (children : List (List ℕ)) (places : List ℕ) (leaf_lists : List (List ℕ)) : Type 0 where
   pub accepted : first_refusal entries ≡ None
-  pub few : length entries ≤ 256
+  pub few : length entries ≤ most_nodes
   pub lawful : IsTree (parents_of entries) (leaves_of entries)
   pub index : IsIndexOf entries names nodes
   pub children_are : AreLists (length entries + 1) (children_of entries) children

@@ -1,5 +1,6 @@
 ghost use Rattle.std.specs.Prelude.{◌≡◌, ℕ, ◌+◌, ◌<◌, ◌≤◌, [], ◌∷◌, ◌++◌, length, map, take, slice_get, IfOk, IfErr, OnOk, Some, None, IfSome, ◌⊎◌, string_bytes, option_map, position};
 ghost use Rattle.std.specs.Str.{bytes_eq};
+ghost use Rattle.pm_base.specs.Limits.{most_nodes};
 ghost use Rattle.pm_tree.specs.Entries.{entry_of, entries_of, entry_at, entry_refusal, node_named, refusals_after, parents_of, leaves_of};
 ghost use Rattle.pm_tree.specs.Shape.{IsTree};
 ghost use Rattle.pm_tree.specs.Tables.{IsIndexOf, IsRowOf};
@@ -9,10 +10,8 @@ use crate::fault::TreeFault;
 use crate::name::{AUCTIONEER, is_name};
 use crate::node::{Node, NodeId};
 use indexmap::IndexSet;
+use pm_base::MOST_DEPTH;
 use std::alloc::{AllocError, Global};
-
-/// The most concentrators on a path to the auctioneer.
-const MAX_DEPTH: u32 = 6;
 
 /// The names and the node table of the entries so far, both with the auctioneer first.
 #[derive(Drop)]
@@ -23,7 +22,7 @@ pub(crate) struct Index {
 
 /// Checks the entries in list order, and gives the index of all of them.
 pub(crate) fn index_entries(alloc: Global, entries: &[TreeEntry]) -> Result<Index, TreeFault>
-    requires { length entries.now ≤ 256 }
+    requires { length entries.now ≤ most_nodes }
     ensures index { IfOk result (λ index.
         IsIndexOf (entries_of entries.now) (map string_bytes index.names.keys) index.nodes.items) }
     ensures lawful { let es = entries_of entries.now in OnOk result (IsTree (parents_of es) (leaves_of es)) }
@@ -59,7 +58,7 @@ impl Index {
     /// Checks the entry at a place after the entries before it, and gives its row.
     fn check(&self, entries: &[TreeEntry], place: usize) -> Result<Node, TreeFault>
         requires inside { place < length entries.now }
-        requires few { length entries.now ≤ 256 }
+        requires few { length entries.now ≤ most_nodes }
         requires index { let before = take place (entries_of entries.now) in
             IsIndexOf before (map string_bytes self.now.names.keys) self.now.nodes.items }
         requires lawful { let before = take place (entries_of entries.now) in
@@ -93,7 +92,7 @@ impl Index {
                 depth: above.depth,
             });
         }
-        if above.depth >= MAX_DEPTH {
+        if above.depth >= MOST_DEPTH {
             return Err(TreeFault::TooDeep { at });
         }
         Ok(Node {
@@ -118,7 +117,7 @@ impl Index {
 
 /// The node with the name, among names with the auctioneer's first.
 pub(crate) fn find_node(names: &IndexSet<String>, name: &str) -> Option<NodeId>
-    requires { length names.now.keys ≤ 257 }
+    requires { length names.now.keys ≤ most_nodes + 1 }
     ensures { option_map (λ node. node.0) result
         ≡ position (bytes_eq name.now) (map string_bytes names.now.keys) }
 {

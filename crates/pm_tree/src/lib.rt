@@ -11,6 +11,7 @@
 mod entry;
 mod fault;
 mod index;
+mod laws;
 mod lists;
 mod name;
 mod node;
@@ -21,5 +22,6 @@ mod tree;
 
 pub use entry::TreeEntry;
 pub use fault::TreeFault;
+pub use laws::places_tell_the_children;
 pub use node::NodeId;
 pub use tree::Tree;

@@ -1,4 +1,5 @@
 ghost use Rattle.std.specs.Prelude.{◌≡◌, ℕ, ◌+◌, ◌<◌, ◌≤◌, [], ◌∷◌, ◌++◌, length, slice_index_or, slice_set, IfOk, OnOk};
+ghost use Rattle.pm_base.specs.Limits.{most_nodes};
 ghost use Rattle.pm_tree.specs.Shape.{children_at, leaves_below_at, place_at, IsTree};
 ghost use Rattle.pm_tree.specs.Tables.{lists_of, shape_parents, shape_leaves, added_on_path, AreLists, AreNumbers, IsNodeTable};
 
@@ -16,7 +17,7 @@ pub(crate) struct Children {
 pub(crate) fn collect_children(alloc: Global, nodes: &[Node]) -> Result<Children, AllocError>
     requires table { IsNodeTable (shape_parents nodes.now) (shape_leaves nodes.now) nodes.now }
     requires lawful { IsTree (shape_parents nodes.now) (shape_leaves nodes.now) }
-    requires few { length nodes.now ≤ 257 }
+    requires few { length nodes.now ≤ most_nodes + 1 }
     ensures lists { IfOk result (λ children.
         AreLists (length nodes.now) (children_at (shape_parents nodes.now)) (lists_of children.lists.items)) }
     ensures places { IfOk result (λ children.
@@ -37,7 +38,7 @@ pub(crate) fn collect_children(alloc: Global, nodes: &[Node]) -> Result<Children
 pub(crate) fn collect_leaves(alloc: Global, nodes: &[Node]) -> Result<Vec<Vec<NodeId>>, AllocError>
     requires table { IsNodeTable (shape_parents nodes.now) (shape_leaves nodes.now) nodes.now }
     requires lawful { IsTree (shape_parents nodes.now) (shape_leaves nodes.now) }
-    requires few { length nodes.now ≤ 257 }
+    requires few { length nodes.now ≤ most_nodes + 1 }
     ensures { let leaves_below = leaves_below_at (shape_parents nodes.now) (shape_leaves nodes.now) in
         IfOk result (λ lists. AreLists (length nodes.now) leaves_below (lists_of lists.items)) }
 {

@@ -1,4 +1,5 @@
 ghost use Rattle.std.specs.Prelude.{◌≡◌, ℕ, ◌<◌, ◌≤◌, ◌⊎◌, ◌==◌, ◌↔◌, IsTrue, length, false, Ok, Err, option_map};
+ghost use Rattle.pm_base.specs.Limits.{most_nodes, most_depth};
 ghost use Rattle.pm_tree.specs.Entries.{entries_of, checked_tree, node_named, name_of, parent_of, is_leaf_at, depth_of, children_of, leaves_below_of, place_of, parents_of, leaves_of};
 ghost use Rattle.pm_tree.specs.Shape.{IsTree};
 ghost use Rattle.pm_tree.specs.Tables.{numbers};
@@ -10,11 +11,9 @@ use crate::lists::{collect_children, collect_leaves};
 use crate::node::{Node, NodeId};
 use crate::same::same_entries;
 use indexmap::IndexSet;
+use pm_base::MOST_NODES;
 use std::alloc::Global;
 use std::marker::Model;
-
-/// The most entries of a tree.
-const MAX_ENTRIES: usize = 256;
 
 /// A lawful tree, which contracts see as the list of its entries.
 #[derive(Drop)]
@@ -53,7 +52,7 @@ impl Tree {
     pub fn new(alloc: Global, entries: Vec<TreeEntry>) -> Result<Tree, TreeFault>
         ensures tree { (result ≡ checked_tree (entries_of entries.items)) ⊎ (result ≡ Err TreeFault.NoMemory) }
     {
-        if entries.len() > MAX_ENTRIES {
+        if entries.len() > MOST_NODES {
             return Err(TreeFault::TooMany {
                 have: entries.len(),
             });
@@ -74,7 +73,7 @@ impl Tree {
     /// How many entries the tree has, so the number of its last node.
     pub fn len(&self) -> u32
         ensures len { result ≡ length self.now }
-        ensures few { result ≤ 256 }
+        ensures few { result ≤ most_nodes }
         ensures accepted { checked_tree self.now ≡ Ok self.now }
         ensures lawful { IsTree (parents_of self.now) (leaves_of self.now) }
     {
@@ -131,7 +130,7 @@ impl Tree {
     pub fn depth(&self, node: NodeId) -> u32
         requires { node.0 ≤ length self.now }
         ensures depth { result ≡ depth_of self.now node.0 }
-        ensures shallow { result ≤ 6 }
+        ensures shallow { result ≤ most_depth }
     {
         self.nodes[node.0 as usize].depth
     }

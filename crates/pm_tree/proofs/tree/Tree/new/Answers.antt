@@ -1,5 +1,6 @@
 use Rattle.std.proofs.Common.{◌≡◌, ◌≤◌, ◌∙◌, ap, subst, inl, length, arith, List, [], map, slice_get, string_bytes, Err, None, Some, ◌⊎◌}
 use Rattle.std.proofs.lemmas.Result.{err_from_is_err_and}
+use Rattle.pm_base.specs.Limits.{most_nodes}
 use Rattle.pm_tree.specs.Shape.{IsTree, children_at, leaves_below_at, place_at}
 use Rattle.pm_tree.specs.Entries.{entries_of, parents_of, leaves_of, refusals_after}
 use Rattle.pm_tree.specs.Tables.{IsIndexOf, AreLists, AreNumbers, shape_parents, shape_leaves, lists_of}
@@ -11,8 +12,11 @@ use Rattle.pm_tree.proofs.Loop.{length-entries_of}
 use Rattle.pm_tree.proofs.Whole.{too_many, entry_refused, first_refusal-few, tree_accepted, length-index, kept_all}
 use Rattle.pm_tree.proofs.tree.Tree.new.Goals as goal
 
-pub returns-then-len-gt-MAX_ENTRIES : goal.returns-then-len-gt-MAX_ENTRIES
-returns-then-len-gt-MAX_ENTRIES c = record { tree = inl (too_many (entries_of c.args.entries.items) _ (omega (arith, length-entries_of c.args.entries.items, c.args.entries.ok)) (omega arith)) }
+pub returns-then-len-gt-MOST_NODES : goal.returns-then-len-gt-MOST_NODES
+returns-then-len-gt-MOST_NODES c =
+    record {
+      tree = inl (too_many (entries_of c.args.entries.items) _ (omega (arith, length-entries_of c.args.entries.items, c.args.entries.ok)) (omega arith));
+    }
 
 pub returns-in_err-index : goal.returns-in_err-index
 returns-in_err-index c =
@@ -33,7 +37,7 @@ collect_leaves-requires-clause-few c =
 
 pub invariant_of-result : goal.invariant_of-result
 invariant_of-result c =
-    let few : length (entries_of c.args.entries.items) ≤ 256 = omega (arith, length-entries_of c.args.entries.items, c.args.entries.ok) in
+    let few : length (entries_of c.args.entries.items) ≤ most_nodes = omega (arith, length-entries_of c.args.entries.items, c.args.entries.ok) in
     let accepted = subst (λ (es : List TreeEntry). slice_get (refusals_after [] (entries_of es)) 0 ≡ None) c.deref.ensures.value c.in_ok-index.ensures.accepted in
     kept_all _ _ _ _ _ _ (first_refusal-few (entries_of c.args.entries.items) few ∙ accepted) few
     (subst (λ (es : List TreeEntry). IsTree (parents_of (entries_of es)) (leaves_of (entries_of es))) c.deref.ensures.value c.in_ok-index.ensures.lawful)
@@ -44,6 +48,6 @@ invariant_of-result c =
 
 pub returns : goal.returns
 returns c =
-    let few : length (entries_of c.args.entries.items) ≤ 256 = omega (arith, length-entries_of c.args.entries.items, c.args.entries.ok) in
+    let few : length (entries_of c.args.entries.items) ≤ most_nodes = omega (arith, length-entries_of c.args.entries.items, c.args.entries.ok) in
     let accepted = subst (λ (es : List TreeEntry). slice_get (refusals_after [] (entries_of es)) 0 ≡ None) c.deref.ensures.value c.in_ok-index.ensures.accepted in
     record { tree = inl (tree_accepted (entries_of c.args.entries.items) (first_refusal-few (entries_of c.args.entries.items) few ∙ accepted)) }

@@ -1,0 +1,5 @@
+use Rattle.pm_points.proofs.LastPoint.{Above}
+use Rattle.pm_points.proofs.search.find_last_at_most.Given as goal
+
+abbrev pub invariant-loop-at : goal.invariant-loop-at
+invariant-loop-at l = Above l.points l.fn.price l.at
