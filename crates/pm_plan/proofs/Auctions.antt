@@ -4,9 +4,9 @@ use Rattle.std.specs.Prelude.{◌==◌}
 use Rattle.std.specs.List.{range_with_len}
 use Rattle.pm_bid.specs.Bids.{demand_at, sum_of, zeros}
 use Rattle.pm_bid.specs.Clearing.{clearing_step}
-use Rattle.pm_strategy.specs.Strategies.{bid_of}
-use Rattle.pm_plan.specs.Plans.{PlanData, node, is_member, group}
-use Rattle.pm_plan.specs.Auction.{States, demand_of, part_in, sum_in, announced, within_limits, total, plain, local_step, group_step, local, power, limited}
+use Rattle.pm_bid.specs.Limited.{within_limits, local_step}
+use Rattle.pm_plan.specs.Plans.{PlanData, node, limits_of, is_member, group}
+use Rattle.pm_plan.specs.Auction.{States, node_bid, demand_of, part_in, sum_in, announced, total, plain, group_step, local, power, limited}
 use Rattle.pm_base.specs.Cuts.{Cut}
 
 pub map_range_same : {X : Type 0} (f g : ℕ → X) (a n : ℕ) → ((k : ℕ) → a ≤ k → k < a + n → f k ≡ g k) → map f (range_with_len a n) ≡ map g (range_with_len a n)
@@ -26,7 +26,7 @@ Agree plan cut s t = (d : ℕ) → 1 ≤ d → d < 1 + length plan.nodes → s d
 pub demand_same : (plan : PlanData) (s t : States) (cut : Cut) (d : ℕ) → s d (cut d) ≡ t d (cut d) → demand_of plan s cut d ≡ demand_of plan t cut d
 unfolding demand_of
 demand_same plan s t cut d same =
-    ap (λ z. cond (is_member plan d (cut d)) (bid_of (node plan d).kind z plan.arrays plan.basis.steps) (zeros plan.basis.steps)) same
+    ap (λ z. cond (is_member plan d (cut d)) (node_bid plan (node plan d) z) (zeros plan.basis.steps)) same
 
 pub sum_same : (plan : PlanData) (s t : States) (cut : Cut) (g : ℕ) → Agree plan cut s t → sum_in plan s cut g ≡ sum_in plan t cut g
 unfolding sum_in part_in
@@ -39,7 +39,7 @@ unfolding total announced
 total_same plan s t cut same =
     ap (λ bid. sum_of plan.basis.steps (bid ∷ map (announced plan s cut) (limited plan))) (sum_same plan s t cut 0 same)
     ∙ ap (λ bids. sum_of plan.basis.steps (sum_in plan t cut 0 ∷ bids)) (map_same (announced plan s cut) (announced plan t cut) (limited plan)
-    (λ g. ap (within_limits (node plan g).limits) (sum_same plan s t cut g same)))
+    (λ g. ap (within_limits (limits_of (node plan g))) (sum_same plan s t cut g same)))
 
 pub plain_same : (plan : PlanData) (s t : States) (cut : Cut) → Agree plan cut s t → plain plan s cut ≡ plain plan t cut
 unfolding plain
@@ -48,8 +48,8 @@ plain_same plan s t cut same = ap clearing_step (total_same plan s t cut same)
 pub local_same : (plan : PlanData) (s t : States) (cut : Cut) (x : ℕ) → Agree plan cut s t → local plan s cut x ≡ local plan t cut x
 unfolding local group_step
 local_same plan s t cut x same =
-    ap (λ k. local_step (node plan (group plan x)).limits k (sum_in plan s cut (group plan x))) (plain_same plan s t cut same)
-    ∙ ap (local_step (node plan (group plan x)).limits (plain plan t cut)) (sum_same plan s t cut (group plan x) same)
+    ap (λ k. local_step (limits_of (node plan (group plan x))) k (sum_in plan s cut (group plan x))) (plain_same plan s t cut same)
+    ∙ ap (local_step (limits_of (node plan (group plan x))) (plain plan t cut)) (sum_same plan s t cut (group plan x) same)
 
 pub power_same : (plan : PlanData) (s t : States) (cut : Cut) (d : ℕ) → 1 ≤ d → d < 1 + length plan.nodes → Agree plan cut s t → power plan s cut d ≡ power plan t cut d
 unfolding power

@@ -1,16 +1,18 @@
 -- What holds of one node and its changes, and stays where a change is added.
-use Rattle.std.proofs.Common.{◌≡◌, ◌∙◌, sym, ap, ℕ, ◌+◌, ◌<◌, ◌≤◌, ℤ, List, [], ◌∷◌, ◌++◌, length, get_or, refl, arith, subst, inl, inr, IsTrue, Some}
+use Rattle.std.proofs.Common.{◌≡◌, ◌∙◌, sym, ap, ℕ, ◌+◌, ◌<◌, ◌≤◌, List, [], ◌∷◌, ◌++◌, length, get_or, refl, arith, subst, inl, inr, IsTrue}
 use Rattle.std.proofs.Math.ListN.{get_or-append}
 use Rattle.std.proofs.Math.Seq.{get_or-append_seam}
 use Rattle.std.proofs.lemmas.Bool.{cases_lt}
 use Rattle.std.proofs.lemmas.List.{length-append}
 use Rattle.pm_device.specs.Kinds.{is_valid, state_fits}
 use Rattle.pm_device.specs.declared.kind.Kind.{Kind}
-use Rattle.pm_device.specs.declared.kind.Kind.TheVariants.{Manual}
 use Rattle.pm_plan.specs.declared.planned.Change.{Change}
 use Rattle.pm_plan.specs.declared.planned.Planned.{Planned}
-use Rattle.pm_plan.specs.Plans.{NodeData, no_node}
-use Rattle.pm_plan.specs.Kept.{no_change, change_fits, AreLimits}
+use Rattle.pm_base.specs.Limits.{AreLimits}
+use Rattle.pm_plan.specs.Devices.{DeviceData}
+use Rattle.pm_plan.specs.declared.node.Node.TheVariants.{Concentrator, Limited, Device}
+use Rattle.pm_plan.specs.Plans.{NodeData}
+use Rattle.pm_plan.specs.Kept.{no_change, change_fits}
 use Rattle.pm_plan.specs.Building.{with_change}
 
 abbrev change_in : List Change → ℕ → Change
@@ -23,11 +25,17 @@ pub record ChangesHold (kind : Kind) (p : ℕ) (changes : List Change) : Type 0 
   pub last : (n : ℕ) → n < length changes → (get_or changes n no_change).phase ≤ p
   pub rise : (m n : ℕ) → m ≤ n → n < length changes → (get_or changes m no_change).phase ≤ (get_or changes n no_change).phase
 
-pub record NodeHolds (p : ℕ) (n : NodeData) : Type 0 where
-  pub valid : IsTrue (is_valid n.kind)
-  pub start : IsTrue (state_fits n.kind n.start)
-  pub changes : ChangesHold n.kind p n.changes
-  pub limits : (floor ceiling : ℤ) → n.limits ≡ Some (floor, ceiling) → AreLimits floor ceiling
+-- what is planned for a device, where phase p is the last so far
+pub record DeviceHolds (p : ℕ) (planned : DeviceData) : Type 0 where
+  pub valid : IsTrue (is_valid planned.kind)
+  pub start : IsTrue (state_fits planned.kind planned.start)
+  pub changes : ChangesHold planned.kind p planned.changes
+
+-- the same of any node
+abbrev pub NodeHolds : ℕ → NodeData → Type 0
+NodeHolds p Concentrator = Unit {0}
+NodeHolds p (Limited limits) = AreLimits limits
+NodeHolds p (Device planned) = DeviceHolds p planned
 
 pub no_changes-hold : (kind : Kind) (p : ℕ) → ChangesHold kind p []
 no_changes-hold kind p = record {
@@ -36,9 +44,6 @@ no_changes-hold kind p = record {
   last = λ n h. absurd (omega arith);
   rise = λ m n h i. absurd (omega arith);
 }
-
-pub no_node-holds : (p : ℕ) → NodeHolds p no_node
-no_node-holds p = record { valid = refl; start = refl; changes = no_changes-hold Manual p; limits = λ floor ceiling h. absurd (cc h) }
 
 -- an element of a list with one more is an old one or the new one
 before : (changes : List Change) (new : Change) (n : ℕ) → n < length changes → get_or (changes ++ new ∷ []) n no_change ≡ get_or changes n no_change
@@ -82,20 +87,26 @@ one_more_change kind p changes new hold is low fits = record {
   rise = rises_with kind p changes new hold is;
 }
 
--- a node with one more change of the last phase
-pub with_change-holds : (p : ℕ) (n : NodeData) (what : Planned) → NodeHolds p n → 1 ≤ p → IsTrue (change_fits n.kind what) → NodeHolds p (with_change n p what)
-with_change-holds p n what hold low fits = record {
+-- a device with one more change of the last phase
+pub with_change-holds : (p : ℕ) (planned : DeviceData) (what : Planned) → DeviceHolds p planned → 1 ≤ p → IsTrue (change_fits planned.kind what) →
+    DeviceHolds p (with_change p what planned)
+with_change-holds p planned what hold low fits = record {
   valid = hold.valid;
   start = hold.start;
-  changes = one_more_change n.kind p n.changes (record { phase = p; what = what }) hold.changes refl low fits;
-  limits = hold.limits;
+  changes = one_more_change planned.kind p planned.changes (record { phase = p; what = what }) hold.changes refl low fits;
 }
 
 -- one phase more may have changes
 pub next_phase : (p : ℕ) (n : NodeData) → NodeHolds p n → NodeHolds (p + 1) n
-next_phase p n hold = record {
+next_phase p Concentrator hold = tt
+next_phase p (Limited limits) hold = hold
+next_phase p (Device planned) hold = record {
   valid = hold.valid;
   start = hold.start;
-  changes = record { fit = hold.changes.fit; first = hold.changes.first; last = λ k h. (let le = hold.changes.last k h in omega arith); rise = hold.changes.rise };
-  limits = hold.limits;
+  changes = record {
+    fit = hold.changes.fit;
+    first = hold.changes.first;
+    last = λ k h. (let le = hold.changes.last k h in omega arith);
+    rise = hold.changes.rise;
+  };
 }

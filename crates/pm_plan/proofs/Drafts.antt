@@ -1,5 +1,5 @@
 -- One more change of a device, the group of a node, and names of devices.
-use Rattle.std.proofs.Common.{◌≡◌, ◌∙◌, sym, ap, ℕ, zero, suc, ◌+◌, ◌-◌, ◌<◌, ◌≤◌, ℤ, true, false, List, [], ◌++◌, Some, length, get_or, map, take, drop, arith}
+use Rattle.std.proofs.Common.{◌≡◌, ◌∙◌, sym, ap, ℕ, zero, suc, ◌+◌, ◌-◌, ◌<◌, ◌≤◌, true, false, List, [], ◌++◌, Some, length, get_or, map, take, drop, arith}
 use Rattle.std.proofs.Math.ListN.{set}
 use Rattle.std.proofs.lemmas.Bool.{cond-true, cond-false}
 use Rattle.std.proofs.lemmas.List.{get_or_read, get_or_default, length-map}
@@ -9,9 +9,10 @@ use Rattle.std.proofs.lemmas.List.Edits.{map_over_more}
 use Rattle.pm_tree.specs.Entries.{Entry, parents_of, leaves_of, node_named, names_of, is_leaf_at}
 use Rattle.pm_tree.specs.Shape.{IsTree}
 use Rattle.pm_plan.specs.declared.planned.Planned.{Planned}
-use Rattle.pm_plan.specs.Plans.{PlanData, NodeData, no_node, node, is_limited, parent, group, group_in}
+use Rattle.pm_plan.specs.declared.node.Node.TheVariants.{Concentrator}
+use Rattle.pm_plan.specs.Plans.{PlanData, NodeData, node, is_limited, parent, group, group_in}
 use Rattle.pm_plan.proofs.Groups.{Earlier, group-up, length-parents_of}
-use Rattle.pm_plan.specs.Building.{with_change, with_change_of, ticked}
+use Rattle.pm_plan.specs.Building.{with_change, map_device, with_change_of}
 
 -- where the parent is limited, it is the group
 pub group_is_parent : (plan : PlanData) (x : ℕ) → 1 ≤ x → is_limited plan (parent plan x) ≡ true → group plan x ≡ parent plan x
@@ -30,20 +31,21 @@ limited_is_no_root plan zero limited = absurd (let h : false ≡ true = limited 
 limited_is_no_root plan (suc x) limited = omega arith
 
 -- a device's node was exchanged for one with one more change
-pub changed_is : (plan : PlanData) (d p : ℕ) (what : Planned) (old new : NodeData) → 1 ≤ d → d ≤ length plan.nodes → old ≡ get_or plan.nodes (d - 1) old → new ≡ with_change old p what →
+pub changed_is : (plan : PlanData) (d p : ℕ) (what : Planned) (old new : NodeData) → 1 ≤ d → d ≤ length plan.nodes →
+    old ≡ get_or plan.nodes (d - 1) old → new ≡ map_device (with_change p what) old →
     (let changed : PlanData = record plan { nodes = set plan.nodes (d - 1) new } in changed) ≡ with_change_of plan d p what
 unfolding with_change_of
 changed_is plan zero p what old new low high read made = absurd (omega arith)
 changed_is plan (suc k) p what old new low high read made =
     let place : suc k - 1 ≡ k = omega arith in
-    let here : old ≡ node plan (suc k) = get_or_read plan.nodes k old (omega arith) (read ∙ ap (λ i. get_or plan.nodes i old) place) no_node in
-    ap (λ n. (let changed : PlanData = record plan { nodes = set plan.nodes (suc k - 1) n } in changed)) (made ∙ ap (λ n. with_change n p what) here)
+    let here : old ≡ node plan (suc k) = get_or_read plan.nodes k old (omega arith) (read ∙ ap (λ i. get_or plan.nodes i old) place) Concentrator in
+    ap (λ n. (let changed : PlanData = record plan { nodes = set plan.nodes (suc k - 1) n } in changed)) (made ∙ ap (map_device (with_change p what)) here)
 
--- one more node was ticked
-pub ticked_more : (p : ℕ) (minutes : ℤ) (xs ys : List NodeData) (i : ℕ) (d y : NodeData) → i < length xs → i < length ys → ys ≡ map (ticked p minutes) (take i xs) ++ drop i xs → y ≡ ticked p minutes (get_or ys i d) →
-    set ys i y ≡ map (ticked p minutes) (take (i + 1) xs) ++ drop (i + 1) xs
-ticked_more p minutes xs ys i d y inside within before made =
-    ap (set ys i) made ∙ map_over_more (ticked p minutes) xs ys i (get_or ys i d) inside before (get_or_default ys i d (get_or ys i d) within)
+-- one more node was changed by f
+pub map_more : (f : NodeData → NodeData) (xs ys : List NodeData) (i : ℕ) (d y : NodeData) → i < length xs → i < length ys →
+    ys ≡ map f (take i xs) ++ drop i xs → y ≡ f (get_or ys i d) → set ys i y ≡ map f (take (i + 1) xs) ++ drop (i + 1) xs
+map_more f xs ys i d y inside within before made =
+    ap (set ys i) made ∙ map_over_more f xs ys i (get_or ys i d) inside before (get_or_default ys i d (get_or ys i d) within)
 
 -- the node of a name is one of the tree, and a device is not the auctioneer
 pub named_inside : (entries : List Entry) (name : List ℕ) (x : ℕ) → node_named entries name ≡ Some x → x ≤ length entries

@@ -1,5 +1,5 @@
 -- When kinds, changes and minutes are the same.
-use Rattle.std.proofs.Common.{◌≡◌, ◌∙◌, sym, ap, ℕ, zero, suc, ℤ, true, false, ◌&&◌, refl, eqb, Decides, Option, Some, None}
+use Rattle.std.proofs.Common.{◌≡◌, ◌∙◌, sym, ap, ℕ, zero, suc, ℤ, true, false, ◌&&◌, refl, eqb, IsTrue, ◌↔◌, Option, Some, None}
 use Rattle.std.specs.Option.{option_eq}
 use Rattle.std.specs.Ordering.{int_eq}
 use Rattle.std.proofs.lemmas.Bool.{false≢true}
@@ -14,10 +14,10 @@ use Rattle.pm_plan.specs.declared.planned.Planned.TheVariants.{Join, Leave, Set,
 use Rattle.pm_plan.specs.contracts.planned.PlannedPartialEq.TheImpl as planned
 
 -- a test that fails at what does not hold
-fails : {P : Type 0} → (P → false ≡ true) → Decides false P
+fails : {P : Type 0} → (P → false ≡ true) → IsTrue false ↔ P
 fails not = (λ e. absurd (false≢true e), not)
 
-pub same_minutes : (x y : Option ℤ) → Decides (option_eq int_eq x y) (x ≡ y)
+pub same_minutes : (x y : Option ℤ) → IsTrue (option_eq int_eq x y) ↔ (x ≡ y)
 same_minutes None None = (λ _. refl, λ _. refl)
 same_minutes None (Some y) = fails (λ e. absurd (cc e))
 same_minutes (Some x) None = fails (λ e. absurd (cc e))
@@ -47,14 +47,15 @@ kind_of-key_of Manual = refl
 pub kinds_of_keys : (kind other : Kind) → key_of kind ≡ key_of other → kind ≡ other
 kinds_of_keys kind other e = sym (kind_of-key_of kind) ∙ ap kind_of e ∙ kind_of-key_of other
 
-pub same_keys : (x y : ℕ × ℤ × ℤ × ℤ × ℤ × ℤ) → Decides (((((eqb x.0 y.0 && int_eq x.1 y.1) && int_eq x.2 y.2) && int_eq x.3 y.3) && int_eq x.4 y.4) && int_eq x.5 y.5) (x ≡ y)
+pub same_keys : (x y : ℕ × ℤ × ℤ × ℤ × ℤ × ℤ) → IsTrue
+    (((((eqb x.0 y.0 && int_eq x.1 y.1) && int_eq x.2 y.2) && int_eq x.3 y.3) && int_eq x.4 y.4) && int_eq x.5 y.5) ↔ (x ≡ y)
 same_keys x y =
     Decides-like _
     (λ p. λ i. (p.0.0.0.0.0 i, p.0.0.0.0.1 i, p.0.0.0.1 i, p.0.0.1 i, p.0.1 i, p.1 i))
     (λ p. (((((λ i. (p i).0, λ i. (p i).1), λ i. (p i).2), λ i. (p i).3), λ i. (p i).4), λ i. (p i).5))
     (Decides-and _ _ (Decides-and _ _ (Decides-and _ _ (Decides-and _ _ (Decides-and _ _ (Decides-eqb x.0 y.0) (Decides-int_eq x.1 y.1)) (Decides-int_eq x.2 y.2)) (Decides-int_eq x.3 y.3)) (Decides-int_eq x.4 y.4)) (Decides-int_eq x.5 y.5))
 
-same_planned : (x y : Planned) → Decides (planned.eq-value.it x y) (x ≡ y)
+same_planned : (x y : Planned) → IsTrue (planned.eq-value.it x y) ↔ (x ≡ y)
 same_planned Join Join = (λ _. refl, λ _. refl)
 same_planned Join Leave = fails (λ e. absurd (cc e))
 same_planned Join (Set t) = fails (λ e. absurd (cc e))
@@ -73,5 +74,5 @@ same_planned (Tick m) Leave = fails (λ e. absurd (cc e))
 same_planned (Tick m) (Set t) = fails (λ e. absurd (cc e))
 same_planned (Tick m) (Tick n) = Decides-like _ (ap Tick) (λ e. cc e) (Decides-int_eq m n)
 
-pub same_change : (x y : Change) → Decides (eqb x.phase y.phase && planned.eq-value.it x.what y.what) (x ≡ y)
+pub same_change : (x y : Change) → IsTrue (eqb x.phase y.phase && planned.eq-value.it x.what y.what) ↔ (x ≡ y)
 same_change x y = Decides-like _ (λ e. λ i. record { phase = e.0 i; what = e.1 i }) (λ e. (ap (λ (c : Change). c.phase) e, ap (λ (c : Change). c.what) e)) (Decides-and _ _ (Decides-eqb x.phase y.phase) (same_planned x.what y.what))

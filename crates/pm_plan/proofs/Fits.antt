@@ -1,8 +1,9 @@
 -- The state of each device fits its kind, and so its bid lies within the limits.
-use Rattle.std.proofs.Common.{◌≡◌, ◌∙◌, sym, ap, ℕ, zero, suc, ◌-◌, ◌≤◌, ℤ, pos, ◌≤ℤ◌, ◌+ℤ◌, ◌-ℤ◌, ◌*ℤ◌, neg_ℤ, List, length, Bool, true, false, cond, refl, arith, subst, add-one, IsTrue, inl, inr}
+use Rattle.std.proofs.Common.{◌≡◌, ◌∙◌, sym, ap, ℕ, zero, suc, ◌-◌, ◌<◌, ◌≤◌, ℤ, pos, ◌≤ℤ◌, ◌+ℤ◌, ◌-ℤ◌, ◌*ℤ◌, neg_ℤ, List, length, get_or, Bool, true, false, cond, refl, arith, subst, add-one, IsTrue, inl, inr}
 use Rattle.std.proofs.Math.ListN.{get_or-eq_default}
 use Rattle.std.proofs.lemmas.Bool.{cases_lt}
 use Rattle.std.proofs.lemmas.Int.{ints, clamps}
+use Rattle.pm_bid.proofs.Sums.{length-zeros}
 use Rattle.pm_bid.specs.Bids.{AllWithinLimit, NeverRises, demand_at, zeros}
 use Rattle.pm_base.specs.Limits.{demand_limit, IsWithin}
 use Rattle.pm_device.specs.Kinds.{is_valid, state_fits, temperature_limit, is_temperature, is_between}
@@ -14,11 +15,13 @@ use Rattle.pm_strategy.specs.Strategies.{bid_of}
 use Rattle.pm_strategy.proofs.BidLaws.{length-bid_of, bid_of-within, bid_of-falls}
 use Rattle.pm_plan.specs.declared.planned.Planned.{Planned}
 use Rattle.pm_plan.specs.declared.planned.Planned.TheVariants.{Join, Leave, Set, Tick}
-use Rattle.pm_plan.specs.Plans.{PlanData, node, change_count, is_member, end}
-use Rattle.pm_plan.specs.Auction.{demand_of, local, power}
+use Rattle.pm_plan.specs.Devices.{DeviceData}
+use Rattle.pm_plan.specs.declared.node.Node.TheVariants.{Concentrator, Limited, Device}
+use Rattle.pm_plan.specs.Plans.{PlanData, NodeData, node, changes_of, change_count, is_member, end}
+use Rattle.pm_plan.specs.Auction.{node_bid, demand_of, local, power}
 use Rattle.pm_base.specs.Cuts.{Cut}
 use Rattle.pm_plan.specs.States.{changed_state, state}
-use Rattle.pm_plan.specs.Kept.{IsPlan, change_fits, change_at}
+use Rattle.pm_plan.specs.Kept.{IsPlan, no_change, change_fits, change_at}
 use Rattle.pm_plan.proofs.StateLaws.{state-start, state-next}
 
 nearest-fits : (low high x : ℤ) → low ≤ℤ high → IsTrue (is_between low high (nearest_between low high x))
@@ -47,26 +50,41 @@ changed-fits kind state power Leave valid fits change = fits
 changed-fits kind state power (Set value) valid fits change = change
 changed-fits kind state power (Tick minutes) valid fits change = tick-fits kind state power minutes valid fits
 
-pub state-fits : (plan : PlanData) (d n : ℕ) → IsPlan plan → 1 ≤ d → d ≤ length plan.nodes → n ≤ change_count plan d → IsTrue (state_fits (node plan d).kind (state plan d n))
-state-fits plan d zero is low high within = subst (λ z. IsTrue (state_fits (node plan d).kind z)) (sym (state-start plan d)) (is.within.starts d)
-state-fits plan d (suc n) is low high within =
-    let kind = (node plan d).kind in
-    let P = λ (z : ℤ). IsTrue (state_fits kind z) in
+-- each change of a device fits its kind
+change-fits : (plan : PlanData) (d n : ℕ) (planned : DeviceData) → IsPlan plan → node plan d ≡ Device planned → n < change_count plan d →
+    IsTrue (change_fits planned.kind (change_at plan d n).what)
+change-fits plan d n planned is here inside =
+    let P : NodeData → Type 0 = λ (m : NodeData). n < length (changes_of m) → IsTrue (change_fits planned.kind (get_or (changes_of m) n no_change).what) in
+    subst P (sym here) ((is.within.devices d planned here).changes n no_change) inside
+
+pub state-fits : (plan : PlanData) (d n : ℕ) (planned : DeviceData) → IsPlan plan → node plan d ≡ Device planned → n ≤ change_count plan d →
+    IsTrue (state_fits planned.kind (state plan d n))
+state-fits plan d zero planned is here within = subst (λ z. IsTrue (state_fits planned.kind z)) (sym (state-start plan d planned here))
+    (is.within.devices d planned here).start
+state-fits plan d (suc n) planned is here within =
+    let P = λ (z : ℤ). IsTrue (state_fits planned.kind z) in
     let what = (change_at plan d n).what in
     let used = power plan (state plan) (end plan ((change_at plan d n).phase - 1)) d in
-    let before = state-fits plan d n is low high (omega arith) in
-    let next = ap (state plan d) (sym (add-one n)) ∙ state-next plan d n is.in_phases low (omega arith) (omega arith) in
-    subst P (sym next) (changed-fits kind (state plan d n) used what (is.within.kinds d) before (is.within.changes d n (omega arith)))
+    let before = state-fits plan d n planned is here (omega arith) in
+    let next = ap (state plan d) (sym (add-one n)) ∙ state-next plan d n planned is.in_phases here (omega arith) in
+    let valid = (is.within.devices d planned here).kind in
+    subst P (sym next) (changed-fits planned.kind (state plan d n) used what valid before (change-fits plan d n planned is here (omega arith)))
 
-pub bid-steps : (plan : PlanData) (d n : ℕ) → IsPlan plan → length (bid_of (node plan d).kind (state plan d n) plan.arrays plan.basis.steps) ≡ plan.basis.steps
-bid-steps plan d n is = length-bid_of (node plan d).kind (state plan d n) plan.arrays plan.basis.steps is.arrays.steps
+pub bid-steps : (plan : PlanData) (n : NodeData) (z : ℤ) → IsPlan plan → length (node_bid plan n z) ≡ plan.basis.steps
+bid-steps plan Concentrator z is = length-zeros plan.basis.steps
+bid-steps plan (Limited limits) z is = length-zeros plan.basis.steps
+bid-steps plan (Device planned) z is = length-bid_of planned.kind z plan.arrays plan.basis.steps is.arrays.steps
 
-pub bid-within : (plan : PlanData) (d n : ℕ) → IsPlan plan → 1 ≤ d → d ≤ length plan.nodes → n ≤ change_count plan d → AllWithinLimit demand_limit (bid_of (node plan d).kind (state plan d n) plan.arrays plan.basis.steps)
-bid-within plan d n is low high within =
-    bid_of-within (node plan d).kind (state plan d n) plan.arrays plan.basis.steps (is.within.kinds d) (state-fits plan d n is low high within) (λ _. is.arrays.within)
+pub bid-within : (plan : PlanData) (d n : ℕ) (planned : DeviceData) → IsPlan plan → node plan d ≡ Device planned → n ≤ change_count plan d →
+    AllWithinLimit demand_limit (bid_of planned.kind (state plan d n) plan.arrays plan.basis.steps)
+bid-within plan d n planned is here within =
+    bid_of-within planned.kind (state plan d n) plan.arrays plan.basis.steps (is.within.devices d planned here).kind
+    (state-fits plan d n planned is here within) (λ _. is.arrays.within)
 
-pub bid-falls : (plan : PlanData) (d n : ℕ) → IsPlan plan → NeverRises (bid_of (node plan d).kind (state plan d n) plan.arrays plan.basis.steps)
-bid-falls plan d n is = bid_of-falls (node plan d).kind (state plan d n) plan.arrays plan.basis.steps (is.within.kinds d) (λ _. is.arrays.fall)
+pub bid-falls : (plan : PlanData) (d n : ℕ) (planned : DeviceData) → IsPlan plan → node plan d ≡ Device planned →
+    NeverRises (bid_of planned.kind (state plan d n) plan.arrays plan.basis.steps)
+bid-falls plan d n planned is here = bid_of-falls planned.kind (state plan d n) plan.arrays plan.basis.steps (is.within.devices d planned here).kind
+    (λ _. is.arrays.fall)
 
 none-within : (limit : ℕ) → IsWithin limit (pos 0)
 none-within limit = record { low = omega (arith, ints); high = omega (arith, ints) }
@@ -83,10 +101,21 @@ either : (P : List ℤ → Type 0) (b : Bool) (x y : List ℤ) → P x → P y �
 either P true x y here there = here
 either P false x y here there = there
 
-pub demand-within : (plan : PlanData) (cut : Cut) (d : ℕ) → IsPlan plan → 1 ≤ d → d ≤ length plan.nodes → cut d ≤ change_count plan d → AllWithinLimit demand_limit (demand_of plan (state plan) cut d)
+-- the bid of a node lies within the limit, where that of a device does
+node_bid-within : (plan : PlanData) (n : NodeData) (z : ℤ) →
+    ((planned : DeviceData) → n ≡ Device planned → AllWithinLimit demand_limit (bid_of planned.kind z plan.arrays plan.basis.steps)) →
+    AllWithinLimit demand_limit (node_bid plan n z)
+node_bid-within plan Concentrator z within = zeros-within demand_limit plan.basis.steps
+node_bid-within plan (Limited limits) z within = zeros-within demand_limit plan.basis.steps
+node_bid-within plan (Device planned) z within = within planned refl
+
+pub demand-within : (plan : PlanData) (cut : Cut) (d : ℕ) → IsPlan plan → cut d ≤ change_count plan d →
+    AllWithinLimit demand_limit (demand_of plan (state plan) cut d)
 unfolding demand_of
-demand-within plan cut d is low high within =
-    either (AllWithinLimit demand_limit) (is_member plan d (cut d)) _ _ (bid-within plan d (cut d) is low high within) (zeros-within demand_limit plan.basis.steps)
+demand-within plan cut d is within =
+    either (AllWithinLimit demand_limit) (is_member plan d (cut d)) _ _
+    (node_bid-within plan (node plan d) (state plan d (cut d)) (λ planned here. bid-within plan d (cut d) planned is here within))
+    (zeros-within demand_limit plan.basis.steps)
 
 -- an element of a list within a limit, or nothing beyond its end
 element-within : (limit : ℕ) (bid : List ℤ) (k : ℕ) → AllWithinLimit limit bid → IsWithin limit (demand_at bid k)
@@ -95,7 +124,7 @@ element-within limit bid k all = elim (cases_lt k (length bid)) [
   | inr beyond ↦ subst (IsWithin limit) (sym (get_or-eq_default bid (pos 0) {n = k} beyond)) (none-within limit)
 ]
 
-pub power-within : (plan : PlanData) (cut : Cut) (d : ℕ) → IsPlan plan → 1 ≤ d → d ≤ length plan.nodes → cut d ≤ change_count plan d → IsWithin demand_limit (power plan (state plan) cut d)
+pub power-within : (plan : PlanData) (cut : Cut) (d : ℕ) → IsPlan plan → cut d ≤ change_count plan d → IsWithin demand_limit (power plan (state plan) cut d)
 unfolding power
-power-within plan cut d is low high within =
-    element-within demand_limit (demand_of plan (state plan) cut d) (local plan (state plan) cut d) (demand-within plan cut d is low high within)
+power-within plan cut d is within =
+    element-within demand_limit (demand_of plan (state plan) cut d) (local plan (state plan) cut d) (demand-within plan cut d is within)

@@ -1,5 +1,6 @@
 pub mod Folds
 pub mod Leaves
+pub mod DeviceNodes
 pub mod Inversions
 pub mod Changes
 pub mod NodesAt

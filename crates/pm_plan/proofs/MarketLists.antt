@@ -12,11 +12,13 @@ use Rattle.pm_market.specs.Lists.{Lists, Lawful, nodes, parent, is_leaf, is_memb
 use Rattle.pm_market.specs.Lists as market
 use Rattle.pm_market.specs.State.{sum_to}
 use Rattle.pm_market.specs.Bound as market_bound
-use Rattle.pm_plan.specs.Plans.{PlanData, NodeData, no_node, node, numbers, end, phases, change_count, all_changes, bound}
+use Rattle.pm_plan.specs.declared.node.Node.TheVariants.{Concentrator}
+use Rattle.pm_plan.specs.Plans.{PlanData, NodeData, node, changes_of, numbers, end, phases, change_count, all_changes, bound}
 use Rattle.pm_plan.specs.Plans as plans
 use Rattle.pm_plan.specs.Kept.{InPhases, IsPlan}
 use Rattle.pm_plan.specs.Market.{members_of, lists_of}
 use Rattle.pm_plan.proofs.Leaves.{first_of, last_of}
+use Rattle.pm_plan.proofs.DeviceNodes.{changes_of-none}
 use Rattle.pm_plan.proofs.Groups.{length-parents_of}
 use Rattle.pm_plan.proofs.Ends.{end-none, end-rises, end-last}
 
@@ -123,16 +125,19 @@ lawful plan is = record {
 -- the changes of one node, which has none where it is no leaf
 changes_of_node : (plan : PlanData) (d : ℕ) (leaf : Bool) → IsPlan plan → 1 ≤ d → d ≤ length plan.nodes → is_leaf (lists_of plan) d ≡ leaf → cond leaf (changes (lists_of plan) d) 0 ≡ change_count plan d
 changes_of_node plan d true is low high here = changes-is plan d low high
-changes_of_node plan d false is low high here = sym (ap (λ l. length l) (is.nodes.devices d (sym (is_leaf-is plan d) ∙ here)))
+changes_of_node plan d false is low high here = sym (ap (λ l. length l) (changes_of-none (node plan d) (is.nodes.devices d ∙ sym (is_leaf-is plan d) ∙ here)))
 
-changes_to : (plan : PlanData) (k : ℕ) → IsPlan plan → k ≤ length plan.nodes → sum_to k (λ d. cond (is_leaf (lists_of plan) d) (changes (lists_of plan) d) 0) ≡ sum_by (λ (n : NodeData). length n.changes) (take k plan.nodes)
+changes_to : (plan : PlanData) (k : ℕ) → IsPlan plan → k ≤ length plan.nodes →
+    sum_to k (λ d. cond (is_leaf (lists_of plan) d) (changes (lists_of plan) d) 0) ≡ sum_by (λ (n : NodeData). length (changes_of n)) (take k plan.nodes)
 unfolding sum_to
 changes_to plan zero is within = refl
 changes_to plan (suc k) is within =
     let one = changes_of_node plan (suc k) (is_leaf (lists_of plan) (suc k)) is (omega arith) within refl in
     let before = changes_to plan k is (omega arith) in
-    let more = sum_by_more (λ (n : NodeData). length n.changes) plan.nodes k no_node (omega arith) in
-    let here : sum_by (λ (n : NodeData). length n.changes) (take (suc k) plan.nodes) ≡ sum_by (λ (n : NodeData). length n.changes) (take (k + 1) plan.nodes) = ap (λ m. sum_by (λ (n : NodeData). length n.changes) (take m plan.nodes)) (sym (add-one k)) in
+    let more = sum_by_more (λ (n : NodeData). length (changes_of n)) plan.nodes k Concentrator (omega arith) in
+    let here : sum_by (λ (n : NodeData). length (changes_of n)) (take (suc k) plan.nodes)
+    ≡ sum_by (λ (n : NodeData). length (changes_of n)) (take (k + 1) plan.nodes) =
+    ap (λ m. sum_by (λ (n : NodeData). length (changes_of n)) (take m plan.nodes)) (sym (add-one k)) in
     omega (arith, one, before, more, here)
 
 pub bound-is : (plan : PlanData) → IsPlan plan → market_bound.bound (lists_of plan) ≡ bound plan

@@ -1,26 +1,28 @@
 -- The nodes of a plan after one was added or changed.
 use Rattle.std.proofs.Common.{◌≡◌, ◌∙◌, sym, ap, ℕ, zero, suc, ◌+◌, ◌-◌, ◌<◌, ◌≤◌, ◌≢◌, ℤ, Bool, List, [], ◌∷◌, ◌++◌, length, map, get_or, cond, refl, arith, subst, inl, inr}
-use Rattle.std.proofs.Math.ListN.{set, get_or-append, get_or-eq_default}
+use Rattle.std.proofs.Math.ListN.{set, get_or-append}
 use Rattle.std.proofs.Math.Seq.{get_or-append_seam}
 use Rattle.std.proofs.lemmas.Bool.{cases_lt, cases_eq}
 use Rattle.std.proofs.lemmas.List.{length-append, get_or-set_same, get_or-set_other}
 use Rattle.pm_tree.specs.Entries.{parent_of}
 use Rattle.pm_plan.specs.declared.planned.Planned.{Planned}
-use Rattle.pm_plan.specs.Plans.{PlanData, NodeData, no_node, node, node_at, parent, is_limited, group, group_in}
-use Rattle.pm_plan.specs.Building.{with_node, with_change, with_change_of, with_tick, ticked}
+use Rattle.pm_plan.specs.Devices.{DeviceData}
+use Rattle.pm_plan.specs.declared.node.Node.TheVariants.{Concentrator}
+use Rattle.pm_plan.specs.Plans.{PlanData, NodeData, node, parent, is_limited, group, group_in}
+use Rattle.pm_plan.specs.Building.{with_node, with_change, map_device, with_change_of, with_tick, ticked}
+use Rattle.pm_plan.proofs.DeviceNodes.{node-beyond}
 use Rattle.pm_plan.proofs.Groups.{Earlier, group_in-zero}
-
-pub node-beyond : (nodes : List NodeData) (x : ℕ) → length nodes < x → node_at nodes x ≡ no_node
-node-beyond nodes x far = get_or-eq_default (no_node ∷ nodes) no_node {n = x} (omega arith)
 
 -- ---- one more node
 
 pub node-old : (plan : PlanData) (new : NodeData) (x : ℕ) → x ≤ length plan.nodes → node (with_node plan new) x ≡ node plan x
-node-old plan new x inside = get_or-append (no_node ∷ plan.nodes) (new ∷ []) no_node x (omega arith)
+node-old plan new x inside = get_or-append (Concentrator ∷ plan.nodes) (new ∷ []) Concentrator x (omega arith)
 
 pub node-new : (plan : PlanData) (new : NodeData) → node (with_node plan new) (length plan.nodes + 1) ≡ new
 node-new plan new =
-    ap (λ m. get_or (no_node ∷ plan.nodes ++ new ∷ []) m no_node) (let e : length plan.nodes + 1 ≡ length (no_node ∷ plan.nodes) = omega arith in e) ∙ get_or-append_seam (no_node ∷ plan.nodes) new [] no_node
+    ap (λ m. get_or (Concentrator ∷ plan.nodes ++ new ∷ []) m Concentrator)
+    (let e : length plan.nodes + 1 ≡ length (Concentrator ∷ plan.nodes) = omega arith in e)
+    ∙ get_or-append_seam (Concentrator ∷ plan.nodes) new [] Concentrator
 
 -- what holds of each node and of the new one holds of each
 pub each_with_node : (P : NodeData → Type 0) (plan : PlanData) (new : NodeData) → ((x : ℕ) → P (node plan x)) → P new → (x : ℕ) → P (node (with_node plan new) x)
@@ -34,25 +36,37 @@ each_with_node P plan new all one x = elim (cases_lt (length plan.nodes) x) [
 
 -- ---- one more change of a node
 
-pub node-same : (plan : PlanData) (d p : ℕ) (what : Planned) → 1 ≤ d → d ≤ length plan.nodes → node (with_change_of plan d p what) d ≡ with_change (node plan d) p what
+pub node-same : (plan : PlanData) (d p : ℕ) (what : Planned) → 1 ≤ d → d ≤ length plan.nodes →
+    node (with_change_of plan d p what) d ≡ map_device (with_change p what) (node plan d)
 unfolding with_change_of
 node-same plan zero p what low high = absurd (omega arith)
 node-same plan (suc d) p what low high =
-    ap (λ i. get_or (set plan.nodes i (with_change (node plan (suc d)) p what)) d no_node) (let e : suc d - 1 ≡ d = omega arith in e)
-    ∙ get_or-set_same plan.nodes d (with_change (node plan (suc d)) p what) no_node (omega arith)
+    ap (λ i. get_or (set plan.nodes i (map_device (with_change p what) (node plan (suc d)))) d Concentrator) (let e : suc d - 1 ≡ d = omega arith in e)
+    ∙ get_or-set_same plan.nodes d (map_device (with_change p what) (node plan (suc d))) Concentrator (omega arith)
 
 pub node-other : (plan : PlanData) (d p x : ℕ) (what : Planned) → 1 ≤ d → x ≢ d → node (with_change_of plan d p what) x ≡ node plan x
 unfolding with_change_of
 node-other plan zero p x what low other = absurd (omega arith)
 node-other plan (suc d) p zero what low other = refl
 node-other plan (suc d) p (suc x) what low other =
-    ap (λ i. get_or (set plan.nodes i (with_change (node plan (suc d)) p what)) x no_node) (let e : suc d - 1 ≡ d = omega arith in e)
-    ∙ get_or-set_other plan.nodes d x (with_change (node plan (suc d)) p what) no_node (λ e. other (ap (λ n. suc n) e))
+    ap (λ i. get_or (set plan.nodes i (map_device (with_change p what) (node plan (suc d)))) x Concentrator) (let e : suc d - 1 ≡ d = omega arith in e)
+    ∙ get_or-set_other plan.nodes d x (map_device (with_change p what) (node plan (suc d))) Concentrator (λ e. other (ap (λ n. suc n) e))
 
-pub each_with_change : (P : NodeData → Type 0) (plan : PlanData) (d p : ℕ) (what : Planned) → 1 ≤ d → d ≤ length plan.nodes → ((x : ℕ) → P (node plan x)) → P (with_change (node plan d) p what) → (x : ℕ) → P (node (with_change_of plan d p what) x)
+pub each_with_change : (P : NodeData → Type 0) (plan : PlanData) (d p : ℕ) (what : Planned) → 1 ≤ d → d ≤ length plan.nodes →
+    ((x : ℕ) → P (node plan x)) → P (map_device (with_change p what) (node plan d)) → (x : ℕ) → P (node (with_change_of plan d p what) x)
 each_with_change P plan d p what low high all one x = elim (cases_eq x d) [
   | inl here ↦ subst (λ (y : ℕ). P (node (with_change_of plan d p what) y)) (sym here) (subst P (sym (node-same plan d p what low high)) one)
   | inr other ↦ subst P (sym (node-other plan d p x what low other)) (all x)
+]
+
+-- what no change of a device alters stays of each node
+pub same_with : {X : Type 0} (f : NodeData → X) → ((g : DeviceData → DeviceData) (n : NodeData) → f (map_device g n) ≡ f n) →
+    (plan : PlanData) (d p x : ℕ) (what : Planned) → 1 ≤ d → d ≤ length plan.nodes → f (node (with_change_of plan d p what) x) ≡ f (node plan x)
+same_with f keeps plan d p x what low high = elim (cases_eq x d) [
+  | inl here ↦
+      subst (λ (y : ℕ). f (node (with_change_of plan d p what) y) ≡ f (node plan y)) (sym here)
+      (ap f (node-same plan d p what low high) ∙ keeps (with_change p what) (node plan d))
+  | inr other ↦ ap f (node-other plan d p x what low other)
 ]
 
 -- ---- a tick
@@ -62,8 +76,8 @@ get_or-map_at f [] i d = refl
 get_or-map_at f (x ∷ xs) zero d = refl
 get_or-map_at f (x ∷ xs) (suc i) d = get_or-map_at f xs i d
 
-pub node-ticked : (plan : PlanData) (p : ℕ) (minutes : ℤ) (x : ℕ) → node (with_tick p minutes plan) x ≡ ticked p minutes (node plan x)
-node-ticked plan p minutes x = get_or-map_at (ticked p minutes) (no_node ∷ plan.nodes) x no_node
+pub node-ticked : (plan : PlanData) (p : ℕ) (minutes : ℤ) (x : ℕ) → node (with_tick p minutes plan) x ≡ map_device (ticked p minutes) (node plan x)
+node-ticked plan p minutes x = get_or-map_at (map_device (ticked p minutes)) (Concentrator ∷ plan.nodes) x Concentrator
 
 -- ---- groups
 

@@ -1,5 +1,5 @@
 -- What holds of a plan while its nodes are taken.
-use Rattle.std.proofs.Common.{◌≡◌, ◌∙◌, sym, ap, ℕ, zero, suc, ◌+◌, ◌<◌, ◌≤◌, ℤ, pos, neg_ℤ, true, List, [], ◌∷◌, ◌++◌, length, get_or, refl, arith, subst, inl, inr, Option, Some, None, Ok}
+use Rattle.std.proofs.Common.{◌≡◌, ◌∙◌, sym, ap, ℕ, zero, suc, ◌+◌, ◌<◌, ◌≤◌, ℤ, pos, neg_ℤ, true, List, [], ◌∷◌, ◌++◌, length, get_or, refl, arith, subst, inl, inr, Ok}
 use Rattle.std.specs.Prelude.{◌==◌, is_some, All}
 use Rattle.std.proofs.lemmas.Int.{ints}
 use Rattle.std.proofs.lemmas.Bool.{cases_lt}
@@ -11,19 +11,23 @@ use Rattle.pm_basis.specs.Prices.{BasisValue, IsBasis}
 use Rattle.pm_device.specs.Kinds.{is_valid, is_between}
 use Rattle.pm_device.proofs.Between.{is_between-tells, both_true}
 use Rattle.pm_device.specs.declared.kind.Kind.{Kind}
-use Rattle.pm_device.specs.declared.kind.Kind.TheVariants.{Manual}
-use Rattle.pm_base.specs.Limits.{sum_limit}
+use Rattle.pm_base.specs.declared.limits.Limits.{Limits}
+use Rattle.pm_base.specs.Limits.{AreLimits, sum_limit}
 use Rattle.pm_tree.specs.Entries.{Entry, parents_of, leaves_of, parent_of}
 use Rattle.pm_tree.specs.Shape.{IsTree}
 use Rattle.pm_plan.specs.declared.refusal.Place.TheVariants.{Node}
+use Rattle.pm_plan.specs.declared.node.Node.TheVariants.{Concentrator, Limited, Device}
+use Rattle.pm_plan.specs.Devices.{DeviceData}
 use Rattle.pm_plan.specs.Parts.{NodePart, concentrator, limited, device, is_device}
-use Rattle.pm_plan.specs.Plans.{PlanData, NodeData, no_node, node, node_at, is_limited, group}
-use Rattle.pm_plan.specs.Kept.{AreArrays, AreLimits}
+use Rattle.pm_plan.specs.Plans.{PlanData, NodeData, node, node_at, limits_of, changes_of, is_limited, group}
+use Rattle.pm_plan.specs.Plans as plans
+use Rattle.pm_plan.specs.Kept.{AreArrays}
 use Rattle.pm_base.specs.Outcomes.{fold_from}
 use Rattle.pm_plan.specs.Building.{are_limits, with_node, add_node, state_of, empty_plan}
 use Rattle.pm_plan.proofs.Inversions.{bind-ok, check-ok, ok-is, fold_keeps}
-use Rattle.pm_plan.proofs.Changes.{NodeHolds, no_node-holds, no_changes-hold}
-use Rattle.pm_plan.proofs.NodesAt.{node-old, node-new, node-beyond, each_with_node, group-same, group-same_all}
+use Rattle.pm_plan.proofs.Changes.{NodeHolds, no_changes-hold}
+use Rattle.pm_plan.proofs.DeviceNodes.{node-beyond}
+use Rattle.pm_plan.proofs.NodesAt.{node-old, node-new, each_with_node, group-same, group-same_all}
 use Rattle.pm_plan.proofs.Groups.{Earlier, length-parents_of}
 use Rattle.pm_plan.proofs.StatesMade.{state-made}
 
@@ -42,12 +46,12 @@ pub record NodesTaken (entries : List Entry) (done : List NodePart) (plan : Plan
   pub same_entries : plan.entries ≡ entries
   pub many : length plan.nodes ≡ length done
   pub no_minutes : plan.minutes ≡ []
-  pub unchanged : (x : ℕ) → (node plan x).changes ≡ []
-  pub free : (x : ℕ) → x < length done → is_device (get_or done x concentrator) ≡ true → (node plan (x + 1)).limits ≡ None
+  pub unchanged : (x : ℕ) → changes_of (node plan x) ≡ []
+  pub devices : (x : ℕ) → x < length done → plans.is_device (node plan (x + 1)) ≡ is_device (get_or done x concentrator)
   pub one_limit : OneLimit plan
   pub holds : Holds 0 plan
 
-nothing_at : (x : ℕ) → node_at [] x ≡ no_node
+nothing_at : (x : ℕ) → node_at [] x ≡ Concentrator
 nothing_at zero = refl
 nothing_at (suc x) = refl
 
@@ -61,18 +65,18 @@ no_elements P = λ k d inside. absurd (omega arith)
 pub nothing_taken : (basis : BasisValue) (entries : List Entry) → IsBasis basis → NodesTaken entries [] (empty_plan basis entries)
 nothing_taken basis entries sound =
     let plan = empty_plan basis entries in
-    let none : (x : ℕ) → node plan x ≡ no_node = nothing_at in
+    let none : (x : ℕ) → node plan x ≡ Concentrator = nothing_at in
     record {
       same_entries = refl;
       many = refl;
       no_minutes = refl;
-      unchanged = λ x. ap (λ (n : NodeData). n.changes) (none x);
-      free = λ x inside. absurd (omega arith);
-      one_limit = λ x inside bounded. absurd (cc (sym (ap (λ (n : NodeData). is_some n.limits) (none x)) ∙ bounded));
+      unchanged = λ x. ap changes_of (none x);
+      devices = λ x inside. absurd (omega arith);
+      one_limit = λ x inside bounded. absurd (cc (sym (ap (λ (n : NodeData). is_some (limits_of n)) (none x)) ∙ bounded));
       holds = record {
         basis = sound;
         arrays = record { steps = no_elements _; fall = no_elements _; within = no_elements _ };
-        nodes = λ x. subst (NodeHolds 0) (sym (none x)) (no_node-holds 0);
+        nodes = λ x. subst (NodeHolds 0) (sym (none x)) tt;
       };
     }
 
@@ -83,26 +87,29 @@ part_before done part x inside = get_or-append done (part ∷ []) concentrator x
 part_here : (done : List NodePart) (part : NodePart) (x : ℕ) → x ≡ length done → get_or (done ++ part ∷ []) x concentrator ≡ part
 part_here done part x is = ap (λ m. get_or (done ++ part ∷ []) m concentrator) is ∙ get_or-append_seam done part [] concentrator
 
-free_with : (entries : List Entry) (done : List NodePart) (plan : PlanData) (part : NodePart) (new : NodeData) → NodesTaken entries done plan → (is_device part ≡ true → new.limits ≡ None) →
-    (x : ℕ) → x < length (done ++ part ∷ []) → is_device (get_or (done ++ part ∷ []) x concentrator) ≡ true → (node (with_node plan new) (x + 1)).limits ≡ None
-free_with entries done plan part new before free x inside leaf =
+devices_with : (entries : List Entry) (done : List NodePart) (plan : PlanData) (part : NodePart) (new : NodeData) → NodesTaken entries done plan →
+    plans.is_device new ≡ is_device part →
+    (x : ℕ) → x < length (done ++ part ∷ []) → plans.is_device (node (with_node plan new) (x + 1)) ≡ is_device (get_or (done ++ part ∷ []) x concentrator)
+devices_with entries done plan part new before one x inside =
     let long = length-append done (part ∷ []) in
     let many = before.many in
     elim (cases_lt x (length done)) [
       | inl old ↦
-          ap (λ (n : NodeData). n.limits) (node-old plan new (x + 1) (omega arith))
-          ∙ before.free x old (ap is_device (sym (part_before done part x old)) ∙ leaf)
+          ap plans.is_device (node-old plan new (x + 1) (omega arith))
+          ∙ before.devices x old ∙ ap is_device (sym (part_before done part x old))
       | inr late ↦
           let here : x ≡ length done = omega arith in
           let place : x + 1 ≡ length plan.nodes + 1 = omega arith in
-          ap (λ y. (node (with_node plan new) y).limits) place ∙ ap (λ (n : NodeData). n.limits) (node-new plan new)
-          ∙ free (ap is_device (sym (part_here done part x here)) ∙ leaf)
+          ap (λ y. plans.is_device (node (with_node plan new) y)) place ∙ ap plans.is_device (node-new plan new)
+          ∙ one ∙ ap is_device (sym (part_here done part x here))
     ]
 
 limited_old : (plan : PlanData) (new : NodeData) (y : ℕ) → y < length plan.nodes + 1 → is_limited (with_node plan new) y ≡ is_limited plan y
-limited_old plan new y inside = ap (λ (n : NodeData). is_some n.limits) (node-old plan new y (omega arith))
+limited_old plan new y inside = ap (λ (n : NodeData). is_some (limits_of n)) (node-old plan new y (omega arith))
 
-one_limit_with : (entries : List Entry) (done : List NodePart) (plan : PlanData) (part : NodePart) (new : NodeData) → Earlier plan (length plan.entries) → NodesTaken entries done plan → (is_some new.limits ≡ true → group plan (length done + 1) ≡ 0) → OneLimit (with_node plan new)
+one_limit_with : (entries : List Entry) (done : List NodePart) (plan : PlanData) (part : NodePart) (new : NodeData) →
+    Earlier plan (length plan.entries) → NodesTaken entries done plan → (is_some (limits_of new) ≡ true → group plan (length done + 1) ≡ 0) →
+    OneLimit (with_node plan new)
 one_limit_with entries done plan part new earlier before one x inside bounded =
     let many = before.many in
     elim (cases_lt (length plan.nodes) x) [
@@ -112,27 +119,30 @@ one_limit_with entries done plan part new earlier before one x inside bounded =
       | inl late ↦ elim (cases_lt (length plan.nodes + 1) x) [
         | inl far ↦
             let long = length-append plan.nodes (new ∷ []) in
-            absurd (cc (sym (ap (λ (n : NodeData). is_some n.limits) (node-beyond (plan.nodes ++ new ∷ []) x (omega arith))) ∙ bounded))
+            absurd (cc (sym (ap (λ (n : NodeData). is_some (limits_of n)) (node-beyond (plan.nodes ++ new ∷ []) x (omega arith))) ∙ bounded))
         | inr near ↦
             let place : x ≡ length plan.nodes + 1 = omega arith in
             let number : x ≡ length done + 1 = omega arith in
-            let has : is_some new.limits ≡ true = ap (λ (n : NodeData). is_some n.limits) (sym (node-new plan new)) ∙ ap (is_limited (with_node plan new)) (sym place) ∙ bounded in
+            let has : is_some (limits_of new) ≡ true = ap (λ (n : NodeData). is_some (limits_of n)) (sym (node-new plan new))
+            ∙ ap (is_limited (with_node plan new)) (sym place) ∙ bounded in
             group-same plan (with_node plan new) (length plan.entries) (length plan.nodes + 1) x refl earlier (limited_old plan new) inside (omega arith)
             ∙ ap (group plan) number ∙ one has
       ]
     ]
 
 -- one more node
-node_taken : (entries : List Entry) (done : List NodePart) (plan : PlanData) (part : NodePart) (new : NodeData) → Earlier plan (length plan.entries) → NodesTaken entries done plan → NodeHolds 0 new → new.changes ≡ [] →
-    (is_device part ≡ true → new.limits ≡ None) → (is_some new.limits ≡ true → group plan (length done + 1) ≡ 0) → NodesTaken entries (done ++ part ∷ []) (with_node plan new)
-node_taken entries done plan part new earlier before hold none free one =
+node_taken : (entries : List Entry) (done : List NodePart) (plan : PlanData) (part : NodePart) (new : NodeData) → Earlier plan (length plan.entries) →
+    NodesTaken entries done plan → NodeHolds 0 new → changes_of new ≡ [] →
+    plans.is_device new ≡ is_device part → (is_some (limits_of new) ≡ true → group plan (length done + 1) ≡ 0) →
+    NodesTaken entries (done ++ part ∷ []) (with_node plan new)
+node_taken entries done plan part new earlier before hold none kind one =
     let many = before.many in
     record {
       same_entries = before.same_entries;
       many = length-append plan.nodes (new ∷ []) ∙ ap (λ n. n + 1) many ∙ sym (length-append done (part ∷ []));
       no_minutes = before.no_minutes;
-      unchanged = each_with_node (λ n. n.changes ≡ []) plan new before.unchanged none;
-      free = free_with entries done plan part new before free;
+      unchanged = each_with_node (λ n. changes_of n ≡ []) plan new before.unchanged none;
+      devices = devices_with entries done plan part new before kind;
       one_limit = one_limit_with entries done plan part new earlier before one;
       holds = record {
         basis = before.holds.basis;
@@ -148,17 +158,17 @@ arrays_taken entries done plan arrays before all = record {
   many = before.many;
   no_minutes = before.no_minutes;
   unchanged = before.unchanged;
-  free = before.free;
+  devices = before.devices;
   one_limit = λ x inside bounded.
       group-same_all plan (record plan { arrays = arrays }) x refl (λ y. refl) ∙ before.one_limit x inside bounded;
   holds = record { basis = before.holds.basis; arrays = all; nodes = before.holds.nodes };
 }
 
-limits-are : (floor ceiling : ℤ) → are_limits floor ceiling ≡ true → AreLimits floor ceiling
-limits-are floor ceiling h =
-    let each = both_true (is_between (neg_ℤ (pos sum_limit)) (pos 0) floor) (is_between (pos 0) (pos sum_limit) ceiling) h in
-    let low = is_between-tells (neg_ℤ (pos sum_limit)) (pos 0) floor each.0 in
-    let high = is_between-tells (pos 0) (pos sum_limit) ceiling each.1 in
+limits-are : (limits : Limits) → are_limits limits ≡ true → AreLimits limits
+limits-are limits h =
+    let each = both_true (is_between (neg_ℤ (pos sum_limit)) (pos 0) limits.floor) (is_between (pos 0) (pos sum_limit) limits.ceiling) h in
+    let low = is_between-tells (neg_ℤ (pos sum_limit)) (pos 0) limits.floor each.0 in
+    let high = is_between-tells (pos 0) (pos sum_limit) limits.ceiling each.1 in
     record {
       floor_not_positive = low.to;
       ceiling_not_negative = high.from;
@@ -169,40 +179,36 @@ limits-are floor ceiling h =
 is_zero : (n : ℕ) → (n == 0) ≡ true → n ≡ 0
 is_zero n h = grind (arith, nat_tests)
 
-same_limits : (floor ceiling f c : ℤ) → (let l : Option (ℤ × ℤ) = Some (floor, ceiling) in l) ≡ Some (f, c) → AreLimits floor ceiling → AreLimits f c
-same_limits floor ceiling f c is h =
-    let pair : (let l : ℤ × ℤ = (floor, ceiling) in l) ≡ (f, c) = cc is in
-    subst (λ (l : ℤ × ℤ). AreLimits l.0 l.1) pair h
+abbrev limits_from : ℤ → ℤ → Limits
+limits_from floor ceiling = record { floor = floor; ceiling = ceiling }
 
-abbrev limited_node : ℤ → ℤ → NodeData
-limited_node floor ceiling = record { limits = Some (floor, ceiling); kind = Manual; start = pos 0; changes = [] }
-
-abbrev device_node : Kind → ℤ → NodeData
-device_node kind start = record { limits = None; kind = kind; start = start; changes = [] }
+abbrev new_device : Kind → ℤ → DeviceData
+new_device kind start = record { kind = kind; start = start; changes = [] }
 
 -- a node part that is not refused
 add_taken : (entries : List Entry) → IsTree (parents_of entries) (leaves_of entries) → (done : List NodePart) (plan made : PlanData) (part : NodePart) → NodesTaken entries done plan → add_node (length done + 1) plan part ≡ Ok made → NodesTaken entries (done ++ part ∷ []) made
 unfolding add_node
 add_taken entries tree done plan made concentrator before h =
-    subst (NodesTaken entries (done ++ concentrator ∷ [])) (ok-is (with_node plan no_node) made h)
-    (node_taken entries done plan concentrator no_node (earlier_of entries plan tree before.same_entries) before (no_node-holds 0) refl (λ leaf. refl) (λ has. absurd (cc has)))
+    subst (NodesTaken entries (done ++ concentrator ∷ [])) (ok-is (with_node plan Concentrator) made h)
+    (node_taken entries done plan concentrator Concentrator (earlier_of entries plan tree before.same_entries) before tt refl refl (λ has. absurd (cc has)))
 add_taken entries tree done plan made (limited floor ceiling) before h =
-    let new = limited_node floor ceiling in
-    let bounds = check-ok 13 (Node (length done + 1)) (are_limits floor ceiling) _ made h in
+    let limits = limits_from floor ceiling in
+    let bounds = check-ok 13 (Node (length done + 1)) (are_limits limits) _ made h in
     let alone = check-ok 22 (Node (length done + 1)) (group plan (length done + 1) == 0) _ made bounds.rest in
-    let hold : NodeHolds 0 new = record { valid = refl; start = refl; changes = no_changes-hold Manual 0; limits = λ f c is. same_limits floor ceiling f c is (limits-are floor ceiling bounds.holds) } in
-    subst (NodesTaken entries (done ++ limited floor ceiling ∷ [])) (ok-is (with_node plan new) made alone.rest)
-    (node_taken entries done plan (limited floor ceiling) new (earlier_of entries plan tree before.same_entries) before hold refl (λ leaf. absurd (cc leaf)) (λ has. is_zero (group plan (length done + 1)) alone.holds))
+    subst (NodesTaken entries (done ++ limited floor ceiling ∷ [])) (ok-is (with_node plan (Limited limits)) made alone.rest)
+    (node_taken entries done plan (limited floor ceiling) (Limited limits) (earlier_of entries plan tree before.same_entries) before
+    (limits-are limits bounds.holds) refl refl (λ has. is_zero (group plan (length done + 1)) alone.holds))
 add_taken entries tree done plan made (device kind start) before h =
     let place = Node (length done + 1) in
     let valid = check-ok 13 place (is_valid kind) _ made h in
-    let state = bind-ok (state_of place kind plan start) (λ s. Ok (with_node s.1 (device_node kind s.0))) made valid.rest in
+    let state = bind-ok (state_of place kind plan start) (λ s. Ok (with_node s.1 (Device (new_device kind s.0)))) made valid.rest in
     let facts = state-made place kind plan start state.value before.holds.basis before.holds.arrays state.first in
     let middle = subst (NodesTaken entries done) (sym facts.is) (arrays_taken entries done plan facts.arrays before facts.bids) in
-    let new = device_node kind state.value.0 in
-    let hold : NodeHolds 0 new = record { valid = valid.holds; start = facts.fits; changes = no_changes-hold kind 0; limits = λ f c is. absurd (cc is) } in
+    let new = Device (new_device kind state.value.0) in
+    let hold : NodeHolds 0 new = record { valid = valid.holds; start = facts.fits; changes = no_changes-hold kind 0 } in
     subst (NodesTaken entries (done ++ device kind start ∷ [])) (ok-is (with_node state.value.1 new) made state.rest)
-    (node_taken entries done state.value.1 (device kind start) new (earlier_of entries state.value.1 tree middle.same_entries) middle hold refl (λ leaf. refl) (λ has. absurd (cc has)))
+    (node_taken entries done state.value.1 (device kind start) new (earlier_of entries state.value.1 tree middle.same_entries) middle hold refl refl
+    (λ has. absurd (cc has)))
 
 pub nodes_taken : (basis : BasisValue) (entries : List Entry) (parts : List NodePart) (plan : PlanData) → IsBasis basis → IsTree (parents_of entries) (leaves_of entries) → fold_from 1 add_node (empty_plan basis entries) parts ≡ Ok plan → NodesTaken entries parts plan
 nodes_taken basis entries parts plan sound tree h =

@@ -1,14 +1,14 @@
 -- What holds of a plan while its phases are taken.
 use Rattle.std.proofs.Common.{◌≡◌, ◌∙◌, sym, ap, ℕ, zero, suc, ◌+◌, ◌-◌, ◌<◌, ◌≤◌, ◌≢◌, ℤ, Bool, true, false, List, [], ◌∷◌, ◌++◌, length, map, get_or, cond, refl, arith, subst, inl, inr, IsTrue, Option, Some, None, Ok}
-use Rattle.std.specs.Prelude.{◌==◌, ◌&&◌, not, nat_le, if◌then◌else◌, option_and_then, is_some}
+use Rattle.std.specs.Prelude.{◌==◌, not, nat_le, if◌then◌else◌, option_and_then, is_some}
 use Rattle.std.specs.List.{count_by, sum_by}
 use Rattle.std.proofs.Math.ListN.{set, get_or-append, get_or-eq_default}
 use Rattle.std.proofs.Math.Seq.{get_or-append_seam}
-use Rattle.std.proofs.lemmas.Bool.{cases_lt, cases_eq, leb-true}
+use Rattle.std.proofs.lemmas.Bool.{cases_lt, leb-true}
 use Rattle.std.proofs.lemmas.Bool.Decides.{nat_tests}
 use Rattle.std.proofs.lemmas.List.{length-append, length-map, length-set, get_or_default}
 use Rattle.std.proofs.lemmas.List.Sums.{sum_by-set, sum_by_push, sum_by-le, sum_by-cons}
-use Rattle.pm_device.specs.Kinds.{has_ticks}
+use Rattle.pm_device.specs.declared.kind.Kind.{Kind}
 use Rattle.pm_tree.specs.Entries.{Entry, node_named, is_leaf_at}
 use Rattle.pm_plan.specs.declared.planned.Change.{Change}
 use Rattle.pm_plan.specs.declared.planned.Planned.{Planned}
@@ -16,30 +16,39 @@ use Rattle.pm_plan.specs.declared.planned.Planned.TheVariants.{Join, Leave, Set,
 use Rattle.pm_plan.specs.declared.refusal.Place.{Place}
 use Rattle.pm_plan.specs.declared.refusal.Place.TheVariants.{Phase, Event}
 use Rattle.pm_plan.specs.Parts.{EventPart, join, state, leave, PhasePart, events, tick}
-use Rattle.pm_plan.specs.Plans.{PlanData, NodeData, no_node, node, is_leaf, phases, minutes_of, all_changes, changes_in, is_member_after}
+use Rattle.pm_plan.specs.Devices.{DeviceData}
+use Rattle.pm_plan.specs.declared.node.Node.TheVariants.{Concentrator, Limited, Device}
+use Rattle.pm_plan.specs.Plans.{PlanData, NodeData, node, is_device, limits_of, kind_of, changes_of, is_leaf, is_limited, phases, minutes_of, all_changes, changes_in}
 use Rattle.pm_plan.specs.Kept.{AreArrays, no_change, change_fits, are_minutes}
 use Rattle.pm_base.specs.Limits.{most_events, most_changes}
 use Rattle.pm_plan.specs.Refusals.{need}
 use Rattle.pm_base.specs.Outcomes.{◌>>=◌, fold_from}
-use Rattle.pm_plan.specs.Building.{leaf_or_none, device_named, with_change, with_change_of, is_member_now, member_named, stranger_named, state_of, event_of, add_event, ticks_now, ticked, with_phase, with_tick, phase_of, add_phase}
-use Rattle.pm_plan.proofs.Leaves.{leaf_inside}
+use Rattle.pm_plan.specs.Building.{leaf_or_none, device_named, with_change, map_device, with_change_of, is_member_now, member_named, stranger_named, state_of, event_of, add_event, ticks_now, ticked, with_phase, with_tick, phase_of, add_phase}
+use Rattle.pm_plan.proofs.DeviceNodes.{device-is, is_device-map_device, limited-map_device, device_first, device_last}
 use Rattle.pm_plan.proofs.Inversions.{bind-ok, check-ok, ok-is, fold_keeps}
-use Rattle.pm_plan.proofs.Changes.{NodeHolds, with_change-holds, next_phase}
-use Rattle.pm_plan.proofs.NodesAt.{node-same, node-other, each_with_change, node-ticked, group-same_all}
+use Rattle.pm_plan.proofs.Changes.{DeviceHolds, NodeHolds, with_change-holds, next_phase}
+use Rattle.pm_plan.proofs.NodesAt.{same_with, each_with_change, node-ticked, group-same_all}
 use Rattle.pm_plan.proofs.NodesTaken.{Holds, OneLimit}
-use Rattle.pm_plan.proofs.StatesMade.{state-made}
+use Rattle.pm_plan.proofs.StatesMade.{StateMade, state-made}
 
 -- ---- counts of changes
 
 -- how many changes of a node belong to a phase
 abbrev of_phase : ℕ → NodeData → ℕ
-of_phase q n = count_by (λ change. change.phase == q) n.changes
+of_phase q n = count_by (λ change. change.phase == q) (changes_of n)
 
 other_phase : (p q : ℕ) → p ≢ q → (p == q) ≡ false
 other_phase p q other = grind (arith, nat_tests)
 
-one_more_of : (q p : ℕ) (n : NodeData) (what : Planned) → of_phase q (with_change n p what) ≡ of_phase q n + cond (p == q) 1 0
-one_more_of q p n what = sum_by_push (λ (c : Change). cond (c.phase == q) 1 0) n.changes (record { phase = p; what = what })
+one_more_of : (q p : ℕ) (planned : DeviceData) (what : Planned) →
+    of_phase q (Device (with_change p what planned)) ≡ of_phase q (Device planned) + cond (p == q) 1 0
+one_more_of q p planned what = sum_by_push (λ (c : Change). cond (c.phase == q) 1 0) planned.changes (record { phase = p; what = what })
+
+one_more_at : (q p : ℕ) (n : NodeData) (planned : DeviceData) (what : Planned) → n ≡ Device planned →
+    of_phase q (map_device (with_change p what) n) ≡ of_phase q n + cond (p == q) 1 0
+one_more_at q p n planned what is =
+    let P : NodeData → Type 0 = λ (m : NodeData). of_phase q (map_device (with_change p what) m) ≡ of_phase q m + cond (p == q) 1 0 in
+    subst P (sym is) (one_more_of q p planned what)
 
 at_most_one_more : (b : Bool) (n : ℕ) → n + cond b 1 0 ≤ n + 1
 at_most_one_more true n = omega arith
@@ -50,28 +59,35 @@ none_more true n h = absurd (cc h)
 none_more false n h = omega arith
 
 -- one more change of a device counts once, and only in its own phase
-changes_with : (plan : PlanData) (d p q : ℕ) (what : Planned) → 1 ≤ d → d ≤ length plan.nodes → changes_in (with_change_of plan d p what).nodes q ≡ changes_in plan.nodes q + cond (p == q) 1 0
+changes_with : (plan : PlanData) (d p q : ℕ) (planned : DeviceData) (what : Planned) → node plan d ≡ Device planned →
+    changes_in (with_change_of plan d p what).nodes q ≡ changes_in plan.nodes q + cond (p == q) 1 0
 unfolding with_change_of
-changes_with plan zero p q what low high = absurd (omega arith)
-changes_with plan (suc d) p q what low high =
-    let new = with_change (node plan (suc d)) p what in
+changes_with plan zero p q planned what is = absurd (cc is)
+changes_with plan (suc d) p q planned what is =
+    let new = map_device (with_change p what) (node plan (suc d)) in
+    let high = device_last plan.nodes (suc d) planned is in
     let place : suc d - 1 ≡ d = omega arith in
-    let all = sum_by-set (of_phase q) plan.nodes d new no_node (omega arith) in
-    let one = one_more_of q p (node plan (suc d)) what in
+    let all = sum_by-set (of_phase q) plan.nodes d new Concentrator (omega arith) in
+    let one = one_more_at q p (node plan (suc d)) planned what is in
     let here = ap (λ i. changes_in (set plan.nodes i new) q) place in
     omega (arith, here, all, one)
 
-changes_with_other : (plan : PlanData) (d p q : ℕ) (what : Planned) → 1 ≤ d → d ≤ length plan.nodes → p ≢ q → changes_in (with_change_of plan d p what).nodes q ≡ changes_in plan.nodes q
-changes_with_other plan d p q what low high other = changes_with plan d p q what low high ∙ none_more (p == q) (changes_in plan.nodes q) (other_phase p q other)
+changes_with_other : (plan : PlanData) (d p q : ℕ) (planned : DeviceData) (what : Planned) → node plan d ≡ Device planned → p ≢ q →
+    changes_in (with_change_of plan d p what).nodes q ≡ changes_in plan.nodes q
+changes_with_other plan d p q planned what is other = changes_with plan d p q planned what is
+    ∙ none_more (p == q) (changes_in plan.nodes q) (other_phase p q other)
 
-chosen_count : (q : ℕ) (b : Bool) (x y : NodeData) → of_phase q x ≡ of_phase q y → of_phase q (if b then x else y) ≡ of_phase q y
+chosen_count : (q : ℕ) (b : Bool) (x y : DeviceData) → of_phase q (Device x) ≡ of_phase q (Device y) →
+    of_phase q (Device (if b then x else y)) ≡ of_phase q (Device y)
 chosen_count q true x y same = same
 chosen_count q false x y same = refl
 
-ticked_count : (q p : ℕ) (minutes : ℤ) (n : NodeData) → p ≢ q → of_phase q (ticked p minutes n) ≡ of_phase q n
-ticked_count q p minutes n other =
-    chosen_count q (ticks_now n) (with_change n p (Tick minutes)) n
-    (one_more_of q p n (Tick minutes) ∙ none_more (p == q) (of_phase q n) (other_phase p q other))
+ticked_count : (q p : ℕ) (minutes : ℤ) (n : NodeData) → p ≢ q → of_phase q (map_device (ticked p minutes) n) ≡ of_phase q n
+ticked_count q p minutes Concentrator other = refl
+ticked_count q p minutes (Limited limits) other = refl
+ticked_count q p minutes (Device planned) other =
+    chosen_count q (ticks_now planned) (with_change p (Tick minutes) planned) planned
+    (one_more_of q p planned (Tick minutes) ∙ none_more (p == q) (of_phase q (Device planned)) (other_phase p q other))
 
 sum_by-map : {A B : Type 0} (f : B → ℕ) (g : A → B) (h : A → ℕ) → ((x : A) → f (g x) ≡ h x) → (xs : List A) → sum_by f (map g xs) ≡ sum_by h xs
 sum_by-map f g h same [] = refl
@@ -83,7 +99,7 @@ sum_by-map f g h same (x ∷ xs) =
     omega (arith, one, two, rest, here)
 
 changes_ticked : (plan : PlanData) (p q : ℕ) (minutes : ℤ) → p ≢ q → changes_in (with_tick p minutes plan).nodes q ≡ changes_in plan.nodes q
-changes_ticked plan p q minutes other = sum_by-map (of_phase q) (ticked p minutes) (of_phase q) (λ n. ticked_count q p minutes n other) plan.nodes
+changes_ticked plan p q minutes other = sum_by-map (of_phase q) (map_device (ticked p minutes)) (of_phase q) (λ n. ticked_count q p minutes n other) plan.nodes
 
 -- ---- the way through the phases
 
@@ -91,53 +107,52 @@ changes_ticked plan p q minutes other = sum_by-map (of_phase q) (ticked p minute
 pub record OnWay (entries : List Entry) (p k : ℕ) (plan : PlanData) : Type 0 where
   pub same_entries : plan.entries ≡ entries
   pub many : length plan.nodes ≡ length plan.entries
-  pub devices : (x : ℕ) → is_leaf plan x ≡ false → (node plan x).changes ≡ []
-  pub concentrators : (x : ℕ) → is_leaf plan x ≡ true → (node plan x).limits ≡ None
+  pub devices : (x : ℕ) → is_device (node plan x) ≡ is_leaf plan x
   pub closed : phases plan ≡ k
   pub minutes : (q : ℕ) (m : ℤ) → minutes_of plan q ≡ Some m → IsTrue (are_minutes m)
   pub few_events : (q : ℕ) → 1 ≤ q → q ≤ k → minutes_of plan q ≡ None → changes_in plan.nodes q ≤ most_events
   pub one_limit : OneLimit plan
   pub holds : Holds p plan
 
-limits_with : (plan : PlanData) (d p x : ℕ) (what : Planned) → 1 ≤ d → d ≤ length plan.nodes → (node (with_change_of plan d p what) x).limits ≡ (node plan x).limits
-limits_with plan d p x what low high = elim (cases_eq x d) [
-  | inl here ↦ subst (λ y. (node (with_change_of plan d p what) y).limits ≡ (node plan y).limits) (sym here) (ap (λ (n : NodeData). n.limits) (node-same plan d p what low high))
-  | inr other ↦ ap (λ (n : NodeData). n.limits) (node-other plan d p x what low other)
-]
-
-devices_with : (plan : PlanData) (d p x : ℕ) (what : Planned) → 1 ≤ d → is_leaf plan d ≡ true → is_leaf plan x ≡ false → (node plan x).changes ≡ [] → (node (with_change_of plan d p what) x).changes ≡ []
-devices_with plan d p x what low leaf none before = elim (cases_eq x d) [
-  | inl here ↦ absurd (cc (sym leaf ∙ ap (is_leaf plan) (sym here) ∙ none))
-  | inr other ↦ ap (λ (n : NodeData). n.changes) (node-other plan d p x what low other) ∙ before
-]
+limited_with : (plan : PlanData) (d p x : ℕ) (what : Planned) → 1 ≤ d → d ≤ length plan.nodes → is_limited (with_change_of plan d p what) x ≡ is_limited plan x
+limited_with plan d p x what low high = same_with (λ (n : NodeData). is_some (limits_of n)) limited-map_device plan d p x what low high
 
 length-with : (plan : PlanData) (d p : ℕ) (what : Planned) → length (with_change_of plan d p what).nodes ≡ length plan.nodes
 unfolding with_change_of
-length-with plan d p what = length-set plan.nodes (d - 1) (with_change (node plan d) p what)
+length-with plan d p what = length-set plan.nodes (d - 1) (map_device (with_change p what) (node plan d))
+
+-- a device with one more change holds, seen as the node that it is
+changed_holds : (p : ℕ) (n : NodeData) (planned : DeviceData) (what : Planned) → n ≡ Device planned → NodeHolds p n → 1 ≤ p →
+    IsTrue (change_fits planned.kind what) → NodeHolds p (map_device (with_change p what) n)
+changed_holds p n planned what is hold low fits =
+    let P : NodeData → Type 0 = λ (m : NodeData). NodeHolds p m → NodeHolds p (map_device (with_change p what) m) in
+    subst P (sym is) (λ device. with_change-holds p planned what device low fits) hold
 
 -- one more change of a device
-change_on_way : (entries : List Entry) (p k d : ℕ) (plan : PlanData) (what : Planned) → OnWay entries p k plan → is_leaf plan d ≡ true → k < p → IsTrue (change_fits (node plan d).kind what) → OnWay entries p k (with_change_of plan d p what)
+change_on_way : (entries : List Entry) (p k d : ℕ) (plan : PlanData) (planned : DeviceData) (what : Planned) → OnWay entries p k plan →
+    node plan d ≡ Device planned → k < p → IsTrue (change_fits planned.kind what) → OnWay entries p k (with_change_of plan d p what)
 unfolding with_change_of
-change_on_way entries p k d plan what way leaf later fits =
-    let inside = leaf_inside plan.entries d leaf in
-    let low = inside.from_one in
-    let high : d ≤ length plan.nodes = (let e = way.many in let l = inside.to_last in omega arith) in
+change_on_way entries p k d plan planned what way is later fits =
+    let low = device_first plan.nodes d planned is in
+    let high = device_last plan.nodes d planned is in
     let new = with_change_of plan d p what in
     record {
       same_entries = way.same_entries;
       many = length-with plan d p what ∙ way.many;
-      devices = λ x none. devices_with plan d p x what low leaf none (way.devices x none);
-      concentrators = λ x is. limits_with plan d p x what low high ∙ way.concentrators x is;
+      devices = λ x. same_with is_device is_device-map_device plan d p x what low high ∙ way.devices x;
       closed = way.closed;
       minutes = way.minutes;
-      few_events = λ q first last none. (let same = changes_with_other plan d p q what low high (λ e. (let b : q < q = omega (arith, e) in absurd (omega arith))) in let few = way.few_events q first last none in omega arith);
+      few_events = λ q first last none.
+          (let same = changes_with_other plan d p q planned what is (λ e. (let b : q < q = omega (arith, e) in absurd (omega arith))) in
+          let few = way.few_events q first last none in omega arith);
       one_limit = λ x within bounded.
-          group-same_all plan new x refl (λ y. ap is_some (limits_with plan d p y what low high))
-          ∙ way.one_limit x within (sym (ap is_some (limits_with plan d p x what low high)) ∙ bounded);
+          group-same_all plan new x refl (λ y. limited_with plan d p y what low high)
+          ∙ way.one_limit x within (sym (limited_with plan d p x what low high) ∙ bounded);
       holds = record {
         basis = way.holds.basis;
         arrays = record { steps = way.holds.arrays.steps; fall = way.holds.arrays.fall; within = way.holds.arrays.within };
-        nodes = each_with_change (NodeHolds p) plan d p what low high way.holds.nodes (with_change-holds p (node plan d) what (way.holds.nodes d) (omega arith) fits);
+        nodes = each_with_change (NodeHolds p) plan d p what low high way.holds.nodes
+            (changed_holds p (node plan d) planned what is (way.holds.nodes d) (omega arith) fits);
       };
     }
 
@@ -147,7 +162,6 @@ arrays_on_way entries p k plan arrays way all = record {
   same_entries = way.same_entries;
   many = way.many;
   devices = way.devices;
-  concentrators = way.concentrators;
   closed = way.closed;
   minutes = way.minutes;
   few_events = way.few_events;
@@ -188,37 +202,62 @@ record EventsTaken (entries : List Entry) (p k : ℕ) (done : List EventPart) (p
   way : OnWay entries p k plan
   count : changes_in plan.nodes p ≤ length done
 
-event_taken : (entries : List Entry) (p k d : ℕ) (done : List EventPart) (part : EventPart) (plan : PlanData) (what : Planned) → EventsTaken entries p k done plan → is_leaf plan d ≡ true → k < p → IsTrue (change_fits (node plan d).kind what) → EventsTaken entries p k (done ++ part ∷ []) (with_change_of plan d p what)
-event_taken entries p k d done part plan what before leaf later fits =
-    let inside = leaf_inside plan.entries d leaf in
-    let high : d ≤ length plan.nodes = (let e = before.way.many in let l = inside.to_last in omega arith) in
-    let all = changes_with plan d p p what inside.from_one high in
+-- a leaf is a device
+leaf_device : (entries : List Entry) (p k d : ℕ) (plan : PlanData) → OnWay entries p k plan → is_leaf plan d ≡ true →
+    (planned : DeviceData) × (node plan d ≡ Device planned)
+leaf_device entries p k d plan way leaf = device-is (node plan d) (way.devices d ∙ leaf)
+
+event_taken : (entries : List Entry) (p k d : ℕ) (done : List EventPart) (part : EventPart) (plan : PlanData) (planned : DeviceData) (what : Planned) →
+    EventsTaken entries p k done plan → node plan d ≡ Device planned → k < p → IsTrue (change_fits planned.kind what) →
+    EventsTaken entries p k (done ++ part ∷ []) (with_change_of plan d p what)
+event_taken entries p k d done part plan planned what before is later fits =
+    let all = changes_with plan d p p planned what is in
     let one = at_most_one_more (p == p) (changes_in plan.nodes p) in
     let long = length-append done (part ∷ []) in
     let few = before.count in
-    record { way = change_on_way entries p k d plan what before.way leaf later fits; count = omega arith }
+    record { way = change_on_way entries p k d plan planned what before.way is later fits; count = omega arith }
+
+-- the plan in which the state that was made for a device is set
+abbrev set_of : ℕ → ℕ → ℤ × PlanData → PlanData
+set_of d p made = with_change_of made.1 d p (Set (record { 0 = made.0 }))
+
+state_taken : (entries : List Entry) (p k d : ℕ) (done : List EventPart) (part : EventPart) (plan : PlanData) (planned : DeviceData) (made : ℤ × PlanData) →
+    EventsTaken entries p k done plan → node plan d ≡ Device planned → k < p → StateMade planned.kind plan made →
+    EventsTaken entries p k (done ++ part ∷ []) (set_of d p made)
+state_taken entries p k d done part plan planned made before is later facts =
+    let other : PlanData = record plan { arrays = facts.arrays } in
+    let middle : EventsTaken entries p k done other =
+    record { way = arrays_on_way entries p k plan facts.arrays before.way facts.bids; count = before.count } in
+    let taken = event_taken entries p k d done part other planned (Set (record { 0 = made.0 })) middle is later facts.fits in
+    let P : PlanData → Type 0 = λ (q : PlanData). EventsTaken entries p k (done ++ part ∷ []) (with_change_of q d p (Set (record { 0 = made.0 }))) in
+    subst P (sym facts.is) taken
 
 add_event_taken : (entries : List Entry) (p k n : ℕ) (done : List EventPart) (plan made : PlanData) (part : EventPart) → k < p → EventsTaken entries p k done plan → event_of (Event p n) p plan part ≡ Ok made → EventsTaken entries p k (done ++ part ∷ []) made
 unfolding event_of
 add_event_taken entries p k n done plan made (join name) later before h =
     let found = bind-ok (stranger_named (Event p n) plan name) (λ d. Ok (with_change_of plan d p Join)) made h in
+    let here = leaf_device entries p k found.value plan before.way (stranger-leaf (Event p n) plan name found.value found.first) in
     subst (EventsTaken entries p k (done ++ join name ∷ [])) (ok-is (with_change_of plan found.value p Join) made found.rest)
-    (event_taken entries p k found.value done (join name) plan Join before (stranger-leaf (Event p n) plan name found.value found.first) later refl)
+    (event_taken entries p k found.value done (join name) plan here.0 Join before here.1 later refl)
 add_event_taken entries p k n done plan made (leave name) later before h =
     let found = bind-ok (member_named (Event p n) plan name) (λ d. Ok (with_change_of plan d p Leave)) made h in
+    let here = leaf_device entries p k found.value plan before.way (member-leaf (Event p n) plan name found.value found.first) in
     subst (EventsTaken entries p k (done ++ leave name ∷ [])) (ok-is (with_change_of plan found.value p Leave) made found.rest)
-    (event_taken entries p k found.value done (leave name) plan Leave before (member-leaf (Event p n) plan name found.value found.first) later refl)
+    (event_taken entries p k found.value done (leave name) plan here.0 Leave before here.1 later refl)
 add_event_taken entries p k n done plan made (state name value) later before h =
-    let found = bind-ok (member_named (Event p n) plan name) (λ d. state_of (Event p n) (node plan d).kind plan value >>= λ s. Ok (with_change_of s.1 d p (Set (record { 0 = s.0 })))) made h in
+    let place = Event p n in
+    let found = bind-ok (member_named place plan name)
+    (λ d. need 14 place (kind_of (node plan d)) >>= λ kind. state_of place kind plan value >>= λ s. Ok (set_of d p s)) made h in
     let d = found.value in
-    let leaf = member-leaf (Event p n) plan name d found.first in
-    let set = bind-ok (state_of (Event p n) (node plan d).kind plan value) (λ s. Ok (with_change_of s.1 d p (Set (record { 0 = s.0 })))) made found.rest in
-    let facts = state-made (Event p n) (node plan d).kind plan value set.value before.way.holds.basis before.way.holds.arrays set.first in
-    let other : PlanData = record plan { arrays = facts.arrays } in
-    let middle : EventsTaken entries p k done other = record { way = arrays_on_way entries p k plan facts.arrays before.way facts.bids; count = before.count } in
-    let taken = event_taken entries p k d done (state name value) other (Set (record { 0 = set.value.0 })) middle leaf later facts.fits in
-    subst (EventsTaken entries p k (done ++ state name value ∷ [])) (ok-is (with_change_of set.value.1 d p (Set (record { 0 = set.value.0 }))) made set.rest)
-    (subst (λ (q : PlanData). EventsTaken entries p k (done ++ state name value ∷ []) (with_change_of q d p (Set (record { 0 = set.value.0 })))) (sym facts.is) taken)
+    let kind = bind-ok (need 14 place (kind_of (node plan d))) (λ kind. state_of place kind plan value >>= λ s. Ok (set_of d p s)) made found.rest in
+    let set = bind-ok (state_of place kind.value plan value) (λ s. Ok (set_of d p s)) made kind.rest in
+    let here = leaf_device entries p k d plan before.way (member-leaf place plan name d found.first) in
+    let some = sym (ap kind_of here.1) ∙ need-ok 14 place (kind_of (node plan d)) kind.value kind.first in
+    let same : kind.value ≡ here.0.kind = cc some in
+    let facts = state-made place kind.value plan value set.value before.way.holds.basis before.way.holds.arrays set.first in
+    let fits = subst (λ (one : Kind). StateMade one plan set.value) same facts in
+    subst (EventsTaken entries p k (done ++ state name value ∷ [])) (ok-is (set_of d p set.value) made set.rest)
+    (state_taken entries p k d done (state name value) plan here.0 set.value before here.1 later fits)
 
 -- ---- phases
 
@@ -227,20 +266,22 @@ sum_none f xs all = (let le = sum_by-le f 0 xs all in omega arith)
 
 -- no change belongs to a phase after the last that may have any
 none_later : (p q : ℕ) (n : NodeData) → NodeHolds p n → p < q → of_phase q n ≤ 0
-none_later p q n hold later =
-    sum_none (λ (c : Change). cond (c.phase == q) 1 0) n.changes
+none_later p q Concentrator hold later = omega arith
+none_later p q (Limited limits) hold later = omega arith
+none_later p q (Device planned) hold later =
+    sum_none (λ (c : Change). cond (c.phase == q) 1 0) planned.changes
     (λ i d inside.
     let last = hold.changes.last i inside in
-    let same = ap (λ (c : Change). c.phase) (get_or_default n.changes i d no_change inside) in
-    let other = other_phase (get_or n.changes i d).phase q (λ e. absurd (omega arith)) in
-    let is = none_more ((get_or n.changes i d).phase == q) 0 other in
+    let same = ap (λ (c : Change). c.phase) (get_or_default planned.changes i d no_change inside) in
+    let other = other_phase (get_or planned.changes i d).phase q (λ e. absurd (omega arith)) in
+    let is = none_more ((get_or planned.changes i d).phase == q) 0 other in
     omega arith)
 
 none_later_of : (p q : ℕ) (plan : PlanData) → Holds p plan → p < q → changes_in plan.nodes q ≤ 0
 none_later_of p q plan holds later =
     sum_none (of_phase q) plan.nodes
     (λ i d inside.
-    let here = get_or_default plan.nodes i d no_node inside in
+    let here = get_or_default plan.nodes i d Concentrator inside in
     subst (λ (n : NodeData). of_phase q n ≤ 0) (sym here) (none_later p q (node plan (suc i)) (holds.nodes (suc i)) later))
 
 open_phase : (entries : List Entry) (k : ℕ) (plan : PlanData) → OnWay entries k k plan → OnWay entries (k + 1) k plan
@@ -248,7 +289,6 @@ open_phase entries k plan way = record {
   same_entries = way.same_entries;
   many = way.many;
   devices = way.devices;
-  concentrators = way.concentrators;
   closed = way.closed;
   minutes = way.minutes;
   few_events = way.few_events;
@@ -292,7 +332,6 @@ events_closed entries k plan way few = record {
   same_entries = way.same_entries;
   many = way.many;
   devices = way.devices;
-  concentrators = way.concentrators;
   closed = length-append plan.minutes (None ∷ []) ∙ ap (λ n. n + 1) way.closed;
   minutes = minutes_with plan.minutes None way.minutes (λ m is. absurd (cc is));
   few_events = events_with plan.minutes None k (changes_in plan.nodes) way.closed way.few_events (λ is. few);
@@ -300,45 +339,26 @@ events_closed entries k plan way few = record {
   holds = record { basis = way.holds.basis; arrays = record { steps = way.holds.arrays.steps; fall = way.holds.arrays.fall; within = way.holds.arrays.within }; nodes = way.holds.nodes };
 }
 
--- a tick keeps all of a node but its changes
-chosen_limits : (b : Bool) (x y : NodeData) → x.limits ≡ y.limits → (if b then x else y).limits ≡ y.limits
-chosen_limits true x y same = same
-chosen_limits false x y same = refl
-
-ticked_limits : (p : ℕ) (minutes : ℤ) (n : NodeData) → (ticked p minutes n).limits ≡ n.limits
-ticked_limits p minutes n = chosen_limits (ticks_now n) (with_change n p (Tick minutes)) n refl
-
-not_both : (b : Bool) → (b && false) ≡ false
-not_both true = refl
-not_both false = refl
-
-idle : (n : NodeData) → n.changes ≡ [] → ticks_now n ≡ false
-idle n none = ap (λ (l : List Change). has_ticks n.kind && is_member_after l) none ∙ not_both (has_ticks n.kind)
-
-chosen_changes : (b : Bool) (x y : NodeData) → b ≡ false → (if b then x else y).changes ≡ y.changes
-chosen_changes true x y h = absurd (cc h)
-chosen_changes false x y h = refl
-
-ticked_idle : (p : ℕ) (minutes : ℤ) (n : NodeData) → n.changes ≡ [] → (ticked p minutes n).changes ≡ []
-ticked_idle p minutes n none = chosen_changes (ticks_now n) (with_change n p (Tick minutes)) n (idle n none) ∙ none
-
-chosen_holds : (p : ℕ) (b : Bool) (x y : NodeData) → NodeHolds p x → NodeHolds p y → NodeHolds p (if b then x else y)
+chosen_holds : (p : ℕ) (b : Bool) (x y : DeviceData) → DeviceHolds p x → DeviceHolds p y → DeviceHolds p (if b then x else y)
 chosen_holds p true x y one two = one
 chosen_holds p false x y one two = two
 
-ticked_holds : (p : ℕ) (minutes : ℤ) (n : NodeData) → NodeHolds p n → 1 ≤ p → IsTrue (are_minutes minutes) → NodeHolds p (ticked p minutes n)
-ticked_holds p minutes n hold low fits = chosen_holds p (ticks_now n) (with_change n p (Tick minutes)) n (with_change-holds p n (Tick minutes) hold low fits) hold
+ticked_holds : (p : ℕ) (minutes : ℤ) (n : NodeData) → NodeHolds p n → 1 ≤ p → IsTrue (are_minutes minutes) → NodeHolds p (map_device (ticked p minutes) n)
+ticked_holds p minutes Concentrator hold low fits = tt
+ticked_holds p minutes (Limited limits) hold low fits = hold
+ticked_holds p minutes (Device planned) hold low fits =
+    chosen_holds p (ticks_now planned) (with_change p (Tick minutes) planned) planned (with_change-holds p planned (Tick minutes) hold low fits) hold
 
 -- a tick is closed
 tick_closed : (entries : List Entry) (k : ℕ) (plan : PlanData) (minutes : ℤ) → OnWay entries (k + 1) k plan → IsTrue (are_minutes minutes) → OnWay entries (k + 1) (k + 1) (with_tick (k + 1) minutes plan)
 tick_closed entries k plan minutes way fits =
     let new = with_tick (k + 1) minutes plan in
-    let limits : (x : ℕ) → (node new x).limits ≡ (node plan x).limits = λ x. ap (λ (n : NodeData). n.limits) (node-ticked plan (k + 1) minutes x) ∙ ticked_limits (k + 1) minutes (node plan x) in
+    let limited : (x : ℕ) → is_limited new x ≡ is_limited plan x =
+    λ x. ap (λ (n : NodeData). is_some (limits_of n)) (node-ticked plan (k + 1) minutes x) ∙ limited-map_device (ticked (k + 1) minutes) (node plan x) in
     record {
       same_entries = way.same_entries;
-      many = length-map plan.nodes (ticked (k + 1) minutes) ∙ way.many;
-      devices = λ x none. ap (λ (n : NodeData). n.changes) (node-ticked plan (k + 1) minutes x) ∙ ticked_idle (k + 1) minutes (node plan x) (way.devices x none);
-      concentrators = λ x is. limits x ∙ way.concentrators x is;
+      many = length-map plan.nodes (map_device (ticked (k + 1) minutes)) ∙ way.many;
+      devices = λ x. ap is_device (node-ticked plan (k + 1) minutes x) ∙ is_device-map_device (ticked (k + 1) minutes) (node plan x) ∙ way.devices x;
       closed = length-append plan.minutes (Some minutes ∷ []) ∙ ap (λ n. n + 1) way.closed;
       minutes = minutes_with plan.minutes (Some minutes) way.minutes (λ m is. subst (λ z. IsTrue (are_minutes z)) (let same : minutes ≡ m = cc is in same) fits);
       few_events =
@@ -346,7 +366,7 @@ tick_closed entries k plan minutes way fits =
           (λ q first last none. (let same = changes_ticked plan (k + 1) q minutes (λ e. absurd (omega arith)) in let few = way.few_events q first last none in omega arith))
           (λ is. absurd (cc is));
       one_limit = λ x within bounded.
-          group-same_all plan new x refl (λ y. ap is_some (limits y)) ∙ way.one_limit x within (sym (ap is_some (limits x)) ∙ bounded);
+          group-same_all plan new x refl limited ∙ way.one_limit x within (sym (limited x) ∙ bounded);
       holds = record {
         basis = way.holds.basis;
         arrays = record { steps = way.holds.arrays.steps; fall = way.holds.arrays.fall; within = way.holds.arrays.within };

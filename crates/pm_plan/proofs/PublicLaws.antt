@@ -1,5 +1,5 @@
 -- The laws in the order of their clauses.
-use Rattle.std.proofs.Common.{◌≡◌, ℕ, ◌+◌, ◌-◌, ◌<◌, ◌≤◌, length, arith, IsTrue, List, Ok}
+use Rattle.std.proofs.Common.{◌≡◌, ℕ, ◌+◌, ◌-◌, ◌<◌, ◌≤◌, length, IsTrue, List, Ok}
 use Rattle.pm_basis.specs.Prices.{BasisValue, IsBasis}
 use Rattle.pm_tree.specs.Entries.{Entry, checked_tree, parents_of, leaves_of}
 use Rattle.pm_tree.specs.Shape.{IsTree}
@@ -13,6 +13,8 @@ use Rattle.pm_strategy.specs.Strategies.{bid_of}
 use Rattle.pm_market.specs.Lists.{Lawful}
 use Rattle.pm_market.specs.Lists as market
 use Rattle.pm_market.specs.Bound as market_bound
+use Rattle.pm_plan.specs.Devices.{DeviceData}
+use Rattle.pm_plan.specs.declared.node.Node.TheVariants.{Device}
 use Rattle.pm_plan.specs.Plans.{PlanData, node, end, is_member, change_count, bound}
 use Rattle.pm_plan.specs.Auction.{power}
 use Rattle.pm_base.specs.Cuts.{Cut}
@@ -23,27 +25,32 @@ use Rattle.pm_plan.proofs.StateLaws.{state-start, state-next}
 use Rattle.pm_plan.proofs.Fits.{state-fits, bid-steps, bid-within, bid-falls, power-within}
 use Rattle.pm_plan.proofs.MarketLists.{lawful, is_member-is, bound-is}
 
-pub starts : (plan : PlanData) (d : ℕ) → state plan d 0 ≡ (node plan d).start
-starts plan d = state-start plan d
+pub starts : (plan : PlanData) (d : ℕ) (planned : DeviceData) → node plan d ≡ Device planned → state plan d 0 ≡ planned.start
+starts plan d planned is = state-start plan d planned is
 
-pub follows : (plan : PlanData) (d n : ℕ) → InPhases plan → 1 ≤ d → d ≤ length plan.nodes → n < change_count plan d →
-    state plan d (n + 1) ≡ changed_state (node plan d).kind (state plan d n) (power plan (state plan) (end plan ((change_at plan d n).phase - 1)) d) (change_at plan d n).what
-follows plan d n fits low high inside = state-next plan d n fits low (omega arith) inside
+pub follows : (plan : PlanData) (d n : ℕ) (planned : DeviceData) → InPhases plan → node plan d ≡ Device planned → n < change_count plan d →
+    state plan d (n + 1) ≡ changed_state planned.kind (state plan d n) (power plan (state plan) (end plan ((change_at plan d n).phase - 1)) d)
+    (change_at plan d n).what
+follows plan d n planned fits is inside = state-next plan d n planned fits is inside
 
-pub fits : (plan : PlanData) (d n : ℕ) → IsPlan plan → 1 ≤ d → d ≤ length plan.nodes → n ≤ change_count plan d → IsTrue (state_fits (node plan d).kind (state plan d n))
-fits plan d n is low high inside = state-fits plan d n is low high inside
+pub fits : (plan : PlanData) (d n : ℕ) (planned : DeviceData) → IsPlan plan → node plan d ≡ Device planned → n ≤ change_count plan d →
+    IsTrue (state_fits planned.kind (state plan d n))
+fits plan d n planned is here inside = state-fits plan d n planned is here inside
 
-pub steps : (plan : PlanData) (d n : ℕ) → IsPlan plan → length (bid_of (node plan d).kind (state plan d n) plan.arrays plan.basis.steps) ≡ plan.basis.steps
-steps plan d n is = bid-steps plan d n is
+pub steps : (plan : PlanData) (d n : ℕ) (planned : DeviceData) → IsPlan plan → node plan d ≡ Device planned →
+    length (bid_of planned.kind (state plan d n) plan.arrays plan.basis.steps) ≡ plan.basis.steps
+steps plan d n planned is here = bid-steps plan (Device planned) (state plan d n) is
 
-pub within : (plan : PlanData) (d n : ℕ) → IsPlan plan → 1 ≤ d → d ≤ length plan.nodes → n ≤ change_count plan d → AllWithinLimit demand_limit (bid_of (node plan d).kind (state plan d n) plan.arrays plan.basis.steps)
-within plan d n is low high inside = bid-within plan d n is low high inside
+pub within : (plan : PlanData) (d n : ℕ) (planned : DeviceData) → IsPlan plan → node plan d ≡ Device planned → n ≤ change_count plan d →
+    AllWithinLimit demand_limit (bid_of planned.kind (state plan d n) plan.arrays plan.basis.steps)
+within plan d n planned is here inside = bid-within plan d n planned is here inside
 
-pub falls : (plan : PlanData) (d n : ℕ) → IsPlan plan → NeverRises (bid_of (node plan d).kind (state plan d n) plan.arrays plan.basis.steps)
-falls plan d n is = bid-falls plan d n is
+pub falls : (plan : PlanData) (d n : ℕ) (planned : DeviceData) → IsPlan plan → node plan d ≡ Device planned →
+    NeverRises (bid_of planned.kind (state plan d n) plan.arrays plan.basis.steps)
+falls plan d n planned is here = bid-falls plan d n planned is here
 
-pub powers : (plan : PlanData) (cut : Cut) (d : ℕ) → IsPlan plan → 1 ≤ d → d ≤ length plan.nodes → cut d ≤ change_count plan d → IsWithin demand_limit (power plan (state plan) cut d)
-powers plan cut d is low high inside = power-within plan cut d is low high inside
+pub powers : (plan : PlanData) (cut : Cut) (d : ℕ) → IsPlan plan → cut d ≤ change_count plan d → IsWithin demand_limit (power plan (state plan) cut d)
+powers plan cut d is inside = power-within plan cut d is inside
 
 pub lawful_lists : (plan : PlanData) → IsPlan plan → Lawful (lists_of plan)
 lawful_lists plan is = lawful plan is

@@ -1,6 +1,7 @@
 -- The plan that parts give is one that the type of a plan keeps.
-use Rattle.std.proofs.Common.{◌≡◌, ◌∙◌, sym, ap, ℕ, zero, suc, ◌+◌, ◌-◌, ◌<◌, ◌≤◌, ℤ, Bool, true, false, List, [], length, get_or, refl, arith, subst, Option, Some, None, Ok, inl, inr}
+use Rattle.std.proofs.Common.{◌≡◌, ◌∙◌, sym, ap, ℕ, zero, suc, ◌+◌, ◌-◌, ◌<◌, ◌≤◌, ℤ, Bool, true, false, List, [], length, get_or, refl, arith, subst, IsTrue, Option, Some, None, Ok, inl, inr}
 use Rattle.std.specs.Prelude.{if◌then◌else◌, is_some, nat_le, nat_lt}
+use Rattle.std.proofs.Math.ListN.{get_or-eq_default}
 use Rattle.std.proofs.lemmas.Bool.{cases_lt, leb-true}
 use Rattle.std.proofs.lemmas.Bool.Decides.{nat_tests}
 use Rattle.std.proofs.lemmas.List.{length-map, get_or-map, get_or_default}
@@ -8,16 +9,20 @@ use Rattle.pm_basis.specs.Prices.{BasisValue, IsBasis}
 use Rattle.pm_tree.specs.declared.fault.TreeFault.{TreeFault}
 use Rattle.pm_tree.specs.Entries.{Entry, checked_tree, tree_unless, first_refusal, parents_of, leaves_of, is_leaf_at}
 use Rattle.pm_tree.specs.Shape.{IsTree}
+use Rattle.pm_plan.specs.declared.planned.Change.{Change}
 use Rattle.pm_plan.specs.declared.refusal.Place.TheVariants.{Document}
 use Rattle.pm_plan.specs.Parts.{NodePart, concentrator, is_device, PhasePart, AreNodesOf}
-use Rattle.pm_plan.specs.Plans.{PlanData, NodeData, no_node, node, is_leaf, is_limited, group, phases, minutes_of, all_changes}
-use Rattle.pm_plan.specs.Kept.{IsPlan}
+use Rattle.pm_plan.specs.Devices.{DeviceData}
+use Rattle.pm_plan.specs.declared.node.Node.TheVariants.{Concentrator, Limited, Device}
+use Rattle.pm_plan.specs.Plans.{PlanData, NodeData, node, limits_of, changes_of, is_leaf, is_limited, group, phases, minutes_of, all_changes}
+use Rattle.pm_plan.specs.Plans as plans
+use Rattle.pm_plan.specs.Kept.{IsPlan, DeviceFits, no_change, change_fits}
 use Rattle.pm_base.specs.Limits.{most_phases}
 use Rattle.pm_base.specs.Outcomes.{fold_from}
 use Rattle.pm_plan.specs.Building.{add_node, add_phase, empty_plan, checked_plan}
 use Rattle.pm_plan.proofs.Inversions.{bind-ok, check-ok}
-use Rattle.pm_plan.proofs.NodesAt.{node-beyond}
-use Rattle.pm_plan.proofs.Leaves.{leaf_inside}
+use Rattle.pm_plan.proofs.DeviceNodes.{node-beyond}
+use Rattle.pm_plan.proofs.Changes.{DeviceHolds, NodeHolds}
 use Rattle.pm_plan.proofs.NodesTaken.{NodesTaken, nodes_taken}
 use Rattle.pm_plan.proofs.PhasesTaken.{OnWay, PhasesTaken, phases_taken, sum_none}
 
@@ -34,25 +39,34 @@ length-leaves : (entries : List Entry) → length (leaves_of entries) ≡ length
 unfolding leaves_of
 length-leaves entries = length-map entries (λ (e : Entry). e.leaf)
 
--- a leaf is a device among the parts
-leaf_part : (entries : List Entry) (parts : List NodePart) (x : ℕ) → AreNodesOf entries parts → x < length parts → is_leaf_at entries (suc x) ≡ true → is_device (get_or parts x concentrator) ≡ true
-leaf_part entries parts x fit inside leaf =
-    sym (get_or-map is_device parts x concentrator false inside) ∙ ap (λ (l : List Bool). get_or l x false) fit ∙ leaf
+-- the devices among the parts are the leaves
+part_is : (entries : List Entry) (parts : List NodePart) (x : ℕ) → AreNodesOf entries parts → x < length parts →
+    is_device (get_or parts x concentrator) ≡ is_leaf_at entries (suc x)
+part_is entries parts x fit inside =
+    sym (get_or-map is_device parts x concentrator false inside) ∙ ap (λ (l : List Bool). get_or l x false) fit
 
-free_nodes : (entries : List Entry) (parts : List NodePart) (plan : PlanData) → AreNodesOf entries parts → NodesTaken entries parts plan → (x : ℕ) → is_leaf plan x ≡ true → (node plan x).limits ≡ None
-free_nodes entries parts plan fit taken zero leaf = refl
-free_nodes entries parts plan fit taken (suc x) leaf =
-    let here : is_leaf_at entries (suc x) ≡ true = ap (λ (l : List Entry). is_leaf_at l (suc x)) (sym taken.same_entries) ∙ leaf in
+-- so the devices among the nodes are, and no node lies beyond the tree
+devices_taken : (entries : List Entry) (parts : List NodePart) (plan : PlanData) → AreNodesOf entries parts → NodesTaken entries parts plan → (x : ℕ) →
+    plans.is_device (node plan x) ≡ is_leaf plan x
+devices_taken entries parts plan fit taken zero = refl
+devices_taken entries parts plan fit taken (suc x) =
+    let here = ap (λ (l : List Entry). is_leaf_at l (suc x)) (sym taken.same_entries) in
     let many = sym (length-map parts is_device) ∙ ap (λ (l : List Bool). length l) fit ∙ length-leaves entries in
-    let inside : x < length parts = (let last = (leaf_inside entries (suc x) here).to_last in omega arith) in
-    let place : suc x ≡ x + 1 = omega arith in
-    ap (λ y. (node plan y).limits) place ∙ taken.free x inside (leaf_part entries parts x fit inside here)
+    let nodes = taken.many in
+    elim (cases_lt x (length parts)) [
+      | inl inside ↦
+          let place : suc x ≡ x + 1 = omega arith in
+          ap (λ y. plans.is_device (node plan y)) place ∙ taken.devices x inside ∙ part_is entries parts x fit inside ∙ here
+      | inr far ↦
+          ap plans.is_device (node-beyond plan.nodes (suc x) (omega arith))
+          ∙ sym (get_or-eq_default (leaves_of entries) false {n = x} (let long = length-leaves entries in omega arith)) ∙ here
+    ]
 
-no_changes : (plan : PlanData) → ((x : ℕ) → (node plan x).changes ≡ []) → all_changes plan.nodes ≤ 0
+no_changes : (plan : PlanData) → ((x : ℕ) → changes_of (node plan x) ≡ []) → all_changes plan.nodes ≤ 0
 no_changes plan unchanged =
-    sum_none (λ (n : NodeData). length n.changes) plan.nodes
+    sum_none (λ (n : NodeData). length (changes_of n)) plan.nodes
     (λ i d inside.
-    let here = ap (λ (n : NodeData). length n.changes) (get_or_default plan.nodes i d no_node inside) in
+    let here = ap (λ (n : NodeData). length (changes_of n)) (get_or_default plan.nodes i d Concentrator inside) in
     let none = ap (λ l. length l) (unchanged (suc i)) in
     omega arith)
 
@@ -67,8 +81,7 @@ begun entries parts plan fit taken =
       way = record {
         same_entries = taken.same_entries;
         many = taken.many ∙ many ∙ ap (λ (l : List Entry). length l) (sym taken.same_entries);
-        devices = λ x none. taken.unchanged x;
-        concentrators = free_nodes entries parts plan fit taken;
+        devices = devices_taken entries parts plan fit taken;
         closed = ap (λ (l : List (Option ℤ)). length l) taken.no_minutes;
         minutes = λ q m is. absurd (cc (sym (no_phases plan q taken.no_minutes) ∙ is));
         few_events = λ q first last none. absurd (omega arith);
@@ -84,8 +97,32 @@ one_limit_all entries p k plan way x bounded = elim (cases_lt (length plan.entri
   | inr inside ↦ way.one_limit x (omega arith) bounded
   | inl far ↦
       let many = way.many in
-      absurd (cc (sym (ap (λ (n : NodeData). is_some n.limits) (node-beyond plan.nodes x (omega arith))) ∙ bounded))
+      absurd (cc (sym (ap (λ (n : NodeData). is_some (limits_of n)) (node-beyond plan.nodes x (omega arith))) ∙ bounded))
 ]
+
+-- what holds of a device says that it fits
+device_fits : (p : ℕ) (planned : DeviceData) → DeviceHolds p planned → DeviceFits planned
+device_fits p planned hold = record {
+  kind = hold.valid;
+  start = hold.start;
+  changes = λ n d inside. subst (λ (c : Change). IsTrue (change_fits planned.kind c.what)) (get_or_default planned.changes n no_change d inside)
+      (hold.changes.fit n inside);
+}
+
+-- changes of the phases 1 to p whose phases never fall
+record InOrder (p : ℕ) (changes : List Change) : Type 0 where
+  first : (n : ℕ) → n < length changes → 1 ≤ (get_or changes n no_change).phase
+  last : (n : ℕ) → n < length changes → (get_or changes n no_change).phase ≤ p
+  rise : (m n : ℕ) → m ≤ n → n < length changes → (get_or changes m no_change).phase ≤ (get_or changes n no_change).phase
+
+no_order : (p : ℕ) → InOrder p []
+no_order p = record { first = λ n h. absurd (omega arith); last = λ n h. absurd (omega arith); rise = λ m n h i. absurd (omega arith) }
+
+-- what holds of a node says so of its changes
+in_order : (p : ℕ) (n : NodeData) → NodeHolds p n → InOrder p (changes_of n)
+in_order p Concentrator hold = no_order p
+in_order p (Limited limits) hold = no_order p
+in_order p (Device planned) hold = record { first = hold.changes.first; last = hold.changes.last; rise = hold.changes.rise }
 
 -- the end of the way
 arrived : (entries : List Entry) (parts : List PhasePart) (plan : PlanData) → checked_tree entries ≡ Ok entries → IsTree (parents_of entries) (leaves_of entries) → length parts ≤ most_phases → PhasesTaken entries parts plan → IsPlan plan
@@ -93,6 +130,7 @@ arrived entries parts plan accepted tree few taken =
     let way = taken.way in
     let same = sym way.same_entries in
     let count = ap (λ (l : List Entry). length l) way.same_entries in
+    let order : (d : ℕ) → InOrder (length parts) (changes_of (node plan d)) = λ d. in_order (length parts) (node plan d) (way.holds.nodes d) in
     record {
       basis = way.holds.basis;
       accepted = subst (λ (l : List Entry). checked_tree l ≡ Ok l) same accepted;
@@ -101,19 +139,16 @@ arrived entries parts plan accepted tree few taken =
         one_each = way.many;
         few = (let all = few_entries entries accepted in let each = way.many in omega arith);
         devices = way.devices;
-        concentrators = way.concentrators;
       };
       arrays = way.holds.arrays;
       in_phases = record {
-        first = λ d n inside. (way.holds.nodes d).changes.first n inside;
-        last = λ d n inside. (let last = (way.holds.nodes d).changes.last n inside in let closed = way.closed in omega arith);
-        rise = λ d m n le inside. (way.holds.nodes d).changes.rise m n le inside;
+        first = λ d n inside. (order d).first n inside;
+        last = λ d n inside. (let last = (order d).last n inside in let closed = way.closed in omega arith);
+        rise = λ d m n le inside. (order d).rise m n le inside;
       };
       within = record {
-        kinds = λ x. (way.holds.nodes x).valid;
-        starts = λ x. (way.holds.nodes x).start;
-        changes = λ d n inside. (way.holds.nodes d).changes.fit n inside;
-        limits = λ x floor ceiling is. (way.holds.nodes x).limits floor ceiling is;
+        devices = λ d planned is. device_fits (length parts) planned (subst (NodeHolds (length parts)) is (way.holds.nodes d));
+        limits = λ x limits is. subst (NodeHolds (length parts)) is (way.holds.nodes x);
         minutes = way.minutes;
         few_phases = (let closed = way.closed in omega arith);
         few_events = λ q first last none. way.few_events q first (let closed = way.closed in omega arith) none;

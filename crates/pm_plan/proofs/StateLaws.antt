@@ -10,10 +10,13 @@ use Rattle.std.proofs.lemmas.List.Sums.{fold-append, prefix_len_passes, prefix_l
 use Rattle.std.proofs.lemmas.List.FromFn.{get_or-map-range_with_len}
 use Rattle.std.proofs.lemmas.List.Elements.{All-head, All-tail}
 use Rattle.pm_plan.specs.declared.planned.Change.{Change}
-use Rattle.pm_plan.specs.Plans.{PlanData, node, end, phases, is_up_to}
+use Rattle.pm_plan.specs.Devices.{DeviceData}
+use Rattle.pm_plan.specs.declared.node.Node.TheVariants.{Concentrator, Limited, Device}
+use Rattle.pm_plan.specs.Plans.{PlanData, NodeData, node, changes_of, end, phases, is_up_to}
 use Rattle.pm_plan.specs.Auction.{power}
-use Rattle.pm_plan.specs.States.{changed_state, power_at, state_in, row, one_more, rows, state}
+use Rattle.pm_plan.specs.States.{changed_state, power_at, node_state, state_in, row, one_more, rows, state}
 use Rattle.pm_plan.proofs.Auctions.{power_same}
+use Rattle.pm_plan.proofs.DeviceNodes.{device_first, device_last}
 use Rattle.pm_plan.specs.Kept.{no_change, change_at, InPhases}
 use Rattle.pm_plan.specs.Plans.{change_count}
 
@@ -53,10 +56,10 @@ fold_same f g P same b (x ∷ xs) all =
 abbrev Before : ℕ → Change → Type 0
 Before p c = c.phase - 1 < p
 
-changes_before : (plan : PlanData) (p d n : ℕ) → n ≤ end plan p d → InPhases plan → All (Before p) (take n (node plan d).changes)
+changes_before : (plan : PlanData) (p d n : ℕ) → n ≤ end plan p d → InPhases plan → All (Before p) (take n (changes_of (node plan d)))
 unfolding end
 changes_before plan p d n upto fits k c inside =
-    let changes = (node plan d).changes in
+    let changes = changes_of (node plan d) in
     let short : prefix_len (is_up_to p) changes ≤ length changes = prefix_len-le-length (is_up_to p) changes in
     let below : k < n = omega (arith, length-take-le n changes (omega arith)) in
     let passed = prefix_len_passes (is_up_to p) changes k no_change (omega arith) in
@@ -65,13 +68,21 @@ changes_before plan p d n upto fits k c inside =
     let here : Before p (get_or changes k no_change) = omega arith in
     subst (Before p) (sym (get_or-take n changes k c below ∙ get_or_default changes k c no_change (omega arith))) here
 
+-- changes of the phases up to p use the powers below p alone
+node_state-same : (n : NodeData) (some all : ℕ → ℤ) (p k : ℕ) → All (Before p) (take k (changes_of n)) → ((q : ℕ) → q < p → some q ≡ all q) →
+    node_state n some k ≡ node_state n all k
+node_state-same Concentrator some all p k early same = refl
+node_state-same (Limited limits) some all p k early same = refl
+node_state-same (Device planned) some all p k early same =
+    let step = λ (powers : ℕ → ℤ) (state' : ℤ) (c : Change). changed_state planned.kind state' (powers (c.phase - 1)) c.what in
+    fold_same (step some) (step all) (Before p) (λ z c h. ap (λ power'. changed_state planned.kind z power' c.what)
+    (same (c.phase - 1) h)) planned.start (take k planned.changes) early
+
 -- the states up to the end of phase p use the rows below p alone
 state_in-same : (plan : PlanData) (some all : List (List ℤ)) (p d n : ℕ) → n ≤ end plan p d → InPhases plan → ((q : ℕ) → q < p → power_at some q d ≡ power_at all q d) → state_in plan some d n ≡ state_in plan all d n
 unfolding state_in
 state_in-same plan some all p d n upto fits same =
-    let step = λ (rows' : List (List ℤ)) (state' : ℤ) (c : Change). changed_state (node plan d).kind state' (power_at rows' (c.phase - 1) d) c.what in
-    fold_same (step some) (step all) (Before p) (λ z c h. ap (λ power'. changed_state (node plan d).kind z power' c.what) (same (c.phase - 1) h))
-    (node plan d).start (take n (node plan d).changes) (changes_before plan p d n upto fits)
+    node_state-same (node plan d) (λ q. power_at some q d) (λ q. power_at all q d) p n (changes_before plan p d n upto fits) same
 
 -- the rows of fewer phases are the same
 power_at-fewer : (plan : PlanData) (j k q d : ℕ) → q < j → j ≤ k → power_at (rows plan j) q d ≡ power_at (rows plan k) q d
@@ -90,20 +101,40 @@ power_at-is plan p d within low high fits =
     power_at-rows plan (phases plan) p d within low high
     ∙ power_same plan (state_in plan (rows plan p)) (state plan) (end plan p) d low high (λ e _ _. state_in-rows plan p e (end plan p e) (omega arith) (omega arith) fits)
 
-pub state-start : (plan : PlanData) (d : ℕ) → state plan d 0 ≡ (node plan d).start
+pub state-start : (plan : PlanData) (d : ℕ) (planned : DeviceData) → node plan d ≡ Device planned → state plan d 0 ≡ planned.start
 unfolding state state_in
-state-start plan d = refl
+state-start plan d planned is = ap (λ n. node_state n (λ p. power_at (rows plan (phases plan)) p d) 0) is
+
+-- the state of a device after one more change, where its powers are known
+node_state-next : (planned : DeviceData) (powers : ℕ → ℤ) (n : ℕ) → n < length planned.changes →
+    node_state (Device planned) powers (n + 1) ≡ changed_state planned.kind (node_state (Device planned) powers n)
+    (powers ((get_or planned.changes n no_change).phase - 1)) (get_or planned.changes n no_change).what
+node_state-next planned powers n inside =
+    let step = λ (state' : ℤ) (c : Change). changed_state planned.kind state' (powers (c.phase - 1)) c.what in
+    ap (fold step planned.start) (take_more planned.changes n no_change inside)
+    ∙ fold-append step planned.start (take n planned.changes) (get_or planned.changes n no_change ∷ [])
+
+-- the same of a node that is this device
+next_of : (m : NodeData) (planned : DeviceData) (powers : ℕ → ℤ) (n : ℕ) → m ≡ Device planned → n < length (changes_of m) →
+    node_state m powers (n + 1) ≡ changed_state planned.kind (node_state m powers n) (powers ((get_or (changes_of m) n no_change).phase - 1))
+    (get_or (changes_of m) n no_change).what
+next_of m planned powers n is inside =
+    let P : NodeData → Type 0 = λ (k : NodeData).
+    n < length (changes_of k) →
+    node_state k powers (n + 1) ≡ changed_state planned.kind (node_state k powers n) (powers ((get_or (changes_of k) n no_change).phase - 1))
+    (get_or (changes_of k) n no_change).what in
+    subst P (sym is) (node_state-next planned powers n) inside
 
 -- the state after one more change
-pub state-next : (plan : PlanData) (d n : ℕ) → InPhases plan → 1 ≤ d → d < 1 + length plan.nodes → n < change_count plan d →
-    state plan d (n + 1) ≡ changed_state (node plan d).kind (state plan d n) (power plan (state plan) (end plan ((change_at plan d n).phase - 1)) d) (change_at plan d n).what
+pub state-next : (plan : PlanData) (d n : ℕ) (planned : DeviceData) → InPhases plan → node plan d ≡ Device planned → n < change_count plan d →
+    state plan d (n + 1) ≡ changed_state planned.kind (state plan d n) (power plan (state plan) (end plan ((change_at plan d n).phase - 1)) d)
+    (change_at plan d n).what
 unfolding state state_in
-state-next plan d n fits low high inside =
-    let changes = (node plan d).changes in
-    let all = rows plan (phases plan) in
-    let step = λ (state' : ℤ) (c : Change). changed_state (node plan d).kind state' (power_at all (c.phase - 1) d) c.what in
+state-next plan d n planned fits is inside =
+    let low = device_first plan.nodes d planned is in
+    let high = device_last plan.nodes d planned is in
     let first : 1 ≤ (change_at plan d n).phase = fits.first d n inside in
     let last : (change_at plan d n).phase ≤ phases plan = fits.last d n inside in
-    ap (fold step (node plan d).start) (take_more changes n no_change inside)
-    ∙ fold-append step (node plan d).start (take n changes) (change_at plan d n ∷ [])
-    ∙ ap (λ power'. changed_state (node plan d).kind (state plan d n) power' (change_at plan d n).what) (power_at-is plan ((change_at plan d n).phase - 1) d (omega arith) low high fits)
+    next_of (node plan d) planned (λ p. power_at (rows plan (phases plan)) p d) n is inside
+    ∙ ap (λ power'. changed_state planned.kind (state plan d n) power' (change_at plan d n).what)
+    (power_at-is plan ((change_at plan d n).phase - 1) d (omega arith) low (omega arith) fits)

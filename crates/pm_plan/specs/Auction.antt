@@ -1,22 +1,29 @@
 -- The plain auction over a cut, for any states of the devices after their changes.
-use Rattle.std.specs.Prelude.{ℕ, ◌==◌, ℤ, cond, int_lt, List, ◌∷◌, map, filter, Option, Some, None}
+use Rattle.std.specs.Prelude.{ℕ, ◌==◌, ℤ, cond, List, ◌∷◌, map, filter}
 use Rattle.pm_base.specs.Cuts.{Cut}
 use Rattle.pm_basis.specs.Prices.{price_at}
-use Rattle.pm_bid.specs.Bids.{demand_at, zeros, sum_of, clamped}
-use Rattle.pm_bid.specs.Clearing.{clearing_step, first_at_most, last_at_least}
+use Rattle.pm_bid.specs.Bids.{demand_at, zeros, sum_of}
+use Rattle.pm_bid.specs.Clearing.{clearing_step}
+use Rattle.pm_bid.specs.Limited.{within_limits, local_step}
 use Rattle.pm_strategy.specs.Strategies.{bid_of}
+use Rattle.pm_plan.specs.declared.node.Node.TheVariants.{Device}
 use Rattle.pm_plan.specs.declared.end.MemberLine.{MemberLine}
 use Rattle.pm_plan.specs.declared.end.LimitedLine.{LimitedLine}
-use Rattle.pm_plan.specs.Plans.{PlanData, node, numbers, is_member, is_limited, group}
+use Rattle.pm_plan.specs.Plans.{PlanData, NodeData, node, limits_of, numbers, is_member, is_limited, group}
 
 -- the state of each device after so many of its changes
 abbrev pub States : Type 0
 States = ℕ → ℕ → ℤ
 
+-- the bid of a node in a state: of a device that of its kind, and of any other node zeros
+abbrev pub node_bid : PlanData → NodeData → ℤ → List ℤ
+node_bid plan (Device planned) state = bid_of planned.kind state plan.arrays plan.basis.steps
+node_bid plan _ state = zeros plan.basis.steps
+
 -- the demand of a device in a cut: its bid where it is a member, else zeros
 unfoldable pub demand_of : PlanData → States → Cut → ℕ → List ℤ
 demand_of plan states cut d =
-    cond (is_member plan d (cut d)) (bid_of (node plan d).kind (states d (cut d)) plan.arrays plan.basis.steps) (zeros plan.basis.steps)
+    cond (is_member plan d (cut d)) (node_bid plan (node plan d) (states d (cut d))) (zeros plan.basis.steps)
 
 -- what a device adds to a group: its demand where it belongs to the group
 unfoldable pub part_in : PlanData → States → Cut → ℕ → ℕ → List ℤ
@@ -30,14 +37,9 @@ sum_in plan states cut g = sum_of plan.basis.steps (map (part_in plan states cut
 abbrev pub limited : PlanData → List ℕ
 limited plan = filter (is_limited plan) (numbers plan)
 
--- a sum with each element moved to the nearest number within the limits
-abbrev pub within_limits : Option (ℤ × ℤ) → List ℤ → List ℤ
-within_limits None sum = sum
-within_limits (Some limits) sum = clamped limits.0 limits.1 sum
-
 -- what a limited concentrator announces: the sum of its group, within its limits
 unfoldable pub announced : PlanData → States → Cut → ℕ → List ℤ
-announced plan states cut g = within_limits (node plan g).limits (sum_in plan states cut g)
+announced plan states cut g = within_limits (limits_of (node plan g)) (sum_in plan states cut g)
 
 -- the total: the sum of the devices below no limited concentrator, and what each limited concentrator announces
 unfoldable pub total : PlanData → States → Cut → List ℤ
@@ -47,16 +49,9 @@ total plan states cut = sum_of plan.basis.steps (sum_in plan states cut 0 ∷ ma
 unfoldable pub plain : PlanData → States → Cut → ℕ
 plain plan states cut = clearing_step (total plan states cut)
 
--- the step at which a sum stays within limits, where k is the step of the whole: the first step at most the ceiling
--- where the sum is above it at k, the last step at least the floor where the sum is below it at k, and else k
-abbrev pub local_step : Option (ℤ × ℤ) → ℕ → List ℤ → ℕ
-local_step None k sum = k
-local_step (Some limits) k sum =
-    cond (int_lt limits.1 (demand_at sum k)) (first_at_most limits.1 sum) (cond (int_lt (demand_at sum k) limits.0) (last_at_least limits.0 sum) k)
-
 -- the step of a group, where k is the step of the whole
 unfoldable pub group_step : PlanData → States → Cut → ℕ → ℕ → ℕ
-group_step plan states cut k g = local_step (node plan g).limits k (sum_in plan states cut g)
+group_step plan states cut k g = local_step (limits_of (node plan g)) k (sum_in plan states cut g)
 
 -- the step of a node: that of its group
 unfoldable pub local : PlanData → States → Cut → ℕ → ℕ

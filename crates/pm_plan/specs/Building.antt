@@ -1,6 +1,7 @@
 -- The plan that the parts of a cluster file give, or the first refusal: first the nodes in order, then the phases in
 -- order, each by the plan as far as it goes before.
 use Rattle.std.specs.Prelude.{ℕ, ◌-◌, ◌==◌, ℤ, pos, neg_ℤ, Bool, true, false, not, ◌&&◌, nat_le, if◌then◌else◌, List, [], ◌∷◌, ◌++◌, length, map, slice_set, Option, Some, None, option_and_then, Result, Ok, Err}
+use Rattle.pm_base.specs.declared.limits.Limits.{Limits}
 use Rattle.pm_basis.specs.Prices.{BasisValue}
 use Rattle.pm_base.specs.Limits.{sum_limit, most_phases, most_events, most_changes}
 use Rattle.pm_bid.specs.Checks.{checked_bid}
@@ -14,13 +15,15 @@ use Rattle.pm_device.specs.Kinds.{is_valid, state_fits, has_ticks, is_between}
 use Rattle.pm_device.specs.declared.kind.Kind.{Kind}
 use Rattle.pm_device.specs.declared.kind.Kind.TheVariants as kinds
 use Rattle.pm_tree.specs.Entries.{Entry, node_named, is_leaf_at}
+use Rattle.pm_plan.specs.declared.node.Node.TheVariants.{Concentrator, Limited, Device}
 use Rattle.pm_plan.specs.declared.planned.Planned.{Planned}
 use Rattle.pm_plan.specs.declared.planned.Planned.TheVariants.{Join, Leave, Set, Tick}
 use Rattle.pm_plan.specs.declared.refusal.Place.{Place}
 use Rattle.pm_plan.specs.declared.refusal.Place.TheVariants.{Document, Node, Phase, Event}
 use Rattle.pm_plan.specs.declared.refusal.Refusal.{Refusal}
 use Rattle.pm_plan.specs.Parts.{StatePart, number, array, points, NodePart, concentrator, limited, device, EventPart, join, state, leave, PhasePart, events, tick}
-use Rattle.pm_plan.specs.Plans.{PlanData, NodeData, no_node, node, group, all_changes, is_member_after}
+use Rattle.pm_plan.specs.Devices.{DeviceData, is_member_after}
+use Rattle.pm_plan.specs.Plans.{PlanData, NodeData, node, kind_of, changes_of, group, all_changes}
 use Rattle.pm_plan.specs.Kept.{are_minutes}
 use Rattle.pm_plan.specs.Refusals.{refuse, refuse_item, need, check}
 use Rattle.pm_base.specs.Outcomes.{◌>>=◌, ◌>>◌, fold_from}
@@ -80,23 +83,23 @@ state_of place kind plan part = if is_manual kind then manual_state place plan p
 -- ---- nodes
 
 -- whether these are a floor and a ceiling
-abbrev pub are_limits : ℤ → ℤ → Bool
-are_limits floor ceiling = is_between (neg_ℤ (pos sum_limit)) (pos 0) floor && is_between (pos 0) (pos sum_limit) ceiling
+abbrev pub are_limits : Limits → Bool
+are_limits limits = is_between (neg_ℤ (pos sum_limit)) (pos 0) limits.floor && is_between (pos 0) (pos sum_limit) limits.ceiling
 
 abbrev pub with_node : PlanData → NodeData → PlanData
 with_node plan new = record plan { nodes = plan.nodes ++ new ∷ [] }
 
 -- the plan with one more node, whose number is n
 unfoldable pub add_node : ℕ → PlanData → NodePart → Result PlanData Refusal
-add_node n plan concentrator = Ok (with_node plan no_node)
+add_node n plan concentrator = Ok (with_node plan Concentrator)
 add_node n plan (limited floor ceiling) = do
-  check 13 (Node n) (are_limits floor ceiling)
+  check 13 (Node n) (are_limits (record { floor = floor; ceiling = ceiling }))
   check 22 (Node n) (group plan n == 0)
-  Ok (with_node plan (record { limits = Some (floor, ceiling); kind = kinds.Manual; start = pos 0; changes = [] }))
+  Ok (with_node plan (Limited (record { floor = floor; ceiling = ceiling })))
 add_node n plan (device kind start) = do
   check 13 (Node n) (is_valid kind)
   made ← state_of (Node n) kind plan start
-  Ok (with_node made.1 (record { limits = None; kind = kind; start = made.0; changes = [] }))
+  Ok (with_node made.1 (Device (record { kind = kind; start = made.0; changes = [] })))
 
 -- ---- events
 
@@ -107,17 +110,22 @@ leaf_or_none entries x = if is_leaf_at entries x then Some x else None
 abbrev pub device_named : List Entry → List ℕ → Option ℕ
 device_named entries name = option_and_then (leaf_or_none entries) (node_named entries name)
 
--- a node with one more change
-abbrev pub with_change : NodeData → ℕ → Planned → NodeData
-with_change old p what = record old { changes = old.changes ++ (record { phase = p; what = what }) ∷ [] }
+-- what is planned for a device, with one more change
+abbrev pub with_change : ℕ → Planned → DeviceData → DeviceData
+with_change p what old = record old { changes = old.changes ++ (record { phase = p; what = what }) ∷ [] }
+
+-- a device after f, and any other node as it is
+abbrev pub map_device : (DeviceData → DeviceData) → NodeData → NodeData
+map_device f (Device planned) = Device (f planned)
+map_device f node = node
 
 -- the plan with one more change of a device
 unfoldable pub with_change_of : PlanData → ℕ → ℕ → Planned → PlanData
-with_change_of plan d p what = record plan { nodes = slice_set plan.nodes (d - 1) (with_change (node plan d) p what) }
+with_change_of plan d p what = record plan { nodes = slice_set plan.nodes (d - 1) (map_device (with_change p what) (node plan d)) }
 
 -- whether a device is a member after all events before
 abbrev pub is_member_now : PlanData → ℕ → Bool
-is_member_now plan d = is_member_after (node plan d).changes
+is_member_now plan d = is_member_after (changes_of (node plan d))
 
 -- the device of a name, which has to be a member, or has to be none
 unfoldable pub member_named : Place → PlanData → List ℕ → Result ℕ Refusal
@@ -142,7 +150,8 @@ event_of place p plan (leave name) = do
   Ok (with_change_of plan d p Leave)
 event_of place p plan (state name value) = do
   d ← member_named place plan name
-  made ← state_of place (node plan d).kind plan value
+  kind ← need 14 place (kind_of (node plan d))
+  made ← state_of place kind plan value
   Ok (with_change_of made.1 d p (Set (record { 0 = made.0 })))
 
 -- event n of phase p
@@ -152,17 +161,17 @@ add_event p n plan part = event_of (Event p n) p plan part
 -- ---- phases
 
 -- a tick is a change of each member whose state changes by itself
-abbrev pub ticks_now : NodeData → Bool
-ticks_now old = has_ticks old.kind && is_member_after old.changes
+abbrev pub ticks_now : DeviceData → Bool
+ticks_now planned = has_ticks planned.kind && is_member_after planned.changes
 
-abbrev pub ticked : ℕ → ℤ → NodeData → NodeData
-ticked p minutes old = if ticks_now old then with_change old p (Tick minutes) else old
+abbrev pub ticked : ℕ → ℤ → DeviceData → DeviceData
+ticked p minutes old = if ticks_now old then with_change p (Tick minutes) old else old
 
 abbrev pub with_phase : PlanData → Option ℤ → PlanData
 with_phase plan minutes = record plan { minutes = plan.minutes ++ minutes ∷ [] }
 
 abbrev pub with_tick : ℕ → ℤ → PlanData → PlanData
-with_tick p minutes plan = record plan { nodes = map (ticked p minutes) plan.nodes; minutes = plan.minutes ++ Some minutes ∷ [] }
+with_tick p minutes plan = record plan { nodes = map (map_device (ticked p minutes)) plan.nodes; minutes = plan.minutes ++ Some minutes ∷ [] }
 
 unfoldable pub phase_of : ℕ → PlanData → PhasePart → Result PlanData Refusal
 phase_of p plan (tick minutes) = do

@@ -1,4 +1,5 @@
 pub mod Parts
+pub mod Devices
 pub mod Plans
 pub mod Auction
 pub mod States

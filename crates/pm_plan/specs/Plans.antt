@@ -1,21 +1,46 @@
 -- A plan: the basis, the tree, what is planned for each node, the arrays, and the minutes of the phases.
-use Rattle.std.specs.Prelude.{ℕ, zero, suc, ◌+◌, ◌-◌, ◌*◌, ◌==◌, nat_le, ℤ, pos, Bool, true, false, cond, List, [], ◌∷◌, length, take, Option, Some, None, is_some, option_map, slice_get, slice_index_or}
-use Rattle.std.specs.List.{fold, sum_by, count_by, prefix_len, range_with_len}
+use Rattle.std.specs.Prelude.{ℕ, zero, suc, ◌+◌, ◌-◌, ◌*◌, ◌==◌, nat_le, ℤ, Bool, true, false, cond, List, [], ◌∷◌, length, take, Option, Some, None, is_some, option_map, slice_get, slice_index_or}
+use Rattle.std.specs.List.{sum_by, count_by, prefix_len, range_with_len}
+use Rattle.pm_base.specs.declared.limits.Limits.{Limits}
 use Rattle.pm_basis.specs.Prices.{BasisValue}
 use Rattle.pm_tree.specs.Entries.{Entry, parent_of, is_leaf_at}
 use Rattle.pm_device.specs.declared.kind.Kind.{Kind}
-use Rattle.pm_device.specs.declared.kind.Kind.TheVariants.{Manual}
+use Rattle.pm_plan.specs.Devices.{is_member_after}
+use Rattle.pm_plan.specs.declared.node.Node.{Node}
+use Rattle.pm_plan.specs.declared.node.Node.TheVariants.{Concentrator, Limited, Device}
 use Rattle.pm_plan.specs.declared.planned.Change.{Change}
 use Rattle.pm_plan.specs.declared.planned.Planned.{Planned}
 use Rattle.pm_plan.specs.declared.planned.Planned.TheVariants.{Join, Leave, Set, Tick}
 
--- what is planned for a node: the limits of a limited concentrator, and the kind, the start and the changes of a
--- device. A node that is no leaf has no changes, and only a limited concentrator has limits
-pub record NodeData : Type 0 where
-  pub limits : Option (ℤ × ℤ)
-  pub kind : Kind
-  pub start : ℤ
-  pub changes : List Change
+-- what is planned for a node: nothing for a concentrator, the limits of a limited one, and for a device its kind, its
+-- start and its changes
+abbrev pub NodeData : Type 0
+NodeData = Node
+
+-- whether a node is a device
+abbrev pub is_device : NodeData → Bool
+is_device (Device planned) = true
+is_device _ = false
+
+-- the limits of a limited concentrator, none for any other node
+abbrev pub limits_of : NodeData → Option Limits
+limits_of (Limited limits) = Some limits
+limits_of _ = None
+
+-- the kind of a device, none for any other node
+abbrev pub kind_of : NodeData → Option Kind
+kind_of (Device planned) = Some planned.kind
+kind_of _ = None
+
+-- the state of a device before its first change, none for any other node
+abbrev pub start_of : NodeData → Option ℤ
+start_of (Device planned) = Some planned.start
+start_of _ = None
+
+-- the changes of a device; no other node has any
+abbrev pub changes_of : NodeData → List Change
+changes_of (Device planned) = planned.changes
+changes_of _ = []
 
 -- the nodes stand in the order of the tree's entries, so they are 1, 2, ..; the arrays are the bids of the manual
 -- devices, each by its number from 0; a phase has minutes where it is a tick, and none where it has events
@@ -26,13 +51,9 @@ pub record PlanData : Type 0 where
   pub arrays : List (List ℤ)
   pub minutes : List (Option ℤ)
 
--- a node with nothing planned: the auctioneer and each concentrator without limits
-abbrev pub no_node : NodeData
-no_node = record { limits = None; kind = Manual; start = pos 0; changes = [] }
-
--- what is planned for a node; the auctioneer is node 0
+-- what is planned for a node; node 0 is the auctioneer, for which as little is planned as for a concentrator
 abbrev pub node_at : List NodeData → ℕ → NodeData
-node_at nodes x = slice_index_or (no_node ∷ nodes) x no_node
+node_at nodes x = slice_index_or (Concentrator ∷ nodes) x Concentrator
 
 abbrev pub node : PlanData → ℕ → NodeData
 node plan x = node_at plan.nodes x
@@ -44,13 +65,13 @@ numbers plan = range_with_len 1 (length plan.nodes)
 abbrev pub parent : PlanData → ℕ → ℕ
 parent plan x = parent_of plan.entries x
 
--- whether a node is a device
+-- whether a node is a leaf of the tree
 abbrev pub is_leaf : PlanData → ℕ → Bool
 is_leaf plan x = is_leaf_at plan.entries x
 
 -- whether a node is a limited concentrator
 abbrev pub is_limited : PlanData → ℕ → Bool
-is_limited plan x = is_some (node plan x).limits
+is_limited plan x = is_some (limits_of (node plan x))
 
 -- the limited concentrator above a node, at most so many steps up; 0 where there is none
 unfoldable pub group_in : PlanData → ℕ → ℕ → ℕ
@@ -84,7 +105,7 @@ is_up_to p change = nat_le change.phase p
 
 -- how many changes of a device belong to the phases 1 to p
 unfoldable pub end : PlanData → ℕ → ℕ → ℕ
-end plan p d = prefix_len (is_up_to p) (node plan d).changes
+end plan p d = prefix_len (is_up_to p) (changes_of (node plan d))
 
 -- how many changes of a device belong to phase p
 abbrev pub phase_changes : PlanData → ℕ → ℕ → ℕ
@@ -92,35 +113,24 @@ phase_changes plan p d = end plan p d - end plan (p - 1) d
 
 -- how many changes a device makes
 abbrev pub change_count : PlanData → ℕ → ℕ
-change_count plan d = length (node plan d).changes
+change_count plan d = length (changes_of (node plan d))
 
 -- how many changes all devices make
 abbrev pub all_changes : List NodeData → ℕ
-all_changes nodes = sum_by (λ node. length node.changes) nodes
+all_changes nodes = sum_by (λ node. length (changes_of node)) nodes
 
 -- how many changes belong to phase p
 abbrev pub changes_in : List NodeData → ℕ → ℕ
-changes_in nodes p = sum_by (λ node. count_by (λ change. change.phase == p) node.changes) nodes
+changes_in nodes p = sum_by (λ node. count_by (λ change. change.phase == p) (changes_of node)) nodes
 
 -- how many moves a run has at most: a change is counted at most once as itself, 7 times as a learning, 6 times in
 -- publishing, once in clearing and once for each node in passing, and each phase is closed once
 abbrev pub bound : PlanData → ℕ
 bound plan = all_changes plan.nodes * (length plan.nodes + 15) + phases plan
 
--- whether a device is a member after a change: a join makes it one, a leave ends it
-abbrev pub member_after : Bool → Planned → Bool
-member_after member Join = true
-member_after member Leave = false
-member_after member (Set state) = member
-member_after member (Tick minutes) = member
-
--- whether a device is a member after these changes
-abbrev pub is_member_after : List Change → Bool
-is_member_after changes = fold (λ member change. member_after member change.what) false changes
-
 -- whether a device is a member after its first n changes
 unfoldable pub is_member : PlanData → ℕ → ℕ → Bool
-is_member plan d n = is_member_after (take n (node plan d).changes)
+is_member plan d n = is_member_after (take n (changes_of (node plan d)))
 
 abbrev pub is_join : Planned → Bool
 is_join Join = true
@@ -135,7 +145,7 @@ last_join_in m n (change ∷ changes) = last_join_in (cond (is_join change.what)
 
 -- the number of the last join among the first n changes of a device, 0 where there is none
 unfoldable pub last_join : PlanData → ℕ → ℕ → ℕ
-last_join plan d n = last_join_in 0 0 (take n (node plan d).changes)
+last_join plan d n = last_join_in 0 0 (take n (changes_of (node plan d)))
 
 -- the change at a place of a list, counted from 0
 abbrev pub planned_at : List Change → ℕ → Option Planned
@@ -144,4 +154,4 @@ planned_at changes place = option_map (λ change. change.what) (slice_get change
 -- change number n of a device, counted from 1; none where the number is 0 or above the device's changes
 abbrev pub planned : PlanData → ℕ → ℕ → Option Planned
 planned plan d zero = None
-planned plan d (suc place) = planned_at (node plan d).changes place
+planned plan d (suc place) = planned_at (changes_of (node plan d)) place

@@ -3,6 +3,8 @@ use Rattle.std.specs.Prelude.{ℕ, zero, suc, ◌-◌, ℤ, pos, List, [], ◌�
 use Rattle.std.specs.List.{fold, range_with_len}
 use Rattle.pm_device.specs.declared.kind.Kind.{Kind}
 use Rattle.pm_device.specs.Ticks.{tick}
+use Rattle.pm_plan.specs.Devices.{DeviceData}
+use Rattle.pm_plan.specs.declared.node.Node.TheVariants.{Device}
 use Rattle.pm_plan.specs.declared.planned.Change.{Change}
 use Rattle.pm_plan.specs.declared.planned.Planned.{Planned}
 use Rattle.pm_plan.specs.declared.planned.Planned.TheVariants.{Join, Leave, Set, Tick}
@@ -21,13 +23,18 @@ changed_state kind state power (Tick minutes) = tick kind state power minutes
 abbrev pub power_at : List (List ℤ) → ℕ → ℕ → ℤ
 power_at rows p d = slice_index_or (slice_index_or rows p []) d (pos 0)
 
--- the state after these changes, where the powers at the end of each phase are known
-abbrev pub state_after : NodeData → (ℕ → ℤ) → List Change → ℤ
-state_after node powers changes =
-    fold (λ state change. changed_state node.kind state (powers (change.phase - 1)) change.what) node.start changes
+-- the state of a device after these changes, where its power at the end of each phase is known
+abbrev pub state_after : DeviceData → (ℕ → ℤ) → List Change → ℤ
+state_after planned powers changes =
+    fold (λ state change. changed_state planned.kind state (powers (change.phase - 1)) change.what) planned.start changes
+
+-- the state of a node after its first n changes: of a device as above, and 0 for any other node
+abbrev pub node_state : NodeData → (ℕ → ℤ) → ℕ → ℤ
+node_state (Device planned) powers n = state_after planned powers (take n planned.changes)
+node_state _ powers n = pos 0
 
 unfoldable pub state_in : PlanData → List (List ℤ) → ℕ → ℕ → ℤ
-state_in plan rows d n = state_after (node plan d) (λ p. power_at rows p d) (take n (node plan d).changes)
+state_in plan rows d n = node_state (node plan d) (λ p. power_at rows p d) n
 
 -- the power of each node at the end of phase p, the auctioneer's first
 unfoldable pub row : PlanData → List (List ℤ) → ℕ → List ℤ

@@ -1,7 +1,9 @@
-ghost use Rattle.std.specs.Prelude.{◌≡◌, ◌≤◌, IfOk, length};
+ghost use Rattle.std.specs.Prelude.{◌≡◌, ◌<◌, ◌≤◌, IfOk, length};
+ghost use Rattle.pm_basis.specs.Prices.{price_at};
 ghost use Rattle.pm_plan.specs.Ends.{no_end};
 
 use crate::plan::Plan;
+use pm_basis::Basis;
 use std::alloc::{AllocError, Global};
 use std::marker::Model;
 
@@ -55,19 +57,20 @@ impl Model for PhaseEnd {
 }
 
 impl PhaseEnd {
-    /// The end of these parts: the step, its price, the total there in watts, and the lines in file order.
+    /// The end at a step of a market basis, whose price it has: the total there in watts, and the lines in file order.
     pub fn new(
+        basis: &Basis,
         step: u32,
-        price: i64,
         total: i64,
         members: Vec<MemberLine>,
         limited: Vec<LimitedLine>,
     ) -> PhaseEnd
-        ensures { result.end ≡ record { step = step; price = price; total = total; members = members.items; limited = limited.items } }
+        requires { step < basis.now.steps }
+        ensures { result.end ≡ record { step = step; price = price_at basis.now step; total = total; members = members.items; limited = limited.items } }
     {
         PhaseEnd {
             step,
-            price,
+            price: basis.price(step as usize),
             total,
             members,
             limited,

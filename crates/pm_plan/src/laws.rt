@@ -10,6 +10,8 @@ ghost use Rattle.pm_device.specs.Kinds.{state_fits};
 ghost use Rattle.pm_strategy.specs.Strategies.{bid_of};
 ghost use Rattle.pm_market.specs.Lists.{Lawful, is_member as market_member};
 ghost use Rattle.pm_market.specs.Bound.{bound as market_bound};
+ghost use Rattle.pm_plan.specs.Devices.{DeviceData};
+ghost use Rattle.pm_plan.specs.declared.node.Node.TheVariants.{Device};
 ghost use Rattle.pm_plan.specs.Plans.{PlanData, node, end, is_member, change_count, bound};
 ghost use Rattle.pm_plan.specs.Auction.{power};
 ghost use Rattle.pm_base.specs.Cuts.{Cut};
@@ -21,20 +23,25 @@ ghost use Rattle.pm_plan.specs.Market.{lists_of};
 /// the plain auction at the end of the phase before.
 #[tactic(auto, using(crate::proofs::PublicLaws::starts, crate::proofs::PublicLaws::follows))]
 pub fn states_follow_the_changes()
-    ensures start { (plan : PlanData) (d : ℕ) → state plan d 0 ≡ (node plan d).start }
-    ensures next { (plan : PlanData) (d n : ℕ) → InPhases plan → 1 ≤ d → d ≤ length plan.nodes → n < change_count plan d →
-        state plan d (n + 1) ≡ changed_state (node plan d).kind (state plan d n) (power plan (state plan) (end plan ((change_at plan d n).phase - 1)) d) (change_at plan d n).what }
+    ensures start { (plan : PlanData) (d : ℕ) (planned : DeviceData) → node plan d ≡ Device planned → state plan d 0 ≡ planned.start }
+    ensures next { (plan : PlanData) (d n : ℕ) (planned : DeviceData) → InPhases plan → node plan d ≡ Device planned → n < change_count plan d →
+        state plan d (n + 1) ≡ changed_state planned.kind (state plan d n) (power plan (state plan) (end plan ((change_at plan d n).phase - 1)) d)
+        (change_at plan d n).what }
 {}
 
 /// A law: each state that a device comes to fits its kind, its bid has a demand for each step, which lies within
 /// ±1,000,000,000 watts and never rises, and so does its power in each cut.
 #[tactic(auto, using(crate::proofs::PublicLaws::fits, crate::proofs::PublicLaws::steps, crate::proofs::PublicLaws::falls))]
 pub fn states_fit()
-    ensures fits { (plan : PlanData) (d n : ℕ) → IsPlan plan → 1 ≤ d → d ≤ length plan.nodes → n ≤ change_count plan d → IsTrue (state_fits (node plan d).kind (state plan d n)) }
-    ensures steps { (plan : PlanData) (d n : ℕ) → IsPlan plan → length (bid_of (node plan d).kind (state plan d n) plan.arrays plan.basis.steps) ≡ plan.basis.steps }
-    ensures within { (plan : PlanData) (d n : ℕ) → IsPlan plan → 1 ≤ d → d ≤ length plan.nodes → n ≤ change_count plan d → AllWithinLimit demand_limit (bid_of (node plan d).kind (state plan d n) plan.arrays plan.basis.steps) }
-    ensures falls { (plan : PlanData) (d n : ℕ) → IsPlan plan → NeverRises (bid_of (node plan d).kind (state plan d n) plan.arrays plan.basis.steps) }
-    ensures powers { (plan : PlanData) (cut : Cut) (d : ℕ) → IsPlan plan → 1 ≤ d → d ≤ length plan.nodes → cut d ≤ change_count plan d → IsWithin demand_limit (power plan (state plan) cut d) }
+    ensures fits { (plan : PlanData) (d n : ℕ) (planned : DeviceData) → IsPlan plan → node plan d ≡ Device planned → n ≤ change_count plan d →
+        IsTrue (state_fits planned.kind (state plan d n)) }
+    ensures steps { (plan : PlanData) (d n : ℕ) (planned : DeviceData) → IsPlan plan → node plan d ≡ Device planned →
+        length (bid_of planned.kind (state plan d n) plan.arrays plan.basis.steps) ≡ plan.basis.steps }
+    ensures within { (plan : PlanData) (d n : ℕ) (planned : DeviceData) → IsPlan plan → node plan d ≡ Device planned → n ≤ change_count plan d →
+        AllWithinLimit demand_limit (bid_of planned.kind (state plan d n) plan.arrays plan.basis.steps) }
+    ensures falls { (plan : PlanData) (d n : ℕ) (planned : DeviceData) → IsPlan plan → node plan d ≡ Device planned →
+        NeverRises (bid_of planned.kind (state plan d n) plan.arrays plan.basis.steps) }
+    ensures powers { (plan : PlanData) (cut : Cut) (d : ℕ) → IsPlan plan → cut d ≤ change_count plan d → IsWithin demand_limit (power plan (state plan) cut d) }
 {}
 
 /// A law: the lists that a plan stands for are lawful in the market of cuts, say who is a member after which change,

@@ -4,7 +4,8 @@
 //! the phases. Each event and each tick is one numbered change of its device, which belongs to one phase. From the
 //! plan alone the definitions in `specs/` say what a run comes to:
 //!
-//! - `Plans`: the planned changes, who is a member after how many of them, the group that a node belongs to.
+//! - `Devices`: what is planned for a device, and when that makes it a member.
+//! - `Plans`: what is planned for each node, who is a member after how many changes, the group that a node belongs to.
 //! - `Auction`: the plain auction over a cut, which gives each device a number of its changes: the sum of each group,
 //!   what a limited concentrator announces, the total, its step, the step and the power of each device, and the
 //!   phase's end as lists of lines.

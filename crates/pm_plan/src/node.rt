@@ -1,17 +1,28 @@
-ghost use Rattle.std.specs.Prelude.{◌≡◌, OnOk, OnErr, Some};
-ghost use Rattle.pm_plan.specs.Plans.{no_node, is_member_after};
-ghost use Rattle.pm_plan.specs.Building.{with_change, ticked};
+ghost use Rattle.std.specs.Prelude.{◌≡◌, [], OnOk, OnErr, true};
+ghost use Rattle.pm_plan.specs.Devices.{is_member_after};
+ghost use Rattle.pm_plan.specs.Plans.{is_device, limits_of, changes_of};
+ghost use Rattle.pm_plan.specs.Building.{with_change, map_device, ticked};
 
 use crate::planned::{Change, Planned};
+use pm_base::Limits;
 use pm_device::{DeviceState, Kind};
 use std::alloc::{AllocError, Global};
 use std::marker::Model;
 
-/// What is planned for a node: the limits of a limited concentrator; the kind, the start and the changes of a device.
-/// A concentrator has the kind of a manual device here, which no contract speaks of.
+/// What is planned for a node.
 #[derive(Drop)]
-pub(crate) struct Node {
-    limits: Option<(i64, i64)>,
+pub(crate) enum Node {
+    /// A concentrator, for which nothing is planned.
+    Concentrator,
+    /// A concentrator that bounds what its part of the cluster announces.
+    Limited(Limits),
+    /// A device.
+    Device(Device),
+}
+
+/// What is planned for a device: its kind, the state that it has before its first change, and its changes.
+#[derive(Drop)]
+pub(crate) struct Device {
     kind: Kind,
     start: DeviceState,
     changes: Vec<Change>,
@@ -19,44 +30,23 @@ pub(crate) struct Node {
     member: bool,
 }
 
-impl Model for Node {
+impl Model for Device {
     ghost use Rattle.std.specs.Prelude.{◌≡◌};
-    ghost use Rattle.pm_plan.specs.Plans.{NodeData, is_member_after};
+    ghost use Rattle.pm_plan.specs.Devices.{DeviceData, is_member_after};
 
-    ghost Value = { NodeData };
+    ghost Value = { DeviceData };
 
-    ghost view = { λ n. record { limits = n.limits; kind = n.kind; start = n.start.0; changes = n.changes.items } };
+    ghost view = { λ d. record { kind = d.kind; start = d.start.0; changes = d.changes.items } };
 
-    ghost invariant = { λ n. n.member ≡ is_member_after n.changes.items };
+    ghost invariant = { λ d. d.member ≡ is_member_after d.changes.items };
 }
 
-impl Node {
-    /// A concentrator.
-    pub(crate) fn concentrator(alloc: Global) -> Node
-        ensures { result ≡ no_node }
+impl Device {
+    /// A device without changes.
+    pub(crate) fn new(alloc: Global, kind: Kind, start: DeviceState) -> Device
+        ensures { result ≡ record { kind = kind; start = start.0; changes = [] } }
     {
-        Node::new(alloc, None, Kind::Manual, DeviceState(0))
-    }
-
-    /// A limited concentrator.
-    pub(crate) fn limited(alloc: Global, floor: i64, ceiling: i64) -> Node
-        ensures { result ≡ record no_node { limits = Some (floor, ceiling) } }
-    {
-        Node::new(alloc, Some((floor, ceiling)), Kind::Manual, DeviceState(0))
-    }
-
-    /// A device.
-    pub(crate) fn device(alloc: Global, kind: Kind, start: DeviceState) -> Node
-        ensures { result ≡ record no_node { kind = kind; start = start.0 } }
-    {
-        Node::new(alloc, None, kind, start)
-    }
-
-    fn new(alloc: Global, limits: Option<(i64, i64)>, kind: Kind, start: DeviceState) -> Node
-        ensures { result ≡ record no_node { limits = limits; kind = kind; start = start.0 } }
-    {
-        Node {
-            limits,
+        Device {
             kind,
             start,
             changes: Vec::new(alloc),
@@ -65,8 +55,8 @@ impl Node {
     }
 
     /// Plans one more change, of this phase.
-    pub(crate) fn plan(&mut self, phase: u32, what: Planned) -> Result<(), AllocError>
-        ensures ok { OnOk result (self.new ≡ with_change self.old phase what) }
+    fn plan(&mut self, phase: u32, what: Planned) -> Result<(), AllocError>
+        ensures ok { OnOk result (self.new ≡ with_change phase what self.old) }
         ensures err { OnErr result (self.new ≡ self.old) }
     {
         self.changes.push(Change { phase, what })?;
@@ -79,7 +69,7 @@ impl Node {
     }
 
     /// Plans a tick of so many minutes, where the device is a member whose state changes by itself.
-    pub(crate) fn tick(&mut self, phase: u32, minutes: i64) -> Result<(), AllocError>
+    fn tick(&mut self, phase: u32, minutes: i64) -> Result<(), AllocError>
         ensures { OnOk result (self.new ≡ ticked phase minutes self.old) }
     {
         if self.kind.ticks() && self.member {
@@ -89,37 +79,94 @@ impl Node {
     }
 
     /// Whether the device is a member after all its changes.
-    pub(crate) fn is_member(&self) -> bool
+    fn is_member(&self) -> bool
         ensures { result ≡ is_member_after self.now.changes }
     {
         self.member
     }
 
-    /// Floor and ceiling of a limited concentrator.
-    pub(crate) fn limits(&self) -> Option<(i64, i64)>
-        ensures { result ≡ self.now.limits }
-    {
-        self.limits
-    }
-
-    /// The kind of a device.
+    /// The kind.
     pub(crate) fn kind(&self) -> Kind
         ensures { result ≡ self.now.kind }
     {
         self.kind
     }
 
-    /// The state of a device before its first change.
+    /// The state before the first change.
     pub(crate) fn start(&self) -> DeviceState
         ensures { result.0 ≡ self.now.start }
     {
         self.start
     }
 
-    /// The changes of a device in their order.
+    /// The changes in their order.
     pub(crate) fn changes(&self) -> &[Change]
         ensures { result.now ≡ self.now.changes }
     {
         &self.changes
+    }
+}
+
+impl Node {
+    /// What is planned for a device.
+    pub(crate) fn device(&self) -> &Device
+        requires { is_device self.now ≡ true }
+        ensures { self.now ≡ Node.Device result.now }
+    {
+        match self {
+            Node::Device(device) => device,
+            Node::Concentrator | Node::Limited(_) => unreachable!(),
+        }
+    }
+
+    /// Plans one more change of this phase, where the node is a device.
+    pub(crate) fn plan(&mut self, phase: u32, what: Planned) -> Result<(), AllocError>
+        ensures ok { OnOk result (self.new ≡ map_device (with_change phase what) self.old) }
+        ensures err { OnErr result (self.new ≡ self.old) }
+    {
+        match self {
+            Node::Device(device) => device.plan(phase, what),
+            Node::Concentrator | Node::Limited(_) => Ok(()),
+        }
+    }
+
+    /// Plans a tick of so many minutes, where the node is a device that is a member and whose state changes by itself.
+    pub(crate) fn tick(&mut self, phase: u32, minutes: i64) -> Result<(), AllocError>
+        ensures { OnOk result (self.new ≡ map_device (ticked phase minutes) self.old) }
+    {
+        match self {
+            Node::Device(device) => device.tick(phase, minutes),
+            Node::Concentrator | Node::Limited(_) => Ok(()),
+        }
+    }
+
+    /// Whether the node is a device that is a member after all its changes.
+    pub(crate) fn is_member(&self) -> bool
+        ensures { result ≡ is_member_after (changes_of self.now) }
+    {
+        match self {
+            Node::Device(device) => device.is_member(),
+            Node::Concentrator | Node::Limited(_) => false,
+        }
+    }
+
+    /// The limits of a limited concentrator; none exactly where the node is no such.
+    pub(crate) fn limits(&self) -> Option<Limits>
+        ensures { result ≡ limits_of self.now }
+    {
+        match self {
+            Node::Limited(limits) => Some(*limits),
+            Node::Concentrator | Node::Device(_) => None,
+        }
+    }
+
+    /// The changes of a device in their order; none where the node is no device.
+    pub(crate) fn changes(&self) -> &[Change]
+        ensures { result.now ≡ changes_of self.now }
+    {
+        match self {
+            Node::Device(device) => device.changes(),
+            Node::Concentrator | Node::Limited(_) => &[],
+        }
     }
 }

@@ -1,11 +1,11 @@
-ghost use Rattle.std.specs.Prelude.{◌≡◌, ℕ, ◌≤◌, ◌<◌, ◌-◌, ◌^◌, length, option_map, slice_index_or, true};
+ghost use Rattle.std.specs.Prelude.{◌≡◌, ℕ, ◌≤◌, ◌<◌, ◌-◌, ◌^◌, length, Some, option_map, slice_index_or, true};
 ghost use Rattle.std.specs.List.{prefix_len};
-ghost use Rattle.pm_plan.specs.Plans.{node as planned_node, phases, is_leaf, minutes_of, planned, planned_at, is_up_to, bound, all_changes, group_above, phase_changes};
+ghost use Rattle.pm_plan.specs.Plans.{node as planned_node, kind_of, start_of, limits_of, phases, is_leaf, minutes_of, planned, planned_at, is_up_to, bound, all_changes, group_above, phase_changes};
 ghost use Rattle.pm_plan.specs.Kept.{IsPlan, no_change};
 ghost use Rattle.pm_base.specs.Limits.{most_changes};
 
 use crate::draft::Draft;
-use crate::node::Node;
+use crate::node::{Device, Node};
 use crate::planned::{Change, Planned};
 use pm_basis::Basis;
 use pm_bid::ArrayBid;
@@ -15,8 +15,8 @@ use std::marker::Model;
 
 /// A plan: the market basis, the tree, what is planned for each node, the bids of the manual devices, and the phases.
 ///
-/// Its type keeps that every number lies within the limits of the market, that the tree is lawful, that only devices
-/// have changes, that each change belongs to a phase, and that no limited concentrator stands above a limited one.
+/// Its type keeps that every number lies within the limits of the market, that the tree is lawful, that the
+/// devices are its leaves, that each change belongs to a phase, and that no limited concentrator stands above a limited one.
 #[derive(Drop)]
 pub struct Plan {
     pub(crate) draft: Draft,
@@ -68,18 +68,18 @@ impl Plan {
 
     /// What is planned for a device.
     #[tactic(auto, using(crate::proofs::Leaves::first_of, crate::proofs::Leaves::last_of))]
-    fn device(&self, device: NodeId) -> &Node
+    fn device(&self, device: NodeId) -> &Device
         requires { is_leaf self.now device.0 ≡ true }
-        ensures node { result.now ≡ planned_node self.now device.0 }
+        ensures node { planned_node self.now device.0 ≡ Node.Device result.now }
         ensures sound { IsPlan self.now }
     {
-        self.draft.node(device)
+        self.draft.node(device).device()
     }
 
     /// The kind of a device.
     pub fn kind(&self, device: NodeId) -> Kind
         requires { is_leaf self.now device.0 ≡ true }
-        ensures kind { result ≡ (planned_node self.now device.0).kind }
+        ensures kind { kind_of (planned_node self.now device.0) ≡ Some result }
         ensures sound { IsPlan self.now }
     {
         self.device(device).kind()
@@ -88,7 +88,7 @@ impl Plan {
     /// The state of a device before its first change.
     pub fn start(&self, device: NodeId) -> DeviceState
         requires { is_leaf self.now device.0 ≡ true }
-        ensures { result.0 ≡ (planned_node self.now device.0).start }
+        ensures { start_of (planned_node self.now device.0) ≡ Some result.0 }
     {
         self.device(device).start()
     }
@@ -96,12 +96,13 @@ impl Plan {
     /// Floor and ceiling of a node in watts; none exactly where it is no limited concentrator.
     pub fn limits(&self, node: NodeId) -> Option<(i64, i64)>
         requires { node.0 ≤ length self.now.nodes }
-        ensures { result ≡ (planned_node self.now node.0).limits }
+        ensures { result ≡ option_map (λ limits. (limits.floor, limits.ceiling)) (limits_of (planned_node self.now node.0)) }
     {
         if node.0 == 0 {
             return None;
         }
-        self.draft.node(node).limits()
+        let limits = self.draft.node(node).limits()?;
+        Some((limits.floor, limits.ceiling))
     }
 
     /// The minutes of a phase that is a tick; none exactly where it has events. Phases count from 1.

@@ -1,9 +1,8 @@
 ghost use Rattle.std.specs.Prelude.{◌≡◌, ◌<◌, ◌↔◌, IsTrue, length};
-ghost use Rattle.std.specs.Bool.{Decides};
 ghost use Rattle.pm_bid.specs.Bids.{demand_at};
 ghost use Rattle.pm_plan.specs.Keys.{key_of};
 
-use crate::node::Node;
+use crate::node::{Device, Node};
 use crate::plan::Plan;
 use crate::planned::Change;
 use pm_basis::Basis;
@@ -26,14 +25,14 @@ impl Plan {
 
 /// Whether two bases have the same prices.
 fn same_basis(basis: &Basis, other: &Basis) -> bool
-    ensures { Decides result (basis.now ≡ other.now) }
+    ensures { IsTrue result ↔ (basis.now ≡ other.now) }
 {
     basis.min() == other.min() && basis.max() == other.max() && basis.steps() == other.steps()
 }
 
 /// Whether the same is planned for two lists of nodes.
 fn same_nodes(nodes: &[Node], others: &[Node]) -> bool
-    ensures { Decides result (nodes.now ≡ others.now) }
+    ensures { IsTrue result ↔ (nodes.now ≡ others.now) }
 {
     if nodes.len() != others.len() {
         return false;
@@ -48,17 +47,28 @@ fn same_nodes(nodes: &[Node], others: &[Node]) -> bool
 
 /// Whether the same is planned for two nodes.
 fn same_node(node: &Node, other: &Node) -> bool
-    ensures { Decides result (node.now ≡ other.now) }
+    ensures { IsTrue result ↔ (node.now ≡ other.now) }
 {
-    node.limits() == other.limits()
-        && same_kind(node.kind(), other.kind())
-        && node.start().0 == other.start().0
-        && same_changes(node.changes(), other.changes())
+    match (node, other) {
+        (Node::Concentrator, Node::Concentrator) => true,
+        (Node::Limited(limits), Node::Limited(others)) => limits == others,
+        (Node::Device(device), Node::Device(other)) => same_device(device, other),
+        _ => false,
+    }
+}
+
+/// Whether the same is planned for two devices.
+fn same_device(device: &Device, other: &Device) -> bool
+    ensures { IsTrue result ↔ (device.now ≡ other.now) }
+{
+    same_kind(device.kind(), other.kind())
+        && device.start().0 == other.start().0
+        && same_changes(device.changes(), other.changes())
 }
 
 /// Whether two kinds are the same, with the same parameters.
 fn same_kind(kind: Kind, other: Kind) -> bool
-    ensures { Decides result (kind ≡ other) }
+    ensures { IsTrue result ↔ (kind ≡ other) }
 {
     key(kind) == key(other)
 }
@@ -104,14 +114,14 @@ fn key(kind: Kind) -> (u8, i64, i64, i64, i64, i64)
 
 /// Whether two lists have the same changes.
 fn same_changes(changes: &[Change], others: &[Change]) -> bool
-    ensures { Decides result (changes.now ≡ others.now) }
+    ensures { IsTrue result ↔ (changes.now ≡ others.now) }
 {
     changes == others
 }
 
 /// Whether two lists have the same bids.
 fn same_arrays(arrays: &[ArrayBid], others: &[ArrayBid]) -> bool
-    ensures { Decides result (arrays.now ≡ others.now) }
+    ensures { IsTrue result ↔ (arrays.now ≡ others.now) }
 {
     if arrays.len() != others.len() {
         return false;
@@ -126,7 +136,7 @@ fn same_arrays(arrays: &[ArrayBid], others: &[ArrayBid]) -> bool
 
 /// Whether two bids have the same demand at every step.
 fn same_array(array: &ArrayBid, other: &ArrayBid) -> bool
-    ensures { Decides result (array.now ≡ other.now) }
+    ensures { IsTrue result ↔ (array.now ≡ other.now) }
 {
     if array.steps() != other.steps() {
         return false;
@@ -143,7 +153,7 @@ fn same_array(array: &ArrayBid, other: &ArrayBid) -> bool
 fn same_demand(array: &ArrayBid, other: &ArrayBid, step: usize) -> bool
     requires inside { step < length array.now }
     requires within { step < length other.now }
-    ensures { Decides result (demand_at array.now step ≡ demand_at other.now step) }
+    ensures { IsTrue result ↔ (demand_at array.now step ≡ demand_at other.now step) }
 {
     let mut counter = Steps::<Brand>::start();
     array.at(step, &mut counter) == other.at(step, &mut counter)
@@ -151,7 +161,7 @@ fn same_demand(array: &ArrayBid, other: &ArrayBid, step: usize) -> bool
 
 /// Whether two lists of phases have the same minutes.
 fn same_minutes(minutes: &[Option<i64>], others: &[Option<i64>]) -> bool
-    ensures { Decides result (minutes.now ≡ others.now) }
+    ensures { IsTrue result ↔ (minutes.now ≡ others.now) }
 {
     minutes == others
 }

@@ -1,20 +1,14 @@
 use super::*;
 
-fn may_be_shared<T: Send + Sync>(_value: &T) {}
+fn may_be_shared<T: Send + Sync>() {}
 
-/// Every public type may be sent to threads and shared by them.
-fn each_type_may_be_shared(
-    plan: &Plan,
-    end: &PhaseEnd,
-    lines: &(MemberLine, LimitedLine),
-    refusals: &(Place, Refusal, PlanFault),
-    parts: &(StateSpec, NodeSpec, EventSpec, PhaseSpec),
-    planned: &Planned,
-) {
-    may_be_shared(plan);
-    may_be_shared(end);
-    may_be_shared(lines);
-    may_be_shared(refusals);
-    may_be_shared(parts);
-    may_be_shared(planned);
+/// Every public type may be sent to threads and shared by them: it is proved here.
+#[test]
+fn each_type_may_be_shared() {
+    may_be_shared::<Plan>();
+    may_be_shared::<PhaseEnd>();
+    may_be_shared::<(MemberLine, LimitedLine)>();
+    may_be_shared::<(Place, Refusal, PlanFault)>();
+    may_be_shared::<(StateSpec, NodeSpec, EventSpec, PhaseSpec)>();
+    may_be_shared::<Planned>();
 }

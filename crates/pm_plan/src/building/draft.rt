@@ -1,10 +1,10 @@
-ghost use Rattle.std.specs.Prelude.{◌≡◌, ◌+◌, ◌==◌, nat_le, ◌<◌, ◌≤◌, ◌^◌, IfOk, OnOk, Ok, length, map};
+ghost use Rattle.std.specs.Prelude.{◌≡◌, ◌+◌, ◌==◌, nat_le, ◌<◌, ◌≤◌, ◌^◌, IfOk, OnOk, Ok, Some, true, length, map};
 ghost use Rattle.pm_basis.specs.Prices.{IsBasis};
 ghost use Rattle.pm_tree.specs.Entries.{checked_tree, parents_of, leaves_of};
 ghost use Rattle.pm_tree.specs.Shape.{IsTree};
-ghost use Rattle.pm_plan.specs.Plans.{node as planned_node, group, is_limited, all_changes};
+ghost use Rattle.pm_plan.specs.Plans.{node as planned_node, is_device, kind_of, group, is_limited, all_changes};
 ghost use Rattle.pm_base.specs.Limits.{most_changes};
-ghost use Rattle.pm_plan.specs.Building.{empty_plan, with_array, with_node, with_phase, with_tick, with_change_of, is_member_now, ticked};
+ghost use Rattle.pm_plan.specs.Building.{empty_plan, with_array, with_node, with_phase, with_tick, with_change_of, is_member_now, map_device, ticked};
 
 use crate::draft::Draft;
 use crate::node::Node;
@@ -65,7 +65,7 @@ impl Draft {
         Ok(())
     }
 
-    /// Plans one more change of a device.
+    /// Plans one more change of a node, where it is a device.
     pub(crate) fn plan(&mut self, device: u32, phase: u32, what: Planned) -> Result<(), AllocError>
         requires first { 1 ≤ device }
         requires last { device ≤ length self.old.nodes }
@@ -81,9 +81,10 @@ impl Draft {
     pub(crate) fn kind(&self, device: u32) -> Kind
         requires first { 1 ≤ device }
         requires last { device ≤ length self.now.nodes }
-        ensures { result ≡ (planned_node self.now device).kind }
+        requires device { is_device (planned_node self.now device) ≡ true }
+        ensures { kind_of (planned_node self.now device) ≡ Some result }
     {
-        self.node(NodeId(device)).kind()
+        self.node(NodeId(device)).device().kind()
     }
 
     /// Whether a device is a member after all its changes so far.
@@ -138,7 +139,7 @@ impl Draft {
 
 /// Plans a tick for each of the nodes that is a member whose state changes by itself.
 fn tick_each(nodes: &mut [Node], phase: u32, minutes: i64) -> Result<(), AllocError>
-    ensures { OnOk result (nodes.new ≡ map (ticked phase minutes) nodes.old) }
+    ensures { OnOk result (nodes.new ≡ map (map_device (ticked phase minutes)) nodes.old) }
 {
     for node in nodes.iter_mut() {
         node.tick(phase, minutes)?;

@@ -1,5 +1,6 @@
-ghost use Rattle.std.specs.Prelude.{◌≡◌, ◌+◌, ◌<◌, ◌≤◌, ◌^◌, length, map, OnOk, IfOk, IfSome};
+ghost use Rattle.std.specs.Prelude.{◌≡◌, ◌+◌, ◌<◌, ◌≤◌, ◌^◌, true, length, map, OnOk, IfOk, IfSome};
 ghost use Rattle.pm_plan.specs.Parts.{event_part};
+ghost use Rattle.pm_plan.specs.Plans.{node as planned_node, is_device};
 ghost use Rattle.pm_plan.specs.Building.{add_event, event_of, device_named, member_named, stranger_named};
 ghost use Rattle.pm_plan.specs.Refusals.{Makes};
 ghost use Rattle.pm_base.specs.Outcomes.{fold_from};
@@ -76,6 +77,7 @@ fn add_event(
 fn member_named(draft: &Draft, place: Place, name: &str) -> Result<u32, Refusal>
     requires { length draft.now.nodes ≡ length draft.now.entries }
     ensures device { result ≡ member_named place draft.now name.now }
+    ensures planned { IfOk result (λ d. is_device (planned_node draft.now d) ≡ true) }
     ensures inside { IfOk result (λ d. (1 ≤ d) × (d ≤ length draft.now.nodes)) }
 {
     let Some(device) = device_named(&draft.tree, name) else {

@@ -8,9 +8,10 @@ ghost use Rattle.pm_base.specs.Outcomes.{fold_from};
 
 use crate::building::states::take_state;
 use crate::draft::Draft;
-use crate::node::Node;
+use crate::node::{Device, Node};
 use crate::parts::NodeSpec;
 use crate::refusal::{Place, PlanFault, Refusal};
+use pm_base::Limits;
 use pm_device::DeviceState;
 use pm_tree::NodeId;
 use std::alloc::Global;
@@ -56,29 +57,34 @@ fn add_node(alloc: Global, draft: &mut Draft, number: u32, spec: &NodeSpec) -> R
 {
     let place = Place::Node { number };
     match spec {
-        NodeSpec::Concentrator => Ok(draft.push_node(Node::concentrator(alloc))?),
+        NodeSpec::Concentrator => Ok(draft.push_node(Node::Concentrator)?),
         NodeSpec::Limited { floor, ceiling } => {
-            if !are_limits(*floor, *ceiling) {
+            let limits = Limits {
+                floor: *floor,
+                ceiling: *ceiling,
+            };
+            if !are_limits(limits) {
                 return Err(PlanFault::Refused(Refusal::at(13, place)));
             }
             if !draft.is_under_no_limit(NodeId(number)) {
                 return Err(PlanFault::Refused(Refusal::at(22, place)));
             }
-            Ok(draft.push_node(Node::limited(alloc, *floor, *ceiling))?)
+            Ok(draft.push_node(Node::Limited(limits))?)
         }
         NodeSpec::Device { kind, start } => {
             if !kind.valid() {
                 return Err(PlanFault::Refused(Refusal::at(13, place)));
             }
             let state = take_state(alloc, draft, place, *kind, start)?;
-            Ok(draft.push_node(Node::device(alloc, *kind, DeviceState(state)))?)
+            let device = Device::new(alloc, *kind, DeviceState(state));
+            Ok(draft.push_node(Node::Device(device))?)
         }
     }
 }
 
 /// Whether these are a floor and a ceiling.
-fn are_limits(floor: i64, ceiling: i64) -> bool
-    ensures { result ≡ are_limits floor ceiling }
+fn are_limits(limits: Limits) -> bool
+    ensures { result ≡ are_limits limits }
 {
-    (-SUM_LIMIT..=0).contains(&floor) && (0..=SUM_LIMIT).contains(&ceiling)
+    (-SUM_LIMIT..=0).contains(&limits.floor) && (0..=SUM_LIMIT).contains(&limits.ceiling)
 }
