@@ -1,5 +1,6 @@
 -- Device agents.
-use Rattle.std.specs.Prelude.{ℕ, ◌≤◌, IsTrue}
+use Rattle.std.specs.Prelude.{ℕ, IsTrue}
+use Rattle.pm_base.specs.Limits.{AreSteps}
 use Rattle.pm_device.specs.declared.kind.Kind.{Kind}
 use Rattle.pm_device.specs.Kinds.{is_valid}
 
@@ -12,5 +13,4 @@ pub record Agent : Type 0 where
 -- the kind is valid, and the steps are those of a market basis
 pub record IsAgent (agent : Agent) : Type 0 where
   pub valid : IsTrue (is_valid agent.kind)
-  pub at_least_two : 2 ≤ agent.steps
-  pub at_most_thousand : agent.steps ≤ 1000
+  pub basis : AreSteps agent.steps

@@ -136,7 +136,7 @@ demand_within points bid price = within_from points bid price (last_at_most poin
 -- prices rise with the step
 price_rises : (basis : BasisValue) → IsBasis basis → (step : ℕ) → price_at basis step ≤ℤ price_at basis (step + 1)
 price_rises basis sound step =
-    let some = sound.at_least_two in
+    let some = sound.steps.least in
     let order = sound.order in
     omega (arith, ints, share_le step (step + 1) (basis.max -ℤ basis.min) (pos basis.steps -ℤ pos 1) (omega arith) (omega (arith, ints)) (omega (arith, ints)))
 
