@@ -2,3 +2,5 @@ pub mod Bools
 pub mod Ints
 pub mod Lists
 pub mod Searches
+pub mod Outcomes
+pub mod NumberedLists

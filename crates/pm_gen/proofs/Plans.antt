@@ -8,6 +8,7 @@ use Rattle.std.proofs.lemmas.List.Sums.{sum_by-cons}
 use Rattle.std.proofs.lemmas.Bool.Decides.{nat_tests}
 use Rattle.pm_basis.specs.Prices.{BasisValue}
 use Rattle.pm_tree.specs.Entries.{Entry, leaves_of}
+use Rattle.pm_plan.specs.declared.refusal.Cause.TheVariants as cause
 use Rattle.pm_plan.specs.declared.refusal.PlanFault.{PlanFault}
 use Rattle.pm_plan.specs.declared.refusal.PlanFault.TheVariants as faults
 use Rattle.pm_plan.specs.declared.refusal.Place.TheVariants.{Document, Phase}
@@ -78,7 +79,7 @@ module _ (size : ℕ) (some : 1 ≤ size) (few : size ≤ 200) where
       let ticked = stands-ticked size earlier most plan p (pos 15) stands in
       let fits = few_enough most_changes (all_changes (with_tick p (pos 15) plan).nodes) (omega (arith, ticked.few)) in (
         with_tick p (pos 15) plan,
-        ap (λ b. check 20 (Phase p) b >> Ok (with_tick p (pos 15) plan)) fits,
+        ap (λ b. check cause.RunTooLarge (Phase p) b >> Ok (with_tick p (pos 15) plan)) fits,
         record { entries_are = ticked.entries_are; one_each = ticked.one_each; joined = ticked.joined; few = omega (arith, ticked.few) },
       )
 
@@ -90,9 +91,9 @@ module _ (size : ℕ) (some : 1 ≤ size) (few : size ≤ 200) where
       let listed = few_enough most_events (length (turns earlier devices)) (omega (arith, length-turns earlier devices)) in
       let fits = few_enough most_changes (all_changes made.0.nodes) (omega (arith, made.2.few)) in (
         with_phase made.0 None,
-        ap (λ b. (check 20 (Phase p) b >> (fold_from 1 (add_event p) plan (turns earlier devices) >>= λ draft. Ok (with_phase draft None))) >>= λ draft. check 20 (Phase p) (nat_le (all_changes draft.nodes) most_changes) >> Ok draft) listed
-            ∙ ap (λ draft. (draft >>= λ d. Ok (with_phase d None)) >>= λ d. check 20 (Phase p) (nat_le (all_changes d.nodes) most_changes) >> Ok d) made.1
-            ∙ ap (λ b. check 20 (Phase p) b >> Ok (with_phase made.0 None)) fits,
+        ap (λ b. (check cause.RunTooLarge (Phase p) b >> (fold_from 1 (add_event p) plan (turns earlier devices) >>= λ draft. Ok (with_phase draft None))) >>= λ draft. check cause.RunTooLarge (Phase p) (nat_le (all_changes draft.nodes) most_changes) >> Ok draft) listed
+            ∙ ap (λ draft. (draft >>= λ d. Ok (with_phase d None)) >>= λ d. check cause.RunTooLarge (Phase p) (nat_le (all_changes d.nodes) most_changes) >> Ok d) made.1
+            ∙ ap (λ b. check cause.RunTooLarge (Phase p) b >> Ok (with_phase made.0 None)) fits,
         record { entries_are = made.2.entries_are; one_each = made.2.one_each; joined = made.2.joined; few = made.2.few },
       )
 
@@ -145,7 +146,7 @@ module _ (size : ℕ) (some : 1 ≤ size) (few : size ≤ 200) where
       let nodes = add_plain_nodes 1 (empty_plan demo_basis (demo_entries size)) (demo_nodes size seed) (demo_nodes-plain size seed) in
       let phases = phases-accepted later (nodes_alone seed) (stands-first seed) in (
         phases.0,
-        ap (λ b. check 20 Document b >> (fold_from 1 add_node (empty_plan demo_basis (demo_entries size)) (demo_nodes size seed) >>= λ draft. fold_from 1 add_phase draft (demo_phases size later))) short
+        ap (λ b. check cause.RunTooLarge Document b >> (fold_from 1 add_node (empty_plan demo_basis (demo_entries size)) (demo_nodes size seed) >>= λ draft. fold_from 1 add_phase draft (demo_phases size later))) short
             ∙ ap (λ result. result >>= λ draft. fold_from 1 add_phase draft (demo_phases size later)) nodes
             ∙ phases.1,
       )

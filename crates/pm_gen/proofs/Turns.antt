@@ -2,6 +2,7 @@
 use Rattle.std.proofs.Common.{◌≡◌, ℕ, zero, suc, ◌+◌, ◌≤◌, ◌==◌, Bool, true, false, not, if◌then◌else◌, List, [], ◌∷◌, ◌++◌, length, map, Some, Result, Ok, refl, sym, ap, ◌∙◌, arith, append_assoc, append-nil}
 use Rattle.std.specs.List.{AllByRecursion, fold, range_with_len}
 use Rattle.std.proofs.lemmas.Bool.Decides.{nat_tests}
+use Rattle.pm_plan.specs.declared.refusal.Cause.TheVariants as cause
 use Rattle.pm_plan.specs.declared.planned.Planned.TheVariants.{Join, Leave}
 use Rattle.pm_plan.specs.declared.refusal.Place.{Place}
 use Rattle.pm_plan.specs.declared.refusal.Place.TheVariants.{Event}
@@ -23,14 +24,14 @@ use Rattle.pm_gen.proofs.Drafts.{Stands, turning, stands-turned}
 leave-accepted : (place : Place) (p : ℕ) (plan : PlanData) (name : List ℕ) (d : ℕ) → device_named plan.entries name ≡ Some d → is_member_now plan d ≡ true → event_of place p plan (leave name) ≡ Ok (with_change_of plan d p Leave)
 unfolding event_of member_named
 leave-accepted place p plan name d named member =
-    ap (λ found. (need 14 place found >>= λ e. check 16 place (is_member_now plan e) >> Ok e) >>= λ e. Ok (with_change_of plan e p Leave)) named
-    ∙ ap (λ b. (check 16 place b >> Ok d) >>= λ e. Ok (with_change_of plan e p Leave)) member
+    ap (λ found. (need cause.UnknownDevice place found >>= λ e. check cause.NotJoined place (is_member_now plan e) >> Ok e) >>= λ e. Ok (with_change_of plan e p Leave)) named
+    ∙ ap (λ b. (check cause.NotJoined place b >> Ok d) >>= λ e. Ok (with_change_of plan e p Leave)) member
 
 join-accepted : (place : Place) (p : ℕ) (plan : PlanData) (name : List ℕ) (d : ℕ) → device_named plan.entries name ≡ Some d → is_member_now plan d ≡ false → event_of place p plan (join name) ≡ Ok (with_change_of plan d p Join)
 unfolding event_of stranger_named
 join-accepted place p plan name d named stranger =
-    ap (λ found. (need 14 place found >>= λ e. check 15 place (not (is_member_now plan e)) >> Ok e) >>= λ e. Ok (with_change_of plan e p Join)) named
-    ∙ ap (λ b. (check 15 place (not b) >> Ok d) >>= λ e. Ok (with_change_of plan e p Join)) stranger
+    ap (λ found. (need cause.UnknownDevice place found >>= λ e. check cause.JoinedAlready place (not (is_member_now plan e)) >> Ok e) >>= λ e. Ok (with_change_of plan e p Join)) named
+    ∙ ap (λ b. (check cause.JoinedAlready place (not b) >> Ok d) >>= λ e. Ok (with_change_of plan e p Join)) stranger
 
 module _ (size : ℕ) (few : size ≤ 200) where
   turn-accepted : (earlier : List ℕ) (most : ℕ) (plan : PlanData) (i : ℕ) (place : Place) (p : ℕ) → Stands size earlier most plan → 1 ≤ i → i ≤ size

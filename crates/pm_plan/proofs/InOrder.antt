@@ -4,6 +4,7 @@ use Rattle.std.proofs.lemmas.Bool.{le-leb}
 use Rattle.std.proofs.lemmas.List.{length-map}
 use Rattle.pm_basis.specs.Prices.{BasisValue}
 use Rattle.pm_tree.specs.Entries.{Entry, leaves_of}
+use Rattle.pm_plan.specs.declared.refusal.Cause.TheVariants as cause
 use Rattle.pm_plan.specs.declared.parts.NodeSpec.{NodeSpec}
 use Rattle.pm_plan.specs.declared.refusal.Place.TheVariants.{Document}
 use Rattle.pm_plan.specs.declared.refusal.Refusal.{Refusal}
@@ -12,7 +13,7 @@ use Rattle.pm_plan.specs.Parts.{NodePart, PhasePart, AreNodesOf, is_device, node
 use Rattle.pm_plan.specs.Building.{checked_plan, add_node, add_phase, empty_plan}
 use Rattle.pm_plan.specs.Refusals.{check}
 use Rattle.pm_base.specs.Outcomes.{◌>>=◌, ◌>>◌, fold_from, Refuses}
-use Rattle.pm_plan.proofs.Folds.{Fails-first}
+use Rattle.pm_base.proofs.Outcomes.{Refuses-first}
 
 -- there is a part for each entry
 pub one_part_each : (entries : List Entry) (specs : List NodeSpec) → AreNodesOf entries (map node_part specs) → length specs ≡ length entries
@@ -27,13 +28,13 @@ pub nodes_then_phases : (basis : BasisValue) (entries : List Entry) (nodes : Lis
     (fold_from 1 add_node (empty_plan basis entries) nodes >>= λ plan. fold_from 1 add_phase plan phases) ≡ checked_plan basis entries nodes phases
 unfolding checked_plan
 nodes_then_phases basis entries nodes phases few =
-    ap (λ b. check 20 Document b >> (fold_from 1 add_node (empty_plan basis entries) nodes >>= λ plan. fold_from 1 add_phase plan phases)) (sym (le-leb (length phases) 1000 few))
+    ap (λ b. check cause.RunTooLarge Document b >> (fold_from 1 add_node (empty_plan basis entries) nodes >>= λ plan. fold_from 1 add_phase plan phases)) (sym (le-leb (length phases) 1000 few))
 
 pub nodes_refused : (basis : BasisValue) (entries : List Entry) (nodes : List NodePart) (phases : List PhasePart) (refusal : Option Refusal) → length phases ≤ 1000 →
     Refuses refusal (fold_from 1 add_node (empty_plan basis entries) nodes) → Refuses refusal (checked_plan basis entries nodes phases)
 nodes_refused basis entries nodes phases refusal few fails =
     subst (Refuses refusal) (nodes_then_phases basis entries nodes phases few)
-    (Fails-first refusal (fold_from 1 add_node (empty_plan basis entries) nodes) (λ plan. fold_from 1 add_phase plan phases) fails)
+    (Refuses-first refusal (fold_from 1 add_node (empty_plan basis entries) nodes) (λ plan. fold_from 1 add_phase plan phases) fails)
 
 pub phases_refused : (basis : BasisValue) (entries : List Entry) (nodes : List NodePart) (phases : List PhasePart) (plan : PlanData) (refusal : Option Refusal) → length phases ≤ 1000 →
     fold_from 1 add_node (empty_plan basis entries) nodes ≡ Ok plan → Refuses refusal (fold_from 1 add_phase plan phases) → Refuses refusal (checked_plan basis entries nodes phases)

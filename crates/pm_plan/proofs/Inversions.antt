@@ -1,6 +1,7 @@
 -- What an answer without a refusal says of the steps before it.
 use Rattle.std.proofs.Common.{◌≡◌, sym, ap, ℕ, ◌+◌, Bool, true, false, List, [], ◌∷◌, ◌++◌, length, refl, subst, Result, Ok, Err}
 use Rattle.std.proofs.lemmas.List.{append_assoc, append-nil, length-append}
+use Rattle.pm_plan.specs.declared.refusal.Cause.{Cause}
 use Rattle.pm_plan.specs.declared.refusal.Place.{Place}
 use Rattle.pm_plan.specs.declared.refusal.Refusal.{Refusal}
 use Rattle.pm_plan.specs.Refusals.{check}
@@ -19,9 +20,9 @@ pub record CheckOk {B : Type 0} (test : Bool) (next : Result B Refusal) (y : B) 
   pub holds : test ≡ true
   pub rest : next ≡ Ok y
 
-pub check-ok : {B : Type 0} (code : ℕ) (place : Place) (test : Bool) (next : Result B Refusal) (y : B) → (check code place test >> next) ≡ Ok y → CheckOk test next y
-check-ok code place true next y h = record { holds = refl; rest = h }
-check-ok code place false next y h = absurd (cc h)
+pub check-ok : {B : Type 0} (why : Cause) (place : Place) (test : Bool) (next : Result B Refusal) (y : B) → (check why place test >> next) ≡ Ok y → CheckOk test next y
+check-ok why place true next y h = record { holds = refl; rest = h }
+check-ok why place false next y h = absurd (cc h)
 
 pub ok-is : {A : Type 0} (x y : A) → (let r : Result A Refusal = Ok x in r) ≡ Ok y → x ≡ y
 ok-is x y h = cc h

@@ -15,6 +15,7 @@ use Rattle.pm_base.specs.declared.limits.Limits.{Limits}
 use Rattle.pm_base.specs.Limits.{AreLimits, sum_limit}
 use Rattle.pm_tree.specs.Entries.{Entry, parents_of, leaves_of, parent_of}
 use Rattle.pm_tree.specs.Shape.{IsTree}
+use Rattle.pm_plan.specs.declared.refusal.Cause.TheVariants as cause
 use Rattle.pm_plan.specs.declared.refusal.Place.TheVariants.{Node}
 use Rattle.pm_plan.specs.declared.node.Node.TheVariants.{Concentrator, Limited, Device}
 use Rattle.pm_plan.specs.Devices.{DeviceData}
@@ -193,14 +194,14 @@ add_taken entries tree done plan made concentrator before h =
     (node_taken entries done plan concentrator Concentrator (earlier_of entries plan tree before.same_entries) before tt refl refl (λ has. absurd (cc has)))
 add_taken entries tree done plan made (limited floor ceiling) before h =
     let limits = limits_from floor ceiling in
-    let bounds = check-ok 13 (Node (length done + 1)) (are_limits limits) _ made h in
-    let alone = check-ok 22 (Node (length done + 1)) (group plan (length done + 1) == 0) _ made bounds.rest in
+    let bounds = check-ok cause.OutsideLimits (Node (length done + 1)) (are_limits limits) _ made h in
+    let alone = check-ok cause.LimitedTwice (Node (length done + 1)) (group plan (length done + 1) == 0) _ made bounds.rest in
     subst (NodesTaken entries (done ++ limited floor ceiling ∷ [])) (ok-is (with_node plan (Limited limits)) made alone.rest)
     (node_taken entries done plan (limited floor ceiling) (Limited limits) (earlier_of entries plan tree before.same_entries) before
     (limits-are limits bounds.holds) refl refl (λ has. is_zero (group plan (length done + 1)) alone.holds))
 add_taken entries tree done plan made (device kind start) before h =
     let place = Node (length done + 1) in
-    let valid = check-ok 13 place (is_valid kind) _ made h in
+    let valid = check-ok cause.OutsideLimits place (is_valid kind) _ made h in
     let state = bind-ok (state_of place kind plan start) (λ s. Ok (with_node s.1 (Device (new_device kind s.0)))) made valid.rest in
     let facts = state-made place kind plan start state.value before.holds.basis before.holds.arrays state.first in
     let middle = subst (NodesTaken entries done) (sym facts.is) (arrays_taken entries done plan facts.arrays before facts.bids) in

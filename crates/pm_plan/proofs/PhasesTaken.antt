@@ -10,9 +10,11 @@ use Rattle.std.proofs.lemmas.List.{length-append, length-map, length-set, get_or
 use Rattle.std.proofs.lemmas.List.Sums.{sum_by-set, sum_by_push, sum_by-le, sum_by-cons}
 use Rattle.pm_device.specs.declared.kind.Kind.{Kind}
 use Rattle.pm_tree.specs.Entries.{Entry, node_named, is_leaf_at}
+use Rattle.pm_plan.specs.declared.refusal.Cause.TheVariants as cause
 use Rattle.pm_plan.specs.declared.planned.Change.{Change}
 use Rattle.pm_plan.specs.declared.planned.Planned.{Planned}
 use Rattle.pm_plan.specs.declared.planned.Planned.TheVariants.{Join, Leave, Set, Tick}
+use Rattle.pm_plan.specs.declared.refusal.Cause.{Cause}
 use Rattle.pm_plan.specs.declared.refusal.Place.{Place}
 use Rattle.pm_plan.specs.declared.refusal.Place.TheVariants.{Phase, Event}
 use Rattle.pm_plan.specs.Parts.{EventPart, join, state, leave, PhasePart, events, tick}
@@ -171,9 +173,9 @@ arrays_on_way entries p k plan arrays way all = record {
 
 -- ---- events
 
-need-ok : {A : Type 0} (code : ℕ) (place : Place) (o : Option A) (x : A) → need code place o ≡ Ok x → o ≡ Some x
-need-ok code place None x h = absurd (cc h)
-need-ok code place (Some y) x h = ap (λ z. (let o : Option _ = Some z in o)) (ok-is y x h)
+need-ok : {A : Type 0} (why : Cause) (place : Place) (o : Option A) (x : A) → need why place o ≡ Ok x → o ≡ Some x
+need-ok why place None x h = absurd (cc h)
+need-ok why place (Some y) x h = ap (λ z. (let o : Option _ = Some z in o)) (ok-is y x h)
 
 leaf_if : (entries : List Entry) (x d : ℕ) (b : Bool) → is_leaf_at entries x ≡ b → (if b then Some x else None) ≡ Some d → is_leaf_at entries d ≡ true
 leaf_if entries x d true is h = let same : x ≡ d = cc h in subst (λ y. is_leaf_at entries y ≡ true) same is
@@ -186,16 +188,16 @@ leaf_of entries (Some x) d h = leaf_if entries x d (is_leaf_at entries x) refl h
 member-leaf : (place : Place) (plan : PlanData) (name : List ℕ) (d : ℕ) → member_named place plan name ≡ Ok d → is_leaf plan d ≡ true
 unfolding member_named
 member-leaf place plan name d h =
-    let found = bind-ok (need 14 place (device_named plan.entries name)) _ d h in
-    let inside = check-ok 16 place (is_member_now plan found.value) _ d found.rest in
-    leaf_of plan.entries (node_named plan.entries name) d (need-ok 14 place (device_named plan.entries name) found.value found.first ∙ ap (λ z. (let o : Option ℕ = Some z in o)) (ok-is found.value d inside.rest))
+    let found = bind-ok (need cause.UnknownDevice place (device_named plan.entries name)) _ d h in
+    let inside = check-ok cause.NotJoined place (is_member_now plan found.value) _ d found.rest in
+    leaf_of plan.entries (node_named plan.entries name) d (need-ok cause.UnknownDevice place (device_named plan.entries name) found.value found.first ∙ ap (λ z. (let o : Option ℕ = Some z in o)) (ok-is found.value d inside.rest))
 
 stranger-leaf : (place : Place) (plan : PlanData) (name : List ℕ) (d : ℕ) → stranger_named place plan name ≡ Ok d → is_leaf plan d ≡ true
 unfolding stranger_named
 stranger-leaf place plan name d h =
-    let found = bind-ok (need 14 place (device_named plan.entries name)) _ d h in
-    let inside = check-ok 15 place (not (is_member_now plan found.value)) _ d found.rest in
-    leaf_of plan.entries (node_named plan.entries name) d (need-ok 14 place (device_named plan.entries name) found.value found.first ∙ ap (λ z. (let o : Option ℕ = Some z in o)) (ok-is found.value d inside.rest))
+    let found = bind-ok (need cause.UnknownDevice place (device_named plan.entries name)) _ d h in
+    let inside = check-ok cause.JoinedAlready place (not (is_member_now plan found.value)) _ d found.rest in
+    leaf_of plan.entries (node_named plan.entries name) d (need-ok cause.UnknownDevice place (device_named plan.entries name) found.value found.first ∙ ap (λ z. (let o : Option ℕ = Some z in o)) (ok-is found.value d inside.rest))
 
 -- what holds once these events of phase p were taken
 record EventsTaken (entries : List Entry) (p k : ℕ) (done : List EventPart) (plan : PlanData) : Type 0 where
@@ -247,12 +249,12 @@ add_event_taken entries p k n done plan made (leave name) later before h =
 add_event_taken entries p k n done plan made (state name value) later before h =
     let place = Event p n in
     let found = bind-ok (member_named place plan name)
-    (λ d. need 14 place (kind_of (node plan d)) >>= λ kind. state_of place kind plan value >>= λ s. Ok (set_of d p s)) made h in
+    (λ d. need cause.UnknownDevice place (kind_of (node plan d)) >>= λ kind. state_of place kind plan value >>= λ s. Ok (set_of d p s)) made h in
     let d = found.value in
-    let kind = bind-ok (need 14 place (kind_of (node plan d))) (λ kind. state_of place kind plan value >>= λ s. Ok (set_of d p s)) made found.rest in
+    let kind = bind-ok (need cause.UnknownDevice place (kind_of (node plan d))) (λ kind. state_of place kind plan value >>= λ s. Ok (set_of d p s)) made found.rest in
     let set = bind-ok (state_of place kind.value plan value) (λ s. Ok (set_of d p s)) made kind.rest in
     let here = leaf_device entries p k d plan before.way (member-leaf place plan name d found.first) in
-    let some = sym (ap kind_of here.1) ∙ need-ok 14 place (kind_of (node plan d)) kind.value kind.first in
+    let some = sym (ap kind_of here.1) ∙ need-ok cause.UnknownDevice place (kind_of (node plan d)) kind.value kind.first in
     let same : kind.value ≡ here.0.kind = cc some in
     let facts = state-made place kind.value plan value set.value before.way.holds.basis before.way.holds.arrays set.first in
     let fits = subst (λ (one : Kind). StateMade one plan set.value) same facts in
@@ -382,23 +384,23 @@ pub record PhasesTaken (entries : List Entry) (done : List PhasePart) (plan : Pl
 phase_taken : (entries : List Entry) (k : ℕ) (plan made : PlanData) (part : PhasePart) → OnWay entries k k plan → phase_of (k + 1) plan part ≡ Ok made → OnWay entries (k + 1) (k + 1) made
 unfolding phase_of
 phase_taken entries k plan made (tick minutes) before h =
-    let fits = check-ok 13 (Phase (k + 1)) (are_minutes minutes) _ made h in
+    let fits = check-ok cause.OutsideLimits (Phase (k + 1)) (are_minutes minutes) _ made h in
     subst (OnWay entries (k + 1) (k + 1)) (ok-is (with_tick (k + 1) minutes plan) made fits.rest) (tick_closed entries k plan minutes (open_phase entries k plan before) fits.holds)
 phase_taken entries k plan made (events list) before h =
-    let few = check-ok 20 (Phase (k + 1)) (nat_le (length list) most_events) _ made h in
+    let few = check-ok cause.RunTooLarge (Phase (k + 1)) (nat_le (length list) most_events) _ made h in
     let all = bind-ok (fold_from 1 (add_event (k + 1)) plan list) (λ after. Ok (with_phase after None)) made few.rest in
     let start : EventsTaken entries (k + 1) k [] plan = record { way = open_phase entries k plan before; count = none_later_of k (k + 1) plan before.holds (omega arith) } in
     let taken =
     fold_keeps (EventsTaken entries (k + 1) k) (add_event (k + 1)) (λ done s t x held is. add_event_taken entries (k + 1) k (length done + 1) done s t x (omega arith) held is)
     [] list plan all.value start all.first in
-    let within : length list ≤ events_limit = leb-true (length list) most_events few.holds in
+    let within : length list ≤ most_events = leb-true (length list) most_events few.holds in
     subst (OnWay entries (k + 1) (k + 1)) (ok-is (with_phase all.value None) made all.rest) (events_closed entries k all.value taken.way (let c = taken.count in omega arith))
 
 add_phase_taken : (entries : List Entry) (done : List PhasePart) (plan made : PlanData) (part : PhasePart) → PhasesTaken entries done plan → add_phase (length done + 1) plan part ≡ Ok made → PhasesTaken entries (done ++ part ∷ []) made
 unfolding add_phase
 add_phase_taken entries done plan made part before h =
     let after = bind-ok (phase_of (length done + 1) plan part) _ made h in
-    let few = check-ok 20 (Phase (length done + 1)) (nat_le (all_changes after.value.nodes) most_changes) _ made after.rest in
+    let few = check-ok cause.RunTooLarge (Phase (length done + 1)) (nat_le (all_changes after.value.nodes) most_changes) _ made after.rest in
     let way = phase_taken entries (length done) plan after.value part before.way after.first in
     let long : length done + 1 ≡ length (done ++ part ∷ []) = sym (length-append done (part ∷ [])) in
     let taken : PhasesTaken entries (done ++ part ∷ []) after.value =

@@ -9,6 +9,7 @@ use Rattle.pm_basis.specs.Prices.{BasisValue, IsBasis}
 use Rattle.pm_tree.specs.declared.fault.TreeFault.{TreeFault}
 use Rattle.pm_tree.specs.Entries.{Entry, checked_tree, tree_unless, first_refusal, parents_of, leaves_of, is_leaf_at}
 use Rattle.pm_tree.specs.Shape.{IsTree}
+use Rattle.pm_plan.specs.declared.refusal.Cause.TheVariants as cause
 use Rattle.pm_plan.specs.declared.planned.Change.{Change}
 use Rattle.pm_plan.specs.declared.refusal.Place.TheVariants.{Document}
 use Rattle.pm_plan.specs.Parts.{NodePart, concentrator, is_device, PhasePart, AreNodesOf}
@@ -161,7 +162,7 @@ arrived entries parts plan accepted tree few taken =
 taken_all : (basis : BasisValue) (entries : List Entry) (nodes : List NodePart) (phases : List PhasePart) (plan : PlanData) → IsBasis basis → IsTree (parents_of entries) (leaves_of entries) → AreNodesOf entries nodes → checked_plan basis entries nodes phases ≡ Ok plan → PhasesTaken entries phases plan
 unfolding checked_plan
 taken_all basis entries nodes phases plan sound tree fit h =
-    let few = check-ok 20 Document (nat_le (length phases) most_phases) _ plan h in
+    let few = check-ok cause.RunTooLarge Document (nat_le (length phases) most_phases) _ plan h in
     let made = bind-ok (fold_from 1 add_node (empty_plan basis entries) nodes) (λ p. fold_from 1 add_phase p phases) plan few.rest in
     let start = begun entries nodes made.value fit (nodes_taken basis entries nodes made.value sound tree made.first) in
     phases_taken entries phases made.value plan start made.rest
@@ -169,7 +170,7 @@ taken_all basis entries nodes phases plan sound tree fit h =
 few_phases : (basis : BasisValue) (entries : List Entry) (nodes : List NodePart) (phases : List PhasePart) (plan : PlanData) → checked_plan basis entries nodes phases ≡ Ok plan → length phases ≤ most_phases
 unfolding checked_plan
 few_phases basis entries nodes phases plan h =
-    let few = check-ok 20 Document (nat_le (length phases) most_phases) _ plan h in
+    let few = check-ok cause.RunTooLarge Document (nat_le (length phases) most_phases) _ plan h in
     leb-true (length phases) most_phases few.holds
 
 pub checked_plan-keeps : (basis : BasisValue) (entries : List Entry) (nodes : List NodePart) (phases : List PhasePart) (plan : PlanData) → IsBasis basis → checked_tree entries ≡ Ok entries → IsTree (parents_of entries) (leaves_of entries) → AreNodesOf entries nodes → checked_plan basis entries nodes phases ≡ Ok plan → IsPlan plan

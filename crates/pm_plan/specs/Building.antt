@@ -15,6 +15,7 @@ use Rattle.pm_device.specs.Kinds.{is_valid, state_fits, has_ticks, is_between}
 use Rattle.pm_device.specs.declared.kind.Kind.{Kind}
 use Rattle.pm_device.specs.declared.kind.Kind.TheVariants as kinds
 use Rattle.pm_tree.specs.Entries.{Entry, node_named, is_leaf_at}
+use Rattle.pm_plan.specs.declared.refusal.Cause.TheVariants as cause
 use Rattle.pm_plan.specs.declared.node.Node.TheVariants.{Concentrator, Limited, Device}
 use Rattle.pm_plan.specs.declared.planned.Planned.{Planned}
 use Rattle.pm_plan.specs.declared.planned.Planned.TheVariants.{Join, Leave, Set, Tick}
@@ -48,18 +49,18 @@ item_of_points (point_faults.PriceOutside at) = at
 -- the bid of these demands, and of these points
 abbrev pub array_or_refuse : Place → Result (List ℤ) BidFault → Result (List ℤ) Refusal
 array_or_refuse place (Ok bid) = Ok bid
-array_or_refuse place (Err fault) = refuse_item 17 place (item_of_bid fault)
+array_or_refuse place (Err fault) = refuse_item cause.BadArray place (item_of_bid fault)
 
 abbrev pub points_or_refuse : BasisValue → Place → Result (List Point) PointFault → Result (List ℤ) Refusal
 points_or_refuse basis place (Ok bid) = Ok (array_of bid basis)
-points_or_refuse basis place (Err fault) = refuse_item 18 place (item_of_points fault)
+points_or_refuse basis place (Err fault) = refuse_item cause.BadPoints place (item_of_points fault)
 
 -- a state and the plan with it: a manual device's bid joins the arrays, and its state is the number of that array
 abbrev pub with_array : PlanData → List ℤ → ℤ × PlanData
 with_array plan bid = (pos (length plan.arrays), record plan { arrays = plan.arrays ++ bid ∷ [] })
 
 unfoldable pub manual_state : Place → PlanData → StatePart → Result (ℤ × PlanData) Refusal
-manual_state place plan (number z) = refuse 19 place
+manual_state place plan (number z) = refuse cause.UnfitState place
 manual_state place plan (array demands) = do
   bid ← array_or_refuse place (checked_bid plan.basis.steps demands)
   Ok (with_array plan bid)
@@ -69,9 +70,9 @@ manual_state place plan (points pairs) = do
 
 -- every other kind has a number that fits it
 abbrev pub number_state : Place → Kind → PlanData → StatePart → Result (ℤ × PlanData) Refusal
-number_state place kind plan (number z) = if state_fits kind z then Ok (z, plan) else refuse 19 place
-number_state place kind plan (array demands) = refuse 19 place
-number_state place kind plan (points pairs) = refuse 19 place
+number_state place kind plan (number z) = if state_fits kind z then Ok (z, plan) else refuse cause.UnfitState place
+number_state place kind plan (array demands) = refuse cause.UnfitState place
+number_state place kind plan (points pairs) = refuse cause.UnfitState place
 
 abbrev pub is_manual : Kind → Bool
 is_manual kinds.Manual = true
@@ -93,11 +94,11 @@ with_node plan new = record plan { nodes = plan.nodes ++ new ∷ [] }
 unfoldable pub add_node : ℕ → PlanData → NodePart → Result PlanData Refusal
 add_node n plan concentrator = Ok (with_node plan Concentrator)
 add_node n plan (limited floor ceiling) = do
-  check 13 (Node n) (are_limits (record { floor = floor; ceiling = ceiling }))
-  check 22 (Node n) (group plan n == 0)
+  check cause.OutsideLimits (Node n) (are_limits (record { floor = floor; ceiling = ceiling }))
+  check cause.LimitedTwice (Node n) (group plan n == 0)
   Ok (with_node plan (Limited (record { floor = floor; ceiling = ceiling })))
 add_node n plan (device kind start) = do
-  check 13 (Node n) (is_valid kind)
+  check cause.OutsideLimits (Node n) (is_valid kind)
   made ← state_of (Node n) kind plan start
   Ok (with_node made.1 (Device (record { kind = kind; start = made.0; changes = [] })))
 
@@ -130,14 +131,14 @@ is_member_now plan d = is_member_after (changes_of (node plan d))
 -- the device of a name, which has to be a member, or has to be none
 unfoldable pub member_named : Place → PlanData → List ℕ → Result ℕ Refusal
 member_named place plan name = do
-  d ← need 14 place (device_named plan.entries name)
-  check 16 place (is_member_now plan d)
+  d ← need cause.UnknownDevice place (device_named plan.entries name)
+  check cause.NotJoined place (is_member_now plan d)
   Ok d
 
 unfoldable pub stranger_named : Place → PlanData → List ℕ → Result ℕ Refusal
 stranger_named place plan name = do
-  d ← need 14 place (device_named plan.entries name)
-  check 15 place (not (is_member_now plan d))
+  d ← need cause.UnknownDevice place (device_named plan.entries name)
+  check cause.JoinedAlready place (not (is_member_now plan d))
   Ok d
 
 -- the plan with one more event of phase p
@@ -150,7 +151,7 @@ event_of place p plan (leave name) = do
   Ok (with_change_of plan d p Leave)
 event_of place p plan (state name value) = do
   d ← member_named place plan name
-  kind ← need 14 place (kind_of (node plan d))
+  kind ← need cause.UnknownDevice place (kind_of (node plan d))
   made ← state_of place kind plan value
   Ok (with_change_of made.1 d p (Set (record { 0 = made.0 })))
 
@@ -175,10 +176,10 @@ with_tick p minutes plan = record plan { nodes = map (map_device (ticked p minut
 
 unfoldable pub phase_of : ℕ → PlanData → PhasePart → Result PlanData Refusal
 phase_of p plan (tick minutes) = do
-  check 13 (Phase p) (are_minutes minutes)
+  check cause.OutsideLimits (Phase p) (are_minutes minutes)
   Ok (with_tick p minutes plan)
 phase_of p plan (events list) = do
-  check 20 (Phase p) (nat_le (length list) most_events)
+  check cause.RunTooLarge (Phase p) (nat_le (length list) most_events)
   after ← fold_from 1 (add_event p) plan list
   Ok (with_phase after None)
 
@@ -186,7 +187,7 @@ phase_of p plan (events list) = do
 unfoldable pub add_phase : ℕ → PlanData → PhasePart → Result PlanData Refusal
 add_phase p plan part = do
   after ← phase_of p plan part
-  check 20 (Phase p) (nat_le (all_changes after.nodes) most_changes)
+  check cause.RunTooLarge (Phase p) (nat_le (all_changes after.nodes) most_changes)
   Ok after
 
 -- ---- the whole
@@ -197,6 +198,6 @@ empty_plan basis entries = record { basis = basis; entries = entries; nodes = []
 -- the plan of a basis, a tree, its nodes and the phases, or the first refusal
 unfoldable pub checked_plan : BasisValue → List Entry → List NodePart → List PhasePart → Result PlanData Refusal
 checked_plan basis entries nodes phases = do
-  check 20 Document (nat_le (length phases) most_phases)
+  check cause.RunTooLarge Document (nat_le (length phases) most_phases)
   plan ← fold_from 1 add_node (empty_plan basis entries) nodes
   fold_from 1 add_phase plan phases

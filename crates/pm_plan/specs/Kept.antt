@@ -1,7 +1,7 @@
 -- What the type of a plan keeps.
 use Rattle.std.specs.Prelude.{◌≡◌, ℕ, ◌<◌, ◌≤◌, ℤ, pos, Bool, true, length, slice_index_or, Some, None, All, IsTrue, Ok}
 use Rattle.pm_base.specs.declared.limits.Limits.{Limits}
-use Rattle.pm_base.specs.Limits.{AreLimits, demand_limit, most_phases, most_events, most_changes}
+use Rattle.pm_base.specs.Limits.{most_nodes, AreLimits, demand_limit, most_phases, most_events, most_changes}
 use Rattle.pm_basis.specs.Prices.{IsBasis}
 use Rattle.pm_bid.specs.Bids.{HaveSteps, AllWithinLimit, NeverRises}
 use Rattle.pm_device.specs.Kinds.{is_valid, state_fits, is_between, minutes_limit}
@@ -48,7 +48,7 @@ pub record InPhases (plan : PlanData) : Type 0 where
 -- the nodes are those of the tree, and the devices are its leaves
 pub record AreNodes (plan : PlanData) : Type 0 where
   pub one_each : length plan.nodes ≡ length plan.entries
-  pub few : length plan.nodes ≤ 256
+  pub few : length plan.nodes ≤ most_nodes
   pub devices : (x : ℕ) → is_device (node plan x) ≡ is_leaf plan x
 
 -- each array is a bid of one device

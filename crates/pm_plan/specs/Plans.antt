@@ -1,6 +1,7 @@
 -- A plan: the basis, the tree, what is planned for each node, the arrays, and the minutes of the phases.
 use Rattle.std.specs.Prelude.{ℕ, zero, suc, ◌+◌, ◌-◌, ◌*◌, ◌==◌, nat_le, ℤ, Bool, true, false, cond, List, [], ◌∷◌, length, take, Option, Some, None, is_some, option_map, slice_get, slice_index_or}
 use Rattle.std.specs.List.{sum_by, count_by, prefix_len, range_with_len}
+use Rattle.pm_base.specs.Limits.{move_bound}
 use Rattle.pm_base.specs.declared.limits.Limits.{Limits}
 use Rattle.pm_basis.specs.Prices.{BasisValue}
 use Rattle.pm_tree.specs.Entries.{Entry, parent_of, is_leaf_at}
@@ -123,29 +124,13 @@ all_changes nodes = sum_by (λ node. length (changes_of node)) nodes
 abbrev pub changes_in : List NodeData → ℕ → ℕ
 changes_in nodes p = sum_by (λ node. count_by (λ change. change.phase == p) (changes_of node)) nodes
 
--- how many moves a run has at most: a change is counted at most once as itself, 7 times as a learning, 6 times in
--- publishing, once in clearing and once for each node in passing, and each phase is closed once
+-- how many moves a run of the plan has at most
 abbrev pub bound : PlanData → ℕ
-bound plan = all_changes plan.nodes * (length plan.nodes + 15) + phases plan
+bound plan = move_bound (all_changes plan.nodes) (length plan.nodes) (phases plan)
 
 -- whether a device is a member after its first n changes
 unfoldable pub is_member : PlanData → ℕ → ℕ → Bool
 is_member plan d n = is_member_after (take n (changes_of (node plan d)))
-
-abbrev pub is_join : Planned → Bool
-is_join Join = true
-is_join Leave = false
-is_join (Set state) = false
-is_join (Tick minutes) = false
-
--- the number of the last join among these changes, the first of which has the number n + 1; m where there is none
-abbrev pub last_join_in : ℕ → ℕ → List Change → ℕ
-last_join_in m n [] = m
-last_join_in m n (change ∷ changes) = last_join_in (cond (is_join change.what) (n + 1) m) (n + 1) changes
-
--- the number of the last join among the first n changes of a device, 0 where there is none
-unfoldable pub last_join : PlanData → ℕ → ℕ → ℕ
-last_join plan d n = last_join_in 0 0 (take n (changes_of (node plan d)))
 
 -- the change at a place of a list, counted from 0
 abbrev pub planned_at : List Change → ℕ → Option Planned

@@ -1,27 +1,29 @@
 -- Step by step: a value, or the first refusal.
 use Rattle.std.specs.Prelude.{◌≡◌, ℕ, ◌+◌, List, [], ◌∷◌, Bool, true, false, Option, Some, None, Result, Ok, Err, ⊤}
 use Rattle.pm_base.specs.Outcomes.{Refuses}
+use Rattle.pm_plan.specs.Causes.{code_of}
+use Rattle.pm_plan.specs.declared.refusal.Cause.{Cause}
 use Rattle.pm_plan.specs.declared.refusal.Place.{Place}
 use Rattle.pm_plan.specs.declared.refusal.Refusal.{Refusal}
 use Rattle.pm_plan.specs.declared.refusal.PlanFault.{PlanFault}
 use Rattle.pm_plan.specs.declared.refusal.PlanFault.TheVariants as faults
 
 -- a refusal without an item, and one with it
-abbrev pub refuse : {A : Type 0} → ℕ → Place → Result A Refusal
-refuse code place = Err (record { code = code; place = place; item = None })
+abbrev pub refuse : {A : Type 0} → Cause → Place → Result A Refusal
+refuse cause place = Err (record { code = code_of cause; place = place; item = None })
 
-abbrev pub refuse_item : {A : Type 0} → ℕ → Place → ℕ → Result A Refusal
-refuse_item code place item = Err (record { code = code; place = place; item = Some item })
+abbrev pub refuse_item : {A : Type 0} → Cause → Place → ℕ → Result A Refusal
+refuse_item cause place item = Err (record { code = code_of cause; place = place; item = Some item })
 
 -- the value, where there is one
-abbrev pub need : {A : Type 0} → ℕ → Place → Option A → Result A Refusal
-need code place None = refuse code place
-need code place (Some x) = Ok x
+abbrev pub need : {A : Type 0} → Cause → Place → Option A → Result A Refusal
+need cause place None = refuse cause place
+need cause place (Some x) = Ok x
 
 -- nothing, where the test holds
-abbrev pub check : ℕ → Place → Bool → Result ⊤ Refusal
-check code place true = Ok tt
-check code place false = refuse code place
+abbrev pub check : Cause → Place → Bool → Result ⊤ Refusal
+check cause place true = Ok tt
+check cause place false = refuse cause place
 
 -- the refusal of a fault; none where memory ran out
 abbrev pub refusal_in : PlanFault → Option Refusal

@@ -10,6 +10,7 @@
 //!   what a limited concentrator announces, the total, its step, the step and the power of each device, and the
 //!   phase's end as lists of lines.
 //! - `States`: the state of each device after its changes, where a tick uses the power at the end of the phase before.
+//! - `Causes`: why a file is refused, and the number of each cause.
 //! - `Building`: the plan that the parts of a file give, or the first refusal.
 //! - `Market`: the lists of the market of cuts (`pm_market`) that a plan stands for.
 //! - `Kept`: what the type of a plan keeps.
@@ -36,7 +37,7 @@ pub use laws::{lists_are_lawful, plans_keep_the_limits, states_fit, states_follo
 pub use parts::{EventSpec, NodeSpec, PhaseSpec, StateSpec};
 pub use plan::Plan;
 pub use planned::Planned;
-pub use refusal::{Place, PlanFault, Refusal};
+pub use refusal::{Cause, Place, PlanFault, Refusal};
 
 #[cfg(test)]
 mod tests;

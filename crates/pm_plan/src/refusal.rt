@@ -1,4 +1,5 @@
 ghost use Rattle.std.specs.Prelude.{◌≡◌, None, Some};
+ghost use Rattle.pm_plan.specs.Causes.{code_of};
 ghost use Rattle.pm_plan.specs.declared.refusal.PlanFault.TheVariants.{NoMemory, Refused};
 
 use std::alloc::{AllocError, AllocFailed};
@@ -21,7 +22,85 @@ pub enum Place {
     Line { number: u32 },
 }
 
-/// Why a file is refused: a code, its place, and for some codes the item at fault, counted from 0.
+/// Why a file is refused.
+#[derive(Clone, Copy, Debug, PartialEq, Eq)]
+pub enum Cause {
+    /// The bytes are no UTF-8, or no JSON text.
+    Unreadable,
+    /// A value has the wrong type.
+    WrongType,
+    /// An object lacks a member that it has to have.
+    MissingMember,
+    /// An object has a member that it may not have.
+    UnknownMember,
+    /// The version of the file is neither 1 nor 2.
+    UnknownVersion,
+    /// The three numbers are no market basis.
+    BadBasis,
+    /// A name has the wrong form.
+    BadName,
+    /// An earlier node has the name.
+    NameTwice,
+    /// No earlier node that is no leaf has the name of the parent.
+    UnknownParent,
+    /// A concentrator has too many concentrators above it.
+    TooDeep,
+    /// The file has too many nodes.
+    TooManyNodes,
+    /// A node is of no kind that the version knows.
+    UnknownKind,
+    /// A parameter, or the minutes of a tick, lie outside their limits.
+    OutsideLimits,
+    /// No device has the name.
+    UnknownDevice,
+    /// The device that joins is a member.
+    JoinedAlready,
+    /// The device is no member.
+    NotJoined,
+    /// The demands of a manual device are no bid.
+    BadArray,
+    /// The points of a manual device are no bid.
+    BadPoints,
+    /// The state does not fit the kind.
+    UnfitState,
+    /// There are too many phases, events of a phase, or changes.
+    RunTooLarge,
+    /// A limited concentrator stands above a limited one.
+    LimitedTwice,
+}
+
+impl Cause {
+    /// The number by which the line of a refusal names its cause.
+    pub fn code(self) -> u8
+        ensures { result ≡ code_of self }
+    {
+        match self {
+            Cause::Unreadable => 1,
+            Cause::WrongType => 2,
+            Cause::MissingMember => 3,
+            Cause::UnknownMember => 4,
+            Cause::UnknownVersion => 5,
+            Cause::BadBasis => 6,
+            Cause::BadName => 7,
+            Cause::NameTwice => 8,
+            Cause::UnknownParent => 9,
+            Cause::TooDeep => 10,
+            Cause::TooManyNodes => 11,
+            Cause::UnknownKind => 12,
+            Cause::OutsideLimits => 13,
+            Cause::UnknownDevice => 14,
+            Cause::JoinedAlready => 15,
+            Cause::NotJoined => 16,
+            Cause::BadArray => 17,
+            Cause::BadPoints => 18,
+            Cause::UnfitState => 19,
+            Cause::RunTooLarge => 20,
+            Cause::LimitedTwice => 22,
+        }
+    }
+}
+
+/// A refusal of a file: the number of its cause, its place, and for some causes the item at fault, counted from 0.
 #[derive(Clone, Copy, Debug, PartialEq, Eq)]
 pub struct Refusal {
     pub code: u8,
@@ -31,22 +110,22 @@ pub struct Refusal {
 
 impl Refusal {
     /// A refusal without an item.
-    pub fn at(code: u8, place: Place) -> Refusal
-        ensures { result ≡ record { code = code; place = place; item = None } }
+    pub fn at(cause: Cause, place: Place) -> Refusal
+        ensures { result ≡ record { code = code_of cause; place = place; item = None } }
     {
         Refusal {
-            code,
+            code: cause.code(),
             place,
             item: None,
         }
     }
 
     /// A refusal with an item.
-    pub fn of_item(code: u8, place: Place, item: u64) -> Refusal
-        ensures { result ≡ record { code = code; place = place; item = Some item } }
+    pub fn of_item(cause: Cause, place: Place, item: u64) -> Refusal
+        ensures { result ≡ record { code = code_of cause; place = place; item = Some item } }
     {
         Refusal {
-            code,
+            code: cause.code(),
             place,
             item: Some(item),
         }

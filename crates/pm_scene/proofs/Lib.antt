@@ -1,4 +1,3 @@
 pub mod Lists
 pub mod Documents
-pub mod EachFrom
 pub mod Nodes

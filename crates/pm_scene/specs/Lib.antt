@@ -2,7 +2,6 @@ pub mod Values
 pub mod Members
 pub mod Forms
 pub mod Rows
-pub mod Faults
 pub mod Nodes
 pub mod Phases
 pub mod Shape

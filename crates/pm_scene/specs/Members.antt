@@ -6,6 +6,7 @@ use Rattle.serde_json.specs.Data.{Data, null, boolean, number, string, array, ob
 use Rattle.serde_json.specs.Find.{get, as_str, as_array, as_object}
 use Rattle.pm_plan.specs.Refusals.{check}
 use Rattle.pm_base.specs.Outcomes.{◌>>◌}
+use Rattle.pm_plan.specs.declared.refusal.Cause.TheVariants as cause
 use Rattle.pm_plan.specs.declared.refusal.Place.{Place}
 use Rattle.pm_plan.specs.declared.refusal.Refusal.{Refusal}
 use Rattle.pm_scene.specs.Values.{whole, elements, has_member}
@@ -77,7 +78,7 @@ have_forms rows d = list_all (λ row. has_form_at row d) rows
 -- an object with these members and no others, each of its form
 unfoldable pub members_check : List Row → Place → Data → Result ⊤ Refusal
 members_check rows place d = do
-  check 2 place (is_some (as_object d))
-  check 3 place (has_all rows d)
-  check 4 place (has_only rows d)
-  check 2 place (have_forms rows d)
+  check cause.WrongType place (is_some (as_object d))
+  check cause.MissingMember place (has_all rows d)
+  check cause.UnknownMember place (has_only rows d)
+  check cause.WrongType place (have_forms rows d)

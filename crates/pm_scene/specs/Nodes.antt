@@ -7,6 +7,7 @@ use Rattle.pm_device.specs.declared.kind.Kind.TheVariants as kinds
 use Rattle.pm_plan.specs.Parts.{StatePart, number, array, points, NodePart, concentrator, limited, device, node_part}
 use Rattle.pm_plan.specs.Refusals.{need, check}
 use Rattle.pm_base.specs.Outcomes.{◌>>=◌, ◌>>◌, each_from}
+use Rattle.pm_plan.specs.declared.refusal.Cause.TheVariants as cause
 use Rattle.pm_plan.specs.declared.refusal.Place.{Place}
 use Rattle.pm_plan.specs.declared.refusal.Place.TheVariants.{Node}
 use Rattle.pm_plan.specs.declared.refusal.Refusal.{Refusal}
@@ -47,11 +48,11 @@ is_limited _ = false
 -- the kind that a node names; limited concentrators are known or not
 unfoldable pub kind_at : Bool → Place → Data → Result KindName Refusal
 kind_at knows_limited place d = do
-  check 2 place (is_some (as_object d))
-  member ← need 3 place (get (codes "kind") d)
-  text ← need 2 place (as_str member)
-  kind ← need 12 place (kind_named text)
-  check 12 place (not (is_limited kind && not knows_limited))
+  check cause.WrongType place (is_some (as_object d))
+  member ← need cause.MissingMember place (get (codes "kind") d)
+  text ← need cause.WrongType place (as_str member)
+  kind ← need cause.UnknownKind place (kind_named text)
+  check cause.UnknownKind place (not (is_limited kind && not knows_limited))
   Ok kind
 
 -- the kind of a device with its parameters

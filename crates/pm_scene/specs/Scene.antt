@@ -4,6 +4,7 @@ use Rattle.pm_plan.specs.Plans.{PlanData}
 use Rattle.pm_plan.specs.Building.{checked_plan}
 use Rattle.pm_plan.specs.Refusals.{need}
 use Rattle.pm_base.specs.Outcomes.{◌>>=◌}
+use Rattle.pm_plan.specs.declared.refusal.Cause.TheVariants as cause
 use Rattle.pm_plan.specs.declared.refusal.Place.TheVariants.{Document}
 use Rattle.pm_plan.specs.declared.refusal.Refusal.{Refusal}
 use Rattle.pm_scene.specs.Values.{reading}
@@ -19,6 +20,6 @@ plan_of shape = do
 -- the plan of these bytes
 unfoldable pub scene : List ℕ → Result PlanData Refusal
 scene bytes = do
-  d ← need 1 Document (reading bytes)
+  d ← need cause.Unreadable Document (reading bytes)
   shape ← shape_of d
   plan_of shape

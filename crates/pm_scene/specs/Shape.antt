@@ -8,6 +8,7 @@ use Rattle.pm_basis.specs.declared.fault.BasisFault.{BasisFault}
 use Rattle.pm_plan.specs.Parts.{PhasePart, phase_part}
 use Rattle.pm_plan.specs.Refusals.{refuse, need, check}
 use Rattle.pm_base.specs.Outcomes.{◌>>=◌, ◌>>◌}
+use Rattle.pm_plan.specs.declared.refusal.Cause.TheVariants as cause
 use Rattle.pm_plan.specs.declared.refusal.Place.TheVariants.{Document, Basis}
 use Rattle.pm_plan.specs.declared.refusal.Refusal.{Refusal}
 use Rattle.pm_scene.specs.Values.{whole_at, elements_at}
@@ -27,7 +28,7 @@ shape_value s = record { basis = s.basis; nodes = map named_part s.nodes.items; 
 
 abbrev pub basis_or_refuse : Result BasisValue BasisFault → Result BasisValue Refusal
 basis_or_refuse (Ok basis) = Ok basis
-basis_or_refuse (Err fault) = refuse 6 Basis
+basis_or_refuse (Err fault) = refuse cause.BadBasis Basis
 
 unfoldable pub basis_of : Data → Result BasisValue Refusal
 basis_of d = do
@@ -44,8 +45,8 @@ knows_limited version = int_eq version (pos 2)
 unfoldable pub shape_of : Data → Result ShapeValue Refusal
 shape_of d = do
   members_check document_row Document d
-  check 5 Document (is_version (whole_at (codes "version") d))
-  prices ← need 3 Document (get (codes "basis") d)
+  check cause.UnknownVersion Document (is_version (whole_at (codes "version") d))
+  prices ← need cause.MissingMember Document (get (codes "basis") d)
   basis ← basis_of prices
   nodes ← nodes_of (knows_limited (whole_at (codes "version") d)) (elements_at (codes "nodes") d)
   phases ← phases_of (elements_at (codes "phases") d)

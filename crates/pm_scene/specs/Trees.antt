@@ -5,6 +5,7 @@ use Rattle.pm_tree.specs.declared.fault.TreeFault.{TreeFault}
 use Rattle.pm_tree.specs.declared.fault.TreeFault.TheVariants.{TooMany, BadName, Twice, NoParent, TooDeep, NoMemory}
 use Rattle.pm_plan.specs.Parts.{NodePart, is_device}
 use Rattle.pm_plan.specs.Refusals.{refuse}
+use Rattle.pm_plan.specs.declared.refusal.Cause.TheVariants as cause
 use Rattle.pm_plan.specs.declared.refusal.Place.TheVariants.{Document, Node}
 use Rattle.pm_plan.specs.declared.refusal.Refusal.{Refusal}
 use Rattle.pm_scene.specs.Nodes.{NamedPart}
@@ -22,12 +23,12 @@ parts_in nodes = map (λ node. node.part) nodes
 -- want of memory is no refusal of a tree: `checked_tree` never gives it
 abbrev pub tree_or_refuse : Result (List Entry) TreeFault → Result (List Entry) Refusal
 tree_or_refuse (Ok tree) = Ok tree
-tree_or_refuse (Err (TooMany have)) = refuse 11 Document
-tree_or_refuse (Err (BadName at)) = refuse 7 (Node at)
-tree_or_refuse (Err (Twice at)) = refuse 8 (Node at)
-tree_or_refuse (Err (NoParent at)) = refuse 9 (Node at)
-tree_or_refuse (Err (TooDeep at)) = refuse 10 (Node at)
-tree_or_refuse (Err NoMemory) = refuse 11 Document
+tree_or_refuse (Err (TooMany have)) = refuse cause.TooManyNodes Document
+tree_or_refuse (Err (BadName at)) = refuse cause.BadName (Node at)
+tree_or_refuse (Err (Twice at)) = refuse cause.NameTwice (Node at)
+tree_or_refuse (Err (NoParent at)) = refuse cause.UnknownParent (Node at)
+tree_or_refuse (Err (TooDeep at)) = refuse cause.TooDeep (Node at)
+tree_or_refuse (Err NoMemory) = refuse cause.TooManyNodes Document
 
 abbrev pub tree_of : List Entry → Result (List Entry) Refusal
 tree_of entries = tree_or_refuse (checked_tree entries)

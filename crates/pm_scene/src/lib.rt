@@ -13,7 +13,6 @@
 //! one table of the code (`rows`) and one of the definitions (`Rows`), and the same check goes by both.
 #![tactic(auto)]
 
-mod fault;
 mod forms;
 mod members;
 mod rows;
@@ -24,5 +23,6 @@ mod tests;
 mod tree;
 mod values;
 
-pub use fault::SceneFault;
+/// Why there is no plan of a cluster file: the causes are those of its parts.
+pub use pm_plan::PlanFault as SceneFault;
 pub use scene::read_scene;

@@ -8,7 +8,7 @@ ghost use Rattle.pm_scene.specs.Values.{has_member};
 ghost use Rattle.pm_scene.specs.Members.{is_whole, is_pair, has_form, has_form_at, has_all, has_only, have_forms, members_check, row_of};
 
 use crate::values::{elements, has_member, whole};
-use pm_plan::{Place, Refusal};
+use pm_plan::{Cause, Place, Refusal};
 use serde_json::{Map, Value};
 
 /// What a member has to be.
@@ -147,16 +147,16 @@ pub(crate) fn check_members(value: &Value, members: &[Member], place: Place) -> 
     ensures { result ≡ members_check (map row_of members.now) place (view value.now) }
 {
     let Some(object) = value.as_object() else {
-        return Err(Refusal::at(2, place));
+        return Err(Refusal::at(Cause::WrongType, place));
     };
     if !has_all(value, members) {
-        return Err(Refusal::at(3, place));
+        return Err(Refusal::at(Cause::MissingMember, place));
     }
     if !has_only(object, members) {
-        return Err(Refusal::at(4, place));
+        return Err(Refusal::at(Cause::UnknownMember, place));
     }
     if !have_forms(value, members) {
-        return Err(Refusal::at(2, place));
+        return Err(Refusal::at(Cause::WrongType, place));
     }
     Ok(())
 }

@@ -1,13 +1,13 @@
 ghost use Rattle.std.specs.Prelude.{◌≡◌, map, IfOk};
 ghost use Rattle.pm_tree.specs.Entries.{entries_of};
 ghost use Rattle.pm_plan.specs.Parts.{is_device, node_part};
-ghost use Rattle.pm_scene.specs.Faults.{Gives};
+ghost use Rattle.pm_base.specs.Outcomes.{Gives};
+ghost use Rattle.pm_plan.specs.Refusals.{refusal_in};
 ghost use Rattle.pm_scene.specs.Nodes.{named_part};
 ghost use Rattle.pm_scene.specs.Trees.{entries_in, parts_in, tree_of};
 
-use crate::fault::SceneFault;
 use crate::shape::NamedNode;
-use pm_plan::{NodeSpec, Place, Refusal};
+use pm_plan::{Cause, NodeSpec, Place, PlanFault, Refusal};
 use pm_tree::{Tree, TreeEntry, TreeFault};
 use std::alloc::{AllocError, Global};
 
@@ -45,17 +45,17 @@ pub(crate) fn parts_of(alloc: Global, nodes: Vec<NamedNode>) -> Result<Parts, Al
 }
 
 /// The tree of the entries.
-pub(crate) fn read_tree(alloc: Global, entries: Vec<TreeEntry>) -> Result<Tree, SceneFault>
-    ensures { Gives (λ t. t) result (tree_of (entries_of entries.items)) }
+pub(crate) fn read_tree(alloc: Global, entries: Vec<TreeEntry>) -> Result<Tree, PlanFault>
+    ensures { Gives refusal_in (λ t. t) result (tree_of (entries_of entries.items)) }
 {
     let refusal = match Tree::new(alloc, entries) {
         Ok(tree) => return Ok(tree),
-        Err(TreeFault::NoMemory) => return Err(SceneFault::NoMemory),
-        Err(TreeFault::TooMany { .. }) => Refusal::at(11, Place::Document),
-        Err(TreeFault::BadName { at }) => Refusal::at(7, Place::Node { number: at }),
-        Err(TreeFault::Twice { at }) => Refusal::at(8, Place::Node { number: at }),
-        Err(TreeFault::NoParent { at }) => Refusal::at(9, Place::Node { number: at }),
-        Err(TreeFault::TooDeep { at }) => Refusal::at(10, Place::Node { number: at }),
+        Err(TreeFault::NoMemory) => return Err(PlanFault::NoMemory),
+        Err(TreeFault::TooMany { .. }) => Refusal::at(Cause::TooManyNodes, Place::Document),
+        Err(TreeFault::BadName { at }) => Refusal::at(Cause::BadName, Place::Node { number: at }),
+        Err(TreeFault::Twice { at }) => Refusal::at(Cause::NameTwice, Place::Node { number: at }),
+        Err(TreeFault::NoParent { at }) => Refusal::at(Cause::UnknownParent, Place::Node { number: at }),
+        Err(TreeFault::TooDeep { at }) => Refusal::at(Cause::TooDeep, Place::Node { number: at }),
     };
-    Err(SceneFault::Refused(refusal))
+    Err(PlanFault::Refused(refusal))
 }

@@ -9,7 +9,7 @@ use crate::building::states::take_state;
 use crate::draft::Draft;
 use crate::parts::EventSpec;
 use crate::planned::Planned;
-use crate::refusal::{Place, PlanFault, Refusal};
+use crate::refusal::{Cause, Place, PlanFault, Refusal};
 use pm_device::DeviceState;
 use pm_tree::Tree;
 use std::alloc::Global;
@@ -81,10 +81,10 @@ fn member_named(draft: &Draft, place: Place, name: &str) -> Result<u32, Refusal>
     ensures inside { IfOk result (λ d. (1 ≤ d) × (d ≤ length draft.now.nodes)) }
 {
     let Some(device) = device_named(&draft.tree, name) else {
-        return Err(Refusal::at(14, place));
+        return Err(Refusal::at(Cause::UnknownDevice, place));
     };
     if !draft.is_member(device) {
-        return Err(Refusal::at(16, place));
+        return Err(Refusal::at(Cause::NotJoined, place));
     }
     Ok(device)
 }
@@ -97,10 +97,10 @@ fn stranger_named(draft: &Draft, place: Place, name: &str) -> Result<u32, Refusa
     ensures inside { IfOk result (λ d. (1 ≤ d) × (d ≤ length draft.now.nodes)) }
 {
     let Some(device) = device_named(&draft.tree, name) else {
-        return Err(Refusal::at(14, place));
+        return Err(Refusal::at(Cause::UnknownDevice, place));
     };
     if draft.is_member(device) {
-        return Err(Refusal::at(15, place));
+        return Err(Refusal::at(Cause::JoinedAlready, place));
     }
     Ok(device)
 }

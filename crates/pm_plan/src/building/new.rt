@@ -7,13 +7,14 @@ ghost use Rattle.pm_plan.specs.Parts.{AreNodesOf, node_part, phase_part};
 ghost use Rattle.pm_plan.specs.Building.{checked_plan};
 ghost use Rattle.pm_plan.specs.Kept.{IsPlan};
 ghost use Rattle.pm_base.specs.Outcomes.{Gives};
+ghost use Rattle.pm_plan.specs.Refusals.{refusal_in};
 
 use crate::building::nodes::add_nodes;
 use crate::building::phases::add_phases;
 use crate::draft::Draft;
 use crate::parts::{NodeSpec, PhaseSpec};
 use crate::plan::Plan;
-use crate::refusal::{Place, PlanFault, Refusal};
+use crate::refusal::{Cause, Place, PlanFault, Refusal};
 use pm_basis::Basis;
 use pm_tree::Tree;
 use std::alloc::Global;
@@ -49,7 +50,7 @@ impl Plan {
         phases: Vec<PhaseSpec>,
     ) -> Result<Plan, PlanFault>
         requires nodes { AreNodesOf tree (map node_part nodes.items) }
-        ensures plan { Gives (λ p. p) result (checked_plan basis tree (map node_part nodes.items) (map phase_part phases.items)) }
+        ensures plan { Gives refusal_in (λ p. p) result (checked_plan basis tree (map node_part nodes.items) (map phase_part phases.items)) }
         ensures phases { IfOk result (λ p. phase_count p ≡ length phases.items) }
     {
         let draft = build(alloc, basis, tree, &nodes, &phases)?;
@@ -67,13 +68,13 @@ fn build(
     phases: &[PhaseSpec],
 ) -> Result<Draft, PlanFault>
     requires nodes { AreNodesOf tree (map node_part nodes.now) }
-    ensures draft { Gives (λ draft. draft) result (checked_plan basis tree (map node_part nodes.now) (map phase_part phases.now)) }
+    ensures draft { Gives refusal_in (λ draft. draft) result (checked_plan basis tree (map node_part nodes.now) (map phase_part phases.now)) }
     ensures sound { OnOk result (IsBasis basis) }
     ensures accepted { OnOk result (checked_tree tree ≡ Ok tree) }
     ensures lawful { OnOk result (IsTree (parents_of tree) (leaves_of tree)) }
 {
     if PHASES_LIMIT < phases.len() {
-        return Err(PlanFault::Refused(Refusal::at(20, Place::Document)));
+        return Err(PlanFault::Refused(Refusal::at(Cause::RunTooLarge, Place::Document)));
     }
     let mut draft = Draft::new(alloc, basis, tree)?;
     add_nodes(alloc, &mut draft, nodes)?;

@@ -10,7 +10,7 @@ use crate::building::states::take_state;
 use crate::draft::Draft;
 use crate::node::{Device, Node};
 use crate::parts::NodeSpec;
-use crate::refusal::{Place, PlanFault, Refusal};
+use crate::refusal::{Cause, Place, PlanFault, Refusal};
 use pm_base::Limits;
 use pm_device::DeviceState;
 use pm_tree::NodeId;
@@ -64,16 +64,16 @@ fn add_node(alloc: Global, draft: &mut Draft, number: u32, spec: &NodeSpec) -> R
                 ceiling: *ceiling,
             };
             if !are_limits(limits) {
-                return Err(PlanFault::Refused(Refusal::at(13, place)));
+                return Err(PlanFault::Refused(Refusal::at(Cause::OutsideLimits, place)));
             }
             if !draft.is_under_no_limit(NodeId(number)) {
-                return Err(PlanFault::Refused(Refusal::at(22, place)));
+                return Err(PlanFault::Refused(Refusal::at(Cause::LimitedTwice, place)));
             }
             Ok(draft.push_node(Node::Limited(limits))?)
         }
         NodeSpec::Device { kind, start } => {
             if !kind.valid() {
-                return Err(PlanFault::Refused(Refusal::at(13, place)));
+                return Err(PlanFault::Refused(Refusal::at(Cause::OutsideLimits, place)));
             }
             let state = take_state(alloc, draft, place, *kind, start)?;
             let device = Device::new(alloc, *kind, DeviceState(state));

@@ -8,7 +8,7 @@ ghost use Rattle.pm_base.specs.Outcomes.{fold_from};
 use crate::building::events::add_events;
 use crate::draft::Draft;
 use crate::parts::PhaseSpec;
-use crate::refusal::{Place, PlanFault, Refusal};
+use crate::refusal::{Cause, Place, PlanFault, Refusal};
 use std::alloc::Global;
 
 /// The most minutes of a tick, which are a day.
@@ -53,7 +53,7 @@ fn add_phase(
 {
     take_phase(alloc, draft, number, spec)?;
     if !draft.has_few_changes() {
-        return Err(PlanFault::Refused(Refusal::at(20, Place::Phase { number })));
+        return Err(PlanFault::Refused(Refusal::at(Cause::RunTooLarge, Place::Phase { number })));
     }
     Ok(())
 }
@@ -77,13 +77,13 @@ fn take_phase(
     match spec {
         PhaseSpec::Tick { minutes } => {
             if !are_minutes(*minutes) {
-                return Err(PlanFault::Refused(Refusal::at(13, place)));
+                return Err(PlanFault::Refused(Refusal::at(Cause::OutsideLimits, place)));
             }
             Ok(draft.tick(number, *minutes)?)
         }
         PhaseSpec::Events(events) => {
             if EVENTS_LIMIT < events.len() {
-                return Err(PlanFault::Refused(Refusal::at(20, place)));
+                return Err(PlanFault::Refused(Refusal::at(Cause::RunTooLarge, place)));
             }
             add_events(alloc, draft, number, events)?;
             Ok(draft.push_phase(None)?)

@@ -3,12 +3,12 @@ ghost use Rattle.pm_bid.specs.Checks.{checked_bid};
 ghost use Rattle.pm_points.specs.Checks.{checked_points};
 ghost use Rattle.pm_plan.specs.Parts.{state_part};
 ghost use Rattle.pm_plan.specs.Building.{item_of_bid, item_of_points, array_or_refuse, points_or_refuse, manual_state, is_manual, state_of};
-ghost use Rattle.pm_plan.specs.Refusals.{MakesValue};
+ghost use Rattle.pm_plan.specs.Refusals.{MakesValue, refusal_in};
 ghost use Rattle.pm_base.specs.Outcomes.{Gives};
 
 use crate::draft::Draft;
 use crate::parts::StateSpec;
-use crate::refusal::{Place, PlanFault, Refusal};
+use crate::refusal::{Cause, Place, PlanFault, Refusal};
 use pm_basis::Basis;
 use pm_bid::{ArrayBid, BidFault, Steps};
 use pm_device::{DeviceState, Kind};
@@ -39,11 +39,11 @@ pub(crate) fn take_state(
             if kind.fits(DeviceState(*number)) {
                 Ok(*number)
             } else {
-                Err(PlanFault::Refused(Refusal::at(19, place)))
+                Err(PlanFault::Refused(Refusal::at(Cause::UnfitState, place)))
             }
         }
         StateSpec::Array(_) | StateSpec::Points(_) => {
-            Err(PlanFault::Refused(Refusal::at(19, place)))
+            Err(PlanFault::Refused(Refusal::at(Cause::UnfitState, place)))
         }
     }
 }
@@ -73,7 +73,7 @@ fn take_manual(
     ensures arrays { OnOk result (length draft.new.arrays ≤ length draft.old.arrays + 1) }
 {
     match spec {
-        StateSpec::Number(_) => Err(PlanFault::Refused(Refusal::at(19, place))),
+        StateSpec::Number(_) => Err(PlanFault::Refused(Refusal::at(Cause::UnfitState, place))),
         StateSpec::Array(demands) => {
             let bid = bid_of_demands(alloc, &draft.basis, place, demands)?;
             Ok(draft.push_array(bid)?)
@@ -92,7 +92,7 @@ fn bid_of_demands(
     place: Place,
     demands: &[i64],
 ) -> Result<ArrayBid, PlanFault>
-    ensures { Gives (λ bid. bid) result (array_or_refuse place (checked_bid basis.now.steps demands.now)) }
+    ensures { Gives refusal_in (λ bid. bid) result (array_or_refuse place (checked_bid basis.now.steps demands.now)) }
 {
     let demands = demands.to_vec(alloc)?;
     match ArrayBid::new(demands, basis.steps(), &mut Steps::<Brand>::start()) {
@@ -108,7 +108,7 @@ fn bid_of_points(
     place: Place,
     points: &[(i64, i64)],
 ) -> Result<ArrayBid, PlanFault>
-    ensures { Gives (λ bid. bid) result (points_or_refuse basis.now place (checked_points basis.now points.now)) }
+    ensures { Gives refusal_in (λ bid. bid) result (points_or_refuse basis.now place (checked_points basis.now points.now)) }
 {
     let points = points.to_vec(alloc)?;
     match PointBid::new(points, basis) {
@@ -125,7 +125,7 @@ fn refused_bid(place: Place, fault: BidFault) -> Refusal
         BidFault::WrongLength { have } => have,
         BidFault::Rising { at } | BidFault::TooLarge { at } => at,
     };
-    Refusal::of_item(17, place, item as u64)
+    Refusal::of_item(Cause::BadArray, place, item as u64)
 }
 
 /// The refusal of points: the item is 0 where there are none, their number where there are too many, else the first
@@ -141,5 +141,5 @@ fn refused_points(place: Place, fault: PointFault) -> Refusal
         | PointFault::TooLarge { at }
         | PointFault::PriceOutside { at } => at,
     };
-    Refusal::of_item(18, place, item as u64)
+    Refusal::of_item(Cause::BadPoints, place, item as u64)
 }

@@ -1,20 +1,19 @@
 ghost use Rattle.std.specs.Prelude.{◌≡◌, MatchResult, Ok, Err};
 ghost use Rattle.serde_json.specs.View.{view};
 ghost use Rattle.serde_json.specs.Find.{get};
-ghost use Rattle.pm_plan.specs.Refusals.{need, check};
+ghost use Rattle.pm_plan.specs.Refusals.{need, check, refusal_in};
 ghost use Rattle.pm_plan.specs.declared.refusal.Place.TheVariants.{Document};
-ghost use Rattle.pm_scene.specs.Faults.{Gives};
+ghost use Rattle.pm_base.specs.Outcomes.{Gives};
 ghost use Rattle.pm_scene.specs.Shape.{is_version, shape_of, shape_value};
 
 use super::basis::read_basis;
 use super::nodes::{NamedNode, read_nodes};
 use super::phases::read_phases;
-use crate::fault::SceneFault;
 use crate::members::check_members;
 use crate::rows::document_row;
 use crate::values::{elements_at, whole_at};
 use pm_basis::Basis;
-use pm_plan::{PhaseSpec, Place, Refusal};
+use pm_plan::{Cause, PhaseSpec, Place, PlanFault, Refusal};
 use serde_json::Value;
 use std::alloc::Global;
 
@@ -28,27 +27,27 @@ pub(crate) struct Shape {
 
 /// A member of the document.
 fn member_at<'a>(value: &'a Value, name: &str) -> Result<&'a Value, Refusal>
-    ensures { MatchResult result (λ v. need 3 Document (get name.now (view value.now)) ≡ Ok (view v.now))
-        (λ e. need 3 Document (get name.now (view value.now)) ≡ Err e) }
+    ensures { MatchResult result (λ v. need Cause.MissingMember Document (get name.now (view value.now)) ≡ Ok (view v.now))
+        (λ e. need Cause.MissingMember Document (get name.now (view value.now)) ≡ Err e) }
 {
-    value.get(name).ok_or(Refusal::at(3, Place::Document))
+    value.get(name).ok_or(Refusal::at(Cause::MissingMember, Place::Document))
 }
 
 /// Refuses a version other than 1 and 2.
 fn check_version(version: i64) -> Result<(), Refusal>
-    ensures { result ≡ check 5 Document (is_version version) }
+    ensures { result ≡ check Cause.UnknownVersion Document (is_version version) }
 {
     if version == 1 || version == 2 {
         Ok(())
     } else {
-        Err(Refusal::at(5, Place::Document))
+        Err(Refusal::at(Cause::UnknownVersion, Place::Document))
     }
 }
 
 /// The shape of a document.
 #[tactic(auto, unfolding(crate::specs::Shape::shape_of))]
-pub(crate) fn read_shape(alloc: Global, value: &Value) -> Result<Shape, SceneFault>
-    ensures { Gives shape_value result (shape_of (view value.now)) }
+pub(crate) fn read_shape(alloc: Global, value: &Value) -> Result<Shape, PlanFault>
+    ensures { Gives refusal_in shape_value result (shape_of (view value.now)) }
 {
     check_members(value, document_row(), Place::Document)?;
     let version = whole_at(value, "version");

@@ -1,17 +1,17 @@
 ghost use Rattle.std.specs.Prelude.{◌≡◌, map, IfOk};
 ghost use Rattle.serde_json.specs.View.{view};
 ghost use Rattle.pm_plan.specs.Parts.{state_part, node_part};
-ghost use Rattle.pm_scene.specs.Faults.{Gives};
+ghost use Rattle.pm_base.specs.Outcomes.{Gives};
+ghost use Rattle.pm_plan.specs.Refusals.{refusal_in};
 ghost use Rattle.pm_scene.specs.Nodes.{kind_at, device_kind, start_of, part_of, parent_in, node_of, nodes_of, named_part, manual_start};
 
 use super::states::{read_demand, read_points};
-use crate::fault::SceneFault;
 use crate::forms::{KindName, StartForm, kind_named, start_form};
 use crate::members::check_members;
 use crate::rows::node_row;
 use crate::values::{text_at, whole_at};
 use pm_device::Kind;
-use pm_plan::{NodeSpec, Place, Refusal, StateSpec};
+use pm_plan::{Cause, NodeSpec, Place, PlanFault, Refusal, StateSpec};
 use serde_json::Value;
 use std::alloc::{AllocError, Global};
 
@@ -105,19 +105,19 @@ fn read_kind(knows_limited: bool, place: Place, value: &Value) -> Result<KindNam
     ensures { result ≡ kind_at knows_limited place (view value.now) }
 {
     if value.as_object().is_none() {
-        return Err(Refusal::at(2, place));
+        return Err(Refusal::at(Cause::WrongType, place));
     }
     let Some(member) = value.get("kind") else {
-        return Err(Refusal::at(3, place));
+        return Err(Refusal::at(Cause::MissingMember, place));
     };
     let Some(text) = member.as_str() else {
-        return Err(Refusal::at(2, place));
+        return Err(Refusal::at(Cause::WrongType, place));
     };
     let Some(kind) = kind_named(text) else {
-        return Err(Refusal::at(12, place));
+        return Err(Refusal::at(Cause::UnknownKind, place));
     };
     if kind == KindName::Limited && !knows_limited {
-        return Err(Refusal::at(12, place));
+        return Err(Refusal::at(Cause::UnknownKind, place));
     }
     Ok(kind)
 }
@@ -140,8 +140,8 @@ fn read_node(
     knows_limited: bool,
     place: Place,
     value: &Value,
-) -> Result<NamedNode, SceneFault>
-    ensures { Gives named_part result (node_of knows_limited place (view value.now)) }
+) -> Result<NamedNode, PlanFault>
+    ensures { Gives refusal_in named_part result (node_of knows_limited place (view value.now)) }
 {
     let kind = read_kind(knows_limited, place, value)?;
     check_members(value, node_row(kind, value), place)?;
@@ -156,8 +156,8 @@ pub(super) fn read_nodes(
     alloc: Global,
     knows_limited: bool,
     values: &[Value],
-) -> Result<Vec<NamedNode>, SceneFault>
-    ensures { Gives (λ v. map named_part v.items) result (nodes_of knows_limited (map view values.now)) }
+) -> Result<Vec<NamedNode>, PlanFault>
+    ensures { Gives refusal_in (λ v. map named_part v.items) result (nodes_of knows_limited (map view values.now)) }
 {
     let mut nodes = Vec::new(alloc);
     let mut number: u32 = 0;

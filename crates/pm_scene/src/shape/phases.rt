@@ -1,16 +1,16 @@
 ghost use Rattle.std.specs.Prelude.{◌≡◌, map, IfOk};
 ghost use Rattle.serde_json.specs.View.{view};
 ghost use Rattle.pm_plan.specs.Parts.{state_part, event_part, phase_part};
-ghost use Rattle.pm_scene.specs.Faults.{Gives};
+ghost use Rattle.pm_base.specs.Outcomes.{Gives};
+ghost use Rattle.pm_plan.specs.Refusals.{refusal_in};
 ghost use Rattle.pm_scene.specs.Phases.{value_in, event_in, event_of, events_of, phase_in, phase_of, phases_of};
 
 use super::states::{read_demand, read_points};
-use crate::fault::SceneFault;
 use crate::forms::{EventForm, PhaseForm, ValueForm, event_form, phase_form, value_form};
 use crate::members::check_members;
 use crate::rows::{event_row, phase_row};
 use crate::values::{elements_at, text_at, whole_at};
-use pm_plan::{EventSpec, PhaseSpec, Place, StateSpec};
+use pm_plan::{EventSpec, PhaseSpec, Place, PlanFault, StateSpec};
 use serde_json::Value;
 use std::alloc::{AllocError, Global};
 
@@ -45,8 +45,8 @@ fn read_spec(alloc: Global, form: EventForm, value: &Value) -> Result<EventSpec,
 
 /// An event of the file.
 #[tactic(auto, unfolding(crate::specs::Phases::event_of))]
-fn read_event(alloc: Global, place: Place, value: &Value) -> Result<EventSpec, SceneFault>
-    ensures { Gives event_part result (event_of place (view value.now)) }
+fn read_event(alloc: Global, place: Place, value: &Value) -> Result<EventSpec, PlanFault>
+    ensures { Gives refusal_in event_part result (event_of place (view value.now)) }
 {
     let form = event_form(value);
     check_members(value, event_row(form, value), place)?;
@@ -54,8 +54,8 @@ fn read_event(alloc: Global, place: Place, value: &Value) -> Result<EventSpec, S
 }
 
 /// The events of a phase, counted from 1.
-fn read_events(alloc: Global, phase: u32, values: &[Value]) -> Result<Vec<EventSpec>, SceneFault>
-    ensures { Gives (λ v. map event_part v.items) result (events_of phase (map view values.now)) }
+fn read_events(alloc: Global, phase: u32, values: &[Value]) -> Result<Vec<EventSpec>, PlanFault>
+    ensures { Gives refusal_in (λ v. map event_part v.items) result (events_of phase (map view values.now)) }
 {
     let mut events = Vec::new(alloc);
     let mut number: u32 = 0;
@@ -73,8 +73,8 @@ fn read_form(
     phase: u32,
     form: PhaseForm,
     value: &Value,
-) -> Result<PhaseSpec, SceneFault>
-    ensures { Gives phase_part result (phase_in phase form (view value.now)) }
+) -> Result<PhaseSpec, PlanFault>
+    ensures { Gives refusal_in phase_part result (phase_in phase form (view value.now)) }
 {
     match form {
         PhaseForm::Tick => Ok(PhaseSpec::Tick {
@@ -89,8 +89,8 @@ fn read_form(
 
 /// A phase of the file.
 #[tactic(auto, unfolding(crate::specs::Phases::phase_of))]
-fn read_phase(alloc: Global, number: u32, value: &Value) -> Result<PhaseSpec, SceneFault>
-    ensures { Gives phase_part result (phase_of number (view value.now)) }
+fn read_phase(alloc: Global, number: u32, value: &Value) -> Result<PhaseSpec, PlanFault>
+    ensures { Gives refusal_in phase_part result (phase_of number (view value.now)) }
 {
     let form = phase_form(value);
     check_members(value, phase_row(form), Place::Phase { number })?;
@@ -98,8 +98,8 @@ fn read_phase(alloc: Global, number: u32, value: &Value) -> Result<PhaseSpec, Sc
 }
 
 /// The phases of the file, counted from 1.
-pub(super) fn read_phases(alloc: Global, values: &[Value]) -> Result<Vec<PhaseSpec>, SceneFault>
-    ensures { Gives (λ v. map phase_part v.items) result (phases_of (map view values.now)) }
+pub(super) fn read_phases(alloc: Global, values: &[Value]) -> Result<Vec<PhaseSpec>, PlanFault>
+    ensures { Gives refusal_in (λ v. map phase_part v.items) result (phases_of (map view values.now)) }
 {
     let mut phases = Vec::new(alloc);
     let mut number: u32 = 0;

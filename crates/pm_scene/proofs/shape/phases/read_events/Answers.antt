@@ -6,8 +6,9 @@ use Rattle.pm_base.specs.Outcomes.{each_from, Refuses}
 use Rattle.pm_plan.specs.Parts.{event_part}
 use Rattle.pm_plan.specs.declared.refusal.Place.TheVariants.{Event}
 use Rattle.pm_scene.specs.Phases.{numbered_event, event_of, events_of}
-use Rattle.pm_scene.specs.Faults.{refusal_of}
-use Rattle.pm_scene.proofs.EachFrom.{each_from_more, each_from-map, Fails-each_from, Gives-err}
+use Rattle.pm_plan.specs.Refusals.{refusal_in}
+use Rattle.pm_base.proofs.NumberedLists.{each_from_more, each_from-map, Refuses-each_from}
+use Rattle.pm_base.proofs.Outcomes.{Gives-err}
 use Rattle.pm_scene.proofs.shape.phases.read_events.Goals as goal
 
 pub returns-in_err-read_event : goal.returns-in_err-read_event
@@ -15,10 +16,10 @@ unfolding events_of
 returns-in_err-read_event c =
     let f = λ (n : ℕ) (v : Value). numbered_event c.args.phase n (view v) in
     let number : c.saturating_add-number.result ≡ min (1 + c.loop-value.value-index) 4294967295 = omega (arith, c.saturating_add-number.ensures) in
-    let here = subst (λ (v : Value). Refuses (refusal_of c.in_err-read_event.field-0.0) (numbered_event c.args.phase (1 + c.loop-value.value-index) (view v))) c.value-item.is
-    (subst (λ (n : ℕ). Refuses (refusal_of c.in_err-read_event.field-0.0) (event_of (Event c.args.phase n) (view c.value-item.result))) number c.in_err-read_event.ensures) in
-    Gives-err _ _ _ _ c.from_residual.ensures.1 (subst (Refuses (refusal_of c.in_err-read_event.field-0.0)) (each_from-map 1 (numbered_event c.args.phase) view _)
-    (Fails-each_from 1 f _ _ _ _ _ c.loop-value-test.true c.loop-value.invariant.read here))
+    let here = subst (λ (v : Value). Refuses (refusal_in c.in_err-read_event.field-0.0) (numbered_event c.args.phase (1 + c.loop-value.value-index) (view v))) c.value-item.is
+    (subst (λ (n : ℕ). Refuses (refusal_in c.in_err-read_event.field-0.0) (event_of (Event c.args.phase n) (view c.value-item.result))) number c.in_err-read_event.ensures) in
+    Gives-err refusal_in _ _ _ _ c.from_residual.ensures.1 (subst (Refuses (refusal_in c.in_err-read_event.field-0.0)) (each_from-map 1 (numbered_event c.args.phase) view _)
+    (Refuses-each_from 1 f _ _ _ _ _ c.loop-value-test.true c.loop-value.invariant.read here))
 
 pub loop-value-preserved : goal.loop-value-preserved
 loop-value-preserved c =

@@ -5,8 +5,9 @@ use Rattle.serde_json.specs.declared.value.Value.{Value}
 use Rattle.pm_base.specs.Outcomes.{each_from, Refuses}
 use Rattle.pm_plan.specs.Parts.{phase_part}
 use Rattle.pm_scene.specs.Phases.{numbered_phase, phase_of, phases_of}
-use Rattle.pm_scene.specs.Faults.{refusal_of}
-use Rattle.pm_scene.proofs.EachFrom.{each_from_more, each_from-map, Fails-each_from, Gives-err}
+use Rattle.pm_plan.specs.Refusals.{refusal_in}
+use Rattle.pm_base.proofs.NumberedLists.{each_from_more, each_from-map, Refuses-each_from}
+use Rattle.pm_base.proofs.Outcomes.{Gives-err}
 use Rattle.pm_scene.proofs.shape.phases.read_phases.Goals as goal
 
 pub returns-in_err-read_phase : goal.returns-in_err-read_phase
@@ -14,10 +15,10 @@ unfolding phases_of
 returns-in_err-read_phase c =
     let f = λ (n : ℕ) (v : Value). numbered_phase n (view v) in
     let number : c.saturating_add-number.result ≡ min (1 + c.loop-value.value-index) 4294967295 = omega (arith, c.saturating_add-number.ensures) in
-    let here = subst (λ (v : Value). Refuses (refusal_of c.in_err-read_phase.field-0.0) (numbered_phase (1 + c.loop-value.value-index) (view v))) c.value-item.is
-    (subst (λ (n : ℕ). Refuses (refusal_of c.in_err-read_phase.field-0.0) (phase_of n (view c.value-item.result))) number c.in_err-read_phase.ensures) in
-    Gives-err _ _ _ _ c.from_residual.ensures.1 (subst (Refuses (refusal_of c.in_err-read_phase.field-0.0)) (each_from-map 1 numbered_phase view _)
-    (Fails-each_from 1 f _ _ _ _ _ c.loop-value-test.true c.loop-value.invariant.read here))
+    let here = subst (λ (v : Value). Refuses (refusal_in c.in_err-read_phase.field-0.0) (numbered_phase (1 + c.loop-value.value-index) (view v))) c.value-item.is
+    (subst (λ (n : ℕ). Refuses (refusal_in c.in_err-read_phase.field-0.0) (phase_of n (view c.value-item.result))) number c.in_err-read_phase.ensures) in
+    Gives-err refusal_in _ _ _ _ c.from_residual.ensures.1 (subst (Refuses (refusal_in c.in_err-read_phase.field-0.0)) (each_from-map 1 numbered_phase view _)
+    (Refuses-each_from 1 f _ _ _ _ _ c.loop-value-test.true c.loop-value.invariant.read here))
 
 pub loop-value-preserved : goal.loop-value-preserved
 loop-value-preserved c =
