@@ -1,11 +1,13 @@
 -- Nodes that are devices, and nodes that are none.
-use Rattle.std.proofs.Common.{◌≡◌, ◌∙◌, sym, ℕ, zero, suc, ◌<◌, ◌≤◌, true, false, List, [], ◌∷◌, length, refl, arith, inl, inr, Option, Some, None}
+use Rattle.std.proofs.Common.{◌≡◌, ◌∙◌, sym, ap, ℕ, zero, suc, ◌<◌, ◌≤◌, ℤ, true, false, List, [], ◌∷◌, length, refl, arith, inl, inr, Option, Some, None}
 use Rattle.std.specs.Prelude.{is_some, option_map}
 use Rattle.std.proofs.Math.ListN.{get_or-eq_default}
 use Rattle.std.proofs.lemmas.Bool.{cases_lt}
+use Rattle.pm_base.specs.declared.limits.Limits.{Limits}
+use Rattle.pm_device.specs.declared.kind.Kind.{Kind}
 use Rattle.pm_plan.specs.Devices.{DeviceData, is_member_after}
 use Rattle.pm_plan.specs.declared.node.Node.TheVariants.{Concentrator, Limited, Device}
-use Rattle.pm_plan.specs.Plans.{NodeData, node_at, is_device, limits_of, changes_of}
+use Rattle.pm_plan.specs.Plans.{NodeData, node_at, is_device, kind_of, start_of, limits_of, changes_of}
 use Rattle.pm_plan.specs.Building.{map_device}
 
 -- a device has what is planned for one
@@ -13,6 +15,34 @@ pub device-is : (n : NodeData) → is_device n ≡ true → (planned : DeviceDat
 device-is (Device planned) h = (planned, refl)
 device-is Concentrator h = absurd (cc h)
 device-is (Limited limits) h = absurd (cc h)
+
+-- a node that is a device of this kind
+pub record HasKind (n : NodeData) (kind : Kind) : Type 0 where
+  pub planned : DeviceData
+  pub is : n ≡ Device planned
+  pub kind_is : planned.kind ≡ kind
+
+pub kind_of-tells : (n : NodeData) (kind : Kind) → kind_of n ≡ Some kind → HasKind n kind
+kind_of-tells (Device planned) kind h = record { planned = planned; is = refl; kind_is = cc h }
+kind_of-tells Concentrator kind h = absurd (cc h)
+kind_of-tells (Limited limits) kind h = absurd (cc h)
+
+-- a node that is a device with this start
+pub record HasStart (n : NodeData) (start : ℤ) : Type 0 where
+  pub planned : DeviceData
+  pub is : n ≡ Device planned
+  pub start_is : planned.start ≡ start
+
+pub start_of-tells : (n : NodeData) (start : ℤ) → start_of n ≡ Some start → HasStart n start
+start_of-tells (Device planned) start h = record { planned = planned; is = refl; start_is = cc h }
+start_of-tells Concentrator start h = absurd (cc h)
+start_of-tells (Limited limits) start h = absurd (cc h)
+
+-- a node with limits is a limited concentrator
+pub limits_of-tells : (n : NodeData) (limits : Limits) → limits_of n ≡ Some limits → n ≡ Limited limits
+limits_of-tells (Limited own) limits h = ap Limited (let same : own ≡ limits = cc h in same)
+limits_of-tells Concentrator limits h = absurd (cc h)
+limits_of-tells (Device planned) limits h = absurd (cc h)
 
 -- any other node has no changes
 pub changes_of-none : (n : NodeData) → is_device n ≡ false → changes_of n ≡ []

@@ -51,7 +51,7 @@ changed-fits kind state power (Set value) valid fits change = change
 changed-fits kind state power (Tick minutes) valid fits change = tick-fits kind state power minutes valid fits
 
 -- each change of a device fits its kind
-change-fits : (plan : PlanData) (d n : ℕ) (planned : DeviceData) → IsPlan plan → node plan d ≡ Device planned → n < change_count plan d →
+pub change-fits : (plan : PlanData) (d n : ℕ) (planned : DeviceData) → IsPlan plan → node plan d ≡ Device planned → n < change_count plan d →
     IsTrue (change_fits planned.kind (change_at plan d n).what)
 change-fits plan d n planned is here inside =
     let P : NodeData → Type 0 = λ (m : NodeData). n < length (changes_of m) → IsTrue (change_fits planned.kind (get_or (changes_of m) n no_change).what) in

@@ -7,26 +7,27 @@ use Rattle.std.proofs.lemmas.Bool.Decides.{nat_tests}
 use Rattle.std.proofs.lemmas.List.{take_more}
 use Rattle.std.proofs.lemmas.List.Sums.{fold-append, sum_by-cons, prefix_len_passes, prefix_len_stops}
 use Rattle.pm_base.specs.Limits.{demand_limit, IsWithin, most_changes}
-use Rattle.pm_device.specs.Kinds.{state_fits}
+use Rattle.pm_device.specs.Kinds.{is_valid, state_fits}
 use Rattle.pm_device.specs.declared.kind.Kind.{Kind}
 use Rattle.pm_plan.specs.declared.planned.Change.{Change}
 use Rattle.pm_plan.specs.declared.planned.Planned.{Planned}
-use Rattle.pm_plan.specs.Plans.{PlanData, node, is_leaf, end, is_up_to, is_member, is_member_after, member_after, change_count, all_changes, NodeData, node_at, planned, planned_at}
+use Rattle.pm_plan.specs.Devices.{is_member_after, member_after}
+use Rattle.pm_plan.specs.Plans.{PlanData, node, kind_of, changes_of, is_leaf, end, is_up_to, is_member, change_count, all_changes, NodeData, node_at, planned, planned_at}
 use Rattle.pm_plan.specs.Kept.{IsPlan, no_change, change_at, change_fits, InPhases}
 use Rattle.pm_plan.specs.Auction.{power}
 use Rattle.pm_plan.specs.States.{state, changed_state}
-use Rattle.pm_plan.proofs.Leaves.{first_of, last_of}
 use Rattle.pm_walk.specs.declared.changes.Progress.{Progress}
 use Rattle.pm_walk.specs.Standing.{Reached}
 use Rattle.pm_plan.proofs.Ends.{end-within}
+use Rattle.pm_plan.proofs.DeviceNodes.{HasKind, kind_of-tells}
 use Rattle.pm_plan.proofs.StateLaws.{state-next}
-use Rattle.pm_plan.proofs.Fits.{state-fits, power-within}
+use Rattle.pm_plan.proofs.Fits.{change-fits, state-fits, power-within}
 
 -- a change behind the end of the phases up to p is of a later phase
 later : (plan : PlanData) (d p n : ℕ) → InPhases plan → n < change_count plan d → end plan p d ≤ n → p < (change_at plan d n).phase
 unfolding end
 later plan d p n fits inside behind =
-    let changes = (node plan d).changes in
+    let changes = changes_of (node plan d) in
     let e = prefix_len (is_up_to p) changes in
     let stops = prefix_len_stops (is_up_to p) changes no_change (omega arith) in
     let rises : (change_at plan d e).phase ≤ (change_at plan d n).phase = fits.rise d e n behind inside in
@@ -36,11 +37,11 @@ later plan d p n fits inside behind =
 -- a change before it is of one of these phases
 earlier : (plan : PlanData) (d p n : ℕ) → n < end plan p d → (change_at plan d n).phase ≤ p
 unfolding end
-earlier plan d p n below = leb-true _ p (prefix_len_passes (is_up_to p) (node plan d).changes n no_change below)
+earlier plan d p n below = leb-true _ p (prefix_len_passes (is_up_to p) (changes_of (node plan d)) n no_change below)
 
-pub used-within : (plan : PlanData) (p d : ℕ) (used : ℤ) → IsPlan plan → is_leaf plan d ≡ true → used ≡ power plan (state plan) (end plan p) d → IsWithin demand_limit used
-used-within plan p d used is leaf used_is =
-    subst (IsWithin demand_limit) (sym used_is) (power-within plan (end plan p) d is (first_of plan d is leaf) (last_of plan d is leaf) (end-within plan p d))
+pub used-within : (plan : PlanData) (p d : ℕ) (used : ℤ) → IsPlan plan → used ≡ power plan (state plan) (end plan p) d → IsWithin demand_limit used
+used-within plan p d used is used_is =
+    subst (IsWithin demand_limit) (sym used_is) (power-within plan (end plan p) d is (end-within plan p d))
 
 -- the change with the number n + 1
 planned_at-is : (changes : List Change) (n : ℕ) → n < length changes → planned_at changes n ≡ Some (get_or changes n no_change).what
@@ -49,20 +50,22 @@ planned_at-is (c ∷ cs) zero inside = refl
 planned_at-is (c ∷ cs) (suc n) inside = planned_at-is cs n (omega arith)
 
 pub planned-is : (plan : PlanData) (d n : ℕ) → n < change_count plan d → planned plan d (n + 1) ≡ Some (change_at plan d n).what
-planned-is plan d n inside = (let e : n + 1 ≡ suc n = omega arith in ap (planned plan d) e) ∙ planned_at-is (node plan d).changes n inside
+planned-is plan d n inside = (let e : n + 1 ≡ suc n = omega arith in ap (planned plan d) e) ∙ planned_at-is (changes_of (node plan d)) n inside
 
 is_member-next : (plan : PlanData) (d n : ℕ) → n < change_count plan d → is_member plan d (n + 1) ≡ member_after (is_member plan d n) (change_at plan d n).what
 unfolding is_member
 is_member-next plan d n inside =
-    let changes = (node plan d).changes in
+    let changes = changes_of (node plan d) in
     ap is_member_after (take_more changes n no_change inside)
     ∙ fold-append (λ (member : Bool) (c : Change). member_after member c.what) false (take n changes) (change_at plan d n ∷ [])
 
 -- a device that makes its next change, which is of phase p
-pub reached-more : (plan : PlanData) (d p : ℕ) (before after' : Progress) (used : ℤ) (what : Planned) → IsPlan plan → is_leaf plan d ≡ true → 1 ≤ p → Reached plan d before →
+pub reached-more : (plan : PlanData) (d p : ℕ) (before after' : Progress) (kind : Kind) (used : ℤ) (what : Planned) → IsPlan plan →
+    is_leaf plan d ≡ true → HasKind (node plan d) kind → 1 ≤ p → Reached plan d before →
     before.count < end plan p d → end plan (p - 1) d ≤ before.count → used ≡ power plan (state plan) (end plan (p - 1)) d → what ≡ (change_at plan d before.count).what →
-    after'.count ≡ before.count + 1 → after'.state.0 ≡ changed_state (node plan d).kind before.state.0 used what → after'.member ≡ member_after before.member what → Reached plan d after'
-reached-more plan d p before after' used what is leaf first reached upto from used_is what_is count state' member =
+    after'.count ≡ before.count + 1 → after'.state.0 ≡ changed_state kind before.state.0 used what → after'.member ≡ member_after before.member what →
+    Reached plan d after'
+reached-more plan d p before after' kind used what is leaf has first reached upto from used_is what_is count state' member =
     let n = before.count in
     let inside : n < change_count plan d = omega (arith, end-within plan p d) in
     let phase = earlier plan d p n upto in
@@ -72,22 +75,31 @@ reached-more plan d p before after' used what is leaf first reached upto from us
       within = omega arith;
       state = λ h.
           state'
-          ∙ ap (λ w. changed_state (node plan d).kind before.state.0 used w) what_is
-          ∙ ap (λ z. changed_state (node plan d).kind z used (change_at plan d n).what) (reached.state leaf)
-          ∙ ap (λ w. changed_state (node plan d).kind (state plan d n) w (change_at plan d n).what) (used_is ∙ ap (λ q. power plan (state plan) (end plan q) d) (sym same))
-          ∙ sym (state-next plan d n is.in_phases (first_of plan d is leaf) (omega (arith, last_of plan d is leaf)) inside)
+          ∙ ap (λ k. changed_state k before.state.0 used what) (sym has.kind_is)
+          ∙ ap (λ w. changed_state has.planned.kind before.state.0 used w) what_is
+          ∙ ap (λ z. changed_state has.planned.kind z used (change_at plan d n).what) (reached.state leaf)
+          ∙ ap (λ w. changed_state has.planned.kind (state plan d n) w (change_at plan d n).what)
+          (used_is ∙ ap (λ q. power plan (state plan) (end plan q) d) (sym same))
+          ∙ sym (state-next plan d n has.planned is.in_phases has.is inside)
           ∙ ap (state plan d) (sym count);
       member =
           member ∙ ap (λ w. member_after before.member w) what_is ∙ ap (λ m. member_after m (change_at plan d n).what) reached.member
           ∙ sym (is_member-next plan d n inside) ∙ ap (is_member plan d) (sym count);
     }
 
+-- the kind of a device is valid
+pub kind-valid : (plan : PlanData) (d : ℕ) (kind : Kind) → IsPlan plan → kind_of (node plan d) ≡ Some kind → IsTrue (is_valid kind)
+kind-valid plan d kind is kind_is =
+    let has = kind_of-tells (node plan d) kind kind_is in
+    subst (λ (k : Kind). IsTrue (is_valid k)) has.kind_is (is.within.devices d has.planned has.is).kind
+
 -- the state of a device that has come so far fits its kind
-pub reached-fits : (plan : PlanData) (d : ℕ) (here : Progress) (kind : Kind) → IsPlan plan → is_leaf plan d ≡ true → Reached plan d here → kind ≡ (node plan d).kind → IsTrue (state_fits kind here.state.0)
+pub reached-fits : (plan : PlanData) (d : ℕ) (here : Progress) (kind : Kind) → IsPlan plan → is_leaf plan d ≡ true → Reached plan d here →
+    kind_of (node plan d) ≡ Some kind → IsTrue (state_fits kind here.state.0)
 reached-fits plan d here kind is leaf reached kind_is =
-    subst (λ (k : Kind). IsTrue (state_fits k here.state.0)) (sym kind_is)
-    (subst (λ z. IsTrue (state_fits (node plan d).kind z)) (sym (reached.state leaf))
-    (state-fits plan d here.count is (first_of plan d is leaf) (last_of plan d is leaf) reached.within))
+    let has = kind_of-tells (node plan d) kind kind_is in
+    subst (λ (k : Kind). IsTrue (state_fits k here.state.0)) has.kind_is
+    (subst (λ z. IsTrue (state_fits has.planned.kind z)) (sym (reached.state leaf)) (state-fits plan d here.count has.planned is has.is reached.within))
 
 -- what is known of the next change of a device
 pub record IsNext (plan : PlanData) (d n : ℕ) (found : Option Planned) (what : Planned) : Type 0 where
@@ -100,17 +112,20 @@ some_is x y h = cc h
 pub next-is : (plan : PlanData) (d n : ℕ) (found : Option Planned) (what : Planned) → n < change_count plan d → IsNext plan d n found what → what ≡ (change_at plan d n).what
 next-is plan d n found what inside next = some_is what (change_at plan d n).what (sym next.what_is ∙ next.found_is ∙ planned-is plan d n inside)
 
-pub next-fits : (plan : PlanData) (d n : ℕ) (found : Option Planned) (what : Planned) (kind : Kind) → IsPlan plan → n < change_count plan d → IsNext plan d n found what → kind ≡ (node plan d).kind → IsTrue (change_fits kind what)
+pub next-fits : (plan : PlanData) (d n : ℕ) (found : Option Planned) (what : Planned) (kind : Kind) → IsPlan plan → n < change_count plan d →
+    IsNext plan d n found what → kind_of (node plan d) ≡ Some kind → IsTrue (change_fits kind what)
 next-fits plan d n found what kind is inside next kind_is =
-    subst (λ (k : Kind). IsTrue (change_fits k what)) (sym kind_is)
-    (subst (λ (w : Planned). IsTrue (change_fits (node plan d).kind w)) (sym (next-is plan d n found what inside next)) (is.within.changes d n inside))
+    let has = kind_of-tells (node plan d) kind kind_is in
+    subst (λ (k : Kind). IsTrue (change_fits k what)) has.kind_is
+    (subst (λ (w : Planned). IsTrue (change_fits has.planned.kind w)) (sym (next-is plan d n found what inside next))
+    (change-fits plan d n has.planned is has.is inside))
 
 -- no device has more changes than all devices have
-few_of : (nodes : List NodeData) (x : ℕ) → length (node_at nodes x).changes ≤ all_changes nodes
+few_of : (nodes : List NodeData) (x : ℕ) → length (changes_of (node_at nodes x)) ≤ all_changes nodes
 few_of nodes zero = omega arith
 few_of [] (suc x) = omega arith
-few_of (n ∷ ns) (suc zero) = omega (arith, sum_by-cons (λ (m : NodeData). length m.changes) n ns)
-few_of (n ∷ ns) (suc (suc x)) = omega (arith, sum_by-cons (λ (m : NodeData). length m.changes) n ns, few_of ns (suc x))
+few_of (n ∷ ns) (suc zero) = omega (arith, sum_by-cons (λ (m : NodeData). length (changes_of m)) n ns)
+few_of (n ∷ ns) (suc (suc x)) = omega (arith, sum_by-cons (λ (m : NodeData). length (changes_of m)) n ns, few_of ns (suc x))
 
 pub few_changes : (plan : PlanData) (d : ℕ) → IsPlan plan → change_count plan d ≤ most_changes
 few_changes plan d is = omega (arith, few_of plan.nodes d, is.within.few_changes)

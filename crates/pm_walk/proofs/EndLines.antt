@@ -6,9 +6,11 @@ use Rattle.std.proofs.lemmas.Bool.{cond-true, cond-false}
 use Rattle.std.proofs.lemmas.List.{map-append, append-nil}
 use Rattle.std.proofs.lemmas.List.Elements.{filter-append}
 use Rattle.pm_basis.specs.Prices.{price_at}
+use Rattle.pm_base.specs.declared.limits.Limits.{Limits}
 use Rattle.pm_bid.specs.Bids.{demand_at}
-use Rattle.pm_plan.specs.Plans.{PlanData, node, group, is_member, is_limited}
-use Rattle.pm_plan.specs.Auction.{States, demand_of, sum_in, plain, local, local_step, group_step, power, member_line, limited_line, total, end_in, EndData}
+use Rattle.pm_bid.specs.Limited.{step_within, local_step}
+use Rattle.pm_plan.specs.Plans.{PlanData, node, limits_of, group, is_member, is_limited}
+use Rattle.pm_plan.specs.Auction.{States, demand_of, sum_in, plain, local, group_step, power, member_line, limited_line, total, end_in, EndData}
 use Rattle.pm_base.specs.Cuts.{Cut}
 use Rattle.pm_plan.specs.States.{state, end_of}
 use Rattle.pm_plan.specs.declared.end.MemberLine.{MemberLine}
@@ -17,12 +19,13 @@ use Rattle.pm_walk.specs.Parts.{members_to, limited_to}
 use Rattle.pm_walk.proofs.GroupTotals.{range_more}
 
 -- the step of a group, by its limits
-pub limited_step : (plan : PlanData) (s : States) (cut : Cut) (k g : ℕ) (floor ceiling : ℤ) (sum : List ℤ) (l : ℕ) → (node plan g).limits ≡ Some (floor, ceiling) → sum ≡ sum_in plan s cut g → l ≡ local_step (Some (floor, ceiling)) k sum → l ≡ group_step plan s cut k g
+pub limited_step : (plan : PlanData) (s : States) (cut : Cut) (k g : ℕ) (limits : Limits) (sum : List ℤ) (l : ℕ) →
+    limits_of (node plan g) ≡ Some limits → sum ≡ sum_in plan s cut g → l ≡ step_within limits k sum → l ≡ group_step plan s cut k g
 unfolding group_step
-limited_step plan s cut k g floor ceiling sum l limits_is sum_is l_is =
-    l_is ∙ ap (local_step (Some (floor, ceiling)) k) sum_is ∙ ap (λ limits. local_step limits k (sum_in plan s cut g)) (sym limits_is)
+limited_step plan s cut k g limits sum l limits_is sum_is l_is =
+    l_is ∙ ap (step_within limits k) sum_is ∙ ap (λ own. local_step own k (sum_in plan s cut g)) (sym limits_is)
 
-pub free_step : (plan : PlanData) (s : States) (cut : Cut) (k g : ℕ) → (node plan g).limits ≡ None → k ≡ group_step plan s cut k g
+pub free_step : (plan : PlanData) (s : States) (cut : Cut) (k g : ℕ) → limits_of (node plan g) ≡ None → k ≡ group_step plan s cut k g
 unfolding group_step
 free_step plan s cut k g free = sym (ap (λ limits. local_step limits k (sum_in plan s cut g)) free)
 

@@ -10,9 +10,12 @@ use Rattle.pm_bid.specs.Bids.{demand_at, added, sum_of, HaveSteps, AllWithinLimi
 use Rattle.pm_base.specs.Limits.{demand_limit, sum_limit, IsWithin}
 use Rattle.pm_bid.proofs.Sums.{length-sum_of, sum_of-at, total_at, Has}
 use Rattle.pm_bid.proofs.SumLaws.{sum_of-append, added_zeros}
-use Rattle.pm_plan.specs.Plans.{PlanData, node, numbers, group, is_limited}
+use Rattle.pm_plan.specs.Plans.{PlanData, node, limits_of, numbers, group, is_limited}
 use Rattle.pm_plan.specs.Kept.{IsPlan}
-use Rattle.pm_plan.specs.Auction.{States, part_in, sum_in, announced, within_limits, total, limited}
+use Rattle.pm_base.specs.declared.limits.Limits.{Limits}
+use Rattle.pm_bid.specs.Limited.{within_limits}
+use Rattle.pm_plan.proofs.DeviceNodes.{limits_of-tells}
+use Rattle.pm_plan.specs.Auction.{States, part_in, sum_in, announced, total, limited}
 use Rattle.pm_base.specs.Cuts.{Cut}
 use Rattle.pm_walk.specs.Parts.{groups_to, total_to}
 use Rattle.pm_walk.proofs.Sums.{Fit, part_other, part_within, parts_fit, sum_fits, zero_at, wider}
@@ -121,24 +124,27 @@ group_sum plan s cut g step below fit =
 pub clamped-at : (floor ceiling : ℤ) (bid : List ℤ) (step : ℕ) → step < length bid → demand_at (clamped floor ceiling bid) step ≡ nearest floor ceiling (demand_at bid step)
 clamped-at floor ceiling bid step inside = get_or-map (nearest floor ceiling) bid step (pos 0) (pos 0) inside
 
-limited_within : (plan : PlanData) (g limit step : ℕ) (l : Option (ℤ × ℤ)) (bid : List ℤ) → (node plan g).limits ≡ l → IsPlan plan → step < length bid → IsWithin limit (demand_at bid step) → IsWithin limit (demand_at (within_limits l bid) step)
+limited_within : (plan : PlanData) (g limit step : ℕ) (l : Option Limits) (bid : List ℤ) → limits_of (node plan g) ≡ l → IsPlan plan →
+    step < length bid → IsWithin limit (demand_at bid step) → IsWithin limit (demand_at (within_limits l bid) step)
 limited_within plan g limit step None bid e is inside h = h
 limited_within plan g limit step (Some l) bid e is inside h =
-    let limits = is.within.limits g l.0 l.1 e in
-    subst (IsWithin limit) (sym (clamped-at l.0 l.1 bid step inside)) (nearest_within limit l.0 l.1 (demand_at bid step) limits.floor_not_positive limits.ceiling_not_negative h)
+    let limits = is.within.limits g l (limits_of-tells (node plan g) l e) in
+    subst (IsWithin limit) (sym (clamped-at l.floor l.ceiling bid step inside))
+    (nearest_within limit l.floor l.ceiling (demand_at bid step) limits.floor_not_positive limits.ceiling_not_negative h)
 
 announced_within : (plan : PlanData) (s : States) (cut : Cut) (g step : ℕ) → IsPlan plan → step < plan.basis.steps → Fit plan s cut → IsWithin (size (group plan) g 1 (length plan.nodes) * demand_limit) (demand_at (announced plan s cut g) step)
 unfolding announced
 announced_within plan s cut g step is below fit =
-    limited_within plan g _ step (node plan g).limits (sum_in plan s cut g) refl is (omega (arith, sum_fits plan s cut g fit)) (group_sum plan s cut g step below fit)
+    limited_within plan g _ step (limits_of (node plan g)) (sum_in plan s cut g) refl is (omega (arith, sum_fits plan s cut g fit))
+    (group_sum plan s cut g step below fit)
 
-limited_steps : (l : Option (ℤ × ℤ)) (bid : List ℤ) → length (within_limits l bid) ≡ length bid
+limited_steps : (l : Option Limits) (bid : List ℤ) → length (within_limits l bid) ≡ length bid
 limited_steps None bid = refl
-limited_steps (Some l) bid = length-map bid (nearest l.0 l.1)
+limited_steps (Some l) bid = length-map bid (nearest l.floor l.ceiling)
 
 pub announced_steps : (plan : PlanData) (s : States) (cut : Cut) (g : ℕ) → Fit plan s cut → length (announced plan s cut g) ≡ plan.basis.steps
 unfolding announced
-announced_steps plan s cut g fit = limited_steps (node plan g).limits (sum_in plan s cut g) ∙ sum_fits plan s cut g fit
+announced_steps plan s cut g fit = limited_steps (limits_of (node plan g)) (sum_in plan s cut g) ∙ sum_fits plan s cut g fit
 
 all_announced : (plan : PlanData) (s : States) (cut : Cut) (gs : List ℕ) → Fit plan s cut → HaveSteps plan.basis.steps (map (announced plan s cut) gs)
 all_announced plan s cut [] fit = All-nil (Has plan.basis.steps)
@@ -201,27 +207,31 @@ unfolding total_to
 total_to-same plan s cut k limited =
     ap (λ gs. sum_of plan.basis.steps (map (announced plan s cut) gs)) (groups-more plan k ∙ ap (λ gs. groups_to plan k ++ gs) (cond-false {A = List ℕ} (is_limited plan (1 + k)) ((1 + k) ∷ []) [] limited) ∙ append-nil (groups_to plan k))
 
-pub announced_is : (plan : PlanData) (s : States) (cut : Cut) (g : ℕ) (floor ceiling : ℤ) (x y : List ℤ) → (node plan g).limits ≡ Some (floor, ceiling) → x ≡ sum_in plan s cut g → y ≡ clamped floor ceiling x → y ≡ announced plan s cut g
+pub announced_is : (plan : PlanData) (s : States) (cut : Cut) (g : ℕ) (limits : Limits) (x y : List ℤ) → limits_of (node plan g) ≡ Some limits →
+    x ≡ sum_in plan s cut g → y ≡ clamped limits.floor limits.ceiling x → y ≡ announced plan s cut g
 unfolding announced
-announced_is plan s cut g floor ceiling x y e x_is y_is = y_is ∙ ap (clamped floor ceiling) x_is ∙ sym (ap (λ l. within_limits l (sum_in plan s cut g)) e)
+announced_is plan s cut g limits x y e x_is y_is = y_is ∙ ap (clamped limits.floor limits.ceiling) x_is
+    ∙ sym (ap (λ l. within_limits l (sum_in plan s cut g)) e)
 
-pub group_added : (plan : PlanData) (s : States) (cut : Cut) (g : ℕ) (floor ceiling : ℤ) (out x : List ℤ) → Fit plan s cut → 1 ≤ g → (node plan g).limits ≡ Some (floor, ceiling) →
+pub group_added : (plan : PlanData) (s : States) (cut : Cut) (g : ℕ) (limits : Limits) (out x : List ℤ) → Fit plan s cut → 1 ≤ g →
+    limits_of (node plan g) ≡ Some limits →
     out ≡ total_to plan s cut (g - 1) → x ≡ announced plan s cut g → added out x ≡ total_to plan s cut g
-group_added plan s cut zero floor ceiling out x fit low e before here = absurd (omega arith)
-group_added plan s cut (suc k) floor ceiling out x fit low e before here =
+group_added plan s cut zero limits out x fit low e before here = absurd (omega arith)
+group_added plan s cut (suc k) limits out x fit low e before here =
     let same : suc k ≡ 1 + k = omega arith in
-    let limited' : is_limited plan (1 + k) ≡ true = ap (is_limited plan) (sym same) ∙ ap (λ (l : Option (ℤ × ℤ)). is_some l) e in
+    let limited' : is_limited plan (1 + k) ≡ true = ap (is_limited plan) (sym same) ∙ ap (λ (l : Option Limits). is_some l) e in
     let up : k + 1 ≡ suc k = omega arith in
     let down : suc k - 1 ≡ k = omega arith in
     ap (λ l. added l x) (before ∙ ap (total_to plan s cut) down)
     ∙ ap (added (total_to plan s cut k)) (here ∙ ap (announced plan s cut) same)
     ∙ sym (total_to-more plan s cut k limited' fit) ∙ ap (total_to plan s cut) up
 
-pub group_passed : (plan : PlanData) (s : States) (cut : Cut) (g : ℕ) (out : List ℤ) → 1 ≤ g → (node plan g).limits ≡ None → out ≡ total_to plan s cut (g - 1) → out ≡ total_to plan s cut g
+pub group_passed : (plan : PlanData) (s : States) (cut : Cut) (g : ℕ) (out : List ℤ) → 1 ≤ g → limits_of (node plan g) ≡ None →
+    out ≡ total_to plan s cut (g - 1) → out ≡ total_to plan s cut g
 group_passed plan s cut zero out low e before = absurd (omega arith)
 group_passed plan s cut (suc k) out low e before =
     let same : suc k ≡ 1 + k = omega arith in
-    let limited' : is_limited plan (1 + k) ≡ false = ap (is_limited plan) (sym same) ∙ ap (λ (l : Option (ℤ × ℤ)). is_some l) e in
+    let limited' : is_limited plan (1 + k) ≡ false = ap (is_limited plan) (sym same) ∙ ap (λ (l : Option Limits). is_some l) e in
     let up : k + 1 ≡ suc k = omega arith in
     let down : suc k - 1 ≡ k = omega arith in
     before ∙ ap (total_to plan s cut) down ∙ sym (total_to-same plan s cut k limited') ∙ ap (total_to plan s cut) up

@@ -1,22 +1,22 @@
 -- The nodes of a plan: how many there are, which of them make changes, and the group of each.
-use Rattle.std.proofs.Common.{◌≡◌, ◌∙◌, sym, ap, ℕ, zero, suc, ◌<◌, ◌≤◌, Bool, true, false, cond, List, ◌∷◌, length, refl, arith}
+use Rattle.std.proofs.Common.{◌≡◌, ◌∙◌, sym, ap, ℕ, zero, suc, ◌<◌, ◌≤◌, Bool, true, false, cond, List, length, refl, arith}
 use Rattle.std.specs.Prelude.{Some, Option, option_map}
-use Rattle.std.proofs.Math.ListN.{get_or-eq_default}
 use Rattle.std.proofs.lemmas.List.{length-map}
 use Rattle.pm_tree.specs.Entries.{parents_of}
 use Rattle.pm_tree.specs.declared.node.NodeId.{NodeId}
 use Rattle.pm_plan.specs.declared.planned.Change.{Change}
-use Rattle.pm_plan.specs.Plans.{PlanData, NodeData, no_node, parent, is_leaf, is_limited, group, group_in, unless_zero, group_above, change_count, end}
+use Rattle.pm_plan.specs.Plans.{PlanData, NodeData, node, changes_of, parent, is_leaf, is_limited, group, group_in, unless_zero, group_above, change_count, end}
 use Rattle.pm_plan.specs.Kept.{IsPlan}
+use Rattle.pm_plan.proofs.DeviceNodes.{changes_of-none, node-beyond}
 use Rattle.pm_plan.proofs.Ends.{end-within}
 
 -- a node that is no device makes no change
 pub no_changes : (plan : PlanData) (x : ℕ) → IsPlan plan → is_leaf plan x ≡ false → change_count plan x ≡ 0
-no_changes plan x is other = ap (λ (changes : List Change). length changes) (is.nodes.devices x other)
+no_changes plan x is other = ap (λ (changes : List Change). length changes) (changes_of-none (node plan x) (is.nodes.devices x ∙ other))
 
 -- nor does a node beyond the last
 no_changes-beyond : (plan : PlanData) (x : ℕ) → length plan.nodes < x → change_count plan x ≡ 0
-no_changes-beyond plan x far = ap (λ (n : NodeData). length n.changes) (get_or-eq_default (no_node ∷ plan.nodes) no_node {n = x} (omega arith))
+no_changes-beyond plan x far = ap (λ (n : NodeData). length (changes_of n)) (node-beyond plan.nodes x far)
 
 pub end-other : (plan : PlanData) (p x : ℕ) → IsPlan plan → is_leaf plan x ≡ false → end plan p x ≡ 0
 end-other plan p x is other = omega (arith, end-within plan p x, no_changes plan x is other)

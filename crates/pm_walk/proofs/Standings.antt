@@ -1,5 +1,5 @@
 -- What is kept before the first change, and after a device has come further.
-use Rattle.std.proofs.Common.{◌≡◌, ◌≢◌, ◌∙◌, sym, ap, ℕ, zero, suc, ◌+◌, ◌<◌, ◌≤◌, ℤ, Bool, true, false, cond, List, [], ◌∷◌, length, map, get_or, replicate, refl, arith, subst, inl, inr}
+use Rattle.std.proofs.Common.{◌≡◌, ◌≢◌, ◌∙◌, sym, ap, ℕ, zero, suc, ◌+◌, ◌<◌, ◌≤◌, ℤ, Bool, true, false, cond, List, [], ◌∷◌, Some, length, map, get_or, replicate, refl, arith, subst, inl, inr}
 use Rattle.std.proofs.Math.Path.{fun_ext}
 use Rattle.std.proofs.Math.ListN.{set, length-set, get_or-eq_default}
 use Rattle.std.specs.Prelude.{◌==◌}
@@ -9,13 +9,13 @@ use Rattle.std.proofs.lemmas.List.{get_or-set_same, get_or-set_other, get_or_def
 use Rattle.pm_bid.specs.Bids.{added, taken_off, zeros, sum_of, AllWithinLimit}
 use Rattle.pm_base.specs.Limits.{sum_limit}
 use Rattle.pm_bid.proofs.Sums.{sum_of-replicate_zeros, length-zeros}
-use Rattle.pm_strategy.specs.Strategies.{bid_of}
-use Rattle.pm_plan.specs.Plans.{PlanData, node, is_leaf, is_member, group, change_count, end}
+use Rattle.pm_plan.specs.Plans.{PlanData, node, start_of, is_leaf, is_member, group, change_count, end}
 use Rattle.pm_plan.specs.Kept.{IsPlan}
-use Rattle.pm_plan.specs.Auction.{States, demand_of, part_in, sum_in}
+use Rattle.pm_plan.specs.Auction.{States, node_bid, demand_of, part_in, sum_in}
 use Rattle.pm_base.specs.Cuts.{Cut}
 use Rattle.pm_plan.specs.States.{state}
 use Rattle.pm_plan.proofs.Leaves.{first_of, last_of}
+use Rattle.pm_plan.proofs.DeviceNodes.{start_of-tells}
 use Rattle.pm_plan.proofs.StateLaws.{state-start}
 use Rattle.pm_walk.specs.declared.changes.Progress.{Progress}
 use Rattle.pm_walk.specs.Standing.{StandingValue, Stands, Reached, AreReached, demand_after, no_progress, made}
@@ -51,7 +51,7 @@ is_member-none plan d = refl
 demand-none : (plan : PlanData) (s : States) (cut : Cut) (d : ℕ) → cut d ≡ 0 → demand_of plan s cut d ≡ zeros plan.basis.steps
 unfolding demand_of
 demand-none plan s cut d h =
-    ap (λ b. cond b (bid_of (node plan d).kind (s d (cut d)) plan.arrays plan.basis.steps) (zeros plan.basis.steps)) (ap (is_member plan d) h ∙ is_member-none plan d)
+    ap (λ b. cond b (node_bid plan (node plan d) (s d (cut d))) (zeros plan.basis.steps)) (ap (is_member plan d) h ∙ is_member-none plan d)
 
 -- the auctioneer is no member
 demand-zero : (plan : PlanData) (standing : StandingValue) → Stands plan standing → length (demand_of plan (state plan) (made standing.progress) 0) ≡ plan.basis.steps
@@ -149,10 +149,10 @@ reached-set plan progress d here inside all reached = record {
 
 -- the demand of a device that has come so far is that of its count
 demand_after-is : (plan : PlanData) (d : ℕ) (here : Progress) → is_leaf plan d ≡ true → Reached plan d here →
-    demand_after plan d here ≡ cond (is_member plan d here.count) (bid_of (node plan d).kind (state plan d here.count) plan.arrays plan.basis.steps) (zeros plan.basis.steps)
+    demand_after plan d here ≡ cond (is_member plan d here.count) (node_bid plan (node plan d) (state plan d here.count)) (zeros plan.basis.steps)
 demand_after-is plan d here leaf reached =
-    ap (λ m. cond m (bid_of (node plan d).kind here.state.0 plan.arrays plan.basis.steps) (zeros plan.basis.steps)) reached.member
-    ∙ ap (λ z. cond (is_member plan d here.count) (bid_of (node plan d).kind z plan.arrays plan.basis.steps) (zeros plan.basis.steps)) (reached.state leaf)
+    ap (λ m. cond m (node_bid plan (node plan d) here.state.0) (zeros plan.basis.steps)) reached.member
+    ∙ ap (λ z. cond (is_member plan d here.count) (node_bid plan (node plan d) z) (zeros plan.basis.steps)) (reached.state leaf)
 
 pub stands-put : (plan : PlanData) (old : StandingValue) (d : ℕ) (here : Progress) (bid : List ℤ) → IsPlan plan → is_leaf plan d ≡ true → Stands plan old → Reached plan d here →
     bid ≡ demand_after plan d here → length bid ≡ plan.basis.steps → Stands plan (put plan old d here bid)
@@ -165,7 +165,8 @@ stands-put plan old d here bid is leaf stands reached bid_is steps =
     let here_is : b d ≡ here.count = ap (λ (p : Progress). p.count) (get_or-set_same old.progress d here no_progress (omega (arith, stands.progress.one_each))) in
     let other = λ (e : ℕ) (h : e ≢ d). ap (λ (p : Progress). p.count) (get_or-set_other old.progress d e here no_progress h) in
     let demand_is : demand_of plan (state plan) b d ≡ bid =
-    ap (λ k. cond (is_member plan d k) (bid_of (node plan d).kind (state plan d k) plan.arrays plan.basis.steps) (zeros plan.basis.steps)) here_is ∙ sym (bid_is ∙ demand_after-is plan d here leaf reached) in
+    ap (λ k. cond (is_member plan d k) (node_bid plan (node plan d) (state plan d k)) (zeros plan.basis.steps)) here_is
+    ∙ sym (bid_is ∙ demand_after-is plan d here leaf reached) in
     let own = get_or-set_same old.demands d bid [] (omega (arith, stands.demand_each)) in
     let inside = group_inside plan d is high in
     let sum = added (taken_off (get_or old.sums (group plan d) []) (get_or old.demands d [])) bid in
@@ -266,10 +267,13 @@ sum-none plan s cut g h =
     ∙ sum_of-replicate_zeros plan.basis.steps (length plan.nodes)
 
 -- a node in its start has come nowhere
-pub reached-start : (plan : PlanData) (x : ℕ) (progress : Progress) → progress.count ≡ 0 → progress.member ≡ false → (is_leaf plan x ≡ true → progress.state.0 ≡ (node plan x).start) → Reached plan x progress
+pub reached-start : (plan : PlanData) (x : ℕ) (progress : Progress) → progress.count ≡ 0 → progress.member ≡ false →
+    (is_leaf plan x ≡ true → start_of (node plan x) ≡ Some progress.state.0) → Reached plan x progress
 reached-start plan x progress none stranger start = record {
   within = omega arith;
-  state = λ leaf. start leaf ∙ sym (state-start plan x) ∙ ap (state plan x) (sym none);
+  state = λ leaf.
+      (let has = start_of-tells (node plan x) progress.state.0 (start leaf) in sym has.start_is ∙ sym (state-start plan x has.planned has.is))
+      ∙ ap (state plan x) (sym none);
   member = stranger ∙ sym (is_member-none plan x) ∙ ap (is_member plan x) (sym none);
 }
 

@@ -10,10 +10,9 @@ use Rattle.pm_bid.specs.Bids.{demand_at, added, taken_off, zeros, sum_of, HaveSt
 use Rattle.pm_base.specs.Limits.{demand_limit, sum_limit, IsWithin}
 use Rattle.pm_bid.proofs.Sums.{sum_of-set, length-sum_of, length-zeros, sum_of-at}
 use Rattle.pm_bid.proofs.SumLaws.{Bounded, total_within}
-use Rattle.pm_strategy.specs.Strategies.{bid_of}
 use Rattle.pm_plan.specs.Plans.{PlanData, node, numbers, is_member, group, change_count}
 use Rattle.pm_plan.specs.Kept.{IsPlan}
-use Rattle.pm_plan.specs.Auction.{States, demand_of, part_in, sum_in}
+use Rattle.pm_plan.specs.Auction.{States, node_bid, demand_of, part_in, sum_in}
 use Rattle.pm_base.specs.Cuts.{Cut}
 use Rattle.pm_plan.specs.States.{state}
 use Rattle.pm_plan.proofs.Auctions.{map_range_same}
@@ -34,7 +33,7 @@ map_range_set f g a (suc n) (suc i) inside other =
 pub demand_cut : (plan : PlanData) (s : States) (a b : Cut) (d : ℕ) → a d ≡ b d → demand_of plan s a d ≡ demand_of plan s b d
 unfolding demand_of
 demand_cut plan s a b d same =
-    ap (λ n. cond (is_member plan d n) (bid_of (node plan d).kind (s d n) plan.arrays plan.basis.steps) (zeros plan.basis.steps)) same
+    ap (λ n. cond (is_member plan d n) (node_bid plan (node plan d) (s d n)) (zeros plan.basis.steps)) same
 
 pub part_own : (plan : PlanData) (s : States) (cut : Cut) (d : ℕ) → part_in plan s cut (group plan d) d ≡ demand_of plan s cut d
 unfolding part_in
@@ -69,8 +68,8 @@ cond_steps false steps bid h = length-zeros steps
 pub fits : (plan : PlanData) (cut : Cut) → IsPlan plan → ((d : ℕ) → d ≤ length plan.nodes → cut d ≤ change_count plan d) → Fit plan (state plan) cut
 unfolding demand_of
 fits plan cut is within = record {
-  steps = λ d low high. cond_steps (is_member plan d (cut d)) plan.basis.steps _ (bid-steps plan d (cut d) is);
-  bounded = λ d low high. demand-within plan cut d is low high (within d high);
+  steps = λ d low high. cond_steps (is_member plan d (cut d)) plan.basis.steps _ (bid-steps plan (node plan d) (state plan d (cut d)) is);
+  bounded = λ d low high. demand-within plan cut d is (within d high);
 }
 
 part_fits : (plan : PlanData) (s : States) (cut : Cut) (g d : ℕ) → 1 ≤ d → d ≤ length plan.nodes → Fit plan s cut → length (part_in plan s cut g d) ≡ plan.basis.steps

@@ -6,7 +6,7 @@ use Rattle.pm_tree.specs.declared.fault.TreeFault.{TreeFault}
 use Rattle.pm_tree.specs.declared.fault.TreeFault.TheVariants.{NoMemory}
 use Rattle.pm_tree.specs.Entries.{Entry, entries_of, leaves_of, first_refusal, checked_tree, tree_unless}
 use Rattle.pm_plan.specs.declared.planned.Change.{Change}
-use Rattle.pm_plan.specs.Plans.{PlanData, node, planned, planned_at, change_count}
+use Rattle.pm_plan.specs.Plans.{PlanData, node, changes_of, planned, planned_at, change_count}
 use Rattle.pm_plan.specs.Parts.{NodePart, is_device, AreNodesOf}
 
 leaves-of : (entries : List TreeEntry) → map (λ (e : TreeEntry). e.leaf) entries ≡ leaves_of (entries_of entries)
@@ -33,4 +33,4 @@ planned_at-some (c ∷ cs) (suc n) found = omega (arith, planned_at-some cs n fo
 -- a change that is planned is one of the device's
 pub planned-some : (plan : PlanData) (d n : ℕ) → is_some (planned plan d n) ≡ true → n ≤ change_count plan d
 planned-some plan d zero found = omega arith
-planned-some plan d (suc n) found = omega (arith, planned_at-some (node plan d).changes n found)
+planned-some plan d (suc n) found = omega (arith, planned_at-some (changes_of (node plan d)) n found)

@@ -2,10 +2,9 @@
 -- and each group's sum.
 use Rattle.std.specs.Prelude.{◌≡◌, ℕ, ◌+◌, ◌≤◌, ℤ, pos, true, false, cond, List, [], length, slice_index_or}
 use Rattle.pm_bid.specs.Bids.{zeros}
-use Rattle.pm_strategy.specs.Strategies.{bid_of}
 use Rattle.pm_plan.specs.Plans.{PlanData, node, is_leaf, is_member, change_count}
 use Rattle.pm_plan.specs.Kept.{IsPlan}
-use Rattle.pm_plan.specs.Auction.{demand_of, sum_in}
+use Rattle.pm_plan.specs.Auction.{node_bid, demand_of, sum_in}
 use Rattle.pm_base.specs.Cuts.{Cut}
 use Rattle.pm_plan.specs.States.{state}
 use Rattle.pm_walk.specs.declared.changes.Progress.{Progress}
@@ -19,7 +18,7 @@ pub record Reached (plan : PlanData) (x : ℕ) (progress : Progress) : Type 0 wh
 -- the demand of a device that has come so far
 abbrev pub demand_after : PlanData → ℕ → Progress → List ℤ
 demand_after plan d progress =
-    cond progress.member (bid_of (node plan d).kind progress.state.0 plan.arrays plan.basis.steps) (zeros plan.basis.steps)
+    cond progress.member (node_bid plan (node plan d) progress.state.0) (zeros plan.basis.steps)
 
 -- place 0 of each list is the auctioneer's: the sum of group 0 is that of the devices below no limited concentrator
 pub record StandingValue : Type 0 where

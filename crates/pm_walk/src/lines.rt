@@ -29,8 +29,8 @@ pub(crate) fn end_of(
     let members = members_of(alloc, plan, standing, &clearing.powers)?;
     let limited = limited_of(alloc, plan, standing, &clearing.group_steps)?;
     Ok(PhaseEnd::new(
+        plan.basis(),
         clearing.step,
-        plan.basis().price(step),
         clearing.total.at(step, &mut Steps::<Brand>::start()),
         members,
         limited,

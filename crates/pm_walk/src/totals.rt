@@ -1,12 +1,14 @@
 ghost use Rattle.std.specs.Prelude.{◌≡◌, ◌-◌, ◌<◌, ◌≤◌, length, Some};
-ghost use Rattle.pm_plan.specs.Plans.{node};
-ghost use Rattle.pm_plan.specs.Auction.{announced, total, plain, local_step, group_step, power};
+ghost use Rattle.pm_bid.specs.Limited.{step_within};
+ghost use Rattle.pm_plan.specs.Plans.{node, limits_of};
+ghost use Rattle.pm_plan.specs.Auction.{announced, total, plain, group_step, power};
 ghost use Rattle.pm_plan.specs.States.{state};
 ghost use Rattle.pm_walk.specs.Standing.{Stands, made};
 ghost use Rattle.pm_walk.specs.Clearing.{AreGroupSteps};
 ghost use Rattle.pm_walk.specs.Parts.{total_to};
 
 use crate::standing::{Standing, group_of};
+use pm_base::Limits;
 use pm_bid::{ArrayBid, Steps};
 use pm_plan::Plan;
 use pm_tree::NodeId;
@@ -40,31 +42,36 @@ fn add_group(plan: &Plan, standing: &Standing, at: NodeId, spare: &mut ArrayBid,
     ensures spare { length spare.new ≡ plan.now.basis.steps }
     ensures after { out.new ≡ total_to plan.now (state plan.now) (made standing.now.progress) at.0 }
 {
-    if let Some((floor, ceiling)) = plan.limits(at) {
-        announce(plan, standing, at, floor, ceiling, spare);
+    if let Some(limits) = limits_of(plan, at) {
+        announce(plan, standing, at, limits, spare);
         out.add_into(spare, &mut Steps::<Brand>::start());
     }
 }
 
+/// The limits of a limited concentrator; none exactly where the node is no such.
+fn limits_of(plan: &Plan, at: NodeId) -> Option<Limits>
+    requires { at.0 ≤ length plan.now.nodes }
+    ensures { result ≡ limits_of (node plan.now at.0) }
+{
+    let (floor, ceiling) = plan.limits(at)?;
+    Some(Limits { floor, ceiling })
+}
+
 /// Makes `out` what a limited concentrator announces: the sum of its group within its limits.
-fn announce(
-    plan: &Plan,
-    standing: &Standing,
-    at: NodeId,
-    floor: i64,
-    ceiling: i64,
-    out: &mut ArrayBid,
-)
+fn announce(plan: &Plan, standing: &Standing, at: NodeId, limits: Limits, out: &mut ArrayBid)
     requires stands { Stands plan.now standing.now }
     requires inside { at.0 ≤ length plan.now.nodes }
-    requires limits { (node plan.now at.0).limits ≡ Some (record { 0 = floor; 1 = ceiling }) }
+    requires limits { limits_of (node plan.now at.0) ≡ Some limits }
     requires out { length out.old ≡ plan.now.basis.steps }
     ensures announced { out.new ≡ announced plan.now (state plan.now) (made standing.now.progress) at.0 }
     ensures steps { length out.new ≡ plan.now.basis.steps }
 {
-    standing
-        .sum(plan, at)
-        .clamp_into(floor, ceiling, out, &mut Steps::<Brand>::start());
+    standing.sum(plan, at).clamp_into(
+        limits.floor,
+        limits.ceiling,
+        out,
+        &mut Steps::<Brand>::start(),
+    );
 }
 
 /// The step of the nodes below a limited concentrator, where `step` is the step of the whole; of any other node `step`.
@@ -75,25 +82,25 @@ pub(crate) fn group_step(plan: &Plan, standing: &Standing, step: usize, group: N
     ensures step { result ≡ group_step plan.now (state plan.now) (made standing.now.progress) step group.0 }
     ensures inside { result < plan.now.basis.steps }
 {
-    match plan.limits(group) {
-        Some((floor, ceiling)) => step_within(standing.sum(plan, group), step, floor, ceiling),
+    match limits_of(plan, group) {
+        Some(limits) => step_within(standing.sum(plan, group), &limits, step),
         None => step,
     }
 }
 
 /// The step at which a sum stays within its limits, where `step` is the step of the whole.
-fn step_within(sum: &ArrayBid, step: usize, floor: i64, ceiling: i64) -> usize
+fn step_within(sum: &ArrayBid, limits: &Limits, step: usize) -> usize
     requires { step < length sum.now }
-    ensures step { result ≡ local_step (Some (record { 0 = floor; 1 = ceiling })) step sum.now }
+    ensures step { result ≡ step_within limits.now step sum.now }
     ensures inside { result < length sum.now }
 {
     let mut counter = Steps::<Brand>::start();
     let here = sum.at(step, &mut counter);
-    if here > ceiling {
-        return sum.first_at_most(ceiling, &mut counter);
+    if here > limits.ceiling {
+        return sum.first_at_most(limits.ceiling, &mut counter);
     }
-    if here < floor {
-        return sum.last_at_least(floor, &mut counter);
+    if here < limits.floor {
+        return sum.last_at_least(limits.floor, &mut counter);
     }
     step
 }

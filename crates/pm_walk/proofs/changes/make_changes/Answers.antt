@@ -3,12 +3,12 @@ use Rattle.std.proofs.lemmas.Int.{to_z-of_z}
 use Rattle.std.specs.Prelude.{IsSome, Option}
 use mir.Syntax.{w64}
 use Rattle.pm_base.specs.Limits.{demand_limit, IsWithin}
-use Rattle.pm_device.specs.declared.kind.Kind.{Kind}
 use Rattle.pm_plan.specs.declared.planned.Planned.{Planned}
 use Rattle.pm_plan.specs.Plans.{change_count}
 use Rattle.pm_plan.specs.States.{changed_state}
+use Rattle.pm_plan.proofs.DeviceNodes.{kind_of-tells}
 use Rattle.pm_plan.proofs.Ends.{end-within}
-use Rattle.pm_walk.proofs.Devices.{few_changes, planned-is, next-is, next-fits, reached-fits, reached-more, used-within}
+use Rattle.pm_walk.proofs.Devices.{few_changes, kind-valid, planned-is, next-is, next-fits, reached-fits, reached-more, used-within}
 use Rattle.pm_walk.proofs.changes.make_changes.Goals as goal
 
 pub overflow_add-here : goal.overflow_add-here
@@ -23,6 +23,9 @@ unwrap-what-requires c =
 
 pub make_change-here-requires-clause-few : goal.make_change-here-requires-clause-few
 make_change-here-requires-clause-few c = omega (arith, end-within c.args.plan.now c.args.phase c.args.device.0, few_changes c.args.plan.now c.args.device.0 c.kind-kind.ensures.sound)
+
+pub make_change-here-requires-clause-valid : goal.make_change-here-requires-clause-valid
+make_change-here-requires-clause-valid c = kind-valid c.args.plan.now c.args.device.0 c.kind-kind.result c.kind-kind.ensures.sound c.kind-kind.ensures.kind
 
 pub make_change-here-requires-clause-fits : goal.make_change-here-requires-clause-fits
 make_change-here-requires-clause-fits c =
@@ -39,7 +42,7 @@ make_change-here-requires-clause-change c =
 pub make_change-here-requires-clause-used : goal.make_change-here-requires-clause-used
 make_change-here-requires-clause-used c =
     subst (IsWithin demand_limit) (sym (to_z-of_z w64 c.args.used c.ranges.used))
-    (used-within c.args.plan.now (c.args.phase - 1) c.args.device.0 c.args.used c.kind-kind.ensures.sound c.requires.leaf c.requires.used)
+    (used-within c.args.plan.now (c.args.phase - 1) c.args.device.0 c.args.used c.kind-kind.ensures.sound c.requires.used)
 
 pub loop-preserved : goal.loop-preserved
 loop-preserved c =
@@ -49,11 +52,11 @@ loop-preserved c =
     let inside : n < change_count plan d = omega (arith, end-within plan c.args.phase d) in
     let what_is = next-is plan d n c.planned.result c.unwrap-what.result inside (record { found_is = c.planned.ensures; what_is = c.unwrap-what.ensures }) in
     record {
-      reached = reached-more plan d c.args.phase c.loop.here c.make_change-here.result c.args.used c.unwrap-what.result c.kind-kind.ensures.sound c.requires.leaf c.requires.first
+      reached = reached-more plan d c.args.phase c.loop.here c.make_change-here.result c.kind-kind.result c.args.used c.unwrap-what.result
+          c.kind-kind.ensures.sound c.requires.leaf (kind_of-tells _ _ c.kind-kind.ensures.kind) c.requires.first
           c.loop.invariant.reached (omega arith) (omega arith) c.requires.used what_is c.make_change-here.ensures.count
           (c.make_change-here.ensures.state
-          ∙ ap (λ z. changed_state c.kind-kind.result c.loop.here.state.0 z c.unwrap-what.result) (to_z-of_z w64 c.args.used c.ranges.used)
-          ∙ ap (λ (k : Kind). changed_state k c.loop.here.state.0 c.args.used c.unwrap-what.result) c.kind-kind.ensures.kind)
+          ∙ ap (λ z. changed_state c.kind-kind.result c.loop.here.state.0 z c.unwrap-what.result) (to_z-of_z w64 c.args.used c.ranges.used))
           c.make_change-here.ensures.member;
       count = omega arith;
     }

@@ -9,8 +9,8 @@ use Rattle.pm_walk.proofs.lines.end_of.Goals as goal
 
 pub returns : goal.returns
 returns c =
-    let price_fits : SFits w64 c.price.result = search rules in
     let fits : SFits w64 c.at.result = search rules in
     c.new.ensures
     ∙ end_is c.args.plan.now (made c.args.standing.now.progress) c.args.clearing.now.step _ _ c.args.clearing.now.total _ _ c.requires.clearing.step
-    (to_z-of_z w64 c.price.result price_fits ∙ c.price.ensures.price ∙ ap (λ b. price_at b c.args.clearing.now.step) c.basis.ensures.basis) (to_z-of_z w64 c.at.result fits ∙ c.at.ensures.demand) c.requires.clearing.total c.in_ok-members.ensures c.in_ok-limited.ensures
+    (ap (λ b. price_at b c.args.clearing.now.step) c.basis.ensures.basis)
+    (to_z-of_z w64 c.at.result fits ∙ c.at.ensures.demand) c.requires.clearing.total c.in_ok-members.ensures c.in_ok-limited.ensures

@@ -1,6 +1,7 @@
 use Rattle.std.proofs.Common.{◌∙◌, ◌≡◌, ◌-◌, ◌++◌, ◌∷◌, [], sym, ap, Vec, Global}
 use Rattle.std.specs.Prelude.{is_some}
-use Rattle.pm_plan.specs.Plans.{is_limited}
+use Rattle.pm_plan.specs.Plans.{node, limits_of, is_limited}
+use Rattle.pm_plan.proofs.DeviceNodes.{is_some-option_map}
 use Rattle.pm_plan.specs.declared.end.LimitedLine.{LimitedLine}
 use Rattle.pm_walk.specs.Parts.{limited_to}
 use Rattle.pm_walk.specs.Standing.{made}
@@ -17,7 +18,8 @@ loop-number-preserved c =
     let plan = c.args.plan.now in
     let cut = made c.args.standing.now.progress in
     let n = c.loop-number.number in
-    let limited : is_limited plan n ≡ c.is_some.result = sym (c.is_some.ensures ∙ ap (λ o. is_some o) c.limits.ensures) in
+    let limited : is_limited plan n ≡ c.is_some.result =
+    sym (c.is_some.ensures ∙ ap (λ o. is_some o) c.limits.ensures ∙ is_some-option_map _ (limits_of (node plan n))) in
     elim c.if-is_some.branch [
       | then-is_some+in_ok-push w ↦
           ap (λ (v : Vec LimitedLine Global). v.items) w.lines-is ∙ w.in_ok-push.ensures.items

@@ -16,14 +16,18 @@ pub add_into-requires-clause-within : goal.add_into-requires-clause-within
 add_into-requires-clause-within c =
     let fit = standing_fits c.args.plan.now c.args.standing.now c.requires.stands in
     subst (AllWithinLimit sum_limit)
-    (sym (group_added c.args.plan.now (state c.args.plan.now) (made c.args.standing.now.progress) c.args.at.0 c.in-Some.floor c.in-Some.ceiling c.args.out.now c.announce.new.out fit c.requires.first (sym c.in-Some.ensures) c.requires.before c.announce.ensures.announced))
+    (sym (group_added c.args.plan.now (state c.args.plan.now)
+    (made c.args.standing.now.progress) c.args.at.0 c.in-Some.limits c.args.out.now c.announce.new.out fit c.requires.first
+    (sym c.in-Some.ensures) c.requires.before c.announce.ensures.announced))
     (total_to-within c.args.plan.now (state c.args.plan.now) (made c.args.standing.now.progress) c.args.at.0 c.requires.stands.sound fit)
 
 pub returns-in-Some-clause-after : goal.returns-in-Some-clause-after
 returns-in-Some-clause-after c =
     let fit = standing_fits c.args.plan.now c.args.standing.now c.requires.stands in
     c.add_into.ensures.sum
-    ∙ group_added c.args.plan.now (state c.args.plan.now) (made c.args.standing.now.progress) c.args.at.0 c.in-Some.floor c.in-Some.ceiling c.args.out.now c.announce.new.out fit c.requires.first (sym c.in-Some.ensures) c.requires.before c.announce.ensures.announced
+    ∙ group_added c.args.plan.now (state c.args.plan.now)
+    (made c.args.standing.now.progress) c.args.at.0 c.in-Some.limits c.args.out.now c.announce.new.out fit c.requires.first
+    (sym c.in-Some.ensures) c.requires.before c.announce.ensures.announced
 
 pub returns-in_default-clause-after : goal.returns-in_default-clause-after
 returns-in_default-clause-after c = group_passed c.args.plan.now (state c.args.plan.now) (made c.args.standing.now.progress) c.args.at.0 c.args.out.now c.requires.first (sym c.in_default.ensures) c.requires.before
