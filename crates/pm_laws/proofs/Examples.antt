@@ -1,7 +1,9 @@
 -- Small markets, worked out.
 use Rattle.std.proofs.Common.{◌≡◌, ℕ, zero, suc, ◌+◌, ◌<◌, ◌≤◌, true, false, List, [], ◌∷◌, ◌++◌, refl, sym, ◌∙◌, ap, arith}
 use Rattle.std.specs.List.{flat_map}
-use Rattle.pm_market.specs.Lists.{Lists, IsNode, IsLeaf, IsInner, Lawful, parent, is_leaf, is_member, changes, end, is_below_in, is_below, is_leaf_of, child_toward_in, child_toward, concentrators_in, concentrators}
+use Rattle.pm_base.specs.Limits.{most_depth}
+use Rattle.pm_market.specs.Lists.{Lists, IsNode, IsLeaf, IsInner, Lawful, parent, is_leaf, is_member, changes, end, is_below_in, is_below, is_leaf_of}
+use Rattle.pm_market.specs.Lists.{way_up, child_at_or_above, concentrators_in, concentrators}
 use Rattle.pm_market.specs.State.{start, updated, all_to, sum_to, is_same_on, cut_at, newest_of, part_of, known_of, greatest_number, number_of, last_of, addresses_of, last, clearings, cleared}
 use Rattle.pm_market.specs.Moves.{after, LegalJournal}
 use Rattle.pm_market.specs.Held.{last_join, holds_price}
@@ -26,21 +28,28 @@ abbrev rejoins : List Move
 rejoins = Change 1 1 ∷ Learn 1 1 ∷ Clear 1 ∷ Change 1 2 ∷ Change 1 3 ∷ Pass 1 1 ∷ []
 
 rejoins_legal : first_illegal one_device start rejoins ≡ 6
-unfolding parent is_leaf is_member changes end is_below_in is_below is_leaf_of child_toward_in child_toward updated all_to is_same_on cut_at newest_of part_of known_of greatest_number number_of last_of addresses_of is_one_of learn_is_legal publish_is_legal clear_is_legal pass_is_legal is_idle_at is_idle change_is_legal are_made close_is_legal is_legal first_illegal
+unfolding parent is_leaf is_member changes end is_below_in
+    is_below is_leaf_of way_up child_at_or_above updated all_to is_same_on cut_at newest_of part_of known_of greatest_number number_of last_of addresses_of
+    is_one_of learn_is_legal publish_is_legal clear_is_legal pass_is_legal is_idle_at is_idle change_is_legal are_made close_is_legal is_legal first_illegal
 rejoins_legal = refl
 
 -- the clearing passed last has number 1 of the device
 rejoins_number : cleared (after one_device rejoins) (last (after one_device rejoins) 1) 1 ≡ 1
-unfolding parent is_leaf is_member changes end is_below_in is_below is_leaf_of child_toward_in child_toward updated all_to is_same_on cut_at newest_of part_of known_of greatest_number number_of last_of addresses_of
+unfolding parent is_leaf is_member changes end is_below_in
+    is_below is_leaf_of way_up child_at_or_above updated all_to is_same_on cut_at newest_of part_of known_of greatest_number number_of last_of addresses_of
 rejoins_number = refl
 
 rejoins_to_the_end : first_illegal one_device start (rejoins ++ Learn 1 3 ∷ Clear 2 ∷ Pass 1 2 ∷ Close 1 ∷ []) ≡ 10
-unfolding parent is_leaf is_member changes end is_below_in is_below is_leaf_of child_toward_in child_toward updated all_to is_same_on cut_at newest_of part_of known_of greatest_number number_of last_of addresses_of is_one_of learn_is_legal publish_is_legal clear_is_legal pass_is_legal is_idle_at is_idle change_is_legal are_made close_is_legal is_legal first_illegal
+unfolding parent is_leaf is_member changes end is_below_in
+    is_below is_leaf_of way_up child_at_or_above updated all_to is_same_on cut_at newest_of part_of known_of greatest_number number_of last_of addresses_of
+    is_one_of learn_is_legal publish_is_legal clear_is_legal pass_is_legal is_idle_at is_idle change_is_legal are_made close_is_legal is_legal first_illegal
 rejoins_to_the_end = refl
 
 -- it may not be closed before
 rejoins_not_closed : first_illegal one_device start (rejoins ++ Close 1 ∷ []) ≡ 6
-unfolding parent is_leaf is_member changes end is_below_in is_below is_leaf_of child_toward_in child_toward updated all_to is_same_on cut_at newest_of part_of known_of greatest_number number_of last_of addresses_of is_one_of learn_is_legal publish_is_legal clear_is_legal pass_is_legal is_idle_at is_idle change_is_legal are_made close_is_legal is_legal first_illegal
+unfolding parent is_leaf is_member changes end is_below_in
+    is_below is_leaf_of way_up child_at_or_above updated all_to is_same_on cut_at newest_of part_of known_of greatest_number number_of last_of addresses_of
+    is_one_of learn_is_legal publish_is_legal clear_is_legal pass_is_legal is_idle_at is_idle change_is_legal are_made close_is_legal is_legal first_illegal
 rejoins_not_closed = refl
 
 -- a concentrator with a device under it
@@ -59,11 +68,15 @@ abbrev eight_rounds : List Move
 eight_rounds = flat_map round (1 ∷ 2 ∷ 3 ∷ 4 ∷ 5 ∷ 6 ∷ 7 ∷ 8 ∷ [])
 
 window_full : first_illegal one_under start (eight_rounds ++ Change 2 9 ∷ Learn 2 9 ∷ Publish 1 9 ∷ []) ≡ 26
-unfolding parent is_leaf is_member changes end is_below_in is_below is_leaf_of child_toward_in child_toward updated all_to is_same_on cut_at newest_of part_of known_of greatest_number number_of last_of addresses_of is_one_of learn_is_legal publish_is_legal clear_is_legal pass_is_legal is_idle_at is_idle change_is_legal are_made close_is_legal is_legal first_illegal
+unfolding parent is_leaf is_member changes end is_below_in
+    is_below is_leaf_of way_up child_at_or_above updated all_to is_same_on cut_at newest_of part_of known_of greatest_number number_of last_of addresses_of
+    is_one_of learn_is_legal publish_is_legal clear_is_legal pass_is_legal is_idle_at is_idle change_is_legal are_made close_is_legal is_legal first_illegal
 window_full = refl
 
 window_opens : first_illegal one_under start (eight_rounds ++ Change 2 9 ∷ Learn 2 9 ∷ Learn 1 8 ∷ Clear 1 ∷ Pass 1 1 ∷ Publish 1 9 ∷ []) ≡ 30
-unfolding parent is_leaf is_member changes end is_below_in is_below is_leaf_of child_toward_in child_toward updated all_to is_same_on cut_at newest_of part_of known_of greatest_number number_of last_of addresses_of is_one_of learn_is_legal publish_is_legal clear_is_legal pass_is_legal is_idle_at is_idle change_is_legal are_made close_is_legal is_legal first_illegal
+unfolding parent is_leaf is_member changes end is_below_in
+    is_below is_leaf_of way_up child_at_or_above updated all_to is_same_on cut_at newest_of part_of known_of greatest_number number_of last_of addresses_of
+    is_one_of learn_is_legal publish_is_legal clear_is_legal pass_is_legal is_idle_at is_idle change_is_legal are_made close_is_legal is_legal first_illegal
 window_opens = refl
 
 -- a concentrator under a concentrator, nine devices under it, and one more
@@ -83,11 +96,15 @@ both_full = flat_map upward (1 ∷ 2 ∷ 3 ∷ 4 ∷ 5 ∷ 6 ∷ 7 ∷ 8 ∷ [])
 
 -- 44 moves are legal, then neither concentrator may publish
 both_full_lower : first_illegal two_levels start (both_full ++ Publish 2 9 ∷ []) ≡ 44
-unfolding parent is_leaf is_member changes end is_below_in is_below is_leaf_of child_toward_in child_toward updated all_to is_same_on cut_at newest_of part_of known_of greatest_number number_of last_of addresses_of is_one_of learn_is_legal publish_is_legal clear_is_legal pass_is_legal is_idle_at is_idle change_is_legal are_made close_is_legal is_legal first_illegal
+unfolding parent is_leaf is_member changes end is_below_in
+    is_below is_leaf_of way_up child_at_or_above updated all_to is_same_on cut_at newest_of part_of known_of greatest_number number_of last_of addresses_of
+    is_one_of learn_is_legal publish_is_legal clear_is_legal pass_is_legal is_idle_at is_idle change_is_legal are_made close_is_legal is_legal first_illegal
 both_full_lower = refl
 
 both_full_upper : first_illegal two_levels start (both_full ++ Publish 1 9 ∷ []) ≡ 44
-unfolding parent is_leaf is_member changes end is_below_in is_below is_leaf_of child_toward_in child_toward updated all_to is_same_on cut_at newest_of part_of known_of greatest_number number_of last_of addresses_of is_one_of learn_is_legal publish_is_legal clear_is_legal pass_is_legal is_idle_at is_idle change_is_legal are_made close_is_legal is_legal first_illegal
+unfolding parent is_leaf is_member changes end is_below_in
+    is_below is_leaf_of way_up child_at_or_above updated all_to is_same_on cut_at newest_of part_of known_of greatest_number number_of last_of addresses_of
+    is_one_of learn_is_legal publish_is_legal clear_is_legal pass_is_legal is_idle_at is_idle change_is_legal are_made close_is_legal is_legal first_illegal
 both_full_upper = refl
 
 two_levels_bound : bound two_levels ≡ 271
@@ -106,16 +123,22 @@ abbrev unwound : List Move
 unwound = both_full ++ Learn 1 8 ∷ Clear 1 ∷ Pass 1 1 ∷ Pass 2 1 ∷ Publish 2 9 ∷ Learn 2 9 ∷ Publish 1 9 ∷ Learn 1 9 ∷ Clear 2 ∷ Pass 1 2 ∷ Pass 2 2 ∷ pass_all 2 all_devices ++ Pass 12 2 ∷ []
 
 unwound_closes : first_illegal two_levels start (unwound ++ Close 1 ∷ []) ≡ 66
-unfolding parent is_leaf is_member changes end is_below_in is_below is_leaf_of child_toward_in child_toward updated all_to is_same_on cut_at newest_of part_of known_of greatest_number number_of last_of addresses_of is_one_of learn_is_legal publish_is_legal clear_is_legal pass_is_legal is_idle_at is_idle change_is_legal are_made close_is_legal is_legal first_illegal
+unfolding parent is_leaf is_member changes end is_below_in
+    is_below is_leaf_of way_up child_at_or_above updated all_to is_same_on cut_at newest_of part_of known_of greatest_number number_of last_of addresses_of
+    is_one_of learn_is_legal publish_is_legal clear_is_legal pass_is_legal is_idle_at is_idle change_is_legal are_made close_is_legal is_legal first_illegal
 unwound_closes = refl
 
 -- every device was passed the last clearing, with its number 1
 unwound_last : (last (after two_levels unwound) 3 ≡ 2) × (last (after two_levels unwound) 12 ≡ 2) × (cleared (after two_levels unwound) 2 12 ≡ 1) × (clearings (after two_levels unwound) ≡ 2)
-unfolding parent is_leaf is_member changes end is_below_in is_below is_leaf_of child_toward_in child_toward updated all_to is_same_on cut_at newest_of part_of known_of greatest_number number_of last_of addresses_of is_one_of learn_is_legal publish_is_legal clear_is_legal pass_is_legal is_idle_at is_idle change_is_legal are_made close_is_legal is_legal first_illegal
+unfolding parent is_leaf is_member changes end is_below_in
+    is_below is_leaf_of way_up child_at_or_above updated all_to is_same_on cut_at newest_of part_of known_of greatest_number number_of last_of addresses_of
+    is_one_of learn_is_legal publish_is_legal clear_is_legal pass_is_legal is_idle_at is_idle change_is_legal are_made close_is_legal is_legal first_illegal
 unwound_last = (refl, refl, refl, refl)
 
 only_the_auctioneer : (is_legal two_levels (after two_levels both_full) (Learn 1 8) ≡ true) × (is_legal two_levels (after two_levels both_full) (Clear 1) ≡ false)
-unfolding parent is_leaf is_member changes end is_below_in is_below is_leaf_of child_toward_in child_toward updated all_to is_same_on cut_at newest_of part_of known_of greatest_number number_of last_of addresses_of is_one_of learn_is_legal publish_is_legal clear_is_legal pass_is_legal is_idle_at is_idle change_is_legal are_made close_is_legal is_legal first_illegal
+unfolding parent is_leaf is_member changes end is_below_in
+    is_below is_leaf_of way_up child_at_or_above updated all_to is_same_on cut_at newest_of part_of known_of greatest_number number_of last_of addresses_of
+    is_one_of learn_is_legal publish_is_legal clear_is_legal pass_is_legal is_idle_at is_idle change_is_legal are_made close_is_legal is_legal first_illegal
 only_the_auctioneer = (refl, refl)
 
 -- the lists of one device are lawful, and its journal is a legal one
@@ -139,7 +162,7 @@ one_device_lawful = record {
     inner : (x : ℕ) → IsNode one_device x → IsInner one_device (parent one_device x)
     inner x node = ap (λ (z : ℕ). is_leaf one_device (parent one_device z)) (one x node)
 
-    depth : (x : ℕ) → IsNode one_device x → concentrators one_device x ≤ 6
+    depth : (x : ℕ) → IsNode one_device x → concentrators one_device x ≤ most_depth
     depth x node = omega (arith, ap (concentrators one_device) (one x node))
 
     leaf_one : (d : ℕ) → IsLeaf one_device d → d ≡ 1
@@ -158,5 +181,8 @@ one_device_journal = journal_from one_device one_device_lawful (rejoins ++ Learn
 
 -- after the pass of the old clearing it holds_price none, at the end it holds_price one
 rejoins_holds : (holds_price one_device (after one_device rejoins) 1 ≡ false) × (holds_price one_device (after one_device (rejoins ++ Learn 1 3 ∷ Clear 2 ∷ Pass 1 2 ∷ [])) 1 ≡ true)
-unfolding parent is_leaf is_member changes end is_below_in is_below is_leaf_of child_toward_in child_toward updated all_to is_same_on cut_at newest_of part_of known_of greatest_number number_of last_of addresses_of is_one_of learn_is_legal publish_is_legal clear_is_legal pass_is_legal is_idle_at is_idle change_is_legal are_made close_is_legal is_legal first_illegal last_join holds_price
+unfolding parent is_leaf is_member changes end is_below_in
+    is_below is_leaf_of way_up child_at_or_above updated all_to is_same_on cut_at newest_of part_of known_of greatest_number number_of last_of addresses_of
+    is_one_of learn_is_legal publish_is_legal clear_is_legal pass_is_legal is_idle_at is_idle change_is_legal are_made close_is_legal is_legal first_illegal
+    last_join holds_price
 rejoins_holds = (refl, refl)

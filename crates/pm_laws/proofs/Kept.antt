@@ -3,7 +3,8 @@ use Rattle.std.proofs.Common.{◌≡◌, ℕ, suc, ◌+◌, ◌-◌, ◌<◌, �
 use Rattle.std.proofs.lemmas.Bool.{cases_eq, cases_lt, cases_Bool}
 use Rattle.std.proofs.lemmas.List.{get_or_append_left, get_or_push, length_push}
 use Rattle.std.specs.List.{Contains}
-use Rattle.pm_market.specs.Lists.{Lists, phases, child_toward, parent, is_leaf, end, changes, IsInner, IsConcentrator, IsLeafOf, Lawful}
+use Rattle.pm_base.specs.Limits.{window_size}
+use Rattle.pm_market.specs.Lists.{Lists, phases, child_at_or_above, parent, is_leaf, end, changes, IsInner, IsConcentrator, IsLeafOf, Lawful}
 use Rattle.pm_market.specs.State.{State, start, updated, is_same_on, RisesOn, cut_at, part_of, known_of, greatest_number, last_of, newest, part, known, number, last, clearings, cleared, addresses, addresses_of}
 use Rattle.pm_base.specs.Cuts.{Cut}
 use Rattle.pm_market.specs.Moves.{Idle, Legal, step, after_from, LegalFrom, after, LegalJournal}
@@ -25,11 +26,11 @@ start_idle lists (Learn x n) legal =
     ]
 start_idle lists (Publish c n) legal =
     not_same lists c (known lists start c) (part lists start c (newest lists start c)) legal.1 (λ d leaf.
-    part_zero lists start.published (child_toward lists c d) d
+    part_zero lists start.published (child_at_or_above lists c d) d
     ∙ sym (ap (λ (k : ℕ). part lists start c k d) (newest_inner lists start.counts start.published c legal.0.2) ∙ part_zero lists start.published c d))
 start_idle lists (Clear j) legal =
     not_same lists 0 (known lists start 0) (cleared start 0) legal.0 (λ d leaf.
-    part_zero lists start.published (child_toward lists 0 d) d ∙ sym (ap (λ (a : Cut). a d) (entry_zero [])))
+    part_zero lists start.published (child_at_or_above lists 0 d) d ∙ sym (ap (λ (a : Cut). a d) (entry_zero [])))
 start_idle lists (Pass x j) (legal) =
     elim legal.1 [
       | inl w ↦ omega (arith, w.1, w.2)
@@ -164,7 +165,7 @@ known_kept lists law s sound c cut y d c_inner inner leaf =
 -- what c knows joins its list
 sound_push : (lists : Lists) → Lawful lists → (s : State) → Sound lists s → (c : ℕ) → IsInner lists c →
     is_same_on lists c (known lists s c) (cut_at (s.published c) (length (s.published c))) ≡ false →
-    (IsConcentrator lists c → newest lists s c - number lists s c (cleared s (last s c)) < 8) →
+    (IsConcentrator lists c → newest lists s c - number lists s c (cleared s (last s c)) < window_size) →
     (s.closed ≡ phases lists → ⊥) →
     Sound lists (record s { published = pushed s.published c (known lists s c) })
 sound_push lists law s sound c c_inner differs room not_ended =

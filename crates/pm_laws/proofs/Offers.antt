@@ -2,9 +2,9 @@
 use Rattle.std.proofs.Common.{◌≡◌, ℕ, zero, suc, ◌≤◌, ℤ, pos, ◌+ℤ◌, cond, eqb, inl, inr, refl, sym, ◌∙◌, ap, arith}
 use Rattle.std.proofs.lemmas.Bool.{cases_eq, cases_Bool, cond-true, cond-false, both_ways, eq-eqb, ne_eqb, false_from_ne_true}
 use Rattle.std.proofs.lemmas.Int.{ints}
-use Rattle.pm_market.specs.Lists.{Lists, nodes, parent, is_leaf_of, IsLeaf, IsInner, IsLeafOf, child_toward, Lawful}
+use Rattle.pm_market.specs.Lists.{Lists, nodes, parent, is_leaf_of, IsLeaf, IsInner, IsLeafOf, child_at_or_above, Lawful}
 use Rattle.pm_market.specs.Offers.{int_sum_to, sum_on, sum_children}
-use Rattle.pm_market.proofs.Tree.{leaf_node, leaf_of_itself, leaf_of_leaf, leaf_of_parent, child_toward_is, child_of}
+use Rattle.pm_market.proofs.Tree.{leaf_node, leaf_of_itself, leaf_of_leaf, leaf_of_parent, child_at_or_above_is, child_of}
 
 int_sum_same : (n : ℕ) (f g : ℕ → ℤ) → ((x : ℕ) → 1 ≤ x → x ≤ n → f x ≡ g x) → int_sum_to n f ≡ int_sum_to n g
 unfolding int_sum_to
@@ -66,7 +66,8 @@ at_one_child lists law y d v inner =
           elim (cases_eq (parent lists z) y) [
             | inl up ↦ cond-true (eqb (parent lists z) y) (cond (is_leaf_of lists z d) v (pos 0)) (pos 0) (eq-eqb (parent lists z) y up)
                 ∙ cond-false (is_leaf_of lists z d) v (pos 0) (false_from_ne_true (is_leaf_of lists z d) (λ at.
-                ne (sym (child_toward_is lists law z d one at) ∙ ap (λ (w : ℕ). child_toward lists w d) (up ∙ sym x.2) ∙ child_toward_is lists law x.0 d x.1.0 x.3)))
+                ne (sym (child_at_or_above_is lists law z d one at) ∙ ap (λ (w : ℕ). child_at_or_above lists w d) (up ∙ sym x.2) ∙
+                child_at_or_above_is lists law x.0 d x.1.0 x.3)))
             | inr other ↦ cond-false (eqb (parent lists z) y) (cond (is_leaf_of lists z d) v (pos 0)) (pos 0) (ne_eqb (parent lists z) y other)
           ])
           ∙ cond-true (eqb (parent lists x.0) y) (cond (is_leaf_of lists x.0 d) v (pos 0)) (pos 0) (eq-eqb (parent lists x.0) y x.2)

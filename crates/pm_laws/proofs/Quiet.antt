@@ -2,6 +2,7 @@
 use Rattle.std.proofs.Common.{◌≡◌, ℕ, zero, suc, ◌+◌, ◌-◌, ◌<◌, ◌≤◌, true, false, not, inl, inr, length, refl, sym, ◌∙◌, ap, subst, arith}
 use Rattle.std.proofs.lemmas.Bool.{cases_eq, cases_lt, cases_Bool, cond-true, cond-false, both_ways}
 use Rattle.std.specs.List.{Contains}
+use Rattle.pm_base.specs.Limits.{window_size}
 use Rattle.pm_market.specs.Lists.{Lists, parent, is_leaf, is_member, IsNode, IsLeaf, IsInner, IsConcentrator, IsLeafOf, Lawful}
 use Rattle.pm_market.specs.State.{State, zeros, is_same_on, SameOn, cut_at, greatest_number, newest, part, known, number, last, clearings, cleared, addresses, addresses_of}
 use Rattle.pm_base.specs.Cuts.{Cut}
@@ -65,7 +66,8 @@ idle_learnt lists s sound idle x node =
       | inr ge ↦ omega (arith, sound.learnt_within x node)
     ]
 
-idle_known : (lists : Lists) → Lawful lists → (s : State) → Idle lists s → (c : ℕ) → IsConcentrator lists c → newest lists s c - number lists s c (cleared s (last s c)) < 8 → SameOn lists c (known lists s c) (part lists s c (newest lists s c))
+idle_known : (lists : Lists) → Lawful lists → (s : State) → Idle lists s → (c : ℕ) → IsConcentrator lists c →
+    newest lists s c - number lists s c (cleared s (last s c)) < window_size → SameOn lists c (known lists s c) (part lists s c (newest lists s c))
 idle_known lists law s idle c conc room =
     elim (cases_Bool (is_same_on lists c (known lists s c) (part lists s c (newest lists s c)))) [
       | inl e ↦ same_from lists law c (known lists s c) (part lists s c (newest lists s c)) e

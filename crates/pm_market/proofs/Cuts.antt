@@ -5,7 +5,7 @@ use Rattle.std.proofs.lemmas.List.{get_or_append_left, get_or_push, length_push}
 use Rattle.pm_market.specs.Lists.{Lists, nodes, parent, is_leaf, IsLeaf, IsInner, IsLeafOf, is_leaf_of, Lawful}
 use Rattle.pm_market.specs.State.{zeros, updated, all_to, is_same_on, SameOn, AtMostOn, RisesOn, cut_at, newest_of, part_of, known_of, greatest_number, number_of}
 use Rattle.pm_base.specs.Cuts.{Cut}
-use Rattle.pm_market.proofs.Tree.{leaf_node, leaf_of_parts, child_toward_is}
+use Rattle.pm_market.proofs.Tree.{leaf_node, leaf_of_parts, child_at_or_above_is}
 
 pub updated_same : {A : Type 0} → (f : ℕ → A) (x : ℕ) (v : A) → updated f x v x ≡ v
 unfolding updated
@@ -148,7 +148,7 @@ part_kept lists p c cut x i h = ap (λ (a : Cut). cond (is_leaf lists x) (λ (k 
 
 pub known_at : (lists : Lists) → Lawful lists → (p : ℕ → List Cut) (l : ℕ → ℕ) (x d : ℕ) → 1 ≤ x → IsLeafOf lists x d → known_of lists p l (parent lists x) d ≡ part_of lists p x (l x) d
 unfolding known_of
-known_at lists law p l x d one leaf = ap (λ (y : ℕ). part_of lists p y (l y) d) (child_toward_is lists law x d one leaf)
+known_at lists law p l x d one leaf = ap (λ (y : ℕ). part_of lists p y (l y) d) (child_at_or_above_is lists law x d one leaf)
 
 -- the greatest_number number with a cut
 

@@ -2,6 +2,7 @@
 use Rattle.std.proofs.Common.{◌≡◌, ℕ, zero, suc, ◌+◌, ◌-◌, ◌<◌, ◌≤◌, true, false, not, eqb, ltb, leb, ◌&&◌, inl, inr, List, [], ◌∷◌, length, get_or, sym, ◌∙◌, ap, arith}
 use Rattle.std.specs.List.{Contains}
 use Rattle.std.proofs.lemmas.Bool.{cases_eq, cases_lt, cases_Bool, eqb-true, eq-eqb, ltb-true, leb-true, lt-ltb, le-leb, and_parts, and_from, or_cases, or_left, or_right, not-true, not-false, and_cases, not_from_false, both_ways, cond-true, cond-false, false_from_ne_true}
+use Rattle.pm_base.specs.Limits.{window_size}
 use Rattle.pm_market.specs.Lists.{Lists, nodes, phases, parent, is_leaf, end, IsNode}
 use Rattle.pm_market.specs.State.{State, all_to, is_same_on, known, newest, part, number, last, clearings, cleared, addresses}
 use Rattle.pm_market.specs.Moves.{Reached, NodeLegal}
@@ -62,19 +63,26 @@ learn_at lists s x n h = and_from _ _ (and_from _ _ (is_node_at lists x h.0) (lt
 pub publish_from : (lists : Lists) (s : State) (c n : ℕ) → publish_is_legal lists s c n ≡ true → NodeLegal lists s (Publish c n)
 unfolding publish_is_legal
 publish_from lists s c n h =
-    let a = and_parts (is_node lists c && not (is_leaf lists c) && not (is_same_on lists c (known lists s c) (part lists s c (newest lists s c))) && ltb (newest lists s c - number lists s c (cleared s (last s c))) 8) (eqb n (newest lists s c + 1)) h in
-    let b = and_parts (is_node lists c && not (is_leaf lists c) && not (is_same_on lists c (known lists s c) (part lists s c (newest lists s c)))) (ltb (newest lists s c - number lists s c (cleared s (last s c))) 8) a.0 in
+    let a = and_parts (is_node lists c && not (is_leaf lists c) && not (is_same_on lists c (known lists s c) (part lists s c (newest lists s c))) && ltb
+    (newest lists s c - number lists s c (cleared s (last s c))) window_size) (eqb n (newest lists s c + 1)) h in
+    let b = and_parts (is_node lists c && not (is_leaf lists c) && not (is_same_on lists c (known lists s c) (part lists s c (newest lists s c))))
+    (ltb (newest lists s c - number lists s c (cleared s (last s c))) window_size) a.0 in
     let d = and_parts (is_node lists c && not (is_leaf lists c)) (not (is_same_on lists c (known lists s c) (part lists s c (newest lists s c)))) b.0 in
     let e = and_parts (is_node lists c) (not (is_leaf lists c)) d.0 in
-    let node = is_node_from lists c e.0 in
-    ((node.0, node.1, not-true (is_leaf lists c) e.1), not-true (is_same_on lists c (known lists s c) (part lists s c (newest lists s c))) d.1, ltb-true (newest lists s c - number lists s c (cleared s (last s c))) 8 b.1, eqb-true n (newest lists s c + 1) a.1)
+    let node = is_node_from lists c e.0 in (
+      (node.0, node.1, not-true (is_leaf lists c) e.1),
+      not-true (is_same_on lists c (known lists s c) (part lists s c (newest lists s c))) d.1,
+      ltb-true
+          (newest lists s c - number lists s c (cleared s (last s c))) window_size b.1,
+      eqb-true n (newest lists s c + 1) a.1,
+    )
 
 pub publish_at : (lists : Lists) (s : State) (c n : ℕ) → NodeLegal lists s (Publish c n) → publish_is_legal lists s c n ≡ true
 unfolding publish_is_legal
 publish_at lists s c n h =
     and_from _ _ (and_from _ _ (and_from _ _ (and_from _ _ (is_node_at lists c (h.0.0, h.0.1)) (not_from_false (is_leaf lists c) h.0.2))
     (not_from_false (is_same_on lists c (known lists s c) (part lists s c (newest lists s c))) h.1))
-    (lt-ltb (newest lists s c - number lists s c (cleared s (last s c))) 8 h.2)) (eq-eqb n (newest lists s c + 1) h.3)
+    (lt-ltb (newest lists s c - number lists s c (cleared s (last s c))) window_size h.2)) (eq-eqb n (newest lists s c + 1) h.3)
 
 pub clear_from : (lists : Lists) (s : State) (j : ℕ) → clear_is_legal lists s j ≡ true → NodeLegal lists s (Clear j)
 unfolding clear_is_legal

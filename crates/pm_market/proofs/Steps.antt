@@ -2,11 +2,11 @@
 use Rattle.std.proofs.Common.{◌≡◌, ℕ, zero, suc, ◌+◌, ◌-◌, ◌≤◌, Bool, true, false, eqb, not, ◌&&◌, ◌||◌, ◌⊎◌, inl, inr, List, [], ◌∷◌, map, length, get_or, refl, sym, ◌∙◌, ap, arith}
 use Rattle.std.proofs.lemmas.Bool.{cases_eq, cases_Bool, cond-true, cond-false, and_from, both_ways, false_from_ne_true, eq-eqb, ne_eqb}
 use Rattle.std.proofs.Math.ListN.{get_or-map}
-use Rattle.pm_market.specs.Lists.{Lists, parent, is_leaf, is_member, is_below_in, child_toward_in, child_toward, IsInner}
+use Rattle.pm_market.specs.Lists.{Lists, parent, is_leaf, is_member, is_below_in, IsInner}
 use Rattle.pm_market.specs.State.{State, all_to, cut_at, part, part_of, known_of, newest, is_same_on, greatest_number}
 use Rattle.pm_base.specs.Cuts.{Cut, cut_of}
 use Rattle.pm_market.specs.Held.{last_join}
-use Rattle.pm_market.proofs.Tree.{parent_zero}
+use Rattle.pm_market.proofs.Tree.{parent_zero, toward, toward_all, toward-none, toward-suc}
 use Rattle.pm_market.proofs.Cuts.{all_to_at, part_inner, part_zero, newest_inner}
 
 -- one more number passes
@@ -37,26 +37,29 @@ below_step lists steps (suc more) x d e ne =
     let same : more ≡ steps = omega arith in
     ap (λ (b : Bool). b || is_below_in lists more x (parent lists d)) (ne_eqb x d (λ w. ne (sym w))) ∙ ap (λ (k : ℕ). is_below_in lists k x (parent lists d)) same
 
-pub toward_zero : (lists : Lists) (steps y : ℕ) → child_toward_in lists steps y 0 ≡ 0
-unfolding child_toward_in
-toward_zero lists zero y = refl
-toward_zero lists (suc steps) y =
+pub toward_zero : (lists : Lists) (count y : ℕ) → toward lists count y 0 ≡ 0
+toward_zero lists zero y = toward-none lists y 0
+toward_zero lists (suc count) y =
+    toward-suc lists count y 0 ∙
     elim (cases_eq (parent lists 0) y) [
-      | inl e ↦ cond-true (eqb (parent lists 0) y) 0 (child_toward_in lists steps y (parent lists 0)) (eq-eqb (parent lists 0) y e)
-      | inr n ↦ cond-false (eqb (parent lists 0) y) 0 (child_toward_in lists steps y (parent lists 0)) (ne_eqb (parent lists 0) y n) ∙ ap (child_toward_in lists steps y) (parent_zero lists) ∙ toward_zero lists steps y
+      | inl e ↦ cond-true (eqb (parent lists 0) y) 0 (toward lists count y (parent lists 0)) (eq-eqb (parent lists 0) y e)
+      | inr n ↦ cond-false (eqb (parent lists 0) y) 0 (toward lists count y (parent lists 0)) (ne_eqb (parent lists 0) y n)
+          ∙ ap (toward lists count y) (parent_zero lists) ∙ toward_zero lists count y
     ]
 
-pub toward_here : (lists : Lists) (steps more y d : ℕ) → more ≡ steps + 1 → parent lists d ≡ y → child_toward_in lists more y d ≡ d
-unfolding child_toward_in
-toward_here lists steps zero y d e at = absurd (omega arith)
-toward_here lists steps (suc more) y d e at = cond-true (eqb (parent lists d) y) d (child_toward_in lists more y (parent lists d)) (eq-eqb (parent lists d) y at)
+pub toward_here : (lists : Lists) (count more y d : ℕ) → more ≡ count + 1 → parent lists d ≡ y → toward lists more y d ≡ d
+toward_here lists count zero y d e at = absurd (omega arith)
+toward_here lists count (suc more) y d e at =
+    toward-suc lists more y d ∙ cond-true (eqb (parent lists d) y) d (toward lists more y (parent lists d)) (eq-eqb (parent lists d) y at)
 
-pub toward_step : (lists : Lists) (steps more y d : ℕ) → more ≡ steps + 1 → (parent lists d ≡ y → ⊥) → child_toward_in lists more y d ≡ child_toward_in lists steps y (parent lists d)
-unfolding child_toward_in
-toward_step lists steps zero y d e ne = absurd (omega arith)
-toward_step lists steps (suc more) y d e ne =
-    let same : more ≡ steps = omega arith in
-    cond-false (eqb (parent lists d) y) d (child_toward_in lists more y (parent lists d)) (ne_eqb (parent lists d) y ne) ∙ ap (λ (k : ℕ). child_toward_in lists k y (parent lists d)) same
+pub toward_step : (lists : Lists) (count more y d : ℕ) → more ≡ count + 1 → (parent lists d ≡ y → ⊥) →
+    toward lists more y d ≡ toward lists count y (parent lists d)
+toward_step lists count zero y d e ne = absurd (omega arith)
+toward_step lists count (suc more) y d e ne =
+    let same : more ≡ count = omega arith in
+    toward-suc lists more y d
+    ∙ cond-false (eqb (parent lists d) y) d (toward lists more y (parent lists d)) (ne_eqb (parent lists d) y ne)
+    ∙ ap (λ (k : ℕ). toward lists k y (parent lists d)) same
 
 -- the cut of a row
 pub cut_at_row : (rows : List (List ℕ)) (i : ℕ) → cut_of (get_or ([] ∷ rows) i []) ≡ cut_at (map cut_of rows) i
@@ -92,13 +95,13 @@ pub newest_part : (lists : Lists) (s : State) (c : ℕ) → IsInner lists c → 
 newest_part lists s c inner = part_inner lists s.published c (newest lists s c) inner ∙ ap (cut_at (s.published c)) (newest_inner lists s.counts s.published c inner)
 
 -- a node without a parent below the auctioneer leads nowhere else
-toward_past : (lists : Lists) (steps y d : ℕ) → parent lists d ≡ 0 → (child_toward_in lists steps y d ≡ d) ⊎ (child_toward_in lists steps y d ≡ 0)
-unfolding child_toward_in
-toward_past lists zero y d top = inl refl
-toward_past lists (suc steps) y d top =
+toward_past : (lists : Lists) (count y d : ℕ) → parent lists d ≡ 0 → (toward lists count y d ≡ d) ⊎ (toward lists count y d ≡ 0)
+toward_past lists zero y d top = inr (toward-none lists y d)
+toward_past lists (suc count) y d top =
     elim (cases_Bool (eqb (parent lists d) y)) [
-      | inl e ↦ inl (cond-true (eqb (parent lists d) y) d (child_toward_in lists steps y (parent lists d)) e)
-      | inr e ↦ inr (cond-false (eqb (parent lists d) y) d (child_toward_in lists steps y (parent lists d)) e ∙ ap (child_toward_in lists steps y) top ∙ toward_zero lists steps y)
+      | inl e ↦ inl (toward-suc lists count y d ∙ cond-true (eqb (parent lists d) y) d (toward lists count y (parent lists d)) e)
+      | inr e ↦ inr (toward-suc lists count y d ∙ cond-false (eqb (parent lists d) y) d (toward lists count y (parent lists d)) e
+          ∙ ap (toward lists count y) top ∙ toward_zero lists count y)
     ]
 
 cut_at_none : (i d : ℕ) → cut_at [] i d ≡ 0
@@ -108,12 +111,14 @@ cut_at_none (suc i) d = refl
 
 -- past the last node nothing is known
 pub known_past : (lists : Lists) (published : ℕ → List Cut) (learnt : ℕ → ℕ) (y d : ℕ) → parent lists d ≡ 0 → is_leaf lists d ≡ false → published d ≡ [] → learnt 0 ≡ 0 → known_of lists published learnt y d ≡ 0
-unfolding known_of child_toward
+unfolding known_of
 known_past lists published learnt y d top inner empty none =
     elim (toward_past lists d y d top) [
-      | inl e ↦ ap (λ (x : ℕ). part_of lists published x (learnt x) d) e ∙ ap (λ (a : Cut). a d) (part_inner lists published d (learnt d) inner)
+      | inl e ↦ ap (λ (x : ℕ). part_of lists published x (learnt x) d) (sym (toward_all lists y d) ∙ e) ∙
+          ap (λ (a : Cut). a d) (part_inner lists published d (learnt d) inner)
           ∙ ap (λ (l : List Cut). cut_at l (learnt d) d) empty ∙ cut_at_none (learnt d) d
-      | inr e ↦ ap (λ (x : ℕ). part_of lists published x (learnt x) d) e ∙ ap (λ (k : ℕ). part_of lists published 0 k d) none ∙ part_zero lists published 0 d
+      | inr e ↦ ap (λ (x : ℕ). part_of lists published x (learnt x) d) (sym (toward_all lists y d) ∙ e) ∙ ap (λ (k : ℕ). part_of lists published 0 k d) none ∙
+          part_zero lists published 0 d
     ]
 
 pub join_here : (lists : Lists) (d n : ℕ) → 1 ≤ n → is_member lists d n && not (is_member lists d (n - 1)) ≡ true → last_join lists d n ≡ n

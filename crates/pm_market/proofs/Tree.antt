@@ -1,8 +1,12 @@
 -- The tree of lawful lists: who stands above whom.
 use Rattle.std.proofs.Common.{◌≡◌, ℕ, zero, suc, ◌+◌, ◌-◌, ◌<◌, ◌≤◌, ◌≢◌, Bool, true, false, cond, eqb, ◌&&◌, ◌||◌, ◌⊎◌, inl, inr, List, [], ◌∷◌, length, get_or, refl, sym, ◌∙◌, ap, subst, arith}
+use Rattle.std.proofs.Common.{Option, Some, None, ◌==◌}
+use Rattle.std.specs.Prelude.{unwrap_or}
+use Rattle.std.specs.List.{find}
 use Rattle.std.proofs.lemmas.Bool.{cases_eq, cases_Bool, eqb-true, eqb-false, eq-eqb, ne_eqb, or_cases, or_left, or_right, and_parts, and_from, cond-true, cond-false, both_ways}
 use Rattle.std.proofs.lemmas.List.{get_or_past}
-use Rattle.pm_market.specs.Lists.{Lists, nodes, parent, is_leaf, IsNode, IsLeaf, IsInner, IsLeafOf, is_below_in, is_below, is_leaf_of, child_toward_in, child_toward, Lawful}
+use Rattle.pm_market.specs.Lists.{Lists, nodes, parent, is_leaf, IsNode, IsLeaf, IsInner, IsLeafOf, is_below_in, is_below, is_leaf_of, way_up}
+use Rattle.pm_market.specs.Lists.{child_at_or_above, Lawful}
 
 pub parent_zero : (lists : Lists) → parent lists 0 ≡ 0
 unfolding parent
@@ -144,29 +148,53 @@ leaf_of_leaf lists law x d leaf h =
     let r = up_from_below lists x d parts.1 in
     leaf_above lists law r.0 x d leaf parts.0 r.1
 
--- the child on the way down
+-- the child of y at or above d, among so many nodes on the way up
+unfoldable pub toward : Lists → ℕ → ℕ → ℕ → ℕ
+toward lists count y d = unwrap_or (find (λ x. parent lists x == y) (way_up lists count d)) 0
 
-toward_in_is : (lists : Lists) → Lawful lists → (fuel k d y x : ℕ) → d ≤ fuel → 1 ≤ x → up lists k d ≡ x → parent lists x ≡ y → child_toward_in lists fuel y d ≡ x
-unfolding up child_toward_in
-toward_in_is lists law zero k d y x h one e ep =
+pub toward_all : (lists : Lists) (y d : ℕ) → toward lists d y d ≡ child_at_or_above lists y d
+unfolding toward child_at_or_above
+toward_all lists y d = refl
+
+pub toward-none : (lists : Lists) (y d : ℕ) → toward lists 0 y d ≡ 0
+unfolding toward way_up
+toward-none lists y d = refl
+
+unwrap_or-cond : (b : Bool) (x none : ℕ) (rest : Option ℕ) → unwrap_or (cond b (Some x) rest) none ≡ cond b x (unwrap_or rest none)
+unwrap_or-cond true x none rest = refl
+unwrap_or-cond false x none rest = refl
+
+pub toward-suc : (lists : Lists) (count y d : ℕ) →
+    toward lists (suc count) y d ≡ cond (eqb (parent lists d) y) d (toward lists count y (parent lists d))
+unfolding toward way_up
+toward-suc lists count y d = unwrap_or-cond (eqb (parent lists d) y) d 0 (find (λ x. parent lists x == y) (way_up lists count (parent lists d)))
+
+toward_is : (lists : Lists) → Lawful lists → (fuel k d y x : ℕ) → d ≤ fuel → 1 ≤ x → up lists k d ≡ x → parent lists x ≡ y → toward lists fuel y d ≡ x
+unfolding up
+toward_is lists law zero k d y x h one e ep =
     let e0 : d ≡ 0 = omega arith in
     absurd (omega (arith, sym e ∙ ap (up lists k) e0 ∙ up_at_zero lists k))
-toward_in_is lists law (suc fuel) zero d y x h one e ep = cond-true (eqb (parent lists d) y) _ _ (eq-eqb (parent lists d) y (ap (parent lists) e ∙ ep)) ∙ e
-toward_in_is lists law (suc fuel) (suc k) d y x h one e ep =
+toward_is lists law (suc fuel) zero d y x h one e ep =
+    toward-suc lists fuel y d
+    ∙ cond-true (eqb (parent lists d) y) d (toward lists fuel y (parent lists d)) (eq-eqb (parent lists d) y (ap (parent lists) e ∙ ep)) ∙ e
+toward_is lists law (suc fuel) (suc k) d y x h one e ep =
     elim (cases_eq (parent lists d) y) [
       | inl same ↦ absurd (omega (arith, up_le lists law k (parent lists d), parent_smaller lists law x one))
       | inr n ↦ elim (cases_eq d 0) [
         | inl e0 ↦ absurd (omega (arith, sym e ∙ ap (up lists (suc k)) e0 ∙ up_at_zero lists (suc k)))
-        | inr n0 ↦ let d_one : 1 ≤ d = omega arith in let small : parent lists d ≤ fuel = omega (arith, parent_smaller lists law d d_one) in
-            cond-false (eqb (parent lists d) y) _ _ (ne_eqb (parent lists d) y n) ∙ toward_in_is lists law fuel k (parent lists d) y x small one e ep
+        | inr n0 ↦
+            let d_one : 1 ≤ d = omega arith in
+            let small : parent lists d ≤ fuel = omega (arith, parent_smaller lists law d d_one) in
+            toward-suc lists fuel y d
+            ∙ cond-false (eqb (parent lists d) y) d (toward lists fuel y (parent lists d)) (ne_eqb (parent lists d) y n)
+            ∙ toward_is lists law fuel k (parent lists d) y x small one e ep
       ]
     ]
 
-pub child_toward_is : (lists : Lists) → Lawful lists → (x d : ℕ) → 1 ≤ x → IsLeafOf lists x d → child_toward lists (parent lists x) d ≡ x
-unfolding child_toward
-child_toward_is lists law x d one h =
+pub child_at_or_above_is : (lists : Lists) → Lawful lists → (x d : ℕ) → 1 ≤ x → IsLeafOf lists x d → child_at_or_above lists (parent lists x) d ≡ x
+child_at_or_above_is lists law x d one h =
     let r = up_from_below lists x d (leaf_of_parts lists x d h).1 in
-    toward_in_is lists law d r.0 d (parent lists x) x (omega arith) one r.1 refl
+    sym (toward_all lists (parent lists x) d) ∙ toward_is lists law d r.0 d (parent lists x) x (omega arith) one r.1 refl
 
 -- below an inner node a leaf stands below one of its children
 child_on : (lists : Lists) (k d y : ℕ) → 1 ≤ d → up lists (suc k) d ≡ y → (j : ℕ) × (1 ≤ up lists j d) × (parent lists (up lists j d) ≡ y)

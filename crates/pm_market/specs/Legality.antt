@@ -1,5 +1,7 @@
--- Legality as tests that compute. Each agrees with the definition of the same name.
+-- Legality as tests that compute. For lawful lists and a sound state each agrees with the definition in Moves that it is
+-- named for.
 use Rattle.std.specs.Prelude.{ℕ, suc, ◌+◌, ◌-◌, Bool, true, false, cond, ◌==◌, ◌&&◌, ◌||◌, not, nat_lt, nat_le, List, [], ◌∷◌}
+use Rattle.pm_base.specs.Limits.{window_size}
 use Rattle.pm_market.specs.Lists.{Lists, nodes, phases, parent, is_leaf, end}
 use Rattle.pm_market.specs.State.{State, all_to, is_same_on, known, newest, part, number, last, clearings, cleared, addresses}
 use Rattle.pm_market.specs.Moves.{step}
@@ -26,7 +28,7 @@ unfoldable pub publish_is_legal : Lists → State → ℕ → ℕ → Bool
 publish_is_legal lists s c n =
     is_node lists c && not (is_leaf lists c)
     && not (is_same_on lists c (known lists s c) (part lists s c (newest lists s c)))
-    && nat_lt (newest lists s c - number lists s c (cleared s (last s c))) 8
+    && nat_lt (newest lists s c - number lists s c (cleared s (last s c))) window_size
     && (n == newest lists s c + 1)
 
 unfoldable pub clear_is_legal : Lists → State → ℕ → Bool

@@ -1,5 +1,7 @@
 -- The four lists that a market stands on, and the tree that they give.
-use Rattle.std.specs.Prelude.{◌≡◌, ℕ, zero, suc, ◌+◌, ◌<◌, ◌≤◌, Bool, true, false, cond, ◌==◌, ◌&&◌, ◌||◌, List, [], ◌∷◌, length, slice_index_or}
+use Rattle.std.specs.Prelude.{◌≡◌, ℕ, zero, suc, ◌+◌, ◌<◌, ◌≤◌, Bool, true, false, cond, ◌==◌, ◌&&◌, ◌||◌, List, [], ◌∷◌, length, slice_index_or, unwrap_or}
+use Rattle.std.specs.List.{find}
+use Rattle.pm_base.specs.Limits.{most_depth}
 
 -- The nodes are numbered from 1 in the order of the lists, and node 0 is the auctioneer. A leaf is a device, every
 -- other node a concentrator. The lists are: the parent of each node; which nodes are leaves; whether each device is a
@@ -70,14 +72,15 @@ is_leaf_of lists x d = is_leaf lists d && is_below lists x d
 abbrev pub IsLeafOf : Lists → ℕ → ℕ → Type 0
 IsLeafOf lists x d = is_leaf_of lists x d ≡ true
 
--- the node at most so many steps above d, or d itself, whose parent is y
-unfoldable pub child_toward_in : Lists → ℕ → ℕ → ℕ → ℕ
-child_toward_in lists zero y d = d
-child_toward_in lists (suc steps) y d = cond (parent lists d == y) d (child_toward_in lists steps y (parent lists d))
+-- the first nodes, so many, on the way from d up: d, its parent, the parent of that, and so on
+unfoldable pub way_up : Lists → ℕ → ℕ → List ℕ
+way_up lists zero d = []
+way_up lists (suc count) d = d ∷ way_up lists count (parent lists d)
 
--- the child of y on the way down from y to d
-unfoldable pub child_toward : Lists → ℕ → ℕ → ℕ
-child_toward lists y d = child_toward_in lists d y d
+-- the child of y at or above d: of the nodes from d up the first whose parent is y, and 0 where there is none; since
+-- parents have smaller numbers, the first d nodes on the way up are all those below the auctioneer
+unfoldable pub child_at_or_above : Lists → ℕ → ℕ → ℕ
+child_at_or_above lists y d = unwrap_or (find (λ x. parent lists x == y) (way_up lists d d)) 0
 
 -- how many concentrators stand on the path of so many steps from x towards the auctioneer, x included
 unfoldable pub concentrators_in : Lists → ℕ → ℕ → ℕ
@@ -95,7 +98,7 @@ pub record Lawful (lists : Lists) : Type 0 where
   -- a parent is the auctioneer or an earlier node, and no leaf
   pub earlier : (x : ℕ) → IsNode lists x → parent lists x < x
   pub inner : (x : ℕ) → IsNode lists x → IsInner lists (parent lists x)
-  pub depth : (x : ℕ) → IsNode lists x → concentrators lists x ≤ 6
+  pub depth : (x : ℕ) → IsNode lists x → concentrators lists x ≤ most_depth
   -- the counts at the phases' ends never fall, and the last are the numbers of changes
   pub ends_rise : (p d : ℕ) → IsLeaf lists d → p < phases lists → end lists p d ≤ end lists (p + 1) d
   pub ends_last : (d : ℕ) → IsLeaf lists d → end lists (phases lists) d ≡ changes lists d

@@ -1,6 +1,7 @@
 -- Which moves are legal, what they change, and journals.
 use Rattle.std.specs.Prelude.{◌≡◌, ℕ, ◌+◌, ◌-◌, ◌<◌, ◌≤◌, ◌⊎◌, true, false, List, [], ◌∷◌, ◌++◌}
 use Rattle.std.specs.List.{Contains}
+use Rattle.pm_base.specs.Limits.{window_size}
 use Rattle.pm_market.specs.Lists.{Lists, phases, parent, end, IsNode, IsLeaf, IsConcentrator}
 use Rattle.pm_market.specs.State.{State, start, updated, is_same_on, newest, part, known, number, last, clearings, cleared, addresses}
 use Rattle.pm_market.specs.declared.moves.Move.{Move}
@@ -17,12 +18,12 @@ abbrev pub NodeLegal : Lists → State → Move → Type 0
 -- the parent of the child learns a number above the one learnt and at most the child's newest
 NodeLegal lists s (Learn child number') =
     IsNode lists child × (s.learnt child < number') × (number' ≤ newest lists s child)
--- a concentrator that knows something other than it published last, and has fewer than 8 numbers above the one that
--- the last price passed to it names, publishes what it knows under its next number
+-- a concentrator that knows something other than it published last, and has fewer numbers above the one that the last
+-- price passed to it names than its window has, publishes what it knows under its next number
 NodeLegal lists s (Publish node number') =
     IsConcentrator lists node
     × (is_same_on lists node (known lists s node) (part lists s node (newest lists s node)) ≡ false)
-    × (newest lists s node - number lists s node (cleared s (last s node)) < 8)
+    × (newest lists s node - number lists s node (cleared s (last s node)) < window_size)
     × (number' ≡ newest lists s node + 1)
 -- the auctioneer that knows something other than it cleared last clears what it knows under its next index
 NodeLegal lists s (Clear index) =

@@ -1,6 +1,7 @@
 -- What every state after a legal journal keeps.
 use Rattle.std.specs.Prelude.{◌≡◌, ℕ, ◌+◌, ◌-◌, ◌<◌, ◌≤◌, true, length, slice_index_or}
 use Rattle.std.specs.List.{Contains}
+use Rattle.pm_base.specs.Limits.{window_size}
 use Rattle.pm_market.specs.Lists.{Lists, phases, parent, end, changes, IsNode, IsLeaf, IsInner, IsConcentrator}
 use Rattle.pm_market.specs.State.{State, SameOn, AtMostOn, RisesOn, cut_at, newest, part, known, number, last, clearings, cleared, addresses}
 use Rattle.pm_market.specs.Moves.{Reached, Idle}
@@ -29,5 +30,5 @@ pub record Sound (lists : Lists) (s : State) : Type 0 where
   pub passed_within : (x j : ℕ) → Contains (s.passed x) j → (1 ≤ j) × (j ≤ clearings s)
   pub passed_addressed : (x j : ℕ) → Contains (s.passed x) j → addresses lists s j x ≡ true
   pub passed_reached : (x j : ℕ) → Contains (s.passed x) j → Reached s (parent lists x) j
-  -- at most 8 numbers of a concentrator lie above the one that the last price passed to it names
-  pub window : (c : ℕ) → IsConcentrator lists c → newest lists s c - number lists s c (cleared s (last s c)) ≤ 8
+  -- at most as many numbers of a concentrator as its window has lie above the one that the last price passed to it names
+  pub window : (c : ℕ) → IsConcentrator lists c → newest lists s c - number lists s c (cleared s (last s c)) ≤ window_size

@@ -1,7 +1,7 @@
 -- Cuts, and the states of the market.
 use Rattle.std.specs.Prelude.{◌≡◌, ℕ, zero, suc, ◌+◌, ◌≤◌, Bool, true, false, cond, ◌==◌, ◌&&◌, not, List, [], ◌∷◌, length, slice_index_or}
 use Rattle.pm_base.specs.Cuts.{Cut}
-use Rattle.pm_market.specs.Lists.{Lists, nodes, is_leaf, is_member, is_leaf_of, IsLeafOf, child_toward}
+use Rattle.pm_market.specs.Lists.{Lists, nodes, is_leaf, is_member, is_leaf_of, IsLeafOf, child_at_or_above}
 
 -- the cut that contains no change
 abbrev pub zeros : Cut
@@ -73,9 +73,9 @@ newest_of lists counts published x = cond (is_leaf lists x) (counts x) (length (
 unfoldable pub part_of : Lists → (ℕ → List Cut) → ℕ → ℕ → Cut
 part_of lists published x i = cond (is_leaf lists x) (λ d. i) (cut_at (published x) i)
 
--- what y knows of a device below it: the part of the number that y learnt from the child on the way to the device
+-- what y knows of a device below it: the part of the number that y learnt from its child at or above the device
 unfoldable pub known_of : Lists → (ℕ → List Cut) → (ℕ → ℕ) → ℕ → Cut
-known_of lists published learnt y d = let x = child_toward lists y d in part_of lists published x (learnt x) d
+known_of lists published learnt y d = let x = child_at_or_above lists y d in part_of lists published x (learnt x) d
 
 -- the greatest number up to n under which this cut stands in the list, on the leaves of x; 0 where there is none
 unfoldable pub greatest_number : Lists → List Cut → ℕ → Cut → ℕ → ℕ

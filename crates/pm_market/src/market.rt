@@ -7,8 +7,9 @@ mod moving;
 use crate::rows::{is_among, item_at, item_from_one, row_at, row_from_one};
 use std::alloc::Global;
 
-/// A market: the lists that it stands on and its state, with every cut kept whole. It computes the definitions of
-/// `specs/` and keeps neither sums nor records nor a window.
+/// A market: the lists that it stands on and its state, with every cut kept whole. It computes the tests of
+/// `specs/Legality.antt`, which for lawful lists and a sound state agree with the legal moves of `specs/Moves.antt` (a law
+/// of `pm_laws`), and what a legal move changes. It keeps neither sums nor records nor a window.
 ///
 /// With `n` nodes, `is_legal` takes a few look-ups for a change, a learning or a pass to a device; a pass also seeks the
 /// index among those passed to the parent, from the newest on. A publishing takes a walk up the tree, 7 steps at most,
@@ -39,7 +40,7 @@ pub struct Market {
 /// The tree and the plan of a market.
 impl Market {
     ghost use Rattle.std.specs.Prelude.{◌≡◌, ◌==◌, ◌+◌, ◌≤◌, true, if◌then◌else◌, length};
-    ghost use Rattle.pm_market.specs.Lists.{parent, is_leaf, is_member, end, is_below, is_leaf_of, child_toward};
+    ghost use Rattle.pm_market.specs.Lists.{parent, is_leaf, is_member, end, is_below, is_leaf_of, child_at_or_above};
     ghost use Rattle.pm_market.specs.State.{is_same_on};
     ghost use Rattle.pm_market.specs.Market.{lists_of, state_of};
     ghost use Rattle.pm_base.specs.Cuts.{cut_of};
@@ -101,9 +102,10 @@ impl Market {
         self.is_leaf(device) && self.is_below(node, device)
     }
 
-    /// The child of a node on the way down to another.
-    fn child_toward(&self, node: usize, below: usize) -> usize
-        ensures { result ≡ child_toward (lists_of self.now) node below }
+    /// The child of a node at or above another: of the nodes from that one up the first whose parent is the node, and 0
+    /// where there is none.
+    fn child_at_or_above(&self, node: usize, below: usize) -> usize
+        ensures { result ≡ child_at_or_above (lists_of self.now) node below }
     {
         let mut at = below;
         for _step in 0..below {
@@ -116,7 +118,7 @@ impl Market {
             }
             at = above;
         }
-        at
+        0
     }
 
     /// Whether two cuts have one number of a device, or the device is no leaf of the node.
@@ -194,7 +196,7 @@ impl Market {
     fn known_number(&self, node: usize, device: usize) -> u32
         ensures { result ≡ known (lists_of self.now) (state_of self.now) node device }
     {
-        let child = self.child_toward(node, device);
+        let child = self.child_at_or_above(node, device);
         let number = self.learnt(child);
         if self.is_leaf(child) {
             number

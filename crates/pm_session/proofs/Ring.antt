@@ -1,10 +1,11 @@
--- A ring of nine records: what its places are for the numbers that are kept.
+-- A ring of records: what its places are for the numbers that are kept.
 use Rattle.std.proofs.Common.{◌≡◌, ◌∙◌, sym, ap, subst, ℕ, ◌+◌, ◌-◌, ◌%◌, ◌<◌, ◌≤◌, zero, suc, ℤ, List, length, get_or, Option, Some, None, refl, arith, get_or-set_same, get_or-set_other, inl, inr}
 use Rattle.std.proofs.Math.ListN.{set, length-set}
 use Rattle.std.proofs.lemmas.Bool.{cases_eq}
 use Rattle.std.proofs.lemmas.List.{get_or_read}
+use Rattle.pm_base.specs.Limits.{window_size}
 use Rattle.pm_session.specs.Windows.{Sent, Kept, Keeps, Fits, steps_of, record_of, newest_record, no_record, RecordSent, RecordAnswered, IsWindow}
-use Rattle.pm_session.specs.WindowFields.{record_in, records_from, kept_of, IsRing}
+use Rattle.pm_session.specs.WindowFields.{ring_size, record_in, records_from, kept_of, IsRing}
 use Rattle.pm_session.specs.declared.window.Window.TheInside.{Inside}
 
 -- a window by its parts
@@ -30,46 +31,52 @@ record_kept children steps places answered last number from to =
 
 -- the places with a record more
 abbrev pub with_record : List Sent → Sent → List Sent
-with_record places sent = set places (sent.number % 9) sent
+with_record places sent = set places (sent.number % ring_size) sent
 
-other_place : (n m : ℕ) → n < m → m ≤ n + 8 → n % 9 ≡ m % 9 → ⊥
+other_place : (n m : ℕ) → n < m → m ≤ n + window_size → n % ring_size ≡ m % ring_size → ⊥
 other_place n m lt le e = omega arith
 
-record_at : (places : List Sent) (sent : Sent) (n : ℕ) → length places ≡ 9 → n % 9 ≡ sent.number % 9 → record_in (with_record places sent) n ≡ sent
-record_at places sent n nine same =
-    ap (λ (place : ℕ). get_or (with_record places sent) place no_record) same ∙ get_or-set_same places (sent.number % 9) sent no_record (omega (arith, nine))
+record_at : (places : List Sent) (sent : Sent) (n : ℕ) → length places ≡ ring_size → n % ring_size ≡ sent.number % ring_size →
+    record_in (with_record places sent) n ≡ sent
+record_at places sent n size same =
+    ap (λ (place : ℕ). get_or (with_record places sent) place no_record) same ∙
+    get_or-set_same places (sent.number % ring_size) sent no_record (omega (arith, size))
 
-record_other : (places : List Sent) (sent : Sent) (n : ℕ) → (n % 9 ≡ sent.number % 9 → ⊥) → record_in (with_record places sent) n ≡ record_in places n
-record_other places sent n differs = get_or-set_other places (sent.number % 9) (n % 9) sent no_record differs
+record_other : (places : List Sent) (sent : Sent) (n : ℕ) → (n % ring_size ≡ sent.number % ring_size → ⊥) →
+    record_in (with_record places sent) n ≡ record_in places n
+record_other places sent n differs = get_or-set_other places (sent.number % ring_size) (n % ring_size) sent no_record differs
 
 -- what the ring keeps beside the window
 pub record Ring (children : ℕ) (steps : Option ℕ) (places : List Sent) (answered last : ℕ) : Type 0 where
-  pub nine : length places ≡ 9
+  pub size : length places ≡ ring_size
   pub each : (number : ℕ) → Fits (window_from children steps places answered last) (record_in places number)
   pub sound : IsWindow (window_from children steps places answered last)
 
 -- what is read from a place
-pub read_in : (places : List Sent) (number : ℕ) (read : Sent) → length places ≡ 9 → read ≡ get_or places (number % 9) read → read ≡ record_in places number
-read_in places number read nine is = get_or_read places (number % 9) read (omega (arith, nine)) is no_record
+pub read_in : (places : List Sent) (number : ℕ) (read : Sent) → length places ≡ ring_size → read ≡ get_or places (number % ring_size) read →
+    read ≡ record_in places number
+read_in places number read size is = get_or_read places (number % ring_size) read (omega (arith, size)) is no_record
 
 no_steps : (sum : Option (List ℤ)) → steps_of sum ≡ None → sum ≡ None
 no_steps None e = refl
 no_steps (Some sum) e = cc
 
 pub ring_of : (inside : Inside) → IsRing inside → Ring inside.children inside.steps inside.places.items inside.answered inside.last
-ring_of inside is = record { nine = is.nine; each = is.each; sound = is.sound }
+ring_of inside is = record { size = is.size; each = is.each; sound = is.sound }
 
 -- a window without sums has no sum in any place
-pub no_sum_read : (inside : Inside) (value : Kept) (number : ℕ) (read : Sent) → IsRing inside → kept_of inside ≡ value → value.steps ≡ None → read ≡ get_or inside.places.items (number % 9) read → read.sum ≡ None
+pub no_sum_read : (inside : Inside) (value : Kept) (number : ℕ) (read : Sent) → IsRing inside → kept_of inside ≡ value → value.steps ≡ None →
+    read ≡ get_or inside.places.items (number % ring_size) read → read.sum ≡ None
 no_sum_read inside value number read ring is none at =
-    no_steps read.sum (ap (λ r. steps_of r.sum) (read_in inside.places.items number read ring.nine at) ∙ (ring.each number).steps ∙ ap (λ w. w.steps) is ∙ none)
+    no_steps read.sum (ap (λ r. steps_of r.sum) (read_in inside.places.items number read ring.size at) ∙ (ring.each number).steps ∙ ap (λ w. w.steps) is ∙ none)
 
 -- the newest record
 pub newest_kept : (children : ℕ) (steps : Option ℕ) (places : List Sent) (answered last : ℕ) → Ring children steps places answered last → record_in places last ≡ newest_record (window_from children steps places answered last)
 newest_kept children steps places answered last ring = sym (record_kept children steps places answered last last ring.sound.order (omega arith))
 
 -- a record is sent under the next number
-module _ (children : ℕ) (steps : Option ℕ) (places : List Sent) (answered last : ℕ) (sent : Sent) (ring : Ring children steps places answered last) (room : last - answered < 8) (next : sent.number ≡ last + 1) where
+module _ (children : ℕ) (steps : Option ℕ) (places : List Sent) (answered last : ℕ) (sent : Sent) (ring : Ring children steps places answered last)
+    (room : last - answered < window_size) (next : sent.number ≡ last + 1) where
   is : IsWindow (window_from children steps places answered last)
   is = ring.sound
 
@@ -77,7 +84,8 @@ module _ (children : ℕ) (steps : Option ℕ) (places : List Sent) (answered la
   after = window_from children steps (with_record places sent) answered sent.number
 
   newest_at : record_of after sent.number ≡ sent
-  newest_at = record_kept children steps (with_record places sent) answered sent.number sent.number (omega (arith, is.order, next)) (omega arith) ∙ record_at places sent sent.number ring.nine refl
+  newest_at = record_kept children steps (with_record places sent) answered sent.number sent.number (omega (arith, is.order, next)) (omega arith) ∙
+      record_at places sent sent.number ring.size refl
 
   older_at : (n : ℕ) → answered ≤ n → n ≤ last → record_of after n ≡ record_of (window_from children steps places answered last) n
   older_at n from to =
@@ -100,10 +108,10 @@ module _ (children : ℕ) (steps : Option ℕ) (places : List Sent) (answered la
       let fits' : Fits after sent = record { children = fits.children; steps = fits.steps } in
       let P : Sent → Type 0 = λ r. Fits after r in
       record {
-        nine = length-set places (sent.number % 9) sent ∙ ring.nine;
+        size = length-set places (sent.number % ring_size) sent ∙ ring.size;
         each = λ n.
-            elim (cases_eq (n % 9) (sent.number % 9)) [
-              | inl e ↦ subst P (sym (record_at places sent n ring.nine e)) fits'
+            elim (cases_eq (n % ring_size) (sent.number % ring_size)) [
+              | inl e ↦ subst P (sym (record_at places sent n ring.size e)) fits'
               | inr ne ↦ subst P (sym (record_other places sent n ne)) (record { children = (ring.each n).children; steps = (ring.each n).steps })
             ];
         sound = record {
@@ -150,7 +158,7 @@ module _ (children : ℕ) (steps : Option ℕ) (places : List Sent) (answered la
   ring_answered =
       let P : Sent → Type 0 = λ r. Fits rest r in
       record {
-        nine = ring.nine;
+        size = ring.size;
         each = λ n. record { children = (ring.each n).children; steps = (ring.each n).steps };
         sound = record {
           order = keeps.to;

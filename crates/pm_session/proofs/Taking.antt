@@ -34,8 +34,7 @@ the_bid head demand = record { number = head.number; gone = head.gone; demand = 
 
 pub session_taken : (session : Session) (bid : UpBid) → IsSession session → Waits session.up bid → IsSession (bid_taken_from session bid.number)
 session_taken session bid is waits = record {
-  at_least_two = is.at_least_two;
-  at_most_thousand = is.at_most_thousand;
+  basis = is.basis;
   up = is_way_taken bid_number session.up bid is.up waits;
   down = is.down;
   same_steps = λ other e. cc;

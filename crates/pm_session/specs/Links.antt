@@ -1,5 +1,6 @@
 -- The session between a child and its parent: bids go up, prices go down.
-use Rattle.std.specs.Prelude.{◌≡◌, ℕ, ◌≤◌, ℤ, Bool, true, false, List, length, Option, Some, None}
+use Rattle.std.specs.Prelude.{◌≡◌, ℕ, ℤ, Bool, true, false, List, length, Option, Some, None}
+use Rattle.pm_base.specs.Limits.{AreSteps}
 use Rattle.pm_bid.specs.Bids.{zeros}
 use Rattle.pm_session.specs.declared.price.PriceUpdate.{PriceUpdate}
 use Rattle.pm_session.specs.Ways.{Way, Waits, Offered, Taken, IsWay, new_way}
@@ -69,8 +70,7 @@ pub record NothingWaited {Message : Type 0} (way : Way Message) (old new : Sessi
 
 -- what holds of each link
 pub record IsSession (session : Session) : Type 0 where
-  pub at_least_two : 2 ≤ session.steps
-  pub at_most_thousand : session.steps ≤ 1000
+  pub basis : AreSteps session.steps
   pub up : IsWay bid_number session.up
   pub down : IsWay price_index session.down
   pub same_steps : (bid : UpBid) → Waits session.up bid → length bid.demand ≡ session.steps

@@ -1,11 +1,16 @@
--- What the fields of a window stand for: a ring of nine places.
+-- What the fields of a window stand for: a ring of places.
 use Rattle.std.specs.Prelude.{◌≡◌, ℕ, ◌+◌, ◌-◌, ◌%◌, zero, suc, List, [], ◌∷◌, length, slice_index_or}
+use Rattle.pm_base.specs.Limits.{window_size}
 use Rattle.pm_session.specs.Windows.{Kept, Sent, Fits, IsWindow, no_record}
 use Rattle.pm_session.specs.declared.window.Window.TheInside.{Inside}
 
--- the record of a number stands in the place of its remainder by nine
+-- the places of the ring: one for the number answered last, and one for each that may be unanswered
+abbrev pub ring_size : ℕ
+ring_size = window_size + 1
+
+-- the record of a number stands in the place of its remainder by the size of the ring
 abbrev pub record_in : List Sent → ℕ → Sent
-record_in places number = slice_index_or places (number % 9) no_record
+record_in places number = slice_index_or places (number % ring_size) no_record
 
 -- so many records from a number on
 abbrev pub records_from : List Sent → ℕ → ℕ → List Sent
@@ -24,6 +29,6 @@ kept_of inside = record {
 
 -- what the fields keep
 pub record IsRing (inside : Inside) : Type 0 where
-  pub nine : length inside.places.items ≡ 9
+  pub size : length inside.places.items ≡ ring_size
   pub each : (number : ℕ) → Fits (kept_of inside) (record_in inside.places.items number)
   pub sound : IsWindow (kept_of inside)

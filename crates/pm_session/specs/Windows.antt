@@ -1,5 +1,6 @@
 -- The records of what a concentrator sent to its parent.
 use Rattle.std.specs.Prelude.{◌≡◌, ℕ, ◌+◌, ◌-◌, ◌≤◌, ℤ, List, [], length, replicate, slice_index_or, Option, Some, None}
+use Rattle.pm_base.specs.Limits.{AreSteps, window_size}
 use Rattle.pm_bid.specs.declared.head.BidHead.{BidHead}
 use Rattle.pm_bid.specs.Heads.{nothing_sent}
 
@@ -72,7 +73,7 @@ pub record Fits (window : Kept) (sent : Sent) : Type 0 where
 -- what holds of each window
 pub record IsWindow (window : Kept) : Type 0 where
   pub order : window.answered ≤ window.last
-  pub few : window.last ≤ window.answered + 8
+  pub few : window.last ≤ window.answered + window_size
   pub fits : (number : ℕ) → window.answered ≤ number → number ≤ window.last → Fits window (record_of window number)
   pub numbers : (number : ℕ) → Keeps window number → (record_of window number).number ≡ number
   pub opening : window.last ≡ 0 → (newest_record window).heads ≡ replicate window.children nothing_sent
@@ -88,4 +89,4 @@ pub record IsNewWindow (children' : ℕ) (steps' : Option ℕ) (window : Kept) :
 -- a number of steps of a basis, where there is one
 abbrev pub HasSteps : Option ℕ → Type 0
 HasSteps None = Unit {0}
-HasSteps (Some steps) = (2 ≤ steps) × (steps ≤ 1000)
+HasSteps (Some steps) = AreSteps steps

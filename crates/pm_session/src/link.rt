@@ -1,4 +1,4 @@
-ghost use Rattle.std.specs.Prelude.{◌≡◌, ◌<◌, ◌≤◌, length, None, IfOk, MatchOption, IsFalse, ◌↔◌};
+ghost use Rattle.std.specs.Prelude.{◌≡◌, ◌<◌, length, None, IfOk, MatchOption, IsFalse, ◌↔◌};
 ghost use Rattle.std.specs.Option.{option_copied};
 ghost use Rattle.pm_base.specs.Limits.{AreSteps};
 ghost use Rattle.pm_session.specs.Links.{new_session, bid_offered, demand_offered, BidOffered, BidTaken, PriceOffered, PriceTaken, NothingWaited, IsSession};
@@ -42,7 +42,7 @@ impl Link {
     /// A link for bids of so many steps, on which nothing was offered. All memory of the link is
     /// taken here.
     pub fn new(alloc: Global, steps: usize) -> Result<Link, AllocError>
-        requires steps { AreSteps steps }
+        requires { AreSteps steps }
         ensures new { IfOk result (λ link. link ≡ new_session steps) }
     {
         let demand = ArrayBid::zero(alloc, steps, &mut Steps::<Brand>::start())?;

@@ -1,17 +1,18 @@
-ghost use Rattle.std.specs.Prelude.{◌≡◌, ◌+◌, ◌-◌, ◌<◌, ◌≤◌, length, Some, None, IfOk, IsTrue, ◌↔◌};
-ghost use Rattle.pm_base.specs.Limits.{AreSteps};
+ghost use Rattle.std.specs.Prelude.{◌≡◌, ◌+◌, ◌-◌, ◌<◌, length, Some, None, IfOk, IsTrue, ◌↔◌};
+ghost use Rattle.pm_base.specs.Limits.{AreSteps, window_size};
 ghost use Rattle.pm_session.specs.Windows.{Keeps, unanswered, record_of, newest_record, RecordSent, RecordAnswered, IsWindow, IsNewWindow, HasSteps, Fits};
 
 use crate::record::Record;
+use pm_base::WINDOW_SIZE;
 use pm_bid::{ArrayBid, BidHead};
 use std::alloc::{AllocError, Global};
 use std::marker::Model;
 
-/// How many records a window has room for: the one answered last and eight that are unanswered.
-const PLACES: usize = 9;
+/// How many records a window has room for: the one answered last, and each that may be unanswered.
+const PLACES: usize = WINDOW_SIZE as usize + 1;
 
-/// The records of what a concentrator sent, from the one answered last to the newest: at most eight
-/// numbers are unanswered.
+/// The records of what a concentrator sent, from the one answered last to the newest: at most
+/// [`WINDOW_SIZE`] numbers are unanswered.
 ///
 /// Contracts see the records by their numbers. A window for a limited concentrator keeps the
 /// children's sum in each record.
@@ -53,7 +54,7 @@ impl Window {
 
     /// The same, with sums of so many steps: for a limited concentrator.
     pub fn limited(alloc: Global, children: usize, steps: usize) -> Result<Window, AllocError>
-        requires steps { AreSteps steps }
+        requires { AreSteps steps }
         ensures new { IfOk result (λ window. IsNewWindow children (Some steps) window) }
     {
         Window::opened(alloc, children, Some(steps))
@@ -76,12 +77,12 @@ impl Window {
         })
     }
 
-    /// How many more may be sent: 8 less the numbers that are unanswered.
+    /// How many more may be sent: [`WINDOW_SIZE`] less the numbers that are unanswered.
     pub fn room(&self) -> usize
-        ensures room { result ≡ 8 - unanswered self.now }
+        ensures room { result ≡ window_size - unanswered self.now }
         ensures sound { IsWindow self.now }
     {
-        8 - (self.last - self.answered) as usize
+        (WINDOW_SIZE - (self.last - self.answered)) as usize
     }
 
     /// The newest number, 0 where nothing was sent.
@@ -111,7 +112,7 @@ impl Window {
     /// is as long as the window's children.
     pub fn sent(&mut self, number: u32, children: &[BidHead]) -> Result<(), AllocError>
         requires no_sums { self.old.steps ≡ None }
-        requires room { unanswered self.old < 8 }
+        requires room { unanswered self.old < window_size }
         requires number { number ≡ self.old.last + 1 }
         requires children { length children.now ≡ self.old.children }
         ensures ok { result ≡ Ok tt }
@@ -127,7 +128,7 @@ impl Window {
     /// many steps. There is room, and the list is as long as the window's children.
     pub fn sent_limited(&mut self, number: u32, children: &[BidHead], sum: &ArrayBid)
         requires sums { self.old.steps ≡ Some (length sum.now) }
-        requires room { unanswered self.old < 8 }
+        requires room { unanswered self.old < window_size }
         requires number { number ≡ self.old.last + 1 }
         requires children { length children.now ≡ self.old.children }
         ensures sent { RecordSent self.old self.new (record { number = number; heads = children.now; sum = Some sum.now }) }
@@ -140,6 +141,8 @@ impl Window {
     /// The record of a number that is kept. The older records are dropped, this one is kept.
     pub fn answered(&mut self, number: u32) -> &Record
         requires kept { Keeps self.old number }
+
+        // The window that the caller has again once the record is no longer borrowed.
         ensures* after { sem 𝓛 (follows_so the_row the_row self.entry.ghost_name none (λ _ _. ⊤) (λ window. RecordAnswered self.old window number)) }
         ensures sent { result.now ≡ record_of self.old number }
         ensures fits { Fits self.old result.now }

@@ -1,9 +1,7 @@
 use super::Market;
 use crate::moves::Move;
 use crate::rows::item_at;
-
-/// How many numbers of a concentrator may lie above the one that the last price passed to it names.
-const WINDOW: usize = 8;
+use pm_base::WINDOW_SIZE;
 
 /// Which moves are legal.
 impl Market {
@@ -30,7 +28,7 @@ impl Market {
         if !self.is_node(node) || self.is_leaf(node) || self.knows_same(node) {
             return false;
         }
-        self.unanswered(node) < WINDOW
+        self.unanswered(node) < WINDOW_SIZE as usize
     }
 
     /// Whether a concentrator may publish under a number.
@@ -147,7 +145,7 @@ impl Market {
             && self.is_idle()
     }
 
-    /// Whether a move is legal.
+    /// Whether a move is legal, by the test that agrees with the definition for lawful lists and a sound state.
     #[tactic(auto, unfolding(crate::specs::Legality::is_legal))]
     pub fn is_legal(&self, what: Move) -> bool
         ensures { result ≡ is_legal (lists_of self.now) (state_of self.now) what }

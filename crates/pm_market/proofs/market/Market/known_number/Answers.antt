@@ -10,18 +10,18 @@ unfolding known_of
 returns-then-is_leaf c =
     let lists = lists_of c.args.self.now in
     let s = state_of c.args.self.now in
-    let child : ℕ = c.child_toward-child.result in
+    let child : ℕ = c.child_at_or_above-child.result in
     sym (part_leaf lists s.published child c.learnt-number.result c.args.device (sym c.is_leaf.ensures ∙ c.if-is_leaf.true))
     ∙ ap (λ (k : ℕ). part_of lists s.published child k c.args.device) c.learnt-number.ensures
-    ∙ ap (λ (x : ℕ). part_of lists s.published x (s.learnt x) c.args.device) c.child_toward-child.ensures
+    ∙ ap (λ (x : ℕ). part_of lists s.published x (s.learnt x) c.args.device) c.child_at_or_above-child.ensures
 
 pub returns-else-is_leaf : goal.returns-else-is_leaf
 unfolding known_of
 returns-else-is_leaf c =
     let lists = lists_of c.args.self.now in
     let s = state_of c.args.self.now in
-    let child : ℕ = c.child_toward-child.result in
+    let child : ℕ = c.child_at_or_above-child.result in
     c.item_at.ensures ∙ ap (λ (a : Cut). a c.args.device) c.cut_row.ensures
     ∙ sym (ap (λ (a : Cut). a c.args.device) (part_inner lists s.published child c.learnt-number.result (sym c.is_leaf.ensures ∙ c.if-is_leaf.false)))
     ∙ ap (λ (k : ℕ). part_of lists s.published child k c.args.device) c.learnt-number.ensures
-    ∙ ap (λ (x : ℕ). part_of lists s.published x (s.learnt x) c.args.device) c.child_toward-child.ensures
+    ∙ ap (λ (x : ℕ). part_of lists s.published x (s.learnt x) c.args.device) c.child_at_or_above-child.ensures

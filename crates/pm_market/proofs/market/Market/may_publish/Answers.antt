@@ -1,5 +1,6 @@
 use Rattle.std.proofs.Common.{◌+◌, refl, sym, ◌∙◌, arith, ap}
 use Rattle.std.proofs.lemmas.Bool.{both_ways, ltb-true, lt-ltb}
+use Rattle.pm_base.specs.Limits.{window_size}
 use Rattle.pm_market.specs.State.{is_same_on, newest, known}
 use Rattle.pm_base.specs.Cuts.{Cut}
 use Rattle.pm_market.specs.Legality.{publish_is_legal}
@@ -30,5 +31,6 @@ returns c =
     let inner = sym c.is_leaf.ensures ∙ c.if-is_leaf.false in
     let differs = ap (λ (a : Cut). is_same_on lists c.args.node (known lists s c.args.node) a) (newest_part lists s c.args.node inner) ∙ sym c.knows_same.ensures ∙ c.if-knows_same.false in
     same_tests _ (publish_is_legal lists s c.args.node (newest lists s c.args.node + 1))
-    (λ e. publish_at lists s c.args.node (newest lists s c.args.node + 1) ((node.0, node.1, inner), differs, omega (arith, ltb-true c.unanswered.result 8 e, c.unanswered.ensures), refl))
-    (λ e. lt-ltb c.unanswered.result 8 (omega (arith, (publish_from lists s c.args.node (newest lists s c.args.node + 1) e).2, c.unanswered.ensures)))
+    (λ e. publish_at lists s c.args.node (newest lists s c.args.node + 1)
+    ((node.0, node.1, inner), differs, omega (arith, ltb-true c.unanswered.result window_size e, c.unanswered.ensures), refl))
+    (λ e. lt-ltb c.unanswered.result window_size (omega (arith, (publish_from lists s c.args.node (newest lists s c.args.node + 1) e).2, c.unanswered.ensures)))

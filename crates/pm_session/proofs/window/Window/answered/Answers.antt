@@ -9,14 +9,15 @@ invariant_of-self c =
     let P : Kept → Type 0 = λ window. Keeps window c.args.number in
     let keeps : Keeps (kept_of c.self.inside) c.args.number = subst P (sym c.self.view_is) c.requires.kept in
     let ring = ring_answered c.self.inside.children c.self.inside.steps c.self.inside.places.items c.self.inside.answered c.self.inside.last c.args.number (ring_of c.self.inside c.self.invariant) keeps in
-    record { nine = ring.nine; each = ring.each; sound = ring.sound }
+    record { size = ring.size; each = ring.each; sound = ring.sound }
 
 pub returns : goal.returns
 returns c =
     let P : Kept → Type 0 = λ window. Keeps window c.args.number in
     let keeps : Keeps (kept_of c.self.inside) c.args.number = subst P (sym c.self.view_is) c.requires.kept in
     let old = ring_of c.self.inside c.self.invariant in
-    let read : c.index.result.now ≡ record_in c.self.inside.places.items c.args.number = read_in c.self.inside.places.items c.args.number c.index.result.now c.self.invariant.nine c.index.ensures in
+    let read : c.index.result.now ≡ record_in c.self.inside.places.items c.args.number =
+    read_in c.self.inside.places.items c.args.number c.index.result.now c.self.invariant.size c.index.ensures in
     let given : c.index.result.now ≡ _ = read ∙ record_given c.self.inside.children c.self.inside.steps c.self.inside.places.items c.self.inside.answered c.self.inside.last c.args.number old keeps in
     let F : Sent → Type 0 = λ r. Fits (kept_of c.self.inside) r in
     let fits : Fits (kept_of c.self.inside) c.index.result.now = subst F (sym read) (old.each c.args.number) in
