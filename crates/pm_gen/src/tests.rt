@@ -1,6 +1,6 @@
 use crate::{GenFault, make_plan};
 use pm_device::{DeviceState, Kind};
-use pm_plan::{Plan, Planned};
+use pm_plan::Plan;
 use pm_tree::NodeId;
 use std::alloc::Global;
 
@@ -28,14 +28,6 @@ fn device(plan: &Plan, node: NodeId) -> Option<(Kind, DeviceState)> {
         return None;
     }
     Some((plan.kind(node), plan.start(node)))
-}
-
-/// A change of a device, if the node is a device.
-fn change(plan: &Plan, node: NodeId, number: u32) -> Option<Planned> {
-    if plan.tree().len() < node.0 || !plan.tree().is_leaf(node) {
-        return None;
-    }
-    plan.planned(node, number)
 }
 
 #[test]
@@ -88,25 +80,10 @@ fn the_devices_have_the_drawn_kinds_and_starts(rt: HostRuntime) {
     );
 }
 
+fn may_be_shared<T: Send + Sync>(_value: &T) {}
+
+/// Faults may be sent to threads and shared by them: it is proved here.
 #[test]
-fn a_lone_device_is_turned_round_by_each_round(rt: HostRuntime) {
-    let alloc = rt.alloc();
-    let plan = make_plan(alloc, 1, 7).expect(&rt, "a plan");
-    assert_eq!(&rt; plan.tree().find("c1"), Some(NodeId(1)));
-    assert_eq!(&rt; plan.tree().find("d1"), Some(NodeId(2)));
-    let changes = [
-        (0, None),
-        (1, Some(Planned::Join)),
-        (2, Some(Planned::Leave)),
-        (3, Some(Planned::Join)),
-        (11, Some(Planned::Join)),
-        (12, None),
-    ];
-    for (number, expected) in changes {
-        assert_eq!(&rt;
-            change(&plan, NodeId(2), number),
-            expected,
-            "change {number}"
-        );
-    }
+fn faults_may_be_shared() {
+    may_be_shared(&GenFault::BadSize);
 }

@@ -9,79 +9,38 @@ use pm_basis::Basis;
 use pm_device::Kind;
 use pm_market::{Journal, Line, Move};
 use pm_plan::{
-    EventSpec, LimitedLine, MemberLine, NodeSpec, PhaseEnd, PhaseSpec, Place, Plan, Refusal,
-    StateSpec,
+    EventSpec, MemberLine, NodeSpec, PhaseEnd, PhaseSpec, Place, Plan, Refusal, StateSpec,
 };
 use pm_tree::{Tree, TreeEntry};
 use std::alloc::{AllocError, Global};
 use std::test::Fail;
 
-/// What a node is: a load takes so many watts.
+/// What a node is: a load takes 100 watts.
 #[derive(Clone, Copy)]
 enum Role {
     Concentrator,
-    Limited { floor: i64, ceiling: i64 },
-    Load { power: i64 },
+    Load,
 }
 
 /// A node: its name, its parent's name, and what it is.
 type NodeLine = (&'static str, &'static str, Role);
 
-const LOAD: Role = Role::Load { power: 100 };
+/// A lone load.
+const LONE: [NodeLine; 1] = [("load1", "auctioneer", Role::Load)];
 
-/// Two devices.
-const TWO: [NodeLine; 2] = [("load1", "auctioneer", LOAD), ("gen1", "auctioneer", LOAD)];
-
-/// A limited concentrator over two devices, and one under the auctioneer.
-const LIMITED: [NodeLine; 4] = [
-    (
-        "c1",
-        "auctioneer",
-        Role::Limited {
-            floor: 0,
-            ceiling: 150,
-        },
-    ),
-    ("a", "c1", LOAD),
-    ("b", "c1", LOAD),
-    ("gen", "auctioneer", LOAD),
-];
-
-/// A device under a concentrator.
+/// A load under a concentrator.
 const CHAIN: [NodeLine; 2] = [
     ("c1", "auctioneer", Role::Concentrator),
-    ("load1", "c1", LOAD),
-];
-
-/// The moves of the only journal of a load that joins under a concentrator.
-const ONLY: [Move; 8] = [
-    Move::Change {
-        device: 2,
-        number: 1,
-    },
-    Move::Learn {
-        child: 2,
-        number: 1,
-    },
-    Move::Publish { node: 1, number: 1 },
-    Move::Learn {
-        child: 1,
-        number: 1,
-    },
-    Move::Clear { index: 1 },
-    Move::Pass { node: 1, index: 1 },
-    Move::Pass { node: 2, index: 1 },
-    Move::Close { phase: 1 },
+    ("load1", "c1", Role::Load),
 ];
 
 /// What a plan takes of a node.
 fn spec_of(role: Role) -> NodeSpec {
     match role {
         Role::Concentrator => NodeSpec::Concentrator,
-        Role::Limited { floor, ceiling } => NodeSpec::Limited { floor, ceiling },
-        Role::Load { power } => NodeSpec::Device {
+        Role::Load => NodeSpec::Device {
             kind: Kind::Load,
-            start: StateSpec::Number(power),
+            start: StateSpec::Number(100),
         },
     }
 }
@@ -115,8 +74,19 @@ fn parts_of(
     Ok((entries, nodes))
 }
 
+/// One phase in which the load joins.
+fn joined(alloc: Global) -> Result<Vec<PhaseSpec>, AllocError> {
+    let mut events = Vec::new(alloc);
+    events.push(EventSpec::Join {
+        device: String::from_str(alloc, "load1")?,
+    })?;
+    let mut phases = Vec::new(alloc);
+    phases.push(PhaseSpec::Events(events))?;
+    Ok(phases)
+}
+
 /// The plan of the nodes and the phases.
-fn plan_of(
+fn make_plan(
     alloc: Global,
     basis: Basis,
     lines: &[NodeLine],
@@ -127,51 +97,30 @@ fn plan_of(
     Ok(Plan::new(alloc, basis, tree, nodes, phases)?)
 }
 
-/// One phase in which the devices of these names join.
-fn joined(alloc: Global, names: &[&'static str]) -> Result<Vec<PhaseSpec>, AllocError> {
-    let mut events = Vec::new(alloc);
-    for name in names {
-        events.push(EventSpec::Join {
-            device: String::from_str(alloc, name)?,
-        })?;
-    }
-    let mut phases = Vec::new(alloc);
-    phases.push(PhaseSpec::Events(events))?;
-    Ok(phases)
+/// The plan of the nodes over the prices 0 to 9, with one phase in which the load joins.
+fn plan_of(alloc: Global, lines: &[NodeLine]) -> Result<Plan, Fail> {
+    make_plan(alloc, Basis::new(0, 9, 10)?, lines, joined(alloc)?)
 }
 
-/// One end of these lines.
-fn end_of(
-    alloc: Global,
-    step: u32,
-    price: i64,
-    total: i64,
-    members: &[MemberLine],
-    limited: &[LimitedLine],
-) -> Result<Vec<PhaseEnd>, AllocError> {
-    let end = PhaseEnd::new(
-        step,
-        price,
-        total,
-        members.to_vec(alloc)?,
-        limited.to_vec(alloc)?,
-    );
+/// The end of that phase: the total never balances.
+fn end_of(alloc: Global, device: u32) -> Result<Vec<PhaseEnd>, AllocError> {
+    let mut members = Vec::new(alloc);
+    members.push(MemberLine {
+        node: device,
+        power: 100,
+        number: 1,
+    })?;
     let mut ends = Vec::new(alloc);
-    ends.push(end)?;
+    ends.push(PhaseEnd::new(9, 9, 100, members, Vec::new(alloc)))?;
     Ok(ends)
 }
 
-/// The lines of moves, where a device holds this after each pass to it.
-fn lines_of(
-    alloc: Global,
-    moves: &[Move],
-    device: u32,
-    held: Option<(u32, u32)>,
-) -> Result<Vec<Line>, AllocError> {
+/// The lines of moves, where the device holds step 9 and number 1 after each pass to it.
+fn lines_of(alloc: Global, moves: &[Move], device: u32) -> Result<Vec<Line>, AllocError> {
     let mut lines = Vec::new(alloc);
     for what in moves {
         let held = match what {
-            Move::Pass { node, .. } if *node == device => held,
+            Move::Pass { node, .. } if *node == device => Some((9, 1)),
             _ => None,
         };
         lines.push(Line { what: *what, held })?;
@@ -264,190 +213,105 @@ fn trace(alloc: Global, plan: &Plan, ends: &[PhaseEnd], lines: &[Line]) -> Resul
     Ok(String::from_utf8(trace_text(alloc, plan, ends, &journal)?)?)
 }
 
-fn member(node: u32, power: i64) -> MemberLine {
-    MemberLine {
-        node,
-        power,
-        number: 1,
-    }
+/// The trace of the plan of these nodes by these moves, where the load holds step 9 and number 1 after each pass to it.
+fn trace_of(alloc: Global, nodes: &[NodeLine], moves: &[Move]) -> Result<String, Fail> {
+    let plan = plan_of(alloc, nodes)?;
+    let device = plan.tree().len();
+    let ends = end_of(alloc, device)?;
+    let lines = lines_of(alloc, moves, device)?;
+    trace(alloc, &plan, &ends, &lines)
 }
 
-/// Two manual bids, and a limited part on its ceiling's side.
+/// The only trace of a lone load.
 #[test]
-fn reports_have_their_lines(rt: HostRuntime) -> Result<(), Fail> {
-    let alloc = rt.alloc();
-    let basis = Basis::new(0, 9, 10)?;
-    let two = plan_of(alloc, basis, &TWO, joined(alloc, &["load1", "gen1"])?)?;
-    let ends = end_of(alloc, 4, 4, -50, &[member(1, 100), member(2, -150)], &[])?;
-    let text =
-        "phase 1 price 4 step 4 total -50 members 2\nmember load1 power 100 bid 1\nmember gen1 power -150 bid 1\n";
+fn a_lone_load_has_its_trace(rt: HostRuntime) -> Result<(), Fail> {
+    let moves = [
+        Move::Change {
+            device: 1,
+            number: 1,
+        },
+        Move::Learn {
+            child: 1,
+            number: 1,
+        },
+        Move::Clear { index: 1 },
+        Move::Pass { node: 1, index: 1 },
+        Move::Close { phase: 1 },
+    ];
     assert_eq!(rt;
-        report(alloc, &two, &ends)?.as_str(),
-        format!(in alloc; "{text}end phases 1 changes 2\n")?.as_str()
-    );
-    for end in &ends {
-        if is_end_of(&two, end) {
-            assert_eq!(rt;
-                phase_text(alloc, &two, 1, end)?.as_slice(),
-                text.as_bytes()
-            );
-        }
-    }
-    let part = plan_of(alloc, basis, &LIMITED, joined(alloc, &["a", "b", "gen"])?)?;
-    let below = LimitedLine {
-        node: 1,
-        step: 6,
-        total: 0,
-    };
-    let ends = end_of(
-        alloc,
-        0,
-        0,
-        0,
-        &[member(2, 0), member(3, 0), member(4, -150)],
-        &[below],
-    )?;
-    assert_eq!(rt;
-        report(alloc, &part, &ends)?.as_str(),
-        "phase 1 price 0 step 0 total 0 members 3\nmember a power 0 bid 1\nmember b power 0 bid 1\nmember gen power -150 bid 1\nlimited c1 price 6 step 6 total 0\nend phases 1 changes 3\n"
+        trace_of(rt.alloc(), &LONE, &moves)?.as_str(),
+        "phase 1 price 9 step 9 total 100 members 1\nmember load1 power 100 bid 1\nend phases 1 changes 1\nchange load1 1\nlearn auctioneer load1 1\nclear 1\npass load1 1 price 9 bid 1\nclose 1\nmoves 5\n"
     );
     Ok(())
 }
 
-/// The only trace of a load under a concentrator, and a pass after which the device holds nothing.
+/// The only trace of a load under a concentrator.
 #[test]
-fn traces_have_their_lines(rt: HostRuntime) -> Result<(), Fail> {
-    let alloc = rt.alloc();
-    let plan = plan_of(
-        alloc,
-        Basis::new(0, 9, 10)?,
-        &CHAIN,
-        joined(alloc, &["load1"])?,
-    )?;
-    let ends = end_of(alloc, 9, 9, 100, &[member(2, 100)], &[])?;
-    let report =
-        "phase 1 price 9 step 9 total 100 members 1\nmember load1 power 100 bid 1\nend phases 1 changes 1\n";
-    let rows: [(&[Move], Option<(u32, u32)>, &str); 2] = [
-        (
-            &ONLY,
-            Some((9, 1)),
-            "change load1 1\nlearn c1 load1 1\npublish c1 1\nlearn auctioneer c1 1\nclear 1\npass c1 1\npass load1 1 price 9 bid 1\nclose 1\nmoves 8\n",
-        ),
-        (
-            &[Move::Pass { node: 2, index: 3 }],
-            None,
-            "pass load1 3 none\nmoves 1\n",
-        ),
+fn a_load_under_a_concentrator_has_its_trace(rt: HostRuntime) -> Result<(), Fail> {
+    let moves = [
+        Move::Change {
+            device: 2,
+            number: 1,
+        },
+        Move::Learn {
+            child: 2,
+            number: 1,
+        },
+        Move::Publish { node: 1, number: 1 },
+        Move::Learn {
+            child: 1,
+            number: 1,
+        },
+        Move::Clear { index: 1 },
+        Move::Pass { node: 1, index: 1 },
+        Move::Pass { node: 2, index: 1 },
+        Move::Close { phase: 1 },
     ];
-    for (moves, held, text) in &rows {
-        let lines = lines_of(alloc, moves, 2, *held)?;
-        assert_eq!(rt;
-            trace(alloc, &plan, &ends, &lines)?.as_str(),
-            format!(in alloc; "{report}{text}")?.as_str()
-        );
-    }
+    assert_eq!(rt;
+        trace_of(rt.alloc(), &CHAIN, &moves)?.as_str(),
+        "phase 1 price 9 step 9 total 100 members 1\nmember load1 power 100 bid 1\nend phases 1 changes 1\nchange load1 1\nlearn c1 load1 1\npublish c1 1\nlearn auctioneer c1 1\nclear 1\npass c1 1\npass load1 1 price 9 bid 1\nclose 1\nmoves 8\n"
+    );
     Ok(())
 }
 
-/// The phases of the demo of size 1 and number 7: a load joins, and in each of ten rounds 15 minutes go by and it leaves
-/// or joins.
-fn rounds(alloc: Global) -> Result<Vec<PhaseSpec>, AllocError> {
-    let mut phases = joined(alloc, &["d1"])?;
-    for round in 0..10 {
-        phases.push(PhaseSpec::Tick { minutes: 15 })?;
-        let device = String::from_str(alloc, "d1")?;
-        let event = if round % 2 == 0 {
-            EventSpec::Leave { device }
-        } else {
-            EventSpec::Join { device }
-        };
-        let mut events = Vec::new(alloc);
-        events.push(event)?;
-        phases.push(PhaseSpec::Events(events))?;
+/// The text of a phase, where the end is the plan's.
+fn phase(alloc: Global, plan: &Plan, end: &PhaseEnd) -> Result<String, Fail> {
+    if !is_end_of(plan, end) {
+        return Ok(String::new(alloc));
     }
-    Ok(phases)
+    Ok(String::from_utf8(phase_text(alloc, plan, 1, end)?)?)
 }
 
-/// Of 21 ends 11 have the price 99 and the total 2000, the last among them, and ten have neither.
+/// The text of a phase, the report and the summary of a lone load.
 #[test]
-fn a_demo_has_its_summary(rt: HostRuntime) -> Result<(), Fail> {
+fn a_lone_load_has_its_texts(rt: HostRuntime) -> Result<(), Fail> {
     let alloc = rt.alloc();
-    let nodes: [NodeLine; 2] = [
-        ("c1", "auctioneer", Role::Concentrator),
-        ("d1", "c1", Role::Load { power: 2000 }),
-    ];
-    let plan = plan_of(alloc, Basis::new(0, 99, 100)?, &nodes, rounds(alloc)?)?;
-    let mut ends = Vec::new(alloc);
-    for phase in 0..21 {
-        let end = if phase / 2 % 2 == 0 {
-            PhaseEnd::new(
-                99,
-                99,
-                2000,
-                [member(2, 2000)].to_vec(alloc)?,
-                Vec::new(alloc),
-            )
-        } else {
-            PhaseEnd::new(0, 0, 0, Vec::new(alloc), Vec::new(alloc))
-        };
-        ends.push(end)?;
-    }
-    if ends.len() == 21 {
+    let plan = plan_of(alloc, &LONE)?;
+    let ends = end_of(alloc, 1)?;
+    assert_eq!(rt;
+        report(alloc, &plan, &ends)?.as_str(),
+        "phase 1 price 9 step 9 total 100 members 1\nmember load1 power 100 bid 1\nend phases 1 changes 1\n"
+    );
+    if ends.len() == 1 {
         assert_eq!(rt;
-            String::from_utf8(summary_text(alloc, 1, 7, &plan, &ends)?)?.as_str(),
-            "demo size 1 number 7 nodes 2 phases 21 changes 11\nprices 1089 totals 22000\nlast price 99 total 2000 members 1\n"
+            phase(alloc, &plan, &ends[0])?.as_str(),
+            "phase 1 price 9 step 9 total 100 members 1\nmember load1 power 100 bid 1\n"
+        );
+        assert_eq!(rt;
+            summary_text(alloc, 1, 7, &plan, &ends)?.as_slice(),
+            "demo size 1 number 7 nodes 1 phases 1 changes 1\nprices 9 totals 100\nlast price 9 total 100 members 1\n".as_bytes()
         );
     }
+    assert_eq!(rt; ends.len(), 1);
     Ok(())
 }
 
-/// A refusal of each place, with and without an item.
 #[test]
-fn refusals_have_their_lines(rt: HostRuntime) -> Result<(), Fail> {
-    let alloc = rt.alloc();
-    let rows = [
-        (Refusal::at(1, Place::Document), "refused 1 document\n"),
-        (Refusal::at(6, Place::Basis), "refused 6 basis\n"),
-        (
-            Refusal::at(10, Place::Node { number: 7 }),
-            "refused 10 node 7\n",
-        ),
-        (
-            Refusal::of_item(17, Place::Node { number: 1 }, 2),
-            "refused 17 node 1 item 2\n",
-        ),
-        (
-            Refusal::at(13, Place::Phase { number: 2 }),
-            "refused 13 phase 2\n",
-        ),
-        (
-            Refusal::at(
-                15,
-                Place::Event {
-                    phase: 1,
-                    number: 2,
-                },
-            ),
-            "refused 15 event 1 2\n",
-        ),
-        (
-            Refusal::of_item(
-                18,
-                Place::Event {
-                    phase: 3,
-                    number: 4,
-                },
-                0,
-            ),
-            "refused 18 event 3 4 item 0\n",
-        ),
-        (
-            Refusal::at(25, Place::Line { number: 2 }),
-            "refused 25 line 2\n",
-        ),
-    ];
-    for (refusal, line) in &rows {
-        assert_eq!(rt; refusal_line(alloc, refusal)?.as_slice(), line.as_bytes());
-    }
+fn a_refusal_has_its_line(rt: HostRuntime) -> Result<(), Fail> {
+    let refusal = Refusal::of_item(17, Place::Node { number: 1 }, 2);
+    assert_eq!(rt;
+        refusal_line(rt.alloc(), &refusal)?.as_slice(),
+        "refused 17 node 1 item 2\n".as_bytes()
+    );
     Ok(())
 }

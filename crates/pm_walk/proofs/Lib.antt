@@ -5,4 +5,3 @@ pub mod Standings
 pub mod GroupTotals
 pub mod EndLines
 pub mod Phases
-pub mod TestPlans

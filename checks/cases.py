@@ -1,0 +1,216 @@
+#!/usr/bin/env python3
+"""Runs each of the named programs on the cases, and compares what it writes and its exit status.
+
+A case is a list of words, a standard input, the text due and the status due. checks/README.md says how the files of
+checks/cases make one. Here stand the cases whose input is large, or that have no file at all.
+"""
+
+import os
+import subprocess
+import sys
+from dataclasses import dataclass
+from pathlib import Path
+
+TOP = Path(__file__).resolve().parent.parent
+CASES = TOP / "checks" / "cases"
+LIMIT = 4_194_304
+
+DONE, USAGE, READ_FAULT, TOO_LONG, REFUSED, WRITE_FAULT = 0, 2, 3, 4, 5, 6
+
+
+@dataclass
+class Case:
+    name: str
+    words: list
+    # Bytes, a file's path, a folder's path (each read of it fails), or None: closed.
+    stdin: object
+    # The text due; a function that tells whether a text is right; or None where standard output takes nothing.
+    stdout: object
+    status: int
+    # "pipe", "full" or "closed".
+    sink: str = "pipe"
+
+
+def ended(program, case):
+    """The exit status, and what was written."""
+    closed = [0] * (case.stdin is None) + [1] * (case.sink == "closed")
+    settings = {"stderr": subprocess.DEVNULL, "preexec_fn": lambda: [os.close(it) for it in closed], "timeout": 120}
+    # A folder as standard input cannot be read, so the status tells whether it was tried.
+    opened = []
+    try:
+        if isinstance(case.stdin, bytes):
+            settings["input"] = case.stdin
+        elif case.stdin is not None:
+            opened.append(os.open(case.stdin, os.O_RDONLY))
+            settings["stdin"] = opened[0]
+        if case.sink == "pipe":
+            settings["stdout"] = subprocess.PIPE
+        elif case.sink == "full":
+            opened.append(os.open("/dev/full", os.O_WRONLY))
+            settings["stdout"] = opened[-1]
+        done = subprocess.run([program, *case.words], **settings)
+        return done.returncode, done.stdout or b""
+    finally:
+        for it in opened:
+            os.close(it)
+
+
+def why_failed(program, case):
+    """What is wrong with the program's answer, or None."""
+    try:
+        status, text = ended(program, case)
+    except subprocess.TimeoutExpired:
+        return "had not ended after 120 seconds"
+    if status != case.status:
+        return f"status {status}, and not {case.status}; it wrote {text[:120]!r}"
+    if callable(case.stdout):
+        return None if case.stdout(text) else f"wrote {text[:120]!r}"
+    if case.stdout is not None and text != case.stdout:
+        at = next((i for i, (a, b) in enumerate(zip(text, case.stdout)) if a != b), min(len(text), len(case.stdout)))
+        return f"line {case.stdout[:at].count(10) + 1} differs: wrote {text[max(0, at - 60) : at + 60]!r}"
+    return None
+
+
+def stored_cases():
+    """The cases of checks/cases, one a name in a folder."""
+    for folder in sorted(it for it in CASES.iterdir() if it.is_dir()):
+        for name in sorted({it.stem for it in folder.iterdir() if it.suffix}):
+            yield stored_case(folder, name)
+
+
+def stored_case(folder, name):
+    def text_of(what, default):
+        """The text of the case's own file, else that of the folder's."""
+        for path in (folder / f"{name}.{what}", folder / what):
+            if path.is_file():
+                return path.read_bytes()
+        return default
+
+    if (folder / f"{name}.json").is_file():
+        stdin = folder / f"{name}.json"
+    elif (folder / f"{name}.input").is_file():
+        stdin = TOP / (folder / f"{name}.input").read_text().strip()
+    else:
+        stdin = folder
+    words = text_of("args", b"run\n").decode().splitlines()
+    return Case(f"{folder.name}/{name}", words, stdin, text_of("stdout", b""), int(text_of("status", b"0")))
+
+
+def file_of(name):
+    """The file of a case, and the text due."""
+    return ((CASES / "run" / f"{name}.{it}").read_text() for it in ("json", "stdout"))
+
+
+def changed(file, old, new):
+    assert old in file, old
+    return file.replace(old, new, 1)
+
+
+def run_of(name, file, text, status=DONE):
+    return Case(name, ["run"], file.encode(), text.encode(), status)
+
+
+def refused(name, file, line):
+    return run_of(name, file, f"refused {line}\n", REFUSED)
+
+
+def cut_files():
+    """A file cut to each shorter length, and with a first byte that begins no character: it has no reading at all."""
+    file = next(file_of("two_bids")).strip()
+    for length in range(len(file)):
+        yield refused(f"two_bids cut to {length} bytes", file[:length], "1 document")
+    wrong = b"\xff" + file.encode()[1:]
+    yield Case("two_bids with a first byte 255", ["run"], wrong, b"refused 1 document\n", REFUSED)
+
+
+def large_files():
+    """Both sides of the limits on nodes, events, changes, phases and bytes."""
+    file, text = file_of("lone_load")
+    load = '{"name":"load1","kind":"load","parent":"auctioneer","start":100}'
+    loads = [load.replace("load1", f"load{number}") for number in range(1, 258)]
+    yield run_of("256 nodes", changed(file, load, ",".join(loads[:256])), text)
+    yield refused("257 nodes", changed(file, load, ",".join(loads)), "11 document")
+
+    join = '{"join":"load1"}'
+    turn = f'{join},{{"leave":"load1"}}'
+    nobody = "phase {} price 0 step 0 total 0 members 0\n"
+    events = ",".join([turn] * 2_048)
+    yield run_of("4,096 events", changed(file, join, events), f"{nobody.format(1)}end phases 1 changes 4096\n")
+    yield refused("4,097 events", changed(file, join, f"{events},{join}"), "20 phase 1")
+
+    phase = f'{{"events":[{join}]}}'
+    five = ",".join(['{"events":[' + ",".join([turn] * 2_000) + "]}"] * 5)
+    ends = "".join(nobody.format(number) for number in range(1, 6))
+    yield run_of("20,000 changes", changed(file, phase, five), f"{ends}end phases 5 changes 20000\n")
+    yield refused("20,001 changes", changed(file, phase, f"{five},{phase}"), "20 phase 6")
+
+    empty = '{"events":[]}'
+    ends = "".join(nobody.format(number) for number in range(1, 1_001))
+    yield run_of("1,000 phases", changed(file, phase, ",".join([empty] * 1_000)), f"{ends}end phases 1000 changes 0\n")
+    yield refused("1,001 phases", changed(file, phase, ",".join([empty] * 1_001)), "20 document")
+
+    file, text = file_of("two_bids")
+    yield run_of("4,194,304 bytes", file.ljust(LIMIT), text)
+    yield run_of("4,194,305 bytes", file.ljust(LIMIT + 1), f"too long, more than {LIMIT} bytes\n", TOO_LONG)
+
+
+def first_phases():
+    """The village over its first two phases alone."""
+    file = (TOP / "examples" / "village.json").read_text()
+    text = (CASES / "run" / "example_village.stdout").read_text()
+    yield run_of(
+        "the village's first two phases",
+        file[: file.index(',\n{"events":[{"state":')] + "]}",
+        text[: text.index("phase 3 ")] + "end phases 2 changes 11\n",
+    )
+
+
+def demos(program):
+    """The largest demo is the same each time."""
+    front = b"demo size 200 number 7 nodes 210 phases 21 changes "
+    first = ended(program, Case("", ["demo", "200", "7"], CASES, None, DONE))[1]
+    yield Case("demo 200 7", ["demo", "200", "7"], CASES, lambda it: it.startswith(front) and it == first, DONE)
+
+
+def faults():
+    """Standard input that cannot be read, and standard output that takes nothing."""
+    file = next(file_of("two_bids")).encode()
+    yield Case("a closed standard input", ["run"], None, b"", READ_FAULT)
+    yield Case("a folder as standard input", ["run"], CASES, b"", READ_FAULT)
+    rows = [
+        ("run", ["run"], file),
+        ("a refusal", ["run"], file[:-2]),
+        ("a file too long", ["run"], file.ljust(LIMIT + 1)),
+        ("usage", ["run", "now"], CASES),
+        ("demo", ["demo", "1", "7"], CASES),
+    ]
+    for sink in ("full", "closed"):
+        for name, words, stdin in rows:
+            yield Case(f"{name}, standard output {sink}", words, stdin, None, WRITE_FAULT, sink)
+
+
+def cases(program):
+    yield from stored_cases()
+    yield from first_phases()
+    yield from cut_files()
+    yield from large_files()
+    yield from demos(program)
+    yield from faults()
+
+
+def main(programs):
+    passed, failed = 0, 0
+    for program in programs:
+        for case in cases(program):
+            why = why_failed(str(TOP / program), case)
+            if why is None:
+                passed += 1
+            else:
+                failed += 1
+                print(f"{program}: {case.name}: {why}")
+    print(f"{passed} passed, {failed} failed")
+    return 1 if failed else 0
+
+
+if __name__ == "__main__":
+    sys.exit(main(sys.argv[1:]))
