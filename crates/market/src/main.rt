@@ -1,6 +1,6 @@
 //! The program `market`: reads a cluster file from standard input and writes to standard output.
 //!
-//! It hands the words of the command line, standard input and standard output to the top call, and
+//! It hands the arguments of the command line, standard input and standard output to the top call, and
 //! ends with the code of its status. It prints nothing itself.
 #![tactic(auto)]
 
@@ -11,11 +11,11 @@ use std::env;
 use std::io::ErrorKind;
 use std::process::ExitCode;
 
-/// The exit code where the system refuses the words of the command line.
+/// The exit code where the system refuses the arguments of the command line.
 const NO_WORDS: u8 = 8;
 
-/// The words after the program's name, or the exit code where they cannot be had: want of memory,
-/// or a word that the system does not give as text.
+/// The arguments after the program's name, or the exit code where they cannot be had: an allocation failure,
+/// or an argument that the system does not give as text.
 fn words_of(rt: &HostRuntime) -> Result<Vec<String>, u8> {
     let words = match env::args(rt) {
         Ok(words) => words,

@@ -6,7 +6,7 @@ pub enum ClearFault {
     /// Nothing was learnt since the last clearing, or since the opening where there is none.
     #[error("nothing was learnt since the last clearing")]
     NotChanged,
-    /// Memory ran out. It never comes: clearing takes no memory.
+    /// An allocation failed. It never comes: clearing takes no memory.
     #[error("no memory")]
     NoMemory,
 }

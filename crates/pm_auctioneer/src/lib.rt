@@ -5,8 +5,8 @@
 //! was learnt since the last clearing. Clearings are numbered from 1, and a price names for each
 //! child the number of the bid that it answers: that is this project's own profile.
 //!
-//! All memory of an auctioneer is taken when it is made. Where a later call has want of memory in
-//! its result, it is proved never to come.
+//! All memory of an auctioneer is taken when it is made. Where a later call has an
+//! allocation failure in its result, it is proved never to come.
 #![tactic(auto)]
 
 mod auctioneer;

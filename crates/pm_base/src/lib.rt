@@ -1,4 +1,4 @@
-//! What several crates of the market share: the limits of its profile, and the words of their contracts.
+//! What several crates of the market share: the limits of its profile, and the definitions that their contracts share.
 //!
 //! The numbers are this project's own profile; that a part of the cluster may have its power bounded is peak shaving.
 //! `specs/` has the same limits as definitions (`Limits`), the cut that gives each device a number of its changes

@@ -9,7 +9,7 @@ pub enum PublishFault {
     /// Eight numbers, `unanswered`, lie above the one answered last.
     #[error("{unanswered} numbers are unanswered")]
     WindowFull { unanswered: u32 },
-    /// Memory ran out. It never comes: publishing takes no memory.
+    /// An allocation failed. It never comes: publishing takes no memory.
     #[error("no memory")]
     NoMemory,
 }

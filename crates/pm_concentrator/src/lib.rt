@@ -11,8 +11,8 @@
 //! shaving: it announces its children's sum within a floor and a ceiling, and passes down a local
 //! step, at which the sum of the record that the price answers lies within them.
 //!
-//! All memory of a concentrator is taken when it is made. Where a later call has want of memory in
-//! its result, it is proved never to come.
+//! All memory of a concentrator is taken when it is made. Where a later call has an
+//! allocation failure in its result, it is proved never to come.
 #![tactic(auto)]
 
 mod concentrator;

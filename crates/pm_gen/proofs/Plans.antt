@@ -163,7 +163,7 @@ pub read_is_made : (size seed : ℕ) (basis : BasisValue) (entries : List Entry)
 unfolding made_from
 read_is_made size seed basis entries nodes phases basis_is entries_are nodes_are phases_are = (λ i. checked_plan (basis_is i) (entries_are i) (nodes_are i) (phases_are i))
 
--- only want of memory keeps the plan from being made
+-- only an allocation failure keeps the plan from being made
 pub plan_fault_is_memory : (size seed : ℕ) (fault : PlanFault) (read : Result PlanData Refusal) → 0 < size → size ≤ 200 → read ≡ made_from size seed → Refuses (refusal_in fault) read → fault ≡ faults.NoMemory
 plan_fault_is_memory size seed faults.NoMemory read some few same fails = refl
 plan_fault_is_memory size seed (faults.Refused refusal) read some few same fails =

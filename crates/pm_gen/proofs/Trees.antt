@@ -157,7 +157,7 @@ device_named-demo size i low high few =
 
 -- ---- what the tree's check answers
 
--- only want of memory keeps the tree from being made
+-- only an allocation failure keeps the tree from being made
 pub fault_is_memory : (size : ℕ) (entries : List Entry) (result : Result (List Entry) TreeFault) (fault : TreeFault) → 0 < size → size ≤ 200 → entries ≡ demo_entries size
     → (result ≡ checked_tree entries) ⊎ (result ≡ Err NoMemory) → result ≡ Err fault → fault ≡ NoMemory
 fault_is_memory size entries result fault some few same (inl checked) failed =

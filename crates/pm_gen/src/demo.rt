@@ -17,7 +17,7 @@ const MAX_SIZE: u32 = 200;
 
 /// The plan of the demo cluster of so many devices, 1 to 200, whose draws a number starts; numbers count modulo 65536.
 ///
-/// Any other size is refused, and no size is refused for another cause than want of memory.
+/// Any other size is refused, and a size within them is refused by an allocation failure alone.
 pub fn make_plan(alloc: Global, size: u32, number: u32) -> Result<Plan, GenFault>
     ensures plan { IfOk result (λ plan. made size number ≡ Ok plan) }
     ensures phases { IfOk result (λ plan. phases plan ≡ 21) }
@@ -56,7 +56,7 @@ fn make_sized(alloc: Global, size: u32, first: Draws) -> Result<Plan, GenFault>
     }
 }
 
-/// The only fault that the parts of a demo cluster can have: that memory ran out.
+/// The only fault that the parts of a demo cluster can have: that an allocation failed.
 fn want_of_memory(fault: PlanFault) -> GenFault
     requires { fault ≡ PlanFault.NoMemory }
     ensures { result ≡ GenFault.NoMemory }

@@ -10,7 +10,7 @@ pub enum GenFault {
     /// The number of devices is not in 1..=200.
     #[error("the size is not in 1..=200")]
     BadSize,
-    /// Memory ran out.
+    /// An allocation failed.
     #[error("out of memory")]
     NoMemory,
 }

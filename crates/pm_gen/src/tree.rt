@@ -99,7 +99,7 @@ pub(crate) fn make_tree(alloc: Global, size: u32) -> Result<Tree, GenFault>
     }
 }
 
-/// The only fault that the entries of a demo cluster can have: that memory ran out.
+/// The only fault that the entries of a demo cluster can have: that an allocation failed.
 fn want_of_memory(fault: TreeFault) -> GenFault
     requires { fault ≡ TreeFault.NoMemory }
     ensures { result ≡ GenFault.NoMemory }

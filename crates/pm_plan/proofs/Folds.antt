@@ -23,7 +23,7 @@ made_more f view s xs i n x t u within number read before here =
     fold_from_more 1 (λ m v y. f m v (view y)) s xs i x t u within before
     (ap (λ m. f m t (view (get_or xs i x))) (omega arith) ∙ ap (λ y. f n t (view y)) (sym read) ∙ here)
 
--- an element was refused, or memory ran out
+-- an element was refused, or an allocation failed
 pub makes_refused : {S A B : Type 0} (f : ℕ → S → B → Result S Refusal) (view : A → B) (s : S) (xs : List A) (i n : ℕ) (x : A) (t new : S) (r : Result ⊤ PlanFault) (e : PlanFault) → i < length xs → n ≡ i + 1 → x ≡ get_or xs i x →
     made_of f view s xs i ≡ Ok t → Refuses (refusal_in e) (f n t (view x)) → IsErrAnd r (λ y. y ≡ e) → Makes r new (fold_from 1 f s (map view xs))
 makes_refused f view s xs i n x t new r e within number read before here is =

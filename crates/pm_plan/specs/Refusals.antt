@@ -25,12 +25,12 @@ abbrev pub check : Cause → Place → Bool → Result ⊤ Refusal
 check cause place true = Ok tt
 check cause place false = refuse cause place
 
--- the refusal of a fault; none where memory ran out
+-- the refusal of a fault; none where an allocation failed
 abbrev pub refusal_in : PlanFault → Option Refusal
 refusal_in faults.NoMemory = None
 refusal_in (faults.Refused refusal) = Some refusal
 
--- what a function made of a state is what the reading gives, unless memory ran out
+-- what a function made of a state is what the reading gives, unless an allocation failed
 abbrev pub Makes : {Y : Type 0} → Result ⊤ PlanFault → Y → Result Y Refusal → Type 0
 Makes (Ok x) new read = read ≡ Ok new
 Makes (Err e) new read = Refuses (refusal_in e) read

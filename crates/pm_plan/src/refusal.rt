@@ -138,7 +138,7 @@ pub enum PlanFault {
     /// The parts are refused.
     #[error("refused")]
     Refused(Refusal),
-    /// Memory ran out.
+    /// An allocation failed.
     #[error("out of memory")]
     NoMemory,
 }

@@ -20,7 +20,7 @@ entries_in nodes = map entry_in nodes
 abbrev pub parts_in : List NamedPart → List NodePart
 parts_in nodes = map (λ node. node.part) nodes
 
--- want of memory is no refusal of a tree: `checked_tree` never gives it
+-- an allocation failure is no refusal of a tree: `checked_tree` never gives it
 abbrev pub tree_or_refuse : Result (List Entry) TreeFault → Result (List Entry) Refusal
 tree_or_refuse (Ok tree) = Ok tree
 tree_or_refuse (Err (TooMany have)) = refuse cause.TooManyNodes Document

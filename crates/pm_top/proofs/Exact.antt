@@ -1,5 +1,5 @@
 -- A refusal's line stands in the sink only where the answer is that refusal.
-use Rattle.std.proofs.Common.{◌≡◌, ◌⊎◌, ℕ, ◌-◌, ◌<◌, ◌≤◌, List, [], ◌∷◌, ◌++◌, length, take, Option, Some, IfSome, Err, sym, ap, ◌∙◌, subst, arith, length-append, append-nil, inl, inr}
+use Rattle.std.proofs.Common.{◌≡◌, ◌⊎◌, ℕ, ◌-◌, ◌<◌, ◌≤◌, List, [], ◌∷◌, ◌++◌, length, take, Option, Some, IfSome, Ok, Err, sym, ap, ◌∙◌, subst, arith, length-append, append-nil, inl, inr}
 use Rattle.std.specs.Prelude.{codes, decimal}
 use Rattle.std.proofs.lemmas.List.{length-take}
 use Rattle.std.proofs.lemmas.Bool.{le-ltb}
@@ -7,7 +7,7 @@ use Rattle.pm_plan.specs.declared.refusal.Refusal.{Refusal}
 use Rattle.pm_scene.specs.Scene.{scene}
 use Rattle.pm_report.specs.Words.{line_of}
 use Rattle.pm_report.specs.Refusal.{refusal_line, place_text, item_words}
-use Rattle.pm_top.specs.Top.{text_of, input_limit, status_for, WroteFront, IsDue}
+use Rattle.pm_top.specs.Top.{input_limit, status_for, WrotePrefix, IsDue, usage, too_long, refused, report, summary}
 use Rattle.pm_top.specs.declared.words.Command.TheVariants.{Run}
 use Rattle.pm_top.specs.declared.status.Status.{Status}
 use Rattle.pm_top.specs.declared.status.Status.TheVariants.{Refused, ReadFault, WriteFault, NoMemory}
@@ -18,12 +18,23 @@ not_empty r = omega (arith, length-append (codes "refused") (32 ∷ line_of (dec
 not_grown : (before line : List ℕ) → 0 < length line → before ≡ before ++ line → ⊥
 not_grown before line some e = omega (arith, ap length e, length-append before line)
 
-not_front : (before line : List ℕ) → WroteFront (Some before) (Some (before ++ line)) line → ⊥
-not_front before line h = omega (arith, h.1, ap length h.2, length-append before line, length-append before (take h.0 line), length-take h.0 line)
+not_prefix : (before line : List ℕ) → WrotePrefix (Some before) (Some (before ++ line)) line → ⊥
+not_prefix before line h = omega (arith, h.1, ap length h.2, length-append before line, length-append before (take h.0 line), length-take h.0 line)
 
-due_is : (input text : List ℕ) (r : Refusal) → length input ≤ input_limit → scene input ≡ Err r → IsDue (Some Run) (Some input) (Some []) text → text ≡ refusal_line r
-due_is input text r short read (inl h) = absurd (omega (arith, h.1, length-take (length input - 0) input))
-due_is input text r short read (inr h) = h.2 ∙ ap (λ y. text_of (scene y)) (sym (h.1.0 ∙ append-nil h.0)) ∙ ap text_of read
+-- of a file that is read whole and has this refusal no other text is due
+due_is : (input text : List ℕ) (status : Status) (r : Refusal) → length input ≤ input_limit → scene input ≡ Err r → IsDue (Some Run) (Some input) (Some []) status text → text ≡ refusal_line r
+due_is input text status r short read (usage is) = absurd (cc)
+due_is input text status r short read (too_long is) = absurd (omega (arith, is.took, length-take (length input - 0) input))
+due_is input text status r short read (refused refusal is) =
+    let same : is.input ≡ input = sym (is.read.0 ∙ append-nil is.input) in
+    let both : Err refusal ≡ Err r = sym is.refused ∙ ap scene same ∙ read in
+    let one : refusal ≡ r = cc in
+    ap refusal_line one
+due_is input text status r short read (report plan is) =
+    let same : is.input ≡ input = sym (is.read.0 ∙ append-nil is.input) in
+    let both : Ok plan ≡ Err r = sym is.planned ∙ ap scene same ∙ read in
+    absurd (cc)
+due_is input text status r short read (summary size number written asks is) = absurd (cc)
 
 kept : {K : Type 0} (held : K → Option (List ℕ)) (old new : K) (before : List ℕ) (r : Refusal) → held old ≡ Some before → held new ≡ Some (before ++ refusal_line r) → new ≡ old → ⊥
 kept held old new before r had has same =
@@ -38,16 +49,17 @@ pub exact_refused : {K : Type 0} (held : K → Option (List ℕ)) (old new : K) 
     → length input ≤ input_limit → scene input ≡ Err r → held old ≡ Some before → held new ≡ Some (before ++ refusal_line r)
     → (status ≡ status_for input) ⊎ (status ≡ ReadFault) ⊎ (status ≡ WriteFault) ⊎ (status ≡ NoMemory)
     → (status ≡ ReadFault → new ≡ old) → (status ≡ NoMemory → new ≡ old)
-    → (status ≡ WriteFault → (text : List ℕ) × IsDue (Some Run) (Some input) (Some []) text × WroteFront (held old) (held new) text)
+    → (status ≡ WriteFault → (due : Status) × ((text : List ℕ) × IsDue (Some Run) (Some input) (Some []) due text × WrotePrefix (held old) (held new) text))
     → status ≡ Refused
 exact_refused held old new status input before r short read had has (inl e) at_read at_memory at_write = e ∙ due_status input r short read
 exact_refused held old new status input before r short read had has (inr (inl e)) at_read at_memory at_write = absurd (kept held old new before r had has (at_read e))
 exact_refused held old new status input before r short read had has (inr (inr (inl e))) at_read at_memory at_write =
-    let w = at_write e in
-    let line : w.0 ≡ refusal_line r = due_is input w.0 r short read w.1 in
-    let front = subst (λ (b : Option (List ℕ)). WroteFront b (held new) w.0) had w.2 in
-    let ends = subst (λ (b : Option (List ℕ)). WroteFront (Some before) b w.0) has front in
-    absurd (not_front before (refusal_line r) (subst (λ (t : List ℕ). WroteFront (Some before) (Some (before ++ refusal_line r)) t) line ends))
+    let d = at_write e in
+    let w = d.1 in
+    let line : w.0 ≡ refusal_line r = due_is input w.0 d.0 r short read w.1 in
+    let prefix = subst (λ (b : Option (List ℕ)). WrotePrefix b (held new) w.0) had w.2 in
+    let ends = subst (λ (b : Option (List ℕ)). WrotePrefix (Some before) b w.0) has prefix in
+    absurd (not_prefix before (refusal_line r) (subst (λ (t : List ℕ). WrotePrefix (Some before) (Some (before ++ refusal_line r)) t) line ends))
 exact_refused held old new status input before r short read had has (inr (inr (inr e))) at_read at_memory at_write = absurd (kept held old new before r had has (at_memory e))
 
 abbrev pub Answers : Status → List ℕ → Type 0
@@ -57,11 +69,12 @@ pub exact_refused_at : {K : Type 0} (held : K → Option (List ℕ)) (old new : 
     → length input ≤ input_limit → scene input ≡ Err r → left_old ≡ Some input → left_new ≡ Some [] → held old ≡ Some before → held new ≡ Some (before ++ refusal_line r)
     → IfSome left_old (Answers status)
     → (status ≡ ReadFault → new ≡ old) → (status ≡ NoMemory → new ≡ old)
-    → (status ≡ WriteFault → (text : List ℕ) × IsDue (Some Run) left_old left_new text × WroteFront (held old) (held new) text)
+    → (status ≡ WriteFault → (due : Status) × ((text : List ℕ) × IsDue (Some Run) left_old left_new due text × WrotePrefix (held old) (held new) text))
     → status ≡ Refused
 exact_refused_at held old new left_old left_new status input before r short read was is had has answer at_read at_memory at_write =
     let told : Answers status input = subst (λ (o : Option (List ℕ)). IfSome o (Answers status)) was answer in
     exact_refused held old new status input before r short read had has told at_read at_memory
-    (λ e. let w = at_write e in
-    let due = subst (λ (o : Option (List ℕ)). IsDue (Some Run) o left_new w.0) was w.1 in
-    (w.0, subst (λ (o : Option (List ℕ)). IsDue (Some Run) (Some input) o w.0) is due, w.2))
+    (λ e. let d = at_write e in
+    let w = d.1 in
+    let told = subst (λ (o : Option (List ℕ)). IsDue (Some Run) o left_new d.0 w.0) was w.1 in
+    (d.0, (w.0, subst (λ (o : Option (List ℕ)). IsDue (Some Run) (Some input) o d.0 w.0) is told, w.2)))

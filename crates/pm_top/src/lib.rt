@@ -1,6 +1,6 @@
 //! The work of the program `market`, over any source of bytes and any sink.
 //!
-//! [`market`] takes the words of the command line, reads what the command asks for from the source, and appends the
+//! [`market`] takes the arguments of the command line, reads what the command asks for from the source, and appends the
 //! text due to the sink: a cluster file becomes a plan (`pm_scene`), the plan its phases' ends (`pm_walk`, the plain
 //! auction), and the ends lines of text (`pm_report`). Its contract says when each status comes and exactly which
 //! bytes are appended.

@@ -6,7 +6,7 @@ ghost use Rattle.pm_top.specs.Codes.{code_of};
 pub enum Status {
     /// The command was done, and its text stands in the sink.
     Done,
-    /// The words are no command, and the usage line stands in the sink.
+    /// The arguments are no command, and the usage line stands in the sink.
     Usage,
     /// The source failed.
     ReadFault,
@@ -16,7 +16,7 @@ pub enum Status {
     Refused,
     /// The sink failed; a part of the text due stands in it.
     WriteFault,
-    /// Memory was refused.
+    /// An allocation failed.
     NoMemory,
 }
 

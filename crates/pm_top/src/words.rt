@@ -12,7 +12,7 @@ pub(crate) enum Command {
     Demo { size: u32, number: u32 },
 }
 
-/// The command that the words are, where they are one.
+/// The command that the arguments are, where they are one.
 pub(crate) fn command_of(words: &[String]) -> Option<Command>
     ensures { result ≡ command (map string_bytes words.now) }
 {
@@ -23,7 +23,7 @@ pub(crate) fn command_of(words: &[String]) -> Option<Command>
     }
 }
 
-/// The demo of these two words, where they are numbers within its limits.
+/// The demo of these two arguments, where they are numbers within its limits.
 fn demo_of(size: &str, number: &str) -> Option<Command>
     ensures { result ≡ demo_of size.now number.now }
 {

@@ -23,7 +23,7 @@ pub enum TreeFault {
     /// A concentrator has 6 concentrators above it.
     #[error("node {at} is a concentrator below 6 concentrators")]
     TooDeep { at: u32 },
-    /// Memory ran out.
+    /// An allocation failed.
     #[error("out of memory")]
     NoMemory,
 }

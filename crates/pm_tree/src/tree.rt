@@ -47,7 +47,7 @@ impl Tree {
     /// A list of more than 256 entries is refused first. Then the first entry that fails a check is
     /// refused, by the first check that it fails: its name has the form of a name and is not
     /// `auctioneer`, no earlier entry has the name, its parent is `auctioneer` or an earlier
-    /// concentrator, and a concentrator has at most 5 concentrators above it. Want of memory may be
+    /// concentrator, and a concentrator has at most 5 concentrators above it. An allocation failure may be
     /// answered at any list.
     pub fn new(alloc: Global, entries: Vec<TreeEntry>) -> Result<Tree, TreeFault>
         ensures tree { (result ≡ checked_tree (entries_of entries.items)) ⊎ (result ≡ Err TreeFault.NoMemory) }

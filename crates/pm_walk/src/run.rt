@@ -74,7 +74,7 @@ impl Run {
 }
 
 /// The ends of all phases of a plan, from the first to the last, each by the plain auction over the changes of the
-/// phases up to it. The answer is an error only for want of memory.
+/// phases up to it. The answer is an error only where an allocation failed.
 pub fn all_ends(alloc: Global, plan: &Plan) -> Result<Vec<PhaseEnd>, AllocError>
     ensures { IfOk result (λ v. map (λ e. e.end) v.items ≡ all_ends plan.now) }
 {

@@ -41,7 +41,7 @@ impl Plan {
     ///   leaves or is set, and 17, 18 and 19 for its state as above;
     /// - 20 where all changes up to the phase's end are more than 20,000.
     ///
-    /// Want of memory may be answered at any parts.
+    /// An allocation failure may be answered at any parts.
     pub fn new(
         alloc: Global,
         basis: Basis,

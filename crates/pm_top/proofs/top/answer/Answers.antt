@@ -1,19 +1,58 @@
-use Rattle.std.proofs.Common.{◌≡◌, ◌∙◌, sym, ap, subst, Ok, Err}
+use Rattle.std.proofs.Common.{◌≡◌, ◌∙◌, subst, ℕ, List}
+use Rattle.std.specs.Io.KnownBytes.{Appends}
 use Rattle.pm_base.specs.Outcomes.{Refuses}
 use Rattle.pm_plan.specs.Refusals.{refusal_in}
+use Rattle.pm_report.specs.Refusal.{refusal_line}
 use Rattle.pm_plan.specs.declared.refusal.PlanFault.{PlanFault}
 use Rattle.pm_scene.specs.Scene.{scene}
-use Rattle.pm_top.specs.Top.{text_of, WroteFront}
+use Rattle.pm_top.specs.Top.{report_of, WrotePrefix, is_refused, is_planned}
+use Rattle.pm_top.specs.declared.status.Status.TheVariants.{Done, Refused}
 use Rattle.pm_top.proofs.top.answer.Goals as goal
+
+pub returns-in-Ok-write_all-clause-written : goal.returns-in-Ok-write_all-clause-written
+returns-in-Ok-write_all-clause-written g c =
+    let text = c.deref.ensures.value ∙ c.in-Ok-report_of.ensures in
+    λ _ _. (report_of c.in-Ok.plan, is_planned c.in-Ok.plan c.in-Ok.ensures.scene, subst (Appends _ _) text c.in-Ok-write_all.ensures.all)
 
 pub returns-in-Ok-report_of-clause-write_fault : goal.returns-in-Ok-report_of-clause-write_fault
 returns-in-Ok-report_of-clause-write_fault g c =
-    let read : scene c.args.bytes.now ≡ Ok c.in-Ok.plan = c.in-Ok.ensures.scene in
-    let due = c.deref.ensures.value ∙ c.in-Ok-report_of.ensures ∙ sym (ap text_of read) in
-    λ _. (c.in-Err-write_all.ensures.cause, subst (WroteFront _ _) due (c.in-Err-write_all.field-0.written, c.in-Err-write_all.ensures.proper, c.in-Err-write_all.ensures.front))
+    let text = c.deref.ensures.value ∙ c.in-Ok-report_of.ensures in
+    let fault = c.in-Err-write_all in
+    λ _. (
+      fault.ensures.cause,
+      (
+        Done,
+        (
+          report_of c.in-Ok.plan,
+          is_planned c.in-Ok.plan c.in-Ok.ensures.scene,
+          subst (WrotePrefix _ _) text (fault.field-0.written, fault.ensures.proper, fault.ensures.prefix),
+        ),
+      ),
+    )
+
+-- the refusal that the reader answered is that of the bytes
+refused_is : (bytes : List ℕ) (fault fault' : PlanFault) → fault ≡ fault' → Refuses (refusal_in fault) (scene bytes) → Refuses (refusal_in fault') (scene bytes)
+refused_is bytes fault fault' same fails = subst (λ (e : PlanFault). Refuses (refusal_in e) (scene bytes)) same fails
+
+pub returns-in-Ok-write_all-2-clause-written : goal.returns-in-Ok-write_all-2-clause-written
+returns-in-Ok-write_all-2-clause-written g c =
+    let read = refused_is c.args.bytes.now _ _ c.in-Err-Refused.field-0-is c.in-Err-Refused.ensures.scene in
+    let line = c.deref-in-Ok-refusal_line.ensures.value ∙ c.in-Ok-refusal_line.ensures in
+    λ _ _. (refusal_line c.in-Err-Refused.refusal, is_refused c.in-Err-Refused.refusal read, subst (Appends _ _) line c.in-Ok-write_all-2.ensures.all)
 
 pub returns-in-Ok-refusal_line-clause-write_fault : goal.returns-in-Ok-refusal_line-clause-write_fault
 returns-in-Ok-refusal_line-clause-write_fault g c =
-    let read : scene c.args.bytes.now ≡ Err c.in-Err-Refused.refusal = subst (λ (e : PlanFault). Refuses (refusal_in e) (scene c.args.bytes.now)) c.in-Err-Refused.field-0-is c.in-Err-Refused.ensures.scene in
-    let due = c.deref-in-Ok-refusal_line.ensures.value ∙ c.in-Ok-refusal_line.ensures ∙ sym (ap text_of read) in
-    λ _. (c.in-Err-write_all-2.ensures.cause, subst (WroteFront _ _) due (c.in-Err-write_all-2.field-0.written, c.in-Err-write_all-2.ensures.proper, c.in-Err-write_all-2.ensures.front))
+    let read = refused_is c.args.bytes.now _ _ c.in-Err-Refused.field-0-is c.in-Err-Refused.ensures.scene in
+    let line = c.deref-in-Ok-refusal_line.ensures.value ∙ c.in-Ok-refusal_line.ensures in
+    let fault = c.in-Err-write_all-2 in
+    λ _. (
+      fault.ensures.cause,
+      (
+        Refused,
+        (
+          refusal_line c.in-Err-Refused.refusal,
+          is_refused c.in-Err-Refused.refusal read,
+          subst (WrotePrefix _ _) line (fault.field-0.written, fault.ensures.proper, fault.ensures.prefix),
+        ),
+      ),
+    )
