@@ -1,5 +1,5 @@
 -- The nodes of the demo cluster are accepted.
-use Rattle.std.proofs.Common.{◌≡◌, ℕ, zero, suc, ◌+◌, ◌==◌, ℤ, pos, neg_ℤ, ◌+ℤ◌, ◌≤ℤ◌, Bool, true, false, ◌&&◌, if◌then◌else◌, IsTrue, List, [], ◌∷◌, ◌++◌, length, map, replicate, Ok, refl, sym, ap, ◌∙◌, arith, append_assoc, append-nil, length-append}
+use Rattle.std.proofs.Common.{◌≡◌, ℕ, zero, suc, ◌+◌, ◌==◌, ℤ, pos, neg_ℤ, ◌+ℤ◌, ◌≤ℤ◌, Bool, true, false, ◌&&◌, if◌then◌else◌, IsTrue, List, [], ◌∷◌, ◌++◌, length, map, get_or, replicate, Ok, refl, sym, ap, ◌∙◌, arith, append_assoc, append-nil, length-append}
 use Rattle.std.specs.Prelude.{⊤}
 use Rattle.std.specs.List.{AllByRecursion, range_with_len}
 use Rattle.std.proofs.lemmas.List.{length-replicate, map-append}
@@ -10,7 +10,9 @@ use Rattle.pm_device.specs.declared.kind.Kind.TheVariants.{Freezer, HeatPump, Co
 use Rattle.pm_device.proofs.Between.{is_between-holds}
 use Rattle.pm_plan.specs.Parts.{number, array, points, NodePart, concentrator, limited, device, is_device, AreNodesOf}
 use Rattle.pm_tree.specs.Entries.{Entry, leaves_of}
-use Rattle.pm_plan.specs.Plans.{PlanData, NodeData, no_node}
+use Rattle.pm_plan.specs.declared.node.Node.TheVariants.{Concentrator, Device}
+use Rattle.pm_plan.specs.Plans.{PlanData, NodeData}
+use Rattle.pm_plan.specs.Plans as plans
 use Rattle.pm_plan.specs.Building.{add_node, with_node, state_of, is_manual}
 use Rattle.pm_base.specs.Outcomes.{◌>>=◌, fold_from}
 use Rattle.pm_gen.specs.Draws.{next, drawn}
@@ -34,11 +36,25 @@ IsPlain (device kind (points pairs)) = ⊥
 
 -- what is planned for it
 abbrev pub planned_for : NodePart → NodeData
-planned_for concentrator = no_node
-planned_for (limited floor ceiling) = no_node
-planned_for (device kind (number start)) = record no_node { kind = kind; start = start }
-planned_for (device kind (array demands)) = no_node
-planned_for (device kind (points pairs)) = no_node
+planned_for concentrator = Concentrator
+planned_for (limited floor ceiling) = Concentrator
+planned_for (device kind (number start)) = Device (record { kind = kind; start = start; changes = [] })
+planned_for (device kind (array demands)) = Concentrator
+planned_for (device kind (points pairs)) = Concentrator
+
+-- a device is planned for a device
+device_planned : (part : NodePart) → IsPlain part → plans.is_device (planned_for part) ≡ is_device part
+device_planned concentrator plain = refl
+device_planned (limited floor ceiling) plain = absurd plain
+device_planned (device kind (number start)) plain = refl
+device_planned (device kind (array demands)) plain = absurd plain
+device_planned (device kind (points pairs)) plain = absurd plain
+
+pub devices_planned : (parts : List NodePart) → AllByRecursion IsPlain parts → (k : ℕ) →
+    plans.is_device (get_or (map planned_for parts) k Concentrator) ≡ get_or (map is_device parts) k false
+devices_planned [] plain k = refl
+devices_planned (part ∷ parts) plain zero = device_planned part plain.0
+devices_planned (part ∷ parts) plain (suc k) = devices_planned parts plain.1 k
 
 add_plain : (n : ℕ) (plan : PlanData) (part : NodePart) → IsPlain part → add_node n plan part ≡ Ok (with_node plan (planned_for part))
 unfolding add_node state_of

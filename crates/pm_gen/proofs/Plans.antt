@@ -1,5 +1,5 @@
 -- The parts of the demo cluster make a plan.
-use Rattle.std.proofs.Common.{◌≡◌, ℕ, zero, suc, ◌+◌, ◌*◌, ◌<◌, ◌≤◌, pos, true, nat_le, List, [], ◌∷◌, ◌++◌, length, map, get_or, None, Result, Ok, refl, sym, ap, ◌∙◌, arith}
+use Rattle.std.proofs.Common.{◌≡◌, ℕ, zero, suc, ◌+◌, ◌-◌, ◌*◌, ◌<◌, ◌≤◌, pos, true, false, nat_le, List, [], ◌∷◌, ◌++◌, length, map, get_or, None, Result, Ok, refl, sym, ap, ◌∙◌, arith}
 use Rattle.std.specs.Result.{IsOk, is_ok}
 use Rattle.std.specs.List.{range_with_len}
 use Rattle.std.proofs.lemmas.List.{length-map}
@@ -7,14 +7,17 @@ use Rattle.std.proofs.lemmas.List.FromFn.{length-range_with_len}
 use Rattle.std.proofs.lemmas.List.Sums.{sum_by-cons}
 use Rattle.std.proofs.lemmas.Bool.Decides.{nat_tests}
 use Rattle.pm_basis.specs.Prices.{BasisValue}
-use Rattle.pm_tree.specs.Entries.{Entry, leaves_of}
+use Rattle.pm_tree.specs.Entries.{Entry, leaves_of, is_leaf_at}
 use Rattle.pm_plan.specs.declared.refusal.Cause.TheVariants as cause
 use Rattle.pm_plan.specs.declared.refusal.PlanFault.{PlanFault}
 use Rattle.pm_plan.specs.declared.refusal.PlanFault.TheVariants as faults
 use Rattle.pm_plan.specs.declared.refusal.Place.TheVariants.{Document, Phase}
 use Rattle.pm_plan.specs.declared.refusal.Refusal.{Refusal}
 use Rattle.pm_plan.specs.Parts.{NodePart, concentrator, limited, device, number, array, points, PhasePart, events, tick, is_device, AreNodesOf}
-use Rattle.pm_plan.specs.Plans.{PlanData, NodeData, no_node, node_at, all_changes, is_member_after}
+use Rattle.pm_plan.specs.Devices.{is_member_after}
+use Rattle.pm_plan.specs.declared.node.Node.TheVariants.{Concentrator}
+use Rattle.pm_plan.specs.Plans.{PlanData, NodeData, node, node_at, changes_of, all_changes}
+use Rattle.pm_plan.specs.Plans as plans
 use Rattle.pm_base.specs.Limits.{most_phases, most_events, most_changes}
 use Rattle.pm_plan.specs.Building.{add_node, add_event, phase_of, add_phase, with_tick, with_phase, empty_plan, checked_plan}
 use Rattle.pm_plan.specs.Refusals.{check, refusal_in}
@@ -23,35 +26,47 @@ use Rattle.pm_gen.specs.Draws.{first_seed}
 use Rattle.pm_gen.specs.Nodes.{concentrators, demo_entries, demo_nodes}
 use Rattle.pm_gen.specs.Rounds.{after, is_joined, turns, round_len, round_picks, rounds, demo_phases}
 use Rattle.pm_gen.specs.Demo.{demo_basis, seed_after_devices, made_from, made}
-use Rattle.pm_gen.proofs.Parts.{planned_for, with_nodes, add_plain_nodes, demo_nodes-plain, length-demo_nodes, demo_nodes-of_entries}
+use Rattle.pm_gen.proofs.Parts.{planned_for, devices_planned, with_nodes, add_plain_nodes, demo_nodes-plain, length-demo_nodes, demo_nodes-of_entries}
+use Rattle.pm_gen.proofs.Trees.{is_leaf-demo}
 use Rattle.pm_gen.proofs.Drafts.{Stands, stands-ticked}
 use Rattle.pm_gen.proofs.Turns.{IsDraft, AreDevices, turns-accepted, length-turns, picks-are_devices, range-are_devices, length-picks, joins-are_turns}
 
 -- ---- the draft of the nodes alone
 
-planned_for-changes : (part : NodePart) → (planned_for part).changes ≡ []
+planned_for-changes : (part : NodePart) → changes_of (planned_for part) ≡ []
 planned_for-changes concentrator = refl
 planned_for-changes (limited floor ceiling) = refl
 planned_for-changes (device kind (number start)) = refl
 planned_for-changes (device kind (array demands)) = refl
 planned_for-changes (device kind (points pairs)) = refl
 
-nothing_at : (parts : List NodePart) (d : ℕ) → (get_or (map planned_for parts) d no_node).changes ≡ []
+nothing_at : (parts : List NodePart) (d : ℕ) → changes_of (get_or (map planned_for parts) d Concentrator) ≡ []
 nothing_at [] d = refl
 nothing_at (part ∷ parts) zero = planned_for-changes part
 nothing_at (part ∷ parts) (suc d) = nothing_at parts d
 
-nothing_planned : (parts : List NodePart) (d : ℕ) → (node_at (map planned_for parts) d).changes ≡ []
+nothing_planned : (parts : List NodePart) (d : ℕ) → changes_of (node_at (map planned_for parts) d) ≡ []
 nothing_planned parts zero = refl
 nothing_planned parts (suc d) = nothing_at parts d
 
 no_changes : (parts : List NodePart) → all_changes (map planned_for parts) ≡ 0
 no_changes [] = refl
 no_changes (part ∷ parts) =
-    sum_by-cons (λ (n : NodeData). length n.changes) (planned_for part) (map planned_for parts)
+    sum_by-cons (λ (n : NodeData). length (changes_of n)) (planned_for part) (map planned_for parts)
     ∙ (let first = ap length (planned_for-changes part) in
     let rest = no_changes parts in
     omega arith)
+
+-- the devices are those of the tree
+devices_of : (size seed i : ℕ) → 1 ≤ i → i ≤ size → plans.is_device (node_at (map planned_for (demo_nodes size seed)) (concentrators size + i)) ≡ true
+unfolding leaves_of
+devices_of size seed i low high =
+    let place : concentrators size + i ≡ suc (concentrators size + i - 1) = omega arith in
+    ap (λ d. plans.is_device (node_at (map planned_for (demo_nodes size seed)) d)) place
+    ∙ devices_planned (demo_nodes size seed) (demo_nodes-plain size seed) (concentrators size + i - 1)
+    ∙ ap (λ leaves. get_or leaves (concentrators size + i - 1) false) (demo_nodes-of_entries size seed)
+    ∙ ap (is_leaf_at (demo_entries size)) (sym place)
+    ∙ is_leaf-demo size i low high
 
 few_enough : (most n : ℕ) → n ≤ most → nat_le n most ≡ true
 few_enough most n low = grind (arith, nat_tests)
@@ -66,6 +81,7 @@ module _ (size : ℕ) (some : 1 ≤ size) (few : size ≤ 200) where
   stands-first seed = record {
     entries_are = refl;
     one_each = length-map (demo_nodes size seed) planned_for ∙ length-demo_nodes size seed;
+    devices = λ i low high. devices_of size seed i low high;
     joined = λ i low high. ap is_member_after (nothing_planned (demo_nodes size seed) (concentrators size + i));
     few = omega (arith, no_changes (demo_nodes size seed));
   }
@@ -80,7 +96,14 @@ module _ (size : ℕ) (some : 1 ≤ size) (few : size ≤ 200) where
       let fits = few_enough most_changes (all_changes (with_tick p (pos 15) plan).nodes) (omega (arith, ticked.few)) in (
         with_tick p (pos 15) plan,
         ap (λ b. check cause.RunTooLarge (Phase p) b >> Ok (with_tick p (pos 15) plan)) fits,
-        record { entries_are = ticked.entries_are; one_each = ticked.one_each; joined = ticked.joined; few = omega (arith, ticked.few) },
+        record {
+          entries_are = ticked.entries_are;
+          one_each = ticked.one_each;
+          devices = ticked.devices;
+          joined = ticked.joined;
+          few =
+              omega (arith, ticked.few);
+        },
       )
 
   events-accepted : (p most : ℕ) (earlier devices : List ℕ) (plan : PlanData) → Stands size earlier most plan → AreDevices size few devices → length devices ≤ 200 → most + length devices ≤ 20000
@@ -94,7 +117,7 @@ module _ (size : ℕ) (some : 1 ≤ size) (few : size ≤ 200) where
         ap (λ b. (check cause.RunTooLarge (Phase p) b >> (fold_from 1 (add_event p) plan (turns earlier devices) >>= λ draft. Ok (with_phase draft None))) >>= λ draft. check cause.RunTooLarge (Phase p) (nat_le (all_changes draft.nodes) most_changes) >> Ok draft) listed
             ∙ ap (λ draft. (draft >>= λ d. Ok (with_phase d None)) >>= λ d. check cause.RunTooLarge (Phase p) (nat_le (all_changes d.nodes) most_changes) >> Ok d) made.1
             ∙ ap (λ b. check cause.RunTooLarge (Phase p) b >> Ok (with_phase made.0 None)) fits,
-        record { entries_are = made.2.entries_are; one_each = made.2.one_each; joined = made.2.joined; few = made.2.few },
+        record { entries_are = made.2.entries_are; one_each = made.2.one_each; devices = made.2.devices; joined = made.2.joined; few = made.2.few },
       )
 
   -- ---- the rounds

@@ -155,6 +155,11 @@ device_named-demo size i low high few =
     ap (option_and_then (leaf_or_none (demo_entries size))) (device_named-at (concentrators size) size i low high few)
     ∙ ap (λ leaf. if leaf then Some (concentrators size + i) else None) (is_device-at (concentrators size) size i low high)
 
+-- it is a leaf of its tree
+pub is_leaf-demo : (size i : ℕ) → 1 ≤ i → i ≤ size → is_leaf_at (demo_entries size) (concentrators size + i) ≡ true
+unfolding demo_entries
+is_leaf-demo size i low high = is_device-at (concentrators size) size i low high
+
 -- ---- what the tree's check answers
 
 -- only an allocation failure keeps the tree from being made

@@ -70,6 +70,7 @@ module _ (size : ℕ) (few : size ≤ 200) where
     record {
       entries_are = stands.entries_are;
       one_each = stands.one_each;
+      devices = stands.devices;
       joined = λ i low high. stands.joined i low high ∙ ap (λ devices. is_joined devices i) (sym (append-nil earlier));
       few = omega (arith, stands.few);
     },
@@ -84,6 +85,7 @@ module _ (size : ℕ) (few : size ≤ 200) where
         record {
           entries_are = rest.2.entries_are;
           one_each = rest.2.one_each;
+          devices = rest.2.devices;
           joined = λ j low high. rest.2.joined j low high ∙ ap (λ others. is_joined others j) (append_assoc earlier (i ∷ []) devices);
           few = omega (arith, rest.2.few);
         },
