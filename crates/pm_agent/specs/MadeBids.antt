@@ -13,8 +13,8 @@ pub record MadeBid : Type 0 where
   pub demand : List ℤ
 
 -- the demand of a device after a change: none where it is no member then, else its bid in its state then
-abbrev pub demand_in : Kind → Next → List (List ℤ) → ℕ → List ℤ
-demand_in kind next arrays steps = if next.member then bid_of kind next.state.0 arrays steps else zeros steps
+abbrev pub demand_after_change : Kind → Next → List (List ℤ) → ℕ → List ℤ
+demand_after_change kind next arrays steps = if next.member then bid_of kind next.state.0 arrays steps else zeros steps
 
 -- the demand is that of the change; for a manual device that is a member it is an array of the caller's
 pub record IsMade (made : MadeBid) : Type 0 where

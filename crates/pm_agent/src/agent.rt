@@ -2,7 +2,7 @@ ghost use Rattle.std.specs.Prelude.{◌≡◌, ◌≤◌, length, IsTrue, IfOk};
 ghost use Rattle.pm_base.specs.Limits.{AreSteps};
 ghost use Rattle.pm_bid.specs.Bids.{HaveSteps};
 ghost use Rattle.pm_device.specs.Kinds.{is_valid, state_fits};
-ghost use Rattle.pm_agent.specs.MadeBids.{IsMade, demand_in};
+ghost use Rattle.pm_agent.specs.MadeBids.{IsMade, demand_after_change};
 
 use crate::made::Made;
 use pm_bid::{ArrayBid, Steps};
@@ -97,7 +97,7 @@ impl DeviceAgent {
         ensures* agent { sem 𝓛 (follows_so the_row the_row self.entry.ghost_name none (λ _ _. ⊤) (λ w. w ≡ self.old)) }
         ensures next { result.now.next ≡ next }
         ensures kind { result.now.kind ≡ self.old.kind }
-        ensures demand { result.now.demand ≡ demand_in self.old.kind next arrays.now self.old.steps }
+        ensures demand { result.now.demand ≡ demand_after_change self.old.kind next arrays.now self.old.steps }
         ensures steps { length result.now.demand ≡ self.old.steps }
         ensures made { IsMade result.now }
     {

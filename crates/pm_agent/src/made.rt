@@ -1,7 +1,7 @@
 ghost use Rattle.std.specs.Prelude.{◌≡◌, length, IsTrue};
 ghost use Rattle.pm_bid.specs.Bids.{HaveSteps, zeros};
 ghost use Rattle.pm_device.specs.Kinds.{is_valid, state_fits};
-ghost use Rattle.pm_agent.specs.MadeBids.{IsMade, demand_in};
+ghost use Rattle.pm_agent.specs.MadeBids.{IsMade, demand_after_change};
 
 use pm_bid::{ArrayBid, Steps};
 use pm_device::{DeviceState, Kind, Next};
@@ -82,7 +82,7 @@ impl Made {
         requires arrays { HaveSteps (length self.old.demand) arrays.now }
         ensures next { self.new.next ≡ next }
         ensures kind { self.new.kind ≡ self.old.kind }
-        ensures demand { self.new.demand ≡ demand_in self.old.kind next arrays.now (length self.old.demand) }
+        ensures demand { self.new.demand ≡ demand_after_change self.old.kind next arrays.now (length self.old.demand) }
         ensures steps { length self.new.demand ≡ length self.old.demand }
         ensures made { IsMade self.new }
     {

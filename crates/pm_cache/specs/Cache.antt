@@ -15,16 +15,16 @@ pub record Cache : Type 0 where
   pub demands : List (List ℤ)
 
 -- the head of a child
-abbrev pub head_of : Cache → ℕ → BidHead
-head_of cache child = slice_index_or cache.heads child nothing_sent
+abbrev pub child_head : Cache → ℕ → BidHead
+child_head cache child = slice_index_or cache.heads child nothing_sent
 
 -- the number of a child's newest bid, 0 where it sent none
 abbrev pub kept_number : Cache → ℕ → ℕ
-kept_number cache child = (head_of cache child).number
+kept_number cache child = (child_head cache child).number
 
 -- the demand of a child
-abbrev pub demand_of : Cache → ℕ → List ℤ
-demand_of cache child = slice_index_or cache.demands child []
+abbrev pub child_demand : Cache → ℕ → List ℤ
+child_demand cache child = slice_index_or cache.demands child []
 
 -- the sum of all entries
 abbrev pub aggregate_of : Cache → List ℤ
@@ -68,4 +68,4 @@ pub record IsCache (cache : Cache) : Type 0 where
   pub few_children : length cache.heads ≤ most_nodes
   pub same_children : length cache.demands ≡ length cache.heads
   pub same_steps : HaveSteps cache.steps cache.demands
-  pub zeros_where_gone : (child : ℕ) → child < length cache.heads → (head_of cache child).gone ≡ true → demand_of cache child ≡ zeros cache.steps
+  pub zeros_where_gone : (child : ℕ) → child < length cache.heads → (child_head cache child).gone ≡ true → child_demand cache child ≡ zeros cache.steps

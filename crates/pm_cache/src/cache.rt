@@ -3,7 +3,7 @@ ghost use Rattle.pm_bid.specs.Bids.{AllWithinLimit, demand_at, zeros};
 ghost use Rattle.pm_base.specs.Limits.{AreSteps, most_nodes, sum_limit, IsWithin};
 ghost use Rattle.std.specs.Option.{option_copied};
 ghost use Rattle.pm_cache.specs.Learning.{CanLearn, learnt};
-ghost use Rattle.pm_cache.specs.Cache.{kept_number, demand_of, aggregate_of, aggregate_with, empty_cache, with_bid, with_gone, answer_to, IsCache};
+ghost use Rattle.pm_cache.specs.Cache.{kept_number, aggregate_of, aggregate_with, empty_cache, with_bid, with_gone, answer_to, IsCache, child_demand};
 
 use crate::fault::CacheFault;
 use pm_bid::{ArrayBid, BidHead, Steps};
@@ -166,7 +166,7 @@ impl BidCache {
     pub fn demand<L: Ledger>(&self, child: usize, step: usize, counter: &mut Steps<L>) -> i64
         requires child { child < length self.now.heads }
         requires step { step < self.now.steps }
-        ensures demand { result ≡ demand_at (demand_of self.now child) step }
+        ensures demand { result ≡ demand_at (child_demand self.now child) step }
         ensures within { IsWithin sum_limit result }
         ensures cost { counter.new ≡ counter.old + 1 }
     {

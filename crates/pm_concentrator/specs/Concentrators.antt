@@ -6,13 +6,13 @@ use Rattle.pm_bid.specs.Limited.{within_limits}
 use Rattle.pm_bid.specs.declared.head.BidHead.{BidHead}
 use Rattle.pm_cache.specs.Cache.{Cache, aggregate_of, empty_cache}
 use Rattle.pm_session.specs.Links.{Session, BidOffered}
-use Rattle.pm_session.specs.Windows.{Kept, newest_record, unanswered, RecordSent, RecordAnswered, IsNewWindow}
+use Rattle.pm_session.specs.Windows.{newest_record, unanswered, RecordSent, RecordAnswered, IsNewWindow, WindowValue}
 use Rattle.pm_concentrator.specs.Limited.{sum_kept, sum_steps}
 
 -- the entries of the children, the records of what was published, and the limits where there are some
 pub record Gathered : Type 0 where
   pub cache : Cache
-  pub window : Kept
+  pub window : WindowValue
   pub limits : Option Limits
 
 -- the heads that were published last, at first those of the opening

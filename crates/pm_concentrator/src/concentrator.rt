@@ -36,11 +36,11 @@ impl Model for Concentrator {
 
     ghost Value = { Gathered };
 
-    ghost use Rattle.pm_concentrator.specs.ConcentratorFields.{gathered_of, IsConcentrator};
+    ghost use Rattle.pm_concentrator.specs.ConcentratorFields.{gathered_of, AreConcentratorFields};
 
     ghost view = { gathered_of };
 
-    ghost invariant = { IsConcentrator };
+    ghost invariant = { AreConcentratorFields };
 }
 
 impl Concentrator {

@@ -12,16 +12,16 @@ use Rattle.pm_plan.specs.declared.node.Node.TheVariants.{Concentrator, Limited, 
 use Rattle.pm_plan.specs.Plans.{PlanData, NodeData, node, node_at, is_device, changes_of, all_changes}
 use Rattle.pm_plan.specs.Building.{with_change, map_device, with_change_of, is_member_now, ticks_now, ticked, with_tick}
 use Rattle.pm_plan.proofs.DeviceNodes.{is_device-map_device}
-use Rattle.pm_gen.specs.Nodes.{concentrators, demo_entries}
+use Rattle.pm_gen.specs.Nodes.{demo_entries, concentrator_count}
 use Rattle.pm_gen.specs.Rounds.{is_joined}
 
 -- the draft has the demo's tree, its last nodes are devices, its members are those whom the events so far have left joined, and it has at most
 -- so many changes
 pub record Stands (size : ℕ) (earlier : List ℕ) (most : ℕ) (plan : PlanData) : Type 0 where
   pub entries_are : plan.entries ≡ demo_entries size
-  pub one_each : length plan.nodes ≡ concentrators size + size
-  pub devices : (i : ℕ) → 1 ≤ i → i ≤ size → is_device (node plan (concentrators size + i)) ≡ true
-  pub joined : (i : ℕ) → 1 ≤ i → i ≤ size → is_member_now plan (concentrators size + i) ≡ is_joined earlier i
+  pub one_each : length plan.nodes ≡ concentrator_count size + size
+  pub devices : (i : ℕ) → 1 ≤ i → i ≤ size → is_device (node plan (concentrator_count size + i)) ≡ true
+  pub joined : (i : ℕ) → 1 ≤ i → i ≤ size → is_member_now plan (concentrator_count size + i) ≡ is_joined earlier i
   pub few : all_changes plan.nodes ≤ most
 
 -- ---- nodes by their number
@@ -80,7 +80,7 @@ changes-with p what (Limited limits) = omega arith
 
 module _ (size : ℕ) (earlier : List ℕ) (most : ℕ) (plan : PlanData) (stands : Stands size earlier most plan) (i : ℕ) (low : 1 ≤ i) (high : i ≤ size) (p : ℕ) where
   abbrev d : ℕ
-  d = concentrators size + i
+  d = concentrator_count size + i
 
   abbrev changed : NodeData
   changed = map_device (with_change p (turning (is_joined earlier i))) (node plan d)
@@ -93,27 +93,27 @@ module _ (size : ℕ) (earlier : List ℕ) (most : ℕ) (plan : PlanData) (stand
       ∙ sym (is_joined-same earlier i)
 
   joined-by : (j : ℕ) → 1 ≤ j → j ≤ size → (i ≡ j) ⊎ (i ≡ j → ⊥) →
-      is_member_after (changes_of (node_at (set plan.nodes (d - 1) changed) (concentrators size + j))) ≡ is_joined (earlier ++ i ∷ []) j
+      is_member_after (changes_of (node_at (set plan.nodes (d - 1) changed) (concentrator_count size + j))) ≡ is_joined (earlier ++ i ∷ []) j
   joined-by j positive inside (inl same) =
-      ap (λ e. is_member_after (changes_of (node_at (set plan.nodes (d - 1) changed) (concentrators size + e)))) (sym same)
+      ap (λ e. is_member_after (changes_of (node_at (set plan.nodes (d - 1) changed) (concentrator_count size + e)))) (sym same)
       ∙ ap (λ (n : NodeData). is_member_after (changes_of n)) (node_at-same plan.nodes d changed (omega arith) (omega (arith, stands.one_each)))
       ∙ member-same
       ∙ ap (is_joined (earlier ++ i ∷ [])) same
   joined-by j positive inside (inr differ) =
-      let apart : d ≢ concentrators size + j = λ same. differ (omega arith) in
-      ap (λ (n : NodeData). is_member_after (changes_of n)) (node_at-other plan.nodes d (concentrators size + j) changed (omega arith) (omega arith) apart)
+      let apart : d ≢ concentrator_count size + j = λ same. differ (omega arith) in
+      ap (λ (n : NodeData). is_member_after (changes_of n)) (node_at-other plan.nodes d (concentrator_count size + j) changed (omega arith) (omega arith) apart)
       ∙ stands.joined j positive inside
       ∙ sym (is_joined-other earlier i j differ)
 
-  devices-by : (j : ℕ) → 1 ≤ j → j ≤ size → (i ≡ j) ⊎ (i ≡ j → ⊥) → is_device (node_at (set plan.nodes (d - 1) changed) (concentrators size + j)) ≡ true
+  devices-by : (j : ℕ) → 1 ≤ j → j ≤ size → (i ≡ j) ⊎ (i ≡ j → ⊥) → is_device (node_at (set plan.nodes (d - 1) changed) (concentrator_count size + j)) ≡ true
   devices-by j positive inside (inl same) =
-      ap (λ e. is_device (node_at (set plan.nodes (d - 1) changed) (concentrators size + e))) (sym same)
+      ap (λ e. is_device (node_at (set plan.nodes (d - 1) changed) (concentrator_count size + e))) (sym same)
       ∙ ap is_device (node_at-same plan.nodes d changed (omega arith) (omega (arith, stands.one_each)))
       ∙ is_device-map_device (with_change p (turning (is_joined earlier i))) (node plan d)
       ∙ stands.devices i low high
   devices-by j positive inside (inr differ) =
-      let apart : d ≢ concentrators size + j = λ same. differ (omega arith) in
-      ap is_device (node_at-other plan.nodes d (concentrators size + j) changed (omega arith) (omega arith) apart)
+      let apart : d ≢ concentrator_count size + j = λ same. differ (omega arith) in
+      ap is_device (node_at-other plan.nodes d (concentrator_count size + j) changed (omega arith) (omega arith) apart)
       ∙ stands.devices j positive inside
 
   few-more : all_changes (set plan.nodes (d - 1) changed) ≤ most + 1
@@ -173,18 +173,18 @@ ticked-at nodes p d minutes low high =
     ∙ get_or-map (map_device (ticked p minutes)) nodes (d - 1) Concentrator Concentrator (omega arith)
     ∙ ap (map_device (ticked p minutes)) (sym (node_at-below nodes d low))
 
-pub stands-ticked : (size : ℕ) (earlier : List ℕ) (most : ℕ) (plan : PlanData) (p : ℕ) (minutes : ℤ) → Stands size earlier most plan → Stands size earlier (most + (concentrators size + size)) (with_tick p minutes plan)
+pub stands-ticked : (size : ℕ) (earlier : List ℕ) (most : ℕ) (plan : PlanData) (p : ℕ) (minutes : ℤ) → Stands size earlier most plan → Stands size earlier (most + (concentrator_count size + size)) (with_tick p minutes plan)
 stands-ticked size earlier most plan p minutes stands = record {
   entries_are = stands.entries_are;
   one_each = length-map plan.nodes (map_device (ticked p minutes)) ∙ stands.one_each;
   devices = λ i low high.
-      ap is_device (ticked-at plan.nodes p (concentrators size + i) minutes (omega arith) (omega (arith, stands.one_each)))
-      ∙ is_device-map_device (ticked p minutes) (node plan (concentrators size + i))
+      ap is_device (ticked-at plan.nodes p (concentrator_count size + i) minutes (omega arith) (omega (arith, stands.one_each)))
+      ∙ is_device-map_device (ticked p minutes) (node plan (concentrator_count size + i))
       ∙ stands.devices i low high;
   joined = λ i low high.
       ap (λ (n : NodeData). is_member_after (changes_of n))
-      (ticked-at plan.nodes p (concentrators size + i) minutes (omega arith) (omega (arith, stands.one_each)))
-      ∙ member_at-tick p minutes (node plan (concentrators size + i))
+      (ticked-at plan.nodes p (concentrator_count size + i) minutes (omega arith) (omega (arith, stands.one_each)))
+      ∙ member_at-tick p minutes (node plan (concentrator_count size + i))
       ∙ stands.joined i low high;
   few = omega (arith, all_changes-tick p minutes plan.nodes, stands.few, stands.one_each);
 }

@@ -4,7 +4,7 @@ use Rattle.pm_device.specs.declared.kind.Kind.TheVariants.{Load}
 use Rattle.pm_plan.specs.Parts.{number, device, join, leave, events, tick}
 use Rattle.pm_gen.specs.Draws.{next, drawn, first_seed}
 use Rattle.pm_gen.specs.Nodes.{device_of, drawn_device, drawn_devices, device_name}
-use Rattle.pm_gen.specs.Rounds.{picks, after, is_joined, turns, rounds, demo_phases}
+use Rattle.pm_gen.specs.Rounds.{picks, is_joined, turns, rounds, demo_phases, seed_after}
 
 first_draw : next (first_seed 7) ≡ 599
 unfolding next
@@ -24,5 +24,5 @@ first_device = refl
 
 -- the device joins, and each round turns it round
 first_rounds : take 5 (demo_phases 1 44999) ≡ events (join (device_name 1) ∷ []) ∷ tick (pos 15) ∷ events (leave (device_name 1) ∷ []) ∷ tick (pos 15) ∷ events (join (device_name 1) ∷ []) ∷ []
-unfolding next picks after is_joined turns rounds demo_phases
+unfolding next picks seed_after is_joined turns rounds demo_phases
 first_rounds = refl

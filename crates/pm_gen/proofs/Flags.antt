@@ -9,20 +9,20 @@ use Rattle.std.proofs.lemmas.Bool.Decides.{nat_tests}
 use Rattle.pm_plan.specs.Parts.{EventPart, PhasePart, events, tick, join, leave}
 use Rattle.pm_gen.specs.Draws.{next, drawn}
 use Rattle.pm_gen.specs.Nodes.{device_name}
-use Rattle.pm_gen.specs.Rounds.{picks, after, is_joined, joined_flags, turn, turns, round_len, round_picks, rounds}
+use Rattle.pm_gen.specs.Rounds.{picks, is_joined, joined_flags, turn, turns, round_len, round_picks, rounds, seed_after}
 use Rattle.pm_gen.proofs.Ranges.{range_with_len-append}
 use Rattle.pm_gen.proofs.Drafts.{is_joined-same, is_joined-other}
 use Rattle.pm_gen.proofs.Turns.{not_turned}
 
 -- ---- one draw more
 
-pub after-more : (n seed : ℕ) → after (n + 1) seed ≡ next (after n seed)
-unfolding after
+pub after-more : (n seed : ℕ) → seed_after (n + 1) seed ≡ next (seed_after n seed)
+unfolding seed_after
 after-more zero seed = refl
-after-more (suc n) seed = let one : suc n + 1 ≡ suc (n + 1) = omega arith in ap (λ m. after m seed) one ∙ after-more n (next seed)
+after-more (suc n) seed = let one : suc n + 1 ≡ suc (n + 1) = omega arith in ap (λ m. seed_after m seed) one ∙ after-more n (next seed)
 
-picks-more : (n size seed : ℕ) → picks (n + 1) size seed ≡ picks n size seed ++ (1 + drawn size (after n seed)) ∷ []
-unfolding picks after
+picks-more : (n size seed : ℕ) → picks (n + 1) size seed ≡ picks n size seed ++ (1 + drawn size (seed_after n seed)) ∷ []
+unfolding picks seed_after
 picks-more zero size seed = refl
 picks-more (suc n) size seed =
     let one : suc n + 1 ≡ suc (n + 1) = omega arith in
@@ -76,11 +76,11 @@ pub turned-none : (size : ℕ) (earlier : List ℕ) (first : ℕ) (members : Lis
 unfolding picks turns
 turned-none size earlier first members made flags nothing = record { flags = flags ∙ ap (joined_flags size) (sym (append-nil earlier)); turned = nothing }
 
-pub after-none : (seed : ℕ) → after 0 seed ≡ seed
-unfolding after
+pub after-none : (seed : ℕ) → seed_after 0 seed ≡ seed
+unfolding seed_after
 after-none seed = refl
 
-pub turned-more : (size : ℕ) (earlier : List ℕ) (first count k : ℕ) (members new : List Bool) (made more : List EventPart) (event : EventPart) → k < size → k ≡ drawn size (after count first)
+pub turned-more : (size : ℕ) (earlier : List ℕ) (first count k : ℕ) (members new : List Bool) (made more : List EventPart) (event : EventPart) → k < size → k ≡ drawn size (seed_after count first)
     → Turned size earlier first count members made
     → new ≡ set members k (not (get_or members k false)) → event ≡ (if get_or members k false then leave (device_name (1 + k)) else join (device_name (1 + k))) → more ≡ made ++ event ∷ []
     → Turned size earlier first (count + 1) new more
@@ -137,11 +137,11 @@ pub record Rounded (size first : ℕ) (front : List PhasePart) (count seed : ℕ
   pub flags : members ≡ joined_flags size earlier
   pub left : made ++ rounds (10 - count) size earlier seed ≡ front ++ rounds 10 size (range_with_len 1 size) first
 
-rounds-suc : (n size : ℕ) (earlier : List ℕ) (seed : ℕ) → rounds (suc n) size earlier seed ≡ tick (pos 15) ∷ events (turns earlier (round_picks size seed)) ∷ rounds n size (earlier ++ round_picks size seed) (after (round_len size) seed)
+rounds-suc : (n size : ℕ) (earlier : List ℕ) (seed : ℕ) → rounds (suc n) size earlier seed ≡ tick (pos 15) ∷ events (turns earlier (round_picks size seed)) ∷ rounds n size (earlier ++ round_picks size seed) (seed_after (round_len size) seed)
 unfolding rounds
 rounds-suc n size earlier seed = refl
 
-rounds-step : (count size : ℕ) (earlier : List ℕ) (seed : ℕ) → count < 10 → rounds (10 - count) size earlier seed ≡ tick (pos 15) ∷ events (turns earlier (round_picks size seed)) ∷ rounds (10 - (count + 1)) size (earlier ++ round_picks size seed) (after (round_len size) seed)
+rounds-step : (count size : ℕ) (earlier : List ℕ) (seed : ℕ) → count < 10 → rounds (10 - count) size earlier seed ≡ tick (pos 15) ∷ events (turns earlier (round_picks size seed)) ∷ rounds (10 - (count + 1)) size (earlier ++ round_picks size seed) (seed_after (round_len size) seed)
 rounds-step count size earlier seed low =
     let one : 10 - count ≡ suc (10 - (count + 1)) = omega arith in
     ap (λ n. rounds n size earlier seed) one ∙ rounds-suc (10 - (count + 1)) size earlier seed
@@ -152,7 +152,7 @@ pub record Round (size seed : ℕ) (members new : List Bool) (made more : List P
   pub flags : (earlier : List ℕ) → members ≡ joined_flags size earlier → new ≡ joined_flags size (earlier ++ round_picks size seed)
 
 pub rounded-more : (size have first : ℕ) (front : List PhasePart) (count seed left : ℕ) (members new : List Bool) (made more : List PhasePart) → count < 10 → have ≡ size
-    → Rounded size first front count seed members made → Round have seed members new made more → left ≡ after (round_len have) seed → Rounded size first front (count + 1) left new more
+    → Rounded size first front count seed members made → Round have seed members new made more → left ≡ seed_after (round_len have) seed → Rounded size first front (count + 1) left new more
 rounded-more size have first front count seed left members new made more low same before here left_is =
     let round : Round size seed members new made more = subst (λ n. Round n seed members new made more) same here in
     let earlier : List ℕ = before.earlier in
@@ -161,9 +161,9 @@ rounded-more size have first front count seed left members new made more low sam
       earlier = earlier ++ round_picks size seed;
       flags = round.flags earlier before.flags;
       left =
-          ap (λ s. more ++ rounds (10 - (count + 1)) size (earlier ++ round_picks size seed) s) (left_is ∙ ap (λ n. after (round_len n) seed) same)
-          ∙ ap (λ phases. phases ++ rounds (10 - (count + 1)) size (earlier ++ round_picks size seed) (after (round_len size) seed)) (round.phases earlier before.flags)
-          ∙ append_assoc made pair (rounds (10 - (count + 1)) size (earlier ++ round_picks size seed) (after (round_len size) seed))
+          ap (λ s. more ++ rounds (10 - (count + 1)) size (earlier ++ round_picks size seed) s) (left_is ∙ ap (λ n. seed_after (round_len n) seed) same)
+          ∙ ap (λ phases. phases ++ rounds (10 - (count + 1)) size (earlier ++ round_picks size seed) (seed_after (round_len size) seed)) (round.phases earlier before.flags)
+          ∙ append_assoc made pair (rounds (10 - (count + 1)) size (earlier ++ round_picks size seed) (seed_after (round_len size) seed))
           ∙ ap (λ rest. made ++ rest) (sym (rounds-step count size earlier seed low))
           ∙ before.left;
     }

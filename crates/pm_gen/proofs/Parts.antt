@@ -16,7 +16,7 @@ use Rattle.pm_plan.specs.Plans as plans
 use Rattle.pm_plan.specs.Building.{add_node, with_node, state_of, is_manual}
 use Rattle.pm_base.specs.Outcomes.{◌>>=◌, fold_from}
 use Rattle.pm_gen.specs.Draws.{next, drawn}
-use Rattle.pm_gen.specs.Nodes.{with_start, at_power, device_of, drawn_power, drawn_device, drawn_devices, demo_nodes, concentrators, demo_entries, concentrator_entry, device_entry, concentrator_entries, device_entries}
+use Rattle.pm_gen.specs.Nodes.{with_start, at_power, device_of, drawn_power, drawn_device, drawn_devices, demo_nodes, demo_entries, concentrator_entry, device_entry, concentrator_entries, device_entries, concentrator_count}
 
 -- ---- parts that are accepted
 
@@ -148,18 +148,18 @@ after_concentrators (suc count) parts plain = (tt, after_concentrators count par
 
 pub demo_nodes-plain : (size seed : ℕ) → AllByRecursion IsPlain (demo_nodes size seed)
 unfolding demo_nodes
-demo_nodes-plain size seed = after_concentrators (concentrators size) (drawn_devices size seed).0 (drawn_devices-plain size seed)
+demo_nodes-plain size seed = after_concentrators (concentrator_count size) (drawn_devices size seed).0 (drawn_devices-plain size seed)
 
 length-drawn_devices : (n seed : ℕ) → length (drawn_devices n seed).0 ≡ n
 unfolding drawn_devices
 length-drawn_devices zero seed = refl
 length-drawn_devices (suc n) seed = ap suc (length-drawn_devices n (drawn_device seed).1)
 
-pub length-demo_nodes : (size seed : ℕ) → length (demo_nodes size seed) ≡ concentrators size + size
+pub length-demo_nodes : (size seed : ℕ) → length (demo_nodes size seed) ≡ concentrator_count size + size
 unfolding demo_nodes
 length-demo_nodes size seed =
-    length-append (replicate (concentrators size) concentrator) (drawn_devices size seed).0
-    ∙ omega (arith, length-replicate (concentrators size) concentrator, length-drawn_devices size seed)
+    length-append (replicate (concentrator_count size) concentrator) (drawn_devices size seed).0
+    ∙ omega (arith, length-replicate (concentrator_count size) concentrator, length-drawn_devices size seed)
 
 -- ---- the parts are those of the tree's nodes
 
@@ -190,11 +190,11 @@ constant_entries f leaf same a (suc n) = let first = same a in let rest = consta
 pub demo_nodes-of_entries : (size seed : ℕ) → AreNodesOf (demo_entries size) (demo_nodes size seed)
 unfolding demo_nodes demo_entries leaves_of
 demo_nodes-of_entries size seed =
-    map-append is_device (replicate (concentrators size) concentrator) (drawn_devices size seed).0
-    ∙ (let first = map-replicate is_device (concentrators size) concentrator in
+    map-append is_device (replicate (concentrator_count size) concentrator) (drawn_devices size seed).0
+    ∙ (let first = map-replicate is_device (concentrator_count size) concentrator in
     let rest = devices_are_devices size seed in
     (λ i. first i ++ rest i))
-    ∙ sym (map-append (λ (e : Entry). e.leaf) (concentrator_entries (concentrators size)) (device_entries (concentrators size) size)
-    ∙ (let first = constant_entries concentrator_entry false (λ _. refl) 1 (concentrators size) in
-    let rest = constant_entries (device_entry (concentrators size)) true (λ _. refl) 1 size in
+    ∙ sym (map-append (λ (e : Entry). e.leaf) (concentrator_entries (concentrator_count size)) (device_entries (concentrator_count size) size)
+    ∙ (let first = constant_entries concentrator_entry false (λ _. refl) 1 (concentrator_count size) in
+    let rest = constant_entries (device_entry (concentrator_count size)) true (λ _. refl) 1 size in
     (λ i. first i ++ rest i)))

@@ -23,9 +23,9 @@ use Rattle.pm_plan.specs.Building.{add_node, add_event, phase_of, add_phase, wit
 use Rattle.pm_plan.specs.Refusals.{check, refusal_in}
 use Rattle.pm_base.specs.Outcomes.{◌>>=◌, ◌>>◌, fold_from, Refuses}
 use Rattle.pm_gen.specs.Draws.{first_seed}
-use Rattle.pm_gen.specs.Nodes.{concentrators, demo_entries, demo_nodes}
-use Rattle.pm_gen.specs.Rounds.{after, is_joined, turns, round_len, round_picks, rounds, demo_phases}
-use Rattle.pm_gen.specs.Demo.{demo_basis, seed_after_devices, made_from, made}
+use Rattle.pm_gen.specs.Nodes.{demo_entries, demo_nodes, concentrator_count}
+use Rattle.pm_gen.specs.Rounds.{is_joined, turns, round_len, round_picks, rounds, demo_phases, seed_after}
+use Rattle.pm_gen.specs.Demo.{demo_basis, seed_after_devices, demo_plan_from, demo_plan}
 use Rattle.pm_gen.proofs.Parts.{planned_for, devices_planned, with_nodes, add_plain_nodes, demo_nodes-plain, length-demo_nodes, demo_nodes-of_entries}
 use Rattle.pm_gen.proofs.Trees.{is_leaf-demo}
 use Rattle.pm_gen.proofs.Drafts.{Stands, stands-ticked}
@@ -58,13 +58,13 @@ no_changes (part ∷ parts) =
     omega arith)
 
 -- the devices are those of the tree
-devices_of : (size seed i : ℕ) → 1 ≤ i → i ≤ size → plans.is_device (node_at (map planned_for (demo_nodes size seed)) (concentrators size + i)) ≡ true
+devices_of : (size seed i : ℕ) → 1 ≤ i → i ≤ size → plans.is_device (node_at (map planned_for (demo_nodes size seed)) (concentrator_count size + i)) ≡ true
 unfolding leaves_of
 devices_of size seed i low high =
-    let place : concentrators size + i ≡ suc (concentrators size + i - 1) = omega arith in
+    let place : concentrator_count size + i ≡ suc (concentrator_count size + i - 1) = omega arith in
     ap (λ d. plans.is_device (node_at (map planned_for (demo_nodes size seed)) d)) place
-    ∙ devices_planned (demo_nodes size seed) (demo_nodes-plain size seed) (concentrators size + i - 1)
-    ∙ ap (λ leaves. get_or leaves (concentrators size + i - 1) false) (demo_nodes-of_entries size seed)
+    ∙ devices_planned (demo_nodes size seed) (demo_nodes-plain size seed) (concentrator_count size + i - 1)
+    ∙ ap (λ leaves. get_or leaves (concentrator_count size + i - 1) false) (demo_nodes-of_entries size seed)
     ∙ ap (is_leaf_at (demo_entries size)) (sym place)
     ∙ is_leaf-demo size i low high
 
@@ -82,7 +82,7 @@ module _ (size : ℕ) (some : 1 ≤ size) (few : size ≤ 200) where
     entries_are = refl;
     one_each = length-map (demo_nodes size seed) planned_for ∙ length-demo_nodes size seed;
     devices = λ i low high. devices_of size seed i low high;
-    joined = λ i low high. ap is_member_after (nothing_planned (demo_nodes size seed) (concentrators size + i));
+    joined = λ i low high. ap is_member_after (nothing_planned (demo_nodes size seed) (concentrator_count size + i));
     few = omega (arith, no_changes (demo_nodes size seed));
   }
 
@@ -110,35 +110,35 @@ module _ (size : ℕ) (some : 1 ≤ size) (few : size ≤ 200) where
       → IsDraft size few (earlier ++ devices) (most + length devices) (add_phase p plan (events (turns earlier devices)))
   unfolding add_phase phase_of
   events-accepted p most earlier devices plan stands all short small =
-      let made = turns-accepted size few 1 p earlier devices most plan all stands in
+      let demo_plan = turns-accepted size few 1 p earlier devices most plan all stands in
       let listed = few_enough most_events (length (turns earlier devices)) (omega (arith, length-turns earlier devices)) in
-      let fits = few_enough most_changes (all_changes made.0.nodes) (omega (arith, made.2.few)) in (
-        with_phase made.0 None,
+      let fits = few_enough most_changes (all_changes demo_plan.0.nodes) (omega (arith, demo_plan.2.few)) in (
+        with_phase demo_plan.0 None,
         ap (λ b. (check cause.RunTooLarge (Phase p) b >> (fold_from 1 (add_event p) plan (turns earlier devices) >>= λ draft. Ok (with_phase draft None))) >>= λ draft. check cause.RunTooLarge (Phase p) (nat_le (all_changes draft.nodes) most_changes) >> Ok draft) listed
-            ∙ ap (λ draft. (draft >>= λ d. Ok (with_phase d None)) >>= λ d. check cause.RunTooLarge (Phase p) (nat_le (all_changes d.nodes) most_changes) >> Ok d) made.1
-            ∙ ap (λ b. check cause.RunTooLarge (Phase p) b >> Ok (with_phase made.0 None)) fits,
-        record { entries_are = made.2.entries_are; one_each = made.2.one_each; devices = made.2.devices; joined = made.2.joined; few = made.2.few },
+            ∙ ap (λ draft. (draft >>= λ d. Ok (with_phase d None)) >>= λ d. check cause.RunTooLarge (Phase p) (nat_le (all_changes d.nodes) most_changes) >> Ok d) demo_plan.1
+            ∙ ap (λ b. check cause.RunTooLarge (Phase p) b >> Ok (with_phase demo_plan.0 None)) fits,
+        record { entries_are = demo_plan.2.entries_are; one_each = demo_plan.2.one_each; devices = demo_plan.2.devices; joined = demo_plan.2.joined; few = demo_plan.2.few },
       )
 
   -- ---- the rounds
 
   -- each round makes at most 210 changes in its tick, and 21 in its events
   rounds-accepted : (n p most seed : ℕ) (earlier : List ℕ) (plan : PlanData) → Stands size earlier most plan → most + n * 231 ≤ 20000
-      → (after : PlanData) × (fold_from p add_phase plan (rounds n size earlier seed) ≡ Ok after)
+      → (seed_after : PlanData) × (fold_from p add_phase plan (rounds n size earlier seed) ≡ Ok seed_after)
   unfolding rounds
   rounds-accepted zero p most seed earlier plan stands small = (plan, refl)
   rounds-accepted (suc n) p most seed earlier plan stands small =
       let count = length-picks (round_len size) size seed in
       let ticked = tick-accepted p most earlier plan stands (omega arith) in
       let turned = events-accepted (p + 1) (most + 210) earlier (round_picks size seed) ticked.0 ticked.2 (picks-are_devices size few (round_len size) seed some) (omega arith) (omega arith) in
-      let rest = rounds-accepted n (p + 1 + 1) (most + 210 + length (round_picks size seed)) (after (round_len size) seed) (earlier ++ round_picks size seed) turned.0 turned.2 (omega arith) in (
+      let rest = rounds-accepted n (p + 1 + 1) (most + 210 + length (round_picks size seed)) (seed_after (round_len size) seed) (earlier ++ round_picks size seed) turned.0 turned.2 (omega arith) in (
         rest.0,
-        ap (λ first. first >>= λ draft. fold_from (p + 1) add_phase draft (events (turns earlier (round_picks size seed)) ∷ rounds n size (earlier ++ round_picks size seed) (after (round_len size) seed))) ticked.1
-            ∙ ap (λ first. first >>= λ draft. fold_from (p + 1 + 1) add_phase draft (rounds n size (earlier ++ round_picks size seed) (after (round_len size) seed))) turned.1
+        ap (λ first. first >>= λ draft. fold_from (p + 1) add_phase draft (events (turns earlier (round_picks size seed)) ∷ rounds n size (earlier ++ round_picks size seed) (seed_after (round_len size) seed))) ticked.1
+            ∙ ap (λ first. first >>= λ draft. fold_from (p + 1 + 1) add_phase draft (rounds n size (earlier ++ round_picks size seed) (seed_after (round_len size) seed))) turned.1
             ∙ rest.1,
       )
 
-  phases-accepted : (seed : ℕ) (plan : PlanData) → Stands size [] 0 plan → (after : PlanData) × (fold_from 1 add_phase plan (demo_phases size seed) ≡ Ok after)
+  phases-accepted : (seed : ℕ) (plan : PlanData) → Stands size [] 0 plan → (seed_after : PlanData) × (fold_from 1 add_phase plan (demo_phases size seed) ≡ Ok seed_after)
   unfolding demo_phases
   phases-accepted seed plan stands =
       let count = length-range_with_len 1 size in
@@ -155,14 +155,14 @@ module _ (size : ℕ) (some : 1 ≤ size) (few : size ≤ 200) where
   length-rounds : (n seed : ℕ) (earlier : List ℕ) → length (rounds n size earlier seed) ≡ 2 * n
   unfolding rounds
   length-rounds zero seed earlier = refl
-  length-rounds (suc n) seed earlier = let rest = length-rounds n (after (round_len size) seed) (earlier ++ round_picks size seed) in omega arith
+  length-rounds (suc n) seed earlier = let rest = length-rounds n (seed_after (round_len size) seed) (earlier ++ round_picks size seed) in omega arith
 
   length-demo_phases : (seed : ℕ) → length (demo_phases size seed) ≡ 21
   unfolding demo_phases
   length-demo_phases seed = let rest = length-rounds 10 seed (range_with_len 1 size) in omega arith
 
-  pub made_from-is_plan : (seed : ℕ) → (plan : PlanData) × (made_from size seed ≡ Ok plan)
-  unfolding made_from checked_plan
+  pub made_from-is_plan : (seed : ℕ) → (plan : PlanData) × (demo_plan_from size seed ≡ Ok plan)
+  unfolding demo_plan_from checked_plan
   made_from-is_plan seed =
       let later = seed_after_devices size seed in
       let short = few_enough most_phases (length (demo_phases size later)) (omega (arith, length-demo_phases later)) in
@@ -175,23 +175,23 @@ module _ (size : ℕ) (some : 1 ≤ size) (few : size ≤ 200) where
       )
 
 -- the demo cluster has a plan
-pub made-is-plan : (size given : ℕ) → 1 ≤ size → size ≤ 200 → IsOk (made size given)
+pub made-is-plan : (size given : ℕ) → 1 ≤ size → size ≤ 200 → IsOk (demo_plan size given)
 made-is-plan size given some few =
-    let made = made_from-is_plan size some few (first_seed given) in
-    ap is_ok made.1
+    let demo_plan = made_from-is_plan size some few (first_seed given) in
+    ap is_ok demo_plan.1
 
 -- what the parts give, by where they come from
 pub read_is_made : (size seed : ℕ) (basis : BasisValue) (entries : List Entry) (nodes : List NodePart) (phases : List PhasePart)
-    → basis ≡ demo_basis → entries ≡ demo_entries size → nodes ≡ demo_nodes size seed → phases ≡ demo_phases size (seed_after_devices size seed) → checked_plan basis entries nodes phases ≡ made_from size seed
-unfolding made_from
+    → basis ≡ demo_basis → entries ≡ demo_entries size → nodes ≡ demo_nodes size seed → phases ≡ demo_phases size (seed_after_devices size seed) → checked_plan basis entries nodes phases ≡ demo_plan_from size seed
+unfolding demo_plan_from
 read_is_made size seed basis entries nodes phases basis_is entries_are nodes_are phases_are = (λ i. checked_plan (basis_is i) (entries_are i) (nodes_are i) (phases_are i))
 
 -- only an allocation failure keeps the plan from being made
-pub plan_fault_is_memory : (size seed : ℕ) (fault : PlanFault) (read : Result PlanData Refusal) → 0 < size → size ≤ 200 → read ≡ made_from size seed → Refuses (refusal_in fault) read → fault ≡ faults.NoMemory
+pub plan_fault_is_memory : (size seed : ℕ) (fault : PlanFault) (read : Result PlanData Refusal) → 0 < size → size ≤ 200 → read ≡ demo_plan_from size seed → Refuses (refusal_in fault) read → fault ≡ faults.NoMemory
 plan_fault_is_memory size seed faults.NoMemory read some few same fails = refl
 plan_fault_is_memory size seed (faults.Refused refusal) read some few same fails =
-    let made = made_from-is_plan size some few seed in
-    let ok : read ≡ Ok made.0 = same ∙ made.1 in
+    let demo_plan = made_from-is_plan size some few seed in
+    let ok : read ≡ Ok demo_plan.0 = same ∙ demo_plan.1 in
     cc
 
 -- the nodes that are made are those of the tree that is made

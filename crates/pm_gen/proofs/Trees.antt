@@ -15,7 +15,7 @@ use Rattle.pm_tree.proofs.Named.{node_named-append, number_named-inside, and_tru
 use Rattle.pm_tree.proofs.Paths.{leaf_at-append}
 use Rattle.pm_tree.proofs.Refusals.{accepted_leaf, refusals_after-append}
 use Rattle.pm_plan.specs.Building.{leaf_or_none, device_named}
-use Rattle.pm_gen.specs.Nodes.{concentrators, demo_entries, concentrator_name, device_name, concentrator_entry, device_entry, concentrator_entries, device_entries}
+use Rattle.pm_gen.specs.Nodes.{demo_entries, concentrator_name, device_name, concentrator_entry, device_entry, concentrator_entries, device_entries, concentrator_count}
 use Rattle.pm_gen.proofs.Ranges.{in_range, range_with_len-append}
 use Rattle.pm_gen.proofs.Naming.{front_entries, device_name-form, not_named, named_after}
 
@@ -96,11 +96,11 @@ none_refused count size low high few =
     ∙ ap (λ before. refusals_after before (device_entries count size)) (sym (append-nil (concentrator_entries count)))
     ∙ devices-accepted count size 0 low high (omega arith)
 
-pub length-demo_entries : (size : ℕ) → length (demo_entries size) ≡ concentrators size + size
+pub length-demo_entries : (size : ℕ) → length (demo_entries size) ≡ concentrator_count size + size
 unfolding demo_entries
 length-demo_entries size =
-    length-append (concentrator_entries (concentrators size)) (device_entries (concentrators size) size)
-    ∙ omega (arith, length-map-range_with_len concentrator_entry 1 (concentrators size), length-map-range_with_len (device_entry (concentrators size)) 1 size)
+    length-append (concentrator_entries (concentrator_count size)) (device_entries (concentrator_count size) size)
+    ∙ omega (arith, length-map-range_with_len concentrator_entry 1 (concentrator_count size), length-map-range_with_len (device_entry (concentrator_count size)) 1 size)
 
 few_entries : (n : ℕ) → n ≤ 256 → nat_lt 256 n ≡ false
 few_entries n few = grind (arith, nat_tests)
@@ -111,7 +111,7 @@ unfolding demo_entries first_refusal
 demo_entries-accepted size low high =
     let count = length-demo_entries size in
     let few = few_entries (length (demo_entries size)) (omega arith) in
-    let none = none_refused (concentrators size) size (omega arith) (omega arith) high in
+    let none = none_refused (concentrator_count size) size (omega arith) (omega arith) high in
     ap (λ many. tree_unless (demo_entries size) (if many then Some (TooMany (length (demo_entries size))) else slice_get (refusals_after [] (demo_entries size)) 0)) few
     ∙ ap (λ faults. tree_unless (demo_entries size) (slice_get faults 0)) none
 
@@ -149,16 +149,16 @@ is_device-at count size i low high =
     ∙ get_or_at (false ∷ map (λ (e : Entry). e.leaf) front) true (map (λ (e : Entry). e.leaf) rest) false (count + i) (omega (arith, length-map front (λ (e : Entry). e.leaf), length-front_entries count (i - 1)))
 
 -- device i of the demo cluster
-pub device_named-demo : (size i : ℕ) → 1 ≤ i → i ≤ size → size ≤ 200 → device_named (demo_entries size) (device_name i) ≡ Some (concentrators size + i)
+pub device_named-demo : (size i : ℕ) → 1 ≤ i → i ≤ size → size ≤ 200 → device_named (demo_entries size) (device_name i) ≡ Some (concentrator_count size + i)
 unfolding demo_entries
 device_named-demo size i low high few =
-    ap (option_and_then (leaf_or_none (demo_entries size))) (device_named-at (concentrators size) size i low high few)
-    ∙ ap (λ leaf. if leaf then Some (concentrators size + i) else None) (is_device-at (concentrators size) size i low high)
+    ap (option_and_then (leaf_or_none (demo_entries size))) (device_named-at (concentrator_count size) size i low high few)
+    ∙ ap (λ leaf. if leaf then Some (concentrator_count size + i) else None) (is_device-at (concentrator_count size) size i low high)
 
 -- it is a leaf of its tree
-pub is_leaf-demo : (size i : ℕ) → 1 ≤ i → i ≤ size → is_leaf_at (demo_entries size) (concentrators size + i) ≡ true
+pub is_leaf-demo : (size i : ℕ) → 1 ≤ i → i ≤ size → is_leaf_at (demo_entries size) (concentrator_count size + i) ≡ true
 unfolding demo_entries
-is_leaf-demo size i low high = is_device-at (concentrators size) size i low high
+is_leaf-demo size i low high = is_device-at (concentrator_count size) size i low high
 
 -- ---- what the tree's check answers
 

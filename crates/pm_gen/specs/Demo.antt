@@ -21,9 +21,9 @@ abbrev pub seed_after_devices : ℕ → ℕ → ℕ
 seed_after_devices size seed = (drawn_devices size seed).1
 
 -- the plan of the cluster of so many devices, as a file with these parts would give it
-unfoldable pub made_from : ℕ → ℕ → Result PlanData Refusal
-made_from size seed =
+unfoldable pub demo_plan_from : ℕ → ℕ → Result PlanData Refusal
+demo_plan_from size seed =
     checked_plan demo_basis (demo_entries size) (demo_nodes size seed) (demo_phases size (seed_after_devices size seed))
 
-abbrev pub made : ℕ → ℕ → Result PlanData Refusal
-made size number = made_from size (first_seed number)
+abbrev pub demo_plan : ℕ → ℕ → Result PlanData Refusal
+demo_plan size number = demo_plan_from size (first_seed number)

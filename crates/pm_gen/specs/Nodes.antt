@@ -11,8 +11,8 @@ use Rattle.pm_gen.specs.Draws.{next, drawn}
 -- ---- names and parents
 
 -- how many concentrators a cluster of so many devices has: one for each 20, rounded up
-abbrev pub concentrators : ℕ → ℕ
-concentrators size = (size + 19) / 20
+abbrev pub concentrator_count : ℕ → ℕ
+concentrator_count size = (size + 19) / 20
 
 -- concentrator i is c1, c2, ..
 abbrev pub concentrator_name : ℕ → List ℕ
@@ -41,7 +41,7 @@ device_entries count size = map (device_entry count) (range_with_len 1 size)
 
 -- the tree of a cluster of so many devices
 unfoldable pub demo_entries : ℕ → List Entry
-demo_entries size = concentrator_entries (concentrators size) ++ device_entries (concentrators size) size
+demo_entries size = concentrator_entries (concentrator_count size) ++ device_entries (concentrator_count size) size
 
 -- ---- kinds and starts
 
@@ -81,4 +81,4 @@ drawn_devices (suc n) seed = with_first (drawn_device seed).0 (drawn_devices n (
 
 -- the nodes of a cluster of so many devices, in the order of its tree
 unfoldable pub demo_nodes : ℕ → ℕ → List NodePart
-demo_nodes size seed = replicate (concentrators size) concentrator ++ (drawn_devices size seed).0
+demo_nodes size seed = replicate (concentrator_count size) concentrator ++ (drawn_devices size seed).0

@@ -12,9 +12,9 @@ picks zero size seed = []
 picks (suc n) size seed = (1 + drawn size seed) ∷ picks n size (next seed)
 
 -- the seed after so many draws
-unfoldable pub after : ℕ → ℕ → ℕ
-after zero seed = seed
-after (suc n) seed = after n (next seed)
+unfoldable pub seed_after : ℕ → ℕ → ℕ
+seed_after zero seed = seed
+seed_after (suc n) seed = seed_after n (next seed)
 
 -- whether a device is joined after events of these devices: each event of a device turns it round
 unfoldable pub is_joined : List ℕ → ℕ → Bool
@@ -46,7 +46,7 @@ unfoldable pub rounds : ℕ → ℕ → List ℕ → ℕ → List PhasePart
 rounds zero size earlier seed = []
 rounds (suc n) size earlier seed =
     tick (pos 15) ∷ events (turns earlier (round_picks size seed))
-    ∷ rounds n size (earlier ++ round_picks size seed) (after (round_len size) seed)
+    ∷ rounds n size (earlier ++ round_picks size seed) (seed_after (round_len size) seed)
 
 -- the phases of a cluster of so many devices: all join in order, and then ten rounds follow
 unfoldable pub demo_phases : ℕ → ℕ → List PhasePart

@@ -1,7 +1,7 @@
 ghost use Rattle.std.specs.Prelude.{◌≡◌, ◌<◌, ◌≤◌, true, false, Ok, Err, IfOk, IfErr, IfSome, OnOk, map};
 ghost use Rattle.pm_plan.specs.Plans.{phases};
 ghost use Rattle.pm_gen.specs.Draws.{first_seed};
-ghost use Rattle.pm_gen.specs.Demo.{is_size, demo_basis, made, made_from};
+ghost use Rattle.pm_gen.specs.Demo.{is_size, demo_basis, demo_plan_from, demo_plan};
 
 use crate::devices::make_nodes;
 use crate::draws::Draws;
@@ -19,7 +19,7 @@ const MAX_SIZE: u32 = 200;
 ///
 /// Any other size is refused, and a size within them is refused by an allocation failure alone.
 pub fn make_plan(alloc: Global, size: u32, number: u32) -> Result<Plan, GenFault>
-    ensures plan { IfOk result (λ plan. made size number ≡ Ok plan) }
+    ensures plan { IfOk result (λ plan. demo_plan size number ≡ Ok plan) }
     ensures phases { IfOk result (λ plan. phases plan ≡ 21) }
     ensures size { OnOk result (is_size size ≡ true) }
     ensures bad_size { result ≡ Err GenFault.BadSize → is_size size ≡ false }
@@ -42,7 +42,7 @@ fn make_basis() -> Basis
 fn make_sized(alloc: Global, size: u32, first: Draws) -> Result<Plan, GenFault>
     requires some { 0 < size }
     requires few { size ≤ 200 }
-    ensures plan { IfOk result (λ plan. made_from size first.seed ≡ Ok plan) }
+    ensures plan { IfOk result (λ plan. demo_plan_from size first.seed ≡ Ok plan) }
     ensures phases { IfOk result (λ plan. phases plan ≡ 21) }
     ensures memory { IfErr result (λ fault. fault ≡ GenFault.NoMemory) }
 {

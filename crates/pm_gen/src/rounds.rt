@@ -2,7 +2,7 @@ ghost use Rattle.std.specs.Prelude.{◌≡◌, ℕ, ◌<◌, ◌≤◌, ◌+◌,
 ghost use Rattle.std.specs.List.{range_with_len};
 ghost use Rattle.pm_plan.specs.Parts.{event_part, phase_part, join as join_part, leave as leave_part, events as events_part, tick as tick_part};
 ghost use Rattle.pm_gen.specs.Nodes.{device_name};
-ghost use Rattle.pm_gen.specs.Rounds.{after, picks, joined_flags, turns, round_len, round_picks, rounds, demo_phases};
+ghost use Rattle.pm_gen.specs.Rounds.{picks, joined_flags, turns, round_len, round_picks, rounds, demo_phases, seed_after};
 
 use crate::draws::Draws;
 use crate::names::device_name;
@@ -74,7 +74,7 @@ fn turn_round(
         IfOk result (λ events. map event_part events.items ≡ turns earlier (round_picks (length members.old) draws.old.seed)) }
     ensures members { (earlier : List ℕ) → members.old ≡ joined_flags (length members.old) earlier →
         OnOk result (members.new ≡ joined_flags (length members.old) (earlier ++ round_picks (length members.old) draws.old.seed)) }
-    ensures seed { OnOk result (draws.new.seed ≡ after (round_len (length members.old)) draws.old.seed) }
+    ensures seed { OnOk result (draws.new.seed ≡ seed_after (round_len (length members.old)) draws.old.seed) }
     ensures size { length members.new ≡ length members.old }
 {
     let mut events = Vec::new(alloc);
@@ -99,7 +99,7 @@ fn push_round(
         ∷ events_part (turns earlier (round_picks (length members.old) draws.old.seed)) ∷ []) }
     ensures members { (earlier : List ℕ) → members.old ≡ joined_flags (length members.old) earlier →
         OnOk result (members.new ≡ joined_flags (length members.old) (earlier ++ round_picks (length members.old) draws.old.seed)) }
-    ensures seed { OnOk result (draws.new.seed ≡ after (round_len (length members.old)) draws.old.seed) }
+    ensures seed { OnOk result (draws.new.seed ≡ seed_after (round_len (length members.old)) draws.old.seed) }
     ensures size { length members.new ≡ length members.old }
 {
     phases.push(PhaseSpec::Tick {

@@ -1,7 +1,7 @@
 ghost use Rattle.std.specs.Prelude.{◌≡◌, ◌<◌, ◌≤◌, ◌++◌, IfOk, IfErr, OnOk, map};
 ghost use Rattle.std.specs.List.{range_with_len};
 ghost use Rattle.pm_tree.specs.Entries.{entry_of, entries_of};
-ghost use Rattle.pm_gen.specs.Nodes.{concentrators, concentrator_entry, device_entry, concentrator_entries, device_entries, demo_entries};
+ghost use Rattle.pm_gen.specs.Nodes.{concentrator_entry, device_entry, concentrator_entries, device_entries, demo_entries, concentrator_count};
 
 use crate::fault::GenFault;
 use crate::names::{concentrator_name, device_name, parent_name};
@@ -11,7 +11,7 @@ use std::alloc::{AllocError, Global};
 /// How many concentrators a cluster of so many devices has.
 pub(crate) fn count_concentrators(size: u32) -> u32
     requires { size ≤ 200 }
-    ensures { result ≡ concentrators size }
+    ensures { result ≡ concentrator_count size }
 {
     (size + 19) / 20
 }
@@ -29,10 +29,10 @@ fn concentrator(alloc: Global, number: u32) -> Result<TreeEntry, AllocError>
 
 /// The entry of a device, counted from 1, below one of so many concentrators.
 fn device(alloc: Global, concentrators: u32, number: u32) -> Result<TreeEntry, AllocError>
-    requires some { 0 < concentrators }
-    requires few { concentrators ≤ 10 }
+    requires some { 0 < concentrator_count }
+    requires few { concentrator_count ≤ 10 }
     requires first { 0 < number }
-    ensures { IfOk result (λ entry. entry_of entry ≡ device_entry concentrators number) }
+    ensures { IfOk result (λ entry. entry_of entry ≡ device_entry concentrator_count number) }
 {
     Ok(TreeEntry {
         name: device_name(alloc, number)?,

@@ -3,12 +3,12 @@ use Rattle.std.proofs.Common.{◌≡◌, ℕ, zero, suc, ◌+◌, ◌-◌, ◌*�
 use Rattle.std.proofs.Math.Nat.{mul-le-mul_left, mul-le-mul_right}
 use Rattle.std.proofs.lemmas.List.{get_or_default}
 use Rattle.std.proofs.lemmas.Bool.{cases_eq, cases_lt, cases_Bool, eq-eqb, ne_eqb, cond-true, cond-false, both_ways}
-use Rattle.pm_market.specs.Lists.{Lists, nodes, parent, is_leaf, changes, IsNode, IsLeaf, IsInner, IsLeafOf, is_leaf_of, is_below_in, is_below, concentrators_in, concentrators, Lawful}
+use Rattle.pm_market.specs.Lists.{Lists, nodes, parent, is_leaf, changes, IsNode, IsLeaf, IsInner, IsLeafOf, is_leaf_of, is_below_in, is_below, Lawful, path_depth_in, path_depth}
 use Rattle.pm_market.specs.State.{State, start, is_same_on, sum_to, AtMostOn, RisesOn, cut_at, newest_of, newest, part, known, clearings}
 use Rattle.pm_base.specs.Cuts.{Cut}
 use Rattle.pm_market.specs.Moves.{Legal, step, after_from, LegalFrom, after, LegalJournal}
 use Rattle.pm_market.specs.Sound.{Sound}
-use Rattle.pm_market.specs.Bound.{all_changes, bound}
+use Rattle.pm_market.specs.Bound.{bound, change_total}
 use Rattle.pm_laws.specs.Potential.{counted_at, counted}
 use Rattle.pm_market.specs.declared.moves.Move.{Move}
 use Rattle.pm_market.specs.declared.moves.Move.TheVariants.{Change, Learn, Publish, Clear, Pass, Close}
@@ -198,7 +198,7 @@ newest_weight lists law s sound x node =
     ]
 
 -- a weight is at most the number of all changes
-pub weight_small : (lists : Lists) (x : ℕ) → weight lists x ≤ all_changes lists
+pub weight_small : (lists : Lists) (x : ℕ) → weight lists x ≤ change_total lists
 unfolding weight
 weight_small lists x = sum_le (nodes lists) (λ d. cond (is_leaf_of lists x d) (changes lists d) 0) (λ d. cond (is_leaf lists d) (changes lists d) 0) (λ d one le.
     elim (cases_Bool (is_leaf_of lists x d)) [
@@ -256,17 +256,17 @@ split_below lists f x e =
     cond_le true = omega arith
     cond_le false = omega arith
 
-path_more : (lists : Lists) (f e : ℕ) → (e ≡ 0 → ⊥) → cond (is_leaf lists e) 1 0 + concentrators_in lists (suc f) e ≡ 1 + concentrators_in lists f (parent lists e)
-unfolding concentrators_in
+path_more : (lists : Lists) (f e : ℕ) → (e ≡ 0 → ⊥) → cond (is_leaf lists e) 1 0 + path_depth_in lists (suc f) e ≡ 1 + path_depth_in lists f (parent lists e)
+unfolding path_depth_in
 path_more lists f e ne =
-    let rest : ℕ = concentrators_in lists f (parent lists e) in
+    let rest : ℕ = path_depth_in lists f (parent lists e) in
     elim (cases_Bool (is_leaf lists e)) [
       | inl at ↦ omega (arith, cond-false {A = ℕ} (eqb e 0) 0 (cond (is_leaf lists e) 0 1 + rest) (ne_eqb e 0 ne), cond-true {A = ℕ} (is_leaf lists e) 1 0 at, cond-true {A = ℕ} (is_leaf lists e) 0 1 at)
       | inr at ↦ omega (arith, cond-false {A = ℕ} (eqb e 0) 0 (cond (is_leaf lists e) 0 1 + rest) (ne_eqb e 0 ne), cond-false {A = ℕ} (is_leaf lists e) 1 0 at, cond-false {A = ℕ} (is_leaf lists e) 0 1 at)
     ]
 
 above_count : (lists : Lists) → Lawful lists → (fuel d : ℕ) → d ≤ fuel → d ≤ nodes lists →
-    sum_to (nodes lists) (λ x. cond (is_below_in lists fuel x d) 1 0) ≤ cond (is_leaf lists d) 1 0 + concentrators_in lists fuel d
+    sum_to (nodes lists) (λ x. cond (is_below_in lists fuel x d) 1 0) ≤ cond (is_leaf lists d) 1 0 + path_depth_in lists fuel d
 above_count lists law zero d h le = omega (
   arith,
   sum_le (nodes lists) (λ x. cond (is_below_in lists zero x d) 1 0) (λ x. 0) (λ x one x_le.
@@ -298,7 +298,7 @@ above_count lists law (suc fuel) d h le =
 
 -- at or above a leaf stand at most seven nodes
 nodes_above : (lists : Lists) → Lawful lists → (d : ℕ) → IsLeaf lists d → sum_to (nodes lists) (λ x. cond (is_leaf_of lists x d) 1 0) ≤ 7
-unfolding is_leaf_of is_below concentrators
+unfolding is_leaf_of is_below path_depth
 nodes_above lists law d leaf =
     let node = leaf_node lists law d leaf in
     omega (
@@ -330,7 +330,7 @@ leaf_weights lists law d =
     ]
 
 -- each change counts in at most seven nodes
-all_weights : (lists : Lists) → Lawful lists → sum_to (nodes lists) (weight lists) ≤ 7 * all_changes lists
+all_weights : (lists : Lists) → Lawful lists → sum_to (nodes lists) (weight lists) ≤ 7 * change_total lists
 unfolding weight
 all_weights lists law =
     omega (
@@ -344,7 +344,7 @@ pub counted_bound : (lists : Lists) → Lawful lists → (s : State) → Sound l
 unfolding counted counted_at
 counted_bound lists law s sound =
     let n : ℕ = nodes lists in
-    let c : ℕ = all_changes lists in
+    let c : ℕ = change_total lists in
     let j : ℕ = clearings s in
     let j_le : j ≤ c = omega (arith, list_weight lists law s sound 0 (leaf_zero lists), weight_small lists 0) in
     let each : sum_to n (counted_at lists s) ≤ sum_to n (λ x. (weight lists x + weight lists x) + j) =
@@ -359,7 +359,7 @@ journal_bound lists law journal legal =
     omega (arith, counted_journal lists law journal start legal, counted_bound lists law (after lists journal) (sound_after_from lists law journal start (sound_start lists law) legal))
 
 -- so is every number of a node
-pub newest_small : (lists : Lists) → Lawful lists → (s : State) → Sound lists s → (x : ℕ) → IsNode lists x → newest lists s x ≤ all_changes lists
+pub newest_small : (lists : Lists) → Lawful lists → (s : State) → Sound lists s → (x : ℕ) → IsNode lists x → newest lists s x ≤ change_total lists
 newest_small lists law s sound x node = omega (arith, newest_weight lists law s sound x node, weight_small lists x)
 
 pub move_counts : (lists : Lists) (s : State) (m : Move) → Lawful lists → Legal lists s m → counted lists s < counted lists (step lists s m)

@@ -2,8 +2,8 @@
 use Rattle.std.proofs.Common.{◌≡◌, ℕ, zero, suc, ◌+◌, ◌<◌, ◌≤◌, true, false, List, [], ◌∷◌, ◌++◌, refl, sym, ◌∙◌, ap, arith}
 use Rattle.std.specs.List.{flat_map}
 use Rattle.pm_base.specs.Limits.{most_depth}
-use Rattle.pm_market.specs.Lists.{Lists, IsNode, IsLeaf, IsInner, Lawful, parent, is_leaf, is_member, changes, end, is_below_in, is_below, is_leaf_of}
-use Rattle.pm_market.specs.Lists.{way_up, child_at_or_above, concentrators_in, concentrators}
+use Rattle.pm_market.specs.Lists.{Lists, IsNode, IsLeaf, IsInner, Lawful, parent, is_leaf, is_member, changes, is_below_in, is_below, is_leaf_of, path_depth_in, path_depth, end_count}
+use Rattle.pm_market.specs.Lists.{way_up, child_at_or_above}
 use Rattle.pm_market.specs.State.{start, updated, all_to, sum_to, is_same_on, cut_at, newest_of, part_of, known_of, greatest_number, number_of, last_of, addresses_of, last, clearings, cleared}
 use Rattle.pm_market.specs.Moves.{after, LegalJournal}
 use Rattle.pm_market.specs.Held.{last_join, holds_price}
@@ -28,26 +28,26 @@ abbrev rejoins : List Move
 rejoins = Change 1 1 ∷ Learn 1 1 ∷ Clear 1 ∷ Change 1 2 ∷ Change 1 3 ∷ Pass 1 1 ∷ []
 
 rejoins_legal : first_illegal one_device start rejoins ≡ 6
-unfolding parent is_leaf is_member changes end is_below_in
+unfolding parent is_leaf is_member changes end_count is_below_in
     is_below is_leaf_of way_up child_at_or_above updated all_to is_same_on cut_at newest_of part_of known_of greatest_number number_of last_of addresses_of
     is_one_of learn_is_legal publish_is_legal clear_is_legal pass_is_legal is_idle_at is_idle change_is_legal are_made close_is_legal is_legal first_illegal
 rejoins_legal = refl
 
 -- the clearing passed last has number 1 of the device
 rejoins_number : cleared (after one_device rejoins) (last (after one_device rejoins) 1) 1 ≡ 1
-unfolding parent is_leaf is_member changes end is_below_in
+unfolding parent is_leaf is_member changes end_count is_below_in
     is_below is_leaf_of way_up child_at_or_above updated all_to is_same_on cut_at newest_of part_of known_of greatest_number number_of last_of addresses_of
 rejoins_number = refl
 
 rejoins_to_the_end : first_illegal one_device start (rejoins ++ Learn 1 3 ∷ Clear 2 ∷ Pass 1 2 ∷ Close 1 ∷ []) ≡ 10
-unfolding parent is_leaf is_member changes end is_below_in
+unfolding parent is_leaf is_member changes end_count is_below_in
     is_below is_leaf_of way_up child_at_or_above updated all_to is_same_on cut_at newest_of part_of known_of greatest_number number_of last_of addresses_of
     is_one_of learn_is_legal publish_is_legal clear_is_legal pass_is_legal is_idle_at is_idle change_is_legal are_made close_is_legal is_legal first_illegal
 rejoins_to_the_end = refl
 
 -- it may not be closed before
 rejoins_not_closed : first_illegal one_device start (rejoins ++ Close 1 ∷ []) ≡ 6
-unfolding parent is_leaf is_member changes end is_below_in
+unfolding parent is_leaf is_member changes end_count is_below_in
     is_below is_leaf_of way_up child_at_or_above updated all_to is_same_on cut_at newest_of part_of known_of greatest_number number_of last_of addresses_of
     is_one_of learn_is_legal publish_is_legal clear_is_legal pass_is_legal is_idle_at is_idle change_is_legal are_made close_is_legal is_legal first_illegal
 rejoins_not_closed = refl
@@ -68,13 +68,13 @@ abbrev eight_rounds : List Move
 eight_rounds = flat_map round (1 ∷ 2 ∷ 3 ∷ 4 ∷ 5 ∷ 6 ∷ 7 ∷ 8 ∷ [])
 
 window_full : first_illegal one_under start (eight_rounds ++ Change 2 9 ∷ Learn 2 9 ∷ Publish 1 9 ∷ []) ≡ 26
-unfolding parent is_leaf is_member changes end is_below_in
+unfolding parent is_leaf is_member changes end_count is_below_in
     is_below is_leaf_of way_up child_at_or_above updated all_to is_same_on cut_at newest_of part_of known_of greatest_number number_of last_of addresses_of
     is_one_of learn_is_legal publish_is_legal clear_is_legal pass_is_legal is_idle_at is_idle change_is_legal are_made close_is_legal is_legal first_illegal
 window_full = refl
 
 window_opens : first_illegal one_under start (eight_rounds ++ Change 2 9 ∷ Learn 2 9 ∷ Learn 1 8 ∷ Clear 1 ∷ Pass 1 1 ∷ Publish 1 9 ∷ []) ≡ 30
-unfolding parent is_leaf is_member changes end is_below_in
+unfolding parent is_leaf is_member changes end_count is_below_in
     is_below is_leaf_of way_up child_at_or_above updated all_to is_same_on cut_at newest_of part_of known_of greatest_number number_of last_of addresses_of
     is_one_of learn_is_legal publish_is_legal clear_is_legal pass_is_legal is_idle_at is_idle change_is_legal are_made close_is_legal is_legal first_illegal
 window_opens = refl
@@ -96,13 +96,13 @@ both_full = flat_map upward (1 ∷ 2 ∷ 3 ∷ 4 ∷ 5 ∷ 6 ∷ 7 ∷ 8 ∷ [])
 
 -- 44 moves are legal, then neither concentrator may publish
 both_full_lower : first_illegal two_levels start (both_full ++ Publish 2 9 ∷ []) ≡ 44
-unfolding parent is_leaf is_member changes end is_below_in
+unfolding parent is_leaf is_member changes end_count is_below_in
     is_below is_leaf_of way_up child_at_or_above updated all_to is_same_on cut_at newest_of part_of known_of greatest_number number_of last_of addresses_of
     is_one_of learn_is_legal publish_is_legal clear_is_legal pass_is_legal is_idle_at is_idle change_is_legal are_made close_is_legal is_legal first_illegal
 both_full_lower = refl
 
 both_full_upper : first_illegal two_levels start (both_full ++ Publish 1 9 ∷ []) ≡ 44
-unfolding parent is_leaf is_member changes end is_below_in
+unfolding parent is_leaf is_member changes end_count is_below_in
     is_below is_leaf_of way_up child_at_or_above updated all_to is_same_on cut_at newest_of part_of known_of greatest_number number_of last_of addresses_of
     is_one_of learn_is_legal publish_is_legal clear_is_legal pass_is_legal is_idle_at is_idle change_is_legal are_made close_is_legal is_legal first_illegal
 both_full_upper = refl
@@ -123,27 +123,27 @@ abbrev unwound : List Move
 unwound = both_full ++ Learn 1 8 ∷ Clear 1 ∷ Pass 1 1 ∷ Pass 2 1 ∷ Publish 2 9 ∷ Learn 2 9 ∷ Publish 1 9 ∷ Learn 1 9 ∷ Clear 2 ∷ Pass 1 2 ∷ Pass 2 2 ∷ pass_all 2 all_devices ++ Pass 12 2 ∷ []
 
 unwound_closes : first_illegal two_levels start (unwound ++ Close 1 ∷ []) ≡ 66
-unfolding parent is_leaf is_member changes end is_below_in
+unfolding parent is_leaf is_member changes end_count is_below_in
     is_below is_leaf_of way_up child_at_or_above updated all_to is_same_on cut_at newest_of part_of known_of greatest_number number_of last_of addresses_of
     is_one_of learn_is_legal publish_is_legal clear_is_legal pass_is_legal is_idle_at is_idle change_is_legal are_made close_is_legal is_legal first_illegal
 unwound_closes = refl
 
 -- every device was passed the last clearing, with its number 1
 unwound_last : (last (after two_levels unwound) 3 ≡ 2) × (last (after two_levels unwound) 12 ≡ 2) × (cleared (after two_levels unwound) 2 12 ≡ 1) × (clearings (after two_levels unwound) ≡ 2)
-unfolding parent is_leaf is_member changes end is_below_in
+unfolding parent is_leaf is_member changes end_count is_below_in
     is_below is_leaf_of way_up child_at_or_above updated all_to is_same_on cut_at newest_of part_of known_of greatest_number number_of last_of addresses_of
     is_one_of learn_is_legal publish_is_legal clear_is_legal pass_is_legal is_idle_at is_idle change_is_legal are_made close_is_legal is_legal first_illegal
 unwound_last = (refl, refl, refl, refl)
 
 only_the_auctioneer : (is_legal two_levels (after two_levels both_full) (Learn 1 8) ≡ true) × (is_legal two_levels (after two_levels both_full) (Clear 1) ≡ false)
-unfolding parent is_leaf is_member changes end is_below_in
+unfolding parent is_leaf is_member changes end_count is_below_in
     is_below is_leaf_of way_up child_at_or_above updated all_to is_same_on cut_at newest_of part_of known_of greatest_number number_of last_of addresses_of
     is_one_of learn_is_legal publish_is_legal clear_is_legal pass_is_legal is_idle_at is_idle change_is_legal are_made close_is_legal is_legal first_illegal
 only_the_auctioneer = (refl, refl)
 
 -- the lists of one device are lawful, and its journal is a legal one
 one_device_lawful : Lawful one_device
-unfolding parent is_leaf is_member changes end concentrators_in concentrators
+unfolding parent is_leaf is_member changes end_count path_depth_in path_depth
 one_device_lawful = record {
   leaves = refl;
   earlier = λ x node. earlier x node;
@@ -162,26 +162,26 @@ one_device_lawful = record {
     inner : (x : ℕ) → IsNode one_device x → IsInner one_device (parent one_device x)
     inner x node = ap (λ (z : ℕ). is_leaf one_device (parent one_device z)) (one x node)
 
-    depth : (x : ℕ) → IsNode one_device x → concentrators one_device x ≤ most_depth
-    depth x node = omega (arith, ap (concentrators one_device) (one x node))
+    depth : (x : ℕ) → IsNode one_device x → path_depth one_device x ≤ most_depth
+    depth x node = omega (arith, ap (path_depth one_device) (one x node))
 
     leaf_one : (d : ℕ) → IsLeaf one_device d → d ≡ 1
     leaf_one zero leaf = cc
     leaf_one (suc zero) leaf = refl
     leaf_one (suc (suc d)) leaf = cc
 
-    rise : (p d : ℕ) → IsLeaf one_device d → p < 1 → end one_device p d ≤ end one_device (p + 1) d
-    rise p d leaf lt = let e : p ≡ 0 = omega arith in omega (arith, ap (λ (q : ℕ). end one_device q d) e, end_zero one_device d)
+    rise : (p d : ℕ) → IsLeaf one_device d → p < 1 → end_count one_device p d ≤ end_count one_device (p + 1) d
+    rise p d leaf lt = let e : p ≡ 0 = omega arith in omega (arith, ap (λ (q : ℕ). end_count one_device q d) e, end_zero one_device d)
 
-    last_end : (d : ℕ) → IsLeaf one_device d → end one_device 1 d ≡ changes one_device d
-    last_end d leaf = ap (end one_device 1) (leaf_one d leaf) ∙ ap (changes one_device) (sym (leaf_one d leaf))
+    last_end : (d : ℕ) → IsLeaf one_device d → end_count one_device 1 d ≡ changes one_device d
+    last_end d leaf = ap (end_count one_device 1) (leaf_one d leaf) ∙ ap (changes one_device) (sym (leaf_one d leaf))
 
 one_device_journal : LegalJournal one_device (rejoins ++ Learn 1 3 ∷ Clear 2 ∷ Pass 1 2 ∷ Close 1 ∷ [])
 one_device_journal = journal_from one_device one_device_lawful (rejoins ++ Learn 1 3 ∷ Clear 2 ∷ Pass 1 2 ∷ Close 1 ∷ []) start (sound_start one_device one_device_lawful) rejoins_to_the_end
 
 -- after the pass of the old clearing it holds_price none, at the end it holds_price one
 rejoins_holds : (holds_price one_device (after one_device rejoins) 1 ≡ false) × (holds_price one_device (after one_device (rejoins ++ Learn 1 3 ∷ Clear 2 ∷ Pass 1 2 ∷ [])) 1 ≡ true)
-unfolding parent is_leaf is_member changes end is_below_in
+unfolding parent is_leaf is_member changes end_count is_below_in
     is_below is_leaf_of way_up child_at_or_above updated all_to is_same_on cut_at newest_of part_of known_of greatest_number number_of last_of addresses_of
     is_one_of learn_is_legal publish_is_legal clear_is_legal pass_is_legal is_idle_at is_idle change_is_legal are_made close_is_legal is_legal first_illegal
     last_join holds_price

@@ -3,7 +3,7 @@ use Rattle.std.proofs.Common.{◌≡◌, ℕ, zero, suc, ◌+◌, ◌-◌, ◌<�
 use Rattle.std.proofs.lemmas.Bool.{cases_eq, cases_lt, cases_Bool}
 use Rattle.std.proofs.lemmas.List.{get_or_append_left, get_or_push, length_push, get_or_default}
 use Rattle.std.specs.List.{Contains}
-use Rattle.pm_market.specs.Lists.{Lists, phases, parent, is_leaf, end, changes, IsNode, IsLeaf, IsInner, Lawful}
+use Rattle.pm_market.specs.Lists.{Lists, phases, parent, is_leaf, changes, IsNode, IsLeaf, IsInner, Lawful, end_count}
 use Rattle.pm_market.specs.State.{State, updated, SameOn, AtMostOn, cut_at, greatest_number, last_of, newest, part, number, last, clearings, cleared}
 use Rattle.pm_base.specs.Cuts.{Cut}
 use Rattle.pm_market.specs.Moves.{Reached}
@@ -11,17 +11,17 @@ use Rattle.pm_market.specs.Sound.{Sound}
 use Rattle.pm_market.proofs.Tree.{leaf_of_parts, leaf_of_parent, leaf_of_auctioneer, leaf_zero}
 use Rattle.pm_market.proofs.Cuts.{updated_same, updated_other, not_same, pushed, newest_inner, part_leaf, part_inner, greatest_le, greatest_from, greatest_same, number_inner}
 
-pub end_zero : (lists : Lists) (d : ℕ) → end lists 0 d ≡ 0
-unfolding end
+pub end_zero : (lists : Lists) (d : ℕ) → end_count lists 0 d ≡ 0
+unfolding end_count
 end_zero lists zero = refl
 end_zero lists (suc d) = refl
 
-end_up : (lists : Lists) → Lawful lists → (k p d : ℕ) → IsLeaf lists d → k + p ≡ phases lists → end lists p d ≤ end lists (phases lists) d
-end_up lists law zero p d leaf e = let same : p ≡ phases lists = omega arith in omega (arith, ap (λ (q : ℕ). end lists q d) same)
+end_up : (lists : Lists) → Lawful lists → (k p d : ℕ) → IsLeaf lists d → k + p ≡ phases lists → end_count lists p d ≤ end_count lists (phases lists) d
+end_up lists law zero p d leaf e = let same : p ≡ phases lists = omega arith in omega (arith, ap (λ (q : ℕ). end_count lists q d) same)
 end_up lists law (suc k) p d leaf e = let more : k + (p + 1) ≡ phases lists = omega arith in let below : p < phases lists = omega arith in
     omega (arith, law.ends_rise p d leaf below, end_up lists law k (p + 1) d leaf more)
 
-pub end_within : (lists : Lists) → Lawful lists → (p d : ℕ) → IsLeaf lists d → p ≤ phases lists → end lists p d ≤ changes lists d
+pub end_within : (lists : Lists) → Lawful lists → (p d : ℕ) → IsLeaf lists d → p ≤ phases lists → end_count lists p d ≤ changes lists d
 end_within lists law p d leaf h = omega (arith, end_up lists law (phases lists - p) p d leaf (omega arith), law.ends_last d leaf)
 
 pub updated_at : {A : Type 0} → (f : ℕ → A) (x : ℕ) (v : A) (y : ℕ) → ((y ≡ x) × (updated f x v y ≡ v)) ⊎ ((y ≡ x → ⊥) × (updated f x v y ≡ f y))

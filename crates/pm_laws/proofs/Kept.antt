@@ -4,7 +4,7 @@ use Rattle.std.proofs.lemmas.Bool.{cases_eq, cases_lt, cases_Bool}
 use Rattle.std.proofs.lemmas.List.{get_or_append_left, get_or_push, length_push}
 use Rattle.std.specs.List.{Contains}
 use Rattle.pm_base.specs.Limits.{window_size}
-use Rattle.pm_market.specs.Lists.{Lists, phases, child_at_or_above, parent, is_leaf, end, changes, IsInner, IsConcentrator, IsLeafOf, Lawful}
+use Rattle.pm_market.specs.Lists.{Lists, phases, child_at_or_above, parent, is_leaf, changes, IsInner, IsConcentrator, IsLeafOf, Lawful, end_count}
 use Rattle.pm_market.specs.State.{State, start, updated, is_same_on, RisesOn, cut_at, part_of, known_of, greatest_number, last_of, newest, part, known, number, last, clearings, cleared, addresses, addresses_of}
 use Rattle.pm_base.specs.Cuts.{Cut}
 use Rattle.pm_market.specs.Moves.{Idle, Legal, step, after_from, LegalFrom, after, LegalJournal}
@@ -53,7 +53,7 @@ sound_start lists law = record {
   counts_from = λ d leaf. omega (arith, end_zero lists d);
   counts_to = λ open_ d leaf. omega arith;
   closed_within = omega arith;
-  ended_counts = λ e d leaf. omega (arith, end_zero lists d, ap (λ (q : ℕ). end lists q d) e, law.ends_last d leaf);
+  ended_counts = λ e d leaf. omega (arith, end_zero lists d, ap (λ (q : ℕ). end_count lists q d) e, law.ends_last d leaf);
   ended_idle = λ e. start_idle lists;
   learnt_within = λ x node. omega arith;
   published_rise = λ c i j inner lt le. absurd (omega arith);
@@ -82,7 +82,7 @@ sound_change lists law s sound d n legal = record {
     | inr w ↦ omega (arith, w.1, sound.counts_from e leaf)
   ];
   counts_to = λ more e leaf. elim (updated_at s.counts d n e) [
-    | inl w ↦ omega (arith, w.1, legal.3, ap (end lists (s.closed + 1)) w.0)
+    | inl w ↦ omega (arith, w.1, legal.3, ap (end_count lists (s.closed + 1)) w.0)
     | inr w ↦ omega (arith, w.1, sound.counts_to more e leaf)
   ];
   closed_within = sound.closed_within;
@@ -369,7 +369,7 @@ sound_close lists law s sound p legal = record {
   counts_from = λ d leaf. omega (arith, legal.2 d leaf);
   counts_to = λ more d leaf. omega (arith, legal.2 d leaf, law.ends_rise p d leaf more);
   closed_within = legal.1;
-  ended_counts = λ e d leaf. omega (arith, legal.2 d leaf, ap (λ (q : ℕ). end lists q d) e, law.ends_last d leaf);
+  ended_counts = λ e d leaf. omega (arith, legal.2 d leaf, ap (λ (q : ℕ). end_count lists q d) e, law.ends_last d leaf);
   ended_idle = λ e. closed_idle lists s p legal.3;
   learnt_within = sound.learnt_within;
   published_rise = sound.published_rise;

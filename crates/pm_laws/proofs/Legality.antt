@@ -1,7 +1,7 @@
 -- The test of legality agrees with the definition.
 use Rattle.std.proofs.Common.{◌++◌, ◌↔◌, ◌≡◌, ℕ, suc, ◌+◌, Bool, true, false, cond, not, eqb, ltb, leb, ◌&&◌, inl, inr, List, [], ◌∷◌, length, refl, sym, ◌∙◌, arith}
 use Rattle.std.proofs.lemmas.Bool.{cases_Bool, eqb-true, eq-eqb, ltb-true, leb-true, lt-ltb, le-leb, and_parts, and_from, not-false, and_cases, not_from_false, both_ways, cond-true, cond-false, false_from_ne_true}
-use Rattle.pm_market.specs.Lists.{Lists, nodes, phases, parent, is_leaf, end, Lawful}
+use Rattle.pm_market.specs.Lists.{Lists, nodes, phases, parent, is_leaf, Lawful, end_count}
 use Rattle.pm_market.specs.State.{start, State, all_to, newest, clearings}
 use Rattle.pm_market.specs.Moves.{after_from, after, LegalJournal, NodeLegal, Idle, Legal, step, LegalFrom}
 use Rattle.pm_market.specs.Sound.{Sound}
@@ -45,28 +45,28 @@ idle_to lists s idle =
 pub legal_from : (lists : Lists) → Lawful lists → (s : State) → Sound lists s → (m : Move) → is_legal lists s m ≡ true → Legal lists s m
 unfolding is_legal change_is_legal close_is_legal are_made
 legal_from lists law s sound (Change d n) h =
-    let a = and_parts (is_leaf lists d && ltb s.closed (phases lists) && eqb n (s.counts d + 1)) (leb n (end lists (s.closed + 1) d)) h in
+    let a = and_parts (is_leaf lists d && ltb s.closed (phases lists) && eqb n (s.counts d + 1)) (leb n (end_count lists (s.closed + 1) d)) h in
     let b = and_parts (is_leaf lists d && ltb s.closed (phases lists)) (eqb n (s.counts d + 1)) a.0 in
     let c = and_parts (is_leaf lists d) (ltb s.closed (phases lists)) b.0 in
-    (c.0, ltb-true s.closed (phases lists) c.1, eqb-true n (s.counts d + 1) b.1, leb-true n (end lists (s.closed + 1) d) a.1)
+    (c.0, ltb-true s.closed (phases lists) c.1, eqb-true n (s.counts d + 1) b.1, leb-true n (end_count lists (s.closed + 1) d) a.1)
 legal_from lists law s sound (Learn x n) h = learn_from lists s x n h
 legal_from lists law s sound (Publish c n) h = publish_from lists s c n h
 legal_from lists law s sound (Clear j) h = clear_from lists s j h
 legal_from lists law s sound (Pass x j) h = pass_from lists s x j h
 legal_from lists law s sound (Close p) h =
-    let same : ℕ → Bool = λ d. cond (is_leaf lists d) (eqb (s.counts d) (end lists p d)) true in
+    let same : ℕ → Bool = λ d. cond (is_leaf lists d) (eqb (s.counts d) (end_count lists p d)) true in
     let a = and_parts (eqb p (s.closed + 1) && leb p (phases lists) && all_to (nodes lists) same) (is_idle lists s) h in
     let b = and_parts (eqb p (s.closed + 1) && leb p (phases lists)) (all_to (nodes lists) same) a.0 in
     let c = and_parts (eqb p (s.closed + 1)) (leb p (phases lists)) b.0 in (
       eqb-true p (s.closed + 1) c.0,
       leb-true p (phases lists) c.1,
-      λ d leaf. let node = leaf_node lists law d leaf in eqb-true (s.counts d) (end lists p d) (sym (cond-true (is_leaf lists d) (eqb (s.counts d) (end lists p d)) true leaf) ∙ all_to_at (nodes lists) same b.1 d node.0 node.1),
+      λ d leaf. let node = leaf_node lists law d leaf in eqb-true (s.counts d) (end_count lists p d) (sym (cond-true (is_leaf lists d) (eqb (s.counts d) (end_count lists p d)) true leaf) ∙ all_to_at (nodes lists) same b.1 d node.0 node.1),
       idle_from lists s sound a.1,
     )
 
 pub legal_to : (lists : Lists) → (s : State) → (m : Move) → Legal lists s m → is_legal lists s m ≡ true
 unfolding is_legal change_is_legal close_is_legal are_made
-legal_to lists s (Change d n) h = and_from _ _ (and_from _ _ (and_from _ _ h.0 (lt-ltb s.closed (phases lists) h.1)) (eq-eqb n (s.counts d + 1) h.2)) (le-leb n (end lists (s.closed + 1) d) h.3)
+legal_to lists s (Change d n) h = and_from _ _ (and_from _ _ (and_from _ _ h.0 (lt-ltb s.closed (phases lists) h.1)) (eq-eqb n (s.counts d + 1) h.2)) (le-leb n (end_count lists (s.closed + 1) d) h.3)
 legal_to lists s (Learn x n) h = learn_at lists s x n h
 legal_to lists s (Publish c n) h = publish_at lists s c n h
 legal_to lists s (Clear j) h = clear_at lists s j h
@@ -74,8 +74,8 @@ legal_to lists s (Pass x j) h = pass_at lists s x j h
 legal_to lists s (Close p) h =
     and_from _ _ (and_from _ _ (and_from _ _ (eq-eqb p (s.closed + 1) h.0) (le-leb p (phases lists) h.1))
     (all_to_from (nodes lists) _ (λ d one le. elim (cases_Bool (is_leaf lists d)) [
-      | inl e ↦ cond-true (is_leaf lists d) (eqb (s.counts d) (end lists p d)) true e ∙ eq-eqb (s.counts d) (end lists p d) (h.2 d e)
-      | inr e ↦ cond-false (is_leaf lists d) (eqb (s.counts d) (end lists p d)) true e
+      | inl e ↦ cond-true (is_leaf lists d) (eqb (s.counts d) (end_count lists p d)) true e ∙ eq-eqb (s.counts d) (end_count lists p d) (h.2 d e)
+      | inr e ↦ cond-false (is_leaf lists d) (eqb (s.counts d) (end_count lists p d)) true e
     ]))) (idle_to lists s h.3)
 
 pub journal_from : (lists : Lists) → Lawful lists → (ms : List Move) (s : State) → Sound lists s → first_illegal lists s ms ≡ length ms → LegalFrom lists s ms

@@ -2,7 +2,7 @@
 use Rattle.std.proofs.Common.{◌≡◌, ℕ, ◌≤◌, true, inl, inr, ◌↔◌, List, length, sym, ◌∙◌, ap, subst, arith}
 use Rattle.std.proofs.lemmas.Bool.{cases_eq, cases_lt, cases_Bool, cond-true, not_from_false}
 use Rattle.pm_market.specs.Lists.{Lists, parent, is_leaf, IsNode, IsLeaf, IsInner, IsConcentrator, IsLeafOf, Lawful}
-use Rattle.pm_market.specs.State.{State, zeros, is_same_on, SameOn, cut_at, greatest_number, number_of, newest, part, known, number, clearings, cleared, addresses}
+use Rattle.pm_market.specs.State.{State, is_same_on, SameOn, cut_at, greatest_number, number_of, newest, part, known, number, clearings, cleared, addresses, no_changes}
 use Rattle.pm_base.specs.Cuts.{Cut}
 use Rattle.pm_market.specs.Sound.{Sound}
 use Rattle.pm_market.proofs.Tree.{leaf_of_itself, leaf_of_parent, child_of}
@@ -84,7 +84,7 @@ addressed_number lists law s sound c j conc le =
         | inr ne ↦ omega arith
       ],
       λ h. let rise = sound.published_rise c 0 n conc.2 h n_le in
-          addresses_inner lists (cleared s j) c conc.2 ∙ not_from_false (is_same_on lists c (cleared s j) zeros) (not_same_from lists law c (cleared s j) zeros (λ none.
+          addresses_inner lists (cleared s j) c conc.2 ∙ not_from_false (is_same_on lists c (cleared s j) no_changes) (not_same_from lists law c (cleared s j) no_changes (λ none.
           not_same lists c (cut_at (s.published c) 0) (cut_at (s.published c) n) rise.not_same (λ d leaf.
           ap (λ (a : Cut). a d) (entry_zero (s.published c)) ∙ sym (none d leaf) ∙ at.0 d leaf ∙ ap (λ (a : Cut). a d) (part_inner lists s.published c n conc.2)))),
     )

@@ -1,7 +1,7 @@
 -- While a phase is open some move is legal.
 use Rattle.std.proofs.Common.{ℕ, ◌+◌, ◌<◌, Bool, true, cond, eqb, inl, inr, refl, sym, ◌∙◌, arith}
 use Rattle.std.proofs.lemmas.Bool.{cases_Bool, cond-true, cond-false, eqb-true, eqb-false, both_ways}
-use Rattle.pm_market.specs.Lists.{Lists, nodes, phases, is_leaf, end, Lawful}
+use Rattle.pm_market.specs.Lists.{Lists, nodes, phases, is_leaf, Lawful, end_count}
 use Rattle.pm_market.specs.State.{State, all_to}
 use Rattle.pm_market.specs.Moves.{NodeLegal, Legal}
 use Rattle.pm_market.specs.Sound.{Sound}
@@ -24,7 +24,7 @@ node_legal lists s (Close p) h = absurd h
 
 pub progress : (lists : Lists) → Lawful lists → (s : State) → Sound lists s → s.closed < phases lists → (m : Move) × Legal lists s m
 progress lists law s sound open_now =
-    let made : ℕ → Bool = λ d. cond (is_leaf lists d) (eqb (s.counts d) (end lists (s.closed + 1) d)) true in
+    let made : ℕ → Bool = λ d. cond (is_leaf lists d) (eqb (s.counts d) (end_count lists (s.closed + 1) d)) true in
     elim (cases_Bool (is_idle lists s)) [
       | inl idle ↦ elim (cases_Bool (all_to (nodes lists) made)) [
         | inl all ↦ (
@@ -32,7 +32,7 @@ progress lists law s sound open_now =
           (
             refl,
             omega arith,
-            λ d leaf. let node = leaf_node lists law d leaf in eqb-true (s.counts d) (end lists (s.closed + 1) d) (sym (cond-true (is_leaf lists d) (eqb (s.counts d) (end lists (s.closed + 1) d)) true leaf) ∙ all_to_at (nodes lists) made all d node.0 node.1),
+            λ d leaf. let node = leaf_node lists law d leaf in eqb-true (s.counts d) (end_count lists (s.closed + 1) d) (sym (cond-true (is_leaf lists d) (eqb (s.counts d) (end_count lists (s.closed + 1) d)) true leaf) ∙ all_to_at (nodes lists) made all d node.0 node.1),
             idle_from lists s sound idle,
           ),
         )
@@ -40,10 +40,10 @@ progress lists law s sound open_now =
             let r = all_to_fails (nodes lists) made some in
             elim (cases_Bool (is_leaf lists r.0)) [
               | inl leaf ↦
-                  let differs = eqb-false (s.counts r.0) (end lists (s.closed + 1) r.0) (sym (cond-true (is_leaf lists r.0) (eqb (s.counts r.0) (end lists (s.closed + 1) r.0)) true leaf) ∙ r.3) in
+                  let differs = eqb-false (s.counts r.0) (end_count lists (s.closed + 1) r.0) (sym (cond-true (is_leaf lists r.0) (eqb (s.counts r.0) (end_count lists (s.closed + 1) r.0)) true leaf) ∙ r.3) in
                   let most = sound.counts_to open_now r.0 leaf in
                   (Change r.0 (s.counts r.0 + 1), (leaf, open_now, refl, omega arith))
-              | inr none ↦ absurd (both_ways true (sym (cond-false (is_leaf lists r.0) (eqb (s.counts r.0) (end lists (s.closed + 1) r.0)) true none) ∙ r.3) refl)
+              | inr none ↦ absurd (both_ways true (sym (cond-false (is_leaf lists r.0) (eqb (s.counts r.0) (end_count lists (s.closed + 1) r.0)) true none) ∙ r.3) refl)
             ]
       ]
       | inr busy ↦ let r = not_idle_move lists s busy in (r.0, node_legal lists s r.0 r.1)

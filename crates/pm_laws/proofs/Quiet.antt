@@ -4,7 +4,7 @@ use Rattle.std.proofs.lemmas.Bool.{cases_eq, cases_lt, cases_Bool, cond-true, co
 use Rattle.std.specs.List.{Contains}
 use Rattle.pm_base.specs.Limits.{window_size}
 use Rattle.pm_market.specs.Lists.{Lists, parent, is_leaf, is_member, IsNode, IsLeaf, IsInner, IsConcentrator, IsLeafOf, Lawful}
-use Rattle.pm_market.specs.State.{State, zeros, is_same_on, SameOn, cut_at, greatest_number, newest, part, known, number, last, clearings, cleared, addresses, addresses_of}
+use Rattle.pm_market.specs.State.{State, is_same_on, SameOn, cut_at, greatest_number, newest, part, known, number, last, clearings, cleared, addresses, addresses_of, no_changes}
 use Rattle.pm_base.specs.Cuts.{Cut}
 use Rattle.pm_market.specs.Moves.{Reached, Idle}
 use Rattle.pm_market.specs.Sound.{Sound}
@@ -19,25 +19,25 @@ in_zero lists d = refl
 
 pub addresses_leaf : (lists : Lists) (cut : Cut) (x : ℕ) → IsLeaf lists x → addresses_of lists cut x ≡ is_member lists x (cut x)
 unfolding addresses_of
-addresses_leaf lists cut x leaf = cond-true (is_leaf lists x) (is_member lists x (cut x)) (not (is_same_on lists x cut zeros)) leaf
+addresses_leaf lists cut x leaf = cond-true (is_leaf lists x) (is_member lists x (cut x)) (not (is_same_on lists x cut no_changes)) leaf
 
-pub addresses_inner : (lists : Lists) (cut : Cut) (x : ℕ) → IsInner lists x → addresses_of lists cut x ≡ not (is_same_on lists x cut zeros)
+pub addresses_inner : (lists : Lists) (cut : Cut) (x : ℕ) → IsInner lists x → addresses_of lists cut x ≡ not (is_same_on lists x cut no_changes)
 unfolding addresses_of
-addresses_inner lists cut x inner = cond-false (is_leaf lists x) (is_member lists x (cut x)) (not (is_same_on lists x cut zeros)) inner
+addresses_inner lists cut x inner = cond-false (is_leaf lists x) (is_member lists x (cut x)) (not (is_same_on lists x cut no_changes)) inner
 
 -- a cut that is all zeros on the leaves of a node does not address it
-pub zeros_address_none : (lists : Lists) → Lawful lists → (cut : Cut) (x : ℕ) → SameOn lists x cut zeros → addresses_of lists cut x ≡ true → ⊥
+pub zeros_address_none : (lists : Lists) → Lawful lists → (cut : Cut) (x : ℕ) → SameOn lists x cut no_changes → addresses_of lists cut x ≡ true → ⊥
 zeros_address_none lists law cut x same h =
     elim (cases_Bool (is_leaf lists x)) [
       | inl e ↦ both_ways (is_member lists x (cut x)) (ap (is_member lists x) (same x (leaf_of_itself lists law x e)) ∙ in_zero lists x) (sym (addresses_leaf lists cut x e) ∙ h)
-      | inr e ↦ both_ways (not (is_same_on lists x cut zeros)) (ap not (is_same_from lists x cut zeros same)) (sym (addresses_inner lists cut x e) ∙ h)
+      | inr e ↦ both_ways (not (is_same_on lists x cut no_changes)) (ap not (is_same_from lists x cut no_changes same)) (sym (addresses_inner lists cut x e) ∙ h)
     ]
 
 -- a concentrator that it does not address has all zeros
-not_addressed : (lists : Lists) → Lawful lists → (cut : Cut) (x : ℕ) → IsInner lists x → addresses_of lists cut x ≡ false → SameOn lists x cut zeros
+not_addressed : (lists : Lists) → Lawful lists → (cut : Cut) (x : ℕ) → IsInner lists x → addresses_of lists cut x ≡ false → SameOn lists x cut no_changes
 not_addressed lists law cut x inner h =
-    elim (cases_Bool (is_same_on lists x cut zeros)) [
-      | inl e ↦ same_from lists law x cut zeros e
+    elim (cases_Bool (is_same_on lists x cut no_changes)) [
+      | inl e ↦ same_from lists law x cut no_changes e
       | inr e ↦ absurd (both_ways (addresses_of lists cut x) h (addresses_inner lists cut x inner ∙ ap not e))
     ]
 

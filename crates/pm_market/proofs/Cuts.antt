@@ -3,7 +3,7 @@ use Rattle.std.proofs.Common.{◌≡◌, ℕ, zero, suc, ◌+◌, ◌≤◌, Boo
 use Rattle.std.proofs.lemmas.Bool.{cases_eq, cases_Bool, eqb-true, eq-eqb, ne_eqb, and_parts, and_from, and_cases, cond-true, cond-false, both_ways, false_from_ne_true}
 use Rattle.std.proofs.lemmas.List.{get_or_append_left, get_or_push, length_push}
 use Rattle.pm_market.specs.Lists.{Lists, nodes, parent, is_leaf, IsLeaf, IsInner, IsLeafOf, is_leaf_of, Lawful}
-use Rattle.pm_market.specs.State.{zeros, updated, all_to, is_same_on, SameOn, AtMostOn, RisesOn, cut_at, newest_of, part_of, known_of, greatest_number, number_of}
+use Rattle.pm_market.specs.State.{updated, all_to, is_same_on, SameOn, AtMostOn, RisesOn, cut_at, newest_of, part_of, known_of, greatest_number, number_of, no_changes}
 use Rattle.pm_base.specs.Cuts.{Cut}
 use Rattle.pm_market.proofs.Tree.{leaf_node, leaf_of_parts, child_at_or_above_is}
 
@@ -75,17 +75,17 @@ within_then_rises lists law x a b c w r = record {
 
 -- lists of cuts
 
-pub entry_zero : (cuts : List Cut) → cut_at cuts 0 ≡ zeros
+pub entry_zero : (cuts : List Cut) → cut_at cuts 0 ≡ no_changes
 unfolding cut_at
 entry_zero cuts = refl
 
 pub entry_kept : (cuts : List Cut) (cut : Cut) (i : ℕ) → i ≤ length cuts → cut_at (cuts ++ cut ∷ []) i ≡ cut_at cuts i
 unfolding cut_at
-entry_kept cuts cut i h = get_or_append_left (zeros ∷ cuts) (cut ∷ []) zeros i (omega arith)
+entry_kept cuts cut i h = get_or_append_left (no_changes ∷ cuts) (cut ∷ []) no_changes i (omega arith)
 
 pub cut_at_new : (cuts : List Cut) (cut : Cut) (i : ℕ) → i ≡ length cuts + 1 → cut_at (cuts ++ cut ∷ []) i ≡ cut
 unfolding cut_at
-cut_at_new cuts cut i h = get_or_push (zeros ∷ cuts) cut zeros i (omega arith)
+cut_at_new cuts cut i h = get_or_push (no_changes ∷ cuts) cut no_changes i (omega arith)
 
 -- c's list has one more
 abbrev pub pushed : {A : Type 0} → (ℕ → List A) → ℕ → A → ℕ → List A

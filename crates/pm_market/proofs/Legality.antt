@@ -3,7 +3,7 @@ use Rattle.std.proofs.Common.{◌≡◌, ℕ, zero, suc, ◌+◌, ◌-◌, ◌<�
 use Rattle.std.specs.List.{Contains}
 use Rattle.std.proofs.lemmas.Bool.{cases_eq, cases_lt, cases_Bool, eqb-true, eq-eqb, ltb-true, leb-true, lt-ltb, le-leb, and_parts, and_from, or_cases, or_left, or_right, not-true, not-false, and_cases, not_from_false, both_ways, cond-true, cond-false, false_from_ne_true}
 use Rattle.pm_base.specs.Limits.{window_size}
-use Rattle.pm_market.specs.Lists.{Lists, nodes, phases, parent, is_leaf, end, IsNode}
+use Rattle.pm_market.specs.Lists.{Lists, nodes, phases, parent, is_leaf, IsNode, end_count}
 use Rattle.pm_market.specs.State.{State, all_to, is_same_on, known, newest, part, number, last, clearings, cleared, addresses}
 use Rattle.pm_market.specs.Moves.{Reached, NodeLegal}
 use Rattle.pm_market.specs.Legality.{is_one_of, is_node, has_reached, learn_is_legal, publish_is_legal, clear_is_legal, pass_is_legal, is_idle_at, is_idle, change_is_legal, is_legal}
@@ -125,13 +125,13 @@ at_parts lists s x h =
       λ j one le. not-true (pass_is_legal lists s x j) (all_to_at (clearings s) (λ j. not (pass_is_legal lists s x j)) a.1 j one le),
     )
 
-pub change_from : (lists : Lists) (s : State) (d n : ℕ) → change_is_legal lists s d n ≡ true → (is_leaf lists d ≡ true) × (s.closed < phases lists) × (n ≡ s.counts d + 1) × (n ≤ end lists (s.closed + 1) d)
+pub change_from : (lists : Lists) (s : State) (d n : ℕ) → change_is_legal lists s d n ≡ true → (is_leaf lists d ≡ true) × (s.closed < phases lists) × (n ≡ s.counts d + 1) × (n ≤ end_count lists (s.closed + 1) d)
 unfolding change_is_legal
 change_from lists s d n h =
-    let a = and_parts (is_leaf lists d && ltb s.closed (phases lists) && eqb n (s.counts d + 1)) (leb n (end lists (s.closed + 1) d)) h in
+    let a = and_parts (is_leaf lists d && ltb s.closed (phases lists) && eqb n (s.counts d + 1)) (leb n (end_count lists (s.closed + 1) d)) h in
     let b = and_parts (is_leaf lists d && ltb s.closed (phases lists)) (eqb n (s.counts d + 1)) a.0 in
     let c = and_parts (is_leaf lists d) (ltb s.closed (phases lists)) b.0 in
-    (c.0, ltb-true s.closed (phases lists) c.1, eqb-true n (s.counts d + 1) b.1, leb-true n (end lists (s.closed + 1) d) a.1)
+    (c.0, ltb-true s.closed (phases lists) c.1, eqb-true n (s.counts d + 1) b.1, leb-true n (end_count lists (s.closed + 1) d) a.1)
 
 -- a legal move of each kind
 pub legal_change : (lists : Lists) (s : State) (m : Move) (d n : ℕ) → m ≡ Change d n → is_legal lists s m ≡ true → change_is_legal lists s d n ≡ true

@@ -13,12 +13,6 @@ pub on_error : {T E : Type 0} (r : Result T E) (P : Type 0) → P → OnErr r P
 on_error (Ok x) P p = tt
 on_error (Err e) P p = p
 
--- each place of a list of one value has this value
-pub replicate_default : {A : Type 0} (n i : ℕ) (a : A) → get_or (replicate n a) i a ≡ a
-replicate_default zero i a = refl
-replicate_default (suc n) zero a = refl
-replicate_default (suc n) (suc i) a = replicate_default n i a
-
 -- states with the same parts
 pub state_same : (counts counts' : Cut) (closed : ℕ) (published published' : ℕ → List Cut) (learnt learnt' : ℕ → ℕ) (passed passed' : ℕ → List ℕ) →
     counts ≡ counts' → published ≡ published' → learnt ≡ learnt' → passed ≡ passed' →

@@ -5,9 +5,9 @@ use Rattle.pm_market.specs.Lists.{Lists, nodes, phases, is_leaf, changes}
 use Rattle.pm_market.specs.State.{sum_to}
 
 -- the changes of all devices
-abbrev pub all_changes : Lists → ℕ
-all_changes lists = sum_to (nodes lists) (λ d. cond (is_leaf lists d) (changes lists d) 0)
+abbrev pub change_total : Lists → ℕ
+change_total lists = sum_to (nodes lists) (λ d. cond (is_leaf lists d) (changes lists d) 0)
 
 -- the bound on the moves of a run with these changes, nodes and phases
 abbrev pub bound : Lists → ℕ
-bound lists = move_bound (all_changes lists) (nodes lists) (phases lists)
+bound lists = move_bound (change_total lists) (nodes lists) (phases lists)

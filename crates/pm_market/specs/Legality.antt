@@ -2,7 +2,7 @@
 -- named for.
 use Rattle.std.specs.Prelude.{ℕ, suc, ◌+◌, ◌-◌, Bool, true, false, cond, ◌==◌, ◌&&◌, ◌||◌, not, nat_lt, nat_le, List, [], ◌∷◌}
 use Rattle.pm_base.specs.Limits.{window_size}
-use Rattle.pm_market.specs.Lists.{Lists, nodes, phases, parent, is_leaf, end}
+use Rattle.pm_market.specs.Lists.{Lists, nodes, phases, parent, is_leaf, end_count}
 use Rattle.pm_market.specs.State.{State, all_to, is_same_on, known, newest, part, number, last, clearings, cleared, addresses}
 use Rattle.pm_market.specs.Moves.{step}
 use Rattle.pm_market.specs.declared.moves.Move.{Move}
@@ -50,11 +50,11 @@ unfoldable pub is_idle : Lists → State → Bool
 is_idle lists s = all_to (nodes lists) (is_idle_at lists s) && not (clear_is_legal lists s (clearings s + 1))
 
 unfoldable pub change_is_legal : Lists → State → ℕ → ℕ → Bool
-change_is_legal lists s d n = is_leaf lists d && nat_lt s.closed (phases lists) && (n == s.counts d + 1) && nat_le n (end lists (s.closed + 1) d)
+change_is_legal lists s d n = is_leaf lists d && nat_lt s.closed (phases lists) && (n == s.counts d + 1) && nat_le n (end_count lists (s.closed + 1) d)
 
 -- whether the changes made are just those of the phases up to p
 unfoldable pub are_made : Lists → State → ℕ → Bool
-are_made lists s p = all_to (nodes lists) (λ d. cond (is_leaf lists d) (s.counts d == end lists p d) true)
+are_made lists s p = all_to (nodes lists) (λ d. cond (is_leaf lists d) (s.counts d == end_count lists p d) true)
 
 unfoldable pub close_is_legal : Lists → State → ℕ → Bool
 close_is_legal lists s p = (p == s.closed + 1) && nat_le p (phases lists) && are_made lists s p && is_idle lists s

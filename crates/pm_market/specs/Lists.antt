@@ -37,8 +37,8 @@ unfoldable pub changes : Lists → ℕ → ℕ
 changes lists d = length (slice_index_or ([] ∷ lists.members) d [])
 
 -- how many changes of a device are made at the end of phase p; at the end of phase 0, before the first phase, none
-unfoldable pub end : Lists → ℕ → ℕ → ℕ
-end lists p d = slice_index_or (0 ∷ slice_index_or ([] ∷ lists.ends) p []) d 0
+unfoldable pub end_count : Lists → ℕ → ℕ → ℕ
+end_count lists p d = slice_index_or (0 ∷ slice_index_or ([] ∷ lists.ends) p []) d 0
 
 -- a device or a concentrator
 abbrev pub IsNode : Lists → ℕ → Type 0
@@ -83,14 +83,14 @@ unfoldable pub child_at_or_above : Lists → ℕ → ℕ → ℕ
 child_at_or_above lists y d = unwrap_or (find (λ x. parent lists x == y) (way_up lists d d)) 0
 
 -- how many concentrators stand on the path of so many steps from x towards the auctioneer, x included
-unfoldable pub concentrators_in : Lists → ℕ → ℕ → ℕ
-concentrators_in lists zero x = 0
-concentrators_in lists (suc steps) x =
-    cond (x == 0) 0 (cond (is_leaf lists x) 0 1 + concentrators_in lists steps (parent lists x))
+unfoldable pub path_depth_in : Lists → ℕ → ℕ → ℕ
+path_depth_in lists zero x = 0
+path_depth_in lists (suc steps) x =
+    cond (x == 0) 0 (cond (is_leaf lists x) 0 1 + path_depth_in lists steps (parent lists x))
 
 -- how many concentrators stand on the path from x to the auctioneer, x included
-unfoldable pub concentrators : Lists → ℕ → ℕ
-concentrators lists x = concentrators_in lists x x
+unfoldable pub path_depth : Lists → ℕ → ℕ
+path_depth lists x = path_depth_in lists x x
 
 -- lawful lists: what the lists of every plan keep. That no device is a member after change 0 lies in is_member
 pub record Lawful (lists : Lists) : Type 0 where
@@ -98,7 +98,7 @@ pub record Lawful (lists : Lists) : Type 0 where
   -- a parent is the auctioneer or an earlier node, and no leaf
   pub earlier : (x : ℕ) → IsNode lists x → parent lists x < x
   pub inner : (x : ℕ) → IsNode lists x → IsInner lists (parent lists x)
-  pub depth : (x : ℕ) → IsNode lists x → concentrators lists x ≤ most_depth
+  pub depth : (x : ℕ) → IsNode lists x → path_depth lists x ≤ most_depth
   -- the counts at the phases' ends never fall, and the last are the numbers of changes
-  pub ends_rise : (p d : ℕ) → IsLeaf lists d → p < phases lists → end lists p d ≤ end lists (p + 1) d
-  pub ends_last : (d : ℕ) → IsLeaf lists d → end lists (phases lists) d ≡ changes lists d
+  pub ends_rise : (p d : ℕ) → IsLeaf lists d → p < phases lists → end_count lists p d ≤ end_count lists (p + 1) d
+  pub ends_last : (d : ℕ) → IsLeaf lists d → end_count lists (phases lists) d ≡ changes lists d

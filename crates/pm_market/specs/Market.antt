@@ -6,8 +6,8 @@ use Rattle.pm_base.specs.Cuts.{Cut, cut_of}
 use Rattle.pm_market.specs.declared.market.Market.{Market}
 
 -- the four lists of a market
-abbrev pub lists_of : Market → Lists
-lists_of m = record {
+abbrev pub market_lists : Market → Lists
+market_lists m = record {
   parents = m.parents.items;
   leaves = m.leaves.items;
   members = map (λ row. row.items) m.members.items;
@@ -15,8 +15,8 @@ lists_of m = record {
 }
 
 -- the state of a market; each table has a place for each node, the auctioneer's first
-abbrev pub state_of : Market → State
-state_of m = record {
+abbrev pub market_state : Market → State
+market_state m = record {
   counts = cut_of m.counts.items;
   closed = m.closed;
   published = λ c. map cut_of (map (λ row. row.items) (slice_index_or (map (λ rows. rows.items) m.published.items) c []));

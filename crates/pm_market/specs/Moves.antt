@@ -2,7 +2,7 @@
 use Rattle.std.specs.Prelude.{◌≡◌, ℕ, ◌+◌, ◌-◌, ◌<◌, ◌≤◌, ◌⊎◌, true, false, List, [], ◌∷◌, ◌++◌}
 use Rattle.std.specs.List.{Contains}
 use Rattle.pm_base.specs.Limits.{window_size}
-use Rattle.pm_market.specs.Lists.{Lists, phases, parent, end, IsNode, IsLeaf, IsConcentrator}
+use Rattle.pm_market.specs.Lists.{Lists, phases, parent, IsNode, IsLeaf, IsConcentrator, end_count}
 use Rattle.pm_market.specs.State.{State, start, updated, is_same_on, newest, part, known, number, last, clearings, cleared, addresses}
 use Rattle.pm_market.specs.declared.moves.Move.{Move}
 use Rattle.pm_market.specs.declared.moves.Move.TheVariants.{Change, Learn, Publish, Clear, Pass, Close}
@@ -48,12 +48,12 @@ Legal lists s (Change device number') =
     IsLeaf lists device
     × (s.closed < phases lists)
     × (number' ≡ s.counts device + 1)
-    × (number' ≤ end lists (s.closed + 1) device)
+    × (number' ≤ end_count lists (s.closed + 1) device)
 -- the open phase is closed, where all its changes are made and the state is idle
 Legal lists s (Close phase) =
     (phase ≡ s.closed + 1)
     × (phase ≤ phases lists)
-    × ((d : ℕ) → IsLeaf lists d → s.counts d ≡ end lists phase d)
+    × ((d : ℕ) → IsLeaf lists d → s.counts d ≡ end_count lists phase d)
     × Idle lists s
 Legal lists s m = NodeLegal lists s m
 

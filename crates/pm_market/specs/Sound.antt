@@ -2,7 +2,7 @@
 use Rattle.std.specs.Prelude.{◌≡◌, ℕ, ◌+◌, ◌-◌, ◌<◌, ◌≤◌, true, length, slice_index_or}
 use Rattle.std.specs.List.{Contains}
 use Rattle.pm_base.specs.Limits.{window_size}
-use Rattle.pm_market.specs.Lists.{Lists, phases, parent, end, changes, IsNode, IsLeaf, IsInner, IsConcentrator}
+use Rattle.pm_market.specs.Lists.{Lists, phases, parent, changes, IsNode, IsLeaf, IsInner, IsConcentrator, end_count}
 use Rattle.pm_market.specs.State.{State, SameOn, AtMostOn, RisesOn, cut_at, newest, part, known, number, last, clearings, cleared, addresses}
 use Rattle.pm_market.specs.Moves.{Reached, Idle}
 
@@ -10,8 +10,8 @@ use Rattle.pm_market.specs.Moves.{Reached, Idle}
 pub record Sound (lists : Lists) (s : State) : Type 0 where
   -- no device made more than its changes, all changes of closed phases are made, and none of a phase that is not open yet
   pub counts_within : (d : ℕ) → IsLeaf lists d → s.counts d ≤ changes lists d
-  pub counts_from : (d : ℕ) → IsLeaf lists d → end lists s.closed d ≤ s.counts d
-  pub counts_to : s.closed < phases lists → (d : ℕ) → IsLeaf lists d → s.counts d ≤ end lists (s.closed + 1) d
+  pub counts_from : (d : ℕ) → IsLeaf lists d → end_count lists s.closed d ≤ s.counts d
+  pub counts_to : s.closed < phases lists → (d : ℕ) → IsLeaf lists d → s.counts d ≤ end_count lists (s.closed + 1) d
   pub closed_within : s.closed ≤ phases lists
   -- once all phases are closed every change is made and the state is idle
   pub ended_counts : s.closed ≡ phases lists → (d : ℕ) → IsLeaf lists d → s.counts d ≡ changes lists d

@@ -4,8 +4,8 @@ use Rattle.pm_base.specs.Cuts.{Cut}
 use Rattle.pm_market.specs.Lists.{Lists, nodes, is_leaf, is_member, is_leaf_of, IsLeafOf, child_at_or_above}
 
 -- the cut that contains no change
-abbrev pub zeros : Cut
-zeros d = 0
+abbrev pub no_changes : Cut
+no_changes d = 0
 
 -- f, with the value at x replaced by v
 unfoldable pub updated : {A : Type 0} → (ℕ → A) → ℕ → A → ℕ → A
@@ -53,7 +53,7 @@ pub record State : Type 0 where
 -- at the start all numbers are 0 and all lists are empty
 abbrev pub start : State
 start = record {
-  counts = zeros;
+  counts = no_changes;
   closed = 0;
   published = λ c. [];
   learnt = λ x. 0;
@@ -62,7 +62,7 @@ start = record {
 
 -- the cut of number i in a list of cuts that begins with number 1; all zeros for number 0
 unfoldable pub cut_at : List Cut → ℕ → Cut
-cut_at cuts i = slice_index_or (zeros ∷ cuts) i zeros
+cut_at cuts i = slice_index_or (no_changes ∷ cuts) i no_changes
 
 -- the newest number of a node: of a device its count, of a concentrator how many cuts it published
 unfoldable pub newest_of : Lists → Cut → (ℕ → List Cut) → ℕ → ℕ
@@ -94,7 +94,7 @@ last_of indices = slice_index_or (0 ∷ indices) (length indices) 0
 -- whether a clearing of this cut addresses x: a device where it is a member at the cut's number, a concentrator
 -- where the cut is not all zeros on its leaves
 unfoldable pub addresses_of : Lists → Cut → ℕ → Bool
-addresses_of lists cut x = cond (is_leaf lists x) (is_member lists x (cut x)) (not (is_same_on lists x cut zeros))
+addresses_of lists cut x = cond (is_leaf lists x) (is_member lists x (cut x)) (not (is_same_on lists x cut no_changes))
 
 -- the newest number of a node
 abbrev pub newest : Lists → State → ℕ → ℕ

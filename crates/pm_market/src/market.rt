@@ -40,15 +40,15 @@ pub struct Market {
 /// The tree and the plan of a market.
 impl Market {
     ghost use Rattle.std.specs.Prelude.{◌≡◌, ◌==◌, ◌+◌, ◌≤◌, true, if◌then◌else◌, length};
-    ghost use Rattle.pm_market.specs.Lists.{parent, is_leaf, is_member, end, is_below, is_leaf_of, child_at_or_above};
+    ghost use Rattle.pm_market.specs.Lists.{parent, is_leaf, is_member, is_below, is_leaf_of, child_at_or_above, end_count};
     ghost use Rattle.pm_market.specs.State.{is_same_on};
-    ghost use Rattle.pm_market.specs.Market.{lists_of, state_of};
+    ghost use Rattle.pm_market.specs.Market.{market_lists, market_state};
     ghost use Rattle.pm_base.specs.Cuts.{cut_of};
 
     /// The parent of a node.
     #[tactic(auto, unfolding(crate::specs::Lists::parent))]
     fn parent(&self, node: usize) -> usize
-        ensures { result ≡ parent (lists_of self.now) node }
+        ensures { result ≡ parent (market_lists self.now) node }
     {
         item_from_one(&self.parents, node, 0) as usize
     }
@@ -56,7 +56,7 @@ impl Market {
     /// Whether a node is a device.
     #[tactic(auto, unfolding(crate::specs::Lists::is_leaf))]
     fn is_leaf(&self, node: usize) -> bool
-        ensures { result ≡ is_leaf (lists_of self.now) node }
+        ensures { result ≡ is_leaf (market_lists self.now) node }
     {
         item_from_one(&self.leaves, node, false)
     }
@@ -64,22 +64,22 @@ impl Market {
     /// Whether a device is a member after so many changes.
     #[tactic(auto, unfolding(crate::specs::Lists::is_member))]
     fn is_member(&self, device: usize, changes: usize) -> bool
-        ensures { result ≡ is_member (lists_of self.now) device changes }
+        ensures { result ≡ is_member (market_lists self.now) device changes }
     {
         item_from_one(row_from_one(&self.members, device), changes, false)
     }
 
     /// How many changes of a device are made at the end of a phase.
-    #[tactic(auto, unfolding(crate::specs::Lists::end))]
+    #[tactic(auto, unfolding(crate::specs::Lists::end_count))]
     fn end(&self, phase: usize, device: usize) -> u32
-        ensures { result ≡ end (lists_of self.now) phase device }
+        ensures { result ≡ end_count (market_lists self.now) phase device }
     {
         item_from_one(row_from_one(&self.ends, phase), device, 0)
     }
 
     /// Whether a node is this one or stands below it.
     fn is_below(&self, node: usize, below: usize) -> bool
-        ensures { result ≡ is_below (lists_of self.now) node below }
+        ensures { result ≡ is_below (market_lists self.now) node below }
     {
         let mut at = below;
         for _step in 0..below {
@@ -97,7 +97,7 @@ impl Market {
     /// Whether a device is one of the leaves of a node.
     #[tactic(auto, unfolding(crate::specs::Lists::is_leaf_of))]
     fn is_leaf_of(&self, node: usize, device: usize) -> bool
-        ensures { result ≡ is_leaf_of (lists_of self.now) node device }
+        ensures { result ≡ is_leaf_of (market_lists self.now) node device }
     {
         self.is_leaf(device) && self.is_below(node, device)
     }
@@ -105,7 +105,7 @@ impl Market {
     /// The child of a node at or above another: of the nodes from that one up the first whose parent is the node, and 0
     /// where there is none.
     fn child_at_or_above(&self, node: usize, below: usize) -> usize
-        ensures { result ≡ child_at_or_above (lists_of self.now) node below }
+        ensures { result ≡ child_at_or_above (market_lists self.now) node below }
     {
         let mut at = below;
         for _step in 0..below {
@@ -123,14 +123,14 @@ impl Market {
 
     /// Whether two cuts have one number of a device, or the device is no leaf of the node.
     fn is_same_at(&self, node: usize, one: &[u32], other: &[u32], device: usize) -> bool
-        ensures { result ≡ (if is_leaf_of (lists_of self.now) node device then cut_of one.now device == cut_of other.now device else true) }
+        ensures { result ≡ (if is_leaf_of (market_lists self.now) node device then cut_of one.now device == cut_of other.now device else true) }
     {
         item_at(one, device, 0) == item_at(other, device, 0) || !self.is_leaf_of(node, device)
     }
 
     /// Whether two cuts are the same on the leaves of a node.
     fn is_same_on(&self, node: usize, one: &[u32], other: &[u32]) -> bool
-        ensures { result ≡ is_same_on (lists_of self.now) node (cut_of one.now) (cut_of other.now) }
+        ensures { result ≡ is_same_on (market_lists self.now) node (cut_of one.now) (cut_of other.now) }
     {
         for before in 0..self.parents.len() {
             if !self.is_same_at(node, one, other, before + 1) {
@@ -147,19 +147,19 @@ impl Market {
     ghost use Rattle.pm_market.specs.Lists.{is_leaf_of};
     ghost use Rattle.pm_market.specs.State.{cut_at, is_same_on, newest, known, number, greatest_number, last, clearings, cleared, addresses};
     ghost use Rattle.pm_market.specs.Legality.{has_reached, is_node, is_one_of};
-    ghost use Rattle.pm_market.specs.Market.{lists_of, state_of};
+    ghost use Rattle.pm_market.specs.Market.{market_lists, market_state};
     ghost use Rattle.pm_base.specs.Cuts.{cut_of};
 
     /// How many cuts a node published, or the auctioneer cleared.
     fn published_by(&self, node: usize) -> usize
-        ensures { result ≡ length ((state_of self.now).published node) }
+        ensures { result ≡ length ((market_state self.now).published node) }
     {
         row_at(&self.published, node).len()
     }
 
     /// The cut of a number of a node, counted from 1; nothing, which is all zeros, where there is none.
     fn cut_row(&self, node: usize, number: usize) -> &[u32]
-        ensures { cut_of result.now ≡ cut_at ((state_of self.now).published node) number }
+        ensures { cut_of result.now ≡ cut_at ((market_state self.now).published node) number }
     {
         row_from_one(row_at(&self.published, node), number)
     }
@@ -167,7 +167,7 @@ impl Market {
     /// The newest number of a node.
     #[tactic(auto, unfolding(crate::specs::State::newest_of))]
     fn newest(&self, node: usize) -> usize
-        ensures { result ≡ newest (lists_of self.now) (state_of self.now) node }
+        ensures { result ≡ newest (market_lists self.now) (market_state self.now) node }
     {
         if self.is_leaf(node) {
             item_at(&self.counts, node, 0) as usize
@@ -178,7 +178,7 @@ impl Market {
 
     /// The number of a node that its parent learnt last.
     fn learnt(&self, node: usize) -> u32
-        ensures { result ≡ (state_of self.now).learnt node }
+        ensures { result ≡ (market_state self.now).learnt node }
     {
         item_at(&self.learnt, node, 0)
     }
@@ -186,7 +186,7 @@ impl Market {
     /// The index of the clearing passed to a node last, 0 where there was none.
     #[tactic(auto, unfolding(crate::specs::State::last_of))]
     fn last(&self, node: usize) -> usize
-        ensures { result ≡ last (state_of self.now) node }
+        ensures { result ≡ last (market_state self.now) node }
     {
         let indices = row_at(&self.passed, node);
         item_from_one(indices, indices.len(), 0)
@@ -194,7 +194,7 @@ impl Market {
 
     /// What a node knows of a device below it. It walks up the tree, seven steps at most.
     fn known_number(&self, node: usize, device: usize) -> u32
-        ensures { result ≡ known (lists_of self.now) (state_of self.now) node device }
+        ensures { result ≡ known (market_lists self.now) (market_state self.now) node device }
     {
         let child = self.child_at_or_above(node, device);
         let number = self.learnt(child);
@@ -207,7 +207,7 @@ impl Market {
 
     /// Whether a node knows of a device what it published or cleared last, or the device is no leaf of it.
     fn knows_same_at(&self, node: usize, device: usize) -> bool
-        ensures { result ≡ (if is_leaf_of (lists_of self.now) node device then known (lists_of self.now) (state_of self.now) node device == cut_at ((state_of self.now).published node) (length ((state_of self.now).published node)) device else true) }
+        ensures { result ≡ (if is_leaf_of (market_lists self.now) node device then known (market_lists self.now) (market_state self.now) node device == cut_at ((market_state self.now).published node) (length ((market_state self.now).published node)) device else true) }
     {
         let newest = self.cut_row(node, self.published_by(node));
         self.known_number(node, device) == item_at(newest, device, 0)
@@ -216,7 +216,7 @@ impl Market {
 
     /// Whether a node knows just what it published or cleared last.
     fn knows_same(&self, node: usize) -> bool
-        ensures { result ≡ is_same_on (lists_of self.now) node (known (lists_of self.now) (state_of self.now) node) (cut_at ((state_of self.now).published node) (length ((state_of self.now).published node))) }
+        ensures { result ≡ is_same_on (market_lists self.now) node (known (market_lists self.now) (market_state self.now) node) (cut_at ((market_state self.now).published node) (length ((market_state self.now).published node))) }
     {
         for before in 0..self.parents.len() {
             if !self.knows_same_at(node, before + 1) {
@@ -228,7 +228,7 @@ impl Market {
 
     /// The greatest number under which a node published a cut, 0 where there is none.
     fn greatest_number(&self, node: usize, cut: &[u32]) -> usize
-        ensures { result ≡ greatest_number (lists_of self.now) ((state_of self.now).published node) node (cut_of cut.now) (length ((state_of self.now).published node)) }
+        ensures { result ≡ greatest_number (market_lists self.now) ((market_state self.now).published node) node (cut_of cut.now) (length ((market_state self.now).published node)) }
     {
         let newest = self.published_by(node);
         for back in 0..newest {
@@ -243,7 +243,7 @@ impl Market {
     /// The number that a cut contains of a node.
     #[tactic(auto, unfolding(crate::specs::State::number_of))]
     fn number(&self, node: usize, cut: &[u32]) -> usize
-        ensures { result ≡ number (lists_of self.now) (state_of self.now) node (cut_of cut.now) }
+        ensures { result ≡ number (market_lists self.now) (market_state self.now) node (cut_of cut.now) }
     {
         if self.is_leaf(node) {
             item_at(cut, node, 0) as usize
@@ -254,7 +254,7 @@ impl Market {
 
     /// How many numbers of a node lie above the one that the last price passed to it names.
     fn unanswered(&self, node: usize) -> usize
-        ensures { result ≡ newest (lists_of self.now) (state_of self.now) node - number (lists_of self.now) (state_of self.now) node (cleared (state_of self.now) (last (state_of self.now) node)) }
+        ensures { result ≡ newest (market_lists self.now) (market_state self.now) node - number (market_lists self.now) (market_state self.now) node (cleared (market_state self.now) (last (market_state self.now) node)) }
     {
         let cut = self.cut_row(0, self.last(node));
         self.newest(node).saturating_sub(self.number(node, cut))
@@ -262,14 +262,14 @@ impl Market {
 
     /// Whether a clearing was passed to a node.
     fn was_passed(&self, node: usize, index: usize) -> bool
-        ensures { result ≡ is_one_of ((state_of self.now).passed node) index }
+        ensures { result ≡ is_one_of ((market_state self.now).passed node) index }
     {
         is_among(row_at(&self.passed, node), index)
     }
 
     /// Whether a clearing reached a node: the auctioneer made it, or it was passed to the node.
     fn has_reached(&self, node: usize, index: usize) -> bool
-        ensures { result ≡ has_reached (state_of self.now) node index }
+        ensures { result ≡ has_reached (market_state self.now) node index }
     {
         (node == 0 && 1 <= index && index <= self.published_by(0)) || self.was_passed(node, index)
     }
@@ -277,7 +277,7 @@ impl Market {
     /// Whether a clearing addresses a node.
     #[tactic(auto, unfolding(crate::specs::State::addresses_of))]
     fn is_addressed(&self, node: usize, index: usize) -> bool
-        ensures { result ≡ addresses (lists_of self.now) (state_of self.now) index node }
+        ensures { result ≡ addresses (market_lists self.now) (market_state self.now) index node }
     {
         let cut = self.cut_row(0, index);
         if self.is_leaf(node) {
@@ -289,7 +289,7 @@ impl Market {
 
     /// Whether it is a device or a concentrator.
     fn is_node(&self, node: usize) -> bool
-        ensures { result ≡ is_node (lists_of self.now) node }
+        ensures { result ≡ is_node (market_lists self.now) node }
     {
         1 <= node && node <= self.parents.len()
     }

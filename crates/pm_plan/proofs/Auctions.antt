@@ -6,7 +6,7 @@ use Rattle.pm_bid.specs.Bids.{demand_at, sum_of, zeros}
 use Rattle.pm_bid.specs.Clearing.{clearing_step}
 use Rattle.pm_bid.specs.Limited.{within_limits, local_step}
 use Rattle.pm_plan.specs.Plans.{PlanData, node, limits_of, is_member, group}
-use Rattle.pm_plan.specs.Auction.{States, node_bid, demand_of, part_in, sum_in, announced, total, plain, group_step, local, power, limited}
+use Rattle.pm_plan.specs.Auction.{States, node_bid, part_in, sum_in, announced, total, plain, group_step, local, power, limited, demand_in_cut}
 use Rattle.pm_base.specs.Cuts.{Cut}
 
 pub map_range_same : {X : Type 0} (f g : ℕ → X) (a n : ℕ) → ((k : ℕ) → a ≤ k → k < a + n → f k ≡ g k) → map f (range_with_len a n) ≡ map g (range_with_len a n)
@@ -23,8 +23,8 @@ map_same f g (x ∷ xs) same = ap (λ y. y ∷ map f xs) (same x) ∙ ap (λ ys.
 abbrev pub Agree : PlanData → Cut → States → States → Type 0
 Agree plan cut s t = (d : ℕ) → 1 ≤ d → d < 1 + length plan.nodes → s d (cut d) ≡ t d (cut d)
 
-pub demand_same : (plan : PlanData) (s t : States) (cut : Cut) (d : ℕ) → s d (cut d) ≡ t d (cut d) → demand_of plan s cut d ≡ demand_of plan t cut d
-unfolding demand_of
+pub demand_same : (plan : PlanData) (s t : States) (cut : Cut) (d : ℕ) → s d (cut d) ≡ t d (cut d) → demand_in_cut plan s cut d ≡ demand_in_cut plan t cut d
+unfolding demand_in_cut
 demand_same plan s t cut d same =
     ap (λ z. cond (is_member plan d (cut d)) (node_bid plan (node plan d) z) (zeros plan.basis.steps)) same
 
@@ -55,4 +55,4 @@ pub power_same : (plan : PlanData) (s t : States) (cut : Cut) (d : ℕ) → 1 �
 unfolding power
 power_same plan s t cut d low high same =
     ap (λ bid. demand_at bid (local plan s cut d)) (demand_same plan s t cut d (same d low high))
-    ∙ ap (demand_at (demand_of plan t cut d)) (local_same plan s t cut d same)
+    ∙ ap (demand_at (demand_in_cut plan t cut d)) (local_same plan s t cut d same)

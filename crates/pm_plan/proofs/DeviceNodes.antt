@@ -80,8 +80,3 @@ device_last nodes x planned is = elim (cases_lt (length nodes) x) [
   | inl far ↦ absurd (cc (sym (node-beyond nodes x far) ∙ is))
   | inr near ↦ omega arith
 ]
-
--- a value that f is applied to is there where the value of it is
-pub is_some-option_map : {A B : Type 0} (f : A → B) (o : Option A) → is_some (option_map f o) ≡ is_some o
-is_some-option_map f None = refl
-is_some-option_map f (Some x) = refl

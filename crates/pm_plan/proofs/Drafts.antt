@@ -11,7 +11,8 @@ use Rattle.pm_tree.specs.Shape.{IsTree}
 use Rattle.pm_plan.specs.declared.planned.Planned.{Planned}
 use Rattle.pm_plan.specs.declared.node.Node.TheVariants.{Concentrator}
 use Rattle.pm_plan.specs.Plans.{PlanData, NodeData, node, is_limited, parent, group, group_in}
-use Rattle.pm_plan.proofs.Groups.{Earlier, group-up, length-parents_of}
+use Rattle.pm_plan.proofs.Groups.{Earlier, group-up}
+use Rattle.pm_tree.proofs.Named.{length-parents_of}
 use Rattle.pm_plan.specs.Building.{with_change, map_device, with_change_of}
 
 -- where the parent is limited, it is the group
@@ -46,14 +47,6 @@ pub map_more : (f : NodeData → NodeData) (xs ys : List NodeData) (i : ℕ) (d 
     ys ≡ map f (take i xs) ++ drop i xs → y ≡ f (get_or ys i d) → set ys i y ≡ map f (take (i + 1) xs) ++ drop (i + 1) xs
 map_more f xs ys i d y inside within before made =
     ap (set ys i) made ∙ map_over_more f xs ys i (get_or ys i d) inside before (get_or_default ys i d (get_or ys i d) within)
-
--- the node of a name is one of the tree, and a device is not the auctioneer
-pub named_inside : (entries : List Entry) (name : List ℕ) (x : ℕ) → node_named entries name ≡ Some x → x ≤ length entries
-unfolding node_named
-named_inside entries name x named =
-    let found = position-Some (bytes_eq name) (names_of entries) x [] named in
-    let inside : x < length (names_of entries) = found.0 in
-    omega (arith, length-map entries (λ (entry : Entry). entry.name))
 
 pub device_is_no_root : (entries : List Entry) (x : ℕ) → is_leaf_at entries x ≡ true → 1 ≤ x
 device_is_no_root entries zero leaf = absurd (let h : false ≡ true = leaf in cc)

@@ -3,7 +3,7 @@ use Rattle.std.proofs.Common.{◌≡◌, ◌∙◌, sym, ap, ℕ, zero, suc, ◌
 use Rattle.std.proofs.Math.ListN.{get_or-eq_default}
 use Rattle.std.proofs.lemmas.Bool.{cases_lt}
 use Rattle.std.proofs.lemmas.Int.{ints, clamps}
-use Rattle.pm_bid.proofs.Sums.{length-zeros}
+use Rattle.pm_bid.proofs.Sums.{length-zeros, zeros-at}
 use Rattle.pm_bid.specs.Bids.{AllWithinLimit, NeverRises, demand_at, zeros}
 use Rattle.pm_base.specs.Limits.{demand_limit, IsWithin}
 use Rattle.pm_device.specs.Kinds.{is_valid, state_fits, temperature_limit, is_temperature, is_between}
@@ -17,8 +17,8 @@ use Rattle.pm_plan.specs.declared.planned.Planned.{Planned}
 use Rattle.pm_plan.specs.declared.planned.Planned.TheVariants.{Join, Leave, Set, Tick}
 use Rattle.pm_plan.specs.Devices.{DeviceData}
 use Rattle.pm_plan.specs.declared.node.Node.TheVariants.{Concentrator, Limited, Device}
-use Rattle.pm_plan.specs.Plans.{PlanData, NodeData, node, changes_of, change_count, is_member, end}
-use Rattle.pm_plan.specs.Auction.{node_bid, demand_of, local, power}
+use Rattle.pm_plan.specs.Plans.{PlanData, NodeData, node, changes_of, change_count, is_member, end_cut}
+use Rattle.pm_plan.specs.Auction.{node_bid, local, power, demand_in_cut}
 use Rattle.pm_base.specs.Cuts.{Cut}
 use Rattle.pm_plan.specs.States.{changed_state, state}
 use Rattle.pm_plan.specs.Kept.{IsPlan, no_change, change_fits, change_at}
@@ -64,7 +64,7 @@ state-fits plan d zero planned is here within = subst (λ z. IsTrue (state_fits 
 state-fits plan d (suc n) planned is here within =
     let P = λ (z : ℤ). IsTrue (state_fits planned.kind z) in
     let what = (change_at plan d n).what in
-    let used = power plan (state plan) (end plan ((change_at plan d n).phase - 1)) d in
+    let used = power plan (state plan) (end_cut plan ((change_at plan d n).phase - 1)) d in
     let before = state-fits plan d n planned is here (omega arith) in
     let next = ap (state plan d) (sym (add-one n)) ∙ state-next plan d n planned is.in_phases here (omega arith) in
     let valid = (is.within.devices d planned here).kind in
@@ -89,13 +89,8 @@ bid-falls plan d n planned is here = bid_of-falls planned.kind (state plan d n) 
 none-within : (limit : ℕ) → IsWithin limit (pos 0)
 none-within limit = record { low = omega (arith, ints); high = omega (arith, ints) }
 
-zero-at : (steps k : ℕ) → demand_at (zeros steps) k ≡ pos 0
-zero-at zero k = refl
-zero-at (suc steps) zero = refl
-zero-at (suc steps) (suc k) = zero-at steps k
-
 zeros-within : (limit steps : ℕ) → AllWithinLimit limit (zeros steps)
-zeros-within limit steps k inside = subst (IsWithin limit) (sym (zero-at steps k)) (none-within limit)
+zeros-within limit steps k inside = subst (IsWithin limit) (sym (zeros-at steps k)) (none-within limit)
 
 either : (P : List ℤ → Type 0) (b : Bool) (x y : List ℤ) → P x → P y → P (cond b x y)
 either P true x y here there = here
@@ -110,8 +105,8 @@ node_bid-within plan (Limited limits) z within = zeros-within demand_limit plan.
 node_bid-within plan (Device planned) z within = within planned refl
 
 pub demand-within : (plan : PlanData) (cut : Cut) (d : ℕ) → IsPlan plan → cut d ≤ change_count plan d →
-    AllWithinLimit demand_limit (demand_of plan (state plan) cut d)
-unfolding demand_of
+    AllWithinLimit demand_limit (demand_in_cut plan (state plan) cut d)
+unfolding demand_in_cut
 demand-within plan cut d is within =
     either (AllWithinLimit demand_limit) (is_member plan d (cut d)) _ _
     (node_bid-within plan (node plan d) (state plan d (cut d)) (λ planned here. bid-within plan d (cut d) planned is here within))
@@ -127,4 +122,4 @@ element-within limit bid k all = elim (cases_lt k (length bid)) [
 pub power-within : (plan : PlanData) (cut : Cut) (d : ℕ) → IsPlan plan → cut d ≤ change_count plan d → IsWithin demand_limit (power plan (state plan) cut d)
 unfolding power
 power-within plan cut d is within =
-    element-within demand_limit (demand_of plan (state plan) cut d) (local plan (state plan) cut d) (demand-within plan cut d is within)
+    element-within demand_limit (demand_in_cut plan (state plan) cut d) (local plan (state plan) cut d) (demand-within plan cut d is within)

@@ -2,6 +2,7 @@
 use Rattle.std.proofs.Common.{◌≡◌, ◌∙◌, sym, ap, ℕ, zero, suc, ◌<◌, ◌≤◌, Bool, true, false, cond, length, refl, arith, Some, None}
 use Rattle.std.specs.Prelude.{List}
 use Rattle.std.proofs.lemmas.List.{length-map}
+use Rattle.pm_tree.proofs.Named.{length-parents_of}
 use Rattle.pm_tree.specs.Entries.{Entry, parents_of, number_named}
 use Rattle.pm_plan.specs.Kept.{IsPlan}
 use Rattle.pm_plan.specs.Plans.{PlanData, parent, is_limited, group, group_in, unless_zero, group_above}
@@ -51,10 +52,6 @@ group_above-some plan x (suc y) is low = ap unless_zero is
 
 pub group_above-none : (plan : PlanData) (x : ℕ) → group plan x ≡ 0 → group_above plan x ≡ None
 group_above-none plan x is = ap unless_zero is
-
-pub length-parents_of : (entries : List Entry) → length (parents_of entries) ≡ length entries
-unfolding parents_of
-length-parents_of entries = length-map entries (λ (e : Entry). number_named entries e.parent)
 
 pub earlier_in : (plan : PlanData) → IsPlan plan → Earlier plan (length plan.nodes)
 earlier_in plan is x low high = is.tree.earlier x low (omega (arith, length-parents_of plan.entries, is.nodes.one_each))

@@ -3,6 +3,7 @@ use Rattle.std.proofs.Common.{◌≡◌, ◌∙◌, sym, ℕ, zero, suc, ◌≤�
 use Rattle.std.proofs.Math.ListN.{get_or-eq_default}
 use Rattle.std.proofs.lemmas.Bool.{cases_lt}
 use Rattle.std.proofs.lemmas.List.{length-map}
+use Rattle.pm_tree.proofs.Named.{length-leaves_of}
 use Rattle.pm_tree.specs.Entries.{Entry, is_leaf_at, leaves_of}
 use Rattle.pm_plan.specs.Plans.{PlanData, is_leaf}
 use Rattle.pm_plan.specs.Kept.{IsPlan}
@@ -10,10 +11,6 @@ use Rattle.pm_plan.specs.Kept.{IsPlan}
 pub record IsInside (x many : ℕ) : Type 0 where
   pub from_one : 1 ≤ x
   pub to_last : x ≤ many
-
-length-leaves_of : (entries : List Entry) → length (leaves_of entries) ≡ length entries
-unfolding leaves_of
-length-leaves_of entries = length-map entries (λ (e : Entry). e.leaf)
 
 pub leaf_inside : (entries : List Entry) (x : ℕ) → is_leaf_at entries x ≡ true → IsInside x (length entries)
 leaf_inside entries zero leaf = absurd (cc leaf)

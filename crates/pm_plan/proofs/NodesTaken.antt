@@ -29,7 +29,8 @@ use Rattle.pm_plan.proofs.Inversions.{bind-ok, check-ok, ok-is, fold_keeps}
 use Rattle.pm_plan.proofs.Changes.{NodeHolds, no_changes-hold}
 use Rattle.pm_plan.proofs.DeviceNodes.{node-beyond}
 use Rattle.pm_plan.proofs.NodesAt.{node-old, node-new, each_with_node, group-same, group-same_all}
-use Rattle.pm_plan.proofs.Groups.{Earlier, length-parents_of}
+use Rattle.pm_plan.proofs.Groups.{Earlier}
+use Rattle.pm_tree.proofs.Named.{length-parents_of}
 use Rattle.pm_plan.proofs.StatesMade.{state-made}
 
 -- what holds of a plan all along, where phase p is the last that may have changes

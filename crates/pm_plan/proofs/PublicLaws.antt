@@ -15,12 +15,12 @@ use Rattle.pm_market.specs.Lists as market
 use Rattle.pm_market.specs.Bound as market_bound
 use Rattle.pm_plan.specs.Devices.{DeviceData}
 use Rattle.pm_plan.specs.declared.node.Node.TheVariants.{Device}
-use Rattle.pm_plan.specs.Plans.{PlanData, node, end, is_member, change_count, bound}
+use Rattle.pm_plan.specs.Plans.{PlanData, node, is_member, change_count, plan_bound, end_cut}
 use Rattle.pm_plan.specs.Auction.{power}
 use Rattle.pm_base.specs.Cuts.{Cut}
 use Rattle.pm_plan.specs.States.{changed_state, state}
 use Rattle.pm_plan.specs.Kept.{IsPlan, InPhases, change_at}
-use Rattle.pm_plan.specs.Market.{lists_of}
+use Rattle.pm_plan.specs.Market.{plan_lists}
 use Rattle.pm_plan.proofs.StateLaws.{state-start, state-next}
 use Rattle.pm_plan.proofs.Fits.{state-fits, bid-steps, bid-within, bid-falls, power-within}
 use Rattle.pm_plan.proofs.MarketLists.{lawful, is_member-is, bound-is}
@@ -29,7 +29,7 @@ pub starts : (plan : PlanData) (d : ℕ) (planned : DeviceData) → node plan d 
 starts plan d planned is = state-start plan d planned is
 
 pub follows : (plan : PlanData) (d n : ℕ) (planned : DeviceData) → InPhases plan → node plan d ≡ Device planned → n < change_count plan d →
-    state plan d (n + 1) ≡ changed_state planned.kind (state plan d n) (power plan (state plan) (end plan ((change_at plan d n).phase - 1)) d)
+    state plan d (n + 1) ≡ changed_state planned.kind (state plan d n) (power plan (state plan) (end_cut plan ((change_at plan d n).phase - 1)) d)
     (change_at plan d n).what
 follows plan d n planned fits is inside = state-next plan d n planned fits is inside
 
@@ -52,13 +52,13 @@ falls plan d n planned is here = bid-falls plan d n planned is here
 pub powers : (plan : PlanData) (cut : Cut) (d : ℕ) → IsPlan plan → cut d ≤ change_count plan d → IsWithin demand_limit (power plan (state plan) cut d)
 powers plan cut d is inside = power-within plan cut d is inside
 
-pub lawful_lists : (plan : PlanData) → IsPlan plan → Lawful (lists_of plan)
+pub lawful_lists : (plan : PlanData) → IsPlan plan → Lawful (plan_lists plan)
 lawful_lists plan is = lawful plan is
 
-pub members : (plan : PlanData) (d n : ℕ) → 1 ≤ d → d ≤ length plan.nodes → n ≤ change_count plan d → market.is_member (lists_of plan) d n ≡ is_member plan d n
+pub members : (plan : PlanData) (d n : ℕ) → 1 ≤ d → d ≤ length plan.nodes → n ≤ change_count plan d → market.is_member (plan_lists plan) d n ≡ is_member plan d n
 members plan d n low high inside = is_member-is plan d n low high inside
 
-pub bounds : (plan : PlanData) → IsPlan plan → market_bound.bound (lists_of plan) ≡ bound plan
+pub bounds : (plan : PlanData) → IsPlan plan → market_bound.bound (plan_lists plan) ≡ plan_bound plan
 bounds plan is = bound-is plan is
 
 pub plans : (basis : BasisValue) (entries : List Entry) (nodes : List NodePart) (phases : List PhasePart) (plan : PlanData) → IsBasis basis → checked_tree entries ≡ Ok entries → IsTree (parents_of entries) (leaves_of entries) → AreNodesOf entries nodes → checked_plan basis entries nodes phases ≡ Ok plan → IsPlan plan

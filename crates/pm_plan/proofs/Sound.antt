@@ -20,6 +20,7 @@ use Rattle.pm_plan.specs.Plans as plans
 use Rattle.pm_plan.specs.Kept.{IsPlan, DeviceFits, no_change, change_fits}
 use Rattle.pm_base.specs.Limits.{most_phases}
 use Rattle.pm_base.specs.Outcomes.{fold_from}
+use Rattle.pm_tree.proofs.Named.{length-leaves_of}
 use Rattle.pm_plan.specs.Building.{add_node, add_phase, empty_plan, checked_plan}
 use Rattle.pm_plan.proofs.Inversions.{bind-ok, check-ok}
 use Rattle.pm_plan.proofs.DeviceNodes.{node-beyond}
@@ -36,10 +37,6 @@ few_entries : (entries : List Entry) → checked_tree entries ≡ Ok entries →
 unfolding first_refusal
 few_entries entries h = few_if (length entries) (nat_lt 256 (length entries)) _ _ entries refl h
 
-length-leaves : (entries : List Entry) → length (leaves_of entries) ≡ length entries
-unfolding leaves_of
-length-leaves entries = length-map entries (λ (e : Entry). e.leaf)
-
 -- the devices among the parts are the leaves
 part_is : (entries : List Entry) (parts : List NodePart) (x : ℕ) → AreNodesOf entries parts → x < length parts →
     is_device (get_or parts x concentrator) ≡ is_leaf_at entries (suc x)
@@ -52,7 +49,7 @@ devices_taken : (entries : List Entry) (parts : List NodePart) (plan : PlanData)
 devices_taken entries parts plan fit taken zero = refl
 devices_taken entries parts plan fit taken (suc x) =
     let here = ap (λ (l : List Entry). is_leaf_at l (suc x)) (sym taken.same_entries) in
-    let many = sym (length-map parts is_device) ∙ ap (λ (l : List Bool). length l) fit ∙ length-leaves entries in
+    let many = sym (length-map parts is_device) ∙ ap (λ (l : List Bool). length l) fit ∙ length-leaves_of entries in
     let nodes = taken.many in
     elim (cases_lt x (length parts)) [
       | inl inside ↦
@@ -60,7 +57,7 @@ devices_taken entries parts plan fit taken (suc x) =
           ap (λ y. plans.is_device (node plan y)) place ∙ taken.devices x inside ∙ part_is entries parts x fit inside ∙ here
       | inr far ↦
           ap plans.is_device (node-beyond plan.nodes (suc x) (omega arith))
-          ∙ sym (get_or-eq_default (leaves_of entries) false {n = x} (let long = length-leaves entries in omega arith)) ∙ here
+          ∙ sym (get_or-eq_default (leaves_of entries) false {n = x} (let long = length-leaves_of entries in omega arith)) ∙ here
     ]
 
 no_changes : (plan : PlanData) → ((x : ℕ) → changes_of (node plan x) ≡ []) → all_changes plan.nodes ≤ 0
@@ -77,7 +74,7 @@ no_phases plan q none = ap (λ (l : List (Option ℤ)). get_or l (q - 1) None) n
 -- the way begins once all nodes were taken
 begun : (entries : List Entry) (parts : List NodePart) (plan : PlanData) → AreNodesOf entries parts → NodesTaken entries parts plan → PhasesTaken entries [] plan
 begun entries parts plan fit taken =
-    let many = sym (length-map parts is_device) ∙ ap (λ (l : List Bool). length l) fit ∙ length-leaves entries in
+    let many = sym (length-map parts is_device) ∙ ap (λ (l : List Bool). length l) fit ∙ length-leaves_of entries in
     record {
       way = record {
         same_entries = taken.same_entries;

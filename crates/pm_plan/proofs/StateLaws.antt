@@ -12,7 +12,7 @@ use Rattle.std.proofs.lemmas.List.Elements.{All-head, All-tail}
 use Rattle.pm_plan.specs.declared.planned.Change.{Change}
 use Rattle.pm_plan.specs.Devices.{DeviceData}
 use Rattle.pm_plan.specs.declared.node.Node.TheVariants.{Concentrator, Limited, Device}
-use Rattle.pm_plan.specs.Plans.{PlanData, NodeData, node, changes_of, end, phases, is_up_to}
+use Rattle.pm_plan.specs.Plans.{PlanData, NodeData, node, changes_of, phases, is_up_to, end_cut}
 use Rattle.pm_plan.specs.Auction.{power}
 use Rattle.pm_plan.specs.States.{changed_state, power_at, node_state, state_in, row, one_more, rows, state}
 use Rattle.pm_plan.proofs.Auctions.{power_same}
@@ -40,12 +40,12 @@ rows-at plan (suc k) p h =
           (get_or-append_seam (rows plan k) (row plan (rows plan k) (length (rows plan k))) [] []))
     ]
 
-power_at-rows : (plan : PlanData) (k p d : ℕ) → p < k → 1 ≤ d → d < 1 + length plan.nodes → power_at (rows plan k) p d ≡ power plan (state_in plan (rows plan p)) (end plan p) d
+power_at-rows : (plan : PlanData) (k p d : ℕ) → p < k → 1 ≤ d → d < 1 + length plan.nodes → power_at (rows plan k) p d ≡ power plan (state_in plan (rows plan p)) (end_cut plan p) d
 unfolding row
 power_at-rows plan k p zero h low high = absurd (omega arith)
 power_at-rows plan k p (suc d) h low high =
     ap (λ r. get_or r (suc d) (pos 0)) (rows-at plan k p h)
-    ∙ get_or-map-range_with_len (power plan (state_in plan (rows plan p)) (end plan p)) 1 (length plan.nodes) d (suc d) (pos 0) (omega arith) (omega arith)
+    ∙ get_or-map-range_with_len (power plan (state_in plan (rows plan p)) (end_cut plan p)) 1 (length plan.nodes) d (suc d) (pos 0) (omega arith) (omega arith)
 
 fold_same : {A B : Type 0} (f g : B → A → B) (P : A → Type 0) → ((b : B) (x : A) → P x → f b x ≡ g b x) → (b : B) (xs : List A) → All P xs → fold f b xs ≡ fold g b xs
 fold_same f g P same b [] all = refl
@@ -56,8 +56,8 @@ fold_same f g P same b (x ∷ xs) all =
 abbrev Before : ℕ → Change → Type 0
 Before p c = c.phase - 1 < p
 
-changes_before : (plan : PlanData) (p d n : ℕ) → n ≤ end plan p d → InPhases plan → All (Before p) (take n (changes_of (node plan d)))
-unfolding end
+changes_before : (plan : PlanData) (p d n : ℕ) → n ≤ end_cut plan p d → InPhases plan → All (Before p) (take n (changes_of (node plan d)))
+unfolding end_cut
 changes_before plan p d n upto fits k c inside =
     let changes = changes_of (node plan d) in
     let short : prefix_len (is_up_to p) changes ≤ length changes = prefix_len-le-length (is_up_to p) changes in
@@ -79,7 +79,7 @@ node_state-same (Device planned) some all p k early same =
     (same (c.phase - 1) h)) planned.start (take k planned.changes) early
 
 -- the states up to the end of phase p use the rows below p alone
-state_in-same : (plan : PlanData) (some all : List (List ℤ)) (p d n : ℕ) → n ≤ end plan p d → InPhases plan → ((q : ℕ) → q < p → power_at some q d ≡ power_at all q d) → state_in plan some d n ≡ state_in plan all d n
+state_in-same : (plan : PlanData) (some all : List (List ℤ)) (p d n : ℕ) → n ≤ end_cut plan p d → InPhases plan → ((q : ℕ) → q < p → power_at some q d ≡ power_at all q d) → state_in plan some d n ≡ state_in plan all d n
 unfolding state_in
 state_in-same plan some all p d n upto fits same =
     node_state-same (node plan d) (λ q. power_at some q d) (λ q. power_at all q d) p n (changes_before plan p d n upto fits) same
@@ -90,16 +90,16 @@ power_at-fewer plan j k q d below within =
     ap (λ r. get_or r d (pos 0)) (rows-at plan j q below ∙ sym (rows-at plan k q (omega arith)))
 
 -- up to the end of phase p the rows below p are enough
-pub state_in-rows : (plan : PlanData) (p d n : ℕ) → p ≤ phases plan → n ≤ end plan p d → InPhases plan → state_in plan (rows plan p) d n ≡ state plan d n
+pub state_in-rows : (plan : PlanData) (p d n : ℕ) → p ≤ phases plan → n ≤ end_cut plan p d → InPhases plan → state_in plan (rows plan p) d n ≡ state plan d n
 unfolding state
 state_in-rows plan p d n within upto fits =
     state_in-same plan (rows plan p) (rows plan (phases plan)) p d n upto fits (λ q below. power_at-fewer plan p (phases plan) q d below within)
 
 -- row p is the plain auction at the end of phase p
-pub power_at-is : (plan : PlanData) (p d : ℕ) → p < phases plan → 1 ≤ d → d < 1 + length plan.nodes → InPhases plan → power_at (rows plan (phases plan)) p d ≡ power plan (state plan) (end plan p) d
+pub power_at-is : (plan : PlanData) (p d : ℕ) → p < phases plan → 1 ≤ d → d < 1 + length plan.nodes → InPhases plan → power_at (rows plan (phases plan)) p d ≡ power plan (state plan) (end_cut plan p) d
 power_at-is plan p d within low high fits =
     power_at-rows plan (phases plan) p d within low high
-    ∙ power_same plan (state_in plan (rows plan p)) (state plan) (end plan p) d low high (λ e _ _. state_in-rows plan p e (end plan p e) (omega arith) (omega arith) fits)
+    ∙ power_same plan (state_in plan (rows plan p)) (state plan) (end_cut plan p) d low high (λ e _ _. state_in-rows plan p e (end_cut plan p e) (omega arith) (omega arith) fits)
 
 pub state-start : (plan : PlanData) (d : ℕ) (planned : DeviceData) → node plan d ≡ Device planned → state plan d 0 ≡ planned.start
 unfolding state state_in
@@ -127,7 +127,7 @@ next_of m planned powers n is inside =
 
 -- the state after one more change
 pub state-next : (plan : PlanData) (d n : ℕ) (planned : DeviceData) → InPhases plan → node plan d ≡ Device planned → n < change_count plan d →
-    state plan d (n + 1) ≡ changed_state planned.kind (state plan d n) (power plan (state plan) (end plan ((change_at plan d n).phase - 1)) d)
+    state plan d (n + 1) ≡ changed_state planned.kind (state plan d n) (power plan (state plan) (end_cut plan ((change_at plan d n).phase - 1)) d)
     (change_at plan d n).what
 unfolding state state_in
 state-next plan d n planned fits is inside =

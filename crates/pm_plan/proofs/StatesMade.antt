@@ -7,12 +7,13 @@ use Rattle.std.proofs.lemmas.List.Elements.{All-push}
 use Rattle.pm_basis.specs.Prices.{BasisValue, IsBasis}
 use Rattle.pm_bid.specs.Bids.{NeverRises, AllWithinLimit}
 use Rattle.pm_base.specs.Limits.{demand_limit}
+use Rattle.pm_base.proofs.Numbers.{same_number}
 use Rattle.pm_bid.specs.Checks.{checked_bid, first_rising, first_too_large}
 use Rattle.pm_bid.specs.declared.fault.BidFault.{BidFault}
 use Rattle.pm_points.specs.declared.fault.PointFault.{PointFault}
 use Rattle.pm_bid.proofs.EachStep.{all_small}
 use Rattle.pm_bid.proofs.FoundStep.{never_rises}
-use Rattle.pm_points.specs.Points.{Point, IsPointBid, array_of, max_points}
+use Rattle.pm_points.specs.Points.{Point, IsPointBid, max_points, array_of_points}
 use Rattle.pm_points.specs.Checks.{checked_points, first_price_fall, first_rise, first_outside}
 use Rattle.pm_points.specs.Checks as point_checks
 use Rattle.pm_points.proofs.Passed.{passed_all}
@@ -35,9 +36,6 @@ pub record IsBid (steps : ℕ) (bid : List ℤ) : Type 0 where
 
 passed : (at many : ℕ) → nat_lt at many ≡ false → many ≤ at
 passed at many h = grind (arith, nat_tests)
-
-same_length : (many steps : ℕ) → (many == steps) ≡ true → many ≡ steps
-same_length many steps h = grind (arith, nat_tests)
 
 -- an answer after a test that refuses
 record ElseOk {A E : Type 0} (test : Bool) (rest : Result A E) (value : A) : Type 0 where
@@ -63,7 +61,7 @@ checked_bid-is steps demands bid h =
     let large = else-ok (nat_lt (first_too_large demands) (length demands)) _ _ bid rises.is in
     let is : demands ≡ bid = cc large.is in
     subst (IsBid steps) is (record {
-      many = same_length (length demands) steps same.holds;
+      many = same_number (length demands) steps same.holds;
       falls = never_rises demands (passed (first_rising demands) (length demands) rises.fails);
       within = all_small demands (passed (first_too_large demands) (length demands) large.fails);
     })
@@ -93,7 +91,7 @@ array-of steps place demands bid (Err fault) e h = absurd (cc h)
 points-of : (basis : BasisValue) (place : Place) (given : List Point) (bid : List ℤ) (r : Result (List Point) PointFault) → IsBasis basis → checked_points basis given ≡ r → points_or_refuse basis place r ≡ Ok bid → IsBid basis.steps bid
 points-of basis place given bid (Ok made) sound e h =
     let holds = checked_points-is basis given made sound e in
-    subst (IsBid basis.steps) (ok-is (array_of made basis) bid h)
+    subst (IsBid basis.steps) (ok-is (array_of_points made basis) bid h)
     (record { many = length-array_of made basis; falls = array_falls made basis holds sound; within = array_within made basis holds })
 points-of basis place given bid (Err fault) sound e h = absurd (cc h)
 

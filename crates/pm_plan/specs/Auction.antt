@@ -9,7 +9,7 @@ use Rattle.pm_strategy.specs.Strategies.{bid_of}
 use Rattle.pm_plan.specs.declared.node.Node.TheVariants.{Device}
 use Rattle.pm_plan.specs.declared.end.MemberLine.{MemberLine}
 use Rattle.pm_plan.specs.declared.end.LimitedLine.{LimitedLine}
-use Rattle.pm_plan.specs.Plans.{PlanData, NodeData, node, limits_of, numbers, is_member, is_limited, group}
+use Rattle.pm_plan.specs.Plans.{PlanData, NodeData, node, limits_of, is_member, is_limited, group, node_numbers}
 
 -- the state of each device after so many of its changes
 abbrev pub States : Type 0
@@ -21,21 +21,21 @@ node_bid plan (Device planned) state = bid_of planned.kind state plan.arrays pla
 node_bid plan _ state = zeros plan.basis.steps
 
 -- the demand of a device in a cut: its bid where it is a member, else zeros
-unfoldable pub demand_of : PlanData → States → Cut → ℕ → List ℤ
-demand_of plan states cut d =
+unfoldable pub demand_in_cut : PlanData → States → Cut → ℕ → List ℤ
+demand_in_cut plan states cut d =
     cond (is_member plan d (cut d)) (node_bid plan (node plan d) (states d (cut d))) (zeros plan.basis.steps)
 
 -- what a device adds to a group: its demand where it belongs to the group
 unfoldable pub part_in : PlanData → States → Cut → ℕ → ℕ → List ℤ
-part_in plan states cut g d = cond (group plan d == g) (demand_of plan states cut d) (zeros plan.basis.steps)
+part_in plan states cut g d = cond (group plan d == g) (demand_in_cut plan states cut d) (zeros plan.basis.steps)
 
 -- the sum of a group: of the devices below the limited concentrator g, and of those below none where g is 0
 unfoldable pub sum_in : PlanData → States → Cut → ℕ → List ℤ
-sum_in plan states cut g = sum_of plan.basis.steps (map (part_in plan states cut g) (numbers plan))
+sum_in plan states cut g = sum_of plan.basis.steps (map (part_in plan states cut g) (node_numbers plan))
 
 -- the limited concentrators in file order
 abbrev pub limited : PlanData → List ℕ
-limited plan = filter (is_limited plan) (numbers plan)
+limited plan = filter (is_limited plan) (node_numbers plan)
 
 -- what a limited concentrator announces: the sum of its group, within its limits
 unfoldable pub announced : PlanData → States → Cut → ℕ → List ℤ
@@ -59,7 +59,7 @@ local plan states cut x = group_step plan states cut (plain plan states cut) (gr
 
 -- the power of a device in watts: its demand at the step of its group, so 0 where it is no member
 unfoldable pub power : PlanData → States → Cut → ℕ → ℤ
-power plan states cut d = demand_at (demand_of plan states cut d) (local plan states cut d)
+power plan states cut d = demand_at (demand_in_cut plan states cut d) (local plan states cut d)
 
 -- a phase's end: the step, its price and the total there; a line for each member and for each limited concentrator,
 -- both in file order
@@ -86,6 +86,6 @@ end_in plan states cut = let k = plain plan states cut in
       step = k;
       price = price_at plan.basis k;
       total = demand_at (total plan states cut) k;
-      members = map (member_line plan states cut) (filter (λ d. is_member plan d (cut d)) (numbers plan));
+      members = map (member_line plan states cut) (filter (λ d. is_member plan d (cut d)) (node_numbers plan));
       limited = map (limited_line plan states cut) (limited plan);
     }

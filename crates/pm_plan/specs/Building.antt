@@ -7,7 +7,7 @@ use Rattle.pm_base.specs.Limits.{sum_limit, most_phases, most_events, most_chang
 use Rattle.pm_bid.specs.Checks.{checked_bid}
 use Rattle.pm_bid.specs.declared.fault.BidFault.{BidFault}
 use Rattle.pm_bid.specs.declared.fault.BidFault.TheVariants as bid_faults
-use Rattle.pm_points.specs.Points.{Point, array_of}
+use Rattle.pm_points.specs.Points.{Point, array_of_points}
 use Rattle.pm_points.specs.Checks.{checked_points}
 use Rattle.pm_points.specs.declared.fault.PointFault.{PointFault}
 use Rattle.pm_points.specs.declared.fault.PointFault.TheVariants as point_faults
@@ -52,7 +52,7 @@ array_or_refuse place (Ok bid) = Ok bid
 array_or_refuse place (Err fault) = refuse_item cause.BadArray place (item_of_bid fault)
 
 abbrev pub points_or_refuse : BasisValue → Place → Result (List Point) PointFault → Result (List ℤ) Refusal
-points_or_refuse basis place (Ok bid) = Ok (array_of bid basis)
+points_or_refuse basis place (Ok bid) = Ok (array_of_points bid basis)
 points_or_refuse basis place (Err fault) = refuse_item cause.BadPoints place (item_of_points fault)
 
 -- a state and the plan with it: a manual device's bid joins the arrays, and its state is the number of that array

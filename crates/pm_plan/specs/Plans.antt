@@ -60,8 +60,8 @@ abbrev pub node : PlanData → ℕ → NodeData
 node plan x = node_at plan.nodes x
 
 -- the numbers of all nodes of the file
-abbrev pub numbers : PlanData → List ℕ
-numbers plan = range_with_len 1 (length plan.nodes)
+abbrev pub node_numbers : PlanData → List ℕ
+node_numbers plan = range_with_len 1 (length plan.nodes)
 
 abbrev pub parent : PlanData → ℕ → ℕ
 parent plan x = parent_of plan.entries x
@@ -105,12 +105,12 @@ abbrev pub is_up_to : ℕ → Change → Bool
 is_up_to p change = nat_le change.phase p
 
 -- how many changes of a device belong to the phases 1 to p
-unfoldable pub end : PlanData → ℕ → ℕ → ℕ
-end plan p d = prefix_len (is_up_to p) (changes_of (node plan d))
+unfoldable pub end_cut : PlanData → ℕ → ℕ → ℕ
+end_cut plan p d = prefix_len (is_up_to p) (changes_of (node plan d))
 
 -- how many changes of a device belong to phase p
 abbrev pub phase_changes : PlanData → ℕ → ℕ → ℕ
-phase_changes plan p d = end plan p d - end plan (p - 1) d
+phase_changes plan p d = end_cut plan p d - end_cut plan (p - 1) d
 
 -- how many changes a device makes
 abbrev pub change_count : PlanData → ℕ → ℕ
@@ -125,8 +125,8 @@ abbrev pub changes_in : List NodeData → ℕ → ℕ
 changes_in nodes p = sum_by (λ node. count_by (λ change. change.phase == p) (changes_of node)) nodes
 
 -- how many moves a run of the plan has at most
-abbrev pub bound : PlanData → ℕ
-bound plan = move_bound (all_changes plan.nodes) (length plan.nodes) (phases plan)
+abbrev pub plan_bound : PlanData → ℕ
+plan_bound plan = move_bound (all_changes plan.nodes) (length plan.nodes) (phases plan)
 
 -- whether a device is a member after its first n changes
 unfoldable pub is_member : PlanData → ℕ → ℕ → Bool

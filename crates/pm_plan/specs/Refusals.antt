@@ -1,7 +1,7 @@
 -- Step by step: a value, or the first refusal.
 use Rattle.std.specs.Prelude.{◌≡◌, ℕ, ◌+◌, List, [], ◌∷◌, Bool, true, false, Option, Some, None, Result, Ok, Err, ⊤}
 use Rattle.pm_base.specs.Outcomes.{Refuses}
-use Rattle.pm_plan.specs.Causes.{code_of}
+use Rattle.pm_plan.specs.Causes.{cause_code}
 use Rattle.pm_plan.specs.declared.refusal.Cause.{Cause}
 use Rattle.pm_plan.specs.declared.refusal.Place.{Place}
 use Rattle.pm_plan.specs.declared.refusal.Refusal.{Refusal}
@@ -10,10 +10,10 @@ use Rattle.pm_plan.specs.declared.refusal.PlanFault.TheVariants as faults
 
 -- a refusal without an item, and one with it
 abbrev pub refuse : {A : Type 0} → Cause → Place → Result A Refusal
-refuse cause place = Err (record { code = code_of cause; place = place; item = None })
+refuse cause place = Err (record { code = cause_code cause; place = place; item = None })
 
 abbrev pub refuse_item : {A : Type 0} → Cause → Place → ℕ → Result A Refusal
-refuse_item cause place item = Err (record { code = code_of cause; place = place; item = Some item })
+refuse_item cause place item = Err (record { code = cause_code cause; place = place; item = Some item })
 
 -- the value, where there is one
 abbrev pub need : {A : Type 0} → Cause → Place → Option A → Result A Refusal

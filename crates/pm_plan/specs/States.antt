@@ -8,7 +8,7 @@ use Rattle.pm_plan.specs.declared.node.Node.TheVariants.{Device}
 use Rattle.pm_plan.specs.declared.planned.Change.{Change}
 use Rattle.pm_plan.specs.declared.planned.Planned.{Planned}
 use Rattle.pm_plan.specs.declared.planned.Planned.TheVariants.{Join, Leave, Set, Tick}
-use Rattle.pm_plan.specs.Plans.{PlanData, NodeData, node, numbers, end, phases}
+use Rattle.pm_plan.specs.Plans.{PlanData, NodeData, node, phases, end_cut, node_numbers}
 use Rattle.pm_plan.specs.Auction.{power, end_in, EndData}
 use Rattle.pm_base.specs.Cuts.{Cut}
 
@@ -38,7 +38,7 @@ state_in plan rows d n = node_state (node plan d) (λ p. power_at rows p d) n
 
 -- the power of each node at the end of phase p, the auctioneer's first
 unfoldable pub row : PlanData → List (List ℤ) → ℕ → List ℤ
-row plan rows p = pos 0 ∷ map (power plan (state_in plan rows) (end plan p)) (numbers plan)
+row plan rows p = pos 0 ∷ map (power plan (state_in plan rows) (end_cut plan p)) (node_numbers plan)
 
 unfoldable pub one_more : PlanData → List (List ℤ) → List (List ℤ)
 one_more plan rows = rows ++ row plan rows (length rows) ∷ []
@@ -58,4 +58,4 @@ end_of plan cut = end_in plan (state plan) cut
 
 -- the ends of all phases, each over the changes of the phases up to it
 abbrev pub all_ends : PlanData → List EndData
-all_ends plan = map (λ p. end_of plan (end plan p)) (range_with_len 1 (phases plan))
+all_ends plan = map (λ p. end_of plan (end_cut plan p)) (range_with_len 1 (phases plan))

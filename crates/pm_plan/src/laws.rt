@@ -12,12 +12,12 @@ ghost use Rattle.pm_market.specs.Lists.{Lawful, is_member as market_member};
 ghost use Rattle.pm_market.specs.Bound.{bound as market_bound};
 ghost use Rattle.pm_plan.specs.Devices.{DeviceData};
 ghost use Rattle.pm_plan.specs.declared.node.Node.TheVariants.{Device};
-ghost use Rattle.pm_plan.specs.Plans.{PlanData, node, end, is_member, change_count, bound};
+ghost use Rattle.pm_plan.specs.Plans.{PlanData, node, is_member, change_count, plan_bound, end_cut};
 ghost use Rattle.pm_plan.specs.Auction.{power};
 ghost use Rattle.pm_base.specs.Cuts.{Cut};
 ghost use Rattle.pm_plan.specs.States.{changed_state, state};
 ghost use Rattle.pm_plan.specs.Kept.{IsPlan, InPhases, change_at};
-ghost use Rattle.pm_plan.specs.Market.{lists_of};
+ghost use Rattle.pm_plan.specs.Market.{plan_lists};
 
 /// A law: a device begins in its start, and each change makes the next state of the one before, a tick by the power of
 /// the plain auction at the end of the phase before.
@@ -25,7 +25,7 @@ ghost use Rattle.pm_plan.specs.Market.{lists_of};
 pub fn states_follow_the_changes()
     ensures start { (plan : PlanData) (d : ℕ) (planned : DeviceData) → node plan d ≡ Device planned → state plan d 0 ≡ planned.start }
     ensures next { (plan : PlanData) (d n : ℕ) (planned : DeviceData) → InPhases plan → node plan d ≡ Device planned → n < change_count plan d →
-        state plan d (n + 1) ≡ changed_state planned.kind (state plan d n) (power plan (state plan) (end plan ((change_at plan d n).phase - 1)) d)
+        state plan d (n + 1) ≡ changed_state planned.kind (state plan d n) (power plan (state plan) (end_cut plan ((change_at plan d n).phase - 1)) d)
         (change_at plan d n).what }
 {}
 
@@ -48,9 +48,9 @@ pub fn states_fit()
 /// and have the plan's bound of moves.
 #[tactic(auto, using(crate::proofs::PublicLaws::lawful_lists, crate::proofs::PublicLaws::members, crate::proofs::PublicLaws::bounds))]
 pub fn lists_are_lawful()
-    ensures lawful { (plan : PlanData) → IsPlan plan → Lawful (lists_of plan) }
-    ensures members { (plan : PlanData) (d n : ℕ) → 1 ≤ d → d ≤ length plan.nodes → n ≤ change_count plan d → market_member (lists_of plan) d n ≡ is_member plan d n }
-    ensures bounds { (plan : PlanData) → IsPlan plan → market_bound (lists_of plan) ≡ bound plan }
+    ensures lawful { (plan : PlanData) → IsPlan plan → Lawful (plan_lists plan) }
+    ensures members { (plan : PlanData) (d n : ℕ) → 1 ≤ d → d ≤ length plan.nodes → n ≤ change_count plan d → market_member (plan_lists plan) d n ≡ is_member plan d n }
+    ensures bounds { (plan : PlanData) → IsPlan plan → market_bound (plan_lists plan) ≡ plan_bound plan }
 {}
 
 /// A law: what the parts of a file give without a refusal is a plan that the type [`crate::Plan`] keeps.

@@ -1,6 +1,6 @@
 ghost use Rattle.std.specs.Prelude.{◌≡◌, ℕ, ◌≤◌, ◌<◌, ◌-◌, ◌^◌, length, Some, option_map, slice_index_or, true};
 ghost use Rattle.std.specs.List.{prefix_len};
-ghost use Rattle.pm_plan.specs.Plans.{node as planned_node, kind_of, start_of, limits_of, phases, is_leaf, minutes_of, planned, planned_at, is_up_to, bound, all_changes, group_above, phase_changes};
+ghost use Rattle.pm_plan.specs.Plans.{node as planned_node, kind_of, start_of, limits_of, phases, is_leaf, minutes_of, planned, planned_at, is_up_to, all_changes, group_above, phase_changes, plan_bound};
 ghost use Rattle.pm_plan.specs.Kept.{IsPlan, no_change};
 ghost use Rattle.pm_base.specs.Limits.{most_changes};
 
@@ -162,7 +162,7 @@ impl Plan {
 
     /// How many moves a run has at most: for each change as many as there are nodes and 15, and one for each phase.
     pub fn bound(&self) -> u64
-        ensures { result ≡ bound self.now }
+        ensures { result ≡ plan_bound self.now }
     {
         self.changes() * (self.draft.node_count() as u64 + 15) + self.draft.phase_count() as u64
     }

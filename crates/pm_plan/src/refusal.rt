@@ -1,5 +1,5 @@
 ghost use Rattle.std.specs.Prelude.{◌≡◌, None, Some};
-ghost use Rattle.pm_plan.specs.Causes.{code_of};
+ghost use Rattle.pm_plan.specs.Causes.{cause_code};
 ghost use Rattle.pm_plan.specs.declared.refusal.PlanFault.TheVariants.{NoMemory, Refused};
 
 use std::alloc::{AllocError, AllocFailed};
@@ -72,7 +72,7 @@ pub enum Cause {
 impl Cause {
     /// The number by which the line of a refusal names its cause.
     pub fn code(self) -> u8
-        ensures { result ≡ code_of self }
+        ensures { result ≡ cause_code self }
     {
         match self {
             Cause::Unreadable => 1,
@@ -111,7 +111,7 @@ pub struct Refusal {
 impl Refusal {
     /// A refusal without an item.
     pub fn at(cause: Cause, place: Place) -> Refusal
-        ensures { result ≡ record { code = code_of cause; place = place; item = None } }
+        ensures { result ≡ record { code = cause_code cause; place = place; item = None } }
     {
         Refusal {
             code: cause.code(),
@@ -122,7 +122,7 @@ impl Refusal {
 
     /// A refusal with an item.
     pub fn of_item(cause: Cause, place: Place, item: u64) -> Refusal
-        ensures { result ≡ record { code = code_of cause; place = place; item = Some item } }
+        ensures { result ≡ record { code = cause_code cause; place = place; item = Some item } }
     {
         Refusal {
             code: cause.code(),

@@ -11,15 +11,14 @@ use Rattle.std.proofs.lemmas.List.FromFn.{get_or-map-range_with_len, length-map-
 use Rattle.pm_basis.specs.Prices.{BasisValue, IsBasis, price_at}
 use Rattle.pm_bid.specs.Bids.{AllWithinLimit, NeverRises}
 use Rattle.pm_base.specs.Limits.{demand_limit, IsWithin}
-use Rattle.pm_points.specs.Points.{Point, IsPointBid, point_at, price_of, demand_of, last_at_most, IsLastAtMost, demand_between, demand_from, demand_at}
-use Rattle.pm_points.specs.Points.{array_of}
+use Rattle.pm_points.specs.Points.{Point, IsPointBid, point_at, last_at_most, IsLastAtMost, demand_between, demand_from, array_of_points, demand_at_price, demand_of_point, price_of_point}
 use Rattle.pm_points.proofs.Floors.{share_le}
 use Rattle.pm_points.proofs.Lines.{line_at_most, line_at_least, line_falls}
 use Rattle.pm_points.proofs.LastPoint.{IsLast, last_is}
 
 -- the two cases of the demand from a point on
 pub demand_last : (points : List Point) (place : ℕ) (price : ℤ) → place + 1 ≡ length points →
-    demand_from points price (Some place) ≡ demand_of (point_at points place)
+    demand_from points price (Some place) ≡ demand_of_point (point_at points place)
 demand_last points place price all = grind (arith, nat_tests)
 
 pub demand_inside : (points : List Point) (place : ℕ) (price : ℤ) → place + 1 < length points →
@@ -27,36 +26,36 @@ pub demand_inside : (points : List Point) (place : ℕ) (price : ℤ) → place 
 demand_inside points place price inside = grind (arith, nat_tests)
 
 -- demands never rise over several points
-far_falls : (points : List Point) → IsPointBid points → (first n last : ℕ) → first + n ≡ last → last < length points → demand_of (point_at points last) ≤ℤ demand_of (point_at points first)
+far_falls : (points : List Point) → IsPointBid points → (first n last : ℕ) → first + n ≡ last → last < length points → demand_of_point (point_at points last) ≤ℤ demand_of_point (point_at points first)
 far_falls points bid first zero last is inside =
     let same : last ≡ first = omega arith in
-    subst (λ (k : ℕ). demand_of (point_at points k) ≤ℤ demand_of (point_at points first)) (sym same) (omega (arith, ints))
+    subst (λ (k : ℕ). demand_of_point (point_at points k) ≤ℤ demand_of_point (point_at points first)) (sym same) (omega (arith, ints))
 far_falls points bid first (suc n) last is inside =
-    let before : demand_of (point_at points (first + n)) ≤ℤ demand_of (point_at points first) = far_falls points bid first n (first + n) refl (omega arith) in
+    let before : demand_of_point (point_at points (first + n)) ≤ℤ demand_of_point (point_at points first) = far_falls points bid first n (first + n) refl (omega arith) in
     let next : (first + n) + 1 ≡ last = omega arith in
-    let step : demand_of (point_at points last) ≤ℤ demand_of (point_at points (first + n)) =
-    subst (λ (k : ℕ). demand_of (point_at points k) ≤ℤ demand_of (point_at points (first + n))) next (bid.demands_never_rise (first + n) (omega arith)) in
+    let step : demand_of_point (point_at points last) ≤ℤ demand_of_point (point_at points (first + n)) =
+    subst (λ (k : ℕ). demand_of_point (point_at points k) ≤ℤ demand_of_point (point_at points (first + n))) next (bid.demands_never_rise (first + n) (omega arith)) in
     omega (arith, ints)
 
 -- the demand is at most that of the last point whose price is at most the price
 at_most_last : (points : List Point) → IsPointBid points → (place : ℕ) (price : ℤ) → IsLastAtMost points price place →
-    demand_from points price (Some place) ≤ℤ demand_of (point_at points place)
+    demand_from points price (Some place) ≤ℤ demand_of_point (point_at points place)
 at_most_last points bid place price last =
     elim (eq-or-lt_of_le (let within = last.inside in omega arith)) [
-      | inl all ↦ subst (λ (z : ℤ). z ≤ℤ demand_of (point_at points place)) (sym (demand_last points place price all)) (omega (arith, ints))
-      | inr inside ↦ subst (λ (z : ℤ). z ≤ℤ demand_of (point_at points place)) (sym (demand_inside points place price inside))
-          (line_at_most (price_of (point_at points place)) (demand_of (point_at points place)) (price_of (point_at points (place + 1)))
-          (demand_of (point_at points (place + 1))) price
+      | inl all ↦ subst (λ (z : ℤ). z ≤ℤ demand_of_point (point_at points place)) (sym (demand_last points place price all)) (omega (arith, ints))
+      | inr inside ↦ subst (λ (z : ℤ). z ≤ℤ demand_of_point (point_at points place)) (sym (demand_inside points place price inside))
+          (line_at_most (price_of_point (point_at points place)) (demand_of_point (point_at points place)) (price_of_point (point_at points (place + 1)))
+          (demand_of_point (point_at points (place + 1))) price
           last.at_most (last.later_above (place + 1) (omega arith) inside) (bid.demands_never_rise place inside))
     ]
 
 -- and at least that of the next point
 at_least_next : (points : List Point) → IsPointBid points → (place : ℕ) (price : ℤ) → place + 1 < length points → IsLastAtMost points price place →
-    demand_of (point_at points (place + 1)) ≤ℤ demand_from points price (Some place)
+    demand_of_point (point_at points (place + 1)) ≤ℤ demand_from points price (Some place)
 at_least_next points bid place price inside last =
-    subst (λ (z : ℤ). demand_of (point_at points (place + 1)) ≤ℤ z) (sym (demand_inside points place price inside))
-    (line_at_least (price_of (point_at points place)) (demand_of (point_at points place)) (price_of (point_at points (place + 1)))
-    (demand_of (point_at points (place + 1))) price
+    subst (λ (z : ℤ). demand_of_point (point_at points (place + 1)) ≤ℤ z) (sym (demand_inside points place price inside))
+    (line_at_least (price_of_point (point_at points place)) (demand_of_point (point_at points place)) (price_of_point (point_at points (place + 1)))
+    (demand_of_point (point_at points (place + 1))) price
     last.at_most (last.later_above (place + 1) (omega arith) inside) (bid.demands_never_rise place inside))
 
 -- two prices on one line
@@ -66,8 +65,8 @@ same_line points bid place price later order last at_later =
     elim (eq-or-lt_of_le (let within = last.inside in omega arith)) [
       | inl all ↦ omega (arith, ints, demand_last points place price all, demand_last points place later all)
       | inr inside ↦
-          let line = line_falls (price_of (point_at points place)) (demand_of (point_at points place)) (price_of (point_at points (place + 1)))
-          (demand_of (point_at points (place + 1))) price later
+          let line = line_falls (price_of_point (point_at points place)) (demand_of_point (point_at points place)) (price_of_point (point_at points (place + 1)))
+          (demand_of_point (point_at points (place + 1))) price later
           last.at_most order (at_later.later_above (place + 1) (omega arith) inside) (bid.demands_never_rise place inside) in
           subst (λ (z : ℤ). demand_from points later (Some place) ≤ℤ z) (sym (demand_inside points place price inside))
           (subst (λ (z : ℤ). z ≤ℤ demand_between (point_at points place) (point_at points (place + 1)) price)
@@ -79,17 +78,17 @@ falls_from : (points : List Point) → IsPointBid points → (price later : ℤ)
     IsLast points later second → demand_from points later second ≤ℤ demand_from points price first
 falls_from points bid price later order None None above after = omega (arith, ints)
 falls_from points bid price later order None (Some further) above after =
-    let high : demand_from points later (Some further) ≤ℤ demand_of (point_at points further) = at_most_last points bid further later after in
-    let far : demand_of (point_at points further) ≤ℤ demand_of (point_at points 0) = far_falls points bid 0 further further (omega arith) after.inside in
+    let high : demand_from points later (Some further) ≤ℤ demand_of_point (point_at points further) = at_most_last points bid further later after in
+    let far : demand_of_point (point_at points further) ≤ℤ demand_of_point (point_at points 0) = far_falls points bid 0 further further (omega arith) after.inside in
     omega (arith, ints)
 falls_from points bid price later order (Some place) None last above =
-    let after : later <ℤ price_of (point_at points place) = above place (omega arith) last.inside in
+    let after : later <ℤ price_of_point (point_at points place) = above place (omega arith) last.inside in
     let before = last.at_most in
     absurd (omega (arith, ints))
 falls_from points bid price later order (Some place) (Some further) last after =
     elim (cases_lt further place) [
       | inl fewer ↦
-          let beyond : later <ℤ price_of (point_at points place) = after.later_above place fewer last.inside in
+          let beyond : later <ℤ price_of_point (point_at points place) = after.later_above place fewer last.inside in
           let before = last.at_most in
           absurd (omega (arith, ints))
       | inr least ↦ elim (eq-or-lt_of_le least) [
@@ -99,17 +98,17 @@ falls_from points bid price later order (Some place) (Some further) last after =
             (same_line points bid place price later order last at_later)
         | inr more ↦
             let within = after.inside in
-            let high : demand_from points later (Some further) ≤ℤ demand_of (point_at points further) = at_most_last points bid further later after in
-            let low : demand_of (point_at points (place + 1)) ≤ℤ demand_from points price (Some place) =
+            let high : demand_from points later (Some further) ≤ℤ demand_of_point (point_at points further) = at_most_last points bid further later after in
+            let low : demand_of_point (point_at points (place + 1)) ≤ℤ demand_from points price (Some place) =
             at_least_next points bid place price (omega arith) last in
-            let far : demand_of (point_at points further) ≤ℤ demand_of (point_at points (place + 1)) =
+            let far : demand_of_point (point_at points further) ≤ℤ demand_of_point (point_at points (place + 1)) =
             far_falls points bid (place + 1) (further - (place + 1)) further (omega arith) within in
             omega (arith, ints)
       ]
     ]
 
 -- demand never rises with the price (Kok)
-pub demand_falls : (points : List Point) → IsPointBid points → (price later : ℤ) → price ≤ℤ later → demand_at points later ≤ℤ demand_at points price
+pub demand_falls : (points : List Point) → IsPointBid points → (price later : ℤ) → price ≤ℤ later → demand_at_price points later ≤ℤ demand_at_price points price
 demand_falls points bid price later order =
     falls_from points bid price later order (last_at_most points price) (last_at_most points later) (last_is points price) (last_is points later)
 
@@ -124,13 +123,13 @@ within_from points bid price (Some place) last =
     elim (eq-or-lt_of_le (let within = last.inside in omega arith)) [
       | inl all ↦ subst (λ (z : ℤ). IsWithin demand_limit z) (sym (demand_last points place price all)) (bid.demands_within place last.inside)
       | inr inside ↦
-          within_between (demand_of (point_at points (place + 1))) (demand_from points price (Some place)) (demand_of (point_at points place))
+          within_between (demand_of_point (point_at points (place + 1))) (demand_from points price (Some place)) (demand_of_point (point_at points place))
           (bid.demands_within (place + 1) inside) (bid.demands_within place last.inside)
           (at_least_next points bid place price inside last) (at_most_last points bid place price last)
     ]
 
 -- every demand is within the limit of one demand
-pub demand_within : (points : List Point) → IsPointBid points → (price : ℤ) → IsWithin demand_limit (demand_at points price)
+pub demand_within : (points : List Point) → IsPointBid points → (price : ℤ) → IsWithin demand_limit (demand_at_price points price)
 demand_within points bid price = within_from points bid price (last_at_most points price) (last_is points price)
 
 -- prices rise with the step
@@ -140,38 +139,38 @@ price_rises basis sound step =
     let order = sound.order in
     omega (arith, ints, share_le step (step + 1) (basis.max -ℤ basis.min) (pos basis.steps -ℤ pos 1) (omega arith) (omega (arith, ints)) (omega (arith, ints)))
 
-pub length-array_of : (points : List Point) (basis : BasisValue) → length (array_of points basis) ≡ basis.steps
-length-array_of points basis = length-map-range_with_len (λ step. demand_at points (price_at basis step)) 0 basis.steps
+pub length-array_of : (points : List Point) (basis : BasisValue) → length (array_of_points points basis) ≡ basis.steps
+length-array_of points basis = length-map-range_with_len (λ step. demand_at_price points (price_at basis step)) 0 basis.steps
 
-array_of-at : (points : List Point) (basis : BasisValue) (step : ℕ) → step < basis.steps → get_or (array_of points basis) step (pos 0) ≡ demand_at points (price_at basis step)
-array_of-at points basis step inside = get_or-map-range_with_len (λ step. demand_at points (price_at basis step)) 0 basis.steps step step (pos 0) inside (omega arith)
+array_of-at : (points : List Point) (basis : BasisValue) (step : ℕ) → step < basis.steps → get_or (array_of_points points basis) step (pos 0) ≡ demand_at_price points (price_at basis step)
+array_of-at points basis step inside = get_or-map-range_with_len (λ step. demand_at_price points (price_at basis step)) 0 basis.steps step step (pos 0) inside (omega arith)
 
-pub array_falls : (points : List Point) (basis : BasisValue) → IsPointBid points → IsBasis basis → NeverRises (array_of points basis)
+pub array_falls : (points : List Point) (basis : BasisValue) → IsPointBid points → IsBasis basis → NeverRises (array_of_points points basis)
 array_falls points basis bid sound = λ step inside.
     let last : step + 1 < basis.steps = omega (arith, length-array_of points basis) in
     let first : step < basis.steps = omega arith in
-    subst (λ (z : ℤ). z ≤ℤ get_or (array_of points basis) step (pos 0)) (sym (array_of-at points basis (step + 1) last))
-    (subst (λ (z : ℤ). demand_at points (price_at basis (step + 1)) ≤ℤ z) (sym (array_of-at points basis step first))
+    subst (λ (z : ℤ). z ≤ℤ get_or (array_of_points points basis) step (pos 0)) (sym (array_of-at points basis (step + 1) last))
+    (subst (λ (z : ℤ). demand_at_price points (price_at basis (step + 1)) ≤ℤ z) (sym (array_of-at points basis step first))
     (demand_falls points bid (price_at basis step) (price_at basis (step + 1)) (price_rises basis sound step)))
 
-pub array_within : (points : List Point) (basis : BasisValue) → IsPointBid points → AllWithinLimit demand_limit (array_of points basis)
+pub array_within : (points : List Point) (basis : BasisValue) → IsPointBid points → AllWithinLimit demand_limit (array_of_points points basis)
 array_within points basis bid = λ step inside.
     subst (λ (z : ℤ). IsWithin demand_limit z) (sym (array_of-at points basis step (omega (arith, length-array_of points basis)))) (demand_within points bid (price_at basis step))
 
 -- the demand that the code finds between two points
 pub within_line : (points : List Point) → IsPointBid points → (place : ℕ) (from to : Point) (demand : ℤ) → place + 1 < length points →
-    from ≡ point_at points place → to ≡ point_at points (place + 1) → demand_of to ≤ℤ demand → demand ≤ℤ demand_of from → IsWithin demand_limit demand
+    from ≡ point_at points place → to ≡ point_at points (place + 1) → demand_of_point to ≤ℤ demand → demand ≤ℤ demand_of_point from → IsWithin demand_limit demand
 within_line points bid place from to demand inside is_from is_to least greatest =
-    let P : Point → Type 0 = λ point. IsWithin demand_limit (demand_of point) in
-    within_between (demand_of to) demand (demand_of from) (subst P (sym is_to) (bid.demands_within (place + 1) inside))
+    let P : Point → Type 0 = λ point. IsWithin demand_limit (demand_of_point point) in
+    within_between (demand_of_point to) demand (demand_of_point from) (subst P (sym is_to) (bid.demands_within (place + 1) inside))
     (subst P (sym is_from) (bid.demands_within place (omega arith))) least greatest
 
 -- the array as a loop over the steps fills it
 pub record Filled (points : List Point) (basis : BasisValue) (array : List ℤ) (step : ℕ) : Type 0 where
   pub long : length array ≡ basis.steps
-  pub done : (k : ℕ) → k < step → get_or array k (pos 0) ≡ demand_at points (price_at basis k)
+  pub done : (k : ℕ) → k < step → get_or array k (pos 0) ≡ demand_at_price points (price_at basis k)
 
-pub filled_more : (points : List Point) (basis : BasisValue) (array : List ℤ) (step : ℕ) (demand : ℤ) → step < basis.steps → Filled points basis array step → demand ≡ demand_at points (price_at basis step) → Filled points basis (set array step demand) (step + 1)
+pub filled_more : (points : List Point) (basis : BasisValue) (array : List ℤ) (step : ℕ) (demand : ℤ) → step < basis.steps → Filled points basis array step → demand ≡ demand_at_price points (price_at basis step) → Filled points basis (set array step demand) (step + 1)
 filled_more points basis array step demand inside filled is =
     let long : length array ≡ basis.steps = filled.long in
     let within : step < length array = omega arith in
@@ -182,6 +181,6 @@ filled_more points basis array step demand inside filled is =
           (rw get_or-set_same is);
     }
 
-pub filled_all : (points : List Point) (basis : BasisValue) (array : List ℤ) (step : ℕ) → basis.steps ≤ step → Filled points basis array step → array ≡ array_of points basis
+pub filled_all : (points : List Point) (basis : BasisValue) (array : List ℤ) (step : ℕ) → basis.steps ≤ step → Filled points basis array step → array ≡ array_of_points points basis
 filled_all points basis array step all filled =
-    fill_by_all (λ k. demand_at points (price_at basis k)) array basis.steps (pos 0) filled.long (λ k h. filled.done k (omega arith))
+    fill_by_all (λ k. demand_at_price points (price_at basis k)) array basis.steps (pos 0) filled.long (λ k h. filled.done k (omega arith))

@@ -6,15 +6,9 @@ use Rattle.std.proofs.lemmas.Int.{ints}
 use Rattle.std.proofs.lemmas.List.{get_or-drop, length-drop}
 use Rattle.std.proofs.lemmas.List.Sums.{position_or_len_is, fails_before_first}
 use Rattle.std.proofs.lemmas.Simd.{get_or-zip2}
+use Rattle.pm_base.proofs.Lists.{length-zip2-second}
 use Rattle.pm_points.specs.Points.{Point, point_at}
 use Rattle.pm_points.specs.Checks.{first_after}
-
--- `zip2` is as long as its second list, where that is the shorter one
-length-zip2-second : {A B C : Type 0} (f : A → B → C) (xs : List A) (ys : List B) → length ys ≤ length xs → length (zip2 f xs ys) ≡ length ys
-length-zip2-second f [] [] short = refl
-length-zip2-second f [] (y ∷ ys) short = absurd (omega arith)
-length-zip2-second f (x ∷ xs) [] short = refl
-length-zip2-second f (x ∷ xs) (y ∷ ys) short = ap (λ n. suc n) (length-zip2-second f xs ys (omega arith))
 
 abbrev met_by : (Point → Point → Bool) → List Point → List Bool
 met_by test points = zip2 test points (drop 1 points)
@@ -41,10 +35,3 @@ first_after_none test points positive before =
 pub fails_after : (test : Point → Point → Bool) (points : List Point) → length points ≤ first_after test points → (k : ℕ) → k + 1 < length points → test (point_at points k) (point_at points (k + 1)) ≡ false
 fails_after test points none k inside =
     sym (met_by-at test points k inside) ∙ fails_before_first (λ met. met) (met_by test points) k false (omega arith)
-
--- comparisons as the code makes them
-pub is_above : (a b : ℤ) → int_lt a b ≡ true → a <ℤ b
-is_above a b h = grind (arith, ints)
-
-pub is_not_above : (a b : ℤ) → int_lt a b ≡ false → b ≤ℤ a
-is_not_above a b h = grind (arith, ints)

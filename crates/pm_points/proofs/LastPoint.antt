@@ -5,12 +5,12 @@ use Rattle.std.specs.Prelude.{int_lt, ◌<ℤ◌, if◌then◌else◌, option_ma
 use Rattle.std.specs.Option.{option_or}
 use Rattle.std.proofs.lemmas.Int.{ints}
 use Rattle.std.proofs.lemmas.Bool.{cases_lt}
-use Rattle.pm_points.specs.Points.{Point, point_at, price_of, last_at_most, IsLastAtMost}
-use Rattle.pm_points.proofs.FoundPoint.{is_above, is_not_above}
+use Rattle.pm_points.specs.Points.{Point, point_at, last_at_most, IsLastAtMost, price_of_point}
+use Rattle.pm_base.proofs.Ints.{is_below, is_not_below}
 
 -- the points from this place on have greater prices
 abbrev pub Above : List Point → ℤ → ℕ → Type 0
-Above points price from = (k : ℕ) → from ≤ k → k < length points → price <ℤ price_of (point_at points k)
+Above points price from = (k : ℕ) → from ≤ k → k < length points → price <ℤ price_of_point (point_at points k)
 
 -- this place is that of the last point whose price is at most this price, or there is none
 abbrev pub IsLast : List Point → ℤ → Option ℕ → Type 0
@@ -21,29 +21,29 @@ above_behind : (point : Point) (later : List Point) (price : ℤ) (from : ℕ) �
 above_behind point later price from above zero after inside = absurd (omega arith)
 above_behind point later price from above (suc k) after inside = above k (omega arith) (omega arith)
 
-above_all : (point : Point) (later : List Point) (price : ℤ) → price <ℤ price_of point → Above later price 0 → Above (point ∷ later) price 0
+above_all : (point : Point) (later : List Point) (price : ℤ) → price <ℤ price_of_point point → Above later price 0 → Above (point ∷ later) price 0
 above_all point later price here above zero after inside = here
 above_all point later price here above (suc k) after inside = above k (omega arith) (omega arith)
 
 -- the place with one point more in front
 last_more : (point : Point) (later : List Point) (price : ℤ) (found : Option ℕ) → IsLast later price found → (before : Bool) →
-    int_lt price (price_of point) ≡ before → IsLast (point ∷ later) price (option_or (option_map (λ place. place + 1) found) (if before then None else Some 0))
+    int_lt price (price_of_point point) ≡ before → IsLast (point ∷ later) price (option_or (option_map (λ place. place + 1) found) (if before then None else Some 0))
 last_more point later price (Some place) last before is = record {
   inside = let within = last.inside in omega arith;
   at_most = rw add-one last.at_most;
   later_above = λ k after inside. above_behind point later price (place + 1) (λ i from within. last.later_above i (omega arith) within) k (omega arith) inside;
 }
-last_more point later price None above true is = above_all point later price (is_above price (price_of point) is) above
+last_more point later price None above true is = above_all point later price (is_below price (price_of_point point) is) above
 last_more point later price None above false is = record {
   inside = omega arith;
-  at_most = is_not_above price (price_of point) is;
+  at_most = is_not_below price (price_of_point point) is;
   later_above = λ k after inside. above_behind point later price 0 above k (omega arith) inside;
 }
 
 -- the definition gives that place
 pub last_is : (points : List Point) (price : ℤ) → IsLast points price (last_at_most points price)
 last_is [] price = λ k after inside. absurd (omega arith)
-last_is (point ∷ later) price = last_more point later price (last_at_most later price) (last_is later price) (int_lt price (price_of point)) refl
+last_is (point ∷ later) price = last_more point later price (last_at_most later price) (last_is later price) (int_lt price (price_of_point point)) refl
 
 -- there is one such place only
 one_last : (points : List Point) (price : ℤ) (first second : Option ℕ) → IsLast points price first → IsLast points price second → first ≡ second

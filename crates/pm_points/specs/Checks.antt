@@ -4,7 +4,7 @@ use Rattle.std.specs.List.{position_or_len}
 use Rattle.std.specs.Simd.Lanes.{zip2}
 use Rattle.pm_basis.specs.Prices.{BasisValue}
 use Rattle.pm_bid.specs.Checks.{is_too_large}
-use Rattle.pm_points.specs.Points.{Point, price_of, demand_of, max_points}
+use Rattle.pm_points.specs.Points.{Point, max_points, demand_of_point, price_of_point}
 use Rattle.pm_points.specs.declared.fault.PointFault.{PointFault}
 use Rattle.pm_points.specs.declared.fault.PointFault.TheVariants.{NoPoints, TooMany, PriceFalls, Rising, TooLarge, PriceOutside}
 
@@ -15,11 +15,11 @@ first_after test points = 1 + position_or_len (λ met. met) (zip2 test points (d
 
 -- whether the price falls from a point to the next
 abbrev pub price_falls : Point → Point → Bool
-price_falls before point = int_lt (price_of point) (price_of before)
+price_falls before point = int_lt (price_of_point point) (price_of_point before)
 
 -- whether the demand rises from a point to the next
 abbrev pub demand_rises : Point → Point → Bool
-demand_rises before point = int_lt (demand_of before) (demand_of point)
+demand_rises before point = int_lt (demand_of_point before) (demand_of_point point)
 
 -- the first point whose price is below the one before
 abbrev pub first_price_fall : List Point → ℕ
@@ -30,8 +30,8 @@ abbrev pub first_rise : List Point → ℕ
 first_rise points = first_after demand_rises points
 
 -- the first point whose demand is outside the limit of one demand; their number where there is none
-abbrev pub first_too_large : List Point → ℕ
-first_too_large points = position_or_len (λ point. is_too_large (demand_of point)) points
+abbrev pub first_large_demand : List Point → ℕ
+first_large_demand points = position_or_len (λ point. is_too_large (demand_of_point point)) points
 
 -- whether a price is outside the prices of a basis
 abbrev pub is_outside : BasisValue → ℤ → Bool
@@ -39,7 +39,7 @@ is_outside basis price = int_lt price basis.min || int_lt basis.max price
 
 -- the first point whose price is outside the basis; their number where there is none
 abbrev pub first_outside : BasisValue → List Point → ℕ
-first_outside basis points = position_or_len (λ point. is_outside basis (price_of point)) points
+first_outside basis points = position_or_len (λ point. is_outside basis (price_of_point point)) points
 
 -- the bid of a list of points, or the first fault of the list
 abbrev pub checked_points : BasisValue → List Point → Result (List Point) PointFault
@@ -52,6 +52,6 @@ checked_points basis points =
     then Err (PriceFalls (first_price_fall points))
     else (if nat_lt (first_rise points) (length points)
     then Err (Rising (first_rise points))
-    else (if nat_lt (first_too_large points) (length points)
-    then Err (TooLarge (first_too_large points))
+    else (if nat_lt (first_large_demand points) (length points)
+    then Err (TooLarge (first_large_demand points))
     else (if nat_lt (first_outside basis points) (length points) then Err (PriceOutside (first_outside basis points)) else Ok points)))))

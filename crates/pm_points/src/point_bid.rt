@@ -1,7 +1,7 @@
 ghost use Rattle.std.specs.Prelude.{◌≡◌, ◌<◌, length, IfOk};
 ghost use Rattle.pm_bid.specs.Bids.{AllWithinLimit, NeverRises};
 ghost use Rattle.pm_base.specs.Limits.{demand_limit, IsWithin, price_limit};
-ghost use Rattle.pm_points.specs.Points.{demand_at, array_of};
+ghost use Rattle.pm_points.specs.Points.{array_of_points, demand_at_price};
 ghost use Rattle.pm_points.specs.Checks.{checked_points};
 
 use crate::fault::PointFault;
@@ -71,7 +71,7 @@ impl PointBid {
     /// The array bid with the demand at the price of each step of the basis. Its demands never rise
     /// and lie within ±1,000,000,000 watts.
     pub fn to_array(&self, basis: &Basis) -> Result<ArrayBid, AllocError>
-        ensures array { IfOk result (λ array. array ≡ array_of self.now basis.now) }
+        ensures array { IfOk result (λ array. array ≡ array_of_points self.now basis.now) }
         ensures steps { IfOk result (λ array. length array ≡ basis.now.steps) }
         ensures falls { IfOk result (λ array. NeverRises array) }
         ensures within { IfOk result (λ array. AllWithinLimit demand_limit array) }
@@ -90,7 +90,7 @@ impl PointBid {
     /// price, rounded down; the first demand before all points, and the last one after them.
     pub fn demand_at(&self, price: i64) -> i64
         requires { IsWithin price_limit price }
-        ensures demand { result ≡ demand_at self.now price }
+        ensures demand { result ≡ demand_at_price self.now price }
         ensures within { IsWithin demand_limit result }
     {
         let Some(last) = find_last_at_most(&self.points, price) else {

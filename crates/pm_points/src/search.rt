@@ -1,7 +1,7 @@
 ghost use Rattle.std.specs.Prelude.{◌≡◌, ◌≤◌, ◌<ℤ◌, length, All, IfSome, IfNone};
 ghost use Rattle.pm_basis.specs.Prices.{IsBasis};
-ghost use Rattle.pm_points.specs.Points.{price_of, last_at_most, IsLastAtMost};
-ghost use Rattle.pm_points.specs.Checks.{first_price_fall, first_rise, first_too_large, first_outside};
+ghost use Rattle.pm_points.specs.Points.{last_at_most, IsLastAtMost, price_of_point};
+ghost use Rattle.pm_points.specs.Checks.{first_price_fall, first_rise, first_outside, first_large_demand};
 
 use pm_basis::Basis;
 
@@ -36,7 +36,7 @@ pub(crate) fn find_rise(points: &[(i64, i64)]) -> usize
 
 /// The first point whose demand is too large, else the number of points.
 pub(crate) fn find_too_large(points: &[(i64, i64)]) -> usize
-    ensures { result ≡ first_too_large points.now }
+    ensures { result ≡ first_large_demand points.now }
 {
     for (at, point) in points.iter().enumerate() {
         if point.1 < -DEMAND_LIMIT || DEMAND_LIMIT < point.1 {
@@ -65,7 +65,7 @@ pub(crate) fn find_outside(points: &[(i64, i64)], basis: &Basis) -> usize
 pub(crate) fn find_last_at_most(points: &[(i64, i64)], price: i64) -> Option<usize>
     ensures place { result ≡ last_at_most points.now price }
     ensures last { IfSome result (IsLastAtMost points.now price) }
-    ensures none { IfNone result (All (λ point. price <ℤ price_of point) points.now) }
+    ensures none { IfNone result (All (λ point. price <ℤ price_of_point point) points.now) }
 {
     for at in (0..points.len()).rev() {
         if points[at].0 <= price {

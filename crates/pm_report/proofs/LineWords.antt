@@ -7,7 +7,7 @@ use Rattle.std.proofs.lemmas.Fmt.{decimal_by_steps}
 use Rattle.std.proofs.lemmas.Int.{ints}
 use Rattle.std.proofs.lemmas.List.Folds.{list_all-append}
 use Rattle.pm_tree.proofs.Named.{and_true}
-use Rattle.pm_report.specs.Words.{line_of}
+use Rattle.pm_report.specs.Words.{text_line}
 use lib.Signed.{mag}
 
 -- a word has neither blanks nor line feeds: each of its bytes is above the blank
@@ -58,25 +58,25 @@ pub record SameLine (us ws : List (List ℕ)) (r s : List ℕ) : Type 0 where
   pub words : us ≡ ws
   pub rest : r ≡ s
 
-pub same_line : (us ws : List (List ℕ)) (r s : List ℕ) → AreWords us → AreWords ws → line_of us ++ r ≡ line_of ws ++ s → SameLine us ws r s
+pub same_line : (us ws : List (List ℕ)) (r s : List ℕ) → AreWords us → AreWords ws → text_line us ++ r ≡ text_line ws ++ s → SameLine us ws r s
 same_line [] ws r s us_are ws_are same = absurd us_are
 same_line (u ∷ us) [] r s us_are ws_are same = absurd ws_are
 same_line (u ∷ []) (w ∷ []) r s us_are ws_are same =
     let first = same_word u w 10 10 r s us_are ws_are (omega arith) (omega arith) (sym (append_assoc u (10 ∷ []) r) ∙ same ∙ append_assoc w (10 ∷ []) s) in
     record { words = ap (λ x. x ∷ []) first.word; rest = first.rest }
 same_line (u ∷ []) (w ∷ z ∷ ws) r s us_are ws_are same =
-    let first = same_word u w 10 32 r (line_of (z ∷ ws) ++ s) us_are ws_are.0 (omega arith) (omega arith)
-    (sym (append_assoc u (10 ∷ []) r) ∙ same ∙ append_assoc w (32 ∷ line_of (z ∷ ws)) s) in
+    let first = same_word u w 10 32 r (text_line (z ∷ ws) ++ s) us_are ws_are.0 (omega arith) (omega arith)
+    (sym (append_assoc u (10 ∷ []) r) ∙ same ∙ append_assoc w (32 ∷ text_line (z ∷ ws)) s) in
     let mark = first.mark in
     absurd (omega arith)
 same_line (u ∷ v ∷ us) (w ∷ []) r s us_are ws_are same =
-    let first = same_word u w 32 10 (line_of (v ∷ us) ++ r) s us_are.0 ws_are (omega arith) (omega arith)
-    (sym (append_assoc u (32 ∷ line_of (v ∷ us)) r) ∙ same ∙ append_assoc w (10 ∷ []) s) in
+    let first = same_word u w 32 10 (text_line (v ∷ us) ++ r) s us_are.0 ws_are (omega arith) (omega arith)
+    (sym (append_assoc u (32 ∷ text_line (v ∷ us)) r) ∙ same ∙ append_assoc w (10 ∷ []) s) in
     let mark = first.mark in
     absurd (omega arith)
 same_line (u ∷ v ∷ us) (w ∷ z ∷ ws) r s us_are ws_are same =
-    let first = same_word u w 32 32 (line_of (v ∷ us) ++ r) (line_of (z ∷ ws) ++ s) us_are.0 ws_are.0 (omega arith) (omega arith)
-    (sym (append_assoc u (32 ∷ line_of (v ∷ us)) r) ∙ same ∙ append_assoc w (32 ∷ line_of (z ∷ ws)) s) in
+    let first = same_word u w 32 32 (text_line (v ∷ us) ++ r) (text_line (z ∷ ws) ++ s) us_are.0 ws_are.0 (omega arith) (omega arith)
+    (sym (append_assoc u (32 ∷ text_line (v ∷ us)) r) ∙ same ∙ append_assoc w (32 ∷ text_line (z ∷ ws)) s) in
     let more = same_line (v ∷ us) (z ∷ ws) r s us_are.1 ws_are.1 first.rest in
     let equal = first.word in
     let others = more.words in

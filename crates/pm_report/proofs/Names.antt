@@ -10,6 +10,8 @@ use Rattle.std.proofs.lemmas.List.{length-map}
 use Rattle.std.proofs.Math.ListN.{get_or-append}
 use Rattle.std.proofs.Math.Seq.{get_or-append_seam}
 use Rattle.std.proofs.lemmas.Slice.Eq.{bytes_eq-Decides}
+use Rattle.pm_base.proofs.Bools.{or_false}
+use Rattle.pm_base.proofs.Options.{none_of}
 use Rattle.pm_tree.specs.Names.{auctioneer, is_name, is_name_byte, is_rest_of_name, has_name_form}
 use Rattle.pm_tree.specs.Entries.{Entry, names_of, node_named, entry_refusal, refusals_after, first_refusal, tree_unless, checked_tree}
 use Rattle.pm_tree.specs.declared.fault.TreeFault.{TreeFault}
@@ -52,10 +54,6 @@ name_word bytes is = formed_word bytes (and_true (has_name_form bytes) (not (byt
 pub record IsNew (before : List Entry) (entry : Entry) : Type 0 where
   pub lawful : is_name entry.name ≡ true
   pub new : node_named before entry.name ≡ None
-
-none_of : {A : Type 0} (o : Option A) → is_some o ≡ false → o ≡ None
-none_of None is = refl
-none_of (Some x) is = cc
 
 is_new : (before : List Entry) (entry : Entry) → entry_refusal before entry ≡ None → IsNew before entry
 is_new before entry accepted = by (is_name entry.name) refl (is_some (node_named before entry.name)) refl
@@ -101,10 +99,6 @@ one_more names name are word new = record {
     differ_at j k (before j_low j_read) (last k_at k_read) same = absurd (new j j_low (sym j_read ∙ same ∙ k_read))
     differ_at j k (last j_at j_read) (before k_low k_read) same = absurd (new k k_low (sym k_read ∙ sym same ∙ j_read))
     differ_at j k (last j_at j_read) (last k_at k_read) same = j_at ∙ sym k_at
-
--- a name that is not found is none of the names
-or_false : (a b : Bool) → (a || b) ≡ false → (a ≡ false) × (b ≡ false)
-or_false a b none = grind arith
 
 not_found : (names : List (List ℕ)) (name : List ℕ) → list_any (bytes_eq name) names ≡ false → (k : ℕ) → k < length names → get_or names k [] ≡ name → ⊥
 not_found [] name none k inside same = absurd (omega arith)

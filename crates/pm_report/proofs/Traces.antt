@@ -8,14 +8,14 @@ use Rattle.pm_market.specs.declared.journal.Line.{Line}
 use Rattle.pm_plan.specs.Plans.{PlanData}
 use Rattle.pm_plan.specs.Kept.{IsPlan}
 use Rattle.pm_plan.specs.Auction.{EndData}
-use Rattle.pm_report.specs.Words.{line_of}
+use Rattle.pm_report.specs.Words.{text_line}
 use Rattle.pm_report.specs.Report.{report_text}
 use Rattle.pm_report.specs.Trace.{move_words, move_line, moves_line, trace_text, IsLineOfRun}
 use Rattle.pm_report.proofs.LineWords.{same_line}
 use Rattle.pm_report.proofs.Moves.{move_are_words, same_move}
 
 -- no line of a move begins as the last line does
-begins : (plan : PlanData) (what : Move) (held : Option (ℕ × ℕ)) (rest : List ℕ) → get_or (line_of (move_words plan what held) ++ rest) 0 0 ≡ 109 → ⊥
+begins : (plan : PlanData) (what : Move) (held : Option (ℕ × ℕ)) (rest : List ℕ) → get_or (text_line (move_words plan what held) ++ rest) 0 0 ≡ 109 → ⊥
 begins plan (Change device number) held rest same = omega arith
 begins plan (Learn child number) held rest same = omega arith
 begins plan (Publish node number) held rest same = omega arith

@@ -3,7 +3,7 @@ use Rattle.std.specs.Prelude.{ℕ, List, [], ◌∷◌, ◌++◌, codes, decimal
 use Rattle.pm_plan.specs.declared.refusal.Place.{Place}
 use Rattle.pm_plan.specs.declared.refusal.Place.TheVariants.{Document, Basis, Node, Phase, Event, Line}
 use Rattle.pm_plan.specs.declared.refusal.Refusal.{Refusal}
-use Rattle.pm_report.specs.Words.{line_of}
+use Rattle.pm_report.specs.Words.{text_line}
 
 -- document, basis, node N, phase P, event P E, line N
 abbrev pub place_text : Place → List ℕ
@@ -21,4 +21,4 @@ item_words (Some item) = codes "item" ∷ decimal item ∷ []
 
 -- refused CODE PLACE, and item I where there is one
 abbrev pub refusal_line : Refusal → List ℕ
-refusal_line refusal = line_of (codes "refused" ∷ decimal refusal.code ∷ place_text refusal.place ∷ item_words refusal.item)
+refusal_line refusal = text_line (codes "refused" ∷ decimal refusal.code ∷ place_text refusal.place ∷ item_words refusal.item)

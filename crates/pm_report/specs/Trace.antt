@@ -7,7 +7,7 @@ use Rattle.pm_market.specs.declared.moves.Move.TheVariants.{Change, Learn, Publi
 use Rattle.pm_market.specs.declared.journal.Line.{Line}
 use Rattle.pm_plan.specs.Plans.{PlanData, parent, is_leaf}
 use Rattle.pm_plan.specs.Auction.{EndData}
-use Rattle.pm_report.specs.Words.{line_of, name}
+use Rattle.pm_report.specs.Words.{name, text_line}
 use Rattle.pm_report.specs.Report.{report_text}
 
 -- the node that a move names is one of the plan's, and the child that is learnt of has a parent
@@ -45,11 +45,11 @@ move_words plan (Close phase) held = codes "close" ∷ decimal phase ∷ []
 
 -- the line of a move
 abbrev pub move_line : PlanData → Line → List ℕ
-move_line plan line = line_of (move_words plan line.what line.held)
+move_line plan line = text_line (move_words plan line.what line.held)
 
 -- moves M
 abbrev pub moves_line : List Line → List ℕ
-moves_line lines = line_of (codes "moves" ∷ decimal (length lines) ∷ [])
+moves_line lines = text_line (codes "moves" ∷ decimal (length lines) ∷ [])
 
 -- the report, then the line of each move, then how many they are
 unfoldable pub trace_text : PlanData → List EndData → List Line → List ℕ

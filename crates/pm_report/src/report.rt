@@ -1,5 +1,5 @@
 ghost use Rattle.std.specs.Prelude.{◌≡◌, ◌<◌, ◌≤◌, ◌++◌, length, flat_map, All, IfOk, OnOk, string_bytes};
-ghost use Rattle.pm_report.specs.Report.{IsEndOf, phase_line, member_line, limited_line, phase_text, phase_texts, end_line, report_text, ends_of};
+ghost use Rattle.pm_report.specs.Report.{IsEndOf, phase_line, phase_text, phase_texts, end_line, report_text, ends_of, member_text, limited_text};
 
 use crate::words::name;
 use pm_plan::{LimitedLine, MemberLine, PhaseEnd, Plan};
@@ -22,7 +22,7 @@ fn push_phase_line(text: &mut String, phase: u32, end: &PhaseEnd) -> Result<(), 
 /// Writes the line of a member.
 fn push_member(text: &mut String, plan: &Plan, member: &MemberLine) -> Result<(), AllocError>
     requires { member.now.node ≤ length plan.now.nodes }
-    ensures { OnOk result (string_bytes text.new ≡ string_bytes text.old ++ member_line plan.now member.now) }
+    ensures { OnOk result (string_bytes text.new ≡ string_bytes text.old ++ member_text plan.now member.now) }
 {
     let name = name(plan, member.node);
     let power = member.power;
@@ -34,7 +34,7 @@ fn push_member(text: &mut String, plan: &Plan, member: &MemberLine) -> Result<()
 fn push_limited(text: &mut String, plan: &Plan, limited: &LimitedLine) -> Result<(), AllocError>
     requires node { limited.now.node ≤ length plan.now.nodes }
     requires step { limited.now.step < plan.now.basis.steps }
-    ensures { OnOk result (string_bytes text.new ≡ string_bytes text.old ++ limited_line plan.now limited.now) }
+    ensures { OnOk result (string_bytes text.new ≡ string_bytes text.old ++ limited_text plan.now limited.now) }
 {
     let name = name(plan, limited.node);
     let step = limited.step;
@@ -49,7 +49,7 @@ fn push_limited(text: &mut String, plan: &Plan, limited: &LimitedLine) -> Result
 /// Writes the lines of members.
 fn push_members(text: &mut String, plan: &Plan, members: &[MemberLine]) -> Result<(), AllocError>
     requires { All (λ member. member.node ≤ length plan.now.nodes) members.now }
-    ensures { OnOk result (string_bytes text.new ≡ string_bytes text.old ++ flat_map (member_line plan.now) members.now) }
+    ensures { OnOk result (string_bytes text.new ≡ string_bytes text.old ++ flat_map (member_text plan.now) members.now) }
 {
     for member in members {
         push_member(text, plan, member)?;
@@ -61,7 +61,7 @@ fn push_members(text: &mut String, plan: &Plan, members: &[MemberLine]) -> Resul
 fn push_all_limited(text: &mut String, plan: &Plan, all: &[LimitedLine]) -> Result<(), AllocError>
     requires nodes { All (λ limited. limited.node ≤ length plan.now.nodes) all.now }
     requires steps { All (λ limited. limited.step < plan.now.basis.steps) all.now }
-    ensures { OnOk result (string_bytes text.new ≡ string_bytes text.old ++ flat_map (limited_line plan.now) all.now) }
+    ensures { OnOk result (string_bytes text.new ≡ string_bytes text.old ++ flat_map (limited_text plan.now) all.now) }
 {
     for limited in all {
         push_limited(text, plan, limited)?;

@@ -1,5 +1,5 @@
 ghost use Rattle.std.specs.Prelude.{◌≡◌, ◌<◌, ◌≤◌, ◌++◌, length, flat_map, All, IfOk, IfSome, OnOk, string_bytes};
-ghost use Rattle.pm_report.specs.Words.{line_of};
+ghost use Rattle.pm_report.specs.Words.{text_line};
 ghost use Rattle.pm_report.specs.Report.{IsEndOf, ends_of};
 ghost use Rattle.pm_report.specs.Trace.{IsLineOf, move_words, move_line, moves_line, trace_text};
 
@@ -14,7 +14,7 @@ use std::alloc::{AllocError, Global};
 fn push_learn(text: &mut String, plan: &Plan, child: u32, number: u32) -> Result<(), AllocError>
     requires first { 1 ≤ child }
     requires last { child ≤ length plan.now.nodes }
-    ensures { OnOk result (string_bytes text.new ≡ string_bytes text.old ++ line_of (move_words plan.now (Move.Learn child number) None)) }
+    ensures { OnOk result (string_bytes text.new ≡ string_bytes text.old ++ text_line (move_words plan.now (Move.Learn child number) None)) }
 {
     let parent = plan.tree().parent(NodeId(child));
     let above = name(plan, parent.0);
@@ -32,7 +32,7 @@ fn push_pass(
 ) -> Result<(), AllocError>
     requires node { node ≤ length plan.now.nodes }
     requires step { IfSome held (λ held. held.0 < plan.now.basis.steps) }
-    ensures { OnOk result (string_bytes text.new ≡ string_bytes text.old ++ line_of (move_words plan.now (Move.Pass node index) held)) }
+    ensures { OnOk result (string_bytes text.new ≡ string_bytes text.old ++ text_line (move_words plan.now (Move.Pass node index) held)) }
 {
     let name = name(plan, node);
     if !plan.tree().is_leaf(NodeId(node)) {

@@ -35,15 +35,15 @@ abbrev pub place_number : ℕ → ℕ
 place_number n = min n 4294967295
 
 -- a demand for each step, and points, as an object has them
-abbrev pub demand_in : Data → StatePart
-demand_in d = array (wholes_of (elements_at (codes "demand") d))
+abbrev pub array_in : Data → StatePart
+array_in d = array (wholes_of (elements_at (codes "demand") d))
 
 abbrev pub points_in : Data → StatePart
 points_in d = points (pairs_of (elements_at (codes "points") d))
 
-abbrev pub is_limited : KindName → Bool
-is_limited names.Limited = true
-is_limited _ = false
+abbrev pub names_limited : KindName → Bool
+names_limited names.Limited = true
+names_limited _ = false
 
 -- the kind that a node names; limited concentrators are known or not
 unfoldable pub kind_at : Bool → Place → Data → Result KindName Refusal
@@ -52,7 +52,7 @@ kind_at knows_limited place d = do
   member ← need cause.MissingMember place (get (codes "kind") d)
   text ← need cause.WrongType place (as_str member)
   kind ← need cause.UnknownKind place (kind_named text)
-  check cause.UnknownKind place (not (is_limited kind && not knows_limited))
+  check cause.UnknownKind place (not (names_limited kind && not knows_limited))
   Ok kind
 
 -- the kind of a device with its parameters
@@ -77,18 +77,18 @@ device_kind names.Concentrator d = kinds.Manual
 device_kind names.Limited d = kinds.Manual
 
 abbrev pub manual_start : StartForm → Data → StatePart
-manual_start starts.Demand d = demand_in d
+manual_start starts.Demand d = array_in d
 manual_start starts.Points d = points_in d
 
 -- the start of a device
-abbrev pub start_of : KindName → Data → StatePart
-start_of names.Manual d = manual_start (start_form d) d
-start_of kind d = number (whole_at (codes "start") d)
+abbrev pub start_part : KindName → Data → StatePart
+start_part names.Manual d = manual_start (start_form d) d
+start_part kind d = number (whole_at (codes "start") d)
 
-abbrev pub part_of : KindName → Data → NodePart
-part_of names.Concentrator d = concentrator
-part_of names.Limited d = limited (whole_at (codes "floor") d) (whole_at (codes "ceiling") d)
-part_of kind d = device (device_kind kind d) (start_of kind d)
+abbrev pub kind_part : KindName → Data → NodePart
+kind_part names.Concentrator d = concentrator
+kind_part names.Limited d = limited (whole_at (codes "floor") d) (whole_at (codes "ceiling") d)
+kind_part kind d = device (device_kind kind d) (start_part kind d)
 
 -- the name of the parent; an objective stands under the auctioneer
 abbrev pub parent_in : KindName → Data → List ℕ
@@ -99,7 +99,7 @@ unfoldable pub node_of : Bool → Place → Data → Result NamedPart Refusal
 node_of knows_limited place d = do
   kind ← kind_at knows_limited place d
   members_check (node_row kind d) place d
-  Ok (record { name = text_at (codes "name") d; parent = parent_in kind d; part = part_of kind d })
+  Ok (record { name = text_at (codes "name") d; parent = parent_in kind d; part = kind_part kind d })
 
 -- node n of the file, counted from 1
 abbrev pub numbered_node : Bool → ℕ → Data → Result NamedPart Refusal

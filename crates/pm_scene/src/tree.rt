@@ -54,7 +54,10 @@ pub(crate) fn read_tree(alloc: Global, entries: Vec<TreeEntry>) -> Result<Tree, 
         Err(TreeFault::TooMany { .. }) => Refusal::at(Cause::TooManyNodes, Place::Document),
         Err(TreeFault::BadName { at }) => Refusal::at(Cause::BadName, Place::Node { number: at }),
         Err(TreeFault::Twice { at }) => Refusal::at(Cause::NameTwice, Place::Node { number: at }),
-        Err(TreeFault::NoParent { at }) => Refusal::at(Cause::UnknownParent, Place::Node { number: at }),
+        Err(TreeFault::NoParent { at }) => Refusal::at(
+            Cause::UnknownParent,
+            Place::Node { number: at },
+        ),
         Err(TreeFault::TooDeep { at }) => Refusal::at(Cause::TooDeep, Place::Node { number: at }),
     };
     Err(PlanFault::Refused(refusal))

@@ -4,12 +4,12 @@ use Rattle.std.proofs.Math.ListN.{set, length-set}
 use Rattle.std.proofs.lemmas.Bool.{cases_eq}
 use Rattle.std.proofs.lemmas.List.{get_or_read}
 use Rattle.pm_base.specs.Limits.{window_size}
-use Rattle.pm_session.specs.Windows.{Sent, Kept, Keeps, Fits, steps_of, record_of, newest_record, no_record, RecordSent, RecordAnswered, IsWindow}
-use Rattle.pm_session.specs.WindowFields.{ring_size, record_in, records_from, kept_of, IsRing}
+use Rattle.pm_session.specs.Windows.{Sent, Keeps, Fits, steps_of, record_of, newest_record, no_record, RecordSent, RecordAnswered, IsWindow, WindowValue}
+use Rattle.pm_session.specs.WindowFields.{ring_size, record_in, records_from, IsRing, window_of}
 use Rattle.pm_session.specs.declared.window.Window.TheInside.{Inside}
 
 -- a window by its parts
-abbrev pub window_from : ℕ → Option ℕ → List Sent → ℕ → ℕ → Kept
+abbrev pub window_from : ℕ → Option ℕ → List Sent → ℕ → ℕ → WindowValue
 window_from children steps places answered last = record {
   children = children;
   steps = steps;
@@ -65,7 +65,7 @@ pub ring_of : (inside : Inside) → IsRing inside → Ring inside.children insid
 ring_of inside is = record { size = is.size; each = is.each; sound = is.sound }
 
 -- a window without sums has no sum in any place
-pub no_sum_read : (inside : Inside) (value : Kept) (number : ℕ) (read : Sent) → IsRing inside → kept_of inside ≡ value → value.steps ≡ None →
+pub no_sum_read : (inside : Inside) (value : WindowValue) (number : ℕ) (read : Sent) → IsRing inside → window_of inside ≡ value → value.steps ≡ None →
     read ≡ get_or inside.places.items (number % ring_size) read → read.sum ≡ None
 no_sum_read inside value number read ring is none at =
     no_steps read.sum (ap (λ r. steps_of r.sum) (read_in inside.places.items number read ring.size at) ∙ (ring.each number).steps ∙ ap (λ w. w.steps) is ∙ none)
@@ -80,7 +80,7 @@ module _ (children : ℕ) (steps : Option ℕ) (places : List Sent) (answered la
   is : IsWindow (window_from children steps places answered last)
   is = ring.sound
 
-  abbrev after : Kept
+  abbrev after : WindowValue
   after = window_from children steps (with_record places sent) answered sent.number
 
   newest_at : record_of after sent.number ≡ sent
@@ -137,7 +137,7 @@ module _ (children : ℕ) (steps : Option ℕ) (places : List Sent) (answered la
 
 -- a number that is kept is answered
 module _ (children : ℕ) (steps : Option ℕ) (places : List Sent) (answered last number : ℕ) (ring : Ring children steps places answered last) (keeps : Keeps (window_from children steps places answered last) number) where
-  abbrev rest : Kept
+  abbrev rest : WindowValue
   rest = window_from children steps places number last
 
   same_at : (n : ℕ) → number ≤ n → n ≤ last → record_of rest n ≡ record_of (window_from children steps places answered last) n

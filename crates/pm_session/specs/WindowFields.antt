@@ -1,7 +1,7 @@
 -- What the fields of a window stand for: a ring of places.
 use Rattle.std.specs.Prelude.{◌≡◌, ℕ, ◌+◌, ◌-◌, ◌%◌, zero, suc, List, [], ◌∷◌, length, slice_index_or}
 use Rattle.pm_base.specs.Limits.{window_size}
-use Rattle.pm_session.specs.Windows.{Kept, Sent, Fits, IsWindow, no_record}
+use Rattle.pm_session.specs.Windows.{Sent, Fits, IsWindow, no_record, WindowValue}
 use Rattle.pm_session.specs.declared.window.Window.TheInside.{Inside}
 
 -- the places of the ring: one for the number answered last, and one for each that may be unanswered
@@ -18,8 +18,8 @@ records_from places number zero = []
 records_from places number (suc count) = record_in places number ∷ records_from places (number + 1) count
 
 -- the records that the fields have
-abbrev pub kept_of : Inside → Kept
-kept_of inside = record {
+abbrev pub window_of : Inside → WindowValue
+window_of inside = record {
   children = inside.children;
   steps = inside.steps;
   records = records_from inside.places.items inside.answered (inside.last - inside.answered + 1);
@@ -30,5 +30,5 @@ kept_of inside = record {
 -- what the fields keep
 pub record IsRing (inside : Inside) : Type 0 where
   pub size : length inside.places.items ≡ ring_size
-  pub each : (number : ℕ) → Fits (kept_of inside) (record_in inside.places.items number)
-  pub sound : IsWindow (kept_of inside)
+  pub each : (number : ℕ) → Fits (window_of inside) (record_in inside.places.items number)
+  pub sound : IsWindow (window_of inside)

@@ -26,13 +26,13 @@ pub struct Window {
 }
 
 impl Model for Window {
-    ghost use Rattle.pm_session.specs.Windows.{Kept};
+    ghost use Rattle.pm_session.specs.Windows.{WindowValue};
 
-    ghost Value = { Kept };
+    ghost Value = { WindowValue };
 
-    ghost use Rattle.pm_session.specs.WindowFields.{kept_of, IsRing};
+    ghost use Rattle.pm_session.specs.WindowFields.{IsRing, window_of};
 
-    ghost view = { kept_of };
+    ghost view = { window_of };
 
     ghost invariant = { IsRing };
 }

@@ -13,7 +13,7 @@ use Rattle.pm_device.proofs.Between.{Between, is_power-tells, is_between-tells, 
 use Rattle.pm_strategy.specs.declared.levels.Levels.{Levels}
 use Rattle.pm_strategy.specs.Levels.{level_at, AreLevelsOf}
 use Rattle.pm_strategy.specs.Steps.{by_step, up_to, from_on}
-use Rattle.pm_strategy.specs.Strategies.{around, demand_of, bid_of, array_of}
+use Rattle.pm_strategy.specs.Strategies.{around, bid_of, numbered_array, strategy_demand}
 use Rattle.pm_strategy.proofs.StepLists.{length-by_step, by_step-same, by_step-within, by_step-falls}
 
 -- a choice of two demands within the limit
@@ -38,8 +38,8 @@ within_three : (a b c : Bool) (x y z : ℤ) → IsWithin demand_limit x → IsWi
 within_three a b c x y z hx hy hz = within_either a x _ hx (within_either b y _ hy (within_either c z (pos 0) hz none_within))
 
 -- each demand of a kind lies within the limit
-pub demand_of-within : (kind : Kind) (state : ℤ) (last step : ℕ) → IsTrue (is_valid kind) → IsTrue (state_fits kind state) → IsWithin demand_limit (demand_of kind state last step)
-unfolding demand_of
+pub demand_of-within : (kind : Kind) (state : ℤ) (last step : ℕ) → IsTrue (is_valid kind) → IsTrue (state_fits kind state) → IsWithin demand_limit (strategy_demand kind state last step)
+unfolding strategy_demand
 demand_of-within (Freezer low high power warm cool) state last step valid fits =
     let rated = within_power power (is_power-tells power (is_thermal-tells low high power warm cool valid).rated) in
     within_three _ _ _ _ _ _ rated none_within rated
@@ -111,8 +111,8 @@ not_positive : (power : ℤ) → Between (pos 0) (pos power_limit) power → neg
 not_positive power rated = omega (arith, ints)
 
 -- the demand of a kind never rises
-pub demand_of-falls : (kind : Kind) (state : ℤ) (last step : ℕ) → IsTrue (is_valid kind) → demand_of kind state last (step + 1) ≤ℤ demand_of kind state last step
-unfolding demand_of
+pub demand_of-falls : (kind : Kind) (state : ℤ) (last step : ℕ) → IsTrue (is_valid kind) → strategy_demand kind state last (step + 1) ≤ℤ strategy_demand kind state last step
+unfolding strategy_demand
 demand_of-falls (Freezer low high power warm cool) state last step valid =
     let rated = is_power-tells power (is_thermal-tells low high power warm cool valid).rated in
     falls_either _ _ _ _ _ (same_falls power) (falls_either _ _ _ _ _ (same_falls (pos 0)) (up_to-falls power _ step rated))
@@ -131,7 +131,7 @@ demand_of-falls Objective target last step valid = same_falls (neg_ℤ target)
 demand_of-falls Manual number last step valid = same_falls (pos 0)
 
 -- the bid of a kind that has a strategy, and of a manual device
-pub bid_of-strategy : (kind : Kind) (state : ℤ) (arrays : List (List ℤ)) (steps : ℕ) → kind ≢ Manual → bid_of kind state arrays steps ≡ by_step steps (demand_of kind state (steps - 1))
+pub bid_of-strategy : (kind : Kind) (state : ℤ) (arrays : List (List ℤ)) (steps : ℕ) → kind ≢ Manual → bid_of kind state arrays steps ≡ by_step steps (strategy_demand kind state (steps - 1))
 unfolding bid_of
 bid_of-strategy (Freezer low high power warm cool) state arrays steps other = refl
 bid_of-strategy (HeatPump low high power loss gain) state arrays steps other = refl
@@ -142,13 +142,13 @@ bid_of-strategy Load state arrays steps other = refl
 bid_of-strategy Objective state arrays steps other = refl
 bid_of-strategy Manual state arrays steps other = absurd (other refl)
 
-pub bid_of-manual : (kind : Kind) (state : ℤ) (arrays : List (List ℤ)) (steps : ℕ) → kind ≡ Manual → bid_of kind state arrays steps ≡ array_of arrays state steps
+pub bid_of-manual : (kind : Kind) (state : ℤ) (arrays : List (List ℤ)) (steps : ℕ) → kind ≡ Manual → bid_of kind state arrays steps ≡ numbered_array arrays state steps
 unfolding bid_of
 bid_of-manual kind state arrays steps is = rw is refl
 
 -- a number that is not negative is the place of its array
 pub array_of_number : (arrays : List (List ℤ)) (number : ℤ) (steps : ℕ) → pos 0 ≤ℤ number →
-    array_of arrays number steps ≡ get_or arrays (nat_abs number) (zeros steps)
+    numbered_array arrays number steps ≡ get_or arrays (nat_abs number) (zeros steps)
 array_of_number arrays (pos number) steps from = refl
 array_of_number arrays (negsuc number) steps from = absurd (omega (arith, ints))
 
@@ -159,7 +159,7 @@ get_or-holds P (x ∷ xs) zero d all none = All-head P x xs all
 get_or-holds P (x ∷ xs) (suc i) d all none = get_or-holds P xs i d (All-tail P x xs all) none
 
 -- a fact of the lists by step of the kinds that have a strategy, and of the arrays, holds of each bid
-bid_of-holds : (P : List ℤ → Type 0) (kind : Kind) (state : ℤ) (arrays : List (List ℤ)) (steps : ℕ) → (kind ≡ Manual → All P arrays) → P (zeros steps) → P (by_step steps (demand_of kind state (steps - 1))) → P (bid_of kind state arrays steps)
+bid_of-holds : (P : List ℤ → Type 0) (kind : Kind) (state : ℤ) (arrays : List (List ℤ)) (steps : ℕ) → (kind ≡ Manual → All P arrays) → P (zeros steps) → P (by_step steps (strategy_demand kind state (steps - 1))) → P (bid_of kind state arrays steps)
 unfolding bid_of
 bid_of-holds P (Freezer low high power warm cool) state arrays steps all none here = here
 bid_of-holds P (HeatPump low high power loss gain) state arrays steps all none here = here
@@ -189,29 +189,29 @@ zeros-falls steps = λ step inside. rw (zeros-at steps (step + 1) inside, zeros-
 pub bid_of-within : (kind : Kind) (state : ℤ) (arrays : List (List ℤ)) (steps : ℕ) → IsTrue (is_valid kind) → IsTrue (state_fits kind state) → (kind ≡ Manual → All (AllWithinLimit demand_limit) arrays) → AllWithinLimit demand_limit (bid_of kind state arrays steps)
 bid_of-within kind state arrays steps valid fits all =
     bid_of-holds (AllWithinLimit demand_limit) kind state arrays steps all (zeros-within steps)
-    (by_step-within steps (demand_of kind state (steps - 1)) (λ step. demand_of-within kind state (steps - 1) step valid fits))
+    (by_step-within steps (strategy_demand kind state (steps - 1)) (λ step. demand_of-within kind state (steps - 1) step valid fits))
 
 -- the bid of a kind never rises, for a manual device where its array never does
 pub bid_of-falls : (kind : Kind) (state : ℤ) (arrays : List (List ℤ)) (steps : ℕ) → IsTrue (is_valid kind) → (kind ≡ Manual → All NeverRises arrays) → NeverRises (bid_of kind state arrays steps)
 bid_of-falls kind state arrays steps valid all =
     bid_of-holds NeverRises kind state arrays steps all (zeros-falls steps)
-    (by_step-falls steps (demand_of kind state (steps - 1)) (λ step. demand_of-falls kind state (steps - 1) step valid))
+    (by_step-falls steps (strategy_demand kind state (steps - 1)) (λ step. demand_of-falls kind state (steps - 1) step valid))
 
 -- a solar panel and an objective ask for their state, turned round
 pub record TurnedRound (kind : Kind) (state : ℤ) : Type 0 where
   pub within : Between (neg_ℤ (pos power_limit)) (pos power_limit) state
   pub strategic : kind ≢ Manual
-  pub each : (last step : ℕ) → demand_of kind state last step ≡ neg_ℤ state
+  pub each : (last step : ℕ) → strategy_demand kind state last step ≡ neg_ℤ state
 
 wider : (power : ℤ) → Between (pos 0) (pos power_limit) power → Between (neg_ℤ (pos power_limit)) (pos power_limit) power
 wider power rated = record { from = omega (arith, ints); to = rated.to }
 
 turned_round-Solar : (state : ℤ) → IsTrue (state_fits Solar state) → TurnedRound Solar state
-unfolding demand_of
+unfolding strategy_demand
 turned_round-Solar state fits = record { within = wider state (is_power-tells state fits); strategic = λ e. cc; each = λ last step. refl }
 
 turned_round-Objective : (state : ℤ) → IsTrue (state_fits Objective state) → TurnedRound Objective state
-unfolding demand_of
+unfolding strategy_demand
 turned_round-Objective state fits = record { within = is_between-tells (neg_ℤ (pos power_limit)) (pos power_limit) state fits; strategic = λ e. cc; each = λ last step. refl }
 
 pub turned_round : (kind : Kind) (state : ℤ) → IsTrue (state_fits kind state) → (kind ≡ Solar) ⊎ (kind ≡ Objective) → TurnedRound kind state
@@ -226,5 +226,5 @@ turned_round kind state fits is =
 -- a list filled by the levels of a kind is its bid
 pub filled : (kind : Kind) (state : ℤ) (arrays : List (List ℤ)) (levels : Levels) (out : List ℤ) (counted steps : ℕ) → AreLevelsOf kind state (counted - 1) levels → counted ≡ steps → out ≡ by_step steps (level_at levels) → out ≡ bid_of kind state arrays steps
 filled kind state arrays levels out counted steps stand count is =
-    let each : (step : ℕ) → level_at levels step ≡ demand_of kind state (steps - 1) step = rw (← count) stand.each in
-    is ∙ (by_step-same steps (level_at levels) (demand_of kind state (steps - 1)) each ∙ sym (bid_of-strategy kind state arrays steps stand.strategic))
+    let each : (step : ℕ) → level_at levels step ≡ strategy_demand kind state (steps - 1) step = rw (← count) stand.each in
+    is ∙ (by_step-same steps (level_at levels) (strategy_demand kind state (steps - 1)) each ∙ sym (bid_of-strategy kind state arrays steps stand.strategic))

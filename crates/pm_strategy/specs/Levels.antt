@@ -2,7 +2,7 @@
 use Rattle.std.specs.Prelude.{◌≡◌, ◌≢◌, ℕ, ℤ, pos, int_lt, if◌then◌else◌}
 use Rattle.pm_device.specs.declared.kind.Kind.{Kind}
 use Rattle.pm_device.specs.declared.kind.Kind.TheVariants.{Manual}
-use Rattle.pm_strategy.specs.Strategies.{demand_of}
+use Rattle.pm_strategy.specs.Strategies.{strategy_demand}
 use Rattle.pm_strategy.specs.declared.levels.Levels.{Levels}
 
 -- the demand at a step
@@ -14,4 +14,4 @@ level_at levels step =
 -- levels that give the demand of a kind in a state, of a kind that has a strategy
 pub record AreLevelsOf (kind : Kind) (state : ℤ) (last : ℕ) (levels : Levels) : Type 0 where
   pub strategic : kind ≢ Manual
-  pub each : (step : ℕ) → level_at levels step ≡ demand_of kind state last step
+  pub each : (step : ℕ) → level_at levels step ≡ strategy_demand kind state last step

@@ -42,24 +42,24 @@ battery_demand capacity charge discharge spread stored last step =
 
 -- the demand in watts of a kind in a state at a step of a basis with this last step; a manual device has none of its
 -- own, since its bid is an array
-unfoldable pub demand_of : Kind → ℤ → ℕ → ℕ → ℤ
-demand_of (Freezer low high power warm cool) temperature last step = freezer_demand low high power temperature last step
-demand_of (HeatPump low high power loss gain) temperature last step = heat_pump_demand low high power temperature last step
-demand_of (Cogeneration low high power loss gain) temperature last step =
+unfoldable pub strategy_demand : Kind → ℤ → ℕ → ℕ → ℤ
+strategy_demand (Freezer low high power warm cool) temperature last step = freezer_demand low high power temperature last step
+strategy_demand (HeatPump low high power loss gain) temperature last step = heat_pump_demand low high power temperature last step
+strategy_demand (Cogeneration low high power loss gain) temperature last step =
     cogeneration_demand low high power temperature last step
-demand_of (Battery capacity charge discharge spread) stored last step =
+strategy_demand (Battery capacity charge discharge spread) stored last step =
     battery_demand capacity charge discharge spread stored last step
-demand_of Solar output last step = neg_ℤ output
-demand_of Load power last step = power
-demand_of Objective target last step = neg_ℤ target
-demand_of Manual number last step = pos 0
+strategy_demand Solar output last step = neg_ℤ output
+strategy_demand Load power last step = power
+strategy_demand Objective target last step = neg_ℤ target
+strategy_demand Manual number last step = pos 0
 
 -- the array of a number, counted from 0, and zeros where no array has the number
-abbrev pub array_of : List (List ℤ) → ℤ → ℕ → List ℤ
-array_of arrays (pos number) steps = slice_index_or arrays number (zeros steps)
-array_of arrays (negsuc number) steps = zeros steps
+abbrev pub numbered_array : List (List ℤ) → ℤ → ℕ → List ℤ
+numbered_array arrays (pos number) steps = slice_index_or arrays number (zeros steps)
+numbered_array arrays (negsuc number) steps = zeros steps
 
 -- the bid of a kind in a state: its array where it is manual, else its demand at each step
 unfoldable pub bid_of : Kind → ℤ → List (List ℤ) → ℕ → List ℤ
-bid_of Manual number arrays steps = array_of arrays number steps
-bid_of kind state arrays steps = by_step steps (demand_of kind state (steps - 1))
+bid_of Manual number arrays steps = numbered_array arrays number steps
+bid_of kind state arrays steps = by_step steps (strategy_demand kind state (steps - 1))

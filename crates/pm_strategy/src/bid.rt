@@ -2,7 +2,7 @@ ghost use Rattle.std.specs.Prelude.{◌≡◌, ℕ, ◌≤ℤ◌, pos, length, A
 ghost use Rattle.pm_bid.specs.Bids.{zeros, HaveSteps, AllWithinLimit, NeverRises};
 ghost use Rattle.pm_base.specs.Limits.{demand_limit};
 ghost use Rattle.pm_device.specs.Kinds.{is_valid, state_fits};
-ghost use Rattle.pm_strategy.specs.Strategies.{bid_of, array_of};
+ghost use Rattle.pm_strategy.specs.Strategies.{bid_of, numbered_array};
 
 use crate::kinds::levels_of;
 use pm_bid::{ArrayBid, Steps};
@@ -48,7 +48,7 @@ pub fn fill_bid(kind: &Kind, state: DeviceState, arrays: &[ArrayBid], out: &mut 
 fn fill_from_array(state: DeviceState, arrays: &[ArrayBid], out: &mut ArrayBid)
     requires number { pos 0 ≤ℤ state.0 }
     requires arrays { HaveSteps (length out.old) arrays.now }
-    ensures { out.new ≡ array_of arrays.now state.0 (length out.old) }
+    ensures { out.new ≡ numbered_array arrays.now state.0 (length out.old) }
 {
     let DeviceState(number) = state;
     let mut counter = Steps::<Brand>::start();

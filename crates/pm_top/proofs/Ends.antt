@@ -8,7 +8,7 @@ use Rattle.pm_bid.specs.Bids.{demand_at}
 use Rattle.pm_bid.specs.Clearing.{first_at_most, last_at_least}
 use Rattle.pm_plan.specs.declared.end.MemberLine.{MemberLine}
 use Rattle.pm_plan.specs.declared.end.LimitedLine.{LimitedLine}
-use Rattle.pm_plan.specs.Plans.{PlanData, node, numbers, end, phases, change_count, is_limited, is_member}
+use Rattle.pm_plan.specs.Plans.{PlanData, node, phases, change_count, is_limited, is_member, end_cut, node_numbers}
 use Rattle.pm_plan.specs.Kept.{IsPlan}
 use Rattle.pm_plan.specs.Auction.{sum_in, total, plain, local_step, group_step, member_line, limited_line, end_in}
 use Rattle.pm_base.specs.Cuts.{Cut}
@@ -75,20 +75,20 @@ end-is plan cut is within =
     let node_inside = each_number n in
     record {
       members =
-          All-map (λ (line : MemberLine). line.node ≤ n) (member_line plan s cut) (filter (λ d. is_member plan d (cut d)) (numbers plan))
-          (All-filter (λ d. is_member plan d (cut d)) (λ d. (member_line plan s cut d).node ≤ n) (numbers plan) (λ i d inside. member-node plan cut (get_or (numbers plan) i d) (node_inside i d inside)));
+          All-map (λ (line : MemberLine). line.node ≤ n) (member_line plan s cut) (filter (λ d. is_member plan d (cut d)) (node_numbers plan))
+          (All-filter (λ d. is_member plan d (cut d)) (λ d. (member_line plan s cut d).node ≤ n) (node_numbers plan) (λ i d inside. member-node plan cut (get_or (node_numbers plan) i d) (node_inside i d inside)));
       limited =
-          All-map (λ (line : LimitedLine). line.node ≤ n) (limited_line plan s cut) (filter (is_limited plan) (numbers plan))
-          (All-filter (is_limited plan) (λ g. (limited_line plan s cut g).node ≤ n) (numbers plan) (λ i d inside. limited-node plan cut (get_or (numbers plan) i d) (node_inside i d inside)));
+          All-map (λ (line : LimitedLine). line.node ≤ n) (limited_line plan s cut) (filter (is_limited plan) (node_numbers plan))
+          (All-filter (is_limited plan) (λ g. (limited_line plan s cut g).node ≤ n) (node_numbers plan) (λ i d inside. limited-node plan cut (get_or (node_numbers plan) i d) (node_inside i d inside)));
       steps =
-          All-map (λ (line : LimitedLine). line.step < plan.basis.steps) (limited_line plan s cut) (filter (is_limited plan) (numbers plan))
-          (All-filter (is_limited plan) (λ g. (limited_line plan s cut g).step < plan.basis.steps) (numbers plan) (λ i d inside. limited-step plan cut (get_or (numbers plan) i d) is within));
+          All-map (λ (line : LimitedLine). line.step < plan.basis.steps) (limited_line plan s cut) (filter (is_limited plan) (node_numbers plan))
+          (All-filter (is_limited plan) (λ g. (limited_line plan s cut g).step < plan.basis.steps) (node_numbers plan) (λ i d inside. limited-step plan cut (get_or (node_numbers plan) i d) is within));
     }
 
 pub ends-are : (plan : PlanData) → IsPlan plan → All (IsEndOf plan) (all_ends plan)
 ends-are plan is =
-    All-map (IsEndOf plan) (λ p. end_of plan (end plan p)) (range_with_len 1 (phases plan))
-    (λ i d inside. end-is plan (end plan (get_or (range_with_len 1 (phases plan)) i d)) is (λ e low. end-within plan (get_or (range_with_len 1 (phases plan)) i d) e))
+    All-map (IsEndOf plan) (λ p. end_of plan (end_cut plan p)) (range_with_len 1 (phases plan))
+    (λ i d inside. end-is plan (end_cut plan (get_or (range_with_len 1 (phases plan)) i d)) is (λ e low. end-within plan (get_or (range_with_len 1 (phases plan)) i d) e))
 
 pub length-ends : (plan : PlanData) → length (all_ends plan) ≡ phases plan
-length-ends plan = length-map-range_with_len (λ p. end_of plan (end plan p)) 1 (phases plan)
+length-ends plan = length-map-range_with_len (λ p. end_of plan (end_cut plan p)) 1 (phases plan)

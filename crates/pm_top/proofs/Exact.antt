@@ -5,7 +5,7 @@ use Rattle.std.proofs.lemmas.List.{length-take}
 use Rattle.std.proofs.lemmas.Bool.{le-ltb}
 use Rattle.pm_plan.specs.declared.refusal.Refusal.{Refusal}
 use Rattle.pm_scene.specs.Scene.{scene}
-use Rattle.pm_report.specs.Words.{line_of}
+use Rattle.pm_report.specs.Words.{text_line}
 use Rattle.pm_report.specs.Refusal.{refusal_line, place_text, item_words}
 use Rattle.pm_top.specs.Top.{input_limit, status_for, WrotePrefix, IsDue, usage, too_long, refused, report, summary}
 use Rattle.pm_top.specs.declared.words.Command.TheVariants.{Run}
@@ -13,7 +13,7 @@ use Rattle.pm_top.specs.declared.status.Status.{Status}
 use Rattle.pm_top.specs.declared.status.Status.TheVariants.{Refused, ReadFault, WriteFault, NoMemory}
 
 not_empty : (r : Refusal) → 0 < length (refusal_line r)
-not_empty r = omega (arith, length-append (codes "refused") (32 ∷ line_of (decimal r.code ∷ place_text r.place ∷ item_words r.item)))
+not_empty r = omega (arith, length-append (codes "refused") (32 ∷ text_line (decimal r.code ∷ place_text r.place ∷ item_words r.item)))
 
 not_grown : (before line : List ℕ) → 0 < length line → before ≡ before ++ line → ⊥
 not_grown before line some e = omega (arith, ap length e, length-append before line)

@@ -6,7 +6,7 @@ use Rattle.pm_plan.specs.Plans.{PlanData}
 use Rattle.pm_plan.specs.States.{all_ends}
 use Rattle.pm_plan.specs.declared.refusal.Refusal.{Refusal}
 use Rattle.pm_scene.specs.Scene.{scene}
-use Rattle.pm_gen.specs.Demo.{made}
+use Rattle.pm_gen.specs.Demo.{demo_plan}
 use Rattle.pm_report.specs.Report.{report_text}
 use Rattle.pm_report.specs.Summary.{summary_text}
 use Rattle.pm_report.specs.Refusal.{refusal_line}
@@ -60,7 +60,7 @@ pub record IsPlanned (command : Option Command) (old new : Option (List ℕ)) (p
 
 -- Done: the text is the summary of the demo cluster of this size and number
 abbrev pub IsSummary : ℕ → ℕ → List ℕ → Type 0
-IsSummary size number text = (plan : PlanData) × (made size number ≡ Ok plan) × (text ≡ summary_text size number plan (all_ends plan))
+IsSummary size number text = (plan : PlanData) × (demo_plan size number ≡ Ok plan) × (text ≡ summary_text size number plan (all_ends plan))
 
 -- what is due for a file of these bytes: the report of its plan, or the line of its refusal
 pub data IsAnswer (input : List ℕ) : Status → List ℕ → Type 0 where

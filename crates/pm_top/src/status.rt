@@ -1,5 +1,5 @@
 ghost use Rattle.std.specs.Prelude.{◌≡◌};
-ghost use Rattle.pm_top.specs.Codes.{code_of};
+ghost use Rattle.pm_top.specs.Codes.{status_code};
 
 /// How the work of the program ended.
 #[derive(Clone, Copy, Debug, PartialEq, Eq)]
@@ -23,7 +23,7 @@ pub enum Status {
 impl Status {
     /// The exit code of the program: 0 for `Done`, and from 2 on for the others in their order.
     pub fn code(self) -> u8
-        ensures { result ≡ code_of self }
+        ensures { result ≡ status_code self }
     {
         match self {
             Status::Done => 0,

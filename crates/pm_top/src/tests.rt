@@ -30,12 +30,7 @@ fn ran(
     }
     let input = input.as_bytes().to_vec(alloc)?;
     let mut source = MemSource::new(input, 100, Vec::from_array(alloc, [bad_read])?);
-    let mut sink = MemSink::new(
-        alloc,
-        1_048_576,
-        50,
-        Vec::from_array(alloc, [bad_write])?,
-    )?;
+    let mut sink = MemSink::new(alloc, 1_048_576, 50, Vec::from_array(alloc, [bad_write])?)?;
     let status = market(alloc, &words, &mut source, &mut sink);
     let text = String::from_utf8(sink.bytes().to_vec(alloc)?)?;
     Ok((status, text))
@@ -64,7 +59,11 @@ fn each_fault_has_its_answer(rt: HostRuntime) -> Result<(), Fail> {
     ];
     for (line, input, bad_read, bad_write, status, text) in rows.iter() {
         let ended = ran(alloc, *line, *input, *bad_read, *bad_write)?;
-        assert_eq!(rt; ended.0, *status, "at {line}, read {bad_read}, write {bad_write}");
+        assert_eq!(rt;
+            ended.0,
+            *status,
+            "at {line}, read {bad_read}, write {bad_write}"
+        );
         assert!(rt;
             text.starts_with(ended.1.as_str()),
             "at {line}, read {bad_read}, write {bad_write}"

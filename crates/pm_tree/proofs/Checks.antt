@@ -6,6 +6,7 @@ use Rattle.std.specs.Str.{bytes_eq}
 use Rattle.std.proofs.lemmas.Bool.Decides.{nat_tests}
 use Rattle.std.proofs.lemmas.List.{length-map, get_or-map}
 use Rattle.pm_base.specs.Limits.{most_depth}
+use Rattle.pm_base.proofs.Options.{is_some-option_map, none_of}
 use Rattle.pm_tree.specs.Names.{is_name}
 use Rattle.pm_tree.specs.Shape.{IsTree}
 use Rattle.pm_tree.specs.Entries.{Entry, entry_of, entries_of, entry_at, names_of, node_named, number_named, parents_of, leaves_of, is_leaf_at, depth_of, can_be_parent, entry_refusal}
@@ -25,10 +26,6 @@ unfolding node_named
 found_named before names nodes index name bytes same found is =
     ap (λ b. position (bytes_eq b) (names_of before)) (sym same) ∙ ap (position (bytes_eq bytes)) (sym index.names_are) ∙ sym is
 
-is_some-option_map : {A B : Type 0} (f : A → B) (o : Option A) → is_some (option_map f o) ≡ is_some o
-is_some-option_map f None = refl
-is_some-option_map f (Some x) = refl
-
 pub at_least_most : (depth : ℕ) → most_depth ≤ depth → nat_le most_depth depth ≡ true
 at_least_most depth high = grind (arith, nat_tests)
 
@@ -40,10 +37,6 @@ leaf_depth leaf depth is = sym (ap (λ b. depth + (if b then 0 else 1)) is ∙ a
 
 pub concentrator_depth : (leaf : Bool) (depth : ℕ) → leaf ≡ false → depth + 1 ≡ depth + (if leaf then 0 else 1)
 concentrator_depth leaf depth is = sym (ap (λ b. depth + (if b then 0 else 1)) is)
-
-none_from : {A : Type 0} (o : Option A) → is_some o ≡ false → o ≡ None
-none_from None is = refl
-none_from (Some x) is = absurd (true≢false is)
 
 module _ (entries : List TreeEntry) (place : ℕ) (e : TreeEntry) (inside : place < length entries) (read : e ≡ get_or entries place e) where
   abbrev before : List Entry
@@ -130,7 +123,7 @@ module _ (entries : List TreeEntry) (place : ℕ) (e : TreeEntry) (inside : plac
             pub row_is : (new : Node) → new.parent ≡ above → new.leaf ≡ e.leaf → new.depth ≡ row.depth + (if e.leaf then 0 else 1) → new.depth ≤ most_depth →
                 IsRowOf before (entry_at (entries_of entries) place) new
             row_is new parent_same leaf_same depth_same shallow = subst (λ entry. IsRowOf before entry new) entry_here (record {
-              name_is_new = none_from (node_named before (string_bytes e.name)) (taken_is ∙ free);
+              name_is_new = none_of (node_named before (string_bytes e.name)) (taken_is ∙ free);
               parent_is_named = ap is_some named_is;
               parent_is = ap (λ (n : NodeId). n.0) parent_same ∙ sym number_is;
               parent_is_no_leaf = ap (λ (n : NodeId). is_leaf_at before n.0) parent_same ∙ leaf_is ∙ no_leaf;

@@ -4,6 +4,7 @@ use Rattle.std.specs.List.{list_any}
 use Rattle.std.proofs.lemmas.Bool.Decides.{nat_tests}
 use Rattle.std.proofs.lemmas.List.{get_or_past, get_or_append_left}
 use Rattle.std.proofs.lemmas.List.Sums.{sum_by-cons}
+use Rattle.pm_base.proofs.Numbers.{suc_is_not_zero}
 use Rattle.pm_tree.specs.Shape.{parent_at, leaf_at, concentrator_at, path_within, path_at, is_on_path, depth_at, IsTree}
 use Rattle.pm_tree.specs.Tables.{added_on_path}
 
@@ -19,10 +20,6 @@ falls_by parents leaves node tree positive inside past = grind arith
 
 pub falls : (parents : List ℕ) (leaves : List Bool) → IsTree parents leaves → Falls parents
 falls parents leaves tree node positive = falls_by parents leaves node tree positive (λ inside. tree.earlier node (omega arith) inside) (parent_at-past parents node)
-
--- the test of the auctioneer at a later node
-suc_is_not_zero : (node : ℕ) → (suc node == 0) ≡ false
-suc_is_not_zero node = grind (arith, nat_tests)
 
 zero_is_zero : (node : ℕ) → node ≤ 0 → (node == 0) ≡ true
 zero_is_zero node low = grind (arith, nat_tests)

@@ -3,6 +3,7 @@ use Rattle.std.proofs.Common.{◌≡◌, ℕ, ◌+◌, ◌-◌, ◌≤◌, zero,
 use Rattle.std.proofs.Common.{arith}
 use Rattle.std.proofs.Common.{Bool, false, ◌==◌, ◌⊎◌, inl, inr, append-nil}
 use Rattle.std.proofs.lemmas.Bool.Decides.{nat_tests}
+use Rattle.pm_base.proofs.Numbers.{same_number}
 use Rattle.pm_tree.specs.Shape.{parent_at, children_among, children_at, place_at}
 use Rattle.pm_tree.specs.Entries.{Entry, parents_of, parent_of, children_of, place_of}
 use Rattle.pm_tree.proofs.Named.{length-parents_of}
@@ -62,9 +63,6 @@ child_among parents before (suc more) node inside is =
     ∙ ap (λ (l : List ℕ). slice_get l (place_at parents (before + 1))) (children_among-more parents (before + 1 + more) node)
     ∙ front
 
-is_same : (a b : ℕ) → (a == b) ≡ true → a ≡ b
-is_same a b is = grind (arith, nat_tests)
-
 -- what stands among the children is a child, at its place
 pub record IsChildAt (parents : List ℕ) (node k child : ℕ) : Type 0 where
   pub parent_is : parent_at parents child ≡ node
@@ -76,7 +74,7 @@ child_next : (parents : List ℕ) (count node k child : ℕ) → count + 1 ≤ l
     (parent_at parents (count + 1) == node) ≡ is_child →
     slice_get (children_among parents count node ++ (if is_child then (count + 1) ∷ [] else [])) k ≡ Some child → IsChildAt parents node k child
 child_next parents count node k child inside earlier true is listed =
-    let parent : parent_at parents (count + 1) ≡ node = is_same (parent_at parents (count + 1)) node is in
+    let parent : parent_at parents (count + 1) ≡ node = same_number (parent_at parents (count + 1)) node is in
     elim (get-more (children_among parents count node) (count + 1) k child listed) [
       | inl before ↦ earlier before
       | inr last ↦ record {

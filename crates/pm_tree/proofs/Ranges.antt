@@ -3,15 +3,8 @@ use Rattle.std.proofs.Common.{◌≡◌, ℕ, ◌+◌, ◌<◌, ◌≤◌, zero,
 use Rattle.std.specs.List.{range_with_len}
 use Rattle.std.proofs.lemmas.List.Elements.{filter-append}
 use Rattle.std.proofs.lemmas.List.Sums.{count_by_more_no, count_by_more_yes}
+use Rattle.pm_base.proofs.Lists.{range_with_len-more}
 use Rattle.pm_tree.specs.Shape.{parent_at, leaf_at, is_on_path, children_among, leaves_among}
-
-range_with_len-more : (first count : ℕ) → range_with_len first (count + 1) ≡ range_with_len first count ++ (first + count) ∷ []
-range_with_len-more first zero = let same : first ≡ first + 0 = omega arith in ap (λ n. n ∷ []) same
-range_with_len-more first (suc count) =
-    let more : suc count + 1 ≡ suc (count + 1) = omega arith in
-    let same : (first + 1) + count ≡ first + suc count = omega arith in
-    ap (range_with_len first) more
-    ∙ ap (λ rest. first ∷ rest) (range_with_len-more (first + 1) count ∙ ap (λ n. range_with_len (first + 1) count ++ n ∷ []) same)
 
 filter_range-more : (p : ℕ → Bool) (count : ℕ) → filter p (range_with_len 1 (count + 1)) ≡ filter p (range_with_len 1 count) ++ (if p (count + 1) then (count + 1) ∷ [] else [])
 filter_range-more p count =

@@ -6,18 +6,18 @@ use Rattle.std.proofs.lemmas.List.{length-map, map-append, get_or-map, get_or_ap
 use Rattle.std.proofs.Math.Seq.{get_or-append_seam}
 use Rattle.pm_tree.specs.Shape.{parent_at, leaf_at, is_on_path, children_among, leaves_among, children_at, leaves_below_at, place_at}
 use Rattle.pm_tree.proofs.Ranges.{children_among-more, leaves_among-more, length-children_among}
-use Rattle.pm_tree.specs.Tables.{numbers, lists_of, parent_numbers, shape_parents, added_on_path, AreLists, AreNumbers}
+use Rattle.pm_tree.specs.Tables.{parent_numbers, shape_parents, added_on_path, AreLists, AreNumbers, node_lists, id_numbers}
 use Rattle.pm_tree.specs.declared.node.Node.{Node}
 use Rattle.pm_tree.proofs.Paths.{Falls, added_on_path-step, added_on_path-auctioneer}
 use Rattle.pm_tree.specs.declared.node.NodeId.{NodeId}
 
 -- a list of the table gets a node at its end
-pub lists_of-set : (lists : List (Vec NodeId Global)) (at : ℕ) (node : NodeId) (old new : Vec NodeId Global) → at < length lists → old ≡ get_or lists at old → new.items ≡ (get_or lists at old).items ++ node ∷ [] → lists_of (set lists at new) ≡ set (lists_of lists) at (get_or (lists_of lists) at [] ++ node.0 ∷ [])
+pub lists_of-set : (lists : List (Vec NodeId Global)) (at : ℕ) (node : NodeId) (old new : Vec NodeId Global) → at < length lists → old ≡ get_or lists at old → new.items ≡ (get_or lists at old).items ++ node ∷ [] → node_lists (set lists at new) ≡ set (node_lists lists) at (get_or (node_lists lists) at [] ++ node.0 ∷ [])
 lists_of-set lists at node old new inside read pushed =
-    map-set (λ (list : Vec NodeId Global). numbers list.items) lists at new
-    ∙ ap (set (lists_of lists) at)
-    (ap numbers pushed ∙ map-append (λ (n : NodeId). n.0) (get_or lists at old).items (node ∷ [])
-    ∙ ap (λ xs. xs ++ node.0 ∷ []) (sym (get_or-map (λ (list : Vec NodeId Global). numbers list.items) lists at old [] inside)))
+    map-set (λ (list : Vec NodeId Global). id_numbers list.items) lists at new
+    ∙ ap (set (node_lists lists) at)
+    (ap id_numbers pushed ∙ map-append (λ (n : NodeId). n.0) (get_or lists at old).items (node ∷ [])
+    ∙ ap (λ xs. xs ++ node.0 ∷ []) (sym (get_or-map (λ (list : Vec NodeId Global). id_numbers list.items) lists at old [] inside)))
 
 -- what a place of a table holds after a node was added to one of the lists
 pub get_or-push : (lists : List (List ℕ)) (at node x : ℕ) → at < length lists → get_or (set lists at (get_or lists at [] ++ node ∷ [])) x [] ≡ get_or lists x [] ++ (if at == x then node ∷ [] else [])
@@ -87,8 +87,8 @@ path_end parents lists lists' first leaf at top inside pushed rest node =
     ∙ ap (λ n. get_or lists node [] ++ added_on_path parents leaf n node) (sym top)
     ∙ rest node
 
-pub length-lists_of : (lists : List (Vec NodeId Global)) → length (lists_of lists) ≡ length lists
-length-lists_of lists = length-map lists (λ (list : Vec NodeId Global). numbers list.items)
+pub length-lists_of : (lists : List (Vec NodeId Global)) → length (node_lists lists) ≡ length lists
+length-lists_of lists = length-map lists (λ (list : Vec NodeId Global). id_numbers list.items)
 
 -- one node more in the lists of leaves, where it is a leaf and where it is none
 leaves_next : (parents : List ℕ) (leaves : List Bool) (number node : ℕ) → 1 ≤ number → leaves_among parents leaves (number + 1 - 1) node ≡ leaves_among parents leaves (number - 1) node ++ (if leaf_at leaves number && is_on_path parents number node then number ∷ [] else [])
@@ -152,10 +152,10 @@ places_first parents = record {
 
 -- a node's place is the length of its parent's list so far
 pub place_of_list : (parents : List ℕ) (lists : List (Vec NodeId Global)) (list : Vec NodeId Global) (number parent count : ℕ) → list ≡ get_or lists parent list → parent < length lists → parent < count → parent ≡ parent_at parents number → number - 1 ≤ length parents
-    → AreLists count (children_among parents (number - 1)) (lists_of lists) → length list.items ≡ place_at parents number
+    → AreLists count (children_among parents (number - 1)) (node_lists lists) → length list.items ≡ place_at parents number
 place_of_list parents lists list number parent count read inside low parent_is within are =
     sym (length-map list.items (λ (n : NodeId). n.0))
-    ∙ ap (λ (l : Vec NodeId Global). length (numbers l.items)) read
-    ∙ ap length (sym (get_or-map (λ (l : Vec NodeId Global). numbers l.items) lists parent list [] inside) ∙ are.list_is parent low)
+    ∙ ap (λ (l : Vec NodeId Global). length (id_numbers l.items)) read
+    ∙ ap length (sym (get_or-map (λ (l : Vec NodeId Global). id_numbers l.items) lists parent list [] inside) ∙ are.list_is parent low)
     ∙ ap (λ p. length (children_among parents (number - 1) p)) parent_is
     ∙ place_is parents number within

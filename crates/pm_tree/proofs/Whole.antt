@@ -4,7 +4,7 @@ use Rattle.std.proofs.lemmas.Bool.Decides.{nat_tests}
 use Rattle.pm_base.specs.Limits.{most_nodes}
 use Rattle.pm_tree.specs.Shape.{children_at, leaves_below_at, place_at, IsTree}
 use Rattle.pm_tree.specs.Entries.{Entry, parents_of, leaves_of, refusals_after, first_refusal, tree_unless, checked_tree}
-use Rattle.pm_tree.specs.Tables.{shape_parents, shape_leaves, AreLists, AreNumbers, IsIndexOf, IsKept}
+use Rattle.pm_tree.specs.Tables.{shape_parents, shape_leaves, AreLists, AreNumbers, IsIndexOf, AreTables}
 use Rattle.pm_tree.specs.declared.fault.TreeFault.{TreeFault}
 use Rattle.pm_tree.specs.declared.fault.TreeFault.TheVariants.{TooMany, NoMemory}
 use Rattle.pm_tree.specs.declared.node.Node.{Node}
@@ -42,7 +42,7 @@ length-index entries names nodes index = length-table (parents_of entries) (leav
 pub kept_all : (entries : List Entry) (names : List (List ℕ)) (nodes : List Node) (children : List (List ℕ)) (places : List ℕ) (leaf_lists : List (List ℕ))
     → first_refusal entries ≡ None → length entries ≤ most_nodes → IsTree (parents_of entries) (leaves_of entries) → IsIndexOf entries names nodes
     → AreLists (length nodes) (children_at (shape_parents nodes)) children → AreNumbers (length nodes) (place_at (shape_parents nodes)) places
-    → AreLists (length nodes) (leaves_below_at (shape_parents nodes) (shape_leaves nodes)) leaf_lists → IsKept entries names nodes children places leaf_lists
+    → AreLists (length nodes) (leaves_below_at (shape_parents nodes) (shape_leaves nodes)) leaf_lists → AreTables entries names nodes children places leaf_lists
 kept_all entries names nodes children places leaf_lists accepted few lawful index children_are places_are leaf_lists_are =
     let count = length-index entries names nodes index in
     let parents : shape_parents nodes ≡ parents_of entries = ap (drop 1) index.nodes_are.parent_is in

@@ -9,8 +9,8 @@ use Rattle.pm_tree.specs.declared.node.Node.{Node}
 use Rattle.pm_tree.specs.declared.node.NodeId.{NodeId}
 
 -- the numbers of some nodes
-abbrev pub numbers : List NodeId → List ℕ
-numbers nodes = map (λ node. node.0) nodes
+abbrev pub id_numbers : List NodeId → List ℕ
+id_numbers nodes = map (λ node. node.0) nodes
 
 -- the parents of node 0, 1, 2, .. in a node table
 abbrev pub parent_numbers : List Node → List ℕ
@@ -32,8 +32,8 @@ abbrev pub shape_leaves : List Node → List Bool
 shape_leaves nodes = drop 1 (leaf_marks nodes)
 
 -- the lists of a table of lists, as numbers
-abbrev pub lists_of : List (Vec NodeId Global) → List (List ℕ)
-lists_of lists = map (λ list. numbers list.items) lists
+abbrev pub node_lists : List (Vec NodeId Global) → List (List ℕ)
+node_lists lists = map (λ list. id_numbers list.items) lists
 
 -- a node table of these parents and leaves, the auctioneer first
 pub record IsNodeTable (parents : List ℕ) (leaves : List Bool) (nodes : List Node) : Type 0 where
@@ -72,7 +72,7 @@ pub record IsIndexOf (entries : List Entry) (names : List (List ℕ)) (nodes : L
   pub nodes_are : IsNodeTable (parents_of entries) (leaves_of entries) nodes
 
 -- the tables of a lawful list of entries
-pub record IsKept (entries : List Entry) (names : List (List ℕ)) (nodes : List Node) (children : List (List ℕ)) (places : List ℕ) (leaf_lists : List (List ℕ)) : Type 0 where
+pub record AreTables (entries : List Entry) (names : List (List ℕ)) (nodes : List Node) (children : List (List ℕ)) (places : List ℕ) (leaf_lists : List (List ℕ)) : Type 0 where
   pub accepted : first_refusal entries ≡ None
   pub few : length entries ≤ most_nodes
   pub lawful : IsTree (parents_of entries) (leaves_of entries)

@@ -1,7 +1,7 @@
 ghost use Rattle.std.specs.Prelude.{◌≡◌, ℕ, ◌+◌, ◌<◌, ◌≤◌, [], ◌∷◌, ◌++◌, length, slice_index_or, slice_set, IfOk, OnOk};
 ghost use Rattle.pm_base.specs.Limits.{most_nodes};
 ghost use Rattle.pm_tree.specs.Shape.{children_at, leaves_below_at, place_at, IsTree};
-ghost use Rattle.pm_tree.specs.Tables.{lists_of, shape_parents, shape_leaves, added_on_path, AreLists, AreNumbers, IsNodeTable};
+ghost use Rattle.pm_tree.specs.Tables.{shape_parents, shape_leaves, added_on_path, AreLists, AreNumbers, IsNodeTable, node_lists};
 
 use crate::node::{Node, NodeId};
 use std::alloc::{AllocError, Global};
@@ -19,7 +19,7 @@ pub(crate) fn collect_children(alloc: Global, nodes: &[Node]) -> Result<Children
     requires lawful { IsTree (shape_parents nodes.now) (shape_leaves nodes.now) }
     requires few { length nodes.now ≤ most_nodes + 1 }
     ensures lists { IfOk result (λ children.
-        AreLists (length nodes.now) (children_at (shape_parents nodes.now)) (lists_of children.lists.items)) }
+        AreLists (length nodes.now) (children_at (shape_parents nodes.now)) (node_lists children.lists.items)) }
     ensures places { IfOk result (λ children.
         AreNumbers (length nodes.now) (place_at (shape_parents nodes.now)) children.places.items) }
 {
@@ -40,7 +40,7 @@ pub(crate) fn collect_leaves(alloc: Global, nodes: &[Node]) -> Result<Vec<Vec<No
     requires lawful { IsTree (shape_parents nodes.now) (shape_leaves nodes.now) }
     requires few { length nodes.now ≤ most_nodes + 1 }
     ensures { let leaves_below = leaves_below_at (shape_parents nodes.now) (shape_leaves nodes.now) in
-        IfOk result (λ lists. AreLists (length nodes.now) leaves_below (lists_of lists.items)) }
+        IfOk result (λ lists. AreLists (length nodes.now) leaves_below (node_lists lists.items)) }
 {
     let mut lists = empty_lists(alloc, nodes.len())?;
     for number in 1..nodes.len() {
@@ -58,8 +58,8 @@ fn push_on_path(lists: &mut [Vec<NodeId>], nodes: &[Node], leaf: NodeId) -> Resu
     requires inside { leaf.0 < length nodes.now }
     requires one_each { length lists.old ≡ length nodes.now }
     ensures { OnOk result ((node : ℕ) →
-        slice_index_or (lists_of lists.new) node []
-        ≡ slice_index_or (lists_of lists.old) node []
+        slice_index_or (node_lists lists.new) node []
+        ≡ slice_index_or (node_lists lists.old) node []
         ++ added_on_path (shape_parents nodes.now) leaf.0 leaf.0 node) }
 {
     let mut at = leaf;
@@ -73,8 +73,8 @@ fn push_on_path(lists: &mut [Vec<NodeId>], nodes: &[Node], leaf: NodeId) -> Resu
 /// Adds a node at the end of one of the lists.
 fn push_to(lists: &mut [Vec<NodeId>], at: NodeId, node: NodeId) -> Result<(), AllocError>
     requires { at.0 < length lists.old }
-    ensures { let longer = slice_index_or (lists_of lists.old) at.0 [] ++ node.0 ∷ [] in
-        OnOk result (lists_of lists.new ≡ slice_set (lists_of lists.old) at.0 longer) }
+    ensures { let longer = slice_index_or (node_lists lists.old) at.0 [] ++ node.0 ∷ [] in
+        OnOk result (node_lists lists.new ≡ slice_set (node_lists lists.old) at.0 longer) }
 {
     lists[at.0 as usize].push(node)?;
     Ok(())
@@ -82,7 +82,7 @@ fn push_to(lists: &mut [Vec<NodeId>], at: NodeId, node: NodeId) -> Result<(), Al
 
 /// So many empty lists.
 fn empty_lists(alloc: Global, count: usize) -> Result<Vec<Vec<NodeId>>, AllocError>
-    ensures { IfOk result (λ lists. AreLists count (λ _. []) (lists_of lists.items)) }
+    ensures { IfOk result (λ lists. AreLists count (λ _. []) (node_lists lists.items)) }
 {
     let mut lists = Vec::with_capacity(alloc, count)?;
     for _ in 0..count {

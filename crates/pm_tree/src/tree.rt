@@ -2,7 +2,7 @@ ghost use Rattle.std.specs.Prelude.{◌≡◌, ℕ, ◌<◌, ◌≤◌, ◌⊎�
 ghost use Rattle.pm_base.specs.Limits.{most_nodes, most_depth};
 ghost use Rattle.pm_tree.specs.Entries.{entries_of, checked_tree, node_named, name_of, parent_of, is_leaf_at, depth_of, children_of, leaves_below_of, place_of, parents_of, leaves_of};
 ghost use Rattle.pm_tree.specs.Shape.{IsTree};
-ghost use Rattle.pm_tree.specs.Tables.{numbers};
+ghost use Rattle.pm_tree.specs.Tables.{id_numbers};
 
 use crate::entry::TreeEntry;
 use crate::fault::TreeFault;
@@ -29,15 +29,15 @@ pub struct Tree {
 impl Model for Tree {
     ghost use Rattle.std.specs.Prelude.{List, map, string_bytes};
     ghost use Rattle.pm_tree.specs.Entries.{Entry, entries_of};
-    ghost use Rattle.pm_tree.specs.Tables.{lists_of, IsKept};
+    ghost use Rattle.pm_tree.specs.Tables.{node_lists, AreTables};
 
     ghost Value = { List Entry };
 
     ghost view = { λ t. entries_of t.entries.items };
 
     ghost invariant = { λ t.
-        IsKept (entries_of t.entries.items) (map string_bytes t.names.keys) t.nodes.items
-        (lists_of t.children.items) t.places.items (lists_of t.leaves_below.items) };
+        AreTables (entries_of t.entries.items) (map string_bytes t.names.keys) t.nodes.items
+        (node_lists t.children.items) t.places.items (node_lists t.leaves_below.items) };
 }
 
 impl Tree {
@@ -113,7 +113,7 @@ impl Tree {
     /// The children of a node in list order.
     pub fn children(&self, node: NodeId) -> &[NodeId]
         requires { node.0 ≤ length self.now }
-        ensures { numbers result.now ≡ children_of self.now node.0 }
+        ensures { id_numbers result.now ≡ children_of self.now node.0 }
     {
         self.children[node.0 as usize].as_slice()
     }
@@ -121,7 +121,7 @@ impl Tree {
     /// The leaves whose path to the auctioneer goes through a node, in list order; of a leaf itself.
     pub fn leaves_below(&self, node: NodeId) -> &[NodeId]
         requires { node.0 ≤ length self.now }
-        ensures { numbers result.now ≡ leaves_below_of self.now node.0 }
+        ensures { id_numbers result.now ≡ leaves_below_of self.now node.0 }
     {
         self.leaves_below[node.0 as usize].as_slice()
     }

@@ -12,20 +12,20 @@ use Rattle.pm_device.specs.declared.kind.Kind.{Kind}
 use Rattle.pm_plan.specs.declared.planned.Change.{Change}
 use Rattle.pm_plan.specs.declared.planned.Planned.{Planned}
 use Rattle.pm_plan.specs.Devices.{is_member_after, member_after}
-use Rattle.pm_plan.specs.Plans.{PlanData, node, kind_of, changes_of, is_leaf, end, is_up_to, is_member, change_count, all_changes, NodeData, node_at, planned, planned_at}
+use Rattle.pm_plan.specs.Plans.{PlanData, node, kind_of, changes_of, is_leaf, is_up_to, is_member, change_count, all_changes, NodeData, node_at, planned, planned_at, end_cut}
 use Rattle.pm_plan.specs.Kept.{IsPlan, no_change, change_at, change_fits, InPhases}
 use Rattle.pm_plan.specs.Auction.{power}
 use Rattle.pm_plan.specs.States.{state, changed_state}
 use Rattle.pm_walk.specs.declared.changes.Progress.{Progress}
-use Rattle.pm_walk.specs.Standing.{Reached}
+use Rattle.pm_walk.specs.Standing.{HasCome}
 use Rattle.pm_plan.proofs.Ends.{end-within}
 use Rattle.pm_plan.proofs.DeviceNodes.{HasKind, kind_of-tells}
 use Rattle.pm_plan.proofs.StateLaws.{state-next}
 use Rattle.pm_plan.proofs.Fits.{change-fits, state-fits, power-within}
 
 -- a change behind the end of the phases up to p is of a later phase
-later : (plan : PlanData) (d p n : ℕ) → InPhases plan → n < change_count plan d → end plan p d ≤ n → p < (change_at plan d n).phase
-unfolding end
+later : (plan : PlanData) (d p n : ℕ) → InPhases plan → n < change_count plan d → end_cut plan p d ≤ n → p < (change_at plan d n).phase
+unfolding end_cut
 later plan d p n fits inside behind =
     let changes = changes_of (node plan d) in
     let e = prefix_len (is_up_to p) changes in
@@ -35,13 +35,13 @@ later plan d p n fits inside behind =
     omega arith
 
 -- a change before it is of one of these phases
-earlier : (plan : PlanData) (d p n : ℕ) → n < end plan p d → (change_at plan d n).phase ≤ p
-unfolding end
+earlier : (plan : PlanData) (d p n : ℕ) → n < end_cut plan p d → (change_at plan d n).phase ≤ p
+unfolding end_cut
 earlier plan d p n below = leb-true _ p (prefix_len_passes (is_up_to p) (changes_of (node plan d)) n no_change below)
 
-pub used-within : (plan : PlanData) (p d : ℕ) (used : ℤ) → IsPlan plan → used ≡ power plan (state plan) (end plan p) d → IsWithin demand_limit used
+pub used-within : (plan : PlanData) (p d : ℕ) (used : ℤ) → IsPlan plan → used ≡ power plan (state plan) (end_cut plan p) d → IsWithin demand_limit used
 used-within plan p d used is used_is =
-    subst (IsWithin demand_limit) (sym used_is) (power-within plan (end plan p) d is (end-within plan p d))
+    subst (IsWithin demand_limit) (sym used_is) (power-within plan (end_cut plan p) d is (end-within plan p d))
 
 -- the change with the number n + 1
 planned_at-is : (changes : List Change) (n : ℕ) → n < length changes → planned_at changes n ≡ Some (get_or changes n no_change).what
@@ -61,10 +61,10 @@ is_member-next plan d n inside =
 
 -- a device that makes its next change, which is of phase p
 pub reached-more : (plan : PlanData) (d p : ℕ) (before after' : Progress) (kind : Kind) (used : ℤ) (what : Planned) → IsPlan plan →
-    is_leaf plan d ≡ true → HasKind (node plan d) kind → 1 ≤ p → Reached plan d before →
-    before.count < end plan p d → end plan (p - 1) d ≤ before.count → used ≡ power plan (state plan) (end plan (p - 1)) d → what ≡ (change_at plan d before.count).what →
+    is_leaf plan d ≡ true → HasKind (node plan d) kind → 1 ≤ p → HasCome plan d before →
+    before.count < end_cut plan p d → end_cut plan (p - 1) d ≤ before.count → used ≡ power plan (state plan) (end_cut plan (p - 1)) d → what ≡ (change_at plan d before.count).what →
     after'.count ≡ before.count + 1 → after'.state.0 ≡ changed_state kind before.state.0 used what → after'.member ≡ member_after before.member what →
-    Reached plan d after'
+    HasCome plan d after'
 reached-more plan d p before after' kind used what is leaf has first reached upto from used_is what_is count state' member =
     let n = before.count in
     let inside : n < change_count plan d = omega (arith, end-within plan p d) in
@@ -79,7 +79,7 @@ reached-more plan d p before after' kind used what is leaf has first reached upt
           ∙ ap (λ w. changed_state has.planned.kind before.state.0 used w) what_is
           ∙ ap (λ z. changed_state has.planned.kind z used (change_at plan d n).what) (reached.state leaf)
           ∙ ap (λ w. changed_state has.planned.kind (state plan d n) w (change_at plan d n).what)
-          (used_is ∙ ap (λ q. power plan (state plan) (end plan q) d) (sym same))
+          (used_is ∙ ap (λ q. power plan (state plan) (end_cut plan q) d) (sym same))
           ∙ sym (state-next plan d n has.planned is.in_phases has.is inside)
           ∙ ap (state plan d) (sym count);
       member =
@@ -94,7 +94,7 @@ kind-valid plan d kind is kind_is =
     subst (λ (k : Kind). IsTrue (is_valid k)) has.kind_is (is.within.devices d has.planned has.is).kind
 
 -- the state of a device that has come so far fits its kind
-pub reached-fits : (plan : PlanData) (d : ℕ) (here : Progress) (kind : Kind) → IsPlan plan → is_leaf plan d ≡ true → Reached plan d here →
+pub reached-fits : (plan : PlanData) (d : ℕ) (here : Progress) (kind : Kind) → IsPlan plan → is_leaf plan d ≡ true → HasCome plan d here →
     kind_of (node plan d) ≡ Some kind → IsTrue (state_fits kind here.state.0)
 reached-fits plan d here kind is leaf reached kind_is =
     let has = kind_of-tells (node plan d) kind kind_is in

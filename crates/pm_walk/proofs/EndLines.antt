@@ -10,13 +10,13 @@ use Rattle.pm_base.specs.declared.limits.Limits.{Limits}
 use Rattle.pm_bid.specs.Bids.{demand_at}
 use Rattle.pm_bid.specs.Limited.{step_within, local_step}
 use Rattle.pm_plan.specs.Plans.{PlanData, node, limits_of, group, is_member, is_limited}
-use Rattle.pm_plan.specs.Auction.{States, demand_of, sum_in, plain, local, group_step, power, member_line, limited_line, total, end_in, EndData}
+use Rattle.pm_plan.specs.Auction.{States, sum_in, plain, local, group_step, power, member_line, limited_line, total, end_in, EndData, demand_in_cut}
 use Rattle.pm_base.specs.Cuts.{Cut}
 use Rattle.pm_plan.specs.States.{state, end_of}
 use Rattle.pm_plan.specs.declared.end.MemberLine.{MemberLine}
 use Rattle.pm_plan.specs.declared.end.LimitedLine.{LimitedLine}
 use Rattle.pm_walk.specs.Parts.{members_to, limited_to}
-use Rattle.pm_walk.proofs.GroupTotals.{range_more}
+use Rattle.pm_base.proofs.Lists.{range_with_len-more}
 
 -- the step of a group, by its limits
 pub limited_step : (plan : PlanData) (s : States) (cut : Cut) (k g : ℕ) (limits : Limits) (sum : List ℤ) (l : ℕ) →
@@ -29,11 +29,11 @@ pub free_step : (plan : PlanData) (s : States) (cut : Cut) (k g : ℕ) → limit
 unfolding group_step
 free_step plan s cut k g free = sym (ap (λ limits. local_step limits k (sum_in plan s cut g)) free)
 
-pub power_is : (plan : PlanData) (s : States) (cut : Cut) (d g l : ℕ) (bid : List ℤ) (z : ℤ) → g ≡ group plan d → l ≡ group_step plan s cut (plain plan s cut) g → bid ≡ demand_of plan s cut d → z ≡ demand_at bid l → z ≡ power plan s cut d
+pub power_is : (plan : PlanData) (s : States) (cut : Cut) (d g l : ℕ) (bid : List ℤ) (z : ℤ) → g ≡ group plan d → l ≡ group_step plan s cut (plain plan s cut) g → bid ≡ demand_in_cut plan s cut d → z ≡ demand_at bid l → z ≡ power plan s cut d
 unfolding power local
 power_is plan s cut d g l bid z g_is l_is bid_is z_is =
     z_is ∙ ap (λ b. demand_at b l) bid_is
-    ∙ ap (demand_at (demand_of plan s cut d)) (l_is ∙ ap (group_step plan s cut (plain plan s cut)) g_is)
+    ∙ ap (demand_at (demand_in_cut plan s cut d)) (l_is ∙ ap (group_step plan s cut (plain plan s cut)) g_is)
 
 pub limited_line_is : (plan : PlanData) (s : States) (cut : Cut) (g l : ℕ) (sum : List ℤ) (z : ℤ) → l ≡ group_step plan s cut (plain plan s cut) g → sum ≡ sum_in plan s cut g → z ≡ demand_at sum l →
     (let x : LimitedLine = record { node = g; step = l; total = z } in x) ≡ limited_line plan s cut g
@@ -45,7 +45,7 @@ limited_line_is plan s cut g l sum z l_is sum_is z_is =
 -- one more node of a list of those that pass
 listed-more : {X : Type 0} (f : ℕ → X) (p : ℕ → Bool) (k : ℕ) → map f (filter p (range_with_len 1 (k + 1))) ≡ map f (filter p (range_with_len 1 k)) ++ map f (cond (p (1 + k)) ((1 + k) ∷ []) [])
 listed-more f p k =
-    ap (λ xs. map f (filter p xs)) (range_more 1 k)
+    ap (λ xs. map f (filter p xs)) (range_with_len-more 1 k)
     ∙ ap (map f) (filter-append p (range_with_len 1 k) ((1 + k) ∷ []))
     ∙ map-append f (filter p (range_with_len 1 k)) (filter p ((1 + k) ∷ []))
 

@@ -8,17 +8,20 @@ use Rattle.std.proofs.lemmas.List.{get_or-map, length-map, map-append, append-ni
 use Rattle.std.proofs.lemmas.List.Elements.{All-cons, All-nil, filter-append}
 use Rattle.pm_bid.specs.Bids.{demand_at, added, sum_of, HaveSteps, AllWithinLimit, clamped, nearest}
 use Rattle.pm_base.specs.Limits.{demand_limit, sum_limit, IsWithin}
-use Rattle.pm_bid.proofs.Sums.{length-sum_of, sum_of-at, total_at, Has}
+use Rattle.pm_bid.proofs.Sums.{length-sum_of, sum_of-at, total_at, Has, zeros-at}
 use Rattle.pm_bid.proofs.SumLaws.{sum_of-append, added_zeros}
-use Rattle.pm_plan.specs.Plans.{PlanData, node, limits_of, numbers, group, is_limited}
+use Rattle.pm_plan.specs.Plans.{PlanData, node, limits_of, group, is_limited, node_numbers}
 use Rattle.pm_plan.specs.Kept.{IsPlan}
 use Rattle.pm_base.specs.declared.limits.Limits.{Limits}
 use Rattle.pm_bid.specs.Limited.{within_limits}
 use Rattle.pm_plan.proofs.DeviceNodes.{limits_of-tells}
 use Rattle.pm_plan.specs.Auction.{States, part_in, sum_in, announced, total, limited}
 use Rattle.pm_base.specs.Cuts.{Cut}
+use Rattle.pm_base.proofs.Lists.{range_with_len-more}
 use Rattle.pm_walk.specs.Parts.{groups_to, total_to}
-use Rattle.pm_walk.proofs.Sums.{Fit, part_other, part_within, parts_fit, sum_fits, zero_at, wider}
+use Rattle.pm_walk.proofs.Sums.{Fit, part_other, part_within, parts_fit, sum_fits}
+use Rattle.pm_base.proofs.Ints.{wider}
+use Rattle.pm_bid.proofs.EachStep.{clamped-at}
 
 -- how many of the n devices from a on are in group g
 size : (ℕ → ℕ) → ℕ → ℕ → ℕ → ℕ
@@ -105,7 +108,7 @@ sum-size plan s cut g a (suc n) step low high below fit =
           record { low = omega (arith, ints, one, here.low, rest.low); high = omega (arith, ints, one, here.high, rest.high) }
       | inr other ↦
           let none = cond-false {A = ℕ} (group plan a == g) 1 0 (ne_eqb (group plan a) g other) in
-          let here : demand_at (part_in plan s cut g a) step ≡ pos 0 = ap (λ bid. demand_at bid step) (part_other plan s cut g a other) ∙ zero_at plan.basis.steps step in
+          let here : demand_at (part_in plan s cut g a) step ≡ pos 0 = ap (λ bid. demand_at bid step) (part_other plan s cut g a other) ∙ zeros-at plan.basis.steps step in
           record { low = omega (arith, ints, none, here, rest.low); high = omega (arith, ints, none, here, rest.high) }
     ]
 
@@ -118,11 +121,8 @@ nearest_within limit floor ceiling z low high h = record { low = omega (arith, i
 group_sum : (plan : PlanData) (s : States) (cut : Cut) (g step : ℕ) → step < plan.basis.steps → Fit plan s cut → IsWithin (size (group plan) g 1 (length plan.nodes) * demand_limit) (demand_at (sum_in plan s cut g) step)
 unfolding sum_in
 group_sum plan s cut g step below fit =
-    subst (IsWithin (size (group plan) g 1 (length plan.nodes) * demand_limit)) (sym (sum_of-at plan.basis.steps (map (part_in plan s cut g) (numbers plan)) step (parts_fit plan s cut g fit) below))
+    subst (IsWithin (size (group plan) g 1 (length plan.nodes) * demand_limit)) (sym (sum_of-at plan.basis.steps (map (part_in plan s cut g) (node_numbers plan)) step (parts_fit plan s cut g fit) below))
     (sum-size plan s cut g 1 (length plan.nodes) step (omega arith) (omega arith) below fit)
-
-pub clamped-at : (floor ceiling : ℤ) (bid : List ℤ) (step : ℕ) → step < length bid → demand_at (clamped floor ceiling bid) step ≡ nearest floor ceiling (demand_at bid step)
-clamped-at floor ceiling bid step inside = get_or-map (nearest floor ceiling) bid step (pos 0) (pos 0) inside
 
 limited_within : (plan : PlanData) (g limit step : ℕ) (l : Option Limits) (bid : List ℤ) → limits_of (node plan g) ≡ l → IsPlan plan →
     step < length bid → IsWithin limit (demand_at bid step) → IsWithin limit (demand_at (within_limits l bid) step)
@@ -181,19 +181,12 @@ pub total_to-none : (plan : PlanData) (s : States) (cut : Cut) → Fit plan s cu
 unfolding total_to announced
 total_to-none plan s cut fit = added_zeros plan.basis.steps (sum_in plan s cut 0) (sum_fits plan s cut 0 fit)
 
-pub range_more : (a n : ℕ) → range_with_len a (n + 1) ≡ range_with_len a n ++ (a + n) ∷ []
-range_more a zero = let e : a ≡ a + 0 = omega arith in ap (λ x. x ∷ []) e
-range_more a (suc n) =
-    (let e : suc n + 1 ≡ suc (suc n) = omega arith in ap (range_with_len a) e)
-    ∙ ap (λ xs. a ∷ xs) ((let e : suc n ≡ n + 1 = omega arith in ap (range_with_len (a + 1)) e) ∙ range_more (a + 1) n)
-    ∙ (let e : (a + 1) + n ≡ a + suc n = omega arith in ap (λ x. a ∷ (range_with_len (a + 1) n ++ x ∷ [])) e)
-
 sum_of-push : (steps : ℕ) (xs : List (List ℤ)) (y : List ℤ) → HaveSteps steps xs → length y ≡ steps → sum_of steps (xs ++ y ∷ []) ≡ added (sum_of steps xs) y
 sum_of-push steps xs y all same =
     sum_of-append steps xs (y ∷ []) all (All-cons (Has steps) y [] same (All-nil (Has steps))) ∙ ap (λ z. added (sum_of steps xs) z) (added_zeros steps y same)
 
 groups-more : (plan : PlanData) (k : ℕ) → groups_to plan (k + 1) ≡ groups_to plan k ++ cond (is_limited plan (1 + k)) ((1 + k) ∷ []) []
-groups-more plan k = ap (λ xs. 0 ∷ filter (is_limited plan) xs) (range_more 1 k) ∙ ap (λ xs. 0 ∷ xs) (filter-append (is_limited plan) (range_with_len 1 k) ((1 + k) ∷ []))
+groups-more plan k = ap (λ xs. 0 ∷ filter (is_limited plan) xs) (range_with_len-more 1 k) ∙ ap (λ xs. 0 ∷ xs) (filter-append (is_limited plan) (range_with_len 1 k) ((1 + k) ∷ []))
 
 pub total_to-more : (plan : PlanData) (s : States) (cut : Cut) (k : ℕ) → is_limited plan (1 + k) ≡ true → Fit plan s cut → total_to plan s cut (k + 1) ≡ added (total_to plan s cut k) (announced plan s cut (1 + k))
 unfolding total_to

@@ -5,7 +5,7 @@ use Rattle.std.proofs.lemmas.List.{length-map}
 use Rattle.pm_tree.specs.Entries.{parents_of}
 use Rattle.pm_tree.specs.declared.node.NodeId.{NodeId}
 use Rattle.pm_plan.specs.declared.planned.Change.{Change}
-use Rattle.pm_plan.specs.Plans.{PlanData, NodeData, node, changes_of, parent, is_leaf, is_limited, group, group_in, unless_zero, group_above, change_count, end}
+use Rattle.pm_plan.specs.Plans.{PlanData, NodeData, node, changes_of, parent, is_leaf, is_limited, group, group_in, unless_zero, group_above, change_count, end_cut}
 use Rattle.pm_plan.specs.Kept.{IsPlan}
 use Rattle.pm_plan.proofs.DeviceNodes.{changes_of-none, node-beyond}
 use Rattle.pm_plan.proofs.Ends.{end-within}
@@ -18,14 +18,14 @@ no_changes plan x is other = ap (λ (changes : List Change). length changes) (ch
 no_changes-beyond : (plan : PlanData) (x : ℕ) → length plan.nodes < x → change_count plan x ≡ 0
 no_changes-beyond plan x far = ap (λ (n : NodeData). length (changes_of n)) (node-beyond plan.nodes x far)
 
-pub end-other : (plan : PlanData) (p x : ℕ) → IsPlan plan → is_leaf plan x ≡ false → end plan p x ≡ 0
+pub end-other : (plan : PlanData) (p x : ℕ) → IsPlan plan → is_leaf plan x ≡ false → end_cut plan p x ≡ 0
 end-other plan p x is other = omega (arith, end-within plan p x, no_changes plan x is other)
 
-pub end-beyond : (plan : PlanData) (p x : ℕ) → length plan.nodes < x → end plan p x ≡ 0
+pub end-beyond : (plan : PlanData) (p x : ℕ) → length plan.nodes < x → end_cut plan p x ≡ 0
 end-beyond plan p x far = omega (arith, end-within plan p x, no_changes-beyond plan x far)
 
-pub end-zero : (plan : PlanData) (p : ℕ) → end plan p 0 ≡ 0
-unfolding end
+pub end-zero : (plan : PlanData) (p : ℕ) → end_cut plan p 0 ≡ 0
+unfolding end_cut
 end-zero plan p = refl
 
 length-parents_of : (plan : PlanData) → length (parents_of plan.entries) ≡ length plan.entries

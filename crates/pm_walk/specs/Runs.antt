@@ -1,17 +1,17 @@
 -- A run over the phases.
 use Rattle.std.specs.Prelude.{◌≡◌, ℕ, length}
-use Rattle.pm_plan.specs.Plans.{PlanData, end}
-use Rattle.pm_walk.specs.Standing.{Stands, made}
+use Rattle.pm_plan.specs.Plans.{PlanData, end_cut}
+use Rattle.pm_walk.specs.Standing.{IsStanding, cut_made}
 use Rattle.pm_walk.specs.Clearing.{IsClearing}
 use Rattle.pm_walk.specs.declared.run.Run.{Run}
 
 -- what a run keeps is that of the plan: how far it has come, and the plain auction there
 pub record IsRun (plan : PlanData) (run : Run) : Type 0 where
-  pub stands : Stands plan run.standing
-  pub clearing : IsClearing plan (made run.standing.progress) run.clearing
+  pub stands : IsStanding plan run.standing
+  pub clearing : IsClearing plan (cut_made run.standing.progress) run.clearing
   pub spare : length run.spare ≡ plan.basis.steps
 
 -- a run at the end of phase p
 pub record IsAtEnd (plan : PlanData) (p : ℕ) (run : Run) : Type 0 where
   pub sound : IsRun plan run
-  pub cut : made run.standing.progress ≡ end plan p
+  pub cut : cut_made run.standing.progress ≡ end_cut plan p

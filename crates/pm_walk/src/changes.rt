@@ -2,11 +2,11 @@ ghost use Rattle.std.specs.Prelude.{◌≡◌, ℕ, ◌+◌, ◌-◌, ◌<◌, �
 ghost use Rattle.pm_base.specs.Limits.{demand_limit, IsWithin, most_changes};
 ghost use Rattle.pm_device.specs.Kinds.{is_valid, state_fits};
 ghost use Rattle.pm_plan.specs.Devices.{member_after};
-ghost use Rattle.pm_plan.specs.Plans.{is_leaf, end, phases};
+ghost use Rattle.pm_plan.specs.Plans.{is_leaf, phases, end_cut};
 ghost use Rattle.pm_plan.specs.Auction.{power};
 ghost use Rattle.pm_plan.specs.States.{state, changed_state};
 ghost use Rattle.pm_plan.specs.Kept.{change_fits};
-ghost use Rattle.pm_walk.specs.Standing.{Reached, demand_after};
+ghost use Rattle.pm_walk.specs.Standing.{HasCome, demand_come};
 
 use pm_bid::{ArrayBid, Steps};
 use pm_device::{DeviceState, Kind, advance};
@@ -62,11 +62,11 @@ pub(crate) fn make_changes(
 ) -> Progress
     requires leaf { is_leaf plan.now device.0 ≡ true }
     requires first { 1 ≤ phase }
-    requires reached { Reached plan.now device.0 before }
-    requires begun { end plan.now (phase - 1) device.0 ≤ before.count }
-    requires inside { before.count + many ≤ end plan.now phase device.0 }
-    requires used { used ≡ power plan.now (state plan.now) (end plan.now (phase - 1)) device.0 }
-    ensures reached { Reached plan.now device.0 result }
+    requires reached { HasCome plan.now device.0 before }
+    requires begun { end_cut plan.now (phase - 1) device.0 ≤ before.count }
+    requires inside { before.count + many ≤ end_cut plan.now phase device.0 }
+    requires used { used ≡ power plan.now (state plan.now) (end_cut plan.now (phase - 1)) device.0 }
+    ensures reached { HasCome plan.now device.0 result }
     ensures count { result.count ≡ before.count + many }
 {
     let kind = plan.kind(device);
@@ -81,9 +81,9 @@ pub(crate) fn make_changes(
 /// Makes `out` the demand of a device that has come so far: its bid where it is a member, else zeros.
 pub(crate) fn fill_demand(plan: &Plan, device: NodeId, here: Progress, out: &mut ArrayBid)
     requires leaf { is_leaf plan.now device.0 ≡ true }
-    requires reached { Reached plan.now device.0 here }
+    requires reached { HasCome plan.now device.0 here }
     requires steps { length out.old ≡ plan.now.basis.steps }
-    ensures demand { out.new ≡ demand_after plan.now device.0 here }
+    ensures demand { out.new ≡ demand_come plan.now device.0 here }
     ensures steps { length out.new ≡ plan.now.basis.steps }
 {
     if here.member {

@@ -1,7 +1,7 @@
 ghost use Rattle.std.specs.Prelude.{◌≡◌, ◌+◌, ◌<◌, length, IfOk, replicate, pos};
 ghost use Rattle.pm_plan.specs.Auction.{plain};
 ghost use Rattle.pm_plan.specs.States.{state};
-ghost use Rattle.pm_walk.specs.Standing.{Stands, made};
+ghost use Rattle.pm_walk.specs.Standing.{IsStanding, cut_made};
 ghost use Rattle.pm_walk.specs.Clearing.{HasRoom, IsClearing, AreGroupSteps, ArePowers};
 
 use crate::standing::Standing;
@@ -41,10 +41,10 @@ impl Clearing {
 
     /// Finds the total, its step, the steps of the groups and the powers of a standing.
     pub(crate) fn clear(&mut self, plan: &Plan, standing: &Standing, spare: &mut ArrayBid)
-        requires stands { Stands plan.now standing.now }
+        requires stands { IsStanding plan.now standing.now }
         requires room { HasRoom plan.now self.old }
         requires spare { length spare.old ≡ plan.now.basis.steps }
-        ensures clearing { IsClearing plan.now (made standing.now.progress) self.new }
+        ensures clearing { IsClearing plan.now (cut_made standing.now.progress) self.new }
         ensures spare { length spare.new ≡ plan.now.basis.steps }
     {
         fill_total(plan, standing, spare, &mut self.total);
@@ -69,11 +69,11 @@ fn no_powers(alloc: Global, many: usize) -> Result<Vec<i64>, AllocError>
 
 /// Finds the step of each group, where `step` is the step of the whole.
 fn fill_group_steps(plan: &Plan, standing: &Standing, step: usize, group_steps: &mut [u32])
-    requires stands { Stands plan.now standing.now }
-    requires step { step ≡ plain plan.now (state plan.now) (made standing.now.progress) }
+    requires stands { IsStanding plan.now standing.now }
+    requires step { step ≡ plain plan.now (state plan.now) (cut_made standing.now.progress) }
     requires inside { step < plan.now.basis.steps }
     requires one_each { length group_steps.old ≡ length plan.now.nodes + 1 }
-    ensures { AreGroupSteps plan.now (made standing.now.progress) group_steps.new }
+    ensures { AreGroupSteps plan.now (cut_made standing.now.progress) group_steps.new }
 {
     for group in 0..plan.tree().len() + 1 {
         group_steps[group as usize] = group_step(plan, standing, step, NodeId(group)) as u32;
@@ -82,10 +82,10 @@ fn fill_group_steps(plan: &Plan, standing: &Standing, step: usize, group_steps: 
 
 /// Finds the power of each node.
 fn fill_powers(plan: &Plan, standing: &Standing, group_steps: &[u32], powers: &mut [i64])
-    requires stands { Stands plan.now standing.now }
-    requires steps { AreGroupSteps plan.now (made standing.now.progress) group_steps.now }
+    requires stands { IsStanding plan.now standing.now }
+    requires steps { AreGroupSteps plan.now (cut_made standing.now.progress) group_steps.now }
     requires one_each { length powers.old ≡ length plan.now.nodes + 1 }
-    ensures { ArePowers plan.now (made standing.now.progress) powers.new }
+    ensures { ArePowers plan.now (cut_made standing.now.progress) powers.new }
 {
     for number in 0..plan.tree().len() + 1 {
         powers[number as usize] = power_of(plan, standing, group_steps, NodeId(number));

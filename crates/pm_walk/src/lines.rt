@@ -2,7 +2,7 @@ ghost use Rattle.std.specs.Prelude.{◌≡◌, ◌≤◌, length, IfOk, true};
 ghost use Rattle.pm_plan.specs.Plans.{is_member, is_leaf};
 ghost use Rattle.pm_plan.specs.Auction.{plain, member_line, limited_line};
 ghost use Rattle.pm_plan.specs.States.{state, end_of};
-ghost use Rattle.pm_walk.specs.Standing.{Stands, made};
+ghost use Rattle.pm_walk.specs.Standing.{IsStanding, cut_made};
 ghost use Rattle.pm_walk.specs.Clearing.{IsClearing, AreGroupSteps, ArePowers};
 ghost use Rattle.pm_walk.specs.Parts.{members_to, limited_to};
 
@@ -21,9 +21,9 @@ pub(crate) fn end_of(
     standing: &Standing,
     clearing: &Clearing,
 ) -> Result<PhaseEnd, AllocError>
-    requires stands { Stands plan.now standing.now }
-    requires clearing { IsClearing plan.now (made standing.now.progress) clearing.now }
-    ensures { IfOk result (λ e. e.end ≡ end_of plan.now (made standing.now.progress)) }
+    requires stands { IsStanding plan.now standing.now }
+    requires clearing { IsClearing plan.now (cut_made standing.now.progress) clearing.now }
+    ensures { IfOk result (λ e. e.end ≡ end_of plan.now (cut_made standing.now.progress)) }
 {
     let step = clearing.step as usize;
     let members = members_of(alloc, plan, standing, &clearing.powers)?;
@@ -44,9 +44,9 @@ fn members_of(
     standing: &Standing,
     powers: &[i64],
 ) -> Result<Vec<MemberLine>, AllocError>
-    requires stands { Stands plan.now standing.now }
-    requires powers { ArePowers plan.now (made standing.now.progress) powers.now }
-    ensures { IfOk result (λ v. v.items ≡ members_to plan.now (made standing.now.progress) (length plan.now.nodes)) }
+    requires stands { IsStanding plan.now standing.now }
+    requires powers { ArePowers plan.now (cut_made standing.now.progress) powers.now }
+    ensures { IfOk result (λ v. v.items ≡ members_to plan.now (cut_made standing.now.progress) (length plan.now.nodes)) }
 {
     let mut lines = Vec::new(alloc);
     for number in 1..plan.tree().len() + 1 {
@@ -59,10 +59,10 @@ fn members_of(
 }
 
 fn member_line(plan: &Plan, standing: &Standing, powers: &[i64], device: NodeId) -> MemberLine
-    requires stands { Stands plan.now standing.now }
+    requires stands { IsStanding plan.now standing.now }
     requires inside { device.0 ≤ length plan.now.nodes }
-    requires powers { ArePowers plan.now (made standing.now.progress) powers.now }
-    ensures { result ≡ member_line plan.now (state plan.now) (made standing.now.progress) device.0 }
+    requires powers { ArePowers plan.now (cut_made standing.now.progress) powers.now }
+    ensures { result ≡ member_line plan.now (state plan.now) (cut_made standing.now.progress) device.0 }
 {
     MemberLine {
         node: device.0,
@@ -78,9 +78,9 @@ fn limited_of(
     standing: &Standing,
     group_steps: &[u32],
 ) -> Result<Vec<LimitedLine>, AllocError>
-    requires stands { Stands plan.now standing.now }
-    requires steps { AreGroupSteps plan.now (made standing.now.progress) group_steps.now }
-    ensures { IfOk result (λ v. v.items ≡ limited_to plan.now (made standing.now.progress) (length plan.now.nodes)) }
+    requires stands { IsStanding plan.now standing.now }
+    requires steps { AreGroupSteps plan.now (cut_made standing.now.progress) group_steps.now }
+    ensures { IfOk result (λ v. v.items ≡ limited_to plan.now (cut_made standing.now.progress) (length plan.now.nodes)) }
 {
     let mut lines = Vec::new(alloc);
     for number in 1..plan.tree().len() + 1 {
@@ -93,10 +93,10 @@ fn limited_of(
 }
 
 fn limited_line(plan: &Plan, standing: &Standing, group_steps: &[u32], at: NodeId) -> LimitedLine
-    requires stands { Stands plan.now standing.now }
+    requires stands { IsStanding plan.now standing.now }
     requires inside { at.0 ≤ length plan.now.nodes }
-    requires steps { AreGroupSteps plan.now (made standing.now.progress) group_steps.now }
-    ensures { result ≡ limited_line plan.now (state plan.now) (made standing.now.progress) at.0 }
+    requires steps { AreGroupSteps plan.now (cut_made standing.now.progress) group_steps.now }
+    ensures { result ≡ limited_line plan.now (state plan.now) (cut_made standing.now.progress) at.0 }
 {
     let step = group_steps[at.0 as usize];
     LimitedLine {

@@ -1,8 +1,8 @@
 ghost use Rattle.std.specs.Prelude.{◌≡◌, ℕ, ◌-◌, ◌≤◌, length, map, IfOk};
-ghost use Rattle.pm_plan.specs.Plans.{end, phases, change_count};
+ghost use Rattle.pm_plan.specs.Plans.{phases, change_count, end_cut};
 ghost use Rattle.pm_plan.specs.States.{end_of, all_ends};
-ghost use Rattle.pm_walk.specs.Cuts.{cut_of};
-ghost use Rattle.pm_walk.specs.Standing.{Stands, made};
+ghost use Rattle.pm_walk.specs.Cuts.{file_cut};
+ghost use Rattle.pm_walk.specs.Standing.{IsStanding, cut_made};
 ghost use Rattle.pm_walk.specs.Runs.{IsRun, IsAtEnd};
 
 use crate::clearing::Clearing;
@@ -26,7 +26,7 @@ pub(crate) struct Run {
 impl Run {
     /// A run that has come so far.
     fn over(alloc: Global, plan: &Plan, standing: Standing) -> Result<Run, AllocError>
-        requires { Stands plan.now standing }
+        requires { IsStanding plan.now standing }
         ensures run { IfOk result (IsRun plan.now) }
         ensures standing { IfOk result (λ run. run.standing ≡ standing) }
     {
@@ -67,7 +67,7 @@ impl Run {
     /// The end over what the run has come to.
     fn end(&self, alloc: Global, plan: &Plan) -> Result<PhaseEnd, AllocError>
         requires { IsRun plan.now self.now }
-        ensures { IfOk result (λ e. e.end ≡ end_of plan.now (made self.now.standing.progress)) }
+        ensures { IfOk result (λ e. e.end ≡ end_of plan.now (cut_made self.now.standing.progress)) }
     {
         end_of(alloc, plan, &self.standing, &self.clearing)
     }
@@ -94,8 +94,8 @@ pub fn all_ends(alloc: Global, plan: &Plan) -> Result<Vec<PhaseEnd>, AllocError>
 /// A device that stops early has the state after its changes made, where its ticks use the powers of the whole run.
 pub fn end_of_cut(alloc: Global, plan: &Plan, cut: &[u32]) -> Result<PhaseEnd, AllocError>
     requires one_each { length cut.now ≡ length plan.now.nodes }
-    requires planned { (x : ℕ) → 1 ≤ x → x ≤ length plan.now.nodes → cut_of cut.now x ≤ change_count plan.now x }
-    ensures { IfOk result (λ e. e.end ≡ end_of plan.now (cut_of cut.now)) }
+    requires planned { (x : ℕ) → 1 ≤ x → x ≤ length plan.now.nodes → file_cut cut.now x ≤ change_count plan.now x }
+    ensures { IfOk result (λ e. e.end ≡ end_of plan.now (file_cut cut.now)) }
 {
     let mut run = Run::start(alloc, plan)?;
     let mut stops = starts(alloc, plan)?;

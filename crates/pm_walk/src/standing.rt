@@ -1,11 +1,11 @@
 ghost use Rattle.std.specs.Prelude.{◌≡◌, ◌≢◌, ℕ, ◌-◌, ◌≤◌, length, replicate, slice_set, true, false, IfOk};
 ghost use Rattle.pm_base.specs.Limits.{AreSteps};
 ghost use Rattle.pm_bid.specs.Bids.{zeros};
-ghost use Rattle.pm_plan.specs.Plans.{is_leaf, end, phases, group};
+ghost use Rattle.pm_plan.specs.Plans.{is_leaf, phases, group, end_cut};
 ghost use Rattle.pm_plan.specs.Kept.{IsPlan};
-ghost use Rattle.pm_plan.specs.Auction.{sum_in, demand_of, power};
+ghost use Rattle.pm_plan.specs.Auction.{sum_in, power, demand_in_cut};
 ghost use Rattle.pm_plan.specs.States.{state};
-ghost use Rattle.pm_walk.specs.Standing.{Reached, AreReached, Stands, demand_after, no_progress, progress_at, made};
+ghost use Rattle.pm_walk.specs.Standing.{no_progress, progress_at, HasCome, HaveCome, IsStanding, cut_made, demand_come};
 ghost use Rattle.pm_walk.specs.Clearing.{ArePowers};
 
 use crate::changes::{Progress, fill_demand, make_changes};
@@ -38,8 +38,8 @@ impl Model for Standing {
 impl Standing {
     /// Before the first change: each device in its start, none a member.
     pub(crate) fn start(alloc: Global, plan: &Plan) -> Result<Standing, AllocError>
-        ensures stands { IfOk result (λ s. Stands plan.now s) }
-        ensures none { IfOk result (λ s. (x : ℕ) → made s.progress x ≡ 0) }
+        ensures stands { IfOk result (λ s. IsStanding plan.now s) }
+        ensures none { IfOk result (λ s. (x : ℕ) → cut_made s.progress x ≡ 0) }
     {
         let many = plan.tree().len() as usize + 1;
         let steps = plan.basis().steps();
@@ -52,7 +52,7 @@ impl Standing {
 
     /// How far a node has come.
     pub(crate) fn progress(&self, plan: &Plan, at: NodeId) -> Progress
-        requires stands { Stands plan.now self.now }
+        requires stands { IsStanding plan.now self.now }
         requires inside { at.0 ≤ length plan.now.nodes }
         ensures progress { result ≡ progress_at self.now.progress at.0 }
     {
@@ -61,9 +61,9 @@ impl Standing {
 
     /// The demand of a node.
     pub(crate) fn demand(&self, plan: &Plan, at: NodeId) -> &ArrayBid
-        requires stands { Stands plan.now self.now }
+        requires stands { IsStanding plan.now self.now }
         requires inside { at.0 ≤ length plan.now.nodes }
-        ensures demand { result.now ≡ demand_of plan.now (state plan.now) (made self.now.progress) at.0 }
+        ensures demand { result.now ≡ demand_in_cut plan.now (state plan.now) (cut_made self.now.progress) at.0 }
         ensures steps { length result.now ≡ plan.now.basis.steps }
     {
         &self.demands[at.0 as usize]
@@ -71,9 +71,9 @@ impl Standing {
 
     /// The sum of a group.
     pub(crate) fn sum(&self, plan: &Plan, group: NodeId) -> &ArrayBid
-        requires stands { Stands plan.now self.now }
+        requires stands { IsStanding plan.now self.now }
         requires inside { group.0 ≤ length plan.now.nodes }
-        ensures sum { result.now ≡ sum_in plan.now (state plan.now) (made self.now.progress) group.0 }
+        ensures sum { result.now ≡ sum_in plan.now (state plan.now) (cut_made self.now.progress) group.0 }
         ensures steps { length result.now ≡ plan.now.basis.steps }
     {
         &self.sums[group.0 as usize]
@@ -89,10 +89,10 @@ impl Standing {
     )
         requires leaf { is_leaf plan.now device.0 ≡ true }
         requires inside { device.0 ≤ length plan.now.nodes }
-        requires stands { Stands plan.now self.old }
-        requires reached { Reached plan.now device.0 here }
+        requires stands { IsStanding plan.now self.old }
+        requires reached { HasCome plan.now device.0 here }
         requires spare { length spare.old ≡ plan.now.basis.steps }
-        ensures stands { Stands plan.now self.new }
+        ensures stands { IsStanding plan.now self.new }
         ensures progress { self.new.progress ≡ slice_set self.old.progress device.0 here }
         ensures spare { length spare.new ≡ plan.now.basis.steps }
     {
@@ -104,11 +104,11 @@ impl Standing {
     fn put(&mut self, plan: &Plan, device: NodeId, here: Progress, demand: &ArrayBid)
         requires leaf { is_leaf plan.now device.0 ≡ true }
         requires inside { device.0 ≤ length plan.now.nodes }
-        requires stands { Stands plan.now self.old }
-        requires reached { Reached plan.now device.0 here }
-        requires demand { demand.now ≡ demand_after plan.now device.0 here }
+        requires stands { IsStanding plan.now self.old }
+        requires reached { HasCome plan.now device.0 here }
+        requires demand { demand.now ≡ demand_come plan.now device.0 here }
         requires steps { length demand.now ≡ plan.now.basis.steps }
-        ensures stands { Stands plan.now self.new }
+        ensures stands { IsStanding plan.now self.new }
         ensures progress { self.new.progress ≡ slice_set self.old.progress device.0 here }
     {
         let at = device.0 as usize;
@@ -133,13 +133,13 @@ impl Standing {
         requires inside { device.0 ≤ length plan.now.nodes }
         requires first { 1 ≤ phase }
         requires last { phase ≤ phases plan.now }
-        requires stands { Stands plan.now self.old }
-        requires begun { made self.old.progress device.0 ≡ end plan.now (phase - 1) device.0 }
-        requires used { used ≡ power plan.now (state plan.now) (end plan.now (phase - 1)) device.0 }
+        requires stands { IsStanding plan.now self.old }
+        requires begun { cut_made self.old.progress device.0 ≡ end_cut plan.now (phase - 1) device.0 }
+        requires used { used ≡ power plan.now (state plan.now) (end_cut plan.now (phase - 1)) device.0 }
         requires spare { length spare.old ≡ plan.now.basis.steps }
-        ensures stands { Stands plan.now self.new }
-        ensures done { made self.new.progress device.0 ≡ end plan.now phase device.0 }
-        ensures others { (x : ℕ) → x ≢ device.0 → made self.new.progress x ≡ made self.old.progress x }
+        ensures stands { IsStanding plan.now self.new }
+        ensures done { cut_made self.new.progress device.0 ≡ end_cut plan.now phase device.0 }
+        ensures others { (x : ℕ) → x ≢ device.0 → cut_made self.new.progress x ≡ cut_made self.old.progress x }
         ensures same { result ≡ false → self.new ≡ self.old }
         ensures spare { length spare.new ≡ plan.now.basis.steps }
     {
@@ -164,12 +164,12 @@ impl Standing {
     ) -> bool
         requires first { 1 ≤ phase }
         requires last { phase ≤ phases plan.now }
-        requires stands { Stands plan.now self.old }
-        requires begun { made self.old.progress ≡ end plan.now (phase - 1) }
-        requires powers { ArePowers plan.now (end plan.now (phase - 1)) powers.now }
+        requires stands { IsStanding plan.now self.old }
+        requires begun { cut_made self.old.progress ≡ end_cut plan.now (phase - 1) }
+        requires powers { ArePowers plan.now (end_cut plan.now (phase - 1)) powers.now }
         requires spare { length spare.old ≡ plan.now.basis.steps }
-        ensures stands { Stands plan.now self.new }
-        ensures done { made self.new.progress ≡ end plan.now phase }
+        ensures stands { IsStanding plan.now self.new }
+        ensures done { cut_made self.new.progress ≡ end_cut plan.now phase }
         ensures same { result ≡ false → self.new ≡ self.old }
         ensures spare { length spare.new ≡ plan.now.basis.steps }
     {
@@ -187,8 +187,8 @@ impl Standing {
 
 /// How far the nodes have come before the first change.
 pub(crate) fn starts(alloc: Global, plan: &Plan) -> Result<Vec<Progress>, AllocError>
-    ensures reached { IfOk result (λ v. AreReached plan.now v.items) }
-    ensures none { IfOk result (λ v. (x : ℕ) → made v.items x ≡ 0) }
+    ensures reached { IfOk result (λ v. HaveCome plan.now v.items) }
+    ensures none { IfOk result (λ v. (x : ℕ) → cut_made v.items x ≡ 0) }
 {
     let mut progress = Vec::new(alloc);
     for number in 0..plan.tree().len() + 1 {
@@ -200,7 +200,7 @@ pub(crate) fn starts(alloc: Global, plan: &Plan) -> Result<Vec<Progress>, AllocE
 /// A node before its first change.
 fn start_of(plan: &Plan, at: NodeId) -> Progress
     requires inside { at.0 ≤ length plan.now.nodes }
-    ensures reached { Reached plan.now at.0 result }
+    ensures reached { HasCome plan.now at.0 result }
     ensures none { result.count ≡ 0 }
 {
     let state = if plan.tree().is_leaf(at) {

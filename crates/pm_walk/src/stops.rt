@@ -1,9 +1,9 @@
 ghost use Rattle.std.specs.Prelude.{◌≡◌, ◌-◌, ◌≤◌, length, min, IfOk, true};
-ghost use Rattle.pm_plan.specs.Plans.{is_leaf, end, phases};
+ghost use Rattle.pm_plan.specs.Plans.{is_leaf, phases, end_cut};
 ghost use Rattle.pm_plan.specs.Auction.{power};
 ghost use Rattle.pm_plan.specs.States.{state};
 ghost use Rattle.pm_walk.specs.Cuts.{AreStops};
-ghost use Rattle.pm_walk.specs.Standing.{Reached, AreReached, Stands, made};
+ghost use Rattle.pm_walk.specs.Standing.{HasCome, HaveCome, IsStanding, cut_made};
 ghost use Rattle.pm_walk.specs.Clearing.{ArePowers};
 
 use crate::changes::{Progress, make_changes};
@@ -25,7 +25,7 @@ pub(crate) fn change_stops(
 )
     requires first { 1 ≤ phase }
     requires last { phase ≤ phases plan.now }
-    requires powers { ArePowers plan.now (end plan.now (phase - 1)) powers.now }
+    requires powers { ArePowers plan.now (end_cut plan.now (phase - 1)) powers.now }
     requires one_each { length cut.now ≡ length plan.now.nodes }
     requires stops { AreStops plan.now cut.now (phase - 1) stops.old }
     ensures { AreStops plan.now cut.now phase stops.new }
@@ -53,11 +53,11 @@ fn change_stop(
     requires leaf { is_leaf plan.now device.0 ≡ true }
     requires first { 1 ≤ phase }
     requires last { phase ≤ phases plan.now }
-    requires reached { Reached plan.now device.0 before }
-    requires begun { before.count ≡ min last (end plan.now (phase - 1) device.0) }
-    requires used { used ≡ power plan.now (state plan.now) (end plan.now (phase - 1)) device.0 }
-    ensures reached { Reached plan.now device.0 result }
-    ensures count { result.count ≡ min last (end plan.now phase device.0) }
+    requires reached { HasCome plan.now device.0 before }
+    requires begun { before.count ≡ min last (end_cut plan.now (phase - 1) device.0) }
+    requires used { used ≡ power plan.now (state plan.now) (end_cut plan.now (phase - 1)) device.0 }
+    ensures reached { HasCome plan.now device.0 result }
+    ensures count { result.count ≡ min last (end_cut plan.now phase device.0) }
 {
     let many = plan.changes_of(phase, device).min(last - before.count);
     if many == 0 {
@@ -73,9 +73,9 @@ impl Standing {
         plan: &Plan,
         progress: &[Progress],
     ) -> Result<Standing, AllocError>
-        requires { AreReached plan.now progress.now }
-        ensures stands { IfOk result (Stands plan.now) }
-        ensures cut { IfOk result (λ s. made s.progress ≡ made progress.now) }
+        requires { HaveCome plan.now progress.now }
+        ensures stands { IfOk result (IsStanding plan.now) }
+        ensures cut { IfOk result (λ s. cut_made s.progress ≡ cut_made progress.now) }
     {
         let tree = plan.tree();
         let mut standing = Standing::start(alloc, plan)?;

@@ -2,7 +2,7 @@ ghost use Rattle.std.specs.Prelude.{◌≡◌, ℕ, ◌≤◌, length, map, true
 ghost use Rattle.pm_tree.specs.Entries.{entries_of, leaves_of};
 ghost use Rattle.pm_plan.specs.Parts.{is_device, node_part};
 ghost use Rattle.pm_plan.specs.Plans.{change_count};
-ghost use Rattle.pm_walk.specs.Cuts.{cut_of};
+ghost use Rattle.pm_walk.specs.Cuts.{file_cut};
 
 use crate::{all_ends, end_of_cut};
 use pm_basis::Basis;
@@ -149,7 +149,7 @@ fn has_changes(plan: &Plan, node: NodeId, count: u32) -> bool
 /// Whether a list is a cut of the plan's nodes.
 fn is_cut(plan: &Plan, cut: &[u32]) -> bool
     ensures one_each { result ≡ true → length cut.now ≡ length plan.now.nodes }
-    ensures planned { result ≡ true → ((x : ℕ) → 1 ≤ x → x ≤ length plan.now.nodes → cut_of cut.now x ≤ change_count plan.now x) }
+    ensures planned { result ≡ true → ((x : ℕ) → 1 ≤ x → x ≤ length plan.now.nodes → file_cut cut.now x ≤ change_count plan.now x) }
 {
     if cut.len() != plan.tree().len() as usize {
         return false;

@@ -3,7 +3,7 @@ ghost use Rattle.pm_bid.specs.Limited.{step_within};
 ghost use Rattle.pm_plan.specs.Plans.{node, limits_of};
 ghost use Rattle.pm_plan.specs.Auction.{announced, total, plain, group_step, power};
 ghost use Rattle.pm_plan.specs.States.{state};
-ghost use Rattle.pm_walk.specs.Standing.{Stands, made};
+ghost use Rattle.pm_walk.specs.Standing.{IsStanding, cut_made};
 ghost use Rattle.pm_walk.specs.Clearing.{AreGroupSteps};
 ghost use Rattle.pm_walk.specs.Parts.{total_to};
 
@@ -17,10 +17,10 @@ use std::marker::Brand;
 /// Makes `out` the total: the sum of the devices below no limited concentrator, and what each limited concentrator
 /// announces.
 pub(crate) fn fill_total(plan: &Plan, standing: &Standing, spare: &mut ArrayBid, out: &mut ArrayBid)
-    requires stands { Stands plan.now standing.now }
+    requires stands { IsStanding plan.now standing.now }
     requires spare { length spare.old ≡ plan.now.basis.steps }
     requires out { length out.old ≡ plan.now.basis.steps }
-    ensures total { out.new ≡ total plan.now (state plan.now) (made standing.now.progress) }
+    ensures total { out.new ≡ total plan.now (state plan.now) (cut_made standing.now.progress) }
     ensures spare { length spare.new ≡ plan.now.basis.steps }
     ensures steps { length out.new ≡ plan.now.basis.steps }
 {
@@ -34,13 +34,13 @@ pub(crate) fn fill_total(plan: &Plan, standing: &Standing, spare: &mut ArrayBid,
 
 /// Adds what a node announces, where it is a limited concentrator, to what the groups before it do.
 fn add_group(plan: &Plan, standing: &Standing, at: NodeId, spare: &mut ArrayBid, out: &mut ArrayBid)
-    requires stands { Stands plan.now standing.now }
+    requires stands { IsStanding plan.now standing.now }
     requires first { 1 ≤ at.0 }
     requires last { at.0 ≤ length plan.now.nodes }
     requires spare { length spare.old ≡ plan.now.basis.steps }
-    requires before { out.old ≡ total_to plan.now (state plan.now) (made standing.now.progress) (at.0 - 1) }
+    requires before { out.old ≡ total_to plan.now (state plan.now) (cut_made standing.now.progress) (at.0 - 1) }
     ensures spare { length spare.new ≡ plan.now.basis.steps }
-    ensures after { out.new ≡ total_to plan.now (state plan.now) (made standing.now.progress) at.0 }
+    ensures after { out.new ≡ total_to plan.now (state plan.now) (cut_made standing.now.progress) at.0 }
 {
     if let Some(limits) = limits_of(plan, at) {
         announce(plan, standing, at, limits, spare);
@@ -59,11 +59,11 @@ fn limits_of(plan: &Plan, at: NodeId) -> Option<Limits>
 
 /// Makes `out` what a limited concentrator announces: the sum of its group within its limits.
 fn announce(plan: &Plan, standing: &Standing, at: NodeId, limits: Limits, out: &mut ArrayBid)
-    requires stands { Stands plan.now standing.now }
+    requires stands { IsStanding plan.now standing.now }
     requires inside { at.0 ≤ length plan.now.nodes }
     requires limits { limits_of (node plan.now at.0) ≡ Some limits }
     requires out { length out.old ≡ plan.now.basis.steps }
-    ensures announced { out.new ≡ announced plan.now (state plan.now) (made standing.now.progress) at.0 }
+    ensures announced { out.new ≡ announced plan.now (state plan.now) (cut_made standing.now.progress) at.0 }
     ensures steps { length out.new ≡ plan.now.basis.steps }
 {
     standing.sum(plan, at).clamp_into(
@@ -76,10 +76,10 @@ fn announce(plan: &Plan, standing: &Standing, at: NodeId, limits: Limits, out: &
 
 /// The step of the nodes below a limited concentrator, where `step` is the step of the whole; of any other node `step`.
 pub(crate) fn group_step(plan: &Plan, standing: &Standing, step: usize, group: NodeId) -> usize
-    requires stands { Stands plan.now standing.now }
+    requires stands { IsStanding plan.now standing.now }
     requires group { group.0 ≤ length plan.now.nodes }
     requires step { step < plan.now.basis.steps }
-    ensures step { result ≡ group_step plan.now (state plan.now) (made standing.now.progress) step group.0 }
+    ensures step { result ≡ group_step plan.now (state plan.now) (cut_made standing.now.progress) step group.0 }
     ensures inside { result < plan.now.basis.steps }
 {
     match limits_of(plan, group) {
@@ -107,10 +107,10 @@ fn step_within(sum: &ArrayBid, limits: &Limits, step: usize) -> usize
 
 /// The power of a node, where `group_steps` has the step of each group.
 pub(crate) fn power_of(plan: &Plan, standing: &Standing, group_steps: &[u32], at: NodeId) -> i64
-    requires stands { Stands plan.now standing.now }
+    requires stands { IsStanding plan.now standing.now }
     requires inside { at.0 ≤ length plan.now.nodes }
-    requires steps { AreGroupSteps plan.now (made standing.now.progress) group_steps.now }
-    ensures { result ≡ power plan.now (state plan.now) (made standing.now.progress) at.0 }
+    requires steps { AreGroupSteps plan.now (cut_made standing.now.progress) group_steps.now }
+    ensures { result ≡ power plan.now (state plan.now) (cut_made standing.now.progress) at.0 }
 {
     let step = group_steps[group_of(plan, at)];
     standing

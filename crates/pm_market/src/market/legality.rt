@@ -6,15 +6,15 @@ use pm_base::WINDOW_SIZE;
 /// Which moves are legal.
 impl Market {
     ghost use Rattle.std.specs.Prelude.{◌≡◌, ◌==◌, ◌+◌, ◌-◌, ◌≤◌, true, if◌then◌else◌, length, not};
-    ghost use Rattle.pm_market.specs.Lists.{is_leaf, end, nodes};
+    ghost use Rattle.pm_market.specs.Lists.{is_leaf, nodes, end_count};
     ghost use Rattle.pm_market.specs.State.{all_to, newest, clearings};
     ghost use Rattle.pm_market.specs.Legality.{learn_is_legal, publish_is_legal, clear_is_legal, pass_is_legal, change_is_legal, close_is_legal, is_idle, is_idle_at, is_legal, are_made};
-    ghost use Rattle.pm_market.specs.Market.{lists_of, state_of};
+    ghost use Rattle.pm_market.specs.Market.{market_lists, market_state};
 
     /// Whether the parent of a node may learn a number of it.
     #[tactic(auto, unfolding(crate::specs::Legality::learn_is_legal))]
     fn may_learn(&self, child: usize, number: usize) -> bool
-        ensures { result ≡ learn_is_legal (lists_of self.now) (state_of self.now) child number }
+        ensures { result ≡ learn_is_legal (market_lists self.now) (market_state self.now) child number }
     {
         self.is_node(child)
             && (self.learnt(child) as usize) < number
@@ -23,7 +23,7 @@ impl Market {
 
     /// Whether a concentrator may publish, under its next number.
     fn may_publish(&self, node: usize) -> bool
-        ensures { result ≡ publish_is_legal (lists_of self.now) (state_of self.now) node (newest (lists_of self.now) (state_of self.now) node + 1) }
+        ensures { result ≡ publish_is_legal (market_lists self.now) (market_state self.now) node (newest (market_lists self.now) (market_state self.now) node + 1) }
     {
         if !self.is_node(node) || self.is_leaf(node) || self.knows_same(node) {
             return false;
@@ -33,7 +33,7 @@ impl Market {
 
     /// Whether a concentrator may publish under a number.
     fn may_publish_as(&self, node: usize, number: usize) -> bool
-        ensures { result ≡ publish_is_legal (lists_of self.now) (state_of self.now) node number }
+        ensures { result ≡ publish_is_legal (market_lists self.now) (market_state self.now) node number }
     {
         if number == 0 || number - 1 != self.newest(node) {
             return false;
@@ -43,14 +43,14 @@ impl Market {
 
     /// Whether the auctioneer may clear, under its next index.
     fn may_clear(&self) -> bool
-        ensures { result ≡ clear_is_legal (lists_of self.now) (state_of self.now) (clearings (state_of self.now) + 1) }
+        ensures { result ≡ clear_is_legal (market_lists self.now) (market_state self.now) (clearings (market_state self.now) + 1) }
     {
         !self.knows_same(0)
     }
 
     /// Whether the auctioneer may clear under an index.
     fn may_clear_as(&self, index: usize) -> bool
-        ensures { result ≡ clear_is_legal (lists_of self.now) (state_of self.now) index }
+        ensures { result ≡ clear_is_legal (market_lists self.now) (market_state self.now) index }
     {
         if index == 0 || index - 1 != self.published_by(0) {
             return false;
@@ -60,7 +60,7 @@ impl Market {
 
     /// Whether a clearing may be passed to a node.
     fn may_pass(&self, node: usize, index: usize) -> bool
-        ensures { result ≡ pass_is_legal (lists_of self.now) (state_of self.now) node index }
+        ensures { result ≡ pass_is_legal (market_lists self.now) (market_state self.now) node index }
     {
         if !self.is_node(node) || index <= self.last(node) || !self.is_addressed(node, index) {
             return false;
@@ -70,7 +70,7 @@ impl Market {
 
     /// Whether no clearing may be passed to a node.
     fn may_pass_none(&self, node: usize) -> bool
-        ensures { result ≡ all_to (clearings (state_of self.now)) (λ j. not (pass_is_legal (lists_of self.now) (state_of self.now) node j)) }
+        ensures { result ≡ all_to (clearings (market_state self.now)) (λ j. not (pass_is_legal (market_lists self.now) (market_state self.now) node j)) }
     {
         for before in self.last(node)..self.published_by(0) {
             if self.may_pass(node, before + 1) {
@@ -83,7 +83,7 @@ impl Market {
     /// Whether no move of this node is legal.
     #[tactic(auto, unfolding(crate::specs::Legality::is_idle_at))]
     fn is_idle_at(&self, node: usize) -> bool
-        ensures { result ≡ is_idle_at (lists_of self.now) (state_of self.now) node }
+        ensures { result ≡ is_idle_at (market_lists self.now) (market_state self.now) node }
     {
         !self.may_learn(node, self.newest(node))
             && !self.may_publish(node)
@@ -92,7 +92,7 @@ impl Market {
 
     /// Whether no node move is legal.
     fn is_idle(&self) -> bool
-        ensures { result ≡ is_idle (lists_of self.now) (state_of self.now) }
+        ensures { result ≡ is_idle (market_lists self.now) (market_state self.now) }
     {
         for before in 0..self.parents.len() {
             if !self.is_idle_at(before + 1) {
@@ -105,7 +105,7 @@ impl Market {
     /// Whether a device may make a change.
     #[tactic(auto, unfolding(crate::specs::Legality::change_is_legal))]
     fn may_change(&self, device: usize, number: u32) -> bool
-        ensures { result ≡ change_is_legal (lists_of self.now) (state_of self.now) device number }
+        ensures { result ≡ change_is_legal (market_lists self.now) (market_state self.now) device number }
     {
         self.is_leaf(device)
             && (self.closed as usize) < self.ends.len()
@@ -116,14 +116,14 @@ impl Market {
 
     /// Whether a node is no device, or its changes of the phases up to this one are made.
     fn is_made_at(&self, phase: usize, node: usize) -> bool
-        ensures { result ≡ (if is_leaf (lists_of self.now) node then (state_of self.now).counts node == end (lists_of self.now) phase node else true) }
+        ensures { result ≡ (if is_leaf (market_lists self.now) node then (market_state self.now).counts node == end_count (market_lists self.now) phase node else true) }
     {
         !self.is_leaf(node) || item_at(&self.counts, node, 0) == self.end(phase, node)
     }
 
     /// Whether just the changes of the phases up to this one are made.
     fn are_made(&self, phase: usize) -> bool
-        ensures { result ≡ are_made (lists_of self.now) (state_of self.now) phase }
+        ensures { result ≡ are_made (market_lists self.now) (market_state self.now) phase }
     {
         for before in 0..self.parents.len() {
             if !self.is_made_at(phase, before + 1) {
@@ -136,7 +136,7 @@ impl Market {
     /// Whether a phase may be closed.
     #[tactic(auto, unfolding(crate::specs::Legality::close_is_legal))]
     fn may_close(&self, phase: usize) -> bool
-        ensures { result ≡ close_is_legal (lists_of self.now) (state_of self.now) phase }
+        ensures { result ≡ close_is_legal (market_lists self.now) (market_state self.now) phase }
     {
         phase > 0
             && phase - 1 == self.closed as usize
@@ -148,7 +148,7 @@ impl Market {
     /// Whether a move is legal, by the test that agrees with the definition for lawful lists and a sound state.
     #[tactic(auto, unfolding(crate::specs::Legality::is_legal))]
     pub fn is_legal(&self, what: Move) -> bool
-        ensures { result ≡ is_legal (lists_of self.now) (state_of self.now) what }
+        ensures { result ≡ is_legal (market_lists self.now) (market_state self.now) what }
     {
         match what {
             Move::Change { device, number } => self.may_change(device as usize, number),

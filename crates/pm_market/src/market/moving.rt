@@ -10,7 +10,7 @@ impl Market {
     ghost use Rattle.pm_market.specs.State.{start, known, updated};
     ghost use Rattle.pm_market.specs.Moves.{step};
     ghost use Rattle.pm_market.specs.Legality.{is_legal};
-    ghost use Rattle.pm_market.specs.Market.{lists_of, state_of, Publishes, Passes};
+    ghost use Rattle.pm_market.specs.Market.{Publishes, Passes, market_lists, market_state};
     ghost use Rattle.pm_base.specs.Cuts.{cut_of};
 
     /// A market at its start, over these lists: the parent of each node, which nodes are devices, for each node whether it
@@ -23,8 +23,8 @@ impl Market {
         ends: Vec<Vec<u32>>,
     ) -> Result<Market, AllocError>
         requires { vec_len leaves ≡ vec_len parents }
-        ensures lists { IfOk result (λ market. lists_of market ≡ record { parents = parents.items; leaves = leaves.items; members = map (λ row. row.items) members.items; ends = map (λ row. row.items) ends.items }) }
-        ensures start { IfOk result (λ market. state_of market ≡ start) }
+        ensures lists { IfOk result (λ market. market_lists market ≡ record { parents = parents.items; leaves = leaves.items; members = map (λ row. row.items) members.items; ends = map (λ row. row.items) ends.items }) }
+        ensures start { IfOk result (λ market. market_state market ≡ start) }
     {
         let places = parents.len() + 1;
         Ok(Market {
@@ -43,7 +43,7 @@ impl Market {
 
     /// What a node knows, a number for each node from the auctioneer's on.
     fn known_row(&self, node: usize) -> Result<Vec<u32>, AllocError>
-        ensures { IfOk result (λ row. cut_of row.items ≡ known (lists_of self.now) (state_of self.now) node) }
+        ensures { IfOk result (λ row. cut_of row.items ≡ known (market_lists self.now) (market_state self.now) node) }
     {
         let mut row = Vec::with_capacity(self.alloc, self.counts.len())?;
         for device in 0..self.counts.len() {
@@ -54,28 +54,28 @@ impl Market {
 
     /// A device has so many changes.
     fn count(&mut self, device: usize, number: u32)
-        requires { device ≤ nodes (lists_of self.old) }
-        ensures lists { lists_of self.new ≡ lists_of self.old }
-        ensures state { state_of self.new ≡ record (state_of self.old) { counts = updated (state_of self.old).counts device number } }
+        requires { device ≤ nodes (market_lists self.old) }
+        ensures lists { market_lists self.new ≡ market_lists self.old }
+        ensures state { market_state self.new ≡ record (market_state self.old) { counts = updated (market_state self.old).counts device number } }
     {
         self.counts[device] = number;
     }
 
     /// The parent of a node learnt a number of it.
     fn learn(&mut self, child: usize, number: u32)
-        requires { IsNode (lists_of self.old) child }
-        ensures lists { lists_of self.new ≡ lists_of self.old }
-        ensures state { state_of self.new ≡ record (state_of self.old) { learnt = updated (state_of self.old).learnt child number } }
+        requires { IsNode (market_lists self.old) child }
+        ensures lists { market_lists self.new ≡ market_lists self.old }
+        ensures state { market_state self.new ≡ record (market_state self.old) { learnt = updated (market_state self.old).learnt child number } }
     {
         self.learnt[child] = number;
     }
 
     /// What a node knows joins the cuts that it published or cleared.
     fn publish(&mut self, node: usize) -> Result<(), AllocError>
-        requires { node ≤ nodes (lists_of self.old) }
-        ensures lists { lists_of self.new ≡ lists_of self.old }
-        ensures ok { OnOk result (Publishes (lists_of self.old) (state_of self.old) (state_of self.new) node) }
-        ensures err { OnErr result (state_of self.new ≡ state_of self.old) }
+        requires { node ≤ nodes (market_lists self.old) }
+        ensures lists { market_lists self.new ≡ market_lists self.old }
+        ensures ok { OnOk result (Publishes (market_lists self.old) (market_state self.old) (market_state self.new) node) }
+        ensures err { OnErr result (market_state self.new ≡ market_state self.old) }
     {
         let row = self.known_row(node)?;
         push_at(&mut self.published, node, row)
@@ -83,20 +83,20 @@ impl Market {
 
     /// A clearing was passed to a node.
     fn pass(&mut self, node: usize, index: usize) -> Result<(), AllocError>
-        requires { node ≤ nodes (lists_of self.old) }
-        ensures lists { lists_of self.new ≡ lists_of self.old }
-        ensures ok { OnOk result (Passes (state_of self.old) (state_of self.new) node index) }
-        ensures err { OnErr result (state_of self.new ≡ state_of self.old) }
+        requires { node ≤ nodes (market_lists self.old) }
+        ensures lists { market_lists self.new ≡ market_lists self.old }
+        ensures ok { OnOk result (Passes (market_state self.old) (market_state self.new) node index) }
+        ensures err { OnErr result (market_state self.new ≡ market_state self.old) }
     {
         push_at(&mut self.passed, node, index)
     }
 
     /// Makes a legal move. On an error all is as before.
     pub fn apply(&mut self, what: Move) -> Result<(), AllocError>
-        requires { is_legal (lists_of self.old) (state_of self.old) what ≡ true }
-        ensures lists { lists_of self.new ≡ lists_of self.old }
-        ensures ok { OnOk result (state_of self.new ≡ step (lists_of self.old) (state_of self.old) what) }
-        ensures err { OnErr result (state_of self.new ≡ state_of self.old) }
+        requires { is_legal (market_lists self.old) (market_state self.old) what ≡ true }
+        ensures lists { market_lists self.new ≡ market_lists self.old }
+        ensures ok { OnOk result (market_state self.new ≡ step (market_lists self.old) (market_state self.old) what) }
+        ensures err { OnErr result (market_state self.new ≡ market_state self.old) }
     {
         match what {
             Move::Change { device, number } => {

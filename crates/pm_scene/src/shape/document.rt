@@ -30,7 +30,9 @@ fn member_at<'a>(value: &'a Value, name: &str) -> Result<&'a Value, Refusal>
     ensures { MatchResult result (λ v. need Cause.MissingMember Document (get name.now (view value.now)) ≡ Ok (view v.now))
         (λ e. need Cause.MissingMember Document (get name.now (view value.now)) ≡ Err e) }
 {
-    value.get(name).ok_or(Refusal::at(Cause::MissingMember, Place::Document))
+    value
+        .get(name)
+        .ok_or(Refusal::at(Cause::MissingMember, Place::Document))
 }
 
 /// Refuses a version other than 1 and 2.

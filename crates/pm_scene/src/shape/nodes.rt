@@ -3,7 +3,7 @@ ghost use Rattle.serde_json.specs.View.{view};
 ghost use Rattle.pm_plan.specs.Parts.{state_part, node_part};
 ghost use Rattle.pm_base.specs.Outcomes.{Gives};
 ghost use Rattle.pm_plan.specs.Refusals.{refusal_in};
-ghost use Rattle.pm_scene.specs.Nodes.{kind_at, device_kind, start_of, part_of, parent_in, node_of, nodes_of, named_part, manual_start};
+ghost use Rattle.pm_scene.specs.Nodes.{kind_at, device_kind, parent_in, node_of, nodes_of, named_part, manual_start, kind_part, start_part};
 
 use super::states::{read_demand, read_points};
 use crate::forms::{KindName, StartForm, kind_named, start_form};
@@ -74,7 +74,7 @@ fn read_manual_start(alloc: Global, form: StartForm, value: &Value) -> Result<St
 
 /// The start of a device.
 fn read_start(alloc: Global, kind: KindName, value: &Value) -> Result<StateSpec, AllocError>
-    ensures { IfOk result (λ s. state_part s ≡ start_of kind (view value.now)) }
+    ensures { IfOk result (λ s. state_part s ≡ start_part kind (view value.now)) }
 {
     match kind {
         KindName::Manual => read_manual_start(alloc, start_form(value), value),
@@ -84,7 +84,7 @@ fn read_start(alloc: Global, kind: KindName, value: &Value) -> Result<StateSpec,
 
 /// What a node of a kind is.
 fn read_spec(alloc: Global, kind: KindName, value: &Value) -> Result<NodeSpec, AllocError>
-    ensures { IfOk result (λ s. node_part s ≡ part_of kind (view value.now)) }
+    ensures { IfOk result (λ s. node_part s ≡ kind_part kind (view value.now)) }
 {
     match kind {
         KindName::Concentrator => Ok(NodeSpec::Concentrator),

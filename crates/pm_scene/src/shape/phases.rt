@@ -3,7 +3,7 @@ ghost use Rattle.serde_json.specs.View.{view};
 ghost use Rattle.pm_plan.specs.Parts.{state_part, event_part, phase_part};
 ghost use Rattle.pm_base.specs.Outcomes.{Gives};
 ghost use Rattle.pm_plan.specs.Refusals.{refusal_in};
-ghost use Rattle.pm_scene.specs.Phases.{value_in, event_in, event_of, events_of, phase_in, phase_of, phases_of};
+ghost use Rattle.pm_scene.specs.Phases.{value_in, event_in, events_of, phase_in, phases_of, event_shape, phase_shape};
 
 use super::states::{read_demand, read_points};
 use crate::forms::{EventForm, PhaseForm, ValueForm, event_form, phase_form, value_form};
@@ -44,9 +44,9 @@ fn read_spec(alloc: Global, form: EventForm, value: &Value) -> Result<EventSpec,
 }
 
 /// An event of the file.
-#[tactic(auto, unfolding(crate::specs::Phases::event_of))]
+#[tactic(auto, unfolding(crate::specs::Phases::event_shape))]
 fn read_event(alloc: Global, place: Place, value: &Value) -> Result<EventSpec, PlanFault>
-    ensures { Gives refusal_in event_part result (event_of place (view value.now)) }
+    ensures { Gives refusal_in event_part result (event_shape place (view value.now)) }
 {
     let form = event_form(value);
     check_members(value, event_row(form, value), place)?;
@@ -88,9 +88,9 @@ fn read_form(
 }
 
 /// A phase of the file.
-#[tactic(auto, unfolding(crate::specs::Phases::phase_of))]
+#[tactic(auto, unfolding(crate::specs::Phases::phase_shape))]
 fn read_phase(alloc: Global, number: u32, value: &Value) -> Result<PhaseSpec, PlanFault>
-    ensures { Gives refusal_in phase_part result (phase_of number (view value.now)) }
+    ensures { Gives refusal_in phase_part result (phase_shape number (view value.now)) }
 {
     let form = phase_form(value);
     check_members(value, phase_row(form), Place::Phase { number })?;

@@ -1,7 +1,7 @@
 ghost use Rattle.std.specs.Prelude.{◌≡◌, IfOk};
 ghost use Rattle.serde_json.specs.View.{view};
 ghost use Rattle.pm_plan.specs.Parts.{state_part};
-ghost use Rattle.pm_scene.specs.Nodes.{demand_in, points_in};
+ghost use Rattle.pm_scene.specs.Nodes.{points_in, array_in};
 
 use crate::values::{elements_at, pairs_of, wholes_of};
 use pm_plan::StateSpec;
@@ -10,7 +10,7 @@ use std::alloc::{AllocError, Global};
 
 /// The demand of an object.
 pub(super) fn read_demand(alloc: Global, value: &Value) -> Result<StateSpec, AllocError>
-    ensures { IfOk result (λ s. state_part s ≡ demand_in (view value.now)) }
+    ensures { IfOk result (λ s. state_part s ≡ array_in (view value.now)) }
 {
     let demands = wholes_of(alloc, elements_at(value, "demand"))?;
     Ok(StateSpec::Array(demands))

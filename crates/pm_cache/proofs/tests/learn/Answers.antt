@@ -4,8 +4,10 @@ use Rattle.pm_cache.proofs.SingleBids.{single_within}
 use Rattle.pm_cache.proofs.tests.learn.Goals as goal
 
 pub learn-requires : goal.learn-requires
-learn-requires c = record { bid = record {
-  is_child = c.requires.child;
-  equal_lengths = c.requires.steps;
-  within = single_within c.args.cache.now c.args.child (offered c.args.cache.now (option_copied c.args.bid)) c.heads-heads.ensures.sound c.requires.child c.requires.single c.requires.steps c.requires.small;
-} }
+learn-requires c = record {
+  bid = record {
+    is_child = c.requires.child;
+    equal_lengths = c.requires.steps;
+    within = single_within c.args.cache.now c.args.child (offered c.args.cache.now (option_copied c.args.bid)) c.heads-heads.ensures.sound c.requires.child c.requires.single c.requires.steps c.requires.small;
+  };
+}

@@ -3,7 +3,7 @@ use Rattle.std.proofs.lemmas.List.{length-map}
 use Rattle.pm_plan.specs.Parts.{PhasePart, node_part, phase_part}
 use Rattle.pm_plan.specs.Building.{checked_plan}
 use Rattle.pm_gen.specs.Rounds.{demo_phases, rounds}
-use Rattle.pm_gen.specs.Demo.{made_from}
+use Rattle.pm_gen.specs.Demo.{demo_plan_from}
 use Rattle.pm_gen.proofs.Plans.{read_is_made, plan_fault_is_memory, nodes_of_tree}
 use Rattle.pm_gen.proofs.demo.make_sized.Goals as goal
 
@@ -14,7 +14,7 @@ pub want_of_memory-requires : goal.want_of_memory-requires
 want_of_memory-requires c =
     let nodes = map node_part c.in_ok-nodes.nodes.items in
     let phases = map phase_part c.in_ok-phases.phases.items in
-    let same : checked_plan c.make_basis.result c.in_ok-tree.tree nodes phases ≡ made_from c.args.size c.args.first.seed =
+    let same : checked_plan c.make_basis.result c.in_ok-tree.tree nodes phases ≡ demo_plan_from c.args.size c.args.first.seed =
     read_is_made c.args.size c.args.first.seed c.make_basis.result c.in_ok-tree.tree nodes phases c.make_basis.ensures c.in_ok-tree.ensures.tree c.in_ok-nodes.ensures.nodes
     (c.in_ok-phases.ensures ∙ ap (demo_phases c.args.size) c.in_ok-nodes.ensures.seed) in
     plan_fault_is_memory c.args.size c.args.first.seed c.in-Err.fault (checked_plan c.make_basis.result c.in_ok-tree.tree nodes phases) c.requires.some c.requires.few same c.in-Err.ensures.plan
@@ -23,7 +23,7 @@ pub returns-in-Ok-clause-plan : goal.returns-in-Ok-clause-plan
 returns-in-Ok-clause-plan c =
     let nodes = map node_part c.in_ok-nodes.nodes.items in
     let phases = map phase_part c.in_ok-phases.phases.items in
-    let same : checked_plan c.make_basis.result c.in_ok-tree.tree nodes phases ≡ made_from c.args.size c.args.first.seed =
+    let same : checked_plan c.make_basis.result c.in_ok-tree.tree nodes phases ≡ demo_plan_from c.args.size c.args.first.seed =
     read_is_made c.args.size c.args.first.seed c.make_basis.result c.in_ok-tree.tree nodes phases c.make_basis.ensures c.in_ok-tree.ensures.tree c.in_ok-nodes.ensures.nodes
     (c.in_ok-phases.ensures ∙ ap (demo_phases c.args.size) c.in_ok-nodes.ensures.seed) in
     sym same ∙ c.in-Ok.ensures.plan

@@ -2,7 +2,7 @@ use Rattle.std.proofs.Common.{◌≡◌, ◌<◌, [], ◌∷◌, length, map, ge
 use Rattle.std.proofs.lemmas.List.{length-set, map-append}
 use Rattle.pm_plan.specs.Parts.{event_part}
 use Rattle.pm_gen.specs.Draws.{next, drawn}
-use Rattle.pm_gen.specs.Rounds.{after}
+use Rattle.pm_gen.specs.Rounds.{seed_after}
 use Rattle.pm_gen.proofs.Flags.{turned-none, turned-more, after-none, after-more}
 use Rattle.pm_gen.proofs.rounds.turn_round.Goals as goal
 
@@ -18,7 +18,7 @@ loop-preserved c =
     let size_is = c.loop.invariant.size in
     let seed_is = c.loop.invariant.seed in
     let low : c.draw-place.result < length c.args.members.now = omega (arith, c.draw-place.ensures.below) in
-    let pick : c.draw-place.result ≡ drawn (length c.args.members.now) (after c.loop.counter c.args.draws.now.seed) = c.draw-place.ensures.drawn ∙ (λ i. drawn (size_is i) (seed_is i)) in
+    let pick : c.draw-place.result ≡ drawn (length c.args.members.now) (seed_after c.loop.counter c.args.draws.now.seed) = c.draw-place.ensures.drawn ∙ (λ i. drawn (size_is i) (seed_is i)) in
     record {
       seed = c.draw-place.ensures.seed ∙ ap next seed_is ∙ sym (after-more c.loop.counter c.args.draws.now.seed);
       size = ap length c.in_ok-turn.ensures.members ∙ length-set c.loop.members c.draw-place.result (not (get_or c.loop.members c.draw-place.result false)) ∙ size_is;

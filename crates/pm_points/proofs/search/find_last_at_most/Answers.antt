@@ -1,7 +1,7 @@
 use Rattle.std.proofs.Common.{rules, arith, ◌-◌, ◌<ℤ◌, pos, Some, None}
 use Rattle.std.proofs.lemmas.Int.{ints}
 use Rattle.std.proofs.lemmas.List.Elements.{All-from_get_or}
-use Rattle.pm_points.specs.Points.{price_of, IsLastAtMost}
+use Rattle.pm_points.specs.Points.{IsLastAtMost, price_of_point}
 use Rattle.pm_points.proofs.LastPoint.{is_last_at_most}
 use Rattle.pm_points.proofs.search.find_last_at_most.Goals as goal
 
@@ -16,5 +16,5 @@ returns-clause-place c =
 
 pub returns-clause-none : goal.returns-clause-none
 returns-clause-none c =
-    All-from_get_or (λ point. c.args.price <ℤ price_of point) c.args.points.now (pos 0, pos 0)
+    All-from_get_or (λ point. c.args.price <ℤ price_of_point point) c.args.points.now (pos 0, pos 0)
     (λ k inside. let above = c.loop-at.invariant k (omega arith) inside in omega (arith, ints))

@@ -1,6 +1,6 @@
 use Rattle.std.proofs.Common.{rules, arith, ◌≡◌, ◌-◌, true, FitsSigned, w64}
 use Rattle.std.proofs.lemmas.Int.{ints}
-use Rattle.pm_points.specs.Points.{point_at, demand_of}
+use Rattle.pm_points.specs.Points.{point_at, demand_of_point}
 use Rattle.pm_points.specs.Checks.{demand_rises}
 use Rattle.pm_points.proofs.search.find_rise.Goals as goal
 use Rattle.pm_points.proofs.FoundPoint.{first_after_found, first_after_none}
@@ -9,8 +9,8 @@ pub returns-then-points-at : goal.returns-then-points-at
 returns-then-points-at c =
     let points = c.args.points.now in
     let at = c.loop-at.at in
-    let before : FitsSigned w64 (demand_of (point_at points (at - 1))) = search rules in
-    let here : FitsSigned w64 (demand_of (point_at points at)) = search rules in
+    let before : FitsSigned w64 (demand_of_point (point_at points (at - 1))) = search rules in
+    let here : FitsSigned w64 (demand_of_point (point_at points at)) = search rules in
     let found : demand_rises (point_at points (at - 1)) (point_at points at) ≡ true = grind (arith, ints) in
     first_after_found demand_rises points at (omega arith) (omega arith) c.loop-at.invariant found
 

@@ -1,27 +1,27 @@
 use Rattle.std.proofs.Common.{arith, rules, ◌≡◌, ◌∙◌, sym, pos, neg_ℤ, ◌-ℤ◌, w64, to_z, of_z}
 use Rattle.std.proofs.lemmas.Int.{ints}
-use Rattle.pm_strategy.specs.Strategies.{demand_of}
+use Rattle.pm_strategy.specs.Strategies.{strategy_demand}
 use Rattle.pm_strategy.proofs.BidLaws.{turned_round}
 use Rattle.pm_strategy.proofs.kinds.levels_of.Goals as goal
 
 pub returns-in-Freezer : goal.returns-in-Freezer
-unfolding demand_of
+unfolding strategy_demand
 returns-in-Freezer c = search rules
 
 pub returns-in-HeatPump : goal.returns-in-HeatPump
-unfolding demand_of
+unfolding strategy_demand
 returns-in-HeatPump c = search rules
 
 pub returns-in-Cogeneration : goal.returns-in-Cogeneration
-unfolding demand_of
+unfolding strategy_demand
 returns-in-Cogeneration c = search rules
 
 pub returns-in-Battery : goal.returns-in-Battery
-unfolding demand_of
+unfolding strategy_demand
 returns-in-Battery c = search rules
 
 pub returns-in-Load : goal.returns-in-Load
-unfolding demand_of
+unfolding strategy_demand
 returns-in-Load c = search rules
 
 pub returns-in-Solar : goal.returns-in-Solar

@@ -2,7 +2,7 @@ use Rattle.std.proofs.Common.{◌≡◌, ◌≤◌, ◌<◌, ◌∙◌, ap, sym,
 use Rattle.std.specs.declared.alloc.Global.{Global}
 use Rattle.std.proofs.lemmas.List.{with_items_is}
 use Rattle.pm_tree.specs.Shape.{parent_at, children_among, place_at}
-use Rattle.pm_tree.specs.Tables.{shape_parents, shape_leaves, lists_of, AreLists, AreNumbers}
+use Rattle.pm_tree.specs.Tables.{shape_parents, shape_leaves, AreLists, AreNumbers, node_lists}
 use Rattle.pm_tree.specs.declared.node.NodeId.{NodeId}
 use Rattle.pm_tree.proofs.Paths.{falls}
 use Rattle.pm_tree.proofs.Rows.{row_parent, first_row, length-table}
@@ -38,12 +38,12 @@ loop-number-preserved c =
     let inside : (get_or nodes c.loop-number.number first_row).parent.0 < length c.loop-number.lists.items = omega (arith, length-lists_of c.loop-number.lists.items) in
     let same : length c.push_to.new.lists ≡ c.loop-number.lists.len = omega arith in
     let written = with_items_is c.loop-number.lists c.push_to.new.lists same in
-    let pushed = c.in_ok-push_to.ensures ∙ ap (λ (ls : List (Vec NodeId Global)). set (lists_of ls) (get_or nodes c.loop-number.number first_row).parent.0 (get_or (lists_of ls) (get_or nodes c.loop-number.number first_row).parent.0 [] ++ c.loop-number.number ∷ [])) c.deref_mut.ensures.value in
+    let pushed = c.in_ok-push_to.ensures ∙ ap (λ (ls : List (Vec NodeId Global)). set (node_lists ls) (get_or nodes c.loop-number.number first_row).parent.0 (get_or (node_lists ls) (get_or nodes c.loop-number.number first_row).parent.0 [] ++ c.loop-number.number ∷ [])) c.deref_mut.ensures.value in
     let within : c.loop-number.number - 1 ≤ length (shape_parents nodes) = omega (arith, length-shape_parents nodes) in
     let place = place_of_list (shape_parents nodes) c.loop-number.lists.items c.index.result.now c.loop-number.number (get_or nodes c.loop-number.number first_row).parent.0 (length nodes) c.index.ensures inside low parent within c.loop-number.invariant.lists in
     record {
-      lists = subst (λ (ls : List (List ℕ)). AreLists (length nodes) (children_among (shape_parents nodes) (c.loop-number.number + 1 - 1)) ls) (sym (ap lists_of written ∙ pushed))
-          (children_step (shape_parents nodes) (length nodes) c.loop-number.number (get_or nodes c.loop-number.number first_row).parent.0 (lists_of c.loop-number.lists.items) (omega arith) parent low c.loop-number.invariant.lists);
+      lists = subst (λ (ls : List (List ℕ)). AreLists (length nodes) (children_among (shape_parents nodes) (c.loop-number.number + 1 - 1)) ls) (sym (ap node_lists written ∙ pushed))
+          (children_step (shape_parents nodes) (length nodes) c.loop-number.number (get_or nodes c.loop-number.number first_row).parent.0 (node_lists c.loop-number.lists.items) (omega arith) parent low c.loop-number.invariant.lists);
       places = subst (λ (ps : List ℕ). AreNumbers (c.loop-number.number + 1) (place_at (shape_parents nodes)) ps) (sym c.in_ok-push-2.ensures.items)
           (place_step c.loop-number.number (place_at (shape_parents nodes)) c.loop-number.places.items c.len.result (omega (arith, place, c.index.result.now.ok)) c.loop-number.invariant.places);
     }

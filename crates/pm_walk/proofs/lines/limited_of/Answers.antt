@@ -1,10 +1,10 @@
 use Rattle.std.proofs.Common.{◌∙◌, ◌≡◌, ◌-◌, ◌++◌, ◌∷◌, [], sym, ap, Vec, Global}
 use Rattle.std.specs.Prelude.{is_some}
 use Rattle.pm_plan.specs.Plans.{node, limits_of, is_limited}
-use Rattle.pm_plan.proofs.DeviceNodes.{is_some-option_map}
+use Rattle.pm_base.proofs.Options.{is_some-option_map}
 use Rattle.pm_plan.specs.declared.end.LimitedLine.{LimitedLine}
 use Rattle.pm_walk.specs.Parts.{limited_to}
-use Rattle.pm_walk.specs.Standing.{made}
+use Rattle.pm_walk.specs.Standing.{cut_made}
 use Rattle.pm_walk.proofs.EndLines.{limited-yes, limited-no}
 use Rattle.pm_walk.proofs.lines.limited_of.Goals as goal
 use Rattle.pm_walk.proofs.lines.limited_of.Goals.{then-is_some+in_ok-push, else-is_some}
@@ -16,7 +16,7 @@ loop-number-init c = c.new-lines.ensures.items
 pub loop-number-preserved : goal.loop-number-preserved
 loop-number-preserved c =
     let plan = c.args.plan.now in
-    let cut = made c.args.standing.now.progress in
+    let cut = cut_made c.args.standing.now.progress in
     let n = c.loop-number.number in
     let limited : is_limited plan n ≡ c.is_some.result =
     sym (c.is_some.ensures ∙ ap (λ o. is_some o) c.limits.ensures ∙ is_some-option_map _ (limits_of (node plan n))) in

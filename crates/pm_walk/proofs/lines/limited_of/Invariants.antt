@@ -1,7 +1,7 @@
 use Rattle.std.proofs.Common.{◌≡◌, ◌-◌}
-use Rattle.pm_walk.specs.Standing.{made}
+use Rattle.pm_walk.specs.Standing.{cut_made}
 use Rattle.pm_walk.specs.Parts.{limited_to}
 use Rattle.pm_walk.proofs.lines.limited_of.Given as goal
 
 abbrev pub invariant-loop-number : goal.invariant-loop-number
-invariant-loop-number l = l.lines.items ≡ limited_to l.plan (made l.standing.progress) (l.number - 1)
+invariant-loop-number l = l.lines.items ≡ limited_to l.plan (cut_made l.standing.progress) (l.number - 1)

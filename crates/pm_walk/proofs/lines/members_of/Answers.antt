@@ -3,7 +3,7 @@ use Rattle.pm_plan.specs.Plans.{is_member}
 use Rattle.pm_plan.specs.declared.end.MemberLine.{MemberLine}
 use Rattle.pm_walk.specs.declared.changes.Progress.{Progress}
 use Rattle.pm_walk.specs.Parts.{members_to}
-use Rattle.pm_walk.specs.Standing.{made}
+use Rattle.pm_walk.specs.Standing.{cut_made}
 use Rattle.pm_walk.proofs.EndLines.{members-yes, members-no}
 use Rattle.pm_walk.proofs.lines.members_of.Goals as goal
 use Rattle.pm_walk.proofs.lines.members_of.Goals.{then-progress+in_ok-push, else-progress}
@@ -15,7 +15,7 @@ loop-number-init c = c.new-lines.ensures.items
 pub loop-number-preserved : goal.loop-number-preserved
 loop-number-preserved c =
     let plan = c.args.plan.now in
-    let cut = made c.args.standing.now.progress in
+    let cut = cut_made c.args.standing.now.progress in
     let n = c.loop-number.number in
     let inside : n ≤ length plan.nodes = omega (arith, c.tree.ensures.sound.nodes.one_each, c.len-number-end.ensures.len, ap (λ e. length e) c.tree.ensures.tree) in
     let member : is_member plan n (cut n) ≡ c.progress.result.member =

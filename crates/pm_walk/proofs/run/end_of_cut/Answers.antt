@@ -3,12 +3,12 @@ use Rattle.std.proofs.lemmas.List.{with_items_is}
 use Rattle.std.specs.Prelude.{IfOk}
 use Rattle.std.specs.Vec.{with_items}
 use Rattle.pm_plan.specs.Ends.{EndValue}
-use Rattle.pm_plan.specs.Plans.{end, phases}
+use Rattle.pm_plan.specs.Plans.{phases, end_cut}
 use Rattle.pm_base.specs.Cuts.{Cut}
 use Rattle.pm_plan.specs.States.{end_of}
 use Rattle.pm_walk.specs.declared.changes.Progress.{Progress}
-use Rattle.pm_walk.specs.Cuts.{cut_of, first_of, AreStops}
-use Rattle.pm_walk.specs.Standing.{StandingValue, made}
+use Rattle.pm_walk.specs.Cuts.{AreStops, file_cut, earlier_cut}
+use Rattle.pm_walk.specs.Standing.{StandingValue, cut_made}
 use Rattle.pm_walk.specs.Runs.{IsAtEnd}
 use Rattle.pm_walk.proofs.Phases.{start_stops, cut_reached}
 use Rattle.pm_walk.proofs.run.end_of_cut.Goals as goal
@@ -35,13 +35,13 @@ loop-phase-preserved c =
 pub returns : goal.returns
 returns c =
     let plan = c.args.plan.now in
-    let cut = cut_of c.args.cut.now in
+    let cut = file_cut c.args.cut.now in
     let all : c.loop-phase.phase - 1 ≡ phases plan = omega (arith, c.phases-phase-end.ensures.phases) in
-    let over : made c.in_ok-over.field-0.standing.progress ≡ cut =
-    ap (λ (s : StandingValue). made s.progress) c.in_ok-over.ensures.standing
+    let over : cut_made c.in_ok-over.field-0.standing.progress ≡ cut =
+    ap (λ (s : StandingValue). cut_made s.progress) c.in_ok-over.ensures.standing
     ∙ c.in_ok-standing.ensures.cut
-    ∙ ap (λ (l : List Progress). made l) c.deref-2.ensures.value
+    ∙ ap (λ (l : List Progress). cut_made l) c.deref-2.ensures.value
     ∙ c.loop-phase.invariant.stops.cut
-    ∙ ap (λ (q : ℕ). first_of cut (end plan q)) all
+    ∙ ap (λ (q : ℕ). earlier_cut cut (end_cut plan q)) all
     ∙ cut_reached plan c.args.cut.now c.phases-phase-end.ensures.sound c.requires.one_each c.requires.planned in
     subst (λ (k : Cut). IfOk c.end.result (λ (e : EndValue). e.end ≡ end_of plan k)) over c.end.ensures

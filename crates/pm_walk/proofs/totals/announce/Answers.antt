@@ -6,7 +6,7 @@ use mir.Val.{SFits}
 use Rattle.pm_bid.specs.Bids.{clamped}
 use Rattle.pm_plan.specs.States.{state}
 use Rattle.pm_plan.proofs.DeviceNodes.{limits_of-tells}
-use Rattle.pm_walk.specs.Standing.{made}
+use Rattle.pm_walk.specs.Standing.{cut_made}
 use Rattle.pm_walk.proofs.GroupTotals.{announced_is}
 use Rattle.pm_walk.proofs.totals.announce.Goals as goal
 
@@ -35,7 +35,7 @@ returns-clause-announced c =
     let low : SFits w64 c.args.limits.floor = search rules in
     let high : SFits w64 c.args.limits.ceiling = search rules in
     announced_is c.args.plan.now (state c.args.plan.now)
-    (made c.args.standing.now.progress) c.args.at.0 c.args.limits c.sum.result.now c.clamp_into.new.target c.requires.limits c.sum.ensures.sum
+    (cut_made c.args.standing.now.progress) c.args.at.0 c.args.limits c.sum.result.now c.clamp_into.new.target c.requires.limits c.sum.ensures.sum
     (c.clamp_into.ensures.bid ∙ ap (λ z. clamped z (to_z w64 (of_z w64 c.args.limits.ceiling)) c.sum.result.now) (to_z-of_z w64 c.args.limits.floor low)
     ∙ ap (λ z. clamped c.args.limits.floor z c.sum.result.now) (to_z-of_z w64 c.args.limits.ceiling high))
 

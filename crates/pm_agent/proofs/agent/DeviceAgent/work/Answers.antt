@@ -1,6 +1,6 @@
 use Rattle.std.proofs.Common.{◌≡◌, ◌∙◌, ap, sym, subst, refl}
 use Rattle.pm_agent.specs.Agents.{Agent, IsAgent}
-use Rattle.pm_agent.specs.MadeBids.{demand_in}
+use Rattle.pm_agent.specs.MadeBids.{demand_after_change}
 use Rattle.pm_agent.proofs.AgentLaws.{kept_agent}
 use Rattle.pm_agent.proofs.agent.DeviceAgent.work.Goals as goal
 
@@ -13,7 +13,7 @@ invariant_of-self c =
 pub returns : goal.returns
 returns c =
     let kept = kept_agent c.args.self.now c.self.inside.made c.follow.new.self c.args.next c.self.view_is c.requires.device c.follow.ensures.next c.follow.ensures.kind c.follow.ensures.steps in
-    let D : Agent → Type 0 = λ v. c.follow.new.self.demand ≡ demand_in v.kind c.args.next c.args.arrays.now v.steps in (
+    let D : Agent → Type 0 = λ v. c.follow.new.self.demand ≡ demand_after_change v.kind c.args.next c.args.arrays.now v.steps in (
       (refl, (λ _. tt), kept),
       record {
         agent = tt;

@@ -1,14 +1,14 @@
 use Rattle.std.proofs.Common.{◌≡◌, ◌-◌, ◌+◌, ℕ, List, ap, sym, ◌∙◌, arith}
 use Rattle.pm_market.specs.State.{is_same_on, greatest_number}
 use Rattle.pm_base.specs.Cuts.{Cut, cut_of}
-use Rattle.pm_market.specs.Market.{lists_of, state_of}
+use Rattle.pm_market.specs.Market.{market_lists, market_state}
 use Rattle.pm_market.proofs.Steps.{greatest_here, greatest_below}
 use Rattle.pm_market.proofs.market.Market.greatest_number.Goals as goal
 
 pub returns-then-is_same_on : goal.returns-then-is_same_on
 returns-then-is_same_on c =
-    let lists = lists_of c.args.self.now in
-    let cuts : List Cut = (state_of c.args.self.now).published c.args.node in
+    let lists = market_lists c.args.self.now in
+    let cuts : List Cut = (market_state c.args.self.now).published c.args.node in
     let at : ℕ = c.published_by-newest.result - c.loop-back.back in
     sym (greatest_here lists cuts c.args.node (cut_of c.args.cut.now) at (omega arith)
     (ap (λ (a : Cut). is_same_on lists c.args.node a (cut_of c.args.cut.now)) (sym c.cut_row.ensures) ∙ sym c.is_same_on.ensures ∙ c.if-is_same_on.true))
@@ -16,8 +16,8 @@ returns-then-is_same_on c =
 
 pub loop-back-preserved : goal.loop-back-preserved
 loop-back-preserved c =
-    let lists = lists_of c.args.self.now in
-    let cuts : List Cut = (state_of c.args.self.now).published c.args.node in
+    let lists = market_lists c.args.self.now in
+    let cuts : List Cut = (market_state c.args.self.now).published c.args.node in
     let at : ℕ = c.published_by-newest.result - c.loop-back.back in
     sym (greatest_below lists cuts c.args.node (cut_of c.args.cut.now) at (c.published_by-newest.result - (c.loop-back.back + 1)) (omega arith)
     (ap (λ (a : Cut). is_same_on lists c.args.node a (cut_of c.args.cut.now)) (sym c.cut_row.ensures) ∙ sym c.is_same_on.ensures ∙ c.if-is_same_on.false))
@@ -26,8 +26,8 @@ loop-back-preserved c =
 pub returns : goal.returns
 unfolding greatest_number
 returns c =
-    let lists = lists_of c.args.self.now in
-    let cuts : List Cut = (state_of c.args.self.now).published c.args.node in
+    let lists = market_lists c.args.self.now in
+    let cuts : List Cut = (market_state c.args.self.now).published c.args.node in
     let e : c.published_by-newest.result - c.loop-back.back ≡ 0 = omega arith in
     sym (ap (greatest_number lists cuts c.args.node (cut_of c.args.cut.now)) e)
     ∙ c.loop-back.invariant ∙ ap (greatest_number lists cuts c.args.node (cut_of c.args.cut.now)) c.published_by-newest.ensures

@@ -2,7 +2,7 @@ use Rattle.std.proofs.Common.{◌<◌, ◌≤◌, ap, sym, ◌∙◌, [], map, l
 use Rattle.std.proofs.lemmas.Bool.{cases_lt}
 use Rattle.std.proofs.lemmas.List.{get_or_past, length-map}
 use Rattle.std.proofs.Math.Path.{fun_ext}
-use Rattle.pm_market.specs.Market.{lists_of, state_of}
+use Rattle.pm_market.specs.Market.{market_lists, market_state}
 use Rattle.pm_base.specs.Cuts.{cut_of}
 use Rattle.pm_market.specs.Lists.{nodes}
 use Rattle.pm_market.proofs.Tree.{parent_past, leaf_past}
@@ -12,8 +12,8 @@ use Rattle.pm_market.proofs.market.Market.known_row.Goals as goal
 pub returns : goal.returns
 returns c =
     let m = c.args.self.now in
-    let lists = lists_of m in
-    let s = state_of m in
+    let lists = market_lists m in
+    let s = market_state m in
     let row = c.loop-device.row in
     fun_ext (λ (d : ℕ). elim (cases_lt d c.loop-device.device) [
       | inl lt ↦ c.loop-device.invariant.numbers d lt

@@ -1,8 +1,8 @@
 use Rattle.std.proofs.Common.{◌≡◌, true, cond, eqb, length}
 use Rattle.pm_market.specs.State.{all_to, known, cut_at}
 use Rattle.pm_market.specs.Lists.{is_leaf_of}
-use Rattle.pm_market.specs.Market.{lists_of, state_of}
+use Rattle.pm_market.specs.Market.{market_lists, market_state}
 use Rattle.pm_market.proofs.market.Market.knows_same.Given as goal
 
 abbrev pub invariant-loop-before : goal.invariant-loop-before
-invariant-loop-before l = all_to l.before (λ d. cond (is_leaf_of (lists_of l.self) l.node d) (eqb (known (lists_of l.self) (state_of l.self) l.node d) (cut_at ((state_of l.self).published l.node) (length ((state_of l.self).published l.node)) d)) true) ≡ true
+invariant-loop-before l = all_to l.before (λ d. cond (is_leaf_of (market_lists l.self) l.node d) (eqb (known (market_lists l.self) (market_state l.self) l.node d) (cut_at ((market_state l.self).published l.node) (length ((market_state l.self).published l.node)) d)) true) ≡ true

@@ -1,7 +1,7 @@
 use Rattle.std.proofs.Common.{◌≡◌, ℕ, sym, ◌∙◌, arith, ap}
 use Rattle.std.proofs.lemmas.Bool.{both_ways}
 use Rattle.pm_market.specs.Legality.{pass_is_legal}
-use Rattle.pm_market.specs.Market.{lists_of, state_of}
+use Rattle.pm_market.specs.Market.{market_lists, market_state}
 use Rattle.pm_market.proofs.Legality.{pass_from, pass_at, is_node_from, is_node_at, reached_from, reached_at}
 use Rattle.pm_market.proofs.Steps.{refused, same_tests}
 use Rattle.pm_market.proofs.market.Market.may_pass.Goals as goal
@@ -11,8 +11,8 @@ use Rattle.pm_market.proofs.market.Market.may_pass.Goals.{then-not-is_node-via-t
 
 pub returns-then-not-is_node : goal.returns-then-not-is_node
 returns-then-not-is_node c =
-    let lists = lists_of c.args.self.now in
-    let s = state_of c.args.self.now in
+    let lists = market_lists c.args.self.now in
+    let s = market_state c.args.self.now in
     refused (pass_is_legal lists s c.args.node c.args.index) (λ e.
     let legal = pass_from lists s c.args.node c.args.index e in
     elim c.then-not-is_node.branch [
@@ -23,8 +23,8 @@ returns-then-not-is_node c =
 
 pub returns : goal.returns
 returns c =
-    let lists = lists_of c.args.self.now in
-    let s = state_of c.args.self.now in
+    let lists = market_lists c.args.self.now in
+    let s = market_state c.args.self.now in
     let node = is_node_from lists c.args.node (sym c.is_node.ensures ∙ c.if-not-is_node.false) in
     let addressed = sym c.is_addressed.ensures ∙ c.if-not-is_addressed.false in
     let same : c.has_reached.result ≡ has_reached s (parent lists c.args.node) c.args.index = c.has_reached.ensures ∙ ap (λ (y : ℕ). has_reached s y c.args.index) c.parent.ensures in

@@ -4,7 +4,7 @@ use Rattle.pm_base.specs.Limits.{window_size}
 use Rattle.pm_market.specs.State.{is_same_on, newest, known}
 use Rattle.pm_base.specs.Cuts.{Cut}
 use Rattle.pm_market.specs.Legality.{publish_is_legal}
-use Rattle.pm_market.specs.Market.{lists_of, state_of}
+use Rattle.pm_market.specs.Market.{market_lists, market_state}
 use Rattle.pm_market.proofs.Legality.{publish_from, publish_at, is_node_from, is_node_at}
 use Rattle.pm_market.proofs.Steps.{refused, same_tests, newest_part}
 use Rattle.pm_market.proofs.market.Market.may_publish.Goals as goal
@@ -12,8 +12,8 @@ use Rattle.pm_market.proofs.market.Market.may_publish.Goals.{then-not-is_node-vi
 
 pub returns-then-not-is_node : goal.returns-then-not-is_node
 returns-then-not-is_node c =
-    let lists = lists_of c.args.self.now in
-    let s = state_of c.args.self.now in
+    let lists = market_lists c.args.self.now in
+    let s = market_state c.args.self.now in
     refused (publish_is_legal lists s c.args.node (newest lists s c.args.node + 1)) (λ e.
     let legal = publish_from lists s c.args.node (newest lists s c.args.node + 1) e in
     elim c.then-not-is_node.branch [
@@ -25,8 +25,8 @@ returns-then-not-is_node c =
 
 pub returns : goal.returns
 returns c =
-    let lists = lists_of c.args.self.now in
-    let s = state_of c.args.self.now in
+    let lists = market_lists c.args.self.now in
+    let s = market_state c.args.self.now in
     let node = is_node_from lists c.args.node (sym c.is_node.ensures ∙ c.if-not-is_node.false) in
     let inner = sym c.is_leaf.ensures ∙ c.if-is_leaf.false in
     let differs = ap (λ (a : Cut). is_same_on lists c.args.node (known lists s c.args.node) a) (newest_part lists s c.args.node inner) ∙ sym c.knows_same.ensures ∙ c.if-knows_same.false in

@@ -1,14 +1,15 @@
 use Rattle.std.proofs.Common.{ap, ◌∙◌, ◌+◌, [], map, get_or, ℕ, List}
 use Rattle.std.proofs.Math.Path.{fun_ext}
 use Rattle.pm_base.specs.Cuts.{cut_of}
-use Rattle.pm_market.proofs.Tables.{state_same, replicate_default}
+use Rattle.pm_market.proofs.Tables.{state_same}
+use Rattle.pm_base.proofs.Lists.{get_or-replicate_same}
 use Rattle.pm_market.proofs.market.Market.new.Goals as goal
 
 pub returns-clause-start : goal.returns-clause-start
 returns-clause-start c =
     let places : ℕ = c.len-places.result + 1 in
     state_same _ _ _ _ _ _ _ _ _
-    (fun_ext (λ (d : ℕ). ap (λ (l : List ℕ). get_or l d 0) (c.in_ok-vec.ensures.items_if_clones_equal (λ y e. e)) ∙ replicate_default places d 0))
-    (fun_ext (λ (x : ℕ). ap (λ rows. map cut_of (map (λ row. row.items) (get_or rows x []))) c.in_ok-empty_rows.ensures ∙ ap (λ rows. map cut_of (map (λ row. row.items) rows)) (replicate_default places x [])))
-    (fun_ext (λ (d : ℕ). ap (λ (l : List ℕ). get_or l d 0) (c.in_ok-vec-2.ensures.items_if_clones_equal (λ y e. e)) ∙ replicate_default places d 0))
-    (fun_ext (λ (x : ℕ). ap (λ (rows : List (List ℕ)). get_or rows x []) c.in_ok-empty_rows-2.ensures ∙ replicate_default places x []))
+    (fun_ext (λ (d : ℕ). ap (λ (l : List ℕ). get_or l d 0) (c.in_ok-vec.ensures.items_if_clones_equal (λ y e. e)) ∙ get_or-replicate_same places d 0))
+    (fun_ext (λ (x : ℕ). ap (λ rows. map cut_of (map (λ row. row.items) (get_or rows x []))) c.in_ok-empty_rows.ensures ∙ ap (λ rows. map cut_of (map (λ row. row.items) rows)) (get_or-replicate_same places x [])))
+    (fun_ext (λ (d : ℕ). ap (λ (l : List ℕ). get_or l d 0) (c.in_ok-vec-2.ensures.items_if_clones_equal (λ y e. e)) ∙ get_or-replicate_same places d 0))
+    (fun_ext (λ (x : ℕ). ap (λ (rows : List (List ℕ)). get_or rows x []) c.in_ok-empty_rows-2.ensures ∙ get_or-replicate_same places x []))

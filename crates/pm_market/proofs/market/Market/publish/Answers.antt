@@ -2,7 +2,7 @@ use Rattle.std.proofs.Common.{◌<◌, ap, refl, arith, ◌∙◌, [], ◌∷◌
 use Rattle.std.proofs.lemmas.List.{with_items_is, length-map, map-append}
 use Rattle.pm_market.specs.State.{known}
 use Rattle.pm_base.specs.Cuts.{Cut, cut_of}
-use Rattle.pm_market.specs.Market.{lists_of, state_of}
+use Rattle.pm_market.specs.Market.{market_lists, market_state}
 use Rattle.pm_market.proofs.Tables.{state_same, row_pushed, on_success}
 use Rattle.pm_market.proofs.market.Market.publish.Goals as goal
 
@@ -11,7 +11,7 @@ returns-clause-ok c =
     let published = c.args.self.now.published in
     let at : ℕ = c.args.node in
     let old = map (λ rows. rows.items) published.items in
-    let cut : Cut = known (lists_of c.args.self.now) (state_of c.args.self.now) at in
+    let cut : Cut = known (market_lists c.args.self.now) (market_state c.args.self.now) at in
     let inside : at < length old = omega (arith, length-map published.items (λ rows. rows.items)) in
     on_success c.push_at.result _ _ (λ pushed.
     state_same _ _ _ _ _ _ _ _ _ refl

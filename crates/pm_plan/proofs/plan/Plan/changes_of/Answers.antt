@@ -1,7 +1,7 @@
 use Rattle.std.proofs.Common.{◌∙◌, sym, ap, subst, ℕ, ◌-◌, ◌<◌, ◌≤◌, List, length, arith}
 use Rattle.std.specs.Prelude.{slice_index_or}
 use Rattle.std.specs.List.{prefix_len}
-use Rattle.pm_plan.specs.Plans.{changes_of, end, is_up_to}
+use Rattle.pm_plan.specs.Plans.{changes_of, is_up_to, end_cut}
 use Rattle.pm_plan.specs.Kept.{no_change}
 use Rattle.pm_plan.specs.declared.planned.Change.{Change}
 use Rattle.pm_plan.proofs.Ends.{end-rises}
@@ -21,7 +21,7 @@ count_up_to-requires-2-clause-rise c =
     subst Rise (sym same) (c.device.ensures.sound.in_phases.rise c.args.device.0)
 
 pub overflow_sub-result : goal.overflow_sub-result
-unfolding end
+unfolding end_cut
 overflow_sub-result c =
     let same = c.changes-changes.ensures ∙ sym (ap changes_of c.device.ensures.node) in
     let upto = c.count_up_to.ensures ∙ ap (prefix_len (is_up_to c.args.phase)) same in
@@ -30,7 +30,7 @@ overflow_sub-result c =
     omega (arith, upto, before, rises)
 
 pub returns : goal.returns
-unfolding end
+unfolding end_cut
 returns c =
     let same = c.changes-changes.ensures ∙ sym (ap changes_of c.device.ensures.node) in
     let upto = c.count_up_to.ensures ∙ ap (prefix_len (is_up_to c.args.phase)) same in

@@ -2,7 +2,7 @@ use Rattle.std.proofs.Common.{◌≡◌, ◌∙◌, sym, ap, arith, refl, subst,
 use Rattle.std.specs.Prelude.{is_some}
 use Rattle.pm_plan.specs.Kept.{IsPlan}
 use Rattle.pm_plan.specs.Plans.{node, limits_of, group, parent, is_limited}
-use Rattle.pm_plan.proofs.DeviceNodes.{is_some-option_map}
+use Rattle.pm_base.proofs.Options.{is_some-option_map}
 use Rattle.pm_plan.proofs.Groups.{HasCome, found_above, go_on, group_above-none, group-zero}
 use Rattle.pm_plan.proofs.plan.Plan.group.Goals as goal
 

@@ -3,7 +3,7 @@ use Rattle.std.proofs.lemmas.Int.{to_z-of_z}
 use Rattle.pm_basis.specs.Prices.{price_at}
 use Rattle.pm_bid.specs.Bids.{AllWithinLimit, NeverRises}
 use Rattle.pm_base.specs.Limits.{demand_limit}
-use Rattle.pm_points.specs.Points.{Point, IsPointBid, demand_at, array_of}
+use Rattle.pm_points.specs.Points.{Point, IsPointBid, array_of_points, demand_at_price}
 use Rattle.pm_points.proofs.Falls.{Filled, filled_more, filled_all, array_falls, array_within}
 use Rattle.pm_points.proofs.point_bid.PointBid.to_array.Goals as goal
 
@@ -15,8 +15,8 @@ loop-step-preserved c =
     let price_fits : FitsSigned w64 c.price.result = search rules in
     let price : to_z w64 (of_z w64 c.price.result) ≡ price_at basis step = to_z-of_z w64 c.price.result price_fits ∙ c.price.ensures.price in
     let demand_fits : FitsSigned w64 c.demand_at-demand.result = search rules in
-    let demand : to_z w64 (of_z w64 c.demand_at-demand.result) ≡ demand_at points (price_at basis step) =
-    to_z-of_z w64 c.demand_at-demand.result demand_fits ∙ c.demand_at-demand.ensures.demand ∙ ap (λ z. demand_at points z) price in
+    let demand : to_z w64 (of_z w64 c.demand_at-demand.result) ≡ demand_at_price points (price_at basis step) =
+    to_z-of_z w64 c.demand_at-demand.result demand_fits ∙ c.demand_at-demand.ensures.demand ∙ ap (λ z. demand_at_price points z) price in
     record {
       filled = subst (λ (array : List ℤ). Filled points basis array (step + 1)) (sym c.set.ensures.bid)
           (filled_more points basis c.loop-step.array step (to_z w64 (of_z w64 c.demand_at-demand.result)) (omega arith) c.loop-step.invariant.filled demand);
@@ -30,7 +30,7 @@ pub returns-clause-falls : goal.returns-clause-falls
 returns-clause-falls c =
     let points = c.args.self.now in
     let basis = c.args.basis.now in
-    let array : c.loop-step.array ≡ array_of points basis = filled_all points basis c.loop-step.array c.loop-step.step (omega arith) c.loop-step.invariant.filled in
+    let array : c.loop-step.array ≡ array_of_points points basis = filled_all points basis c.loop-step.array c.loop-step.step (omega arith) c.loop-step.invariant.filled in
     let bid : IsPointBid points = subst (λ (ps : List Point). IsPointBid ps) c.self.view_is c.self.invariant in
     subst (λ (list : List ℤ). NeverRises list) (sym array) (array_falls points basis bid c.steps-steps.ensures.sound)
 
@@ -38,6 +38,6 @@ pub returns-clause-within : goal.returns-clause-within
 returns-clause-within c =
     let points = c.args.self.now in
     let basis = c.args.basis.now in
-    let array : c.loop-step.array ≡ array_of points basis = filled_all points basis c.loop-step.array c.loop-step.step (omega arith) c.loop-step.invariant.filled in
+    let array : c.loop-step.array ≡ array_of_points points basis = filled_all points basis c.loop-step.array c.loop-step.step (omega arith) c.loop-step.invariant.filled in
     let bid : IsPointBid points = subst (λ (ps : List Point). IsPointBid ps) c.self.view_is c.self.invariant in
     subst (λ (list : List ℤ). AllWithinLimit demand_limit list) (sym array) (array_within points basis bid)

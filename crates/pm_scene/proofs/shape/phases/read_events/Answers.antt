@@ -5,7 +5,7 @@ use Rattle.serde_json.specs.declared.value.Value.{Value}
 use Rattle.pm_base.specs.Outcomes.{each_from, Refuses}
 use Rattle.pm_plan.specs.Parts.{event_part}
 use Rattle.pm_plan.specs.declared.refusal.Place.TheVariants.{Event}
-use Rattle.pm_scene.specs.Phases.{numbered_event, event_of, events_of}
+use Rattle.pm_scene.specs.Phases.{numbered_event, events_of, event_shape}
 use Rattle.pm_plan.specs.Refusals.{refusal_in}
 use Rattle.pm_base.proofs.NumberedLists.{each_from_more, each_from-map, Refuses-each_from}
 use Rattle.pm_base.proofs.Outcomes.{Gives-err}
@@ -17,7 +17,7 @@ returns-in_err-read_event c =
     let f = λ (n : ℕ) (v : Value). numbered_event c.args.phase n (view v) in
     let number : c.saturating_add-number.result ≡ min (1 + c.loop-value.value-index) 4294967295 = omega (arith, c.saturating_add-number.ensures) in
     let here = subst (λ (v : Value). Refuses (refusal_in c.in_err-read_event.field-0.0) (numbered_event c.args.phase (1 + c.loop-value.value-index) (view v))) c.value-item.is
-    (subst (λ (n : ℕ). Refuses (refusal_in c.in_err-read_event.field-0.0) (event_of (Event c.args.phase n) (view c.value-item.result))) number c.in_err-read_event.ensures) in
+    (subst (λ (n : ℕ). Refuses (refusal_in c.in_err-read_event.field-0.0) (event_shape (Event c.args.phase n) (view c.value-item.result))) number c.in_err-read_event.ensures) in
     Gives-err refusal_in _ _ _ _ c.from_residual.ensures.1 (subst (Refuses (refusal_in c.in_err-read_event.field-0.0)) (each_from-map 1 (numbered_event c.args.phase) view _)
     (Refuses-each_from 1 f _ _ _ _ _ c.loop-value-test.true c.loop-value.invariant.read here))
 
@@ -30,7 +30,7 @@ loop-value-preserved c =
       read =
           each_from_more 1 f _ _ _ _ _ c.loop-value-test.true c.loop-value.invariant.read
           (ap (f (1 + c.loop-value.value-index)) (sym c.value-item.is)
-          ∙ ap (λ (n : ℕ). event_of (Event c.args.phase n) (view c.value-item.result)) (sym number) ∙ c.in_ok-read_event.ensures)
+          ∙ ap (λ (n : ℕ). event_shape (Event c.args.phase n) (view c.value-item.result)) (sym number) ∙ c.in_ok-read_event.ensures)
           ∙ ap Ok (sym (ap (map event_part) c.in_ok-push.ensures.items ∙ map-append event_part _ _));
     }
 

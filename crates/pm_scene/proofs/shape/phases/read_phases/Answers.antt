@@ -4,7 +4,7 @@ use Rattle.serde_json.specs.View.{view}
 use Rattle.serde_json.specs.declared.value.Value.{Value}
 use Rattle.pm_base.specs.Outcomes.{each_from, Refuses}
 use Rattle.pm_plan.specs.Parts.{phase_part}
-use Rattle.pm_scene.specs.Phases.{numbered_phase, phase_of, phases_of}
+use Rattle.pm_scene.specs.Phases.{numbered_phase, phases_of, phase_shape}
 use Rattle.pm_plan.specs.Refusals.{refusal_in}
 use Rattle.pm_base.proofs.NumberedLists.{each_from_more, each_from-map, Refuses-each_from}
 use Rattle.pm_base.proofs.Outcomes.{Gives-err}
@@ -16,7 +16,7 @@ returns-in_err-read_phase c =
     let f = λ (n : ℕ) (v : Value). numbered_phase n (view v) in
     let number : c.saturating_add-number.result ≡ min (1 + c.loop-value.value-index) 4294967295 = omega (arith, c.saturating_add-number.ensures) in
     let here = subst (λ (v : Value). Refuses (refusal_in c.in_err-read_phase.field-0.0) (numbered_phase (1 + c.loop-value.value-index) (view v))) c.value-item.is
-    (subst (λ (n : ℕ). Refuses (refusal_in c.in_err-read_phase.field-0.0) (phase_of n (view c.value-item.result))) number c.in_err-read_phase.ensures) in
+    (subst (λ (n : ℕ). Refuses (refusal_in c.in_err-read_phase.field-0.0) (phase_shape n (view c.value-item.result))) number c.in_err-read_phase.ensures) in
     Gives-err refusal_in _ _ _ _ c.from_residual.ensures.1 (subst (Refuses (refusal_in c.in_err-read_phase.field-0.0)) (each_from-map 1 numbered_phase view _)
     (Refuses-each_from 1 f _ _ _ _ _ c.loop-value-test.true c.loop-value.invariant.read here))
 
@@ -29,7 +29,7 @@ loop-value-preserved c =
       read =
           each_from_more 1 f _ _ _ _ _ c.loop-value-test.true c.loop-value.invariant.read
           (ap (f (1 + c.loop-value.value-index)) (sym c.value-item.is)
-          ∙ ap (λ (n : ℕ). phase_of n (view c.value-item.result)) (sym number) ∙ c.in_ok-read_phase.ensures)
+          ∙ ap (λ (n : ℕ). phase_shape n (view c.value-item.result)) (sym number) ∙ c.in_ok-read_phase.ensures)
           ∙ ap Ok (sym (ap (map phase_part) c.in_ok-push.ensures.items ∙ map-append phase_part _ _));
     }
 

@@ -3,7 +3,7 @@ use Rattle.std.proofs.lemmas.Result.{err_from_is_err_and}
 use Rattle.pm_base.specs.Limits.{most_nodes}
 use Rattle.pm_tree.specs.Shape.{IsTree, children_at, leaves_below_at, place_at}
 use Rattle.pm_tree.specs.Entries.{entries_of, parents_of, leaves_of, refusals_after}
-use Rattle.pm_tree.specs.Tables.{IsIndexOf, AreLists, AreNumbers, shape_parents, shape_leaves, lists_of}
+use Rattle.pm_tree.specs.Tables.{IsIndexOf, AreLists, AreNumbers, shape_parents, shape_leaves, node_lists}
 use Rattle.pm_tree.specs.declared.entry.TreeEntry.{TreeEntry}
 use Rattle.pm_tree.specs.declared.fault.TreeFault.{TreeFault}
 use Rattle.pm_tree.specs.declared.fault.TreeFault.TheVariants.{NoMemory}
@@ -42,9 +42,9 @@ invariant_of-result c =
     kept_all _ _ _ _ _ _ (first_refusal-few (entries_of c.args.entries.items) few ∙ accepted) few
     (subst (λ (es : List TreeEntry). IsTree (parents_of (entries_of es)) (leaves_of (entries_of es))) c.deref.ensures.value c.in_ok-index.ensures.lawful)
     (subst (λ (es : List TreeEntry). IsIndexOf (entries_of es) (map string_bytes c.in_ok-index.index.names.keys) c.in_ok-index.index.nodes.items) c.deref.ensures.value c.in_ok-index.ensures.index)
-    (subst (λ (ns : List Node). AreLists (length ns) (children_at (shape_parents ns)) (lists_of c.in_ok-children.children.lists.items)) c.deref-2.ensures.value c.in_ok-children.ensures.lists)
+    (subst (λ (ns : List Node). AreLists (length ns) (children_at (shape_parents ns)) (node_lists c.in_ok-children.children.lists.items)) c.deref-2.ensures.value c.in_ok-children.ensures.lists)
     (subst (λ (ns : List Node). AreNumbers (length ns) (place_at (shape_parents ns)) c.in_ok-children.children.places.items) c.deref-2.ensures.value c.in_ok-children.ensures.places)
-    (subst (λ (ns : List Node). AreLists (length ns) (leaves_below_at (shape_parents ns) (shape_leaves ns)) (lists_of c.in_ok-leaves_below.leaves_below.items)) c.deref-3.ensures.value c.in_ok-leaves_below.ensures)
+    (subst (λ (ns : List Node). AreLists (length ns) (leaves_below_at (shape_parents ns) (shape_leaves ns)) (node_lists c.in_ok-leaves_below.leaves_below.items)) c.deref-3.ensures.value c.in_ok-leaves_below.ensures)
 
 pub returns : goal.returns
 returns c =

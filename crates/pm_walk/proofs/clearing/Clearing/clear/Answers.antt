@@ -2,7 +2,7 @@ use Rattle.std.proofs.Common.{◌≡◌, ◌∙◌, ap, sym, subst, arith, lengt
 use Rattle.std.proofs.lemmas.List.{with_items_is}
 use Rattle.pm_bid.specs.Clearing.{clearing_step}
 use Rattle.pm_plan.specs.Auction.{plain}
-use Rattle.pm_walk.specs.Standing.{made}
+use Rattle.pm_walk.specs.Standing.{cut_made}
 use Rattle.pm_walk.specs.Clearing.{AreGroupSteps, ArePowers}
 use Rattle.pm_walk.proofs.clearing.Clearing.clear.Goals as goal
 
@@ -14,7 +14,7 @@ pub returns-clause-clearing : goal.returns-clause-clearing
 unfolding plain
 returns-clause-clearing c =
     let plan = c.args.plan.now in
-    let cut = made c.args.standing.now.progress in
+    let cut = cut_made c.args.standing.now.progress in
     let steps = c.args.self.now.group_steps in
     let powers = c.args.self.now.powers in
     let many_steps : length c.fill_group_steps.new.group_steps ≡ steps.len = omega (arith, c.fill_group_steps.ensures.one_each, c.requires.room.group_steps, steps.ok) in

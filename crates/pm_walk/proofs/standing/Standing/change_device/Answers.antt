@@ -1,6 +1,6 @@
 use Rattle.std.proofs.Common.{◌-◌, sym, subst, arith}
 use Rattle.pm_plan.proofs.Ends.{end-rises}
-use Rattle.pm_walk.specs.Standing.{Reached}
+use Rattle.pm_walk.specs.Standing.{HasCome}
 use Rattle.pm_walk.proofs.standing.Standing.change_device.Goals as goal
 
 pub returns-then-many-eq0-clause-done : goal.returns-then-many-eq0-clause-done
@@ -8,4 +8,4 @@ returns-then-many-eq0-clause-done c = omega (arith, end-rises c.args.plan.now (c
 
 pub make_changes-here-requires-clause-reached : goal.make_changes-here-requires-clause-reached
 make_changes-here-requires-clause-reached c =
-    subst (Reached c.args.plan.now c.args.device.0) (sym c.progress-before.ensures.progress) (c.requires.stands.progress.reached c.args.device.0 c.requires.inside)
+    subst (HasCome c.args.plan.now c.args.device.0) (sym c.progress-before.ensures.progress) (c.requires.stands.progress.reached c.args.device.0 c.requires.inside)

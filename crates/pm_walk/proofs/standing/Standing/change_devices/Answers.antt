@@ -1,9 +1,9 @@
 use Rattle.std.proofs.Common.{◌≡◌, ◌∙◌, ◌-◌, ◌+◌, ◌<◌, ap, sym, subst, refl, Bool, true, false, length, arith}
 use Rattle.std.specs.Prelude.{◌||◌}
 use Rattle.pm_tree.specs.Entries.{is_leaf_at}
-use Rattle.pm_plan.specs.Plans.{end, is_leaf}
+use Rattle.pm_plan.specs.Plans.{is_leaf, end_cut}
 use Rattle.pm_base.specs.Cuts.{Cut}
-use Rattle.pm_walk.specs.Standing.{StandingValue, Stands, made}
+use Rattle.pm_walk.specs.Standing.{StandingValue, IsStanding, cut_made}
 use Rattle.pm_walk.proofs.Nodes.{end-other, end-zero}
 use Rattle.pm_walk.proofs.Standings.{AreBetween, first_node, made-zero, between-more, between-passed, all_done}
 use Rattle.pm_walk.proofs.standing.Standing.change_devices.Goals as goal
@@ -21,7 +21,7 @@ pub loop-number-init : goal.loop-number-init
 loop-number-init c = record {
   stands = c.requires.stands;
   between = record {
-    done = λ x below. first_node (made c.args.self.now.progress) (end c.args.plan.now c.args.phase) x below (made-zero c.args.plan.now c.args.self.now.progress c.requires.stands.progress ∙ sym (end-zero c.args.plan.now c.args.phase));
+    done = λ x below. first_node (cut_made c.args.self.now.progress) (end_cut c.args.plan.now c.args.phase) x below (made-zero c.args.plan.now c.args.self.now.progress c.requires.stands.progress ∙ sym (end-zero c.args.plan.now c.args.phase));
     left = λ x from. ap (λ (cut : Cut). cut x) c.requires.begun;
   };
   same = λ _. refl;
@@ -37,9 +37,9 @@ loop-number-preserved c =
       | then-is_leaf w ↦
           let made_changes = w.change_device-changed.ensures in
           record {
-            stands = subst (Stands plan) (sym w.self-is) made_changes.stands;
-            between = subst (λ (s : StandingValue). AreBetween (n + 1) s.progress (end plan c.args.phase) (end plan (c.args.phase - 1))) (sym w.self-is)
-                (between-more n c.loop-number.self.progress _ (end plan c.args.phase) (end plan (c.args.phase - 1)) between made_changes.done made_changes.others);
+            stands = subst (IsStanding plan) (sym w.self-is) made_changes.stands;
+            between = subst (λ (s : StandingValue). AreBetween (n + 1) s.progress (end_cut plan c.args.phase) (end_cut plan (c.args.phase - 1))) (sym w.self-is)
+                (between-more n c.loop-number.self.progress _ (end_cut plan c.args.phase) (end_cut plan (c.args.phase - 1)) between made_changes.done made_changes.others);
             same = λ none.
                 let neither = sym w.changed-is ∙ none in
                 w.self-is ∙ made_changes.same (or_second c.loop-number.changed _ neither) ∙ c.loop-number.invariant.same (or_first c.loop-number.changed _ neither);
@@ -49,9 +49,9 @@ loop-number-preserved c =
           let other : is_leaf plan n ≡ false = ap (λ e. is_leaf_at e n) (sym c.tree-tree.ensures.tree) ∙ sym c.is_leaf.ensures ∙ w.if-is_leaf.false in
           let is = c.tree-tree.ensures.sound in
           record {
-            stands = subst (Stands plan) (sym w.self-is) c.loop-number.invariant.stands;
-            between = subst (λ (s : StandingValue). AreBetween (n + 1) s.progress (end plan c.args.phase) (end plan (c.args.phase - 1))) (sym w.self-is)
-                (between-passed n c.loop-number.self.progress (end plan c.args.phase) (end plan (c.args.phase - 1)) between (end-other plan (c.args.phase - 1) n is other ∙ sym (end-other plan c.args.phase n is other)));
+            stands = subst (IsStanding plan) (sym w.self-is) c.loop-number.invariant.stands;
+            between = subst (λ (s : StandingValue). AreBetween (n + 1) s.progress (end_cut plan c.args.phase) (end_cut plan (c.args.phase - 1))) (sym w.self-is)
+                (between-passed n c.loop-number.self.progress (end_cut plan c.args.phase) (end_cut plan (c.args.phase - 1)) between (end-other plan (c.args.phase - 1) n is other ∙ sym (end-other plan c.args.phase n is other)));
             same = λ none. w.self-is ∙ c.loop-number.invariant.same (sym w.changed-is ∙ none);
             spare = ap (λ l. length l) w.spare-is ∙ c.loop-number.invariant.spare;
           }
