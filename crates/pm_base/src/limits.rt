@@ -32,7 +32,7 @@ pub const MOST_PHASES: usize = 1000;
 pub const MOST_EVENTS: usize = 4096;
 
 /// The most changes of a run.
-pub const MOST_CHANGES: u64 = 20_000;
+pub const MOST_CHANGES: usize = 20_000;
 
 /// The least and the greatest power of a part of the cluster, in watts, in the manner of peak shaving.
 #[derive(Clone, Copy, Debug, PartialEq, Eq)]

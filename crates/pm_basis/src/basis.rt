@@ -1,12 +1,11 @@
 ghost use Rattle.std.specs.Prelude.{◌≡◌, ◌<◌, ◌≤ℤ◌, ◌<ℤ◌, ◌*ℤ◌, pos, int_div, int_rem, not};
 ghost use Rattle.std.specs.Ordering.{int_eq};
+ghost use Rattle.pm_base.specs.Limits.{most_steps};
 ghost use Rattle.pm_basis.specs.Prices.{IsBasis, checked_basis, price_at};
 
 use crate::fault::BasisFault;
+use pm_base::{LEAST_STEPS, MOST_STEPS, PRICE_LIMIT};
 use std::marker::Model;
-
-/// The largest absolute value of a price, in price units.
-const PRICE_LIMIT: i64 = 1_000_000_000;
 
 /// The prices of a market: `steps` whole prices at equal distances, the first `min`, the last
 /// `max`, in price units.
@@ -44,7 +43,7 @@ impl Basis {
     pub fn new(min: i64, max: i64, steps: i64) -> Result<Basis, BasisFault>
         ensures { result ≡ checked_basis min max steps }
     {
-        if steps < 2 || 1000 < steps {
+        if steps < LEAST_STEPS as i64 || (MOST_STEPS as i64) < steps {
             return Err(BasisFault::BadSteps);
         }
         if max <= min || min < -PRICE_LIMIT || PRICE_LIMIT < max {
@@ -107,7 +106,7 @@ fn leaves_rest(range: i64, parts: i64) -> bool
 /// How far the price of a step lies above the least one, by the last step and the range of prices.
 fn rise(step: i64, last: i64, range: i64) -> i64
     requires positive { pos 0 <ℤ last }
-    requires small { last ≤ℤ pos 999 }
+    requires small { last <ℤ pos most_steps }
     requires step_from { pos 0 ≤ℤ step }
     requires step_to { step ≤ℤ last }
     requires range_from { pos 0 ≤ℤ range }

@@ -88,7 +88,7 @@ module _ (size : ℕ) (some : 1 ≤ size) (few : size ≤ 200) where
 
   -- ---- one phase
 
-  tick-accepted : (p most : ℕ) (earlier : List ℕ) (plan : PlanData) → Stands size earlier most plan → most + 210 ≤ 20000
+  tick-accepted : (p most : ℕ) (earlier : List ℕ) (plan : PlanData) → Stands size earlier most plan → most + 210 ≤ most_changes
       → IsDraft size few earlier (most + 210) (add_phase p plan (tick (pos 15)))
   unfolding add_phase phase_of
   tick-accepted p most earlier plan stands small =
@@ -106,7 +106,7 @@ module _ (size : ℕ) (some : 1 ≤ size) (few : size ≤ 200) where
         },
       )
 
-  events-accepted : (p most : ℕ) (earlier devices : List ℕ) (plan : PlanData) → Stands size earlier most plan → AreDevices size few devices → length devices ≤ 200 → most + length devices ≤ 20000
+  events-accepted : (p most : ℕ) (earlier devices : List ℕ) (plan : PlanData) → Stands size earlier most plan → AreDevices size few devices → length devices ≤ 200 → most + length devices ≤ most_changes
       → IsDraft size few (earlier ++ devices) (most + length devices) (add_phase p plan (events (turns earlier devices)))
   unfolding add_phase phase_of
   events-accepted p most earlier devices plan stands all short small =
@@ -123,7 +123,7 @@ module _ (size : ℕ) (some : 1 ≤ size) (few : size ≤ 200) where
   -- ---- the rounds
 
   -- each round makes at most 210 changes in its tick, and 21 in its events
-  rounds-accepted : (n p most seed : ℕ) (earlier : List ℕ) (plan : PlanData) → Stands size earlier most plan → most + n * 231 ≤ 20000
+  rounds-accepted : (n p most seed : ℕ) (earlier : List ℕ) (plan : PlanData) → Stands size earlier most plan → most + n * 231 ≤ most_changes
       → (seed_after : PlanData) × (fold_from p add_phase plan (rounds n size earlier seed) ≡ Ok seed_after)
   unfolding rounds
   rounds-accepted zero p most seed earlier plan stands small = (plan, refl)

@@ -6,6 +6,7 @@ use Rattle.std.specs.Option.{option_to_list, option_and_then}
 use Rattle.std.proofs.lemmas.List.{length-map, map-append, get_or_at}
 use Rattle.std.proofs.lemmas.List.FromFn.{map-range_with_len_more, length-map-range_with_len}
 use Rattle.std.proofs.lemmas.Bool.Decides.{nat_tests}
+use Rattle.pm_base.specs.Limits.{most_nodes}
 use Rattle.pm_tree.specs.Names.{is_name}
 use Rattle.pm_tree.specs.Shape.{leaf_at, depth_at, path_at}
 use Rattle.pm_tree.specs.Entries.{Entry, node_named, number_named, parents_of, leaves_of, is_leaf_at, can_be_parent, entry_refusal, refusals_after, first_refusal, tree_unless, checked_tree}
@@ -102,7 +103,7 @@ length-demo_entries size =
     length-append (concentrator_entries (concentrator_count size)) (device_entries (concentrator_count size) size)
     ∙ omega (arith, length-map-range_with_len concentrator_entry 1 (concentrator_count size), length-map-range_with_len (device_entry (concentrator_count size)) 1 size)
 
-few_entries : (n : ℕ) → n ≤ 256 → nat_lt 256 n ≡ false
+few_entries : (n : ℕ) → n ≤ most_nodes → nat_lt most_nodes n ≡ false
 few_entries n few = grind (arith, nat_tests)
 
 -- the tree of the demo cluster is accepted

@@ -14,6 +14,7 @@ use Rattle.pm_plan.specs.Building.{checked_plan, add_node, add_phase, empty_plan
 use Rattle.pm_plan.specs.Refusals.{check}
 use Rattle.pm_base.specs.Outcomes.{◌>>=◌, ◌>>◌, fold_from, Refuses}
 use Rattle.pm_base.proofs.Outcomes.{Refuses-first}
+use Rattle.pm_base.specs.Limits.{most_phases}
 
 -- there is a part for each entry
 pub one_part_each : (entries : List Entry) (specs : List NodeSpec) → AreNodesOf entries (map node_part specs) → length specs ≡ length entries
@@ -24,19 +25,19 @@ one_part_each entries specs are =
     ∙ length-map entries (λ (entry : Entry). entry.leaf)
 
 -- where there are few enough phases, the nodes come first and then the phases
-pub nodes_then_phases : (basis : BasisValue) (entries : List Entry) (nodes : List NodePart) (phases : List PhasePart) → length phases ≤ 1000 →
+pub nodes_then_phases : (basis : BasisValue) (entries : List Entry) (nodes : List NodePart) (phases : List PhasePart) → length phases ≤ most_phases →
     (fold_from 1 add_node (empty_plan basis entries) nodes >>= λ plan. fold_from 1 add_phase plan phases) ≡ checked_plan basis entries nodes phases
 unfolding checked_plan
 nodes_then_phases basis entries nodes phases few =
-    ap (λ b. check cause.RunTooLarge Document b >> (fold_from 1 add_node (empty_plan basis entries) nodes >>= λ plan. fold_from 1 add_phase plan phases)) (sym (le-leb (length phases) 1000 few))
+    ap (λ b. check cause.RunTooLarge Document b >> (fold_from 1 add_node (empty_plan basis entries) nodes >>= λ plan. fold_from 1 add_phase plan phases)) (sym (le-leb (length phases) most_phases few))
 
-pub nodes_refused : (basis : BasisValue) (entries : List Entry) (nodes : List NodePart) (phases : List PhasePart) (refusal : Option Refusal) → length phases ≤ 1000 →
+pub nodes_refused : (basis : BasisValue) (entries : List Entry) (nodes : List NodePart) (phases : List PhasePart) (refusal : Option Refusal) → length phases ≤ most_phases →
     Refuses refusal (fold_from 1 add_node (empty_plan basis entries) nodes) → Refuses refusal (checked_plan basis entries nodes phases)
 nodes_refused basis entries nodes phases refusal few fails =
     subst (Refuses refusal) (nodes_then_phases basis entries nodes phases few)
     (Refuses-first refusal (fold_from 1 add_node (empty_plan basis entries) nodes) (λ plan. fold_from 1 add_phase plan phases) fails)
 
-pub phases_refused : (basis : BasisValue) (entries : List Entry) (nodes : List NodePart) (phases : List PhasePart) (plan : PlanData) (refusal : Option Refusal) → length phases ≤ 1000 →
+pub phases_refused : (basis : BasisValue) (entries : List Entry) (nodes : List NodePart) (phases : List PhasePart) (plan : PlanData) (refusal : Option Refusal) → length phases ≤ most_phases →
     fold_from 1 add_node (empty_plan basis entries) nodes ≡ Ok plan → Refuses refusal (fold_from 1 add_phase plan phases) → Refuses refusal (checked_plan basis entries nodes phases)
 phases_refused basis entries nodes phases plan refusal few made fails =
     subst (Refuses refusal) (ap (λ r. r >>= λ p. fold_from 1 add_phase p phases) (sym made) ∙ nodes_then_phases basis entries nodes phases few) fails

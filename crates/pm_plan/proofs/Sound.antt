@@ -18,7 +18,7 @@ use Rattle.pm_plan.specs.declared.node.Node.TheVariants.{Concentrator, Limited, 
 use Rattle.pm_plan.specs.Plans.{PlanData, NodeData, node, limits_of, changes_of, is_leaf, is_limited, group, phases, minutes_of, all_changes}
 use Rattle.pm_plan.specs.Plans as plans
 use Rattle.pm_plan.specs.Kept.{IsPlan, DeviceFits, no_change, change_fits}
-use Rattle.pm_base.specs.Limits.{most_phases}
+use Rattle.pm_base.specs.Limits.{most_phases, most_nodes}
 use Rattle.pm_base.specs.Outcomes.{fold_from}
 use Rattle.pm_tree.proofs.Named.{length-leaves_of}
 use Rattle.pm_plan.specs.Building.{add_node, add_phase, empty_plan, checked_plan}
@@ -29,13 +29,13 @@ use Rattle.pm_plan.proofs.NodesTaken.{NodesTaken, nodes_taken}
 use Rattle.pm_plan.proofs.PhasesTaken.{OnWay, PhasesTaken, phases_taken, sum_none}
 
 -- a tree has at most 256 entries
-few_if : (many : ℕ) (b : Bool) (fault : TreeFault) (rest : Option TreeFault) (entries : List Entry) → nat_lt 256 many ≡ b → tree_unless entries (if b then Some fault else rest) ≡ Ok entries → many ≤ 256
+few_if : (many : ℕ) (b : Bool) (fault : TreeFault) (rest : Option TreeFault) (entries : List Entry) → nat_lt most_nodes many ≡ b → tree_unless entries (if b then Some fault else rest) ≡ Ok entries → many ≤ most_nodes
 few_if many true fault rest entries is h = absurd (cc h)
 few_if many false fault rest entries is h = grind (arith, nat_tests)
 
-few_entries : (entries : List Entry) → checked_tree entries ≡ Ok entries → length entries ≤ 256
+few_entries : (entries : List Entry) → checked_tree entries ≡ Ok entries → length entries ≤ most_nodes
 unfolding first_refusal
-few_entries entries h = few_if (length entries) (nat_lt 256 (length entries)) _ _ entries refl h
+few_entries entries h = few_if (length entries) (nat_lt most_nodes (length entries)) _ _ entries refl h
 
 -- the devices among the parts are the leaves
 part_is : (entries : List Entry) (parts : List NodePart) (x : ℕ) → AreNodesOf entries parts → x < length parts →

@@ -3,10 +3,8 @@ ghost use Rattle.pm_basis.specs.Prices.{IsBasis};
 ghost use Rattle.pm_points.specs.Points.{last_at_most, IsLastAtMost, price_of_point};
 ghost use Rattle.pm_points.specs.Checks.{first_price_fall, first_rise, first_outside, first_large_demand};
 
+use pm_base::DEMAND_LIMIT;
 use pm_basis::Basis;
-
-/// The largest absolute value of one demand, in watts.
-const DEMAND_LIMIT: i64 = 1_000_000_000;
 
 /// The first point whose price is below the one before, else the number of points.
 pub(crate) fn find_price_fall(points: &[(i64, i64)]) -> usize

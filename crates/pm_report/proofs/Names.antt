@@ -12,6 +12,7 @@ use Rattle.std.proofs.Math.Seq.{get_or-append_seam}
 use Rattle.std.proofs.lemmas.Slice.Eq.{bytes_eq-Decides}
 use Rattle.pm_base.proofs.Bools.{or_false}
 use Rattle.pm_base.proofs.Options.{none_of}
+use Rattle.pm_base.specs.Limits.{most_nodes}
 use Rattle.pm_tree.specs.Names.{auctioneer, is_name, is_name_byte, is_rest_of_name, has_name_form}
 use Rattle.pm_tree.specs.Entries.{Entry, names_of, node_named, entry_refusal, refusals_after, first_refusal, tree_unless, checked_tree}
 use Rattle.pm_tree.specs.declared.fault.TreeFault.{TreeFault}
@@ -147,7 +148,7 @@ few_entries false x o none = none
 
 none_refused : (entries : List Entry) → first_refusal entries ≡ None → slice_get (refusals_after [] entries) 0 ≡ None
 unfolding first_refusal
-none_refused entries none = few_entries (nat_lt 256 (length entries)) (TooMany (length entries)) (slice_get (refusals_after [] entries) 0) none
+none_refused entries none = few_entries (nat_lt most_nodes (length entries)) (TooMany (length entries)) (slice_get (refusals_after [] entries) 0) none
 
 -- the names of a tree
 tree_names : (entries : List Entry) → checked_tree entries ≡ Ok entries → AreNames (names_of entries)

@@ -4,6 +4,7 @@ use Rattle.std.specs.Prelude.{◌-ℤ◌, ◌*ℤ◌, int_div, int_rem}
 use Rattle.std.proofs.Math.Nat.{mul-le-mul_right, div-mul-le_self, div-add-mod}
 use Rattle.std.proofs.lemmas.Nat.{le-div}
 use Rattle.std.proofs.lemmas.Int.{ints}
+use Rattle.pm_base.specs.Limits.{price_limit}
 use Rattle.pm_basis.specs.Prices.{BasisValue, price_at, IsBasis}
 use Rattle.pm_basis.proofs.Rises.{rise_from, rise_to}
 use lib.Signed.{mag}
@@ -46,7 +47,7 @@ same_step basis is j k same =
     let not_earlier : k < j → ⊥ = λ later. let more = price_greater basis is k j later in omega (arith, ints, ap (λ z. z) same) in
     omega (arith, not_later, not_earlier)
 
-within_fits : (z : ℤ) → neg_ℤ (pos 1000000000) ≤ℤ z → z ≤ℤ pos 1000000000 → mag z < 2 ^ 63
+within_fits : (z : ℤ) → neg_ℤ (pos price_limit) ≤ℤ z → z ≤ℤ pos price_limit → mag z < 2 ^ 63
 within_fits (pos n) low high = omega (arith, ints)
 within_fits (negsuc n) low high = omega (arith, ints)
 

@@ -1,4 +1,5 @@
 ghost use Rattle.std.specs.Prelude.{◌≡◌, ◌<◌, ◌≤◌, ◌++◌, length, flat_map, All, IfOk, OnOk, string_bytes};
+ghost use Rattle.pm_base.specs.Limits.{most_phases};
 ghost use Rattle.pm_report.specs.Report.{IsEndOf, phase_line, phase_text, phase_texts, end_line, report_text, ends_of, member_text, limited_text};
 
 use crate::words::name;
@@ -83,7 +84,7 @@ fn push_phase(text: &mut String, plan: &Plan, phase: u32, end: &PhaseEnd) -> Res
 /// Writes the texts of phases, counted from 1.
 fn push_phases(text: &mut String, plan: &Plan, ends: &[PhaseEnd]) -> Result<(), AllocError>
     requires of_plan { All (IsEndOf plan.now) (ends_of ends.now) }
-    requires few { length ends.now ≤ 1000 }
+    requires few { length ends.now ≤ most_phases }
     ensures { OnOk result (string_bytes text.new ≡ string_bytes text.old ++ phase_texts plan.now 1 (ends_of ends.now)) }
 {
     for (before, end) in ends.iter().enumerate() {
@@ -109,7 +110,7 @@ pub(crate) fn push_report(
     ends: &[PhaseEnd],
 ) -> Result<(), AllocError>
     requires of_plan { All (IsEndOf plan.now) (ends_of ends.now) }
-    requires few { length ends.now ≤ 1000 }
+    requires few { length ends.now ≤ most_phases }
     ensures { OnOk result (string_bytes text.new ≡ string_bytes text.old ++ report_text plan.now (ends_of ends.now)) }
 {
     push_phases(text, plan, ends)?;
@@ -143,7 +144,7 @@ pub fn phase_text(
 /// phases and the changes of the plan.
 pub fn report_text(alloc: Global, plan: &Plan, ends: &[PhaseEnd]) -> Result<Vec<u8>, AllocError>
     requires of_plan { All (IsEndOf plan.now) (ends_of ends.now) }
-    requires few { length ends.now ≤ 1000 }
+    requires few { length ends.now ≤ most_phases }
     ensures { IfOk result (λ text. text.items ≡ report_text plan.now (ends_of ends.now)) }
 {
     let mut text = String::new(alloc);

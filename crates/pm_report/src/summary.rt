@@ -1,4 +1,5 @@
 ghost use Rattle.std.specs.Prelude.{◌≡◌, ◌≤◌, ◌++◌, length, IfOk, OnOk, string_bytes};
+ghost use Rattle.pm_base.specs.Limits.{most_phases};
 ghost use Rattle.pm_report.specs.Report.{ends_of};
 ghost use Rattle.pm_report.specs.Summary.{sum_over, last_end, demo_line, sums_line, last_line, summary_text};
 
@@ -7,7 +8,7 @@ use std::alloc::{AllocError, Global};
 
 /// The sum of the prices of ends, in price units, and that of their totals, in watts.
 fn sums_of(ends: &[PhaseEnd]) -> (i128, i128)
-    requires { length ends.now ≤ 1000 }
+    requires { length ends.now ≤ most_phases }
     ensures prices { result.0 ≡ sum_over (λ end. end.price) (ends_of ends.now) }
     ensures totals { result.1 ≡ sum_over (λ end. end.total) (ends_of ends.now) }
 {
@@ -35,7 +36,7 @@ fn push_demo_line(text: &mut String, size: u32, number: u32, plan: &Plan) -> Res
 
 /// Writes the line of the sums.
 fn push_sums_line(text: &mut String, ends: &[PhaseEnd]) -> Result<(), AllocError>
-    requires { length ends.now ≤ 1000 }
+    requires { length ends.now ≤ most_phases }
     ensures { OnOk result (string_bytes text.new ≡ string_bytes text.old ++ sums_line (ends_of ends.now)) }
 {
     let (prices, totals) = sums_of(ends);
@@ -77,7 +78,7 @@ pub fn summary_text(
     ends: &[PhaseEnd],
 ) -> Result<Vec<u8>, AllocError>
     requires some { 1 ≤ length ends.now }
-    requires few { length ends.now ≤ 1000 }
+    requires few { length ends.now ≤ most_phases }
     ensures { IfOk result (λ text. text.items ≡ summary_text size number plan.now (ends_of ends.now)) }
 {
     let mut text = String::new(alloc);

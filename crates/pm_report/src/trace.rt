@@ -1,4 +1,5 @@
 ghost use Rattle.std.specs.Prelude.{◌≡◌, ◌<◌, ◌≤◌, ◌++◌, length, flat_map, All, IfOk, IfSome, OnOk, string_bytes};
+ghost use Rattle.pm_base.specs.Limits.{most_phases};
 ghost use Rattle.pm_report.specs.Words.{text_line};
 ghost use Rattle.pm_report.specs.Report.{IsEndOf, ends_of};
 ghost use Rattle.pm_report.specs.Trace.{IsLineOf, move_words, move_line, moves_line, trace_text};
@@ -112,7 +113,7 @@ pub fn trace_text(
     journal: &Journal,
 ) -> Result<Vec<u8>, AllocError>
     requires of_plan { All (IsEndOf plan.now) (ends_of ends.now) }
-    requires few { length ends.now ≤ 1000 }
+    requires few { length ends.now ≤ most_phases }
     // The nodes and the steps that the lines name are the plan's, and the child that is learnt of is no auctioneer.
     requires lines { All (IsLineOf plan.now) journal.now.lines }
     ensures { IfOk result (λ text. text.items ≡ trace_text plan.now (ends_of ends.now) journal.now.lines) }

@@ -1,11 +1,12 @@
 -- Demands and thresholds at the steps of a market basis.
-use Rattle.std.specs.Prelude.{ℕ, ℤ, pos, neg_ℤ, ◌*ℤ◌, int_le, if◌then◌else◌, List, map}
+use Rattle.std.specs.Prelude.{ℕ, ◌-◌, ℤ, pos, neg_ℤ, ◌*ℤ◌, int_le, if◌then◌else◌, List, map}
 use Rattle.std.specs.List.{range_with_len}
+use Rattle.pm_base.specs.Limits.{most_steps}
 use Rattle.pm_device.specs.Ticks.{floor_div}
 
 -- the last step of a basis is at most this
 abbrev pub last_limit : ℕ
-last_limit = 999
+last_limit = most_steps - 1
 
 -- a list with one demand for each step, from step 0
 abbrev pub by_step : ℕ → (ℕ → ℤ) → List ℤ

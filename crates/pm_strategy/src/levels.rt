@@ -1,5 +1,5 @@
 ghost use Rattle.std.specs.Prelude.{◌≡◌, ℕ, ◌≤◌, ◌<◌, length};
-ghost use Rattle.pm_base.specs.Limits.{demand_limit, IsWithin};
+ghost use Rattle.pm_base.specs.Limits.{demand_limit, IsWithin, most_steps};
 ghost use Rattle.pm_strategy.specs.Steps.{by_step};
 
 use pm_bid::{ArrayBid, Steps};
@@ -42,7 +42,7 @@ impl Levels {
 
     /// The demand at a step.
     fn at(&self, step: usize) -> i64
-        requires { step < 1000 }
+        requires { step < most_steps }
         ensures { result ≡ level_at self.now step }
     {
         let step = step as i64;

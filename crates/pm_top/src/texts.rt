@@ -1,4 +1,5 @@
 ghost use Rattle.std.specs.Prelude.{◌≡◌, ◌≤◌, All, IfOk, length};
+ghost use Rattle.pm_base.specs.Limits.{most_phases};
 ghost use Rattle.pm_plan.specs.Plans.{phases};
 ghost use Rattle.pm_plan.specs.States.{all_ends};
 ghost use Rattle.pm_report.specs.Report.{IsEndOf, ends_of};
@@ -15,7 +16,7 @@ use std::alloc::{AllocError, Global};
 fn settle(alloc: Global, plan: &Plan) -> Result<Vec<PhaseEnd>, AllocError>
     ensures ends { IfOk result (λ ends. ends_of ends.items ≡ all_ends plan.now) }
     ensures one_each { IfOk result (λ ends. length ends.items ≡ phases plan.now) }
-    ensures few { IfOk result (λ ends. length ends.items ≤ 1000) }
+    ensures few { IfOk result (λ ends. length ends.items ≤ most_phases) }
     ensures of_plan { IfOk result (λ ends. All (IsEndOf plan.now) (ends_of ends.items)) }
 {
     let ends = all_ends(alloc, plan)?;

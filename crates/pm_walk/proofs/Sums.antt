@@ -7,7 +7,7 @@ use Rattle.std.proofs.lemmas.Bool.{cases_eq, eq-eqb, ne_eqb, cond-true, cond-fal
 use Rattle.std.proofs.lemmas.Int.{ints}
 use Rattle.std.proofs.lemmas.List.FromFn.{length-map-range_with_len, get_or-map-range_with_len}
 use Rattle.pm_bid.specs.Bids.{demand_at, added, taken_off, zeros, sum_of, HaveSteps, AllWithinLimit}
-use Rattle.pm_base.specs.Limits.{demand_limit, sum_limit, IsWithin}
+use Rattle.pm_base.specs.Limits.{demand_limit, sum_limit, IsWithin, most_nodes}
 use Rattle.pm_bid.proofs.Sums.{sum_of-set, length-sum_of, length-zeros, sum_of-at, zeros-at}
 use Rattle.pm_bid.proofs.SumLaws.{Bounded, total_within}
 use Rattle.pm_plan.specs.Plans.{PlanData, node, is_member, group, change_count, node_numbers}
@@ -92,7 +92,7 @@ pub sum_fits : (plan : PlanData) (s : States) (cut : Cut) (g : ℕ) → Fit plan
 unfolding sum_in
 sum_fits plan s cut g fit = length-sum_of plan.basis.steps _ (parts_fit plan s cut g fit)
 
-pub sum_within : (plan : PlanData) (s : States) (cut : Cut) (g : ℕ) → length plan.nodes ≤ 256 → Fit plan s cut → AllWithinLimit sum_limit (sum_in plan s cut g)
+pub sum_within : (plan : PlanData) (s : States) (cut : Cut) (g : ℕ) → length plan.nodes ≤ most_nodes → Fit plan s cut → AllWithinLimit sum_limit (sum_in plan s cut g)
 unfolding sum_in
 sum_within plan s cut g few fit step inside =
     let n = length plan.nodes in

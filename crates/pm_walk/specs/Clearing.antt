@@ -3,6 +3,7 @@ use Rattle.std.specs.Prelude.{◌≡◌, ℕ, ◌+◌, ◌<◌, ◌≤◌, ℤ, 
 use Rattle.pm_plan.specs.Plans.{PlanData}
 use Rattle.pm_plan.specs.Auction.{total, plain, group_step, power}
 use Rattle.pm_base.specs.Cuts.{Cut}
+use Rattle.pm_base.specs.Limits.{most_steps}
 use Rattle.pm_plan.specs.States.{state}
 use Rattle.pm_walk.specs.declared.clearing.Clearing.{Clearing}
 
@@ -29,6 +30,6 @@ pub record IsClearing (plan : PlanData) (cut : Cut) (clearing : Clearing) : Type
   pub long : length clearing.total ≡ plan.basis.steps
   pub step : clearing.step ≡ plain plan (state plan) cut
   pub inside : clearing.step < plan.basis.steps
-  pub small : clearing.step < 1000
+  pub small : clearing.step < most_steps
   pub group_steps : AreGroupSteps plan cut clearing.group_steps.items
   pub powers : ArePowers plan cut clearing.powers.items

@@ -3,26 +3,24 @@ ghost use Rattle.pm_basis.specs.Prices.{IsBasis};
 ghost use Rattle.pm_tree.specs.Entries.{checked_tree, parents_of, leaves_of};
 ghost use Rattle.pm_tree.specs.Shape.{IsTree};
 ghost use Rattle.pm_plan.specs.Plans.{node as planned_node, is_device, kind_of, group, is_limited, all_changes};
-ghost use Rattle.pm_base.specs.Limits.{most_changes};
+ghost use Rattle.pm_base.specs.Limits.{most_changes, most_nodes};
 ghost use Rattle.pm_plan.specs.Building.{empty_plan, with_array, with_node, with_phase, with_tick, with_change_of, is_member_now, map_device, ticked};
 
 use crate::draft::Draft;
 use crate::node::Node;
 use crate::planned::Planned;
+use pm_base::MOST_CHANGES;
 use pm_basis::Basis;
 use pm_bid::ArrayBid;
 use pm_device::Kind;
 use pm_tree::{NodeId, Tree};
 use std::alloc::{AllocError, Global};
 
-/// The most changes of a run.
-const CHANGES_LIMIT: usize = 20_000;
-
 impl Draft {
     /// The plan before its first node.
     pub(crate) fn new(alloc: Global, basis: Basis, tree: Tree) -> Result<Draft, AllocError>
         ensures draft { IfOk result (λ draft. draft ≡ empty_plan basis tree) }
-        ensures few { length tree ≤ 256 }
+        ensures few { length tree ≤ most_nodes }
         ensures sound { IsBasis basis }
         ensures accepted { checked_tree tree ≡ Ok tree }
         ensures lawful { IsTree (parents_of tree) (leaves_of tree) }
@@ -151,7 +149,7 @@ fn tick_each(nodes: &mut [Node], phase: u32, minutes: i64) -> Result<(), AllocEr
 fn are_few(nodes: &[Node]) -> bool
     ensures { result ≡ nat_le (all_changes nodes.now) most_changes }
 {
-    let mut left = CHANGES_LIMIT;
+    let mut left = MOST_CHANGES;
     for node in nodes {
         let count = node.changes().len();
         if left < count {

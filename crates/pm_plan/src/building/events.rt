@@ -4,6 +4,7 @@ ghost use Rattle.pm_plan.specs.Plans.{node as planned_node, is_device};
 ghost use Rattle.pm_plan.specs.Building.{add_event, event_of, device_named, member_named, stranger_named};
 ghost use Rattle.pm_plan.specs.Refusals.{Makes};
 ghost use Rattle.pm_base.specs.Outcomes.{fold_from};
+ghost use Rattle.pm_base.specs.Limits.{most_events};
 
 use crate::building::states::take_state;
 use crate::draft::Draft;
@@ -22,8 +23,8 @@ pub(crate) fn add_events(
     specs: &[EventSpec],
 ) -> Result<(), PlanFault>
     requires whole { length draft.old.nodes ≡ length draft.old.entries }
-    requires few { length specs.now ≤ 4096 }
-    requires arrays { length draft.old.arrays + 4096 < 2 ^ 63 }
+    requires few { length specs.now ≤ most_events }
+    requires arrays { length draft.old.arrays + most_events < 2 ^ 63 }
     ensures made { Makes result draft.new (fold_from 1 (add_event phase) draft.old (map event_part specs.now)) }
     ensures entries { OnOk result (draft.new.entries ≡ draft.old.entries) }
     ensures nodes { OnOk result (length draft.new.nodes ≡ length draft.old.nodes) }

@@ -15,12 +15,10 @@ use crate::draft::Draft;
 use crate::parts::{NodeSpec, PhaseSpec};
 use crate::plan::Plan;
 use crate::refusal::{Cause, Place, PlanFault, Refusal};
+use pm_base::MOST_PHASES;
 use pm_basis::Basis;
 use pm_tree::Tree;
 use std::alloc::Global;
-
-/// The most phases of a run.
-const PHASES_LIMIT: usize = 1000;
 
 impl Plan {
     /// The plan of a market basis, a tree, what a file says of the tree's nodes in their order, and its phases; or the
@@ -73,7 +71,7 @@ fn build(
     ensures accepted { OnOk result (checked_tree tree ≡ Ok tree) }
     ensures lawful { OnOk result (IsTree (parents_of tree) (leaves_of tree)) }
 {
-    if PHASES_LIMIT < phases.len() {
+    if MOST_PHASES < phases.len() {
         return Err(PlanFault::Refused(Refusal::at(Cause::RunTooLarge, Place::Document)));
     }
     let mut draft = Draft::new(alloc, basis, tree)?;

@@ -5,19 +5,17 @@ ghost use Rattle.pm_plan.specs.Parts.{node_part};
 ghost use Rattle.pm_plan.specs.Building.{add_node, are_limits};
 ghost use Rattle.pm_plan.specs.Refusals.{Makes};
 ghost use Rattle.pm_base.specs.Outcomes.{fold_from};
+ghost use Rattle.pm_base.specs.Limits.{most_nodes};
 
 use crate::building::states::take_state;
 use crate::draft::Draft;
 use crate::node::{Device, Node};
 use crate::parts::NodeSpec;
 use crate::refusal::{Cause, Place, PlanFault, Refusal};
-use pm_base::Limits;
+use pm_base::{Limits, SUM_LIMIT};
 use pm_device::DeviceState;
 use pm_tree::NodeId;
 use std::alloc::Global;
-
-/// The greatest absolute value of a floor or a ceiling, in watts.
-const SUM_LIMIT: i64 = 256_000_000_000;
 
 /// Takes the nodes in order, from node 1 on.
 pub(crate) fn add_nodes(
@@ -28,12 +26,12 @@ pub(crate) fn add_nodes(
     requires lawful { IsTree (parents_of draft.old.entries) (leaves_of draft.old.entries) }
     requires first { length draft.old.nodes ≡ 0 }
     requires one_each { length specs.now ≡ length draft.old.entries }
-    requires few { length specs.now ≤ 256 }
+    requires few { length specs.now ≤ most_nodes }
     requires arrays { length draft.old.arrays ≡ 0 }
     ensures made { Makes result draft.new (fold_from 1 add_node draft.old (map node_part specs.now)) }
     ensures entries { OnOk result (draft.new.entries ≡ draft.old.entries) }
     ensures nodes { OnOk result (length draft.new.nodes ≡ length draft.new.entries) }
-    ensures arrays { OnOk result (length draft.new.arrays ≤ 256) }
+    ensures arrays { OnOk result (length draft.new.arrays ≤ most_nodes) }
 {
     let mut number = 0;
     for spec in specs {

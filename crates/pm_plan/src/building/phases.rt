@@ -4,18 +4,17 @@ ghost use Rattle.pm_plan.specs.Kept.{are_minutes};
 ghost use Rattle.pm_plan.specs.Building.{add_phase, phase_of};
 ghost use Rattle.pm_plan.specs.Refusals.{Makes};
 ghost use Rattle.pm_base.specs.Outcomes.{fold_from};
+ghost use Rattle.pm_base.specs.Limits.{most_phases, most_nodes, most_events};
 
 use crate::building::events::add_events;
 use crate::draft::Draft;
 use crate::parts::PhaseSpec;
 use crate::refusal::{Cause, Place, PlanFault, Refusal};
+use pm_base::MOST_EVENTS;
 use std::alloc::Global;
 
 /// The most minutes of a tick, which are a day.
 const MINUTES_LIMIT: i64 = 1440;
-
-/// The most events of a phase.
-const EVENTS_LIMIT: usize = 4096;
 
 /// Takes the phases in order, from phase 1 on.
 pub(crate) fn add_phases(
@@ -24,8 +23,8 @@ pub(crate) fn add_phases(
     specs: &[PhaseSpec],
 ) -> Result<(), PlanFault>
     requires whole { length draft.old.nodes ≡ length draft.old.entries }
-    requires few { length specs.now ≤ 1000 }
-    requires arrays { length draft.old.arrays ≤ 256 }
+    requires few { length specs.now ≤ most_phases }
+    requires arrays { length draft.old.arrays ≤ most_nodes }
     ensures { Makes result draft.new (fold_from 1 add_phase draft.old (map phase_part specs.now)) }
 {
     let mut number = 0;
@@ -45,11 +44,11 @@ fn add_phase(
     spec: &PhaseSpec,
 ) -> Result<(), PlanFault>
     requires whole { length draft.old.nodes ≡ length draft.old.entries }
-    requires few { length draft.old.arrays + 4096 < 2 ^ 63 }
+    requires few { length draft.old.arrays + most_events < 2 ^ 63 }
     ensures made { Makes result draft.new (add_phase number draft.old (phase_part spec.now)) }
     ensures entries { OnOk result (draft.new.entries ≡ draft.old.entries) }
     ensures nodes { OnOk result (length draft.new.nodes ≡ length draft.old.nodes) }
-    ensures arrays { OnOk result (length draft.new.arrays ≤ length draft.old.arrays + 4096) }
+    ensures arrays { OnOk result (length draft.new.arrays ≤ length draft.old.arrays + most_events) }
 {
     take_phase(alloc, draft, number, spec)?;
     if !draft.has_few_changes() {
@@ -67,11 +66,11 @@ fn take_phase(
     spec: &PhaseSpec,
 ) -> Result<(), PlanFault>
     requires whole { length draft.old.nodes ≡ length draft.old.entries }
-    requires few { length draft.old.arrays + 4096 < 2 ^ 63 }
+    requires few { length draft.old.arrays + most_events < 2 ^ 63 }
     ensures made { Makes result draft.new (phase_of number draft.old (phase_part spec.now)) }
     ensures entries { OnOk result (draft.new.entries ≡ draft.old.entries) }
     ensures nodes { OnOk result (length draft.new.nodes ≡ length draft.old.nodes) }
-    ensures arrays { OnOk result (length draft.new.arrays ≤ length draft.old.arrays + 4096) }
+    ensures arrays { OnOk result (length draft.new.arrays ≤ length draft.old.arrays + most_events) }
 {
     let place = Place::Phase { number };
     match spec {
@@ -82,7 +81,7 @@ fn take_phase(
             Ok(draft.tick(number, *minutes)?)
         }
         PhaseSpec::Events(events) => {
-            if EVENTS_LIMIT < events.len() {
+            if MOST_EVENTS < events.len() {
                 return Err(PlanFault::Refused(Refusal::at(Cause::RunTooLarge, place)));
             }
             add_events(alloc, draft, number, events)?;
