@@ -6,6 +6,7 @@ use Rattle.std.specs.Option.{option_to_list, option_and_then}
 use Rattle.std.proofs.lemmas.List.{length-map, map-append, get_or_at}
 use Rattle.std.proofs.lemmas.List.FromFn.{map-range_with_len_more, length-map-range_with_len}
 use Rattle.std.proofs.lemmas.Bool.Decides.{nat_tests}
+use Rattle.std.proofs.lemmas.Bool.{le-ltb}
 use Rattle.pm_base.specs.Limits.{most_nodes}
 use Rattle.pm_tree.specs.Names.{is_name}
 use Rattle.pm_tree.specs.Shape.{leaf_at, depth_at, path_at}
@@ -103,15 +104,12 @@ length-demo_entries size =
     length-append (concentrator_entries (concentrator_count size)) (device_entries (concentrator_count size) size)
     ∙ omega (arith, length-map-range_with_len concentrator_entry 1 (concentrator_count size), length-map-range_with_len (device_entry (concentrator_count size)) 1 size)
 
-few_entries : (n : ℕ) → n ≤ most_nodes → nat_lt most_nodes n ≡ false
-few_entries n few = grind (arith, nat_tests)
-
 -- the tree of the demo cluster is accepted
 pub demo_entries-accepted : (size : ℕ) → 1 ≤ size → size ≤ 200 → checked_tree (demo_entries size) ≡ Ok (demo_entries size)
 unfolding demo_entries first_refusal
 demo_entries-accepted size low high =
     let count = length-demo_entries size in
-    let few = few_entries (length (demo_entries size)) (omega arith) in
+    let few = le-ltb most_nodes (length (demo_entries size)) (omega arith) in
     let none = none_refused (concentrator_count size) size (omega arith) (omega arith) high in
     ap (λ many. tree_unless (demo_entries size) (if many then Some (TooMany (length (demo_entries size))) else slice_get (refusals_after [] (demo_entries size)) 0)) few
     ∙ ap (λ faults. tree_unless (demo_entries size) (slice_get faults 0)) none

@@ -1,6 +1,7 @@
 -- The tree of a list that is accepted, and the refusals of a list.
 use Rattle.std.proofs.Common.{◌≡◌, ℕ, ◌+◌, ◌<◌, ◌≤◌, true, false, if◌then◌else◌, List, [], length, drop, Some, None, Result, Ok, Err, sym, ap, subst, ◌∙◌, arith, nat_lt, slice_get, ◌⊎◌, inl, inr}
 use Rattle.std.proofs.lemmas.Bool.Decides.{nat_tests}
+use Rattle.std.proofs.lemmas.Bool.{le-ltb}
 use Rattle.pm_base.specs.Limits.{most_nodes}
 use Rattle.pm_tree.specs.Shape.{children_at, leaves_below_at, place_at, IsTree}
 use Rattle.pm_tree.specs.Entries.{Entry, parents_of, leaves_of, refusals_after, first_refusal, tree_unless, checked_tree}
@@ -14,9 +15,6 @@ use Rattle.pm_tree.proofs.Rows.{length-table}
 above_limit : (n : ℕ) → most_nodes < n → nat_lt most_nodes n ≡ true
 above_limit n high = grind (arith, nat_tests)
 
-within_limit : (n : ℕ) → n ≤ most_nodes → nat_lt most_nodes n ≡ false
-within_limit n low = grind (arith, nat_tests)
-
 pub too_many : (entries : List Entry) (have : ℕ) → have ≡ length entries → most_nodes < have → Err (TooMany have) ≡ checked_tree entries
 unfolding first_refusal
 too_many entries have is high =
@@ -25,7 +23,7 @@ too_many entries have is high =
 
 pub first_refusal-few : (entries : List Entry) → length entries ≤ most_nodes → first_refusal entries ≡ slice_get (refusals_after [] entries) 0
 unfolding first_refusal
-first_refusal-few entries few = ap (λ b. if b then Some (TooMany (length entries)) else slice_get (refusals_after [] entries) 0) (within_limit (length entries) few)
+first_refusal-few entries few = ap (λ b. if b then Some (TooMany (length entries)) else slice_get (refusals_after [] entries) 0) (le-ltb most_nodes (length entries) few)
 
 pub entry_refused : (entries : List Entry) (result : Result (List Entry) TreeFault) (fault : TreeFault) → length entries ≤ most_nodes → result ≡ Err fault
     → (slice_get (refusals_after [] entries) 0 ≡ Some fault) ⊎ (fault ≡ NoMemory) → (result ≡ checked_tree entries) ⊎ (result ≡ Err NoMemory)

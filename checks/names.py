@@ -1,0 +1,104 @@
+#!/usr/bin/env python3
+"""Whether each concept has one home: one meaning a name, one place a lemma, one name a limit.
+
+Looks at the sources, definitions and proofs of all crates, tests and comments left out. Prints a line for each finding
+and ends with 'N passed, M failed'.
+"""
+
+import re
+import sys
+from collections import defaultdict
+from pathlib import Path
+
+CRATES = Path(__file__).resolve().parent.parent / "crates"
+
+# Names that two crates use for one thing: of a plan, and of the lists of the market of cuts that it stands for.
+OF_PLAN_AND_LISTS = {"is_leaf", "is_member", "parent", "phases"}
+
+# The limits that stand in pm_base: steps and phases, nodes, the window and its ring, events, changes, demands, sums.
+LIMITS = {"8", "9", "256", "999", "1000", "4096", "20000", "1000000000", "256000000000"}
+
+# Where such a number means something else.
+OTHER_MEANINGS = [
+    ("pm_device/specs/Kinds.antt", "the limits of the kinds' parameters"),
+    ("pm_device/src/limits.rt", "the limits of the kinds' parameters"),
+    ("pm_gen/specs/Nodes.antt", "the batteries of the generator"),
+    ("pm_gen/src/devices.rt", "the batteries of the generator"),
+    ("pm_gen/proofs/Parts.antt", "the batteries of the generator"),
+    ("pm_laws/proofs/Examples.antt", "journals written out"),
+    ("pm_plan/specs/Causes.antt", "the numbers of causes"),
+    ("pm_plan/src/refusal.rt", "the numbers of causes"),
+    ("pm_scene/src/rows.rt", "the lengths of tables"),
+    ("market/src/main.rt", "an exit status"),
+]
+
+DEFINITION = re.compile(r"^(?:abbrev pub|unfoldable pub|pub record|pub data|abbrev|unfoldable|record|data) (\S+)", re.M)
+LEMMA = re.compile(r"^(?:pub )?([^\s:({]+) : (.*?)(?=\n\S|\Z)", re.M | re.S)
+NUMBER = re.compile(r"(?<![\w.\-])\d[\d_]*(?![\w.])")
+
+
+def files(*kinds):
+    for path in sorted(CRATES.rglob("*")):
+        parts = path.relative_to(CRATES).parts
+        if path.suffix in (".rt", ".antt") and parts[1] in kinds and "tests" not in path.name and "tests" not in parts:
+            yield parts[0], "/".join(parts), path.read_text()
+
+
+def without_comments(text):
+    return re.sub(r"(?m)^\s*(//|--).*$|#\[error\(.*\)\]", "", text)
+
+
+def names_with_two_homes():
+    homes = defaultdict(set)
+    for crate, _, text in files("specs"):
+        for name in DEFINITION.findall(text):
+            homes[name.rstrip(":")].add(crate)
+    for name, crates in sorted(homes.items()):
+        if len(crates) > 1 and name not in OF_PLAN_AND_LISTS:
+            yield f"the definition {name} stands in {', '.join(sorted(crates))}"
+
+
+def said_alike(statement):
+    """The statement with its variables numbered, so that only their names can differ from another's."""
+    text = re.sub(r"\s+", " ", statement)
+    variables = dict.fromkeys(it for group in re.findall(r"[({]([^():{}]+?) :", text) for it in group.split())
+    for number, name in enumerate(variables):
+        text = re.sub(r"(?<![\w\-'.])" + re.escape(name) + r"(?![\w\-'])", f"v{number}", text)
+    return text
+
+
+def lemmas_with_two_homes():
+    homes = defaultdict(set)
+    for crate, path, text in files("proofs"):
+        for name, statement in LEMMA.findall(without_comments(text)):
+            if not statement.startswith("goal.") and len(statement) > 20:
+                homes[said_alike(statement)].add((crate, f"{path}: {name}"))
+    for lemmas in homes.values():
+        if len({crate for crate, _ in lemmas}) > 1:
+            yield "one lemma stands twice, " + " and ".join(sorted(where for _, where in lemmas))
+
+
+def bare_limits():
+    others = {path for path, _ in OTHER_MEANINGS}
+    for crate, path, text in files("src", "specs", "proofs"):
+        if crate == "pm_base" or path in others:
+            continue
+        for line in without_comments(text).split("\n"):
+            if any(it.replace("_", "") in LIMITS for it in NUMBER.findall(line)):
+                yield f"a limit without its name in {path}: {line.strip()[:100]}"
+
+
+def main():
+    passed, failed = 0, 0
+    for check in (names_with_two_homes, lemmas_with_two_homes, bare_limits):
+        findings = list(check())
+        for it in findings:
+            print(it)
+        failed += len(findings)
+        passed += not findings
+    print(f"{passed} passed, {failed} failed")
+    return 1 if failed else 0
+
+
+if __name__ == "__main__":
+    sys.exit(main())
