@@ -25,7 +25,7 @@ use Rattle.pm_base.specs.Outcomes.{◌>>=◌, ◌>>◌, fold_from, Refuses}
 use Rattle.pm_gen.specs.Draws.{first_seed}
 use Rattle.pm_gen.specs.Nodes.{demo_entries, demo_nodes, concentrator_count}
 use Rattle.pm_gen.specs.Rounds.{is_joined, turns, round_len, round_picks, rounds, demo_phases, seed_after}
-use Rattle.pm_gen.specs.Demo.{demo_basis, seed_after_devices, demo_plan_from, demo_plan}
+use Rattle.pm_gen.specs.Demo.{demo_basis, seed_after_devices, demo_plan_from, demo_plan, is_size}
 use Rattle.pm_gen.proofs.Parts.{planned_for, devices_planned, with_nodes, add_plain_nodes, demo_nodes-plain, length-demo_nodes, demo_nodes-of_entries}
 use Rattle.pm_gen.proofs.Trees.{is_leaf-demo}
 use Rattle.pm_gen.proofs.Drafts.{Stands, stands-ticked}
@@ -179,6 +179,13 @@ pub made-is-plan : (size given : ℕ) → 1 ≤ size → size ≤ 200 → IsOk (
 made-is-plan size given some few =
     let demo_plan = made_from-is_plan size some few (first_seed given) in
     ap is_ok demo_plan.1
+
+-- a size within the limits has a plan
+pub size_has_plan : (size given : ℕ) → is_size size ≡ true → IsOk (demo_plan size given)
+size_has_plan size given within =
+    let low : 1 ≤ size = grind (arith, nat_tests) in
+    let high : size ≤ 200 = grind (arith, nat_tests) in
+    made-is-plan size given low high
 
 -- what the parts give, by where they come from
 pub read_is_made : (size seed : ℕ) (basis : BasisValue) (entries : List Entry) (nodes : List NodePart) (phases : List PhasePart)

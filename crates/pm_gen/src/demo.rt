@@ -1,4 +1,4 @@
-ghost use Rattle.std.specs.Prelude.{◌≡◌, ◌<◌, ◌≤◌, true, false, Ok, Err, IfOk, IfErr, IfSome, OnOk, map};
+ghost use Rattle.std.specs.Prelude.{◌≡◌, ◌<◌, ◌≤◌, true, false, Ok, Err, IfOk, IfErr, IfSome, IsOk, OnOk, map};
 ghost use Rattle.pm_plan.specs.Plans.{phases};
 ghost use Rattle.pm_gen.specs.Draws.{first_seed};
 ghost use Rattle.pm_gen.specs.Demo.{is_size, demo_basis, demo_plan_from, demo_plan};
@@ -17,9 +17,11 @@ const MAX_SIZE: u32 = 200;
 
 /// The plan of the demo cluster of so many devices, 1 to 200, whose draws a number starts; numbers count modulo 65536.
 ///
-/// Any other size is refused, and a size within them is refused by an allocation failure alone.
+/// Any other size is refused. A size within these limits has a plan, so that only an allocation can fail.
+#[tactic(auto, using(crate::proofs::Plans::size_has_plan))]
 pub fn make_plan(alloc: Global, size: u32, number: u32) -> Result<Plan, GenFault>
     ensures plan { IfOk result (λ plan. demo_plan size number ≡ Ok plan) }
+    ensures accepted { is_size size ≡ true → IsOk (demo_plan size number) }
     ensures phases { IfOk result (λ plan. phases plan ≡ 21) }
     ensures size { OnOk result (is_size size ≡ true) }
     ensures bad_size { result ≡ Err GenFault.BadSize → is_size size ≡ false }
@@ -52,12 +54,12 @@ fn make_sized(alloc: Global, size: u32, first: Draws) -> Result<Plan, GenFault>
     let phases = make_phases(alloc, &mut draws, size)?;
     match Plan::new(alloc, make_basis(), tree, nodes, phases) {
         Ok(plan) => Ok(plan),
-        Err(fault) => Err(want_of_memory(fault)),
+        Err(fault) => Err(allocation_failure(fault)),
     }
 }
 
 /// The only fault that the parts of a demo cluster can have: that an allocation failed.
-fn want_of_memory(fault: PlanFault) -> GenFault
+fn allocation_failure(fault: PlanFault) -> GenFault
     requires { fault ≡ PlanFault.NoMemory }
     ensures { result ≡ GenFault.NoMemory }
 {

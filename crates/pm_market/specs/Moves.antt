@@ -3,7 +3,7 @@ use Rattle.std.specs.Prelude.{◌≡◌, ℕ, ◌+◌, ◌-◌, ◌<◌, ◌≤�
 use Rattle.std.specs.List.{Contains}
 use Rattle.pm_base.specs.Limits.{window_size}
 use Rattle.pm_market.specs.Lists.{Lists, phases, parent, IsNode, IsLeaf, IsConcentrator, end_count}
-use Rattle.pm_market.specs.State.{State, start, updated, is_same_on, newest, part, known, number, last, clearings, cleared, addresses}
+use Rattle.pm_market.specs.State.{State, start, updated, DifferOn, newest, part, known, number, last, clearings, cleared, addresses}
 use Rattle.pm_market.specs.declared.moves.Move.{Move}
 use Rattle.pm_market.specs.declared.moves.Move.TheVariants.{Change, Learn, Publish, Clear, Pass, Close}
 use Rattle.pm_market.specs.declared.moves.Act.{Act}
@@ -22,12 +22,12 @@ NodeLegal lists s (Learn child number') =
 -- price passed to it names than its window has, publishes what it knows under its next number
 NodeLegal lists s (Publish node number') =
     IsConcentrator lists node
-    × (is_same_on lists node (known lists s node) (part lists s node (newest lists s node)) ≡ false)
+    × DifferOn lists node (known lists s node) (part lists s node (newest lists s node))
     × (newest lists s node - number lists s node (cleared s (last s node)) < window_size)
     × (number' ≡ newest lists s node + 1)
 -- the auctioneer that knows something other than it cleared last clears what it knows under its next index
 NodeLegal lists s (Clear index) =
-    (is_same_on lists 0 (known lists s 0) (cleared s (clearings s)) ≡ false)
+    DifferOn lists 0 (known lists s 0) (cleared s (clearings s))
     × (index ≡ clearings s + 1)
 -- a clearing that reached the parent, addresses the node and is later than the last one passed to the node is passed to it
 NodeLegal lists s (Pass node index) =

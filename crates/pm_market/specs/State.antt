@@ -29,6 +29,10 @@ is_same_on lists x a b = all_to (nodes lists) (λ d. cond (is_leaf_of lists x d)
 abbrev pub SameOn : Lists → ℕ → Cut → Cut → Type 0
 SameOn lists x a b = (d : ℕ) → IsLeafOf lists x d → a d ≡ b d
 
+-- two cuts are not the same on the leaves of x
+abbrev pub DifferOn : Lists → ℕ → Cut → Cut → Type 0
+DifferOn lists x a b = is_same_on lists x a b ≡ false
+
 -- on the leaves of x no number of a is above that of b
 abbrev pub AtMostOn : Lists → ℕ → Cut → Cut → Type 0
 AtMostOn lists x a b = (d : ℕ) → IsLeafOf lists x d → a d ≤ b d
@@ -36,7 +40,7 @@ AtMostOn lists x a b = (d : ℕ) → IsLeafOf lists x d → a d ≤ b d
 -- b is strictly later than a on the leaves of x: no number of a is above that of b, and they are not the same
 pub record RisesOn (lists : Lists) (x : ℕ) (a b : Cut) : Type 0 where
   pub within : AtMostOn lists x a b
-  pub not_same : is_same_on lists x a b ≡ false
+  pub not_same : DifferOn lists x a b
 
 -- A state of the market:
 -- the number of changes that each device made, and of phases closed;
