@@ -135,60 +135,26 @@ fn step_below(rt: &impl Abort, alloc: Global, c: &mut Concentrator, step: u32) -
     Ok(price.step)
 }
 
-/// Publishes under number 1, and compares the demands that are offered.
-fn offers(
-    rt: &impl Abort,
-    alloc: Global,
-    c: &mut Concentrator,
-    wanted: [i64; 10],
-) -> Result<(), Fail>
+/// Publishes under number 1 on a new link.
+fn publishes_first(rt: &impl Abort, alloc: Global, c: &mut Concentrator) -> Result<(), Fail>
     requires last { c.old.window.last ≡ 0 }
     requires steps { c.old.cache.steps ≡ 10 }
     ensures children { length c.new.cache.heads ≡ length c.old.cache.heads }
     ensures limits { c.new.limits ≡ c.old.limits }
 {
-    let mut counter = Steps::<Brand>::start();
     let mut up = Link::new(alloc, 10)?;
-    let mut offered = ArrayBid::zero(alloc, 10, &mut counter)?;
     assert_eq!(rt; c.publish(&mut up), Ok(1));
-    assert!(rt; up.take_bid(&mut offered).is_some());
-    for (step, demand) in wanted.iter().enumerate() {
-        assert_eq!(rt; offered.at(step, &mut counter), *demand);
-    }
-    Ok(())
-}
-
-/// Two children with the same bid: the sum is above the ceiling at the price's step.
-#[test]
-fn the_local_step_is_the_first_below_the_ceiling(rt: HostRuntime) -> Result<(), Fail> {
-    let alloc = rt.alloc();
-    let bid = bid_of(alloc, [100, 100, 100, 100, 100, 100, 0, 0, 0, 0])?;
-    let mut c = Concentrator::limited(alloc, 2, 10, 0, 150)?;
-    assert_eq!(rt; learn(&mut c, 0, 1, &bid), Ok(()));
-    assert_eq!(rt; learn(&mut c, 1, 1, &bid), Ok(()));
-    offers(
-        &rt,
-        alloc,
-        &mut c,
-        [150, 150, 150, 150, 150, 150, 0, 0, 0, 0],
-    )?;
-    assert_eq!(rt; step_below(&rt, alloc, &mut c, 0)?, 6);
     Ok(())
 }
 
 /// The second child sends nothing: the sum is above the ceiling, below the floor and between them.
 #[test]
-fn the_local_step_is_the_last_above_the_floor(rt: HostRuntime) -> Result<(), Fail> {
+fn the_local_step_is_within_the_limits(rt: HostRuntime) -> Result<(), Fail> {
     let alloc = rt.alloc();
     let bid = bid_of(alloc, [300, 250, 200, 150, 100, 50, 0, -50, -100, -150])?;
     let mut c = Concentrator::limited(alloc, 2, 10, -100, 150)?;
     assert_eq!(rt; learn(&mut c, 0, 1, &bid), Ok(()));
-    offers(
-        &rt,
-        alloc,
-        &mut c,
-        [150, 150, 150, 150, 100, 50, 0, -50, -100, -100],
-    )?;
+    publishes_first(&rt, alloc, &mut c)?;
     assert_eq!(rt; step_below(&rt, alloc, &mut c, 0)?, 3);
     assert_eq!(rt; step_below(&rt, alloc, &mut c, 9)?, 8);
     assert_eq!(rt; step_below(&rt, alloc, &mut c, 5)?, 5);
