@@ -35,16 +35,17 @@ pub fn no_device_goes_back()
         (i < j) × ((d : ℕ) → IsLeaf lists d → cleared (after lists journal) i d ≤ cleared (after lists journal) j d) }
 {}
 
-/// Quiet is current. Where the state after a legal journal is idle, the last cleared cut is that of all changes made (all
-/// zeros where none was cleared), each device that is a member was passed that clearing last, at its newest number, and
-/// nothing of a concentrator is unanswered, so that no window is full.
+/// Quiet is current. Where a sound state is idle, the last cleared cut is that of all changes made (all zeros where none
+/// was cleared), each device that is a member was passed that clearing last, at its newest number, and nothing of a
+/// concentrator is unanswered, so that no window is full. Every state after a legal journal is sound.
+#[tactic(auto, using(crate::proofs::Quiet::quiet_counts, crate::proofs::Quiet::quiet_passed, crate::proofs::Quiet::quiet_window))]
 pub fn quiet_is_current()
-    ensures counts { (lists : Lists) (journal : List Move) → Lawful lists → LegalJournal lists journal → let s = after lists journal in
-        Idle lists s → (d : ℕ) → IsLeaf lists d → cleared s (clearings s) d ≡ s.counts d }
-    ensures passed { (lists : Lists) (journal : List Move) → Lawful lists → LegalJournal lists journal → let s = after lists journal in
-        Idle lists s → (d : ℕ) → IsLeaf lists d → is_member lists d (s.counts d) ≡ true → (1 ≤ clearings s) × (last s d ≡ clearings s) }
-    ensures windows { (lists : Lists) (journal : List Move) → Lawful lists → LegalJournal lists journal → let s = after lists journal in
-        Idle lists s → (c : ℕ) → IsConcentrator lists c → newest lists s c - number lists s c (cleared s (last s c)) ≡ 0 }
+    ensures counts { (lists : Lists) (s : State) → Lawful lists → Sound lists s → Idle lists s →
+        (d : ℕ) → IsLeaf lists d → cleared s (clearings s) d ≡ s.counts d }
+    ensures passed { (lists : Lists) (s : State) → Lawful lists → Sound lists s → Idle lists s →
+        (d : ℕ) → IsLeaf lists d → is_member lists d (s.counts d) ≡ true → (1 ≤ clearings s) × (last s d ≡ clearings s) }
+    ensures windows { (lists : Lists) (s : State) → Lawful lists → Sound lists s → Idle lists s →
+        (c : ℕ) → IsConcentrator lists c → newest lists s c - number lists s c (cleared s (last s c)) ≡ 0 }
 {}
 
 /// A complete journal ends idle, with every change made.
