@@ -77,12 +77,12 @@ checked_points-is basis given bid sound h =
     let few = else-ok (nat_lt max_points many) _ _ bid none.is in
     let fall = else-ok (nat_lt (first_price_fall given) many) _ _ bid few.is in
     let rise = else-ok (nat_lt (first_rise given) many) _ _ bid fall.is in
-    let large = else-ok (nat_lt (point_checks.first_too_large given) many) _ _ bid rise.is in
+    let large = else-ok (nat_lt (point_checks.first_large_demand given) many) _ _ bid rise.is in
     let outside = else-ok (nat_lt (first_outside basis given) many) _ _ bid large.is in
     let is : given ≡ bid = cc outside.is in
     subst IsPointBid is
     (passed_all basis given sound (some_points given none.fails) (passed max_points many few.fails) (passed (first_price_fall given) many fall.fails)
-    (passed (first_rise given) many rise.fails) (passed (point_checks.first_too_large given) many large.fails) (passed (first_outside basis given) many outside.fails))
+    (passed (first_rise given) many rise.fails) (passed (point_checks.first_large_demand given) many large.fails) (passed (first_outside basis given) many outside.fails))
 
 array-of : (steps : ℕ) (place : Place) (demands bid : List ℤ) (r : Result (List ℤ) BidFault) → checked_bid steps demands ≡ r → array_or_refuse place r ≡ Ok bid → IsBid steps bid
 array-of steps place demands bid (Ok made) e h = subst (IsBid steps) (ok-is made bid h) (checked_bid-is steps demands made e)
