@@ -22,9 +22,10 @@ DONE, USAGE, READ_FAULT, TOO_LONG, REFUSED, WRITE_FAULT = 0, 2, 3, 4, 5, 6
 class Case:
     name: str
     words: list
-    # Bytes, a file's path, a folder's path (each read of it fails), or None: closed.
+    # Bytes, a file's path, a folder's path (each read of it fails, so the status tells whether one was tried), or
+    # None: closed.
     stdin: object
-    # The text due; a function that tells whether a text is right; or None where standard output takes nothing.
+    # The text due, a function that tells whether a text is right, or None where standard output takes nothing.
     stdout: object
     status: int
     # "pipe", "full" or "closed".
@@ -35,7 +36,6 @@ def ended(program, case):
     """The exit status, and what was written."""
     closed = [0] * (case.stdin is None) + [1] * (case.sink == "closed")
     settings = {"stderr": subprocess.DEVNULL, "preexec_fn": lambda: [os.close(it) for it in closed], "timeout": 120}
-    # A folder as standard input cannot be read, so the status tells whether it was tried.
     opened = []
     try:
         if isinstance(case.stdin, bytes):

@@ -51,7 +51,7 @@ fn parts_of(alloc: Global) -> Result<(Vec<TreeEntry>, Vec<NodeSpec>), AllocError
     Ok((entries, nodes))
 }
 
-/// An event of a device.
+/// The join of the device of this name.
 fn join(alloc: Global, name: &str) -> Result<EventSpec, AllocError> {
     let device = String::from_str(alloc, name)?;
     Ok(EventSpec::Join { device })
