@@ -1,11 +1,13 @@
 -- The plain auction of a cut depends on the states of the cut alone.
-use Rattle.std.proofs.Common.{◌≡◌, ◌∙◌, ap, ℕ, zero, suc, ◌+◌, ◌<◌, ◌≤◌, List, [], ◌∷◌, length, map, cond, refl, arith}
+use Rattle.std.proofs.Common.{◌≡◌, ◌∙◌, ap, ℕ, zero, suc, ◌+◌, ◌<◌, ◌≤◌, ℤ, List, [], ◌∷◌, length, map, cond, refl, arith}
 use Rattle.std.specs.Prelude.{◌==◌}
 use Rattle.std.specs.List.{range_with_len}
 use Rattle.pm_bid.specs.Bids.{demand_at, sum_of, zeros}
 use Rattle.pm_bid.specs.Clearing.{clearing_step}
 use Rattle.pm_bid.specs.Limited.{within_limits, local_step}
-use Rattle.pm_plan.specs.Plans.{PlanData, node, limits_of, is_member, group}
+use Rattle.pm_plan.specs.Devices.{DeviceData}
+use Rattle.pm_plan.specs.declared.node.Node.TheVariants.{Concentrator, Limited, Device}
+use Rattle.pm_plan.specs.Plans.{PlanData, NodeData, node, limits_of, is_member, group}
 use Rattle.pm_plan.specs.Auction.{States, node_bid, part_in, sum_in, announced, total, plain, group_step, local, power, limited, demand_in_cut}
 use Rattle.pm_base.specs.Cuts.{Cut}
 
@@ -19,20 +21,25 @@ pub map_same : {A X : Type 0} (f g : A → X) (xs : List A) → ((x : A) → f x
 map_same f g [] same = refl
 map_same f g (x ∷ xs) same = ap (λ y. y ∷ map f xs) (same x) ∙ ap (λ ys. g x ∷ ys) (map_same f g xs same)
 
--- states that are the same in a cut
+-- states that give each device the same in a cut
 abbrev pub Agree : PlanData → Cut → States → States → Type 0
-Agree plan cut s t = (d : ℕ) → 1 ≤ d → d < 1 + length plan.nodes → s d (cut d) ≡ t d (cut d)
+Agree plan cut s t = (d : ℕ) (planned : DeviceData) → node plan d ≡ Device planned → s d (cut d) ≡ t d (cut d)
 
-pub demand_same : (plan : PlanData) (s t : States) (cut : Cut) (d : ℕ) → s d (cut d) ≡ t d (cut d) → demand_in_cut plan s cut d ≡ demand_in_cut plan t cut d
+bid_same : (plan : PlanData) (n : NodeData) (y z : ℤ) → ((planned : DeviceData) → n ≡ Device planned → y ≡ z) → node_bid plan n y ≡ node_bid plan n z
+bid_same plan (Device planned) y z same = ap (node_bid plan (Device planned)) (same planned refl)
+bid_same plan Concentrator y z same = refl
+bid_same plan (Limited limits) y z same = refl
+
+pub demand_same : (plan : PlanData) (s t : States) (cut : Cut) (d : ℕ) → Agree plan cut s t → demand_in_cut plan s cut d ≡ demand_in_cut plan t cut d
 unfolding demand_in_cut
 demand_same plan s t cut d same =
-    ap (λ z. cond (is_member plan d (cut d)) (node_bid plan (node plan d) z) (zeros plan.basis.steps)) same
+    ap (λ bid. cond (is_member plan d (cut d)) bid (zeros plan.basis.steps)) (bid_same plan (node plan d) (s d (cut d)) (t d (cut d)) (same d))
 
 pub sum_same : (plan : PlanData) (s t : States) (cut : Cut) (g : ℕ) → Agree plan cut s t → sum_in plan s cut g ≡ sum_in plan t cut g
 unfolding sum_in part_in
 sum_same plan s t cut g same =
     ap (sum_of plan.basis.steps) (map_range_same (part_in plan s cut g) (part_in plan t cut g) 1 (length plan.nodes)
-    (λ d low high. ap (λ bid. cond (group plan d == g) bid (zeros plan.basis.steps)) (demand_same plan s t cut d (same d low high))))
+    (λ d low high. ap (λ bid. cond (group plan d == g) bid (zeros plan.basis.steps)) (demand_same plan s t cut d same)))
 
 pub total_same : (plan : PlanData) (s t : States) (cut : Cut) → Agree plan cut s t → total plan s cut ≡ total plan t cut
 unfolding total announced
@@ -51,8 +58,8 @@ local_same plan s t cut x same =
     ap (λ k. local_step (limits_of (node plan (group plan x))) k (sum_in plan s cut (group plan x))) (plain_same plan s t cut same)
     ∙ ap (local_step (limits_of (node plan (group plan x))) (plain plan t cut)) (sum_same plan s t cut (group plan x) same)
 
-pub power_same : (plan : PlanData) (s t : States) (cut : Cut) (d : ℕ) → 1 ≤ d → d < 1 + length plan.nodes → Agree plan cut s t → power plan s cut d ≡ power plan t cut d
+pub power_same : (plan : PlanData) (s t : States) (cut : Cut) (d : ℕ) → Agree plan cut s t → power plan s cut d ≡ power plan t cut d
 unfolding power
-power_same plan s t cut d low high same =
-    ap (λ bid. demand_at bid (local plan s cut d)) (demand_same plan s t cut d (same d low high))
+power_same plan s t cut d same =
+    ap (λ bid. demand_at bid (local plan s cut d)) (demand_same plan s t cut d same)
     ∙ ap (demand_at (demand_in_cut plan t cut d)) (local_same plan s t cut d same)

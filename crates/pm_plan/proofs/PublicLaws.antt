@@ -1,5 +1,5 @@
 -- The laws in the order of their clauses.
-use Rattle.std.proofs.Common.{◌≡◌, ℕ, ◌+◌, ◌-◌, ◌<◌, ◌≤◌, length, IsTrue, List, Ok}
+use Rattle.std.proofs.Common.{◌≡◌, ℕ, ◌≤◌, length, IsTrue, List, Ok}
 use Rattle.pm_basis.specs.Prices.{BasisValue, IsBasis}
 use Rattle.pm_tree.specs.Entries.{Entry, checked_tree, parents_of, leaves_of}
 use Rattle.pm_tree.specs.Shape.{IsTree}
@@ -15,23 +15,22 @@ use Rattle.pm_market.specs.Lists as market
 use Rattle.pm_market.specs.Bound as market_bound
 use Rattle.pm_plan.specs.Devices.{DeviceData}
 use Rattle.pm_plan.specs.declared.node.Node.TheVariants.{Device}
-use Rattle.pm_plan.specs.Plans.{PlanData, node, is_member, change_count, plan_bound, end_cut}
-use Rattle.pm_plan.specs.Auction.{power}
+use Rattle.pm_plan.specs.Plans.{PlanData, node, is_member, change_count, plan_bound}
+use Rattle.pm_plan.specs.Auction.{States, power}
 use Rattle.pm_base.specs.Cuts.{Cut}
-use Rattle.pm_plan.specs.States.{changed_state, state}
-use Rattle.pm_plan.specs.Kept.{IsPlan, InPhases, change_at}
+use Rattle.pm_plan.specs.States.{FollowChanges, state}
+use Rattle.pm_plan.specs.Kept.{IsPlan, InPhases}
 use Rattle.pm_plan.specs.Market.{plan_lists}
-use Rattle.pm_plan.proofs.StateLaws.{state-start, state-next}
+use Rattle.pm_plan.proofs.StateLaws.{state-follows, state-only}
 use Rattle.pm_plan.proofs.Fits.{state-fits, bid-steps, bid-within, bid-falls, power-within}
 use Rattle.pm_plan.proofs.MarketLists.{lawful, is_member-is, bound-is}
 
-pub starts : (plan : PlanData) (d : ℕ) (planned : DeviceData) → node plan d ≡ Device planned → state plan d 0 ≡ planned.start
-starts plan d planned is = state-start plan d planned is
+pub follows : (plan : PlanData) → InPhases plan → FollowChanges plan (state plan)
+follows plan fits = state-follows plan fits
 
-pub follows : (plan : PlanData) (d n : ℕ) (planned : DeviceData) → InPhases plan → node plan d ≡ Device planned → n < change_count plan d →
-    state plan d (n + 1) ≡ changed_state planned.kind (state plan d n) (power plan (state plan) (end_cut plan ((change_at plan d n).phase - 1)) d)
-    (change_at plan d n).what
-follows plan d n planned fits is inside = state-next plan d n planned fits is inside
+pub only : (plan : PlanData) (states : States) (d n : ℕ) (planned : DeviceData) → InPhases plan → FollowChanges plan states →
+    node plan d ≡ Device planned → n ≤ change_count plan d → states d n ≡ state plan d n
+only plan states d n planned fits follow is within = state-only plan states d n planned fits follow is within
 
 pub fits : (plan : PlanData) (d n : ℕ) (planned : DeviceData) → IsPlan plan → node plan d ≡ Device planned → n ≤ change_count plan d →
     IsTrue (state_fits planned.kind (state plan d n))

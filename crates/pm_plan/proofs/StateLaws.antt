@@ -13,39 +13,42 @@ use Rattle.pm_plan.specs.declared.planned.Change.{Change}
 use Rattle.pm_plan.specs.Devices.{DeviceData}
 use Rattle.pm_plan.specs.declared.node.Node.TheVariants.{Concentrator, Limited, Device}
 use Rattle.pm_plan.specs.Plans.{PlanData, NodeData, node, changes_of, phases, is_up_to, end_cut}
-use Rattle.pm_plan.specs.Auction.{power}
-use Rattle.pm_plan.specs.States.{changed_state, power_at, node_state, state_in, row, one_more, rows, state}
+use Rattle.pm_plan.specs.Auction.{States, power}
+use Rattle.pm_plan.specs.States.{changed_state, power_before, FollowChanges, power_in_rows, node_state, state_by_rows, power_row, with_next_row, power_rows, state}
 use Rattle.pm_plan.proofs.Auctions.{power_same}
+use Rattle.pm_plan.proofs.Ends.{end-none, end-rises, end-within, end-last}
 use Rattle.pm_plan.proofs.DeviceNodes.{device_first, device_last}
 use Rattle.pm_plan.specs.Kept.{no_change, change_at, InPhases}
 use Rattle.pm_plan.specs.Plans.{change_count}
 
-length-rows : (plan : PlanData) (p : ℕ) → length (rows plan p) ≡ p
-unfolding rows one_more
-length-rows plan zero = refl
-length-rows plan (suc p) = length-append (rows plan p) _ ∙ ap (λ n. n + 1) (length-rows plan p) ∙ add-one p
+length-power_rows : (plan : PlanData) (p : ℕ) → length (power_rows plan p) ≡ p
+unfolding power_rows with_next_row
+length-power_rows plan zero = refl
+length-power_rows plan (suc p) = length-append (power_rows plan p) _ ∙ ap (λ n. n + 1) (length-power_rows plan p) ∙ add-one p
 
 -- row p stays as it was made
-rows-at : (plan : PlanData) (k p : ℕ) → p < k → get_or (rows plan k) p [] ≡ row plan (rows plan p) p
-unfolding rows one_more
-rows-at plan zero p h = absurd (omega arith)
-rows-at plan (suc k) p h =
-    let long = length-rows plan k in
+power_rows-at : (plan : PlanData) (k p : ℕ) → p < k → get_or (power_rows plan k) p [] ≡ power_row plan (power_rows plan p) p
+unfolding power_rows with_next_row
+power_rows-at plan zero p h = absurd (omega arith)
+power_rows-at plan (suc k) p h =
+    let long = length-power_rows plan k in
     elim (cases_lt p k) [
-      | inl below ↦ get_or-append (rows plan k) _ [] p (omega arith) ∙ rows-at plan k p below
+      | inl below ↦ get_or-append (power_rows plan k) _ [] p (omega arith) ∙ power_rows-at plan k p below
       | inr above ↦
           let here : p ≡ k = omega arith in
-          subst (λ (q : ℕ). get_or (rows plan (suc k)) q [] ≡ row plan (rows plan q) q) (sym here)
-          (subst (λ (q : ℕ). get_or (rows plan (suc k)) q [] ≡ row plan (rows plan k) q) long
-          (get_or-append_seam (rows plan k) (row plan (rows plan k) (length (rows plan k))) [] []))
+          subst (λ (q : ℕ). get_or (power_rows plan (suc k)) q [] ≡ power_row plan (power_rows plan q) q) (sym here)
+          (subst (λ (q : ℕ). get_or (power_rows plan (suc k)) q [] ≡ power_row plan (power_rows plan k) q) long
+          (get_or-append_seam (power_rows plan k) (power_row plan (power_rows plan k) (length (power_rows plan k))) [] []))
     ]
 
-power_at-rows : (plan : PlanData) (k p d : ℕ) → p < k → 1 ≤ d → d < 1 + length plan.nodes → power_at (rows plan k) p d ≡ power plan (state_in plan (rows plan p)) (end_cut plan p) d
-unfolding row
-power_at-rows plan k p zero h low high = absurd (omega arith)
-power_at-rows plan k p (suc d) h low high =
-    ap (λ r. get_or r (suc d) (pos 0)) (rows-at plan k p h)
-    ∙ get_or-map-range_with_len (power plan (state_in plan (rows plan p)) (end_cut plan p)) 1 (length plan.nodes) d (suc d) (pos 0) (omega arith) (omega arith)
+power_in_rows-at : (plan : PlanData) (k p d : ℕ) → p < k → 1 ≤ d → d < 1 + length plan.nodes →
+    power_in_rows (power_rows plan k) p d ≡ power plan (state_by_rows plan (power_rows plan p)) (end_cut plan p) d
+unfolding power_row
+power_in_rows-at plan k p zero h low high = absurd (omega arith)
+power_in_rows-at plan k p (suc d) h low high =
+    ap (λ r. get_or r (suc d) (pos 0)) (power_rows-at plan k p h)
+    ∙ get_or-map-range_with_len (power plan (state_by_rows plan (power_rows plan p)) (end_cut plan p)) 1 (length plan.nodes) d (suc d) (pos 0) (omega arith)
+    (omega arith)
 
 fold_same : {A B : Type 0} (f g : B → A → B) (P : A → Type 0) → ((b : B) (x : A) → P x → f b x ≡ g b x) → (b : B) (xs : List A) → All P xs → fold f b xs ≡ fold g b xs
 fold_same f g P same b [] all = refl
@@ -79,31 +82,36 @@ node_state-same (Device planned) some all p k early same =
     (same (c.phase - 1) h)) planned.start (take k planned.changes) early
 
 -- the states up to the end of phase p use the rows below p alone
-state_in-same : (plan : PlanData) (some all : List (List ℤ)) (p d n : ℕ) → n ≤ end_cut plan p d → InPhases plan → ((q : ℕ) → q < p → power_at some q d ≡ power_at all q d) → state_in plan some d n ≡ state_in plan all d n
-unfolding state_in
-state_in-same plan some all p d n upto fits same =
-    node_state-same (node plan d) (λ q. power_at some q d) (λ q. power_at all q d) p n (changes_before plan p d n upto fits) same
+state_by_rows-same : (plan : PlanData) (some all : List (List ℤ)) (p d n : ℕ) → n ≤ end_cut plan p d → InPhases plan →
+    ((q : ℕ) → q < p → power_in_rows some q d ≡ power_in_rows all q d) → state_by_rows plan some d n ≡ state_by_rows plan all d n
+unfolding state_by_rows
+state_by_rows-same plan some all p d n upto fits same =
+    node_state-same (node plan d) (λ q. power_in_rows some q d) (λ q. power_in_rows all q d) p n (changes_before plan p d n upto fits) same
 
 -- the rows of fewer phases are the same
-power_at-fewer : (plan : PlanData) (j k q d : ℕ) → q < j → j ≤ k → power_at (rows plan j) q d ≡ power_at (rows plan k) q d
-power_at-fewer plan j k q d below within =
-    ap (λ r. get_or r d (pos 0)) (rows-at plan j q below ∙ sym (rows-at plan k q (omega arith)))
+power_in_rows-fewer : (plan : PlanData) (j k q d : ℕ) → q < j → j ≤ k → power_in_rows (power_rows plan j) q d ≡ power_in_rows (power_rows plan k) q d
+power_in_rows-fewer plan j k q d below within =
+    ap (λ r. get_or r d (pos 0)) (power_rows-at plan j q below ∙ sym (power_rows-at plan k q (omega arith)))
 
 -- up to the end of phase p the rows below p are enough
-pub state_in-rows : (plan : PlanData) (p d n : ℕ) → p ≤ phases plan → n ≤ end_cut plan p d → InPhases plan → state_in plan (rows plan p) d n ≡ state plan d n
+pub state_by_rows-is : (plan : PlanData) (p d n : ℕ) → p ≤ phases plan → n ≤ end_cut plan p d → InPhases plan →
+    state_by_rows plan (power_rows plan p) d n ≡ state plan d n
 unfolding state
-state_in-rows plan p d n within upto fits =
-    state_in-same plan (rows plan p) (rows plan (phases plan)) p d n upto fits (λ q below. power_at-fewer plan p (phases plan) q d below within)
+state_by_rows-is plan p d n within upto fits =
+    state_by_rows-same plan (power_rows plan p) (power_rows plan (phases plan)) p d n upto fits
+    (λ q below. power_in_rows-fewer plan p (phases plan) q d below within)
 
 -- row p is the plain auction at the end of phase p
-pub power_at-is : (plan : PlanData) (p d : ℕ) → p < phases plan → 1 ≤ d → d < 1 + length plan.nodes → InPhases plan → power_at (rows plan (phases plan)) p d ≡ power plan (state plan) (end_cut plan p) d
-power_at-is plan p d within low high fits =
-    power_at-rows plan (phases plan) p d within low high
-    ∙ power_same plan (state_in plan (rows plan p)) (state plan) (end_cut plan p) d low high (λ e _ _. state_in-rows plan p e (end_cut plan p e) (omega arith) (omega arith) fits)
+pub power_in_rows-is : (plan : PlanData) (p d : ℕ) → p < phases plan → 1 ≤ d → d < 1 + length plan.nodes → InPhases plan →
+    power_in_rows (power_rows plan (phases plan)) p d ≡ power plan (state plan) (end_cut plan p) d
+power_in_rows-is plan p d within low high fits =
+    power_in_rows-at plan (phases plan) p d within low high
+    ∙ power_same plan (state_by_rows plan (power_rows plan p)) (state plan) (end_cut plan p) d
+    (λ e _ _. state_by_rows-is plan p e (end_cut plan p e) (omega arith) (omega arith) fits)
 
 pub state-start : (plan : PlanData) (d : ℕ) (planned : DeviceData) → node plan d ≡ Device planned → state plan d 0 ≡ planned.start
-unfolding state state_in
-state-start plan d planned is = ap (λ n. node_state n (λ p. power_at (rows plan (phases plan)) p d) 0) is
+unfolding state state_by_rows
+state-start plan d planned is = ap (λ n. node_state n (λ p. power_in_rows (power_rows plan (phases plan)) p d) 0) is
 
 -- the state of a device after one more change, where its powers are known
 node_state-next : (planned : DeviceData) (powers : ℕ → ℤ) (n : ℕ) → n < length planned.changes →
@@ -125,16 +133,65 @@ next_of m planned powers n is inside =
     (get_or (changes_of k) n no_change).what in
     subst P (sym is) (node_state-next planned powers n) inside
 
--- the state after one more change
+-- the states of a plan follow its changes
 pub state-next : (plan : PlanData) (d n : ℕ) (planned : DeviceData) → InPhases plan → node plan d ≡ Device planned → n < change_count plan d →
-    state plan d (n + 1) ≡ changed_state planned.kind (state plan d n) (power plan (state plan) (end_cut plan ((change_at plan d n).phase - 1)) d)
-    (change_at plan d n).what
-unfolding state state_in
+    state plan d (n + 1) ≡ changed_state planned.kind (state plan d n) (power_before plan (state plan) (change_at plan d n).phase d) (change_at plan d n).what
+unfolding state state_by_rows
 state-next plan d n planned fits is inside =
     let low = device_first plan.nodes d planned is in
     let high = device_last plan.nodes d planned is in
     let first : 1 ≤ (change_at plan d n).phase = fits.first d n inside in
     let last : (change_at plan d n).phase ≤ phases plan = fits.last d n inside in
-    next_of (node plan d) planned (λ p. power_at (rows plan (phases plan)) p d) n is inside
+    next_of (node plan d) planned (λ p. power_in_rows (power_rows plan (phases plan)) p d) n is inside
     ∙ ap (λ power'. changed_state planned.kind (state plan d n) power' (change_at plan d n).what)
-    (power_at-is plan ((change_at plan d n).phase - 1) d (omega arith) low (omega arith) fits)
+    (power_in_rows-is plan ((change_at plan d n).phase - 1) d (omega arith) low (omega arith) fits)
+
+pub state-follows : (plan : PlanData) → InPhases plan → FollowChanges plan (state plan)
+state-follows plan fits = record {
+  start = λ d planned is. state-start plan d planned is;
+  next = λ d n planned is inside. state-next plan d n planned fits is inside;
+}
+
+-- a change among those of the phases up to p is of one of them
+pub phase_up_to : (plan : PlanData) (d p n : ℕ) → n < end_cut plan p d → (change_at plan d n).phase ≤ p
+unfolding end_cut
+phase_up_to plan d p n below = leb-true _ p (prefix_len_passes (is_up_to p) (changes_of (node plan d)) n no_change below)
+
+-- other states that follow the changes are the same at the changes of the phases up to p
+abbrev SameUpTo : PlanData → States → ℕ → Type 0
+SameUpTo plan states p = (d n : ℕ) (planned : DeviceData) → node plan d ≡ Device planned → n ≤ end_cut plan p d → states d n ≡ state plan d n
+
+-- so the powers before the next phase are the same
+power_before-same : (plan : PlanData) (states : States) (p q d : ℕ) → SameUpTo plan states p → q ≤ p + 1 →
+    power_before plan states q d ≡ power_before plan (state plan) q d
+power_before-same plan states p q d same within =
+    power_same plan states (state plan) (end_cut plan (q - 1)) d (λ e planned is. same e (end_cut plan (q - 1) e) planned is (end-rises plan (q - 1) p e (omega arith)))
+
+-- and so are the states at the changes of that phase
+same_next : (plan : PlanData) (states : States) (p d n : ℕ) (planned : DeviceData) → InPhases plan → FollowChanges plan states →
+    SameUpTo plan states p → node plan d ≡ Device planned → n ≤ end_cut plan (p + 1) d → states d n ≡ state plan d n
+same_next plan states p d zero planned fits follow same is upto = follow.start d planned is ∙ sym (state-start plan d planned is)
+same_next plan states p d (suc n) planned fits follow same is upto =
+    let inside : n < change_count plan d = omega (arith, end-within plan (p + 1) d) in
+    let change = change_at plan d n in
+    let one = same_next plan states p d n planned fits follow same is (omega arith) in
+    let powers = power_before-same plan states p change.phase d same (phase_up_to plan d (p + 1) n (omega arith)) in
+    ap (states d) (sym (add-one n)) ∙ follow.next d n planned is inside
+    ∙ ap (λ z. changed_state planned.kind z (power_before plan states change.phase d) change.what) one
+    ∙ ap (λ power'. changed_state planned.kind (state plan d n) power' change.what) powers
+    ∙ sym (state-next plan d n planned fits is inside) ∙ ap (state plan d) (add-one n)
+
+same_up_to : (plan : PlanData) (states : States) (p : ℕ) → InPhases plan → FollowChanges plan states → SameUpTo plan states p
+same_up_to plan states zero fits follow d n planned is upto =
+    let none : n ≡ 0 = (let first = end-none plan d fits in omega arith) in
+    ap (states d) none ∙ follow.start d planned is ∙ sym (state-start plan d planned is) ∙ ap (state plan d) (sym none)
+same_up_to plan states (suc p) fits follow d n planned is upto =
+    let place : suc p ≡ p + 1 = omega arith in
+    same_next plan states p d n planned fits follow (same_up_to plan states p fits follow) is (subst (λ q. n ≤ end_cut plan q d) place upto)
+
+-- states that follow the changes are those of the plan
+pub state-only : (plan : PlanData) (states : States) (d n : ℕ) (planned : DeviceData) → InPhases plan → FollowChanges plan states →
+    node plan d ≡ Device planned → n ≤ change_count plan d → states d n ≡ state plan d n
+state-only plan states d n planned fits follow is within =
+    let last = end-last plan d fits in
+    same_up_to plan states (phases plan) fits follow d n planned is (omega arith)

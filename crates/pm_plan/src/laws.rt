@@ -1,4 +1,4 @@
-ghost use Rattle.std.specs.Prelude.{◌≡◌, ℕ, ◌+◌, ◌-◌, ◌<◌, ◌≤◌, length, IsTrue, List, Ok};
+ghost use Rattle.std.specs.Prelude.{◌≡◌, ℕ, ◌≤◌, length, IsTrue, List, Ok};
 ghost use Rattle.pm_basis.specs.Prices.{BasisValue, IsBasis};
 ghost use Rattle.pm_tree.specs.Entries.{Entry, checked_tree, parents_of, leaves_of};
 ghost use Rattle.pm_tree.specs.Shape.{IsTree};
@@ -12,21 +12,20 @@ ghost use Rattle.pm_market.specs.Lists.{Lawful, is_member as market_member};
 ghost use Rattle.pm_market.specs.Bound.{bound as market_bound};
 ghost use Rattle.pm_plan.specs.Devices.{DeviceData};
 ghost use Rattle.pm_plan.specs.declared.node.Node.TheVariants.{Device};
-ghost use Rattle.pm_plan.specs.Plans.{PlanData, node, is_member, change_count, plan_bound, end_cut};
-ghost use Rattle.pm_plan.specs.Auction.{power};
+ghost use Rattle.pm_plan.specs.Plans.{PlanData, node, is_member, change_count, plan_bound};
+ghost use Rattle.pm_plan.specs.Auction.{States, power};
 ghost use Rattle.pm_base.specs.Cuts.{Cut};
-ghost use Rattle.pm_plan.specs.States.{changed_state, state};
-ghost use Rattle.pm_plan.specs.Kept.{IsPlan, InPhases, change_at};
+ghost use Rattle.pm_plan.specs.States.{FollowChanges, state};
+ghost use Rattle.pm_plan.specs.Kept.{IsPlan, InPhases};
 ghost use Rattle.pm_plan.specs.Market.{plan_lists};
 
-/// A law: a device begins in its start, and each change makes the next state of the one before, a tick by the power of
-/// the plain auction at the end of the phase before.
-#[tactic(auto, using(crate::proofs::PublicLaws::starts, crate::proofs::PublicLaws::follows))]
+/// A law: the states of a plan follow its changes, and any states that follow them give each device the same after each
+/// number of its changes.
+#[tactic(auto, using(crate::proofs::PublicLaws::follows, crate::proofs::PublicLaws::only))]
 pub fn states_follow_the_changes()
-    ensures start { (plan : PlanData) (d : ℕ) (planned : DeviceData) → node plan d ≡ Device planned → state plan d 0 ≡ planned.start }
-    ensures next { (plan : PlanData) (d n : ℕ) (planned : DeviceData) → InPhases plan → node plan d ≡ Device planned → n < change_count plan d →
-        state plan d (n + 1) ≡ changed_state planned.kind (state plan d n) (power plan (state plan) (end_cut plan ((change_at plan d n).phase - 1)) d)
-        (change_at plan d n).what }
+    ensures follow { (plan : PlanData) → InPhases plan → FollowChanges plan (state plan) }
+    ensures only { (plan : PlanData) (states : States) (d n : ℕ) (planned : DeviceData) → InPhases plan → FollowChanges plan states →
+        node plan d ≡ Device planned → n ≤ change_count plan d → states d n ≡ state plan d n }
 {}
 
 /// A law: each state that a device comes to fits its kind, its bid has a demand for each step, which lies within

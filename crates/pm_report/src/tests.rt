@@ -103,7 +103,7 @@ fn plan_of(alloc: Global, lines: &[NodeLine]) -> Result<Plan, Fail> {
 }
 
 /// The end of that phase: the total never balances.
-fn end_of(alloc: Global, device: u32) -> Result<Vec<PhaseEnd>, AllocError> {
+fn end_of(alloc: Global, basis: &Basis, device: u32) -> Result<Vec<PhaseEnd>, AllocError> {
     let mut members = Vec::new(alloc);
     members.push(MemberLine {
         node: device,
@@ -111,7 +111,9 @@ fn end_of(alloc: Global, device: u32) -> Result<Vec<PhaseEnd>, AllocError> {
         number: 1,
     })?;
     let mut ends = Vec::new(alloc);
-    ends.push(PhaseEnd::new(9, 9, 100, members, Vec::new(alloc)))?;
+    if 9 < basis.steps() {
+        ends.push(PhaseEnd::new(basis, 9, 100, members, Vec::new(alloc)))?;
+    }
     Ok(ends)
 }
 
@@ -217,7 +219,7 @@ fn trace(alloc: Global, plan: &Plan, ends: &[PhaseEnd], lines: &[Line]) -> Resul
 fn trace_of(alloc: Global, nodes: &[NodeLine], moves: &[Move]) -> Result<String, Fail> {
     let plan = plan_of(alloc, nodes)?;
     let device = plan.tree().len();
-    let ends = end_of(alloc, device)?;
+    let ends = end_of(alloc, plan.basis(), device)?;
     let lines = lines_of(alloc, moves, device)?;
     trace(alloc, &plan, &ends, &lines)
 }
@@ -287,7 +289,7 @@ fn phase(alloc: Global, plan: &Plan, end: &PhaseEnd) -> Result<String, Fail> {
 fn a_lone_load_has_its_texts(rt: HostRuntime) -> Result<(), Fail> {
     let alloc = rt.alloc();
     let plan = plan_of(alloc, &LONE)?;
-    let ends = end_of(alloc, 1)?;
+    let ends = end_of(alloc, plan.basis(), 1)?;
     assert_eq!(rt;
         report(alloc, &plan, &ends)?.as_str(),
         "phase 1 price 9 step 9 total 100 members 1\nmember load1 power 100 bid 1\nend phases 1 changes 1\n"

@@ -4,13 +4,15 @@ use Rattle.std.specs.Prelude.{All, filter, int_lt}
 use Rattle.std.specs.List.{range_with_len}
 use Rattle.std.proofs.lemmas.List.Elements.{All-map, All-filter}
 use Rattle.std.proofs.lemmas.List.FromFn.{get_or-range_with_len, length-range_with_len, length-map-range_with_len}
+use Rattle.pm_base.specs.declared.limits.Limits.{Limits}
 use Rattle.pm_bid.specs.Bids.{demand_at}
 use Rattle.pm_bid.specs.Clearing.{first_at_most, last_at_least}
+use Rattle.pm_bid.specs.Limited.{local_step}
 use Rattle.pm_plan.specs.declared.end.MemberLine.{MemberLine}
 use Rattle.pm_plan.specs.declared.end.LimitedLine.{LimitedLine}
-use Rattle.pm_plan.specs.Plans.{PlanData, node, phases, change_count, is_limited, is_member, end_cut, node_numbers}
+use Rattle.pm_plan.specs.Plans.{PlanData, node, limits_of, phases, change_count, is_limited, is_member, end_cut, node_numbers}
 use Rattle.pm_plan.specs.Kept.{IsPlan}
-use Rattle.pm_plan.specs.Auction.{sum_in, total, plain, local_step, group_step, member_line, limited_line, end_in}
+use Rattle.pm_plan.specs.Auction.{sum_in, total, plain, group_step, member_line, limited_line, end_in}
 use Rattle.pm_base.specs.Cuts.{Cut}
 use Rattle.pm_plan.specs.States.{state, end_of, all_ends}
 use Rattle.pm_plan.proofs.Ends.{end-within}
@@ -28,11 +30,11 @@ either : (b : Bool) (x y steps : ℕ) → x < steps → y < steps → cond b x y
 either true x y steps here there = here
 either false x y steps here there = there
 
-local_inside : (limits : Option (ℤ × ℤ)) (k steps : ℕ) (sum : List ℤ) → length sum ≡ steps → 1 ≤ steps → k < steps → local_step limits k sum < steps
+local_inside : (limits : Option Limits) (k steps : ℕ) (sum : List ℤ) → length sum ≡ steps → 1 ≤ steps → k < steps → local_step limits k sum < steps
 local_inside None k steps sum long some inside = inside
 local_inside (Some limits) k steps sum long some inside =
-    either (int_lt limits.1 (demand_at sum k)) (first_at_most limits.1 sum) _ steps (first_inside limits.1 sum steps long some)
-    (either (int_lt (demand_at sum k) limits.0) (last_at_least limits.0 sum) k steps (last_inside limits.0 sum steps long some) inside)
+    either (int_lt limits.ceiling (demand_at sum k)) (first_at_most limits.ceiling sum) _ steps (first_inside limits.ceiling sum steps long some)
+    (either (int_lt (demand_at sum k) limits.floor) (last_at_least limits.floor sum) k steps (last_inside limits.floor sum steps long some) inside)
 
 -- the numbers of nodes
 each_number : (n : ℕ) → All (λ x. x ≤ n) (range_with_len 1 n)
@@ -58,14 +60,14 @@ unfolding plain
 plain-inside plan cut is within =
     let fit = fits plan cut is within in
     let long = ap (λ (l : List ℤ). length l) (sym (total_to-all plan (state plan) cut)) ∙ total_to-steps plan (state plan) cut (length plan.nodes) fit in
-    first_inside (pos 0) (total plan (state plan) cut) plan.basis.steps long (let some = is.basis.at_least_two in omega arith)
+    first_inside (pos 0) (total plan (state plan) cut) plan.basis.steps long (let some = is.basis.steps.least in omega arith)
 
 limited-step : (plan : PlanData) (cut : Cut) (g : ℕ) → IsPlan plan → IsCutOf plan cut → (limited_line plan (state plan) cut g).step < plan.basis.steps
 unfolding limited_line group_step
 limited-step plan cut g is within =
     let fit = fits plan cut is within in
-    local_inside (node plan g).limits (plain plan (state plan) cut) plan.basis.steps (sum_in plan (state plan) cut g) (sum_fits plan (state plan) cut g fit)
-    (let some = is.basis.at_least_two in omega arith) (plain-inside plan cut is within)
+    local_inside (limits_of (node plan g)) (plain plan (state plan) cut) plan.basis.steps (sum_in plan (state plan) cut g) (sum_fits plan (state plan) cut g fit)
+    (let some = is.basis.steps.least in omega arith) (plain-inside plan cut is within)
 
 pub end-is : (plan : PlanData) (cut : Cut) → IsPlan plan → IsCutOf plan cut → IsEndOf plan (end_of plan cut)
 unfolding end_in

@@ -20,7 +20,7 @@ use Rattle.pm_walk.specs.declared.changes.Progress.{Progress}
 use Rattle.pm_walk.specs.Standing.{HasCome}
 use Rattle.pm_plan.proofs.Ends.{end-within}
 use Rattle.pm_plan.proofs.DeviceNodes.{HasKind, kind_of-tells}
-use Rattle.pm_plan.proofs.StateLaws.{state-next}
+use Rattle.pm_plan.proofs.StateLaws.{phase_up_to, state-next}
 use Rattle.pm_plan.proofs.Fits.{change-fits, state-fits, power-within}
 
 -- a change behind the end of the phases up to p is of a later phase
@@ -33,11 +33,6 @@ later plan d p n fits inside behind =
     let rises : (change_at plan d e).phase ≤ (change_at plan d n).phase = fits.rise d e n behind inside in
     let above : p < (change_at plan d e).phase = grind (arith, nat_tests) in
     omega arith
-
--- a change before it is of one of these phases
-earlier : (plan : PlanData) (d p n : ℕ) → n < end_cut plan p d → (change_at plan d n).phase ≤ p
-unfolding end_cut
-earlier plan d p n below = leb-true _ p (prefix_len_passes (is_up_to p) (changes_of (node plan d)) n no_change below)
 
 pub used-within : (plan : PlanData) (p d : ℕ) (used : ℤ) → IsPlan plan → used ≡ power plan (state plan) (end_cut plan p) d → IsWithin demand_limit used
 used-within plan p d used is used_is =
@@ -68,7 +63,7 @@ pub reached-more : (plan : PlanData) (d p : ℕ) (before after' : Progress) (kin
 reached-more plan d p before after' kind used what is leaf has first reached upto from used_is what_is count state' member =
     let n = before.count in
     let inside : n < change_count plan d = omega (arith, end-within plan p d) in
-    let phase = earlier plan d p n upto in
+    let phase = phase_up_to plan d p n upto in
     let behind = later plan d (p - 1) n is.in_phases inside from in
     let same : (change_at plan d n).phase - 1 ≡ p - 1 = omega arith in
     record {
