@@ -1,7 +1,7 @@
 #!/usr/bin/env python3
 """Runs each of the named programs on the cases, and compares what it writes and its exit status.
 
-A case is a list of words, a standard input, the text due and the status due. checks/README.md says how the files of
+A case is a list of arguments, a standard input, the text due and the status due. checks/README.md says how the files of
 checks/cases make one. Here stand the cases whose input is large, or that have no file at all.
 """
 
@@ -21,7 +21,7 @@ DONE, USAGE, READ_FAULT, TOO_LONG, REFUSED, WRITE_FAULT = 0, 2, 3, 4, 5, 6
 @dataclass
 class Case:
     name: str
-    words: list
+    arguments: list
     # Bytes, a file's path, a folder's path (each read of it fails, so the status tells whether one was tried), or
     # None: closed.
     stdin: object
@@ -48,7 +48,7 @@ def ended(program, case):
         elif case.sink == "full":
             opened.append(os.open("/dev/full", os.O_WRONLY))
             settings["stdout"] = opened[-1]
-        done = subprocess.run([program, *case.words], **settings)
+        done = subprocess.run([program, *case.arguments], **settings)
         return done.returncode, done.stdout or b""
     finally:
         for it in opened:
@@ -92,8 +92,8 @@ def stored_case(folder, name):
         stdin = TOP / (folder / f"{name}.input").read_text().strip()
     else:
         stdin = folder
-    words = text_of("args", b"run\n").decode().splitlines()
-    return Case(f"{folder.name}/{name}", words, stdin, text_of("stdout", b""), int(text_of("status", b"0")))
+    arguments = text_of("args", b"run\n").decode().splitlines()
+    return Case(f"{folder.name}/{name}", arguments, stdin, text_of("stdout", b""), int(text_of("status", b"0")))
 
 
 def file_of(name):
@@ -185,8 +185,8 @@ def faults():
         ("demo", ["demo", "1", "7"], CASES),
     ]
     for sink in ("full", "closed"):
-        for name, words, stdin in rows:
-            yield Case(f"{name}, standard output {sink}", words, stdin, None, WRITE_FAULT, sink)
+        for name, arguments, stdin in rows:
+            yield Case(f"{name}, standard output {sink}", arguments, stdin, None, WRITE_FAULT, sink)
 
 
 def cases(program):

@@ -12,35 +12,35 @@ use std::io::ErrorKind;
 use std::process::ExitCode;
 
 /// The exit code where the system refuses the arguments of the command line.
-const NO_WORDS: u8 = 8;
+const ARGUMENTS_REFUSED: u8 = 8;
 
 /// The arguments after the program's name, or the exit code where they cannot be had: an allocation failure,
 /// or an argument that the system does not give as text.
-fn words_of(rt: &HostRuntime) -> Result<Vec<String>, u8> {
-    let words = match env::args(rt) {
-        Ok(words) => words,
+fn arguments_of(rt: &HostRuntime) -> Result<Vec<String>, u8> {
+    let arguments = match env::args(rt) {
+        Ok(arguments) => arguments,
         Err(e) => {
             let code = if e.kind() == ErrorKind::OutOfMemory {
                 Status::NoMemory.code()
             } else {
-                NO_WORDS
+                ARGUMENTS_REFUSED
             };
             return Err(code);
         }
     };
     let alloc: Global = rt.alloc();
-    match words.skip(1).collect(alloc) {
-        Ok(words) => Ok(words),
+    match arguments.skip(1).collect(alloc) {
+        Ok(arguments) => Ok(arguments),
         Err(_) => Err(Status::NoMemory.code()),
     }
 }
 
 fn main(rt: HostRuntime) -> ExitCode {
-    match words_of(&rt) {
-        Ok(words) => {
+    match arguments_of(&rt) {
+        Ok(arguments) => {
             let mut source = StdSource::new(rt.stdin());
             let mut sink = StdSink::new(rt.stdout());
-            let status = market(rt.alloc(), &words, &mut source, &mut sink);
+            let status = market(rt.alloc(), &arguments, &mut source, &mut sink);
             ExitCode::from(status.code())
         }
         Err(code) => ExitCode::from(code),

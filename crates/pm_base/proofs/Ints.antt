@@ -1,5 +1,5 @@
 -- Comparisons of whole numbers, as the code makes them, and limits.
-use Rattle.std.proofs.Common.{◌≡◌, ℕ, ◌≤◌, ℤ, ◌≤ℤ◌, true, false, arith}
+use Rattle.std.proofs.Common.{◌≡◌, ℕ, ◌≤◌, ℤ, pos, ◌≤ℤ◌, true, false, arith}
 use Rattle.std.specs.Prelude.{int_lt, ◌<ℤ◌}
 use Rattle.std.proofs.lemmas.Int.{ints}
 use Rattle.pm_base.specs.Limits.{IsWithin}
@@ -14,6 +14,9 @@ is_not_below a b h = grind (arith, ints)
 pub not_below : (a b : ℤ) → b ≤ℤ a → int_lt a b ≡ false
 not_below a b h = grind (arith, ints)
 
--- a number within a limit is within a greater one
+-- no power is within each limit, and a number within a limit is within a greater one
+pub none-within : (limit : ℕ) → IsWithin limit (pos 0)
+none-within limit = record { low = omega (arith, ints); high = omega (arith, ints) }
+
 pub wider : (small big : ℕ) (number : ℤ) → small ≤ big → IsWithin small number → IsWithin big number
 wider small big number more within = omega (arith, ints)

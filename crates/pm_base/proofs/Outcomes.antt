@@ -1,4 +1,4 @@
--- Chains of steps that give a value or the first refusal.
+-- Chains of stages that give a value or the first refusal.
 use Rattle.std.proofs.Common.{◌≡◌, sym, ap, refl, subst, Result, Ok, Err, Option, Some, None}
 use Rattle.std.specs.Prelude.{IsErrAnd}
 use Rattle.pm_base.specs.Outcomes.{◌>>=◌, Refuses, Gives}
@@ -8,7 +8,7 @@ pub bind_again : {A B C E : Type 0} (r : Result A E) (f : A → Result B E) (g :
 bind_again (Ok x) f g = refl
 bind_again (Err e) f g = refl
 
--- steps that give the same are the same in a chain
+-- stages that give the same are the same in a chain
 pub bind_same : {A B E : Type 0} (r : Result A E) (f g : A → Result B E) → ((x : A) → f x ≡ g x) → (r >>= f) ≡ (r >>= g)
 bind_same (Ok x) f g h = h x
 bind_same (Err e) f g h = refl

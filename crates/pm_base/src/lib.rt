@@ -2,7 +2,7 @@
 //!
 //! The numbers are this project's own profile; that a part of the cluster may have its power bounded is peak shaving.
 //! `specs/` has the same limits as definitions (`Limits`), the cut that gives each device a number of its changes
-//! (`Cuts`), and steps that give a value or the first refusal (`Outcomes`). `proofs/` has the lemmas that several crates
+//! (`Cuts`), and stages that give a value or the first refusal (`Outcomes`). `proofs/` has the lemmas that several crates
 //! cite, by subject.
 #![tactic(auto)]
 

@@ -18,7 +18,7 @@ use std::sync::ledger::Ledger;
 /// ±256,000,000,000: a bid, or a sum of up to 256 bids.
 ///
 /// Contracts see it as the list. The last parameter of each call that touches elements is the
-/// counter of element steps, on which each touched element counts one.
+/// counter of touched elements.
 #[derive(Drop)]
 pub struct ArrayBid {
     demands: Vec<i64>,

@@ -1,7 +1,6 @@
 -- As many single bids as there may be nodes sum within the limit of a sum.
 use Rattle.std.proofs.Common.{◌≡◌, sym, subst, ℕ, ◌*◌, ◌<◌, ◌≤◌, ℤ, List, length, arith, All}
 use Rattle.std.proofs.Math.ListN.{set, length-set}
-use Rattle.std.proofs.lemmas.Int.{ints}
 use Rattle.pm_bid.specs.Bids.{AllWithinLimit, sum_of, HaveSteps}
 use Rattle.pm_base.specs.Limits.{most_nodes, demand_limit, sum_limit, IsWithin}
 use Rattle.pm_base.proofs.Ints.{wider}

@@ -15,7 +15,7 @@ use std::sync::ledger::Ledger;
 ///
 /// Contracts see it as its entries: for each child the head of its newest bid and the demand in
 /// watts at each step, all zeros where the child is gone. Children count from 0. The last
-/// parameter of each call that touches demands is the counter of element steps.
+/// parameter of each call that touches demands is the counter of touched elements.
 #[derive(Drop)]
 pub struct BidCache {
     heads: Vec<BidHead>,

@@ -2,7 +2,6 @@ ghost use Rattle.std.specs.Prelude.{◌≡◌, ◌<◌, ◌≤◌, length, IfOk}
 ghost use Rattle.std.specs.Option.{option_copied};
 ghost use Rattle.pm_bid.specs.Bids.{AllWithinLimit};
 ghost use Rattle.pm_base.specs.Limits.{demand_limit, sum_limit};
-ghost use Rattle.pm_cache.specs.Cache.{IsCache};
 ghost use Rattle.pm_cache.specs.Learning.{HasSingleBids, offered};
 
 use crate::{BidCache, CacheFault};

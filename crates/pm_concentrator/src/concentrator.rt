@@ -2,7 +2,7 @@ ghost use Rattle.std.specs.Prelude.{◌≡◌, ◌+◌, ◌-◌, ◌<◌, ◌≤
 ghost use Rattle.std.specs.Option.{option_copied};
 ghost use Rattle.pm_base.specs.Limits.{AreSteps, AreLimits, most_nodes, window_size};
 ghost use Rattle.pm_bid.specs.Limited.{within_limits};
-ghost use Rattle.pm_cache.specs.Cache.{aggregate_of, kept_number, answer_to, IsCache};
+ghost use Rattle.pm_cache.specs.Cache.{aggregate_of, kept_number, answer_to};
 ghost use Rattle.pm_cache.specs.Learning.{CanLearn, learnt};
 ghost use Rattle.pm_session.specs.Links.{BidOffered};
 ghost use Rattle.pm_session.specs.Prices.{PricesOffered, IsNewIndex};

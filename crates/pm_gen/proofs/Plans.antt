@@ -16,7 +16,7 @@ use Rattle.pm_plan.specs.declared.refusal.Refusal.{Refusal}
 use Rattle.pm_plan.specs.Parts.{NodePart, concentrator, limited, device, number, array, points, PhasePart, events, tick, is_device, AreNodesOf}
 use Rattle.pm_plan.specs.Devices.{is_member_after}
 use Rattle.pm_plan.specs.declared.node.Node.TheVariants.{Concentrator}
-use Rattle.pm_plan.specs.Plans.{PlanData, NodeData, node, node_at, changes_of, all_changes}
+use Rattle.pm_plan.specs.Plans.{PlanData, NodeData, node_at, changes_of, all_changes}
 use Rattle.pm_plan.specs.Plans as plans
 use Rattle.pm_base.specs.Limits.{most_phases, most_events, most_changes}
 use Rattle.pm_plan.specs.Building.{add_node, add_event, phase_of, add_phase, with_tick, with_phase, empty_plan, checked_plan}

@@ -1,6 +1,5 @@
-ghost use Rattle.std.specs.Prelude.{◌≡◌, ◌<◌, ◌≤◌, true, false, Ok, Err, IfOk, IfErr, IfSome, IsOk, OnOk, map};
+ghost use Rattle.std.specs.Prelude.{◌≡◌, ◌<◌, ◌≤◌, true, false, Ok, Err, IfOk, IfErr, IsOk, OnOk};
 ghost use Rattle.pm_plan.specs.Plans.{phases};
-ghost use Rattle.pm_gen.specs.Draws.{first_seed};
 ghost use Rattle.pm_gen.specs.Demo.{is_size, demo_basis, demo_plan_from, demo_plan};
 
 use crate::devices::make_nodes;

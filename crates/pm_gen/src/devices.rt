@@ -1,7 +1,7 @@
 ghost use Rattle.std.specs.Prelude.{◌≡◌, ◌<◌, ◌≤◌, ◌+◌, ◌*◌, ◌++◌, ◌≤ℤ◌, pos, neg_ℤ, IfOk, OnOk, map, replicate};
 ghost use Rattle.pm_plan.specs.Parts.{node_part, concentrator, device as device_part, number as number_part};
 ghost use Rattle.pm_gen.specs.Draws.{next};
-ghost use Rattle.pm_gen.specs.Nodes.{device_of, drawn_power, drawn_device, drawn_devices, demo_nodes, with_start, concentrator_count};
+ghost use Rattle.pm_gen.specs.Nodes.{device_of, drawn_power, drawn_device, drawn_devices, demo_nodes, with_start};
 
 use crate::draws::Draws;
 use crate::tree::count_concentrators;

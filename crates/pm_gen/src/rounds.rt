@@ -2,7 +2,7 @@ ghost use Rattle.std.specs.Prelude.{◌≡◌, ℕ, ◌<◌, ◌≤◌, ◌+◌,
 ghost use Rattle.std.specs.List.{range_with_len};
 ghost use Rattle.pm_plan.specs.Parts.{event_part, phase_part, join as join_part, leave as leave_part, events as events_part, tick as tick_part};
 ghost use Rattle.pm_gen.specs.Nodes.{device_name};
-ghost use Rattle.pm_gen.specs.Rounds.{picks, joined_flags, turns, round_len, round_picks, rounds, demo_phases, seed_after};
+ghost use Rattle.pm_gen.specs.Rounds.{joined_flags, turns, round_len, round_picks, rounds, demo_phases, seed_after};
 
 use crate::draws::Draws;
 use crate::names::device_name;

@@ -1,5 +1,4 @@
-ghost use Rattle.std.specs.Prelude.{◌≡◌, ◌<◌, ◌≤◌, ◌++◌, IfOk, IfErr, OnOk, map};
-ghost use Rattle.std.specs.List.{range_with_len};
+ghost use Rattle.std.specs.Prelude.{◌≡◌, ◌<◌, ◌≤◌, ◌++◌, IfOk, IfErr, OnOk};
 ghost use Rattle.pm_tree.specs.Entries.{entry_of, entries_of};
 ghost use Rattle.pm_gen.specs.Nodes.{concentrator_entry, device_entry, concentrator_entries, device_entries, demo_entries, concentrator_count};
 
@@ -29,10 +28,10 @@ fn concentrator(alloc: Global, number: u32) -> Result<TreeEntry, AllocError>
 
 /// The entry of a device, counted from 1, below one of so many concentrators.
 fn device(alloc: Global, concentrators: u32, number: u32) -> Result<TreeEntry, AllocError>
-    requires some { 0 < concentrator_count }
-    requires few { concentrator_count ≤ 10 }
+    requires some { 0 < concentrators }
+    requires few { concentrators ≤ 10 }
     requires first { 0 < number }
-    ensures { IfOk result (λ entry. entry_of entry ≡ device_entry concentrator_count number) }
+    ensures { IfOk result (λ entry. entry_of entry ≡ device_entry concentrators number) }
 {
     Ok(TreeEntry {
         name: device_name(alloc, number)?,
@@ -95,12 +94,12 @@ pub(crate) fn make_tree(alloc: Global, size: u32) -> Result<Tree, GenFault>
 {
     match Tree::new(alloc, entries(alloc, size)?) {
         Ok(tree) => Ok(tree),
-        Err(fault) => Err(want_of_memory(fault)),
+        Err(fault) => Err(allocation_failure(fault)),
     }
 }
 
 /// The only fault that the entries of a demo cluster can have: that an allocation failed.
-fn want_of_memory(fault: TreeFault) -> GenFault
+fn allocation_failure(fault: TreeFault) -> GenFault
     requires { fault ≡ TreeFault.NoMemory }
     ensures { result ≡ GenFault.NoMemory }
 {

@@ -1,5 +1,5 @@
 pub mod Tree
 pub mod Cuts
-pub mod Steps
+pub mod Loops
 pub mod Legality
 pub mod Tables

@@ -1,9 +1,9 @@
 -- The tree of lawful lists: who stands above whom.
-use Rattle.std.proofs.Common.{◌≡◌, ℕ, zero, suc, ◌+◌, ◌-◌, ◌<◌, ◌≤◌, ◌≢◌, Bool, true, false, cond, eqb, ◌&&◌, ◌||◌, ◌⊎◌, inl, inr, List, [], ◌∷◌, length, get_or, refl, sym, ◌∙◌, ap, subst, arith}
+use Rattle.std.proofs.Common.{◌≡◌, ℕ, zero, suc, ◌-◌, ◌<◌, ◌≤◌, Bool, true, false, cond, eqb, inl, inr, [], ◌∷◌, length, refl, sym, ◌∙◌, ap, subst, arith}
 use Rattle.std.proofs.Common.{Option, Some, ◌==◌}
 use Rattle.std.specs.Prelude.{unwrap_or}
 use Rattle.std.specs.List.{find}
-use Rattle.std.proofs.lemmas.Bool.{cases_eq, cases_Bool, eqb-true, eqb-false, eq-eqb, ne_eqb, or_cases, or_left, or_right, and_parts, and_from, cond-true, cond-false, both_ways}
+use Rattle.std.proofs.lemmas.Bool.{cases_eq, cases_Bool, eqb-true, eq-eqb, ne_eqb, or_cases, or_left, or_right, and_parts, and_from, cond-true, cond-false, both_ways}
 use Rattle.std.proofs.lemmas.List.{get_or_past}
 use Rattle.pm_market.specs.Lists.{Lists, nodes, parent, is_leaf, IsNode, IsLeaf, IsInner, IsLeafOf, is_below_in, is_below, is_leaf_of, way_up}
 use Rattle.pm_market.specs.Lists.{child_at_or_above, Lawful}
@@ -43,7 +43,7 @@ parent_smaller lists law d one =
       | inr e ↦ let far : nodes lists < d = Rattle.std.proofs.lemmas.Bool.leb-false d (nodes lists) e in omega (arith, parent_past lists d far)
     ]
 
--- the node k steps above d
+-- the node k levels above d
 pub up : Lists → ℕ → ℕ → ℕ
 up lists zero d = d
 up lists (suc k) d = up lists k (parent lists d)

@@ -56,12 +56,12 @@ IsInner lists x = is_leaf lists x ≡ false
 abbrev pub IsConcentrator : Lists → ℕ → Type 0
 IsConcentrator lists x = (1 ≤ x) × (x ≤ nodes lists) × (is_leaf lists x ≡ false)
 
--- whether x is d or stands at most so many steps above d
+-- whether x is d or stands at most so many levels above d
 unfoldable pub is_below_in : Lists → ℕ → ℕ → ℕ → Bool
 is_below_in lists zero x d = x == d
-is_below_in lists (suc steps) x d = (x == d) || is_below_in lists steps x (parent lists d)
+is_below_in lists (suc levels) x d = (x == d) || is_below_in lists levels x (parent lists d)
 
--- whether d is x or stands below x; since parents have smaller numbers, d steps reach every node above d
+-- whether d is x or stands below x; since parents have smaller numbers, d levels reach every node above d
 unfoldable pub is_below : Lists → ℕ → ℕ → Bool
 is_below lists x d = is_below_in lists d x d
 
@@ -82,11 +82,11 @@ way_up lists (suc count) d = d ∷ way_up lists count (parent lists d)
 unfoldable pub child_at_or_above : Lists → ℕ → ℕ → ℕ
 child_at_or_above lists y d = unwrap_or (find (λ x. parent lists x == y) (way_up lists d d)) 0
 
--- how many concentrators stand on the path of so many steps from x towards the auctioneer, x included
+-- how many concentrators stand on the path of so many nodes from x towards the auctioneer, x included
 unfoldable pub path_depth_in : Lists → ℕ → ℕ → ℕ
 path_depth_in lists zero x = 0
-path_depth_in lists (suc steps) x =
-    cond (x == 0) 0 (cond (is_leaf lists x) 0 1 + path_depth_in lists steps (parent lists x))
+path_depth_in lists (suc levels) x =
+    cond (x == 0) 0 (cond (is_leaf lists x) 0 1 + path_depth_in lists levels (parent lists x))
 
 -- how many concentrators stand on the path from x to the auctioneer, x included
 unfoldable pub path_depth : Lists → ℕ → ℕ

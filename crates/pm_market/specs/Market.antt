@@ -1,8 +1,8 @@
 -- The lists and the state that a market's tables stand for.
-use Rattle.std.specs.Prelude.{◌≡◌, ℕ, List, [], ◌∷◌, ◌++◌, map, slice_index_or}
+use Rattle.std.specs.Prelude.{◌≡◌, ℕ, [], ◌∷◌, ◌++◌, map, slice_index_or}
 use Rattle.pm_market.specs.Lists.{Lists}
 use Rattle.pm_market.specs.State.{State, updated, known}
-use Rattle.pm_base.specs.Cuts.{Cut, cut_of}
+use Rattle.pm_base.specs.Cuts.{cut_of}
 use Rattle.pm_market.specs.declared.market.Market.{Market}
 
 -- the four lists of a market

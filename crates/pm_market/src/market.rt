@@ -12,7 +12,7 @@ use std::alloc::Global;
 /// of `pm_laws`), and what a legal move changes. It keeps neither sums nor records nor a window.
 ///
 /// With `n` nodes, `is_legal` takes a few look-ups for a change, a learning or a pass to a device; a pass also seeks the
-/// index among those passed to the parent, from the newest on. A publishing takes a walk up the tree, 7 steps at most,
+/// index among those passed to the parent, from the newest on. A publishing takes a walk up the tree, 7 levels at most,
 /// for each node, and in a legal run at most 9 comparisons of two cuts, which are `n` numbers each; a clearing takes one
 /// such walk, a pass to a concentrator one comparison, and a closing all this once for each node. `apply` writes the `n`
 /// numbers of a cut for a publishing or a clearing, and one number otherwise.
@@ -192,7 +192,7 @@ impl Market {
         item_from_one(indices, indices.len(), 0)
     }
 
-    /// What a node knows of a device below it. It walks up the tree, seven steps at most.
+    /// What a node knows of a device below it. It walks up the tree, seven levels at most.
     fn known_number(&self, node: usize, device: usize) -> u32
         ensures { result ≡ known (market_lists self.now) (market_state self.now) node device }
     {

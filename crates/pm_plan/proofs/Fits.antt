@@ -1,10 +1,12 @@
 -- The state of each device fits its kind, and so its bid lies within the limits.
-use Rattle.std.proofs.Common.{◌≡◌, ◌∙◌, sym, ap, ℕ, zero, suc, ◌-◌, ◌<◌, ◌≤◌, ℤ, pos, ◌≤ℤ◌, ◌+ℤ◌, ◌-ℤ◌, ◌*ℤ◌, neg_ℤ, List, length, get_or, Bool, true, false, cond, refl, arith, subst, add-one, IsTrue, inl, inr}
+use Rattle.std.proofs.Common.{◌≡◌, ◌∙◌, sym, ap, ℕ, zero, suc, ◌-◌, ◌<◌, ◌≤◌, ℤ, pos, ◌≤ℤ◌, ◌+ℤ◌, ◌-ℤ◌, ◌*ℤ◌, neg_ℤ, List, length, get_or, refl, arith, subst, add-one, IsTrue, inl, inr}
 use Rattle.std.proofs.Math.ListN.{get_or-eq_default}
 use Rattle.std.proofs.lemmas.Bool.{cases_lt}
 use Rattle.std.proofs.lemmas.Int.{ints, clamps}
-use Rattle.pm_bid.proofs.Sums.{length-zeros, zeros-at}
-use Rattle.pm_bid.specs.Bids.{AllWithinLimit, NeverRises, demand_at, zeros}
+use Rattle.pm_base.proofs.Bools.{chosen}
+use Rattle.pm_base.proofs.Ints.{none-within}
+use Rattle.pm_bid.proofs.Sums.{length-zeros, zeros-within}
+use Rattle.pm_bid.specs.Bids.{AllWithinLimit, NeverRises, demand_at}
 use Rattle.pm_base.specs.Limits.{demand_limit, IsWithin}
 use Rattle.pm_device.specs.Kinds.{is_valid, state_fits, temperature_limit, is_temperature, is_between}
 use Rattle.pm_device.specs.Ticks.{tick, nearest_between, nearest_temperature, change_if, took, delivered, floor_div}
@@ -86,16 +88,6 @@ pub bid-falls : (plan : PlanData) (d n : ℕ) (planned : DeviceData) → IsPlan 
 bid-falls plan d n planned is here = bid_of-falls planned.kind (state plan d n) plan.arrays plan.basis.steps (is.within.devices d planned here).kind
     (λ _. is.arrays.fall)
 
-none-within : (limit : ℕ) → IsWithin limit (pos 0)
-none-within limit = record { low = omega (arith, ints); high = omega (arith, ints) }
-
-zeros-within : (limit steps : ℕ) → AllWithinLimit limit (zeros steps)
-zeros-within limit steps k inside = subst (IsWithin limit) (sym (zeros-at steps k)) (none-within limit)
-
-either : (P : List ℤ → Type 0) (b : Bool) (x y : List ℤ) → P x → P y → P (cond b x y)
-either P true x y here there = here
-either P false x y here there = there
-
 -- the bid of a node lies within the limit, where that of a device does
 node_bid-within : (plan : PlanData) (n : NodeData) (z : ℤ) →
     ((planned : DeviceData) → n ≡ Device planned → AllWithinLimit demand_limit (bid_of planned.kind z plan.arrays plan.basis.steps)) →
@@ -108,7 +100,7 @@ pub demand-within : (plan : PlanData) (cut : Cut) (d : ℕ) → IsPlan plan → 
     AllWithinLimit demand_limit (demand_in_cut plan (state plan) cut d)
 unfolding demand_in_cut
 demand-within plan cut d is within =
-    either (AllWithinLimit demand_limit) (is_member plan d (cut d)) _ _
+    chosen (AllWithinLimit demand_limit) (is_member plan d (cut d)) _ _
     (node_bid-within plan (node plan d) (state plan d (cut d)) (λ planned here. bid-within plan d (cut d) planned is here within))
     (zeros-within demand_limit plan.basis.steps)
 

@@ -1,9 +1,6 @@
 -- The limited concentrator above a node, found by going up from parent to parent.
 use Rattle.std.proofs.Common.{◌≡◌, ◌∙◌, sym, ap, ℕ, zero, suc, ◌<◌, ◌≤◌, Bool, true, false, cond, length, refl, arith, Some, None}
-use Rattle.std.specs.Prelude.{List}
-use Rattle.std.proofs.lemmas.List.{length-map}
 use Rattle.pm_tree.proofs.Named.{length-parents_of}
-use Rattle.pm_tree.specs.Entries.{Entry, parents_of, number_named}
 use Rattle.pm_plan.specs.Kept.{IsPlan}
 use Rattle.pm_plan.specs.Plans.{PlanData, parent, is_limited, group, group_in, unless_zero, group_above}
 
@@ -11,21 +8,21 @@ use Rattle.pm_plan.specs.Plans.{PlanData, parent, is_limited, group, group_in, u
 abbrev pub Earlier : PlanData → ℕ → Type 0
 Earlier plan many = (x : ℕ) → 1 ≤ x → x ≤ many → parent plan x < x
 
-pub group_in-zero : (plan : PlanData) (steps : ℕ) → group_in plan steps 0 ≡ 0
+pub group_in-zero : (plan : PlanData) (levels : ℕ) → group_in plan levels 0 ≡ 0
 unfolding group_in
 group_in-zero plan zero = refl
-group_in-zero plan (suc steps) = group_in-zero plan steps
+group_in-zero plan (suc levels) = group_in-zero plan levels
 
--- more steps than the node's number find the same
-same_within : (plan : PlanData) (many n steps x : ℕ) → Earlier plan many → x ≤ many → steps ≤ n → x ≤ steps → group_in plan steps x ≡ group_in plan x x
+-- more levels than the node's number find the same
+same_within : (plan : PlanData) (many n levels x : ℕ) → Earlier plan many → x ≤ many → levels ≤ n → x ≤ levels → group_in plan levels x ≡ group_in plan x x
 unfolding group_in
-same_within plan many n steps zero earlier within low high = group_in-zero plan steps
+same_within plan many n levels zero earlier within low high = group_in-zero plan levels
 same_within plan many n zero (suc x) earlier within low high = absurd (omega arith)
-same_within plan many zero (suc steps) (suc x) earlier within low high = absurd (omega arith)
-same_within plan many (suc n) (suc steps) (suc x) earlier within low high =
+same_within plan many zero (suc levels) (suc x) earlier within low high = absurd (omega arith)
+same_within plan many (suc n) (suc levels) (suc x) earlier within low high =
     let y = parent plan (suc x) in
     let below : y < suc x = earlier (suc x) (omega arith) within in
-    let long = same_within plan many n steps y earlier (omega arith) (omega arith) (omega arith) in
+    let long = same_within plan many n levels y earlier (omega arith) (omega arith) (omega arith) in
     let short = same_within plan many n x y earlier (omega arith) (omega arith) (omega arith) in
     ap (cond (is_limited plan y) y) (long ∙ sym short)
 

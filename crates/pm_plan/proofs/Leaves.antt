@@ -2,7 +2,6 @@
 use Rattle.std.proofs.Common.{◌≡◌, ◌∙◌, sym, ℕ, zero, suc, ◌≤◌, true, false, List, ◌∷◌, length, arith, inl, inr}
 use Rattle.std.proofs.Math.ListN.{get_or-eq_default}
 use Rattle.std.proofs.lemmas.Bool.{cases_lt}
-use Rattle.std.proofs.lemmas.List.{length-map}
 use Rattle.pm_tree.proofs.Named.{length-leaves_of}
 use Rattle.pm_tree.specs.Entries.{Entry, is_leaf_at, leaves_of}
 use Rattle.pm_plan.specs.Plans.{PlanData, is_leaf}

@@ -1,6 +1,6 @@
 -- The lists of the market of cuts that a plan stands for are lawful, and say the same of the plan.
 use Rattle.std.proofs.Common.{◌≡◌, ◌∙◌, sym, ap, ℕ, zero, suc, ◌+◌, ◌*◌, ◌<◌, ◌≤◌, Bool, true, false, List, [], length, map, take, get_or, cond, refl, arith, add-one}
-use Rattle.std.specs.Prelude.{◌==◌, ◌&&◌, not, nat_lt}
+use Rattle.std.specs.Prelude.{◌&&◌, not, nat_lt}
 use Rattle.std.specs.List.{count_by, sum_by}
 use Rattle.std.proofs.lemmas.Bool.Decides.{nat_tests}
 use Rattle.std.proofs.lemmas.List.{take_all}
@@ -9,7 +9,7 @@ use Rattle.std.proofs.lemmas.List.FromFn.{get_or-map-range_with_len, length-map-
 use Rattle.pm_base.proofs.Numbers.{suc_is_not_zero}
 use Rattle.pm_tree.specs.Shape.{parent_at, leaf_at, concentrator_at, path_within, path_at, depth_at}
 use Rattle.pm_tree.specs.Entries.{parents_of, leaves_of}
-use Rattle.pm_market.specs.Lists.{Lists, Lawful, nodes, parent, is_leaf, is_member, changes, IsNode, IsLeaf, path_depth_in, path_depth}
+use Rattle.pm_market.specs.Lists.{Lawful, nodes, parent, is_leaf, is_member, changes, IsNode, IsLeaf, path_depth_in, path_depth}
 use Rattle.pm_market.specs.Lists as market
 use Rattle.pm_market.specs.State.{sum_to}
 use Rattle.pm_market.specs.Bound as market_bound
@@ -46,6 +46,9 @@ is_member-is plan (suc d) (suc n) low high within =
     ap (λ l. get_or l n false) (get_or-map-range_with_len (members_of plan) 1 (length plan.nodes) d (suc d) [] (omega arith) (omega arith))
     ∙ get_or-map-range_with_len (plans.is_member plan (suc d)) 1 (change_count plan (suc d)) n (suc n) false (omega arith) (omega arith)
 
+pub phases-is : (plan : PlanData) → market.phases (plan_lists plan) ≡ phases plan
+phases-is plan = length-map-range_with_len _ 1 (phases plan)
+
 pub end-is : (plan : PlanData) (p d : ℕ) → 1 ≤ d → d ≤ length plan.nodes → p ≤ phases plan → InPhases plan → market.end_count (plan_lists plan) p d ≡ end_cut plan p d
 unfolding market.end_count
 end-is plan p zero low high within fits = absurd (omega arith)
@@ -73,7 +76,7 @@ last_at : (plan : PlanData) (d : ℕ) → IsPlan plan → IsLeaf (plan_lists pla
 last_at plan d is leaf =
     let low = leaf_first plan d is leaf in
     let high = leaf_last plan d is leaf in
-    ap (λ p. market.end_count (plan_lists plan) p d) (length-map-range_with_len _ 1 (phases plan))
+    ap (λ p. market.end_count (plan_lists plan) p d) (phases-is plan)
     ∙ end-is plan (phases plan) d low high (omega arith) is.in_phases ∙ end-last plan d is.in_phases ∙ sym (changes-is plan d low high)
 
 above_zero : (x : ℕ) → nat_lt 0 (suc x) ≡ true
@@ -84,22 +87,22 @@ counted_one true true n h = refl
 counted_one true false n h = refl
 counted_one false leaf n h = absurd (cc h)
 
-concentrators-is : (plan : PlanData) (steps x : ℕ) → path_depth_in (plan_lists plan) steps x ≡ count_by (concentrator_at (leaves_of plan.entries)) (path_within steps (parents_of plan.entries) x)
+path_depth_in-is : (plan : PlanData) (levels x : ℕ) → path_depth_in (plan_lists plan) levels x ≡ count_by (concentrator_at (leaves_of plan.entries)) (path_within levels (parents_of plan.entries) x)
 unfolding path_depth_in is_leaf parent
-concentrators-is plan zero x = refl
-concentrators-is plan (suc steps) zero = refl
-concentrators-is plan (suc steps) (suc x) =
+path_depth_in-is plan zero x = refl
+path_depth_in-is plan (suc levels) zero = refl
+path_depth_in-is plan (suc levels) (suc x) =
     let up = parent_at (parents_of plan.entries) (suc x) in
-    let rest = path_within steps (parents_of plan.entries) up in
+    let rest = path_within levels (parents_of plan.entries) up in
     let leaf = leaf_at (leaves_of plan.entries) (suc x) in
     rw (suc_is_not_zero x)
-    (ap (λ n. cond leaf 0 1 + n) (concentrators-is plan steps up)
+    (ap (λ n. cond leaf 0 1 + n) (path_depth_in-is plan levels up)
     ∙ counted_one (nat_lt 0 (suc x)) leaf (count_by (concentrator_at (leaves_of plan.entries)) rest) (above_zero x)
     ∙ sym (sum_by-cons (λ y. cond (concentrator_at (leaves_of plan.entries) y) 1 0) (suc x) rest))
 
 pub depth-is : (plan : PlanData) (x : ℕ) → path_depth (plan_lists plan) x ≡ depth_at (parents_of plan.entries) (leaves_of plan.entries) x
 unfolding path_depth depth_at path_at
-depth-is plan x = concentrators-is plan x x
+depth-is plan x = path_depth_in-is plan x x
 
 inner_at : (plan : PlanData) (x : ℕ) → IsPlan plan → IsNode (plan_lists plan) x → is_leaf (plan_lists plan) (parent (plan_lists plan) x) ≡ false
 unfolding is_leaf parent

@@ -82,32 +82,32 @@ node-ticked plan p minutes x = get_or-map_at (map_device (ticked p minutes)) (Co
 -- ---- groups
 
 -- the limited concentrators above a node are the same where the same nodes below it are limited
-pub group_in-same : (plan other : PlanData) (many bound steps x : ℕ) → other.entries ≡ plan.entries → Earlier plan many → ((y : ℕ) → y < bound → is_limited other y ≡ is_limited plan y) → x ≤ many → x ≤ bound → group_in other steps x ≡ group_in plan steps x
+pub group_in-same : (plan other : PlanData) (many bound levels x : ℕ) → other.entries ≡ plan.entries → Earlier plan many → ((y : ℕ) → y < bound → is_limited other y ≡ is_limited plan y) → x ≤ many → x ≤ bound → group_in other levels x ≡ group_in plan levels x
 unfolding group_in
 group_in-same plan other many bound zero x entries earlier same inside low = refl
-group_in-same plan other many bound (suc steps) zero entries earlier same inside low = group_in-zero other (suc steps) ∙ sym (group_in-zero plan (suc steps))
-group_in-same plan other many bound (suc steps) (suc x) entries earlier same inside low =
+group_in-same plan other many bound (suc levels) zero entries earlier same inside low = group_in-zero other (suc levels) ∙ sym (group_in-zero plan (suc levels))
+group_in-same plan other many bound (suc levels) (suc x) entries earlier same inside low =
     let y = parent plan (suc x) in
     let below : y < suc x = earlier (suc x) (omega arith) inside in
     let up : parent other (suc x) ≡ y = ap (λ l. parent_of l (suc x)) entries in
-    ap (λ z. cond (is_limited other z) z (group_in other steps z)) up
-    ∙ ap (λ (b : Bool). cond b y (group_in other steps y)) (same y (omega arith))
-    ∙ ap (cond (is_limited plan y) y) (group_in-same plan other many bound steps y entries earlier same (omega arith) (omega arith))
+    ap (λ z. cond (is_limited other z) z (group_in other levels z)) up
+    ∙ ap (λ (b : Bool). cond b y (group_in other levels y)) (same y (omega arith))
+    ∙ ap (cond (is_limited plan y) y) (group_in-same plan other many bound levels y entries earlier same (omega arith) (omega arith))
 
 pub group-same : (plan other : PlanData) (many bound x : ℕ) → other.entries ≡ plan.entries → Earlier plan many → ((y : ℕ) → y < bound → is_limited other y ≡ is_limited plan y) → x ≤ many → x ≤ bound → group other x ≡ group plan x
 unfolding group
 group-same plan other many bound x entries earlier same inside low = group_in-same plan other many bound x x entries earlier same inside low
 
 -- the same for all nodes
-group_in-same_all : (plan other : PlanData) (steps x : ℕ) → other.entries ≡ plan.entries → ((y : ℕ) → is_limited other y ≡ is_limited plan y) → group_in other steps x ≡ group_in plan steps x
+group_in-same_all : (plan other : PlanData) (levels x : ℕ) → other.entries ≡ plan.entries → ((y : ℕ) → is_limited other y ≡ is_limited plan y) → group_in other levels x ≡ group_in plan levels x
 unfolding group_in
 group_in-same_all plan other zero x entries same = refl
-group_in-same_all plan other (suc steps) x entries same =
+group_in-same_all plan other (suc levels) x entries same =
     let y = parent plan x in
     let up : parent other x ≡ y = ap (λ l. parent_of l x) entries in
-    ap (λ z. cond (is_limited other z) z (group_in other steps z)) up
-    ∙ ap (λ (b : Bool). cond b y (group_in other steps y)) (same y)
-    ∙ ap (cond (is_limited plan y) y) (group_in-same_all plan other steps y entries same)
+    ap (λ z. cond (is_limited other z) z (group_in other levels z)) up
+    ∙ ap (λ (b : Bool). cond b y (group_in other levels y)) (same y)
+    ∙ ap (cond (is_limited plan y) y) (group_in-same_all plan other levels y entries same)
 
 pub group-same_all : (plan other : PlanData) (x : ℕ) → other.entries ≡ plan.entries → ((y : ℕ) → is_limited other y ≡ is_limited plan y) → group other x ≡ group plan x
 unfolding group

@@ -15,7 +15,7 @@ use Rattle.pm_market.specs.Lists as market
 use Rattle.pm_market.specs.Bound as market_bound
 use Rattle.pm_plan.specs.Devices.{DeviceData}
 use Rattle.pm_plan.specs.declared.node.Node.TheVariants.{Device}
-use Rattle.pm_plan.specs.Plans.{PlanData, node, is_member, change_count, plan_bound}
+use Rattle.pm_plan.specs.Plans.{PlanData, node, parent, is_leaf, is_member, change_count, phases, end_cut, plan_bound}
 use Rattle.pm_plan.specs.Auction.{States, power}
 use Rattle.pm_base.specs.Cuts.{Cut}
 use Rattle.pm_plan.specs.States.{FollowChanges, state}
@@ -23,7 +23,7 @@ use Rattle.pm_plan.specs.Kept.{IsPlan, InPhases}
 use Rattle.pm_plan.specs.Market.{plan_lists}
 use Rattle.pm_plan.proofs.StateLaws.{state-follows, state-only}
 use Rattle.pm_plan.proofs.Fits.{state-fits, bid-steps, bid-within, bid-falls, power-within}
-use Rattle.pm_plan.proofs.MarketLists.{lawful, is_member-is, bound-is}
+use Rattle.pm_plan.proofs.MarketLists.{lawful, parent-is, is_leaf-is, changes-is, is_member-is, phases-is, end-is, bound-is}
 
 pub follows : (plan : PlanData) → InPhases plan → FollowChanges plan (state plan)
 follows plan fits = state-follows plan fits
@@ -54,8 +54,23 @@ powers plan cut d is inside = power-within plan cut d is inside
 pub lawful_lists : (plan : PlanData) → IsPlan plan → Lawful (plan_lists plan)
 lawful_lists plan is = lawful plan is
 
+pub parents : (plan : PlanData) (x : ℕ) → market.parent (plan_lists plan) x ≡ parent plan x
+parents plan x = parent-is plan x
+
+pub leaves : (plan : PlanData) (x : ℕ) → market.is_leaf (plan_lists plan) x ≡ is_leaf plan x
+leaves plan x = is_leaf-is plan x
+
 pub members : (plan : PlanData) (d n : ℕ) → 1 ≤ d → d ≤ length plan.nodes → n ≤ change_count plan d → market.is_member (plan_lists plan) d n ≡ is_member plan d n
 members plan d n low high inside = is_member-is plan d n low high inside
+
+pub changes : (plan : PlanData) (d : ℕ) → 1 ≤ d → d ≤ length plan.nodes → market.changes (plan_lists plan) d ≡ change_count plan d
+changes plan d low high = changes-is plan d low high
+
+pub phase_count : (plan : PlanData) → market.phases (plan_lists plan) ≡ phases plan
+phase_count plan = phases-is plan
+
+pub ends : (plan : PlanData) (p d : ℕ) → IsPlan plan → 1 ≤ d → d ≤ length plan.nodes → p ≤ phases plan → market.end_count (plan_lists plan) p d ≡ end_cut plan p d
+ends plan p d is low high inside = end-is plan p d low high inside is.in_phases
 
 pub bounds : (plan : PlanData) → IsPlan plan → market_bound.bound (plan_lists plan) ≡ plan_bound plan
 bounds plan is = bound-is plan is

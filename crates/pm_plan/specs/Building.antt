@@ -141,7 +141,7 @@ stranger_named place plan name = do
   check cause.JoinedAlready place (not (is_member_now plan d))
   Ok d
 
--- the plan with one more event of phase p
+-- the plan with one more event of phase p; a state is read by the kind of its device
 unfoldable pub event_of : Place → ℕ → PlanData → EventPart → Result PlanData Refusal
 event_of place p plan (join name) = do
   d ← stranger_named place plan name

@@ -1,5 +1,5 @@
 -- A plan: the basis, the tree, what is planned for each node, the arrays, and the minutes of the phases.
-use Rattle.std.specs.Prelude.{ℕ, zero, suc, ◌+◌, ◌-◌, ◌*◌, ◌==◌, nat_le, ℤ, Bool, true, false, cond, List, [], ◌∷◌, length, take, Option, Some, None, is_some, option_map, slice_get, slice_index_or}
+use Rattle.std.specs.Prelude.{ℕ, zero, suc, ◌-◌, ◌==◌, nat_le, ℤ, Bool, true, false, cond, List, [], ◌∷◌, length, take, Option, Some, None, is_some, option_map, slice_get, slice_index_or}
 use Rattle.std.specs.List.{sum_by, count_by, prefix_len, range_with_len}
 use Rattle.pm_base.specs.Limits.{move_bound}
 use Rattle.pm_base.specs.declared.limits.Limits.{Limits}
@@ -11,7 +11,6 @@ use Rattle.pm_plan.specs.declared.node.Node.{Node}
 use Rattle.pm_plan.specs.declared.node.Node.TheVariants.{Concentrator, Limited, Device}
 use Rattle.pm_plan.specs.declared.planned.Change.{Change}
 use Rattle.pm_plan.specs.declared.planned.Planned.{Planned}
-use Rattle.pm_plan.specs.declared.planned.Planned.TheVariants.{Join, Leave, Set, Tick}
 
 -- what is planned for a node: nothing for a concentrator, the limits of a limited one, and for a device its kind, its
 -- start and its changes
@@ -74,10 +73,10 @@ is_leaf plan x = is_leaf_at plan.entries x
 abbrev pub is_limited : PlanData → ℕ → Bool
 is_limited plan x = is_some (limits_of (node plan x))
 
--- the limited concentrator above a node, at most so many steps up; 0 where there is none
+-- the limited concentrator above a node, at most so many levels up; 0 where there is none
 unfoldable pub group_in : PlanData → ℕ → ℕ → ℕ
 group_in plan zero x = 0
-group_in plan (suc steps) x = cond (is_limited plan (parent plan x)) (parent plan x) (group_in plan steps (parent plan x))
+group_in plan (suc levels) x = cond (is_limited plan (parent plan x)) (parent plan x) (group_in plan levels (parent plan x))
 
 -- the limited concentrator above a node, 0 where there is none: the group that a device belongs to. Parents have
 -- smaller numbers, so a node has no more nodes above it than its number

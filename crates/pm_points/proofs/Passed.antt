@@ -3,7 +3,7 @@ use Rattle.std.proofs.Common.{◌≡◌, ◌≤◌, ℤ, pos, false, List, lengt
 use Rattle.std.proofs.lemmas.Int.{ints}
 use Rattle.std.proofs.lemmas.List.Sums.{fails_before_first}
 use Rattle.pm_basis.specs.Prices.{BasisValue, IsBasis}
-use Rattle.pm_base.specs.Limits.{demand_limit, IsWithin, price_limit}
+use Rattle.pm_base.specs.Limits.{IsWithin, price_limit}
 use Rattle.pm_bid.specs.Checks.{is_too_large}
 use Rattle.pm_points.specs.Points.{Point, IsPointBid, point_at, max_points, demand_of_point, price_of_point}
 use Rattle.pm_points.specs.Checks.{price_falls, demand_rises, first_price_fall, first_rise, first_outside, is_outside, first_large_demand}

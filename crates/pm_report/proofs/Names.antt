@@ -1,5 +1,5 @@
 -- The names of a tree are words, and they differ.
-use Rattle.std.proofs.Common.{◌≡◌, ◌∙◌, sym, ap, subst, refl, ℕ, zero, suc, ◌+◌, ◌<◌, ◌≤◌, Bool, true, false, cond, ◌&&◌, ◌||◌, not, nat_lt, List, [], ◌∷◌, ◌++◌, length, get_or, append_assoc, append-nil, length-append, arith, Option, Some, None, is_some, Ok, slice_get}
+use Rattle.std.proofs.Common.{◌≡◌, ◌∙◌, sym, ap, subst, refl, ℕ, zero, suc, ◌+◌, ◌<◌, ◌≤◌, Bool, true, false, cond, ◌&&◌, not, nat_lt, List, [], ◌∷◌, ◌++◌, length, get_or, append_assoc, append-nil, length-append, arith, Option, Some, None, is_some, Ok, slice_get}
 use Rattle.std.specs.Char.{is_ascii_alphabetic}
 use Rattle.std.specs.List.{list_all, list_any}
 use Rattle.std.specs.Option.{option_to_list}
@@ -142,13 +142,13 @@ accepted_all : (entries : List Entry) (refusal : Option TreeFault) → tree_unle
 accepted_all entries None is = refl
 accepted_all entries (Some fault) is = absurd cc
 
-few_entries : {A : Type 0} (many : Bool) (x : A) (o : Option A) → cond many (Some x) o ≡ None → o ≡ None
-few_entries true x o none = absurd cc
-few_entries false x o none = none
+none_of_rest : {A : Type 0} (many : Bool) (x : A) (o : Option A) → cond many (Some x) o ≡ None → o ≡ None
+none_of_rest true x o none = absurd cc
+none_of_rest false x o none = none
 
 none_refused : (entries : List Entry) → first_refusal entries ≡ None → slice_get (refusals_after [] entries) 0 ≡ None
 unfolding first_refusal
-none_refused entries none = few_entries (nat_lt most_nodes (length entries)) (TooMany (length entries)) (slice_get (refusals_after [] entries) 0) none
+none_refused entries none = none_of_rest (nat_lt most_nodes (length entries)) (TooMany (length entries)) (slice_get (refusals_after [] entries) 0) none
 
 -- the names of a tree
 tree_names : (entries : List Entry) → checked_tree entries ≡ Ok entries → AreNames (names_of entries)

@@ -1,4 +1,4 @@
-ghost use Rattle.std.specs.Prelude.{◌≡◌, map};
+ghost use Rattle.std.specs.Prelude.{map};
 ghost use Rattle.serde_json.specs.View.{view};
 ghost use Rattle.pm_plan.specs.Building.{checked_plan};
 ghost use Rattle.pm_plan.specs.Parts.{AreNodesOf, node_part, phase_part};

@@ -1,10 +1,11 @@
 -- Laws of the bids of the kinds: they have the basis's steps, never rise, and lie within the limit.
-use Rattle.std.proofs.Common.{◌≡◌, ◌≢◌, ℕ, ◌+◌, ◌-◌, ◌<◌, zero, suc, ℤ, pos, negsuc, ◌+ℤ◌, neg_ℤ, ◌≤ℤ◌, Bool, true, false, if◌then◌else◌, int_lt, int_le, nat_abs, IsTrue, List, [], ◌∷◌, length, get_or, arith, refl, subst, sym, ◌∙◌, inl, inr, ◌⊎◌}
+use Rattle.std.proofs.Common.{◌≡◌, ◌≢◌, ℕ, ◌+◌, ◌-◌, zero, suc, ℤ, pos, negsuc, ◌+ℤ◌, neg_ℤ, ◌≤ℤ◌, Bool, true, false, if◌then◌else◌, int_lt, int_le, nat_abs, IsTrue, List, [], ◌∷◌, length, get_or, arith, refl, subst, sym, ◌∙◌, inl, inr, ◌⊎◌}
 use Rattle.std.specs.Prelude.{All}
 use Rattle.std.proofs.lemmas.Int.{ints}
-use Rattle.std.proofs.lemmas.List.{get_or-replicate, length-replicate}
 use Rattle.std.proofs.lemmas.List.Elements.{All-head, All-tail}
-use Rattle.pm_bid.specs.Bids.{demand_at, AllWithinLimit, NeverRises, HaveSteps, zeros}
+use Rattle.pm_base.proofs.Ints.{none-within}
+use Rattle.pm_bid.proofs.Sums.{length-zeros, zeros-at, zeros-within}
+use Rattle.pm_bid.specs.Bids.{AllWithinLimit, NeverRises, HaveSteps, zeros}
 use Rattle.pm_base.specs.Limits.{demand_limit, IsWithin}
 use Rattle.pm_device.specs.declared.kind.Kind.{Kind}
 use Rattle.pm_device.specs.declared.kind.Kind.TheVariants.{Freezer, HeatPump, Cogeneration, Battery, Solar, Load, Objective, Manual}
@@ -21,9 +22,6 @@ within_either : (b : Bool) (x y : ℤ) → IsWithin demand_limit x → IsWithin 
 within_either true x y hx hy = hx
 within_either false x y hx hy = hy
 
-none_within : IsWithin demand_limit (pos 0)
-none_within = record { low = omega (arith, ints); high = omega (arith, ints) }
-
 within_power : (power : ℤ) → Between (pos 0) (pos power_limit) power → IsWithin demand_limit power
 within_power power rated = record { low = omega (arith, ints); high = omega (arith, ints) }
 
@@ -35,27 +33,27 @@ within_target target rated = record { low = omega (arith, ints); high = omega (a
 
 -- a demand that is one of three
 within_three : (a b c : Bool) (x y z : ℤ) → IsWithin demand_limit x → IsWithin demand_limit y → IsWithin demand_limit z → IsWithin demand_limit (if a then x else (if b then y else (if c then z else pos 0)))
-within_three a b c x y z hx hy hz = within_either a x _ hx (within_either b y _ hy (within_either c z (pos 0) hz none_within))
+within_three a b c x y z hx hy hz = within_either a x _ hx (within_either b y _ hy (within_either c z (pos 0) hz (none-within demand_limit)))
 
 -- each demand of a kind lies within the limit
 pub demand_of-within : (kind : Kind) (state : ℤ) (last step : ℕ) → IsTrue (is_valid kind) → IsTrue (state_fits kind state) → IsWithin demand_limit (strategy_demand kind state last step)
 unfolding strategy_demand
 demand_of-within (Freezer low high power warm cool) state last step valid fits =
     let rated = within_power power (is_power-tells power (is_thermal-tells low high power warm cool valid).rated) in
-    within_three _ _ _ _ _ _ rated none_within rated
+    within_three _ _ _ _ _ _ rated (none-within demand_limit) rated
 demand_of-within (HeatPump low high power loss gain) state last step valid fits =
     let rated = within_power power (is_power-tells power (is_thermal-tells low high power loss gain valid).rated) in
-    within_three _ _ _ _ _ _ rated none_within rated
+    within_three _ _ _ _ _ _ rated (none-within demand_limit) rated
 demand_of-within (Cogeneration low high power loss gain) state last step valid fits =
     let rated = within_delivery power (is_power-tells power (is_thermal-tells low high power loss gain valid).rated) in
-    within_three _ _ _ _ _ _ rated none_within rated
+    within_three _ _ _ _ _ _ rated (none-within demand_limit) rated
 demand_of-within (Battery capacity charge discharge spread) state last step valid fits =
     let parameters = is_battery-tells capacity charge discharge spread valid in
-    within_either _ _ _ (within_power charge parameters.charge_within) (within_either _ _ _ (within_delivery discharge parameters.discharge_within) none_within)
+    within_either _ _ _ (within_power charge parameters.charge_within) (within_either _ _ _ (within_delivery discharge parameters.discharge_within) (none-within demand_limit))
 demand_of-within Solar output last step valid fits = within_delivery output (is_power-tells output fits)
 demand_of-within Load power last step valid fits = within_power power (is_power-tells power fits)
 demand_of-within Objective target last step valid fits = within_target target (is_between-tells (neg_ℤ (pos power_limit)) (pos power_limit) target fits)
-demand_of-within Manual number last step valid fits = none_within
+demand_of-within Manual number last step valid fits = none-within demand_limit
 
 -- a choice whose parts do not rise
 falls_either : (b : Bool) (x y x' y' : ℤ) → x' ≤ℤ x → y' ≤ℤ y → (if b then x' else y') ≤ℤ (if b then x else y)
@@ -174,21 +172,15 @@ bid_of-holds P Manual (negsuc number) arrays steps all none here = none
 -- the bid of a kind has the steps of the basis
 pub length-bid_of : (kind : Kind) (state : ℤ) (arrays : List (List ℤ)) (steps : ℕ) → HaveSteps steps arrays → length (bid_of kind state arrays steps) ≡ steps
 length-bid_of kind state arrays steps all =
-    bid_of-holds (λ bid. length bid ≡ steps) kind state arrays steps (λ _. all) (length-replicate steps (pos 0)) (length-by_step steps _)
-
-zeros-at : (steps step : ℕ) → step < length (zeros steps) → demand_at (zeros steps) step ≡ pos 0
-zeros-at steps step inside = get_or-replicate steps step (pos 0) (pos 0) (omega (arith, length-replicate {A = ℤ} steps (pos 0)))
-
-zeros-within : (steps : ℕ) → AllWithinLimit demand_limit (zeros steps)
-zeros-within steps = λ step inside. let P : ℤ → Type 0 = λ z. IsWithin demand_limit z in subst P (sym (zeros-at steps step inside)) none_within
+    bid_of-holds (λ bid. length bid ≡ steps) kind state arrays steps (λ _. all) (length-zeros steps) (length-by_step steps _)
 
 zeros-falls : (steps : ℕ) → NeverRises (zeros steps)
-zeros-falls steps = λ step inside. rw (zeros-at steps (step + 1) inside, zeros-at steps step (omega arith)) (same_falls (pos 0))
+zeros-falls steps = λ step inside. rw (zeros-at steps (step + 1), zeros-at steps step) (same_falls (pos 0))
 
 -- the bid of a kind lies within the limit, for a manual device where its array does
 pub bid_of-within : (kind : Kind) (state : ℤ) (arrays : List (List ℤ)) (steps : ℕ) → IsTrue (is_valid kind) → IsTrue (state_fits kind state) → (kind ≡ Manual → All (AllWithinLimit demand_limit) arrays) → AllWithinLimit demand_limit (bid_of kind state arrays steps)
 bid_of-within kind state arrays steps valid fits all =
-    bid_of-holds (AllWithinLimit demand_limit) kind state arrays steps all (zeros-within steps)
+    bid_of-holds (AllWithinLimit demand_limit) kind state arrays steps all (zeros-within demand_limit steps)
     (by_step-within steps (strategy_demand kind state (steps - 1)) (λ step. demand_of-within kind state (steps - 1) step valid fits))
 
 -- the bid of a kind never rises, for a manual device where its array never does

@@ -1,4 +1,4 @@
-ghost use Rattle.std.specs.Prelude.{◌≡◌, ℕ, ◌≤◌, ◌<◌, length};
+ghost use Rattle.std.specs.Prelude.{◌≡◌, ℕ, ◌<◌, length};
 ghost use Rattle.pm_base.specs.Limits.{demand_limit, IsWithin, most_steps};
 ghost use Rattle.pm_strategy.specs.Steps.{by_step};
 

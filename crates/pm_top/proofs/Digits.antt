@@ -5,7 +5,7 @@ use Rattle.std.proofs.lemmas.Bool.Decides.{nat_tests}
 use Rattle.std.specs.List.{fold}
 use Rattle.std.proofs.lemmas.List.{take-append-drop}
 use Rattle.std.proofs.lemmas.List.Sums.{fold-append, fold_more}
-use Rattle.pm_top.specs.Words.{with_digit, value_of, value_up_to}
+use Rattle.pm_top.specs.Arguments.{with_digit, value_of, value_up_to}
 
 grows : (value : ℕ) (digits : List ℕ) → value ≤ fold with_digit value digits
 grows value [] = omega arith

@@ -2,8 +2,8 @@
 use Rattle.std.proofs.Common.{◌≡◌, ◌≢◌, ◌⊎◌, ℕ, ◌≤◌, List, length, Option, Some, refl, sym, subst, inl, inr}
 use Rattle.std.specs.Io.KnownBytes.{Consumes, IsAtEnd}
 use Rattle.pm_top.specs.Top.{input_limit, IsAnswer, is_refused, is_planned, IsDue, refused, report, summary, IsSummary}
-use Rattle.pm_top.specs.declared.words.Command.{Command}
-use Rattle.pm_top.specs.declared.words.Command.TheVariants.{Run, Demo}
+use Rattle.pm_top.specs.declared.arguments.Command.{Command}
+use Rattle.pm_top.specs.declared.arguments.Command.TheVariants.{Run, Demo}
 use Rattle.pm_top.specs.declared.status.Status.{Status}
 use Rattle.pm_top.specs.declared.status.Status.TheVariants.{Done, WriteFault, NoMemory}
 

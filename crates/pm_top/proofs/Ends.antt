@@ -1,5 +1,5 @@
 -- The lines of the phases' ends name nodes and steps of the plan.
-use Rattle.std.proofs.Common.{◌≡◌, ◌∙◌, sym, ap, ℕ, ◌<◌, ◌≤◌, ℤ, pos, Bool, true, false, List, length, get_or, cond, arith, Option, Some, None}
+use Rattle.std.proofs.Common.{◌≡◌, ◌∙◌, sym, ap, ℕ, ◌<◌, ◌≤◌, ℤ, pos, List, length, get_or, arith, Option, Some, None}
 use Rattle.std.specs.Prelude.{All, filter, int_lt}
 use Rattle.std.specs.List.{range_with_len}
 use Rattle.std.proofs.lemmas.List.Elements.{All-map, All-filter}
@@ -14,6 +14,7 @@ use Rattle.pm_plan.specs.Plans.{PlanData, node, limits_of, phases, change_count,
 use Rattle.pm_plan.specs.Kept.{IsPlan}
 use Rattle.pm_plan.specs.Auction.{sum_in, total, plain, group_step, member_line, limited_line, end_in}
 use Rattle.pm_base.specs.Cuts.{Cut}
+use Rattle.pm_base.proofs.Bools.{chosen}
 use Rattle.pm_plan.specs.States.{state, end_of, all_ends}
 use Rattle.pm_plan.proofs.Ends.{end-within}
 use Rattle.pm_walk.proofs.Sums.{fits, sum_fits}
@@ -26,15 +27,11 @@ first_inside limit bid steps long some = omega arith
 last_inside : (limit : ℤ) (bid : List ℤ) (steps : ℕ) → length bid ≡ steps → 1 ≤ steps → last_at_least limit bid < steps
 last_inside limit bid steps long some = omega arith
 
-either : (b : Bool) (x y steps : ℕ) → x < steps → y < steps → cond b x y < steps
-either true x y steps here there = here
-either false x y steps here there = there
-
 local_inside : (limits : Option Limits) (k steps : ℕ) (sum : List ℤ) → length sum ≡ steps → 1 ≤ steps → k < steps → local_step limits k sum < steps
 local_inside None k steps sum long some inside = inside
 local_inside (Some limits) k steps sum long some inside =
-    either (int_lt limits.ceiling (demand_at sum k)) (first_at_most limits.ceiling sum) _ steps (first_inside limits.ceiling sum steps long some)
-    (either (int_lt (demand_at sum k) limits.floor) (last_at_least limits.floor sum) k steps (last_inside limits.floor sum steps long some) inside)
+    chosen (λ (j : ℕ). j < steps) (int_lt limits.ceiling (demand_at sum k)) (first_at_most limits.ceiling sum) _ (first_inside limits.ceiling sum steps long some)
+    (chosen (λ (j : ℕ). j < steps) (int_lt (demand_at sum k) limits.floor) (last_at_least limits.floor sum) k (last_inside limits.floor sum steps long some) inside)
 
 -- the numbers of nodes
 each_number : (n : ℕ) → All (λ x. x ≤ n) (range_with_len 1 n)

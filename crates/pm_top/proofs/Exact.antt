@@ -8,7 +8,7 @@ use Rattle.pm_scene.specs.Scene.{scene}
 use Rattle.pm_report.specs.Words.{text_line}
 use Rattle.pm_report.specs.Refusal.{refusal_line, place_text, item_words}
 use Rattle.pm_top.specs.Top.{input_limit, status_for, WrotePrefix, IsDue, usage, too_long, refused, report, summary}
-use Rattle.pm_top.specs.declared.words.Command.TheVariants.{Run}
+use Rattle.pm_top.specs.declared.arguments.Command.TheVariants.{Run}
 use Rattle.pm_top.specs.declared.status.Status.{Status}
 use Rattle.pm_top.specs.declared.status.Status.TheVariants.{Refused, ReadFault, WriteFault, NoMemory}
 

@@ -1,3 +1,3 @@
-pub mod Words
+pub mod Arguments
 pub mod Codes
 pub mod Top

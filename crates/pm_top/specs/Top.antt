@@ -10,8 +10,8 @@ use Rattle.pm_gen.specs.Demo.{demo_plan}
 use Rattle.pm_report.specs.Report.{report_text}
 use Rattle.pm_report.specs.Summary.{summary_text}
 use Rattle.pm_report.specs.Refusal.{refusal_line}
-use Rattle.pm_top.specs.declared.words.Command.{Command}
-use Rattle.pm_top.specs.declared.words.Command.TheVariants.{Run, Demo}
+use Rattle.pm_top.specs.declared.arguments.Command.{Command}
+use Rattle.pm_top.specs.declared.arguments.Command.TheVariants.{Run, Demo}
 use Rattle.pm_top.specs.declared.status.Status.{Status}
 use Rattle.pm_top.specs.declared.status.Status.TheVariants.{Done, Usage, TooLong, Refused}
 

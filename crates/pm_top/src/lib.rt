@@ -6,10 +6,10 @@
 //! bytes are appended.
 #![tactic(auto)]
 
+mod arguments;
 mod status;
 mod texts;
 mod top;
-mod words;
 
 pub use status::Status;
 pub use top::market;

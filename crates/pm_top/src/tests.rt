@@ -24,14 +24,14 @@ fn ran(
     bad_read: u64,
     bad_write: u64,
 ) -> Result<(Status, String), Fail> {
-    let mut words = Vec::new(alloc);
-    for word in line.split_whitespace() {
-        words.push(String::from_str(alloc, word)?)?;
+    let mut arguments = Vec::new(alloc);
+    for argument in line.split_whitespace() {
+        arguments.push(String::from_str(alloc, argument)?)?;
     }
     let input = input.as_bytes().to_vec(alloc)?;
     let mut source = MemSource::new(input, 100, Vec::from_array(alloc, [bad_read])?);
     let mut sink = MemSink::new(alloc, 1_048_576, 50, Vec::from_array(alloc, [bad_write])?)?;
-    let status = market(alloc, &words, &mut source, &mut sink);
+    let status = market(alloc, &arguments, &mut source, &mut sink);
     let text = String::from_utf8(sink.bytes().to_vec(alloc)?)?;
     Ok((status, text))
 }

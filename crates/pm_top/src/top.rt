@@ -5,12 +5,12 @@ ghost use Rattle.pm_io.specs.Taken.{taken};
 ghost use Rattle.pm_plan.specs.declared.refusal.Refusal.{Refusal};
 ghost use Rattle.pm_report.specs.Refusal.{refusal_line};
 ghost use Rattle.pm_scene.specs.Scene.{scene};
-ghost use Rattle.pm_top.specs.Words.{command};
+ghost use Rattle.pm_top.specs.Arguments.{command};
 ghost use Rattle.pm_top.specs.Top.{status_of, input_limit, status_for, WrotePrefix, IsSummary, IsAnswer, IsDue};
 
+use crate::arguments::{Command, command_of};
 use crate::status::Status;
 use crate::texts::{demo_of, report_of};
-use crate::words::{Command, command_of};
 use pm_io::{ReadAllFault, Sink, Source, read_all, write_all};
 use pm_report::refusal_line;
 use pm_scene::{SceneFault, read_scene};
@@ -117,13 +117,13 @@ fn run<S: Source, K: Sink>(alloc: Global, source: &mut S, sink: &mut K) -> Statu
 /// is appended. The definition `IsDue` has for each status that writes a text the cause of the status and the text.
 pub fn market<S: Source, K: Sink>(
     alloc: Global,
-    words: &[String],
+    arguments: &[String],
     source: &mut S,
     sink: &mut K,
 ) -> Status
     // Done, Usage, TooLong and Refused come only where their causes stand, and their texts are appended, whole.
     ensures written { result ≢ Status.ReadFault → result ≢ Status.WriteFault → result ≢ Status.NoMemory → (text : List ℕ)
-        × IsDue (command (map string_bytes words.now)) (S.left source.old) (S.left source.new) result text
+        × IsDue (command (map string_bytes arguments.now)) (S.left source.old) (S.left source.new) result text
         × Appends (K.held sink.old) (K.held sink.new) text }
 
     // Of the others each leaves what it should, and the two faults come only where a count rose.
@@ -131,45 +131,45 @@ pub fn market<S: Source, K: Sink>(
         → Rose (S.faults source.old) (S.faults source.new) × (sink.new ≡ sink.old) }
     ensures write_fault { result ≡ Status.WriteFault → Rose (K.faults sink.old) (K.faults sink.new)
         × ((due : Status) × ((text : List ℕ)
-        × IsDue (command (map string_bytes words.now)) (S.left source.old) (S.left source.new) due text
+        × IsDue (command (map string_bytes arguments.now)) (S.left source.old) (S.left source.new) due text
         × WrotePrefix (K.held sink.old) (K.held sink.new) text)) }
     ensures no_memory { result ≡ Status.NoMemory → sink.new ≡ sink.old }
 
     // Nothing is read but for a file.
-    ensures reads_nothing { command (map string_bytes words.now) ≢ Some Command.Run → source.new ≡ source.old }
+    ensures reads_nothing { command (map string_bytes arguments.now) ≢ Some Command.Run → source.new ≡ source.old }
 
     // Where the cause of Usage, TooLong or Refused stands, and the source tells what it has, this is the answer, or a
     // fault or an allocation failure.
-    ensures only_usage { command (map string_bytes words.now) ≡ None
+    ensures only_usage { command (map string_bytes arguments.now) ≡ None
         → (result ≡ Status.Usage) ⊎ (result ≡ Status.WriteFault) }
     ensures took_more { input_limit < length (taken (S.left source.old) (S.left source.new))
         → (result ≡ Status.TooLong) ⊎ (result ≡ Status.WriteFault) ⊎ (result ≡ Status.NoMemory) }
-    ensures answer { command (map string_bytes words.now) ≡ Some Command.Run
+    ensures answer { command (map string_bytes arguments.now) ≡ Some Command.Run
         → IfSome (S.left source.old) (λ input. (result ≡ status_for input)
         ⊎ (result ≡ Status.ReadFault) ⊎ (result ≡ Status.WriteFault) ⊎ (result ≡ Status.NoMemory)) }
     ensures exact_refused { (input before : List ℕ) (r : Refusal)
-        → command (map string_bytes words.now) ≡ Some Command.Run
+        → command (map string_bytes arguments.now) ≡ Some Command.Run
         → length input ≤ input_limit → scene input ≡ Err r
         → S.left source.old ≡ Some input → S.left source.new ≡ Some []
         → K.held sink.old ≡ Some before → K.held sink.new ≡ Some (before ++ refusal_line r)
         → result ≡ Status.Refused }
 
     // With no fault of either the answer is what the arguments and the input say, or an allocation failed.
-    ensures complete_usage { command (map string_bytes words.now) ≡ None
+    ensures complete_usage { command (map string_bytes arguments.now) ≡ None
         → ¬ Rose (K.faults sink.old) (K.faults sink.new) → result ≡ Status.Usage }
-    ensures complete { command (map string_bytes words.now) ≡ Some Command.Run
+    ensures complete { command (map string_bytes arguments.now) ≡ Some Command.Run
         → IfSome (S.left source.old) (λ input.
         ¬ Rose (S.faults source.old) (S.faults source.new)
         → ¬ Rose (K.faults sink.old) (K.faults sink.new)
         → (result ≡ Status.NoMemory) ⊎ (result ≡ status_for input)) }
     ensures complete_demo { (size number : ℕ)
-        → command (map string_bytes words.now) ≡ Some (Command.Demo size number)
+        → command (map string_bytes arguments.now) ≡ Some (Command.Demo size number)
         → ¬ Rose (K.faults sink.old) (K.faults sink.new)
         → (result ≡ Status.NoMemory) ⊎ (result ≡ Status.Done) }
     ensures source_count { S.faults source.old ≤ S.faults source.new }
     ensures sink_count { K.faults sink.old ≤ K.faults sink.new }
 {
-    match command_of(words) {
+    match command_of(arguments) {
         Some(Command::Run) => run(alloc, source, sink),
         Some(Command::Demo { size, number }) => demo(alloc, size, number, sink),
         None => match write_all(sink, USAGE_LINE.as_bytes()) {

@@ -24,22 +24,22 @@ falls parents leaves tree node positive = falls_by parents leaves node tree posi
 zero_is_zero : (node : ℕ) → node ≤ 0 → (node == 0) ≡ true
 zero_is_zero node low = grind (arith, nat_tests)
 
-path_within-suc : (steps : ℕ) (parents : List ℕ) (node : ℕ) → path_within (suc steps) parents (suc node) ≡ suc node ∷ path_within steps parents (parent_at parents (suc node))
-path_within-suc steps parents node = ap (λ b. if b then 0 ∷ [] else suc node ∷ path_within steps parents (parent_at parents (suc node))) (suc_is_not_zero node)
+path_within-suc : (levels : ℕ) (parents : List ℕ) (node : ℕ) → path_within (suc levels) parents (suc node) ≡ suc node ∷ path_within levels parents (parent_at parents (suc node))
+path_within-suc levels parents node = ap (λ b. if b then 0 ∷ [] else suc node ∷ path_within levels parents (parent_at parents (suc node))) (suc_is_not_zero node)
 
-path_within-zero : (steps : ℕ) (parents : List ℕ) (node : ℕ) → node ≤ 0 → path_within steps parents node ≡ 0 ∷ []
+path_within-zero : (levels : ℕ) (parents : List ℕ) (node : ℕ) → node ≤ 0 → path_within levels parents node ≡ 0 ∷ []
 path_within-zero zero parents node low = refl
-path_within-zero (suc steps) parents node low = ap (λ b. if b then 0 ∷ [] else node ∷ path_within steps parents (parent_at parents node)) (zero_is_zero node low)
+path_within-zero (suc levels) parents node low = ap (λ b. if b then 0 ∷ [] else node ∷ path_within levels parents (parent_at parents node)) (zero_is_zero node low)
 
--- a path is the same with any number of steps that suffices
-pub path_within-steps : (parents : List ℕ) → Falls parents → (m n node : ℕ) → node ≤ m → node ≤ n → path_within m parents node ≡ path_within n parents node
-path_within-steps parents down zero n node low high = sym (path_within-zero n parents node low)
-path_within-steps parents down (suc m) zero node low high = path_within-zero (suc m) parents node high
-path_within-steps parents down (suc m) (suc n) zero low high = path_within-zero (suc m) parents 0 (omega arith) ∙ sym (path_within-zero (suc n) parents 0 (omega arith))
-path_within-steps parents down (suc m) (suc n) (suc node) low high =
+-- a path is the same with any number of levels that suffices
+pub path_within-levels : (parents : List ℕ) → Falls parents → (m n node : ℕ) → node ≤ m → node ≤ n → path_within m parents node ≡ path_within n parents node
+path_within-levels parents down zero n node low high = sym (path_within-zero n parents node low)
+path_within-levels parents down (suc m) zero node low high = path_within-zero (suc m) parents node high
+path_within-levels parents down (suc m) (suc n) zero low high = path_within-zero (suc m) parents 0 (omega arith) ∙ sym (path_within-zero (suc n) parents 0 (omega arith))
+path_within-levels parents down (suc m) (suc n) (suc node) low high =
     let less : parent_at parents (suc node) < suc node = down (suc node) (omega arith) in
     path_within-suc m parents node
-    ∙ ap (λ rest. suc node ∷ rest) (path_within-steps parents down m n (parent_at parents (suc node)) (omega arith) (omega arith))
+    ∙ ap (λ rest. suc node ∷ rest) (path_within-levels parents down m n (parent_at parents (suc node)) (omega arith) (omega arith))
     ∙ sym (path_within-suc n parents node)
 
 pub path_at-step : (parents : List ℕ) → Falls parents → (node : ℕ) → 0 < node → path_at parents node ≡ node ∷ path_at parents (parent_at parents node)
@@ -48,18 +48,18 @@ path_at-step parents down zero positive = absurd (omega arith)
 path_at-step parents down (suc node) positive =
     let less : parent_at parents (suc node) < suc node = down (suc node) positive in
     path_within-suc node parents node
-    ∙ ap (λ rest. suc node ∷ rest) (path_within-steps parents down node (parent_at parents (suc node)) (parent_at parents (suc node)) (omega arith) (omega arith))
+    ∙ ap (λ rest. suc node ∷ rest) (path_within-levels parents down node (parent_at parents (suc node)) (parent_at parents (suc node)) (omega arith) (omega arith))
 
 -- no node on a path is later than the path's first
-on_path_within-later : (parents : List ℕ) → Falls parents → (steps below node : ℕ) → below < node → list_any (λ step. step == node) (path_within steps parents below) ≡ false
+on_path_within-later : (parents : List ℕ) → Falls parents → (levels below node : ℕ) → below < node → list_any (λ x. x == node) (path_within levels parents below) ≡ false
 on_path_within-later parents down zero below node later = grind (arith, nat_tests)
-on_path_within-later parents down (suc steps) zero node later = grind (arith, nat_tests)
-on_path_within-later parents down (suc steps) (suc below) node later =
+on_path_within-later parents down (suc levels) zero node later = grind (arith, nat_tests)
+on_path_within-later parents down (suc levels) (suc below) node later =
     let less : parent_at parents (suc below) < suc below = down (suc below) (omega arith) in
     let differs : (suc below == node) ≡ false = grind (arith, nat_tests) in
-    ap (list_any (λ step. step == node)) (path_within-suc steps parents below)
-    ∙ ap (λ b. b || list_any (λ step. step == node) (path_within steps parents (parent_at parents (suc below)))) differs
-    ∙ on_path_within-later parents down steps (parent_at parents (suc below)) node (omega arith)
+    ap (list_any (λ x. x == node)) (path_within-suc levels parents below)
+    ∙ ap (λ b. b || list_any (λ x. x == node) (path_within levels parents (parent_at parents (suc below)))) differs
+    ∙ on_path_within-later parents down levels (parent_at parents (suc below)) node (omega arith)
 
 pub is_on_path-later : (parents : List ℕ) → Falls parents → (below node : ℕ) → below < node → is_on_path parents below node ≡ false
 unfolding is_on_path path_at
@@ -67,7 +67,7 @@ is_on_path-later parents down below node later = on_path_within-later parents do
 
 pub is_on_path-step : (parents : List ℕ) → Falls parents → (below node : ℕ) → 0 < below → is_on_path parents below node ≡ ((below == node) || is_on_path parents (parent_at parents below) node)
 unfolding is_on_path
-is_on_path-step parents down below node positive = ap (list_any (λ step. step == node)) (path_at-step parents down below positive)
+is_on_path-step parents down below node positive = ap (list_any (λ x. x == node)) (path_at-step parents down below positive)
 
 pub is_on_path-auctioneer : (parents : List ℕ) (node : ℕ) → is_on_path parents 0 node ≡ (0 == node)
 unfolding is_on_path path_at
@@ -116,18 +116,18 @@ leaf_at-append leaves more node inside = get_or_append_left (false ∷ leaves) m
 concentrator_at-append : (leaves more : List Bool) (node : ℕ) → node ≤ length leaves → concentrator_at (leaves ++ more) node ≡ concentrator_at leaves node
 concentrator_at-append leaves more node inside = ap (λ b. nat_lt 0 node && not b) (leaf_at-append leaves more node inside)
 
-depth_within-append : (parents more : List ℕ) (leaves marks : List Bool) → Falls parents → length leaves ≡ length parents → (steps node : ℕ) → node ≤ length parents → count_by (concentrator_at (leaves ++ marks)) (path_within steps (parents ++ more) node) ≡ count_by (concentrator_at leaves) (path_within steps parents node)
+depth_within-append : (parents more : List ℕ) (leaves marks : List Bool) → Falls parents → length leaves ≡ length parents → (levels node : ℕ) → node ≤ length parents → count_by (concentrator_at (leaves ++ marks)) (path_within levels (parents ++ more) node) ≡ count_by (concentrator_at leaves) (path_within levels parents node)
 depth_within-append parents more leaves marks down same zero node inside = refl
-depth_within-append parents more leaves marks down same (suc steps) zero inside = refl
-depth_within-append parents more leaves marks down same (suc steps) (suc node) inside =
+depth_within-append parents more leaves marks down same (suc levels) zero inside = refl
+depth_within-append parents more leaves marks down same (suc levels) (suc node) inside =
     let less : parent_at parents (suc node) < suc node = down (suc node) (omega arith) in
     let up : parent_at (parents ++ more) (suc node) ≡ parent_at parents (suc node) = parent_at-append parents more (suc node) inside in
-    ap (count_by (concentrator_at (leaves ++ marks))) (path_within-suc steps (parents ++ more) node ∙ ap (λ p. suc node ∷ path_within steps (parents ++ more) p) up)
-    ∙ count_by-cons (concentrator_at (leaves ++ marks)) (suc node) (path_within steps (parents ++ more) (parent_at parents (suc node)))
+    ap (count_by (concentrator_at (leaves ++ marks))) (path_within-suc levels (parents ++ more) node ∙ ap (λ p. suc node ∷ path_within levels (parents ++ more) p) up)
+    ∙ count_by-cons (concentrator_at (leaves ++ marks)) (suc node) (path_within levels (parents ++ more) (parent_at parents (suc node)))
     ∙ (let kind = concentrator_at-append leaves marks (suc node) (omega arith) in
-    let rest = depth_within-append parents more leaves marks down same steps (parent_at parents (suc node)) (omega arith) in
+    let rest = depth_within-append parents more leaves marks down same levels (parent_at parents (suc node)) (omega arith) in
     (λ i. cond (kind i) 1 0 + rest i))
-    ∙ sym (ap (count_by (concentrator_at leaves)) (path_within-suc steps parents node) ∙ count_by-cons (concentrator_at leaves) (suc node) (path_within steps parents (parent_at parents (suc node))))
+    ∙ sym (ap (count_by (concentrator_at leaves)) (path_within-suc levels parents node) ∙ count_by-cons (concentrator_at leaves) (suc node) (path_within levels parents (parent_at parents (suc node))))
 
 pub depth_at-append : (parents more : List ℕ) (leaves marks : List Bool) → Falls parents → length leaves ≡ length parents → (node : ℕ) → node ≤ length parents → depth_at (parents ++ more) (leaves ++ marks) node ≡ depth_at parents leaves node
 unfolding depth_at path_at

@@ -16,19 +16,19 @@ leaf_at leaves node = slice_index_or (false ∷ leaves) node false
 abbrev pub concentrator_at : List Bool → ℕ → Bool
 concentrator_at leaves node = nat_lt 0 node && not (leaf_at leaves node)
 
--- the nodes from a node up to the auctioneer, both included; at most so many steps up are looked at
+-- the nodes from a node up to the auctioneer, both included; at most so many levels up are looked at
 abbrev pub path_within : ℕ → List ℕ → ℕ → List ℕ
 path_within zero parents node = 0 ∷ []
-path_within (suc steps) parents node =
-    if node == 0 then 0 ∷ [] else node ∷ path_within steps parents (parent_at parents node)
+path_within (suc levels) parents node =
+    if node == 0 then 0 ∷ [] else node ∷ path_within levels parents (parent_at parents node)
 
--- the path of a node to the auctioneer: each parent is an earlier node, so it has no more steps than the node's number
+-- the path of a node to the auctioneer: each parent is an earlier node, so it has no more levels than the node's number
 unfoldable pub path_at : List ℕ → ℕ → List ℕ
 path_at parents node = path_within node parents node
 
 -- whether a node stands on another node's path to the auctioneer
 unfoldable pub is_on_path : List ℕ → ℕ → ℕ → Bool
-is_on_path parents below node = list_any (λ step. step == node) (path_at parents below)
+is_on_path parents below node = list_any (λ x. x == node) (path_at parents below)
 
 -- how many concentrators stand on a node's path to the auctioneer, the node included
 unfoldable pub depth_at : List ℕ → List Bool → ℕ → ℕ

@@ -4,7 +4,7 @@ use Rattle.std.specs.Prelude.{◌==◌, filter, is_some}
 use Rattle.std.specs.List.{range_with_len}
 use Rattle.std.proofs.lemmas.Bool.{cases_eq, eq-eqb, ne_eqb, cond-true, cond-false}
 use Rattle.std.proofs.lemmas.Int.{ints, clamps}
-use Rattle.std.proofs.lemmas.List.{get_or-map, length-map, map-append, append-nil}
+use Rattle.std.proofs.lemmas.List.{length-map, map-append, append-nil}
 use Rattle.std.proofs.lemmas.List.Elements.{All-cons, All-nil, filter-append}
 use Rattle.pm_bid.specs.Bids.{demand_at, added, sum_of, HaveSteps, AllWithinLimit, clamped, nearest}
 use Rattle.pm_base.specs.Limits.{demand_limit, sum_limit, IsWithin}

@@ -1,9 +1,8 @@
 -- The nodes of a plan: how many there are, which of them make changes, and the group of each.
 use Rattle.std.proofs.Common.{◌≡◌, ◌∙◌, sym, ap, ℕ, zero, suc, ◌<◌, ◌≤◌, Bool, true, false, cond, List, length, refl, arith}
 use Rattle.std.specs.Prelude.{Some, Option, option_map}
-use Rattle.std.proofs.lemmas.List.{length-map}
-use Rattle.pm_tree.specs.Entries.{parents_of}
 use Rattle.pm_tree.specs.declared.node.NodeId.{NodeId}
+use Rattle.pm_tree.proofs.Named.{length-parents_of}
 use Rattle.pm_plan.specs.declared.planned.Change.{Change}
 use Rattle.pm_plan.specs.Plans.{PlanData, NodeData, node, changes_of, parent, is_leaf, is_limited, group, group_in, unless_zero, group_above, change_count, end_cut}
 use Rattle.pm_plan.specs.Kept.{IsPlan}
@@ -28,26 +27,22 @@ pub end-zero : (plan : PlanData) (p : ℕ) → end_cut plan p 0 ≡ 0
 unfolding end_cut
 end-zero plan p = refl
 
-length-parents_of : (plan : PlanData) → length (parents_of plan.entries) ≡ length plan.entries
-unfolding parents_of
-length-parents_of plan = length-map plan.entries _
-
 pub parent_inside : (plan : PlanData) (x : ℕ) → IsPlan plan → x ≤ length plan.nodes → parent plan x ≤ length plan.nodes
 parent_inside plan zero is inside = omega arith
 parent_inside plan (suc x) is inside =
-    let long = length-parents_of plan in
+    let long = length-parents_of plan.entries in
     omega (arith, is.nodes.one_each, long, is.tree.earlier (suc x) (omega arith) (omega (arith, is.nodes.one_each, long)))
 
 cond_within : (b : Bool) (m n limit : ℕ) → m ≤ limit → n ≤ limit → cond b m n ≤ limit
 cond_within true m n limit h k = h
 cond_within false m n limit h k = k
 
-group_in_inside : (plan : PlanData) (steps x : ℕ) → IsPlan plan → x ≤ length plan.nodes → group_in plan steps x ≤ length plan.nodes
+group_in_inside : (plan : PlanData) (levels x : ℕ) → IsPlan plan → x ≤ length plan.nodes → group_in plan levels x ≤ length plan.nodes
 unfolding group_in
 group_in_inside plan zero x is inside = omega arith
-group_in_inside plan (suc steps) x is inside =
+group_in_inside plan (suc levels) x is inside =
     let up = parent_inside plan x is inside in
-    cond_within (is_limited plan (parent plan x)) (parent plan x) (group_in plan steps (parent plan x)) (length plan.nodes) up (group_in_inside plan steps (parent plan x) is up)
+    cond_within (is_limited plan (parent plan x)) (parent plan x) (group_in plan levels (parent plan x)) (length plan.nodes) up (group_in_inside plan levels (parent plan x) is up)
 
 pub group_inside : (plan : PlanData) (x : ℕ) → IsPlan plan → x ≤ length plan.nodes → group plan x ≤ length plan.nodes
 unfolding group

@@ -1,5 +1,5 @@
 -- A cut as a list of numbers, and where the devices stop on the way to it.
-use Rattle.std.specs.Prelude.{◌≡◌, ℕ, min, List, ◌∷◌, slice_index_or}
+use Rattle.std.specs.Prelude.{◌≡◌, ℕ, min, List, ◌∷◌}
 use Rattle.pm_plan.specs.Plans.{PlanData, end_cut}
 use Rattle.pm_base.specs.Cuts.{Cut, cut_of}
 use Rattle.pm_walk.specs.Standing.{HaveCome, cut_made}

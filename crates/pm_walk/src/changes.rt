@@ -1,8 +1,8 @@
-ghost use Rattle.std.specs.Prelude.{◌≡◌, ℕ, ◌+◌, ◌-◌, ◌<◌, ◌≤◌, IsTrue, true, length};
+ghost use Rattle.std.specs.Prelude.{◌≡◌, ◌+◌, ◌-◌, ◌<◌, ◌≤◌, IsTrue, true, length};
 ghost use Rattle.pm_base.specs.Limits.{demand_limit, IsWithin, most_changes};
 ghost use Rattle.pm_device.specs.Kinds.{is_valid, state_fits};
 ghost use Rattle.pm_plan.specs.Devices.{member_after};
-ghost use Rattle.pm_plan.specs.Plans.{is_leaf, phases, end_cut};
+ghost use Rattle.pm_plan.specs.Plans.{is_leaf, end_cut};
 ghost use Rattle.pm_plan.specs.Auction.{power};
 ghost use Rattle.pm_plan.specs.States.{state, changed_state};
 ghost use Rattle.pm_plan.specs.Kept.{change_fits};

@@ -1,6 +1,5 @@
-ghost use Rattle.std.specs.Prelude.{◌≡◌, ◌≤◌, length, IfOk, true};
-ghost use Rattle.pm_plan.specs.Plans.{is_member, is_leaf};
-ghost use Rattle.pm_plan.specs.Auction.{plain, member_line, limited_line};
+ghost use Rattle.std.specs.Prelude.{◌≡◌, ◌≤◌, length, IfOk};
+ghost use Rattle.pm_plan.specs.Auction.{member_line, limited_line};
 ghost use Rattle.pm_plan.specs.States.{state, end_of};
 ghost use Rattle.pm_walk.specs.Standing.{IsStanding, cut_made};
 ghost use Rattle.pm_walk.specs.Clearing.{IsClearing, AreGroupSteps, ArePowers};

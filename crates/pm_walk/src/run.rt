@@ -1,5 +1,5 @@
 ghost use Rattle.std.specs.Prelude.{◌≡◌, ℕ, ◌-◌, ◌≤◌, length, map, IfOk};
-ghost use Rattle.pm_plan.specs.Plans.{phases, change_count, end_cut};
+ghost use Rattle.pm_plan.specs.Plans.{phases, change_count};
 ghost use Rattle.pm_plan.specs.States.{end_of, all_ends};
 ghost use Rattle.pm_walk.specs.Cuts.{file_cut};
 ghost use Rattle.pm_walk.specs.Standing.{IsStanding, cut_made};

@@ -5,7 +5,7 @@ ghost use Rattle.pm_plan.specs.Plans.{is_leaf, phases, group, end_cut};
 ghost use Rattle.pm_plan.specs.Kept.{IsPlan};
 ghost use Rattle.pm_plan.specs.Auction.{sum_in, power, demand_in_cut};
 ghost use Rattle.pm_plan.specs.States.{state};
-ghost use Rattle.pm_walk.specs.Standing.{no_progress, progress_at, HasCome, HaveCome, IsStanding, cut_made, demand_come};
+ghost use Rattle.pm_walk.specs.Standing.{progress_at, HasCome, HaveCome, IsStanding, cut_made, demand_come};
 ghost use Rattle.pm_walk.specs.Clearing.{ArePowers};
 
 use crate::changes::{Progress, fill_demand, make_changes};

@@ -1,7 +1,7 @@
 ghost use Rattle.std.specs.Prelude.{◌≡◌, ◌-◌, ◌<◌, ◌≤◌, length, Some};
 ghost use Rattle.pm_bid.specs.Limited.{step_within};
 ghost use Rattle.pm_plan.specs.Plans.{node, limits_of};
-ghost use Rattle.pm_plan.specs.Auction.{announced, total, plain, group_step, power};
+ghost use Rattle.pm_plan.specs.Auction.{announced, total, group_step, power};
 ghost use Rattle.pm_plan.specs.States.{state};
 ghost use Rattle.pm_walk.specs.Standing.{IsStanding, cut_made};
 ghost use Rattle.pm_walk.specs.Clearing.{AreGroupSteps};

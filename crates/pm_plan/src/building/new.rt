@@ -5,7 +5,6 @@ ghost use Rattle.pm_tree.specs.Entries.{checked_tree, parents_of, leaves_of};
 ghost use Rattle.pm_tree.specs.Shape.{IsTree};
 ghost use Rattle.pm_plan.specs.Parts.{AreNodesOf, node_part, phase_part};
 ghost use Rattle.pm_plan.specs.Building.{checked_plan};
-ghost use Rattle.pm_plan.specs.Kept.{IsPlan};
 ghost use Rattle.pm_base.specs.Outcomes.{Gives};
 ghost use Rattle.pm_plan.specs.Refusals.{refusal_in};
 

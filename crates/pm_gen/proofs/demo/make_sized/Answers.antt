@@ -10,8 +10,8 @@ use Rattle.pm_gen.proofs.demo.make_sized.Goals as goal
 pub new-requires : goal.new-requires
 new-requires c = record { nodes = nodes_of_tree c.args.size c.args.first.seed c.in_ok-tree.tree (map node_part c.in_ok-nodes.nodes.items) c.in_ok-tree.ensures.tree c.in_ok-nodes.ensures.nodes }
 
-pub want_of_memory-requires : goal.want_of_memory-requires
-want_of_memory-requires c =
+pub allocation_failure-requires : goal.allocation_failure-requires
+allocation_failure-requires c =
     let nodes = map node_part c.in_ok-nodes.nodes.items in
     let phases = map phase_part c.in_ok-phases.phases.items in
     let same : checked_plan c.make_basis.result c.in_ok-tree.tree nodes phases ≡ demo_plan_from c.args.size c.args.first.seed =

@@ -3,7 +3,7 @@ use Rattle.std.proofs.lemmas.Bool.{cases_eq}
 use Rattle.std.proofs.lemmas.List.{get_or_default}
 use Rattle.pm_market.specs.Legality.{is_one_of}
 use Rattle.pm_market.proofs.Legality.{is_one_of_from, is_one_of_at}
-use Rattle.pm_market.proofs.Steps.{refused}
+use Rattle.pm_market.proofs.Loops.{refused}
 use Rattle.pm_market.proofs.rows.is_among.Goals as goal
 
 pub loop-back-init : goal.loop-back-init

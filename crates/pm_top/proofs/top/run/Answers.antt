@@ -1,7 +1,7 @@
-use Rattle.std.proofs.Common.{◌≡◌, refl, Some, subst, sym, List, ℕ, length, ◌≤◌, ap, ◌∙◌, arith}
+use Rattle.std.proofs.Common.{refl, Some, subst, sym, length, ◌≤◌, ap, arith}
 use Rattle.std.specs.Io.KnownBytes.{Appends, Consumes}
 use Rattle.pm_top.specs.Top.{too_long_line, WrotePrefix, IsTooLong, too_long, input_limit}
-use Rattle.pm_top.specs.declared.words.Command.TheVariants.{Run}
+use Rattle.pm_top.specs.declared.arguments.Command.TheVariants.{Run}
 use Rattle.pm_top.specs.declared.status.Status.TheVariants.{TooLong}
 use Rattle.pm_top.proofs.Due.{answer_is_due}
 use Rattle.pm_top.proofs.top.run.Goals as goal

@@ -1,4 +1,4 @@
-use Rattle.std.proofs.Common.{◌≡◌, ◌∙◌, sym, ap, refl, Bool, List, [], ◌∷◌, ◌++◌, map}
+use Rattle.std.proofs.Common.{◌≡◌, ◌∙◌, sym, ap, refl, List, [], ◌∷◌, ◌++◌, map}
 use Rattle.pm_tree.specs.declared.entry.TreeEntry.{TreeEntry}
 use Rattle.pm_tree.specs.Entries.{entries_of, leaves_of}
 use Rattle.pm_plan.specs.declared.parts.NodeSpec.{NodeSpec}

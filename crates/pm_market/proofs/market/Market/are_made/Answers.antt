@@ -3,7 +3,7 @@ use Rattle.pm_market.specs.Lists.{nodes, is_leaf, end_count}
 use Rattle.pm_market.specs.State.{all_to}
 use Rattle.pm_market.specs.Legality.{are_made}
 use Rattle.pm_market.specs.Market.{market_lists, market_state}
-use Rattle.pm_market.proofs.Steps.{all_to_more, all_to_false}
+use Rattle.pm_market.proofs.Loops.{all_to_more, all_to_false}
 use Rattle.pm_market.proofs.market.Market.are_made.Goals as goal
 
 pub loop-before-init : goal.loop-before-init

@@ -1,7 +1,7 @@
 use Rattle.std.proofs.Common.{◌≡◌, ◌+◌, ◌-◌, ℕ, sym, ◌∙◌, arith, ap}
 use Rattle.pm_market.specs.Market.{market_lists}
 use Rattle.pm_market.proofs.Tree.{toward, toward-none, toward_all}
-use Rattle.pm_market.proofs.Steps.{toward_zero, toward_here, toward_step}
+use Rattle.pm_market.proofs.Loops.{toward_zero, toward_here, toward_step}
 use Rattle.pm_market.proofs.market.Market.child_at_or_above.Goals as goal
 
 pub loop-step-init : goal.loop-step-init

@@ -1,7 +1,7 @@
 use Rattle.std.proofs.Common.{[], get_or, map, ap, ◌∙◌}
 use Rattle.pm_market.specs.State.{cut_at}
 use Rattle.pm_base.specs.Cuts.{cut_of}
-use Rattle.pm_market.proofs.Steps.{cut_at_row}
+use Rattle.pm_market.proofs.Loops.{cut_at_row}
 use Rattle.pm_market.proofs.market.Market.cut_row.Goals as goal
 
 pub returns : goal.returns

@@ -2,7 +2,7 @@ use Rattle.std.proofs.Common.{◌≡◌, ◌-◌, ◌+◌, ℕ, List, ap, sym, �
 use Rattle.pm_market.specs.State.{is_same_on, greatest_number}
 use Rattle.pm_base.specs.Cuts.{Cut, cut_of}
 use Rattle.pm_market.specs.Market.{market_lists, market_state}
-use Rattle.pm_market.proofs.Steps.{greatest_here, greatest_below}
+use Rattle.pm_market.proofs.Loops.{greatest_here, greatest_below}
 use Rattle.pm_market.proofs.market.Market.greatest_number.Goals as goal
 
 pub returns-then-is_same_on : goal.returns-then-is_same_on

@@ -1,7 +1,7 @@
 use Rattle.std.proofs.Common.{◌≡◌, ◌+◌, ◌-◌, ℕ, sym, ◌∙◌, arith, ap}
 use Rattle.pm_market.specs.Lists.{is_below_in, is_below}
 use Rattle.pm_market.specs.Market.{market_lists}
-use Rattle.pm_market.proofs.Steps.{below_zero, below_here, below_step}
+use Rattle.pm_market.proofs.Loops.{below_zero, below_here, below_step}
 use Rattle.pm_market.proofs.market.Market.is_below.Goals as goal
 
 pub loop-step-init : goal.loop-step-init

@@ -3,7 +3,7 @@ use Rattle.pm_market.specs.Lists.{nodes}
 use Rattle.pm_market.specs.State.{all_to, clearings}
 use Rattle.pm_market.specs.Legality.{clear_is_legal, is_idle_at, is_idle}
 use Rattle.pm_market.specs.Market.{market_lists, market_state}
-use Rattle.pm_market.proofs.Steps.{all_to_more, all_to_false}
+use Rattle.pm_market.proofs.Loops.{all_to_more, all_to_false}
 use Rattle.pm_market.proofs.market.Market.is_idle.Goals as goal
 
 pub loop-before-init : goal.loop-before-init

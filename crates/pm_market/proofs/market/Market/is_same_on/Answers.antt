@@ -3,7 +3,7 @@ use Rattle.pm_market.specs.Lists.{nodes, is_leaf_of}
 use Rattle.pm_market.specs.State.{all_to, is_same_on}
 use Rattle.pm_market.specs.Market.{market_lists}
 use Rattle.pm_base.specs.Cuts.{cut_of}
-use Rattle.pm_market.proofs.Steps.{all_to_more, all_to_false}
+use Rattle.pm_market.proofs.Loops.{all_to_more, all_to_false}
 use Rattle.pm_market.proofs.market.Market.is_same_on.Goals as goal
 
 pub loop-before-init : goal.loop-before-init

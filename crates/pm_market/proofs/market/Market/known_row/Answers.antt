@@ -6,7 +6,7 @@ use Rattle.pm_market.specs.Market.{market_lists, market_state}
 use Rattle.pm_base.specs.Cuts.{cut_of}
 use Rattle.pm_market.specs.Lists.{nodes}
 use Rattle.pm_market.proofs.Tree.{parent_past, leaf_past}
-use Rattle.pm_market.proofs.Steps.{known_past}
+use Rattle.pm_market.proofs.Loops.{known_past}
 use Rattle.pm_market.proofs.market.Market.known_row.Goals as goal
 
 pub returns : goal.returns

@@ -2,7 +2,7 @@ use Rattle.std.proofs.Common.{◌≡◌, ◌+◌, ℕ, Bool, true, cond, eqb, re
 use Rattle.pm_market.specs.Lists.{nodes, is_leaf_of}
 use Rattle.pm_market.specs.State.{all_to, is_same_on, known, cut_at}
 use Rattle.pm_market.specs.Market.{market_lists, market_state}
-use Rattle.pm_market.proofs.Steps.{all_to_more, all_to_false}
+use Rattle.pm_market.proofs.Loops.{all_to_more, all_to_false}
 use Rattle.pm_market.proofs.market.Market.knows_same.Goals as goal
 
 pub loop-before-init : goal.loop-before-init

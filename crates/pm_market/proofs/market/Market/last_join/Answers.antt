@@ -1,7 +1,7 @@
 use Rattle.std.proofs.Common.{◌≡◌, ◌-◌, ◌+◌, ℕ, ap, sym, ◌∙◌, arith}
 use Rattle.pm_market.specs.Held.{last_join}
 use Rattle.pm_market.specs.Market.{market_lists}
-use Rattle.pm_market.proofs.Steps.{join_here, join_below}
+use Rattle.pm_market.proofs.Loops.{join_here, join_below}
 use Rattle.pm_market.proofs.market.Market.last_join.Goals as goal
 
 pub loop-back-init : goal.loop-back-init

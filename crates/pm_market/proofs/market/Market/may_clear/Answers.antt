@@ -4,7 +4,7 @@ use Rattle.pm_market.specs.State.{clearings}
 use Rattle.pm_market.specs.Legality.{clear_is_legal}
 use Rattle.pm_market.specs.Market.{market_lists, market_state}
 use Rattle.pm_market.proofs.Legality.{clear_from, clear_at}
-use Rattle.pm_market.proofs.Steps.{same_tests}
+use Rattle.pm_market.proofs.Loops.{same_tests}
 use Rattle.pm_market.proofs.market.Market.may_clear.Goals as goal
 
 pub returns : goal.returns

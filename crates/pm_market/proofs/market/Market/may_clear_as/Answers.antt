@@ -2,7 +2,7 @@ use Rattle.std.proofs.Common.{arith}
 use Rattle.pm_market.specs.Legality.{clear_is_legal}
 use Rattle.pm_market.specs.Market.{market_lists, market_state}
 use Rattle.pm_market.proofs.Legality.{clear_from}
-use Rattle.pm_market.proofs.Steps.{refused}
+use Rattle.pm_market.proofs.Loops.{refused}
 use Rattle.pm_market.proofs.market.Market.may_clear_as.Goals as goal
 use Rattle.pm_market.proofs.market.Market.may_clear_as.Goals.{then-index-eq0-via-then-index-eq0, then-index-eq0-via-else-index-eq0+then-index-published_by}
 

@@ -3,7 +3,7 @@ use Rattle.std.proofs.lemmas.Bool.{both_ways}
 use Rattle.pm_market.specs.Legality.{pass_is_legal}
 use Rattle.pm_market.specs.Market.{market_lists, market_state}
 use Rattle.pm_market.proofs.Legality.{pass_from, pass_at, is_node_from, is_node_at, reached_from, reached_at}
-use Rattle.pm_market.proofs.Steps.{refused, same_tests}
+use Rattle.pm_market.proofs.Loops.{refused, same_tests}
 use Rattle.pm_market.proofs.market.Market.may_pass.Goals as goal
 use Rattle.pm_market.specs.Lists.{parent}
 use Rattle.pm_market.specs.Legality.{has_reached}

@@ -5,7 +5,7 @@ use Rattle.pm_market.specs.Legality.{pass_is_legal}
 use Rattle.pm_market.specs.Market.{market_lists, market_state}
 use Rattle.pm_market.proofs.Cuts.{all_to_from}
 use Rattle.pm_market.proofs.Legality.{pass_from}
-use Rattle.pm_market.proofs.Steps.{all_to_false}
+use Rattle.pm_market.proofs.Loops.{all_to_false}
 use Rattle.pm_market.proofs.market.Market.may_pass_none.Goals as goal
 
 pub loop-before-init : goal.loop-before-init

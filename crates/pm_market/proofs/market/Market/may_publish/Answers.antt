@@ -6,7 +6,7 @@ use Rattle.pm_base.specs.Cuts.{Cut}
 use Rattle.pm_market.specs.Legality.{publish_is_legal}
 use Rattle.pm_market.specs.Market.{market_lists, market_state}
 use Rattle.pm_market.proofs.Legality.{publish_from, publish_at, is_node_from, is_node_at}
-use Rattle.pm_market.proofs.Steps.{refused, same_tests, newest_part}
+use Rattle.pm_market.proofs.Loops.{refused, same_tests, newest_part}
 use Rattle.pm_market.proofs.market.Market.may_publish.Goals as goal
 use Rattle.pm_market.proofs.market.Market.may_publish.Goals.{then-not-is_node-via-then-not-is_node, then-not-is_node-via-else-not-is_node+then-is_leaf, then-not-is_node-via-else-not-is_node+else-is_leaf+then-knows_same}
 

@@ -2,7 +2,7 @@ use Rattle.std.proofs.Common.{arith}
 use Rattle.pm_market.specs.Legality.{publish_is_legal}
 use Rattle.pm_market.specs.Market.{market_lists, market_state}
 use Rattle.pm_market.proofs.Legality.{publish_from}
-use Rattle.pm_market.proofs.Steps.{refused}
+use Rattle.pm_market.proofs.Loops.{refused}
 use Rattle.pm_market.proofs.market.Market.may_publish_as.Goals as goal
 use Rattle.pm_market.proofs.market.Market.may_publish_as.Goals.{then-number-eq0-via-then-number-eq0, then-number-eq0-via-else-number-eq0+then-number-newest}
 

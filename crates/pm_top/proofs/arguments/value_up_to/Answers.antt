@@ -1,6 +1,6 @@
 use Rattle.std.proofs.Common.{sym, ◌+◌, arith}
 use Rattle.pm_top.proofs.Digits.{front_is_least, one_digit_more, too_great}
-use Rattle.pm_top.proofs.words.value_up_to.Goals as goal
+use Rattle.pm_top.proofs.arguments.value_up_to.Goals as goal
 
 pub returns-then-value-from : goal.returns-then-value-from
 returns-then-value-from c =

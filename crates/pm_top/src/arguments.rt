@@ -1,7 +1,7 @@
-ghost use Rattle.std.specs.Prelude.{◌≡◌, ◌<◌, ◌≤◌, ◌^◌, map, string_bytes, IfSome};
+ghost use Rattle.std.specs.Prelude.{◌≡◌, ◌<◌, map, string_bytes};
 ghost use Rattle.std.specs.List.{list_all};
 ghost use Rattle.std.specs.Char.{is_ascii_digit};
-ghost use Rattle.pm_top.specs.Words.{command, demo_of, is_number, number_within, value_up_to};
+ghost use Rattle.pm_top.specs.Arguments.{command, demo_of, is_number, number_within, value_up_to};
 
 /// What the program is asked to do.
 #[derive(Clone, Copy, Debug, PartialEq, Eq)]
@@ -13,12 +13,15 @@ pub(crate) enum Command {
 }
 
 /// The command that the arguments are, where they are one.
-pub(crate) fn command_of(words: &[String]) -> Option<Command>
-    ensures { result ≡ command (map string_bytes words.now) }
+pub(crate) fn command_of(arguments: &[String]) -> Option<Command>
+    ensures { result ≡ command (map string_bytes arguments.now) }
 {
-    match words {
-        [word] if word.as_str() == "run" => Some(Command::Run),
-        [word, size, number] if word.as_str() == "demo" => demo_of(size.as_str(), number.as_str()),
+    match arguments {
+        [argument] if argument.as_str() == "run" => Some(Command::Run),
+        [argument, size, number] if argument.as_str() == "demo" => demo_of(
+            size.as_str(),
+            number.as_str(),
+        ),
         _ => None,
     }
 }
@@ -32,22 +35,22 @@ fn demo_of(size: &str, number: &str) -> Option<Command>
     Some(Command::Demo { size, number })
 }
 
-/// The number that a word writes, where it is one within these limits.
-fn number_within(low: u32, high: u32, word: &[u8]) -> Option<u32>
-    ensures { result ≡ number_within low high word.now }
+/// The number that an argument writes, where it is one within these limits.
+fn number_within(low: u32, high: u32, argument: &[u8]) -> Option<u32>
+    ensures { result ≡ number_within low high argument.now }
 {
-    if !is_number(word) {
+    if !is_number(argument) {
         return None;
     }
-    let value = value_up_to(high, word)?;
+    let value = value_up_to(high, argument)?;
     if value < low { None } else { Some(value) }
 }
 
 /// Whether these bytes are ASCII digits without a leading zero; 0 itself is one digit.
-fn is_number(word: &[u8]) -> bool
-    ensures { result ≡ is_number word.now }
+fn is_number(argument: &[u8]) -> bool
+    ensures { result ≡ is_number argument.now }
 {
-    match word {
+    match argument {
         [] => false,
         [digit] => digit.is_ascii_digit(),
         [first, more @ ..] => first.is_ascii_digit() && *first != b'0' && are_digits(more),

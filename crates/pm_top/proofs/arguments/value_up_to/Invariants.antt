@@ -1,6 +1,6 @@
 use Rattle.std.proofs.Common.{◌≡◌, ◌≤◌, take}
-use Rattle.pm_top.specs.Words.{value_of}
-use Rattle.pm_top.proofs.words.value_up_to.Given as goal
+use Rattle.pm_top.specs.Arguments.{value_of}
+use Rattle.pm_top.proofs.arguments.value_up_to.Given as goal
 
 abbrev pub invariant-loop-digit : goal.invariant-loop-digit
 invariant-loop-digit l = record {

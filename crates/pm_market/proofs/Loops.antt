@@ -1,4 +1,4 @@
--- Steps of the loops over a market's tables.
+-- Turns of the loops over a market's tables.
 use Rattle.std.proofs.Common.{◌≡◌, ℕ, zero, suc, ◌+◌, ◌-◌, ◌≤◌, Bool, true, false, eqb, not, ◌&&◌, ◌||◌, ◌⊎◌, inl, inr, List, [], ◌∷◌, map, length, get_or, refl, sym, ◌∙◌, ap, arith}
 use Rattle.std.proofs.lemmas.Bool.{cases_eq, cases_Bool, cond-true, cond-false, and_from, both_ways, false_from_ne_true, eq-eqb, ne_eqb}
 use Rattle.std.proofs.Math.ListN.{get_or-map}
@@ -20,21 +20,21 @@ pub all_to_false : (n d : ℕ) (p : ℕ → Bool) → 1 ≤ d → d ≤ n → p 
 all_to_false n d p one le h = false_from_ne_true (all_to n p) (λ e. both_ways (p d) h (all_to_at n p e d one le))
 
 -- nothing stands above the auctioneer
-pub below_zero : (lists : Lists) (steps x : ℕ) → (x ≡ 0 → ⊥) → is_below_in lists steps x 0 ≡ false
+pub below_zero : (lists : Lists) (levels x : ℕ) → (x ≡ 0 → ⊥) → is_below_in lists levels x 0 ≡ false
 unfolding is_below_in
 below_zero lists zero x ne = ne_eqb x 0 ne
-below_zero lists (suc steps) x ne = ap (λ (b : Bool). b || is_below_in lists steps x (parent lists 0)) (ne_eqb x 0 ne) ∙ ap (is_below_in lists steps x) (parent_zero lists) ∙ below_zero lists steps x ne
+below_zero lists (suc levels) x ne = ap (λ (b : Bool). b || is_below_in lists levels x (parent lists 0)) (ne_eqb x 0 ne) ∙ ap (is_below_in lists levels x) (parent_zero lists) ∙ below_zero lists levels x ne
 
-pub below_here : (lists : Lists) (steps x d : ℕ) → d ≡ x → is_below_in lists steps x d ≡ true
+pub below_here : (lists : Lists) (levels x d : ℕ) → d ≡ x → is_below_in lists levels x d ≡ true
 unfolding is_below_in
 below_here lists zero x d e = eq-eqb x d (sym e)
-below_here lists (suc steps) x d e = ap (λ (b : Bool). b || is_below_in lists steps x (parent lists d)) (eq-eqb x d (sym e))
+below_here lists (suc levels) x d e = ap (λ (b : Bool). b || is_below_in lists levels x (parent lists d)) (eq-eqb x d (sym e))
 
-pub below_step : (lists : Lists) (steps more x d : ℕ) → more ≡ steps + 1 → (d ≡ x → ⊥) → is_below_in lists more x d ≡ is_below_in lists steps x (parent lists d)
+pub below_step : (lists : Lists) (levels more x d : ℕ) → more ≡ levels + 1 → (d ≡ x → ⊥) → is_below_in lists more x d ≡ is_below_in lists levels x (parent lists d)
 unfolding is_below_in
-below_step lists steps zero x d e ne = absurd (omega arith)
-below_step lists steps (suc more) x d e ne =
-    let same : more ≡ steps = omega arith in
+below_step lists levels zero x d e ne = absurd (omega arith)
+below_step lists levels (suc more) x d e ne =
+    let same : more ≡ levels = omega arith in
     ap (λ (b : Bool). b || is_below_in lists more x (parent lists d)) (ne_eqb x d (λ w. ne (sym w))) ∙ ap (λ (k : ℕ). is_below_in lists k x (parent lists d)) same
 
 pub toward_zero : (lists : Lists) (count y : ℕ) → toward lists count y 0 ≡ 0
