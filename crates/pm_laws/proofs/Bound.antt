@@ -367,3 +367,6 @@ move_counts lists s m law legal = counted_step lists law s m legal
 
 pub counts_end : (lists : Lists) (s : State) → Lawful lists → Sound lists s → counted lists s ≤ bound lists
 counts_end lists s law sound = counted_bound lists law s sound
+
+pub newest_end : (lists : Lists) (s : State) (x : ℕ) → Lawful lists → Sound lists s → IsNode lists x → newest lists s x ≤ change_total lists
+newest_end lists s x law sound node = newest_small lists law s sound x node

@@ -13,3 +13,4 @@ pub mod Depth
 pub mod Examples
 pub mod Published
 pub mod Learnt
+pub mod MoveLaws

@@ -7,7 +7,7 @@ use Rattle.pm_base.specs.Cuts.{Cut}
 use Rattle.pm_market.specs.Sound.{Sound}
 use Rattle.pm_market.proofs.Tree.{leaf_of_itself, leaf_of_parent, child_of}
 use Rattle.pm_market.proofs.Cuts.{not_same, not_same_from, same_from, is_same_from, entry_zero, part_leaf, part_inner, part_zero, newest_inner, known_at, greatest_le, greatest_from, greatest_same, number_inner}
-use Rattle.pm_laws.proofs.Facts.{clearing_part, learnt_of_inner}
+use Rattle.pm_laws.proofs.Facts.{clearing_part, cleared_within, learnt_of_inner, number_rises}
 use Rattle.pm_laws.proofs.Quiet.{zeros_address_none, addresses_inner}
 
 pub number_leaf : (lists : Lists) (p : ℕ → List Cut) (x : ℕ) (cut : Cut) → IsLeaf lists x → number_of lists p x cut ≡ cut x
@@ -107,3 +107,12 @@ known_heads lists law s sound c inner =
           ap (λ (z : ℕ). known lists s z d) (sym x.2) ∙ known_at lists law s.published s.learnt x.0 d x.1.0 x.3
           ∙ sym (sym (ap (λ (a : Cut). a d) e) ∙ at ∙ ap (λ (k : ℕ). part lists s x.0 k d) number_is)),
     )
+
+-- a later clearing contains no smaller number of a node
+pub cleared_number_rises : (lists : Lists) (s : State) → Lawful lists → Sound lists s → (x i j : ℕ) → IsNode lists x → i ≤ j → j ≤ clearings s →
+    number lists s x (cleared s i) ≤ number lists s x (cleared s j)
+cleared_number_rises lists s law sound x i j node later within =
+    elim (cases_Bool (is_leaf lists x)) [
+      | inl leaf ↦ omega (arith, number_leaf lists s.published x (cleared s i) leaf, number_leaf lists s.published x (cleared s j) leaf, cleared_within lists law s sound i j later within x leaf)
+      | inr inner ↦ omega (arith, number_inner lists s.published x (cleared s i) inner, number_inner lists s.published x (cleared s j) inner, number_rises lists law s sound x i j node inner later within)
+    ]

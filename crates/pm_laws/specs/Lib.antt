@@ -1,2 +1,3 @@
+pub mod Added
 pub mod Due
 pub mod Potential

@@ -10,7 +10,7 @@ ghost use Rattle.pm_market.specs.Lists.{Lists, parent, phases, changes, IsNode, 
 ghost use Rattle.pm_market.specs.State.{State, start, is_same_on, cut_at, newest, known, number, last, clearings, cleared, addresses};
 ghost use Rattle.pm_market.specs.Moves.{NodeLegal, Idle, Legal, step, after, LegalJournal, IsComplete};
 ghost use Rattle.pm_market.specs.Sound.{Sound};
-ghost use Rattle.pm_market.specs.Bound.{bound};
+ghost use Rattle.pm_market.specs.Bound.{bound, change_total};
 ghost use Rattle.pm_market.specs.Held.{holds_price};
 ghost use Rattle.pm_market.specs.Offers.{sum_children, sum_on};
 ghost use Rattle.pm_market.specs.Legality.{are_legal, first_illegal, is_idle, is_legal};
@@ -18,6 +18,10 @@ ghost use Rattle.pm_market.specs.declared.moves.Move.{Move};
 ghost use Rattle.pm_laws.specs.Potential.{counted};
 
 use pm_market::Move;
+
+mod moves;
+
+pub use moves::{clearings_fall_due, one_part_is_learnt, what_is_known_is_added};
 
 /// The start is sound, each legal move keeps a state sound, and so every state after a legal journal is sound.
 pub fn states_are_sound()
@@ -62,10 +66,11 @@ pub fn complete_journals_end_quiet()
 /// node is at most the changes of the devices at or below it, since its cuts rise strictly, and each device stands at or
 /// below itself and at most 6 concentrators; so newest numbers add up to at most 7 times the changes, and numbers learnt
 /// to no more; there are at most as many clearings as changes, each passed to a node at most once.
-#[tactic(auto, using(crate::proofs::Bound::journal_bound, crate::proofs::Bound::move_counts, crate::proofs::Bound::counts_end))]
+#[tactic(auto, using(crate::proofs::Bound::journal_bound, crate::proofs::Bound::move_counts, crate::proofs::Bound::counts_end, crate::proofs::Bound::newest_end))]
 pub fn journals_are_bounded()
     ensures rises { (lists : Lists) (s : State) (m : Move) → Lawful lists → Legal lists s m → counted lists s < counted lists (step lists s m) }
     ensures within { (lists : Lists) (s : State) → Lawful lists → Sound lists s → counted lists s ≤ bound lists }
+    ensures newest { (lists : Lists) (s : State) (x : ℕ) → Lawful lists → Sound lists s → IsNode lists x → newest lists s x ≤ change_total lists }
     ensures moves { (lists : Lists) (journal : List Move) → Lawful lists → LegalJournal lists journal → length journal ≤ bound lists }
 {}
 
@@ -87,7 +92,7 @@ pub fn some_move_is_legal()
 {}
 
 /// Why numbers are enough: what a core that keeps numbers alone needs of the cuts.
-#[tactic(auto, using(crate::proofs::Numbers::number_of_known, crate::proofs::Numbers::number_down, crate::proofs::Numbers::addressed_number, crate::proofs::Numbers::known_heads))]
+#[tactic(auto, using(crate::proofs::Numbers::number_of_known, crate::proofs::Numbers::number_down, crate::proofs::Numbers::addressed_number, crate::proofs::Numbers::known_heads, crate::proofs::Numbers::cleared_number_rises))]
 pub fn numbers_stand_for_cuts()
     // What a node knows contains of each child the number that was learnt of it.
     ensures known { (lists : Lists) (s : State) → Lawful lists → Sound lists s → (x : ℕ) → IsNode lists x → number lists s x (known lists s (parent lists x)) ≡ s.learnt x }
@@ -98,6 +103,9 @@ pub fn numbers_stand_for_cuts()
     // A clearing contains of a child of c the number that c published under the number that the clearing contains of c.
     ensures down { (lists : Lists) (s : State) → Lawful lists → Sound lists s → (x j : ℕ) → IsNode lists x → IsNode lists (parent lists x) → j ≤ clearings s →
         number lists s x (cleared s j) ≡ number lists s x (cut_at (s.published (parent lists x)) (number lists s (parent lists x) (cleared s j))) }
+    // Of two clearings the later contains no smaller number of a node.
+    ensures rises { (lists : Lists) (s : State) → Lawful lists → Sound lists s → (x i j : ℕ) → IsNode lists x → i ≤ j → j ≤ clearings s →
+        number lists s x (cleared s i) ≤ number lists s x (cleared s j) }
     // It addresses a concentrator exactly where it contains a number of it above 0.
     ensures addressed { (lists : Lists) (s : State) → Lawful lists → Sound lists s → (c j : ℕ) → IsConcentrator lists c → j ≤ clearings s →
         (addresses lists s j c ≡ true) ↔ (1 ≤ number lists s c (cleared s j)) }

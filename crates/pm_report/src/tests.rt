@@ -9,7 +9,7 @@ use pm_basis::Basis;
 use pm_device::Kind;
 use pm_market::{Journal, Line, Move};
 use pm_plan::{
-    EventSpec, MemberLine, NodeSpec, PhaseEnd, PhaseSpec, Place, Plan, Refusal, StateSpec,
+    Cause, EventSpec, MemberLine, NodeSpec, PhaseEnd, PhaseSpec, Place, Plan, Refusal, StateSpec,
 };
 use pm_tree::{Tree, TreeEntry};
 use std::alloc::{AllocError, Global};
@@ -310,7 +310,7 @@ fn a_lone_load_has_its_texts(rt: HostRuntime) -> Result<(), Fail> {
 
 #[test]
 fn a_refusal_has_its_line(rt: HostRuntime) -> Result<(), Fail> {
-    let refusal = Refusal::of_item(17, Place::Node { number: 1 }, 2);
+    let refusal = Refusal::of_item(Cause::BadArray, Place::Node { number: 1 }, 2);
     assert_eq!(rt;
         refusal_line(rt.alloc(), &refusal)?.as_slice(),
         "refused 17 node 1 item 2\n".as_bytes()

@@ -5,7 +5,7 @@ ghost use Rattle.pm_plan.specs.Parts.{is_device, node_part};
 use crate::{SceneFault, read_scene};
 use pm_basis::Basis;
 use pm_device::Kind;
-use pm_plan::{EventSpec, NodeSpec, PhaseEnd, PhaseSpec, Place, Plan, Refusal, StateSpec};
+use pm_plan::{Cause, EventSpec, NodeSpec, PhaseEnd, PhaseSpec, Place, Plan, Refusal, StateSpec};
 use pm_tree::{Tree, TreeEntry};
 use std::alloc::{AllocError, Global};
 use std::test::Fail;
@@ -65,7 +65,7 @@ fn a_file_has_the_plan_of_its_parts(rt: HostRuntime) -> Result<(), Fail> {
 /// A file that is cut off has no reading.
 #[test]
 fn a_cut_file_is_refused(rt: HostRuntime) {
-    let refused = SceneFault::Refused(Refusal::at(1, Place::Document));
+    let refused = SceneFault::Refused(Refusal::at(Cause::Unreadable, Place::Document));
     assert_eq!(rt; read_scene(rt.alloc(), b"{").err(), Some(refused));
 }
 

@@ -1,5 +1,4 @@
 ghost use Rattle.std.specs.Prelude.{◌≡◌, ◌-◌, ◌<◌, ◌≤◌, length, Some};
-ghost use Rattle.pm_bid.specs.Limited.{step_within};
 ghost use Rattle.pm_plan.specs.Plans.{node, limits_of};
 ghost use Rattle.pm_plan.specs.Auction.{announced, total, group_step, power};
 ghost use Rattle.pm_plan.specs.States.{state};
@@ -83,26 +82,11 @@ pub(crate) fn group_step(plan: &Plan, standing: &Standing, step: usize, group: N
     ensures inside { result < plan.now.basis.steps }
 {
     match limits_of(plan, group) {
-        Some(limits) => step_within(standing.sum(plan, group), &limits, step),
+        Some(limits) => standing
+            .sum(plan, group)
+            .step_within(&limits, step, &mut Steps::<Brand>::start()),
         None => step,
     }
-}
-
-/// The step at which a sum stays within its limits, where `step` is the step of the whole.
-fn step_within(sum: &ArrayBid, limits: &Limits, step: usize) -> usize
-    requires { step < length sum.now }
-    ensures step { result ≡ step_within limits.now step sum.now }
-    ensures inside { result < length sum.now }
-{
-    let mut counter = Steps::<Brand>::start();
-    let here = sum.at(step, &mut counter);
-    if here > limits.ceiling {
-        return sum.first_at_most(limits.ceiling, &mut counter);
-    }
-    if here < limits.floor {
-        return sum.last_at_least(limits.floor, &mut counter);
-    }
-    step
 }
 
 /// The power of a node, where `group_steps` has the step of each group.
