@@ -40,9 +40,11 @@ impl Model for Auctioneer {
 
     ghost Value = { Auction };
 
-    ghost use Rattle.pm_auctioneer.specs.AuctioneerFields.{auction_of};
+    ghost use Rattle.pm_auctioneer.specs.AuctioneerFields.{auction_of, AreAuctioneerFields};
 
     ghost view = { auction_of };
+
+    ghost invariant = { AreAuctioneerFields };
 }
 
 impl Auctioneer {
@@ -94,6 +96,7 @@ impl Auctioneer {
         requires last { self.old.index + 1 < 2 ^ 32 }
         requires index { IsNewIndex (self.old.index + 1) downs.old }
         ensures cleared { IfOk result (λ cleared. ClearedAt self.old self.new downs.old downs.new cleared.index cleared.step) }
+        ensures step { IfOk result (λ cleared. cleared.step < self.old.cache.steps) }
         ensures refused { IfErr result (λ fault. (self.old.changed ≡ false) × (fault ≡ NotChanged)) }
         ensures unchanged { IfErr result (λ fault. (self.new ≡ self.old) × (downs.new ≡ downs.old)) }
     {
@@ -120,6 +123,7 @@ impl Auctioneer {
     /// The step of the last clearing, 0 where there is none.
     pub fn step(&self) -> u32
         ensures step { result ≡ self.now.step }
+        ensures inside { result < self.now.cache.steps }
     {
         self.step
     }

@@ -138,6 +138,8 @@ impl Concentrator {
         ensures passed { Passed self.old self.new price.number }
         ensures prices { let sent = record_of self.old.window price.number in
             PricesOffered sent.heads (passed_step self.old.limits price.step sent.sum) price.index downs.old downs.new }
+        ensures inside { price.step < self.old.cache.steps
+            → passed_step self.old.limits price.step (record_of self.old.window price.number).sum < self.old.cache.steps }
     {
         let record = self.window.answered(price.number);
         let step = step_below(&self.limited, price.step, record);
@@ -222,6 +224,8 @@ fn step_below(limited: &Option<Limited>, step: u32, sent: &Record) -> u32
     requires sums { (limits : LimitedValue) → limited.now ≡ Some limits → steps_of sent.now.sum ≡ Some limits.steps }
     requires no_sums { limited.now ≡ None → sent.now.sum ≡ None }
     ensures step { result ≡ passed_step (option_map (λ l. l.limits) limited.now) step sent.now.sum }
+    ensures inside { (limits : LimitedValue) → limited.now ≡ Some limits → result < limits.steps }
+    ensures same { limited.now ≡ None → result ≡ step }
 {
     match limited {
         None => step,
