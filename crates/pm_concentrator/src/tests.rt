@@ -128,6 +128,7 @@ fn step_below(rt: &impl Abort, alloc: Global, c: &mut Concentrator, step: u32) -
     requires children { length c.old.cache.heads ≡ 2 }
     requires step { IsStepOf c.old.limits c.old.cache.steps step }
     ensures children { length c.new.cache.heads ≡ 2 }
+    ensures steps { c.new.cache.steps ≡ c.old.cache.steps }
     ensures limits { c.new.limits ≡ c.old.limits }
 {
     let mut downs = new_links(alloc, 2)?;
@@ -140,6 +141,7 @@ fn publishes_first(rt: &impl Abort, alloc: Global, c: &mut Concentrator) -> Resu
     requires last { c.old.window.last ≡ 0 }
     requires steps { c.old.cache.steps ≡ 10 }
     ensures children { length c.new.cache.heads ≡ length c.old.cache.heads }
+    ensures steps { c.new.cache.steps ≡ 10 }
     ensures limits { c.new.limits ≡ c.old.limits }
 {
     let mut up = Link::new(alloc, 10)?;
