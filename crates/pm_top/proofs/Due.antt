@@ -11,9 +11,9 @@ use Rattle.pm_top.specs.declared.status.Status.TheVariants.{Done, WriteFault, No
 pub answer_is_due : (old new : Option (List ℕ)) (input : List ℕ) (status : Status) (text : List ℕ) → Consumes old new input → IsAtEnd new → length input ≤ input_limit
     → IsAnswer input status text → IsDue (Some Run) old new status text
 answer_is_due old new input status text consumes at_end short (is_refused refusal is) =
-    refused refusal (record { asks = refl; input = input; read = (consumes, at_end, short); refused = is })
+    refused refusal (record { asks = refl; input = input; read = (consumes, at_end, short); means = is })
 answer_is_due old new input status text consumes at_end short (is_planned plan is) =
-    report plan (record { asks = refl; input = input; read = (consumes, at_end, short); planned = is })
+    report plan (record { asks = refl; input = input; read = (consumes, at_end, short); means = is })
 
 -- a demo's summary is due with the status Done, which is the one that is left
 pub summary_is_due : (old new : Option (List ℕ)) (command : Option Command) (size number : ℕ) (status : Status) (text : List ℕ) → command ≡ Some (Demo size number) → status ≡ Done → IsSummary size number text

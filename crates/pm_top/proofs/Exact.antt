@@ -27,12 +27,12 @@ due_is input text status r short read (usage is) = absurd (cc)
 due_is input text status r short read (too_long is) = absurd (omega (arith, is.took, length-take (length input - 0) input))
 due_is input text status r short read (refused refusal is) =
     let same : is.input ≡ input = sym (is.read.0 ∙ append-nil is.input) in
-    let both : Err refusal ≡ Err r = sym is.refused ∙ ap scene same ∙ read in
+    let both : Err refusal ≡ Err r = sym is.means ∙ ap scene same ∙ read in
     let one : refusal ≡ r = cc in
     ap refusal_line one
 due_is input text status r short read (report plan is) =
     let same : is.input ≡ input = sym (is.read.0 ∙ append-nil is.input) in
-    let both : Ok plan ≡ Err r = sym is.planned ∙ ap scene same ∙ read in
+    let both : Ok plan ≡ Err r = sym is.means ∙ ap scene same ∙ read in
     absurd (cc)
 due_is input text status r short read (summary size number written asks is) = absurd (cc)
 

@@ -44,19 +44,20 @@ pub record IsTooLong (command : Option Command) (old new : Option (List ℕ)) : 
   pub asks : command ≡ Some Run
   pub took : TookMore old new input_limit
 
--- Refused: a file was read to its end, and it has this refusal
-pub record IsRefused (command : Option Command) (old new : Option (List ℕ)) (refusal : Refusal) : Type 0 where
+-- a file was read to its end, and this is what it means: its plan, or its refusal
+pub record IsFile (command : Option Command) (old new : Option (List ℕ)) (meaning : Result PlanData Refusal) : Type 0 where
   pub asks : command ≡ Some Run
   pub input : List ℕ
   pub read : ReadsToEnd old new input
-  pub refused : scene input ≡ Err refusal
+  pub means : scene input ≡ meaning
+
+-- Refused: a file was read to its end, and it has this refusal
+abbrev pub IsRefused : Option Command → Option (List ℕ) → Option (List ℕ) → Refusal → Type 0
+IsRefused command old new refusal = IsFile command old new (Err refusal)
 
 -- Done: a file was read to its end, and it has this plan
-pub record IsPlanned (command : Option Command) (old new : Option (List ℕ)) (plan : PlanData) : Type 0 where
-  pub asks : command ≡ Some Run
-  pub input : List ℕ
-  pub read : ReadsToEnd old new input
-  pub planned : scene input ≡ Ok plan
+abbrev pub IsPlanned : Option Command → Option (List ℕ) → Option (List ℕ) → PlanData → Type 0
+IsPlanned command old new plan = IsFile command old new (Ok plan)
 
 -- Done: the text is the summary of the demo cluster of this size and number
 abbrev pub IsSummary : ℕ → ℕ → List ℕ → Type 0
