@@ -1,16 +1,16 @@
 -- What each move leaves and makes, in the order of the clauses.
-use Rattle.std.proofs.Common.{◌≡◌, ◌∙◌, sym, ap, subst, ℕ, ◌+◌, ◌<◌, ◌≤◌, ◌≢◌, ◌⊎◌, inl, inr, ◌↔◌, true, ◌++◌, ◌∷◌, [], length, refl, arith}
+use Rattle.std.proofs.Common.{◌≡◌, ◌∙◌, sym, ap, subst, ℕ, ◌+◌, ◌≤◌, ◌≢◌, ◌⊎◌, inl, inr, ◌↔◌, true, ◌++◌, ◌∷◌, [], length, refl, arith}
 use Rattle.std.specs.List.{Contains}
 use Rattle.std.proofs.lemmas.Bool.{cases_lt, and_parts, and_from}
 use Rattle.pm_base.specs.Cuts.{Cut}
 use Rattle.pm_market.specs.Lists.{Lists, parent, IsNode, IsInner, IsConcentrator, IsLeafOf, Lawful}
-use Rattle.pm_market.specs.State.{State, SameOn, DifferOn, cut_at, part, known, clearings, cleared, addresses, addresses_of}
+use Rattle.pm_market.specs.State.{State, SameOn, DifferOn, cut_at, part, known, clearings, addresses, addresses_of}
 use Rattle.pm_market.specs.Legality.{has_reached}
 use Rattle.pm_market.specs.Moves.{Reached, Legal, step}
 use Rattle.pm_market.specs.Sound.{Sound}
 use Rattle.pm_market.specs.declared.moves.Move.TheVariants.{Learn, Publish, Clear, Pass}
 use Rattle.pm_market.proofs.Legality.{reached_from, reached_at}
-use Rattle.pm_market.proofs.Tree.{leaf_zero, child_of}
+use Rattle.pm_market.proofs.Tree.{leaf_zero}
 use Rattle.pm_market.proofs.Cuts.{pushed_same, updated_same, updated_other, known_at}
 use Rattle.pm_laws.specs.Added.{HasAdded}
 use Rattle.pm_laws.specs.Due.{is_due}
@@ -65,12 +65,13 @@ learning_differs lists s x n law sound legal = learnt_differs lists law s sound 
 
 -- which clearings are due
 
-due_parts : (lists : Lists) (s : State) (x j : ℕ) → is_due lists s x j ≡ true → Reached s (parent lists x) j × (addresses lists s j x ≡ true)
+-- a clearing that is due reached the parent, and addresses the node; and the other way round
+pub due_parts : (lists : Lists) (s : State) (x j : ℕ) → is_due lists s x j ≡ true → Reached s (parent lists x) j × (addresses lists s j x ≡ true)
 due_parts lists s x j due =
     let parts = and_parts (has_reached s (parent lists x) j) (addresses lists s j x) due in
     (reached_from s (parent lists x) j parts.0, parts.1)
 
-due_from : (lists : Lists) (s : State) (x j : ℕ) → Reached s (parent lists x) j → addresses lists s j x ≡ true → is_due lists s x j ≡ true
+pub due_from : (lists : Lists) (s : State) (x j : ℕ) → Reached s (parent lists x) j → addresses lists s j x ≡ true → is_due lists s x j ≡ true
 due_from lists s x j reached addressed = and_from _ _ (reached_at s (parent lists x) j reached) addressed
 
 pub due_within : (lists : Lists) (s : State) (x j : ℕ) → Sound lists s → is_due lists s x j ≡ true → (1 ≤ j) × (j ≤ clearings s)

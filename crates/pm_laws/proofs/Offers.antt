@@ -6,28 +6,28 @@ use Rattle.pm_market.specs.Lists.{Lists, nodes, parent, is_leaf_of, IsLeaf, IsIn
 use Rattle.pm_market.specs.Offers.{int_sum_to, sum_on, sum_children}
 use Rattle.pm_market.proofs.Tree.{leaf_node, leaf_of_itself, leaf_of_leaf, leaf_of_parent, child_at_or_above_is, child_of}
 
-int_sum_same : (n : ℕ) (f g : ℕ → ℤ) → ((x : ℕ) → 1 ≤ x → x ≤ n → f x ≡ g x) → int_sum_to n f ≡ int_sum_to n g
+pub int_sum_same : (n : ℕ) (f g : ℕ → ℤ) → ((x : ℕ) → 1 ≤ x → x ≤ n → f x ≡ g x) → int_sum_to n f ≡ int_sum_to n g
 unfolding int_sum_to
 int_sum_same zero f g h = refl
 int_sum_same (suc n) f g h = ap (λ (z : ℤ). z +ℤ int_sum_to n f) (h (suc n) (omega arith) (omega arith)) ∙ ap (λ (z : ℤ). g (suc n) +ℤ z) (int_sum_same n f g (λ x one le. h x one (omega arith)))
 
-int_sum_none : (n : ℕ) → int_sum_to n (λ x. pos 0) ≡ pos 0
+pub int_sum_none : (n : ℕ) → int_sum_to n (λ x. pos 0) ≡ pos 0
 unfolding int_sum_to
 int_sum_none zero = refl
 int_sum_none (suc n) = omega (arith, ints, int_sum_none n)
 
-int_sum_add : (n : ℕ) (f g : ℕ → ℤ) → int_sum_to n (λ x. f x +ℤ g x) ≡ int_sum_to n f +ℤ int_sum_to n g
+pub int_sum_add : (n : ℕ) (f g : ℕ → ℤ) → int_sum_to n (λ x. f x +ℤ g x) ≡ int_sum_to n f +ℤ int_sum_to n g
 unfolding int_sum_to
 int_sum_add zero f g = omega (arith, ints)
 int_sum_add (suc n) f g = omega (arith, ints, int_sum_add n f g)
 
-int_sum_swap : (m n : ℕ) (f : ℕ → ℕ → ℤ) → int_sum_to m (λ x. int_sum_to n (λ d. f x d)) ≡ int_sum_to n (λ d. int_sum_to m (λ x. f x d))
+pub int_sum_swap : (m n : ℕ) (f : ℕ → ℕ → ℤ) → int_sum_to m (λ x. int_sum_to n (λ d. f x d)) ≡ int_sum_to n (λ d. int_sum_to m (λ x. f x d))
 unfolding int_sum_to
 int_sum_swap zero n f = sym (int_sum_none n)
 int_sum_swap (suc m) n f = ap (λ (z : ℤ). int_sum_to n (λ d. f (suc m) d) +ℤ z) (int_sum_swap m n f) ∙ sym (int_sum_add n (λ d. f (suc m) d) (λ d. int_sum_to m (λ x. f x d)))
 
 -- one term alone
-int_sum_only : (n : ℕ) (f : ℕ → ℤ) (k : ℕ) → 1 ≤ k → k ≤ n → ((x : ℕ) → (x ≡ k → ⊥) → 1 ≤ x → x ≤ n → f x ≡ pos 0) → int_sum_to n f ≡ f k
+pub int_sum_only : (n : ℕ) (f : ℕ → ℤ) (k : ℕ) → 1 ≤ k → k ≤ n → ((x : ℕ) → (x ≡ k → ⊥) → 1 ≤ x → x ≤ n → f x ≡ pos 0) → int_sum_to n f ≡ f k
 unfolding int_sum_to
 int_sum_only zero f k one le h = absurd (omega arith)
 int_sum_only (suc n) f k one le h =

@@ -13,7 +13,7 @@ use Rattle.pm_market.proofs.Tree.{leaf_node, leaf_of_itself, leaf_of_parent}
 use Rattle.pm_market.proofs.Cuts.{not_same, same_from, is_same_from, entry_zero, newest_leaf, newest_inner, part_leaf, part_inner, known_at, greatest_from}
 use Rattle.pm_laws.proofs.Facts.{last_cases, last_within, window_of}
 
-in_zero : (lists : Lists) (d : ℕ) → is_member lists d 0 ≡ false
+pub in_zero : (lists : Lists) (d : ℕ) → is_member lists d 0 ≡ false
 unfolding is_member
 in_zero lists d = refl
 

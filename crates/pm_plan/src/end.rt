@@ -1,4 +1,4 @@
-ghost use Rattle.std.specs.Prelude.{◌≡◌, ◌<◌, ◌≤◌, IfOk, length};
+ghost use Rattle.std.specs.Prelude.{◌≡◌, ◌+◌, ◌-◌, ◌<◌, ◌≤◌, ◌++◌, ◌∷◌, [], IfOk, length};
 ghost use Rattle.pm_basis.specs.Prices.{price_at};
 ghost use Rattle.pm_plan.specs.Ends.{no_end};
 
@@ -92,6 +92,41 @@ impl PhaseEnd {
             members: Vec::with_capacity(alloc, nodes)?,
             limited: Vec::with_capacity(alloc, nodes)?,
         })
+    }
+
+    /// Makes it the end at a step of a market basis, whose price it has, with the total there in watts and without
+    /// lines; the room of its former lines is room for new ones.
+    pub fn begin(&mut self, basis: &Basis, step: u32, total: i64)
+        requires { step < basis.now.steps }
+        ensures end { self.new.end ≡ record { step = step; price = price_at basis.now step; total = total; members = []; limited = [] } }
+        ensures members { self.new.member_room ≡ self.old.member_room + length self.old.end.members }
+        ensures limited { self.new.limited_room ≡ self.old.limited_room + length self.old.end.limited }
+    {
+        self.step = step;
+        self.price = basis.price(step as usize);
+        self.total = total;
+        self.members.clear();
+        self.limited.clear();
+    }
+
+    /// Adds the line of the next member in file order, within the room.
+    pub fn add_member(&mut self, line: MemberLine)
+        requires room { 1 ≤ self.old.member_room }
+        ensures end { self.new.end ≡ record self.old.end { members = self.old.end.members ++ line ∷ [] } }
+        ensures members { self.old.member_room ≤ self.new.member_room + 1 }
+        ensures limited { self.new.limited_room ≡ self.old.limited_room }
+    {
+        let _ = self.members.push(line);
+    }
+
+    /// Adds the line of the next limited concentrator in file order, within the room.
+    pub fn add_limited(&mut self, line: LimitedLine)
+        requires room { 1 ≤ self.old.limited_room }
+        ensures end { self.new.end ≡ record self.old.end { limited = self.old.end.limited ++ line ∷ [] } }
+        ensures members { self.new.member_room ≡ self.old.member_room }
+        ensures limited { self.old.limited_room ≤ self.new.limited_room + 1 }
+    {
+        let _ = self.limited.push(line);
     }
 
     /// The step at which the cluster balances.
