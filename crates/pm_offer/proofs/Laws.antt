@@ -1,0 +1,81 @@
+-- The laws in the order of their clauses.
+use Rattle.std.proofs.Common.{◌≡◌, ℕ, ◌+◌, ◌<◌, ◌≤◌, ◌+ℤ◌, length, Some}
+use Rattle.pm_base.specs.Cuts.{Cut}
+use Rattle.pm_base.specs.Limits.{sum_limit}
+use Rattle.pm_base.specs.declared.limits.Limits.{Limits}
+use Rattle.pm_bid.specs.Bids.{AllWithinLimit, demand_at}
+use Rattle.pm_bid.specs.Clearing.{clearing_step}
+use Rattle.pm_bid.specs.Limited.{within_limits, local_step}
+use Rattle.pm_market.specs.Lists.{parent, IsNode, IsLeaf, IsInner, IsConcentrator}
+use Rattle.pm_market.specs.State.{SameOn}
+use Rattle.pm_plan.specs.Plans.{PlanData, node, limits_of, end_cut}
+use Rattle.pm_plan.specs.Kept.{IsPlan, change_at}
+use Rattle.pm_plan.specs.Auction.{sum_in, total, plain, group_step}
+use Rattle.pm_plan.specs.States.{state}
+use Rattle.pm_plan.specs.Market.{plan_lists}
+use Rattle.pm_offer.specs.Offers.{device_demand, offer, children_sum, local_at}
+use Rattle.pm_offer.specs.Powers.{group_power, announced_power, KeepsLimits}
+use Rattle.pm_offer.proofs.Steps.{offer_length}
+use Rattle.pm_offer.proofs.Offers as offers
+use Rattle.pm_offer.proofs.LocalSteps as steps
+use Rattle.pm_offer.proofs.Bounds as bounds
+use Rattle.pm_offer.proofs.PhaseChanges as phases
+use Rattle.pm_offer.proofs.GroupPowers as powers
+
+-- ---- offers go up the tree
+
+pub offer_device : (plan : PlanData) (d : ℕ) (cut : Cut) → IsPlan plan → IsLeaf (plan_lists plan) d → offer plan d cut ≡ device_demand plan d (cut d)
+offer_device plan d cut is leaf = offers.offer_device plan d cut is leaf
+
+pub offer_alike : (plan : PlanData) (x : ℕ) (a b : Cut) → IsPlan plan → SameOn (plan_lists plan) x a b → offer plan x a ≡ offer plan x b
+offer_alike plan x a b is same = offers.offer_alike plan x a b is same
+
+pub offer_inner : (plan : PlanData) (c : ℕ) (cut : Cut) → IsPlan plan → IsConcentrator (plan_lists plan) c →
+    offer plan c cut ≡ within_limits (limits_of (node plan c)) (children_sum plan c cut)
+offer_inner plan c cut is inner = offers.offer_inner plan c cut is inner
+
+pub offer_total : (plan : PlanData) (cut : Cut) → IsPlan plan → total plan (state plan) cut ≡ children_sum plan 0 cut
+offer_total plan cut is = offers.offer_total plan cut is
+
+-- ---- steps go down the tree
+
+pub local_root : (plan : PlanData) (x : ℕ) (cut : Cut) → IsPlan plan → IsNode (plan_lists plan) x → parent (plan_lists plan) x ≡ 0 →
+    local_at plan cut x ≡ clearing_step (children_sum plan 0 cut)
+local_root plan x cut is here up = steps.local_root plan x cut is here up
+
+pub local_below : (plan : PlanData) (x : ℕ) (cut : Cut) → IsPlan plan →
+    IsNode (plan_lists plan) x → IsConcentrator (plan_lists plan) (parent (plan_lists plan) x) →
+    local_at plan cut x
+    ≡ local_step (limits_of (node plan (parent (plan_lists plan) x)))
+    (local_at plan cut (parent (plan_lists plan) x)) (children_sum plan (parent (plan_lists plan) x) cut)
+local_below plan x cut is here inner = steps.local_below plan x cut is here inner
+
+pub local_inside : (plan : PlanData) (x : ℕ) (cut : Cut) → IsPlan plan → local_at plan cut x < plan.basis.steps
+local_inside plan x cut is = steps.local_inside plan x cut is
+
+-- ---- offers are bounded
+
+pub offer_steps : (plan : PlanData) (x : ℕ) (cut : Cut) → IsPlan plan → length (offer plan x cut) ≡ plan.basis.steps
+offer_steps plan x cut is = offer_length plan is x cut
+
+pub children_within : (plan : PlanData) (y : ℕ) (cut : Cut) → IsPlan plan → IsInner (plan_lists plan) y → AllWithinLimit sum_limit (children_sum plan y cut)
+children_within plan y cut is inner = bounds.children_within plan y cut is inner
+
+-- ---- changes are of their phase
+
+pub phase_between : (plan : PlanData) (p d n : ℕ) → IsPlan plan → end_cut plan p d ≤ n → n < end_cut plan (p + 1) d → (change_at plan d n).phase ≡ p + 1
+phase_between plan p d n is from to = phases.phase_between plan p d n is from to
+
+-- ---- powers add up
+
+pub powers_group : (plan : PlanData) (g : ℕ) (cut : Cut) → IsPlan plan →
+    group_power plan cut g ≡ demand_at (sum_in plan (state plan) cut g) (group_step plan (state plan) cut (plain plan (state plan) cut) g)
+powers_group plan g cut is = powers.powers_group plan g cut is
+
+pub powers_total : (plan : PlanData) (cut : Cut) (step : ℕ) → IsPlan plan → step < plan.basis.steps →
+    demand_at (total plan (state plan) cut) step ≡ demand_at (sum_in plan (state plan) cut 0) step +ℤ announced_power plan cut step
+powers_total plan cut step is inside = powers.powers_total plan cut step is inside
+
+pub powers_within : (plan : PlanData) (g : ℕ) (cut : Cut) (limits : Limits) (step : ℕ) → IsPlan plan → limits_of (node plan g) ≡ Some limits →
+    step < plan.basis.steps → KeepsLimits limits (demand_at (sum_in plan (state plan) cut g) step) → KeepsLimits limits (group_power plan cut g)
+powers_within plan g cut limits step is here inside keeps = powers.powers_within plan g cut limits step is here inside keeps

@@ -1,0 +1,11 @@
+pub mod Sums
+pub mod Above
+pub mod GroupNodes
+pub mod Steps
+pub mod Offers
+pub mod LocalSteps
+pub mod Bounds
+pub mod PhaseChanges
+pub mod Laws
+pub mod Falls
+pub mod GroupPowers
