@@ -1,0 +1,46 @@
+-- Steps and sums of cuts that are the same on the leaves.
+use Rattle.std.proofs.Common.{◌≡◌, ◌∙◌, sym, ap, ℕ, ◌⊎◌, true, arith, inl, inr}
+use Rattle.pm_base.specs.Cuts.{Cut}
+use Rattle.pm_bid.specs.Clearing.{clearing_step}
+use Rattle.pm_bid.specs.Limited.{local_step}
+use Rattle.pm_market.specs.Lists.{IsNode}
+use Rattle.pm_market.specs.State.{SameOn}
+use Rattle.pm_market.proofs.Tree.{leaf_of_auctioneer, leaf_of_parts}
+use Rattle.pm_plan.specs.Kept.{IsPlan}
+use Rattle.pm_plan.specs.Plans.{PlanData, node, limits_of, is_limited, group}
+use Rattle.pm_plan.specs.Auction.{total, plain, local, group_step, sum_in}
+use Rattle.pm_plan.specs.States.{state}
+use Rattle.pm_plan.specs.Market.{plan_lists}
+use Rattle.pm_offer.specs.Offers.{local_at}
+use Rattle.pm_offer.proofs.Laws as laws
+use Rattle.pm_offer.proofs.Offers.{limited_sum}
+use Rattle.pm_offer.proofs.GroupNodes.{group_kind, nodes_are}
+use Rattle.pm_plan.proofs.MarketLists.{lawful}
+use Rattle.pm_stands.proofs.Passing.{sum_alike}
+
+module _ (plan : PlanData) (is_plan : IsPlan plan) (a b : Cut) (same : SameOn (plan_lists plan) 0 a b) where
+  pub total_alike : total plan (state plan) a ≡ total plan (state plan) b
+  total_alike = laws.offer_total plan a is_plan ∙ sum_alike plan is_plan 0 a b same ∙ sym (laws.offer_total plan b is_plan)
+
+  pub plain_alike : plain plan (state plan) a ≡ plain plan (state plan) b
+  unfolding plain
+  plain_alike = ap clearing_step total_alike
+
+  same_below : (x : ℕ) → SameOn (plan_lists plan) x a b
+  same_below x d below = same d (leaf_of_auctioneer (plan_lists plan) (lawful plan is_plan) d (leaf_of_parts (plan_lists plan) x d below).0)
+
+  group_step_alike : (g : ℕ) → (g ≡ 0) ⊎ (is_limited plan g ≡ true) →
+      group_step plan (state plan) a (plain plan (state plan) a) g ≡ group_step plan (state plan) b (plain plan (state plan) b) g
+  unfolding group_step
+  group_step_alike g (inl none) =
+      ap (λ (i : ℕ). local_step (limits_of (node plan i)) (plain plan (state plan) a) (sum_in plan (state plan) a i)) none
+      ∙ plain_alike
+      ∙ sym (ap (λ (i : ℕ). local_step (limits_of (node plan i)) (plain plan (state plan) b) (sum_in plan (state plan) b i)) none)
+  group_step_alike g (inr limited) =
+      ap (λ k. local_step (limits_of (node plan g)) k (sum_in plan (state plan) a g)) plain_alike
+      ∙ ap (local_step (limits_of (node plan g)) (plain plan (state plan) b))
+      (limited_sum plan is_plan g a limited ∙ sum_alike plan is_plan g a b (same_below g) ∙ sym (limited_sum plan is_plan g b limited))
+
+  pub local_alike : (x : ℕ) → IsNode (plan_lists plan) x → local_at plan a x ≡ local_at plan b x
+  unfolding local
+  local_alike x here = group_step_alike (group plan x) (group_kind plan is_plan x (omega (arith, here.1, nodes_are plan is_plan)))

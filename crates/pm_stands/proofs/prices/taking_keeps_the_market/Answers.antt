@@ -1,0 +1,5 @@
+use Rattle.pm_stands.proofs.Taking.{take_made}
+use Rattle.pm_stands.proofs.prices.taking_keeps_the_market.Goals as goal
+
+pub returns : goal.returns
+returns c = record { made = take_made }

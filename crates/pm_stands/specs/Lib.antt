@@ -1,0 +1,10 @@
+pub mod Core
+pub mod Rows
+pub mod Stands
+pub mod Made
+pub mod Quiet
+pub mod Opened
+pub mod Needs
+pub mod Actors
+pub mod Current
+pub mod Still
