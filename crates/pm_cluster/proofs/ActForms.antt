@@ -1,0 +1,174 @@
+-- Moves of the form of an act.
+use Rattle.std.proofs.Common.{◌≡◌, ◌∙◌, sym, ap, subst, ℕ, ◌+◌, ◌<◌, ◌≤◌, ℤ, Bool, true, false, length, arith, refl, inl, inr}
+use Rattle.std.specs.Prelude.{Option, Some, None, MatchOption}
+use Rattle.std.proofs.Math.Logic.{∥∥₁_elim}
+use Rattle.std.proofs.Props.{props}
+use Rattle.std.proofs.lemmas.Bool.{both_ways}
+use Rattle.pm_base.specs.Limits.{most_phases}
+use Rattle.pm_device.specs.declared.state.Next.{Next}
+use Rattle.pm_device.specs.declared.state.DeviceState.{DeviceState}
+use Rattle.pm_market.specs.Lists.{Lists, is_leaf, IsLeaf}
+use Rattle.pm_market.specs.State.{State}
+use Rattle.pm_market.specs.Moves.{Legal, act_of}
+use Rattle.pm_market.specs.declared.moves.Move.{Move}
+use Rattle.pm_market.specs.declared.moves.Move.TheVariants.{Change, Learn, Publish, Clear, Pass, Close}
+use Rattle.pm_market.specs.declared.moves.Act.TheVariants as act
+use Rattle.std.proofs.Common.{cond}
+use Rattle.pm_market.specs.State.{last, cleared}
+use Rattle.pm_market.specs.Held.{holds_price, held}
+use Rattle.pm_session.specs.declared.price.Held.{Held}
+use Rattle.pm_offer.specs.Offers.{local_at}
+use Rattle.pm_stands.specs.Current.{held_price}
+use Rattle.pm_market.proofs.Tree.{leaf_past}
+use Rattle.pm_plan.specs.Kept.{IsPlan}
+use Rattle.pm_plan.specs.Plans.{PlanData, node, kind_of, end_cut, phases}
+use Rattle.pm_plan.specs.Market.{plan_lists}
+use Rattle.pm_plan.proofs.MarketLists.{phases-is}
+use Rattle.pm_agent.specs.MadeBids.{MadeBid}
+use Rattle.pm_stands.specs.Core.{Core}
+use Rattle.pm_stands.specs.Stands.{StandsFor, Stands}
+use Rattle.pm_plan.proofs.MarketLists.{lawful}
+use Rattle.pm_cluster.specs.Next.{HasNoNext, IsNext}
+use Rattle.pm_cluster.specs.Acts.{IsNextOrNone, NotChanged}
+use Rattle.pm_cluster.specs.declared.fault.ChangeFault.{ChangeFault}
+use Rattle.pm_cluster.specs.declared.fault.ChangeFault.TheVariants as change_faults
+use Rattle.pm_cluster.proofs.Parents.{nodes_are}
+use Rattle.pm_cluster.proofs.NextChanges.{end_of_market}
+
+-- ---- no move of a form
+
+pub no_change : (lists : Lists) (s : State) (x : ℕ) → ((n : ℕ) → Legal lists s (Change x n) → ⊥) → (m : Move) → act_of m ≡ act.Change x → Legal lists s m → ⊥
+no_change lists s x none (Change y n) e legal = let same : y ≡ x = cc e in none n (subst (λ (z : ℕ). Legal lists s (Change z n)) same legal)
+no_change lists s x none (Learn y n) e legal = cc e
+no_change lists s x none (Publish y n) e legal = cc e
+no_change lists s x none (Clear n) e legal = cc e
+no_change lists s x none (Pass y n) e legal = cc e
+no_change lists s x none (Close n) e legal = cc e
+
+pub no_learn : (lists : Lists) (s : State) (x : ℕ) → ((n : ℕ) → Legal lists s (Learn x n) → ⊥) → (m : Move) → act_of m ≡ act.Learn x → Legal lists s m → ⊥
+no_learn lists s x none (Learn y n) e legal = let same : y ≡ x = cc e in none n (subst (λ (z : ℕ). Legal lists s (Learn z n)) same legal)
+no_learn lists s x none (Change y n) e legal = cc e
+no_learn lists s x none (Publish y n) e legal = cc e
+no_learn lists s x none (Clear n) e legal = cc e
+no_learn lists s x none (Pass y n) e legal = cc e
+no_learn lists s x none (Close n) e legal = cc e
+
+pub no_publish : (lists : Lists) (s : State) (x : ℕ) → ((n : ℕ) → Legal lists s (Publish x n) → ⊥) → (m : Move) → act_of m ≡ act.Publish x → Legal lists s m → ⊥
+no_publish lists s x none (Publish y n) e legal = let same : y ≡ x = cc e in none n (subst (λ (z : ℕ). Legal lists s (Publish z n)) same legal)
+no_publish lists s x none (Change y n) e legal = cc e
+no_publish lists s x none (Learn y n) e legal = cc e
+no_publish lists s x none (Clear n) e legal = cc e
+no_publish lists s x none (Pass y n) e legal = cc e
+no_publish lists s x none (Close n) e legal = cc e
+
+pub no_clear : (lists : Lists) (s : State) → ((n : ℕ) → Legal lists s (Clear n) → ⊥) → (m : Move) → act_of m ≡ act.Clear → Legal lists s m → ⊥
+no_clear lists s none (Clear n) e legal = none n legal
+no_clear lists s none (Change y n) e legal = cc e
+no_clear lists s none (Learn y n) e legal = cc e
+no_clear lists s none (Publish y n) e legal = cc e
+no_clear lists s none (Pass y n) e legal = cc e
+no_clear lists s none (Close n) e legal = cc e
+
+pub no_pass : (lists : Lists) (s : State) (x : ℕ) → ((n : ℕ) → Legal lists s (Pass x n) → ⊥) → (m : Move) → act_of m ≡ act.Pass x → Legal lists s m → ⊥
+no_pass lists s x none (Pass y n) e legal = let same : y ≡ x = cc e in none n (subst (λ (z : ℕ). Legal lists s (Pass z n)) same legal)
+no_pass lists s x none (Change y n) e legal = cc e
+no_pass lists s x none (Learn y n) e legal = cc e
+no_pass lists s x none (Publish y n) e legal = cc e
+no_pass lists s x none (Clear n) e legal = cc e
+no_pass lists s x none (Close n) e legal = cc e
+
+pub no_close : (lists : Lists) (s : State) → ((n : ℕ) → Legal lists s (Close n) → ⊥) → (m : Move) → act_of m ≡ act.Close → Legal lists s m → ⊥
+no_close lists s none (Close n) e legal = none n legal
+no_close lists s none (Change y n) e legal = cc e
+no_close lists s none (Learn y n) e legal = cc e
+no_close lists s none (Publish y n) e legal = cc e
+no_close lists s none (Clear n) e legal = cc e
+no_close lists s none (Pass y n) e legal = cc e
+
+-- what is said where there is none
+pub at_none : {A : Type 0} (found : Option A) (P Q : Type 0) (R : A → Type 0) → (P → Q) → MatchOption found P R → MatchOption found Q R
+at_none None P Q R f h = f h
+at_none (Some x) P Q R f h = h
+
+-- ---- nodes
+
+-- a number behind the last node is no device
+pub far_leaf : (plan : PlanData) → IsPlan plan → (x : ℕ) → length plan.entries < x → is_leaf (plan_lists plan) x ≡ false
+far_leaf plan is_plan x far = leaf_past (plan_lists plan) x (omega (arith, (lawful plan is_plan).leaves, nodes_are plan))
+
+pub no_leaf : (plan : PlanData) (s : State) (x : ℕ) → is_leaf (plan_lists plan) x ≡ false → (n : ℕ) → Legal (plan_lists plan) s (Change x n) → ⊥
+no_leaf plan s x none n legal = both_ways (is_leaf (plan_lists plan) x) none legal.0
+
+-- ---- the next change
+
+-- where a device has no next change none is legal
+pub none_legal : (plan : PlanData) → IsPlan plan → (c : Core) (s : State) → StandsFor plan c s → (d : ℕ) → HasNoNext plan c d → (n : ℕ) →
+    Legal (plan_lists plan) s (Change d n) → ⊥
+none_legal plan is_plan c s stands d none n legal =
+    elim none [
+      | inl all ↦ omega (arith, all, legal.1, phases-is plan, stands.closed)
+      | inr made ↦ omega (
+        arith,
+        made,
+        legal.2,
+        legal.3,
+        stands.counts d legal.0,
+        end_of_market plan is_plan (s.closed + 1) d legal.0 (omega (arith, legal.1, phases-is plan)),
+        ap (λ (p : ℕ). end_cut plan (p + 1) d) stands.closed,
+      )
+    ]
+
+-- a device has one next change
+one_next : (a b : Next) → a.device ≡ b.device → a.number ≡ b.number → a.member ≡ b.member → a.state.0 ≡ b.state.0 → a ≡ b
+one_next a b e f g h =
+    let states : a.state ≡ b.state = ap (λ (z : ℤ). record { 0 = z }) h in
+    ap (λ (x : ℕ). record a { device = x }) e ∙ ap (λ (x : ℕ). record { device = b.device; number = x; member = a.member; state = a.state }) f
+    ∙ ap (λ (x : Bool). record { device = b.device; number = b.number; member = x; state = a.state }) g
+    ∙ ap (λ (x : DeviceState). record { device = b.device; number = b.number; member = b.member; state = x }) states
+
+pub same_next : (plan : PlanData) (c : Core) (d : ℕ) (a b : Next) → IsNext plan c d a → IsNext plan c d b → a ≡ b
+same_next plan c d a b at_a at_b =
+    let numbers : a.number ≡ b.number = omega (arith, at_a.number, at_b.number) in
+    one_next a b (at_a.device ∙ sym at_b.device) numbers
+    (at_a.member ∙ ap (Rattle.pm_plan.specs.Plans.is_member plan d) numbers ∙ sym at_b.member)
+    (at_a.state ∙ ap (Rattle.pm_plan.specs.States.state plan d) numbers ∙ sym at_b.state)
+
+pub found_next : (plan : PlanData) (c : Core) (d : ℕ) (found : Option Next) (b : Next) → IsNextOrNone plan c d found → IsNext plan c d b → found ≡ Some b
+found_next plan c d (Some a) b at_a at_b = ap Some (same_next plan c d a b at_a at_b)
+found_next plan c d None b none at_b = absurd (elim none [
+  | inl all ↦ omega (arith, all, at_b.open_phase)
+  | inr made ↦ omega (arith, made, at_b.number, at_b.of_phase)
+])
+
+-- so what follows is not refused
+pub not_refused : (plan : PlanData) (c : Core) (made : MadeBid) (fault : ChangeFault) → NotChanged plan c made fault → IsLeaf
+    (plan_lists plan) made.next.device →
+    IsNext plan c made.next.device made.next → kind_of (node plan made.next.device) ≡ Some made.kind → ⊥
+not_refused plan c made (change_faults.NotNext next) refused leaf its_next kind_is = elim refused [
+  | inl none ↦ both_ways (is_leaf (plan_lists plan) made.next.device) none.0 leaf
+  | inr other ↦ elim other.2 [
+    | inl differs ↦ differs (found_next plan c made.next.device next made.next other.1 its_next)
+    | inr kinds ↦ kinds kind_is
+  ]
+]
+not_refused plan c made change_faults.NoMemory refused leaf its_next kind_is = refused
+
+-- ---- phases
+
+-- few phases are closed
+pub few_closed : (plan : PlanData) → IsPlan plan → (c : Core) → ∥ Stands plan c ∥₁ → c.closed ≤ most_phases
+few_closed plan is_plan c stands = ∥∥₁_elim stands (Prim.hlevel props) (λ st.
+    omega (arith, st.is.closed, st.is.sound.closed_within, phases-is plan, is_plan.within.few_phases))
+
+-- ---- what a device holds, as a line tells it
+
+abbrev pub pair_of : Option Held → Option (ℕ × ℕ)
+pair_of None = None
+pair_of (Some price) = Some (price.step, price.number)
+
+pub pairs_are : (plan : PlanData) (s : State) (d : ℕ) → pair_of (held_price plan s d) ≡ held (plan_lists plan) (local_at plan) s d
+pairs_are plan s d = go (holds_price (plan_lists plan) s d) (local_at plan (cleared s (last s d)) d) (cleared s (last s d) d) (last s d)
+  where
+    go : (b : Bool) (k n i : ℕ) → pair_of (cond b (Some (record { step = k; number = n; index = i })) None) ≡ cond b (Some (k, n)) None
+    go true k n i = refl
+    go false k n i = refl

@@ -1,0 +1,72 @@
+-- What a cluster keeps, through a move.
+use Rattle.std.proofs.Common.{◌≡◌, ◌∙◌, sym, ap, subst, ℕ, ◌+◌, ◌<◌, ◌≤◌, None, is_some, true, get_or, arith}
+use Rattle.std.proofs.Math.Logic.{∥∥₁_map, ∥∥₁_elim}
+use Rattle.std.proofs.Props.{props}
+use Rattle.pm_market.specs.Lists.{nodes, parent, IsNode, IsLeaf, IsInner}
+use Rattle.pm_market.specs.State.{State}
+use Rattle.pm_market.specs.Moves.{step}
+use Rattle.pm_market.specs.declared.moves.Move.{Move}
+use Rattle.pm_market.proofs.Tree.{leaf_node}
+use Rattle.pm_plan.specs.Kept.{IsPlan}
+use Rattle.pm_plan.specs.Plans.{PlanData}
+use Rattle.pm_plan.specs.Plans as plans
+use Rattle.pm_plan.specs.Market.{plan_lists}
+use Rattle.pm_plan.proofs.MarketLists.{is_leaf-is}
+use Rattle.pm_stands.specs.Core.{Core}
+use Rattle.pm_stands.specs.Stands.{StandsFor, Stands, MakesMove}
+use Rattle.pm_plan.proofs.MarketLists.{lawful}
+use Rattle.pm_cluster.specs.Clusters.{ClusterValue}
+use Rattle.pm_cluster.specs.ClusterFields.{HasPlaces, core_of, cluster_of}
+use Rattle.pm_cluster.specs.declared.cluster.Cluster.TheInside.{Inside}
+
+pub places_of : (plan : PlanData) (c : Core) → ∥ Stands plan c ∥₁ → HasPlaces plan c
+places_of plan c stands = ∥∥₁_elim stands (Prim.hlevel props) (λ st. record {
+  all_counts = st.is.shaped.all_counts;
+  all_states = st.is.shaped.all_states;
+  all_powers = st.is.shaped.all_powers;
+  all_links = st.is.shaped.all_links;
+  all_concentrators = st.is.shaped.all_concentrators;
+  all_ports = st.is.shaped.all_ports;
+  rows = st.is.shaped.rows;
+  link_steps = st.is.shaped.link_steps;
+  there = λ y conc. ap is_some (st.is.shaped.there y conc);
+})
+
+-- a parent that is not the auctioneer has its concentrator
+pub parent_there : (plan : PlanData) → IsPlan plan → (c : Core) → HasPlaces plan c → (x y : ℕ) → IsNode (plan_lists plan) x →
+    y ≡ parent (plan_lists plan) x → y ≤ nodes (plan_lists plan) → (y ≡ 0 → ⊥) → is_some (get_or c.concentrators y None) ≡ true
+parent_there plan is_plan c places x y node e inside ne =
+    places.there y (omega arith, inside, subst (λ (i : ℕ). IsInner (plan_lists plan) i) (sym e) ((lawful plan is_plan).inner x node))
+
+-- a cluster stands for the state after a move that was made
+pub stands_after : (plan : PlanData) (c new : Core) (m : Move) → ((s : State) → StandsFor plan c s → MakesMove plan new s m) →
+    ∥ Stands plan c ∥₁ → ∥ Stands plan new ∥₁
+stands_after plan c new m makes stands =
+    ∥∥₁_map stands (λ st. record { state = step (plan_lists plan) st.state m; is = (makes st.state st.is).stands })
+
+-- what holds of the plan of the value holds of the plan of the fields
+pub of_fields : (inside : Inside) (v : ClusterValue) → cluster_of inside ≡ v → (P : PlanData → Type 0) → P v.plan → P inside.plan.now
+of_fields inside v is P h = subst (λ (v : ClusterValue). P v.plan) (sym is) h
+
+-- what holds of each state that the fields stand for holds of each that the value stands for
+pub of_value : (inside : Inside) (v : ClusterValue) → cluster_of inside ≡ v → (P : PlanData → State → Type 0) →
+    ((s : State) → StandsFor inside.plan.now (core_of inside) s → P inside.plan.now s) → (s : State) → StandsFor v.plan v.core s → P v.plan s
+of_value inside v is P h = subst (λ (v : ClusterValue). (s : State) → StandsFor v.plan v.core s → P v.plan s) is h
+
+-- a device of the value's plan is a node of the fields' plan
+pub leaf_is_node : (inside : Inside) (v : ClusterValue) → cluster_of inside ≡ v → IsPlan inside.plan.now → (d : ℕ) →
+    IsLeaf (plan_lists v.plan) d → IsNode (plan_lists inside.plan.now) d
+leaf_is_node inside v is is_plan d leaf =
+    leaf_node (plan_lists inside.plan.now) (lawful inside.plan.now is_plan) d (of_fields inside v is (λ plan. IsLeaf (plan_lists plan) d) leaf)
+
+-- a device of the value is one of the fields' plan
+pub leaf_in : (inside : Inside) (v : ClusterValue) (d : ℕ) → cluster_of inside ≡ v → IsLeaf (plan_lists v.plan) d → IsLeaf (plan_lists inside.plan.now) d
+leaf_in inside v d e leaf = subst (λ (w : ClusterValue). IsLeaf (plan_lists w.plan) d) (sym e) leaf
+
+-- a device has its place in each list
+pub leaf_has_place : (plan : PlanData) → IsPlan plan → (d : ℕ) → IsLeaf (plan_lists plan) d → d < nodes (plan_lists plan) + 1
+leaf_has_place plan is_plan d leaf = omega (arith, leaf_node (plan_lists plan) (lawful plan is_plan) d leaf)
+
+-- a device of the market is one of the plan
+pub leaf_of_plan : (plan : PlanData) (d : ℕ) → IsLeaf (plan_lists plan) d → plans.is_leaf plan d ≡ true
+leaf_of_plan plan d leaf = sym (is_leaf-is plan d) ∙ leaf

@@ -1,0 +1,200 @@
+-- A device makes its next change.
+use Rattle.std.proofs.Common.{◌≡◌, ◌∙◌, sym, ap, subst, ℕ, ◌+◌, ◌<◌, ◌≤◌, ℤ, pos, Bool, true}
+use Rattle.std.proofs.Common.{false, not, List, length, get_or, arith, refl, inl, inr, get_or-set_same, get_or-set_other}
+use Rattle.std.specs.Prelude.{Option, Some}
+use Rattle.std.proofs.Math.ListN.{set, length-set}
+use Rattle.std.proofs.Math.Logic.{∥∥₁_elim, ∥∥₁_map}
+use Rattle.std.proofs.Props.{props}
+use Rattle.std.proofs.lemmas.Bool.{cases_eq}
+use Rattle.pm_bid.specs.Bids.{zeros}
+use Rattle.pm_bid.proofs.Sums.{length-zeros}
+use Rattle.pm_device.specs.declared.kind.Kind.{Kind}
+use Rattle.pm_device.specs.declared.state.Next.{Next}
+use Rattle.pm_tree.specs.Entries.{place_of}
+use Rattle.pm_market.specs.Lists.{nodes, parent, IsNode, IsLeaf}
+use Rattle.pm_market.specs.Lists as market
+use Rattle.pm_market.specs.Moves.{Legal, step}
+use Rattle.pm_market.specs.declared.moves.Move.TheVariants.{Change}
+use Rattle.pm_market.specs.State.{State, updated}
+use Rattle.pm_market.proofs.Tree.{leaf_node}
+use Rattle.pm_market.proofs.Cuts.{updated_same, updated_other, newest_leaf}
+use Rattle.pm_session.specs.Links.{Session, BidOffered, demand_offered, bid_offered}
+use Rattle.pm_session.specs.Ports.{Seat}
+use Rattle.pm_plan.specs.Plans.{PlanData, node, kind_of, is_member, change_count, end_cut}
+use Rattle.pm_plan.specs.Kept.{IsPlan}
+use Rattle.pm_plan.specs.Market.{plan_lists}
+use Rattle.pm_plan.proofs.Ends.{end-within}
+use Rattle.pm_plan.proofs.MarketLists.{phases-is}
+use Rattle.pm_offer.specs.Offers.{device_demand}
+use Rattle.pm_stands.specs.Core.{Core, link_at, uplink_of, seat_at}
+use Rattle.pm_stands.specs.Rows.{OneLink}
+use Rattle.pm_stands.specs.Stands.{is_gone, StandsFor, Stands, MakesMove}
+use Rattle.pm_stands.specs.Made.{bid_demand, seat_after, DidChange, changed_core}
+use Rattle.pm_plan.proofs.MarketLists.{lawful}
+use Rattle.pm_stands.proofs.Places.{from_node}
+use Rattle.pm_stands.proofs.Gone.{gone_leaf}
+use Rattle.pm_stands.proofs.Changing.{change_did}
+use Rattle.pm_cluster.specs.Next.{count_of, IsNext}
+use Rattle.pm_cluster.proofs.NextChanges.{end_of_market, member_of_market, demand_of_none}
+
+-- a change that follows is of a device, its next one, and of the device's kind
+pub record IsFollowed (plan : PlanData) (c : Core) (next : Next) (kind : Kind) : Type 0 where
+  pub leaf : IsLeaf (plan_lists plan) next.device
+  pub its_next : IsNext plan c next.device next
+  pub its_kind : kind_of (node plan next.device) ≡ Some kind
+
+pub within_changes : (plan : PlanData) (c : Core) (next : Next) (kind : Kind) → IsFollowed plan c next kind → next.number ≤ change_count plan next.device
+within_changes plan c next kind follows = omega (arith, follows.its_next.of_phase, end-within plan (c.closed + 1) next.device)
+
+-- it is legal
+pub legal_next : (plan : PlanData) → IsPlan plan → (c : Core) (s : State) → StandsFor plan c s → (next : Next) (kind : Kind) → IsFollowed plan c next kind →
+    Legal (plan_lists plan) s (Change next.device next.number)
+legal_next plan is_plan c s stands next kind follows =
+    let open_phase : s.closed < market.phases (plan_lists plan) = omega (arith, follows.its_next.open_phase, stands.closed, phases-is plan) in (
+      follows.leaf,
+      open_phase,
+      omega (arith, follows.its_next.number, stands.counts next.device follows.leaf),
+      omega (
+        arith,
+        follows.its_next.of_phase,
+        end_of_market plan is_plan (s.closed + 1) next.device follows.leaf (omega (arith, open_phase, phases-is plan)),
+        ap (λ (p : ℕ). end_cut plan (p + 1) next.device) stands.closed,
+      ),
+    )
+
+-- its number is new on the device's link
+pub new_number : (plan : PlanData) → IsPlan plan → (c : Core) → ∥ Stands plan c ∥₁ → (next : Next) (kind : Kind) → IsFollowed plan c next kind → (y k : ℕ) →
+    y ≡ parent (plan_lists plan) next.device → k ≡ place_of plan.entries next.device → (link_at c.links y k).up.offered < next.number
+new_number plan is_plan c stands next kind follows y k e f =
+    ∥∥₁_elim stands (Prim.hlevel props) (λ st.
+    let x_node = leaf_node (plan_lists plan) (lawful plan is_plan) next.device follows.leaf in
+    from_node plan next.device y k (λ (i j : ℕ). (link_at c.links i j).up.offered < next.number) e f
+    (omega (
+      arith,
+      st.is.bid_offered next.device x_node,
+      newest_leaf (plan_lists plan) st.state.counts st.state.published next.device follows.leaf,
+      st.is.counts next.device follows.leaf,
+      follows.its_next.number,
+    )))
+
+pub link_steps : (plan : PlanData) → IsPlan plan → (c : Core) → ((x : ℕ) → IsNode (plan_lists plan) x → (uplink_of plan c x).steps ≡ plan.basis.steps) →
+    (x : ℕ) → IsLeaf (plan_lists plan) x → (y k : ℕ) → y ≡ parent (plan_lists plan) x → k ≡ place_of plan.entries x →
+    (link_at c.links y k).steps ≡ plan.basis.steps
+link_steps plan is_plan c same x leaf y k e f =
+    from_node plan x y k (λ (i j : ℕ). (link_at c.links i j).steps ≡ plan.basis.steps) e f (same x (leaf_node (plan_lists plan) (lawful plan is_plan) x leaf))
+
+pub offered_length : (steps : ℕ) (gone : Bool) (demand : List ℤ) → length demand ≡ steps → length (demand_offered steps (bid_demand gone demand)) ≡ steps
+offered_length steps true demand same = length-zeros steps
+offered_length steps false demand same = same
+
+-- the bid that was offered is the device's
+bid_is : (plan : PlanData) → IsPlan plan → (x n steps : ℕ) (kind : Kind) (member : Bool) → IsLeaf (plan_lists plan) x → kind_of (node plan x) ≡ Some kind →
+    n ≤ change_count plan x → member ≡ is_member plan x n → steps ≡ plan.basis.steps →
+    bid_offered steps n (bid_demand (not member) (device_demand plan x n))
+    ≡ record { number = n; gone = is_gone (plan_lists plan) x n; demand = device_demand plan x n }
+bid_is plan is_plan x n steps kind member leaf kind_is le member_is steps_are =
+    let gone : is_gone (plan_lists plan) x n ≡ not member =
+    gone_leaf (plan_lists plan) x n leaf ∙ ap not (member_of_market plan is_plan x n leaf le ∙ sym member_is) in
+    go member (λ none. demand_of_none plan x n kind kind_is (sym member_is ∙ none))
+    ∙ ap (λ (g : Bool). record { number = n; gone = g; demand = device_demand plan x n }) (sym gone)
+  where
+    go : (m : Bool) → (m ≡ false → device_demand plan x n ≡ zeros plan.basis.steps) →
+        bid_offered steps n (bid_demand (not m) (device_demand plan x n)) ≡ record { number = n; gone = not m; demand = device_demand plan x n }
+    go true none = refl
+    go false none = ap (λ (d : List ℤ). record { number = n; gone = true; demand = d }) (ap zeros steps_are ∙ sym (none refl))
+
+set_updated : {A : Type 0} (xs : List A) (x : ℕ) (v d : A) → x < length xs → (e : ℕ) → get_or (set xs x v) e d ≡ updated (λ (i : ℕ). get_or xs i d) x v e
+set_updated xs x v d lt e = elim (cases_eq e x) [
+  | inl is ↦
+      ap (λ (i : ℕ). get_or (set xs x v) i d) is ∙ get_or-set_same xs x v d lt
+      ∙ sym (ap (updated (λ (i : ℕ). get_or xs i d) x v) is ∙ updated_same (λ (i : ℕ). get_or xs i d) x v)
+  | inr ne ↦ get_or-set_other xs x e v d ne ∙ sym (updated_other (λ (i : ℕ). get_or xs i d) x v e ne)
+]
+
+-- what the code wrote
+pub record Written (plan : PlanData) (c : Core) (next : Next) (before : Bool) (y k : ℕ) (links : List (List Session)) (demand : Option (List ℤ))
+    (out : List ℤ) (seat : Seat) : Type 0 where
+  pub place_counts : next.device < length c.counts
+  pub place_states : next.device < length c.states
+  pub place_ports : next.device < length c.ports
+  pub steps : (link_at c.links y k).steps ≡ plan.basis.steps
+  pub one : OneLink c.links links y k
+  pub offered : BidOffered (link_at c.links y k) (link_at links y k) (bid_offered (link_at c.links y k).steps next.number demand)
+  pub demand_is : demand ≡ bid_demand (not next.member) out
+  pub out_is : out ≡ device_demand plan next.device next.number
+  pub before_is : before ≡ is_member plan next.device (count_of c next.device)
+  pub seat_is : seat ≡ seat_after (seat_at c.ports next.device) before next.member next.number
+
+seat_set : (ports : List Seat) (x : ℕ) (seat : Seat) → x < length ports → seat_at (set ports x seat) x ≡ seat
+unfolding seat_at
+seat_set ports x seat lt = get_or-set_same ports x seat _ lt
+
+seat_other : (ports : List Seat) (x d : ℕ) (seat : Seat) → (d ≡ x → ⊥) → seat_at (set ports x seat) d ≡ seat_at ports d
+unfolding seat_at
+seat_other ports x d seat ne = get_or-set_other ports x d seat _ ne
+
+pub did_change : (plan : PlanData) → IsPlan plan → (c : Core) (next : Next) (kind : Kind) → IsFollowed plan c next kind → (before : Bool) (y k : ℕ)
+    (links : List (List Session)) (demand : Option (List ℤ)) (out : List ℤ) (seat : Seat) → Written plan c next before y k links demand out seat →
+    DidChange plan c next.device next.number links (set c.counts next.device next.number) (set c.states next.device next.state.0)
+    (set c.ports next.device seat) y k
+did_change plan is_plan c next kind follows before y k links demand out seat written =
+    let x = next.device in
+    let n = next.number in
+    let le = within_changes plan c next kind follows in
+    let le_before : count_of c x ≤ change_count plan x = omega (arith, le, follows.its_next.number) in
+    record {
+      made = subst (BidOffered (link_at c.links y k) (link_at links y k))
+          (ap (bid_offered (link_at c.links y k).steps n) (written.demand_is ∙ ap (bid_demand (not next.member)) written.out_is)
+          ∙ bid_is plan is_plan x n (link_at c.links y k).steps kind next.member follows.leaf follows.its_kind le follows.its_next.member written.steps)
+          written.offered;
+      one = written.one;
+      same_counts = length-set c.counts x n;
+      counted = λ d leaf. set_updated c.counts x n 0 written.place_counts d;
+      same_states = length-set c.states x next.state.0;
+      moved = λ d leaf.
+          set_updated c.states x next.state.0 (pos 0) written.place_states d
+          ∙ ap (λ (z : ℤ). updated (λ (e : ℕ). get_or c.states e (pos 0)) x z d) follows.its_next.state;
+      same_ports = length-set c.ports x seat;
+      seated =
+          seat_set c.ports x seat written.place_ports ∙ written.seat_is
+          ∙ ap (λ (b : Bool). seat_after (seat_at c.ports x) b next.member n)
+          (written.before_is ∙ sym (member_of_market plan is_plan x (count_of c x) follows.leaf le_before))
+          ∙ ap (λ (b : Bool). seat_after (seat_at c.ports x) (market.is_member (plan_lists plan) x (count_of c x)) b n)
+          (follows.its_next.member ∙ sym (member_of_market plan is_plan x n follows.leaf le));
+      others = λ d ne. seat_other c.ports x d seat ne;
+    }
+
+-- so the move was made
+pub change_makes : (plan : PlanData) → IsPlan plan → (c : Core) (s : State) → StandsFor plan c s → (next : Next) (kind : Kind) → IsFollowed plan c next kind →
+    (before : Bool) (y k : ℕ) → y ≡ parent (plan_lists plan) next.device → k ≡ place_of plan.entries next.device →
+    (links : List (List Session)) (demand : Option (List ℤ)) (out : List ℤ) (seat : Seat) → Written plan c next before y k links demand out seat →
+    MakesMove plan (changed_core c links (set c.counts next.device next.number) (set c.states next.device next.state.0) (set c.ports next.device seat)) s
+    (Change next.device next.number)
+change_makes plan is_plan c s stands next kind follows before y k e f links demand out seat written =
+    change_did plan is_plan c s stands next.device next.number y k (legal_next plan is_plan c s stands next kind follows) e f links
+    (set c.counts next.device next.number) (set c.states next.device next.state.0) (set c.ports next.device seat)
+    (did_change plan is_plan c next kind follows before y k links demand out seat written)
+
+pub change_stands : (plan : PlanData) → IsPlan plan → (c : Core) → ∥ Stands plan c ∥₁ → (next : Next) (kind : Kind) → IsFollowed plan c next kind →
+    (before : Bool) (y k : ℕ) → y ≡ parent (plan_lists plan) next.device → k ≡ place_of plan.entries next.device →
+    (links : List (List Session)) (demand : Option (List ℤ)) (out : List ℤ) (seat : Seat) → Written plan c next before y k links demand out seat →
+    ∥ Stands plan (changed_core c links (set c.counts next.device next.number) (set c.states next.device next.state.0) (set c.ports next.device seat)) ∥₁
+change_stands plan is_plan c stands next kind follows before y k e f links demand out seat written =
+    ∥∥₁_map stands (λ st. record {
+      state = step (plan_lists plan) st.state (Change next.device next.number);
+      is = (change_makes plan is_plan c st.state st.is next kind follows before y k e f links demand out seat written).stands;
+    })
+
+-- who is a member afterwards
+pub members_after : (plan : PlanData) (members : List Bool) (counts : List ℕ) (x n : ℕ) (member : Bool) → x < length members → x < length counts →
+    member ≡ is_member plan x n →
+    ((d : ℕ) → IsLeaf (plan_lists plan) d → get_or members d false ≡ is_member plan d (get_or counts d 0)) →
+    (d : ℕ) → IsLeaf (plan_lists plan) d → get_or (set members x member) d false ≡ is_member plan d (get_or (set counts x n) d 0)
+members_after plan members counts x n member lt lt' is before d leaf = elim (cases_eq d x) [
+  | inl e ↦
+      ap (λ (i : ℕ). get_or (set members x member) i false) e ∙ get_or-set_same members x member false lt ∙ is
+      ∙ ap (is_member plan x) (sym (get_or-set_same counts x n 0 lt'))
+      ∙ ap (λ (i : ℕ). is_member plan i (get_or (set counts x n) i 0)) (sym e)
+  | inr ne ↦
+      get_or-set_other members x d member false ne ∙ before d leaf ∙ ap (is_member plan d) (sym (get_or-set_other counts x d n 0 ne))
+]

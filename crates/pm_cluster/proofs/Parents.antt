@@ -1,0 +1,24 @@
+-- The tree of a plan is that of its lists: the equations as the search uses them.
+use Rattle.std.proofs.Common.{◌≡◌, sym, ℕ}
+use Rattle.std.specs.Prelude.{length, ◌≤◌}
+use Rattle.pm_market.specs.Lists.{nodes, parent, is_leaf, IsLeaf}
+use Rattle.pm_market.proofs.Tree.{leaf_node}
+use Rattle.pm_tree.proofs.Named.{length-parents_of}
+use Rattle.pm_plan.specs.Kept.{IsPlan}
+use Rattle.pm_plan.specs.Plans.{PlanData}
+use Rattle.pm_plan.specs.Plans as plans
+use Rattle.pm_plan.specs.Market.{plan_lists}
+use Rattle.pm_plan.proofs.MarketLists.{lawful, parent-is, is_leaf-is}
+
+pub parent_is : (plan : PlanData) (x : ℕ) → plans.parent plan x ≡ parent (plan_lists plan) x
+parent_is plan x = sym (parent-is plan x)
+
+pub leaf_is : (plan : PlanData) (x : ℕ) → plans.is_leaf plan x ≡ is_leaf (plan_lists plan) x
+leaf_is plan x = sym (is_leaf-is plan x)
+
+pub nodes_are : (plan : PlanData) → length plan.entries ≡ nodes (plan_lists plan)
+nodes_are plan = sym (length-parents_of plan.entries)
+
+-- a device is one of the nodes
+pub leaf_inside : (plan : PlanData) → IsPlan plan → (d : ℕ) → IsLeaf (plan_lists plan) d → (1 ≤ d) × (d ≤ nodes (plan_lists plan))
+leaf_inside plan is_plan d leaf = leaf_node (plan_lists plan) (lawful plan is_plan) d leaf

@@ -1,0 +1,102 @@
+use Rattle.std.proofs.Common.{◌≡◌, ◌∙◌, sym, ap, subst, ℕ, true, false, length, arith, rules, refl, inl, inr}
+use Rattle.std.specs.Prelude.{Some}
+use Rattle.std.proofs.lemmas.Option.{MatchOption-at_some}
+use Rattle.pm_device.specs.declared.state.Next.{Next}
+use Rattle.pm_market.specs.Lists.{is_leaf, IsLeaf}
+use Rattle.pm_plan.specs.Plans.{node, kind_of}
+use Rattle.pm_plan.specs.Market.{plan_lists}
+use Rattle.pm_cluster.specs.Acts.{IsNextOrNone}
+use Rattle.pm_cluster.specs.Clusters.{ClusterValue}
+use Rattle.pm_cluster.proofs.Parents.{nodes_are}
+use Rattle.pm_cluster.proofs.Kept.{leaf_of_plan}
+use Rattle.pm_cluster.proofs.ActForms.{far_leaf}
+use Rattle.pm_cluster.proofs.SameNext.{same_found, same_kind, not_differ, do_differ}
+use Rattle.pm_cluster.proofs.cluster.Cluster.change.Goals as goal
+use Rattle.pm_cluster.proofs.cluster.Cluster.change.Goals.{After-next-due, then-len-next-via-then-len-next}
+use Rattle.pm_cluster.proofs.cluster.Cluster.change.Goals.{then-len-next-via-else-len-next+then-not-is_device, then-ne-via-then-ne, then-ne-via-else-ne+then-ne-2}
+
+pub is_device-requires : goal.is_device-requires
+is_device-requires c = omega (arith, nodes_are c.self.inside.plan.now, c.if-len-next.false, c.len.ensures.len, ap length c.tree.ensures.tree)
+
+pub returns-then-len-next-clause-refused : goal.returns-then-len-next-clause-refused
+returns-then-len-next-clause-refused c =
+    let Claim : ClusterValue → ℕ → Type 0 = λ v x. is_leaf (plan_lists v.plan) x ≡ false in
+    let none : is_leaf (plan_lists c.self.inside.plan.now) c.next-next.result.device ≡ false = elim c.then-len-next.branch [
+      | then-len-next-via-then-len-next w ↦
+          far_leaf c.self.inside.plan.now c.self.invariant.is_plan c.next-next.result.device (omega
+          (arith, w.if-len-next.true, c.len.ensures.len, ap length c.tree.ensures.tree))
+      | then-len-next-via-else-len-next+then-not-is_device w ↦ sym w.is_device.ensures ∙ (let off : w.is_device.result ≡ false = search rules in off)
+    ] in
+    inl (
+      subst (Claim c.args.self.now) (ap (λ (n : Next). n.device) c.next-next.ensures.next) (subst
+          (λ (v : ClusterValue). Claim v c.next-next.result.device) c.self.view_is none),
+      refl,
+    )
+
+-- the device is one of the plan
+leaf : (c : After-next-due) → IsLeaf (plan_lists c.self.inside.plan.now) c.next-next.result.device
+leaf c = sym c.is_device.ensures ∙ (let on : c.is_device.result ≡ true = search rules in on)
+
+leaf_made : (c : After-next-due) → IsLeaf (plan_lists c.args.self.now.plan) c.args.made.now.next.device
+leaf_made c =
+    let Claim : ClusterValue → ℕ → Type 0 = λ v x. is_leaf (plan_lists v.plan) x ≡ true in
+    subst (Claim c.args.self.now) (ap (λ (n : Next). n.device) c.next-next.ensures.next) (
+    subst (λ (v : ClusterValue). Claim v c.next-next.result.device) c.self.view_is (leaf c))
+
+next_made : (c : After-next-due) → IsNextOrNone c.args.self.now.plan c.args.self.now.core c.args.made.now.next.device c.next-due.result
+next_made c =
+    let Claim : ℕ → Type 0 = λ x. IsNextOrNone c.args.self.now.plan c.args.self.now.core x c.next-due.result in
+    subst Claim (ap (λ (n : Next). n.device) c.next-next.ensures.next) c.next-due.ensures.next
+
+pub kind-requires : goal.kind-requires
+kind-requires c = leaf_of_plan c.self.inside.plan.now c.next-next.result.device (leaf (goal.at.kind-requires c).After-next-due)
+
+pub returns-then-ne-clause-refused : goal.returns-then-ne-clause-refused
+returns-then-ne-clause-refused c =
+    let p = (goal.at.returns-then-ne-clause-refused c).After-next-due in
+    inr (
+      leaf_made p,
+      next_made p,
+      elim c.then-ne.branch [
+        | then-ne-via-then-ne w ↦
+            let differs : c.next-due.result ≡ Some c.next-next.result → ⊥ = do_differ _ _ (same_found c.next-due.result c.next-next.result) w.if-ne.ensures in
+            inl (λ e. differs (e ∙ ap Some (sym c.next-next.ensures.next)))
+        | then-ne-via-else-ne+then-ne-2 w ↦
+            let differs : w.kind.result ≡ w.kind-else-ne.result → ⊥ = do_differ _ _ (same_kind w.kind.result w.kind-else-ne.result) w.if-ne-2.ensures in
+            inr (λ e.
+            let Claim : ClusterValue → ℕ → Type 0 = λ v x. kind_of (node v.plan x) ≡ Some w.kind.result in
+            let read = subst (Claim c.args.self.now) (ap (λ (n : Next). n.device) c.next-next.ensures.next) (
+            subst (λ (v : ClusterValue). Claim v c.next-next.result.device) c.self.view_is w.kind.ensures.kind) in
+            let same : Some w.kind.result ≡ Some c.args.made.now.kind = sym read ∙ e in
+            let kinds : w.kind.result ≡ c.args.made.now.kind = cc same in
+            differs (kinds ∙ sym w.kind-else-ne.ensures.kind))
+      ],
+    )
+
+pub make-requires-clause-follows : goal.make-requires-clause-follows
+make-requires-clause-follows c =
+    let p = (goal.at.make-requires-clause-follows c).After-next-due in
+    let same : c.next-due.result ≡ Some c.next-next.result = not_differ _ _ (same_found c.next-due.result c.next-next.result) c.if-ne.ensures in
+    let kinds : c.kind.result ≡ c.kind-else-ne.result = not_differ _ _ (same_kind c.kind.result c.kind-else-ne.result) c.if-ne-2.ensures in
+    let Claim : ClusterValue → ℕ → Type 0 = λ v x. kind_of (node v.plan x) ≡ Some c.kind.result in
+    let read = subst (Claim c.args.self.now) (ap (λ (n : Next). n.device) c.next-next.ensures.next) (
+    subst (λ (v : ClusterValue). Claim v c.next-next.result.device) c.self.view_is c.kind.ensures.kind) in
+    record {
+      leaf = leaf_made p;
+      next = MatchOption-at_some _ _ c.args.made.now.next (same ∙ ap Some c.next-next.ensures.next) (next_made p);
+      kind = read ∙ ap Some (kinds ∙ c.kind-else-ne.ensures.kind);
+    }
+
+pub returns-clause-follows : goal.returns-clause-follows
+returns-clause-follows c =
+    let p = (goal.at.returns-clause-follows c).After-next-due in
+    let same : c.next-due.result ≡ Some c.next-next.result = not_differ _ _ (same_found c.next-due.result c.next-next.result) c.if-ne.ensures in
+    let kinds : c.kind.result ≡ c.kind-else-ne.result = not_differ _ _ (same_kind c.kind.result c.kind-else-ne.result) c.if-ne-2.ensures in
+    let Claim : ClusterValue → ℕ → Type 0 = λ v x. kind_of (node v.plan x) ≡ Some c.kind.result in
+    let read = subst (Claim c.args.self.now) (ap (λ (n : Next). n.device) c.next-next.ensures.next) (
+    subst (λ (v : ClusterValue). Claim v c.next-next.result.device) c.self.view_is c.kind.ensures.kind) in
+    record {
+      leaf = leaf_made p;
+      next = MatchOption-at_some _ _ c.args.made.now.next (same ∙ ap Some c.next-next.ensures.next) (next_made p);
+      kind = read ∙ ap Some (kinds ∙ c.kind-else-ne.ensures.kind);
+    }

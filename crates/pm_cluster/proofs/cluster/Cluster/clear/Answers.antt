@@ -1,0 +1,65 @@
+use Rattle.std.proofs.Common.{arith, refl}
+use Rattle.pm_market.specs.State.{State}
+use Rattle.pm_market.specs.declared.moves.Move.TheVariants.{Clear}
+use Rattle.pm_stands.specs.Made.{DidClear}
+use Rattle.pm_stands.specs.Stands.{StandsFor, MakesMove}
+use Rattle.pm_stands.proofs.Made.{clear_did}
+use Rattle.pm_stands.proofs.MayClear.{may_clear}
+use Rattle.pm_cluster.specs.declared.cluster.Cluster.TheInside.{Inside}
+use Rattle.pm_cluster.specs.ClusterFields.{core_of}
+use Rattle.pm_cluster.proofs.Kept.{places_of, stands_after, of_value}
+use Rattle.pm_cluster.proofs.cluster.Cluster.clear.Goals as goal
+use Rattle.pm_cluster.proofs.cluster.Cluster.clear.Goals.{In-Some}
+
+pub clear-requires-clause-same_length : goal.clear-requires-clause-same_length
+clear-requires-clause-same_length c =
+    (may_clear c.self.inside.plan.now c.self.invariant.is_plan (core_of c.self.inside) c.self.invariant.stands).row_length
+
+pub clear-requires-clause-last : goal.clear-requires-clause-last
+clear-requires-clause-last c =
+    omega (arith, (may_clear c.self.inside.plan.now c.self.invariant.is_plan (core_of c.self.inside) c.self.invariant.stands).fits)
+
+pub clear-requires-clause-index : goal.clear-requires-clause-index
+clear-requires-clause-index c =
+    (may_clear c.self.inside.plan.now c.self.invariant.is_plan (core_of c.self.inside) c.self.invariant.stands).index
+
+abbrev after : (c : In-Some) → Inside
+after c = record {
+  plan = c.self.inside.plan;
+  counts = c.self.inside.counts;
+  states = c.self.inside.states;
+  members = c.self.inside.members;
+  due = c.self.inside.due;
+  powers = c.self.inside.powers;
+  closed = c.self.inside.closed;
+  links = c.clear.new.links;
+  concentrators = c.self.inside.concentrators;
+  auctioneer = c.clear.new.auctioneer;
+  ports = c.self.inside.ports;
+  spare = c.self.inside.spare;
+}
+
+did : (c : In-Some) → DidClear (core_of c.self.inside) (core_of (after c)).links c.clear.new.auctioneer c.in-Some.cleared.index c.in-Some.cleared.step
+did c = record { made = c.in-Some.ensures.cleared; row = c.in-Some.ensures.row refl }
+
+makes : (c : In-Some) (s : State) → StandsFor c.self.inside.plan.now (core_of c.self.inside) s →
+    MakesMove c.self.inside.plan.now (core_of (after c)) s (Clear c.in-Some.cleared.index)
+makes c s stands = clear_did c.self.inside.plan.now c.self.invariant.is_plan (core_of c.self.inside) s stands _ _ _ _ (did c)
+
+pub invariant_of-self-2 : goal.invariant_of-self-2
+invariant_of-self-2 c =
+    let now = stands_after c.self.inside.plan.now (core_of c.self.inside) _ _ (makes c) c.self.invariant.stands in
+    record {
+      is_plan = c.self.invariant.is_plan;
+      places = places_of _ _ now;
+      same_members = c.self.invariant.same_members;
+      members = c.self.invariant.members;
+      same_due = c.self.invariant.same_due;
+      due = c.self.invariant.due;
+      spare = c.self.invariant.spare;
+      stands = now;
+    }
+
+pub returns-clause-made : goal.returns-clause-made
+returns-clause-made c =
+    of_value c.self.inside _ c.self.view_is (λ plan s. MakesMove plan (core_of (after c)) s (Clear c.in-Some.cleared.index)) (makes c)

@@ -1,0 +1,23 @@
+use Rattle.std.proofs.Common.{◌≡◌, ◌∙◌, sym, ap, subst, ℕ, ◌+◌, true, false, arith, rules}
+use Rattle.pm_market.specs.declared.moves.Move.TheVariants.{Close}
+use Rattle.pm_plan.specs.Market.{plan_lists}
+use Rattle.pm_stands.specs.Stands.{MakesMove}
+use Rattle.pm_cluster.specs.Clusters.{ClusterValue}
+use Rattle.pm_cluster.specs.ClusterFields.{core_of}
+use Rattle.pm_cluster.proofs.ActForms.{no_close, few_closed}
+use Rattle.pm_cluster.proofs.cluster.Cluster.close_phase.Goals as goal
+
+pub overflow_add-phase : goal.overflow_add-phase
+overflow_add-phase c = omega (arith, few_closed c.self.inside.plan.now c.self.invariant.is_plan (core_of c.self.inside) c.self.invariant.stands)
+
+pub returns-then-not-close-clause-made : goal.returns-then-not-close-clause-made
+returns-then-not-close-clause-made c s stands =
+    let off : c.close.result ≡ false = search rules in
+    no_close (plan_lists c.args.self.now.plan) s (c.close.ensures.refused off s stands)
+
+pub returns-clause-made : goal.returns-clause-made
+returns-clause-made c s stands =
+    let on : c.close.result ≡ true = search rules in
+    let same : s.closed + 1 ≡ c.self.inside.closed + 1 =
+    ap (λ (n : ℕ). n + 1) (sym stands.closed ∙ sym (ap (λ (v : ClusterValue). v.core.closed) c.self.view_is)) in
+    subst (λ (n : ℕ). MakesMove c.args.self.now.plan c.close.new.self.core s (Close n)) same (c.close.ensures.made on s stands)

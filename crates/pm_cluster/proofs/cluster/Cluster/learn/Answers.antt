@@ -1,0 +1,102 @@
+use Rattle.std.proofs.Common.{ℕ, sym, subst, ◌∙◌}
+use Rattle.pm_market.specs.State.{State}
+use Rattle.pm_market.specs.Lists.{IsNode}
+use Rattle.pm_market.specs.Moves.{Legal}
+use Rattle.pm_market.specs.declared.moves.Move.TheVariants.{Learn}
+use Rattle.pm_cache.specs.Learning.{CanLearn}
+use Rattle.pm_session.specs.Links.{UpBid}
+use Rattle.pm_plan.specs.Market.{plan_lists}
+use Rattle.pm_stands.specs.Core.{cache_in}
+use Rattle.pm_stands.specs.Rows.{EntryLearnt}
+use Rattle.pm_stands.specs.Made.{DidLearn}
+use Rattle.pm_stands.specs.Stands.{StandsFor, MakesMove}
+use Rattle.pm_stands.proofs.Made.{learn_did, can_learn_at, newer_at, cannot_learn}
+use Rattle.pm_cluster.specs.declared.cluster.Cluster.TheInside.{Inside}
+use Rattle.pm_cluster.specs.ClusterFields.{core_of}
+use Rattle.pm_cluster.proofs.Kept.{places_of, parent_there, stands_after, of_fields, of_value}
+use Rattle.pm_cluster.proofs.cluster.Cluster.learn.Goals as goal
+use Rattle.pm_cluster.proofs.cluster.Cluster.learn.Goals.{After-unless_gone-demand, After-learn}
+
+node_at : (c : After-unless_gone-demand) → IsNode (plan_lists c.self.inside.plan.now) c.args.child.0
+node_at c = of_fields c.self.inside _ c.self.view_is (λ plan. IsNode (plan_lists plan) c.args.child.0) c.requires.node
+
+abbrev the_bid : (c : After-unless_gone-demand) → UpBid
+the_bid c = record { number = c.in-Some.head.number; gone = c.in-Some.head.gone; demand = c.take_bid.new.into }
+
+pub learn-requires-clause-there : goal.learn-requires-clause-there
+learn-requires-clause-there c =
+    parent_there c.self.inside.plan.now c.self.invariant.is_plan (core_of c.self.inside) c.self.invariant.places c.args.child.0 c.parent_of-parent.result
+    (node_at (goal.at.learn-requires-clause-there c).After-unless_gone-demand) c.parent_of-parent.ensures.parent c.parent_of-parent.ensures.inside
+
+pub learn-requires-clause-newer : goal.learn-requires-clause-newer
+learn-requires-clause-newer c =
+    let at = (goal.at.learn-requires-clause-newer c).After-unless_gone-demand in
+    newer_at c.self.inside.plan.now c.self.invariant.is_plan (core_of c.self.inside) c.self.invariant.stands c.args.child.0
+    c.parent_of-parent.result c.place_in_row-place.result (node_at at) c.parent_of-parent.ensures.parent c.place_in_row-place.ensures.place
+    (the_bid at) _ c.in-Some.ensures.taken
+
+pub learn-requires-clause-can : goal.learn-requires-clause-can
+learn-requires-clause-can c =
+    let at = (goal.at.learn-requires-clause-can c).After-unless_gone-demand in
+    subst (λ d. CanLearn (cache_in c.self.inside.auctioneer c.self.inside.concentrators.items c.parent_of-parent.result) c.place_in_row-place.result d)
+    (sym c.unless_gone-demand.ensures)
+    (can_learn_at c.self.inside.plan.now c.self.invariant.is_plan (core_of c.self.inside) c.self.invariant.stands c.args.child.0
+    c.parent_of-parent.result c.place_in_row-place.result (node_at at) c.parent_of-parent.ensures.parent c.place_in_row-place.ensures.place
+    (the_bid at) _ c.in-Some.ensures.taken)
+
+abbrev after : (c : After-learn) → Inside
+after c = record {
+  plan = c.self.inside.plan;
+  counts = c.self.inside.counts;
+  states = c.self.inside.states;
+  members = c.self.inside.members;
+  due = c.self.inside.due;
+  powers = c.self.inside.powers;
+  closed = c.self.inside.closed;
+  links = c.take_bid.new.links;
+  concentrators = c.learn.new.concentrators;
+  auctioneer = c.learn.new.auctioneer;
+  ports = c.self.inside.ports;
+  spare = c.take_bid.new.into;
+}
+
+did : (c : After-learn) → DidLearn (core_of c.self.inside) (core_of (after c)).links c.learn.new.auctioneer c.learn.new.concentrators.items
+    (record { number = c.in-Some.head.number; gone = c.in-Some.head.gone; demand = c.take_bid.new.into })
+    c.parent_of-parent.result c.place_in_row-place.result
+did c = record {
+  taken = c.in-Some.ensures.taken;
+  one = c.in-Some.ensures.one;
+  learnt = subst (λ d. EntryLearnt c.self.inside.auctioneer c.learn.new.auctioneer c.self.inside.concentrators.items c.learn.new.concentrators.items
+      c.parent_of-parent.result c.place_in_row-place.result c.in-Some.head.number d) c.unless_gone-demand.ensures c.learn.ensures;
+}
+
+makes : (c : After-learn) (s : State) → StandsFor c.self.inside.plan.now (core_of c.self.inside) s →
+    MakesMove c.self.inside.plan.now (core_of (after c)) s (Learn c.args.child.0 c.in-Some.head.number)
+makes c s stands =
+    let node = of_fields c.self.inside _ c.self.view_is (λ plan. IsNode (plan_lists plan) c.args.child.0) c.requires.node in
+    learn_did c.self.inside.plan.now c.self.invariant.is_plan (core_of c.self.inside) s stands c.args.child.0
+    c.parent_of-parent.result c.place_in_row-place.result node c.parent_of-parent.ensures.parent c.place_in_row-place.ensures.place _ _ _ _ (did c)
+
+pub invariant_of-self-2 : goal.invariant_of-self-2
+invariant_of-self-2 c =
+    let now = stands_after c.self.inside.plan.now (core_of c.self.inside) _ _ (makes c) c.self.invariant.stands in
+    record {
+      is_plan = c.self.invariant.is_plan;
+      places = places_of _ _ now;
+      same_members = c.self.invariant.same_members;
+      members = c.self.invariant.members;
+      same_due = c.self.invariant.same_due;
+      due = c.self.invariant.due;
+      spare = c.in-Some.ensures.same_length ∙ c.self.invariant.spare;
+      stands = now;
+    }
+
+pub returns-clause-made : goal.returns-clause-made
+returns-clause-made c =
+    of_value c.self.inside _ c.self.view_is (λ plan s. MakesMove plan (core_of (after c)) s (Learn c.args.child.0 c.in-Some.head.number)) (makes c)
+
+pub returns-in_default-clause-made : goal.returns-in_default-clause-made
+returns-in_default-clause-made c =
+    of_value c.self.inside _ c.self.view_is (λ plan s. (number : ℕ) → Legal (plan_lists plan) s (Learn c.args.child.0 number) → ⊥) (λ s stands.
+    cannot_learn c.self.inside.plan.now (core_of c.self.inside) s stands c.args.child.0 c.parent_of-parent.result c.place_in_row-place.result
+    c.parent_of-parent.ensures.parent c.place_in_row-place.ensures.place _ c.in_default.ensures.taken.0)

@@ -1,0 +1,96 @@
+use Rattle.std.proofs.Common.{arith, ℕ, sym, ap, ◌∙◌, ◌<◌, length, Some}
+use Rattle.std.proofs.Math.ListN.{length-set}
+use Rattle.std.specs.Vec.{with_item}
+use Rattle.pm_market.specs.State.{State}
+use Rattle.pm_market.specs.Lists.{IsLeaf}
+use Rattle.pm_market.specs.Moves.{Legal}
+use Rattle.pm_market.specs.declared.moves.Move.TheVariants.{Pass}
+use Rattle.pm_session.specs.Ports.{Seat}
+use Rattle.pm_plan.specs.Market.{plan_lists}
+use Rattle.pm_stands.specs.Made.{DidTake}
+use Rattle.pm_stands.specs.Stands.{StandsFor, MakesMove}
+use Rattle.pm_stands.proofs.MayPass.{cannot_pass}
+use Rattle.pm_stands.proofs.Taking.{take_did}
+use Rattle.pm_cluster.specs.declared.cluster.Cluster.TheInside.{Inside}
+use Rattle.pm_cluster.specs.ClusterFields.{core_of}
+use Rattle.pm_cluster.proofs.Kept.{places_of, stands_after, of_fields, of_value, leaf_is_node}
+use Rattle.pm_cluster.proofs.Seats.{seat_set, seat_other, seat_read}
+use Rattle.pm_cluster.proofs.cluster.Cluster.take.Goals as goal
+use Rattle.pm_cluster.proofs.cluster.Cluster.take.Goals.{After-index_mut, After-price}
+
+pub parent_of-parent-requires : goal.parent_of-parent-requires
+parent_of-parent-requires c = record { node = leaf_is_node c.self.inside _ c.self.view_is c.self.invariant.is_plan c.args.device.0 c.requires.leaf }
+
+pub place_in_row-place-requires : goal.place_in_row-place-requires
+place_in_row-place-requires c = record { node = leaf_is_node c.self.inside _ c.self.view_is c.self.invariant.is_plan c.args.device.0 c.requires.leaf }
+
+pub index_mut-requires : goal.index_mut-requires
+index_mut-requires c =
+    let node = leaf_is_node c.self.inside _ c.self.view_is c.self.invariant.is_plan c.args.device.0 c.requires.leaf in
+    omega (arith, node.1, c.self.inside.ports.ok.0, c.self.invariant.places.all_ports)
+
+inside_ports : (c : After-price) → c.args.device.0 < length c.self.inside.ports.items
+inside_ports c =
+    let node = leaf_is_node c.self.inside _ c.self.view_is c.self.invariant.is_plan c.args.device.0 c.requires.leaf in
+    omega (arith, node.1, c.self.invariant.places.all_ports)
+
+abbrev after : (c : After-price) → Inside
+after c = record {
+  plan = c.self.inside.plan;
+  counts = c.self.inside.counts;
+  states = c.self.inside.states;
+  members = c.self.inside.members;
+  due = c.self.inside.due;
+  powers = c.self.inside.powers;
+  closed = c.self.inside.closed;
+  links = c.take_price.new.links;
+  concentrators = c.self.inside.concentrators;
+  auctioneer = c.self.inside.auctioneer;
+  ports = with_item c.self.inside.ports c.args.device.0 c.price.new.self;
+  spare = c.self.inside.spare;
+}
+
+did : (c : After-price) → DidTake (core_of c.self.inside) c.args.device.0 (core_of (after c)).links (core_of (after c)).ports c.in-Some.price
+    c.parent_of-parent.result c.place_in_row-place.result
+did c = record {
+  taken = c.in-Some.ensures.taken;
+  one = c.in-Some.ensures.one;
+  same_ports = length-set c.self.inside.ports.items c.args.device.0 c.price.new.self;
+  given = seat_set c.self.inside.ports.items c.args.device.0 c.price.new.self (inside_ports c) ∙ c.price.ensures.given
+      ∙ ap (λ (seat : Seat). record seat { given = Some c.in-Some.price })
+      (sym (seat_read c.self.inside.ports.items c.args.device.0 c.index_mut.result.now (inside_ports c) c.index_mut.ensures.value));
+  others = seat_other c.self.inside.ports.items c.args.device.0 c.price.new.self;
+}
+
+makes : (c : After-price) (s : State) → StandsFor c.self.inside.plan.now (core_of c.self.inside) s →
+    MakesMove c.self.inside.plan.now (core_of (after c)) s (Pass c.args.device.0 c.in-Some.price.index)
+makes c s stands =
+    let leaf = of_fields c.self.inside _ c.self.view_is (λ plan. IsLeaf (plan_lists plan) c.args.device.0) c.requires.leaf in
+    take_did c.self.inside.plan.now c.self.invariant.is_plan (core_of c.self.inside) s stands c.args.device.0
+    c.parent_of-parent.result c.place_in_row-place.result leaf c.parent_of-parent.ensures.parent c.place_in_row-place.ensures.place _ _ _ (did c)
+
+pub invariant_of-self-2 : goal.invariant_of-self-2
+invariant_of-self-2 c =
+    let now = stands_after c.self.inside.plan.now (core_of c.self.inside) _ _ (makes (goal.at.invariant_of-self-2 c).After-price) c.self.invariant.stands in
+    record {
+      is_plan = c.self.invariant.is_plan;
+      places = places_of _ _ now;
+      same_members = c.self.invariant.same_members;
+      members = c.self.invariant.members;
+      same_due = c.self.invariant.same_due;
+      due = c.self.invariant.due;
+      spare = c.self.invariant.spare;
+      stands = now;
+    }
+
+pub returns-clause-made : goal.returns-clause-made
+returns-clause-made c =
+    let at = (goal.at.returns-clause-made c).After-price in
+    of_value c.self.inside _ c.self.view_is (λ plan s. MakesMove plan (core_of (after at)) s (Pass c.args.device.0 c.in-Some.price.index)) (makes at)
+
+pub returns-in_default-clause-made : goal.returns-in_default-clause-made
+returns-in_default-clause-made c =
+    let node = leaf_is_node c.self.inside _ c.self.view_is c.self.invariant.is_plan c.args.device.0 c.requires.leaf in
+    of_value c.self.inside _ c.self.view_is (λ plan s. (index : ℕ) → Legal (plan_lists plan) s (Pass c.args.device.0 index) → ⊥) (λ s stands.
+    cannot_pass c.self.inside.plan.now (core_of c.self.inside) s stands c.args.device.0 c.parent_of-parent.result c.place_in_row-place.result
+    node c.parent_of-parent.ensures.parent c.place_in_row-place.ensures.place _ c.in_default.ensures.taken)

@@ -1,0 +1,22 @@
+use Rattle.std.proofs.Common.{◌≡◌, ◌+◌, ◌∙◌, ap, length, arith}
+use Rattle.pm_market.specs.Lists.{nodes}
+use Rattle.pm_plan.specs.Market.{plan_lists}
+use Rattle.pm_cluster.proofs.Parents.{nodes_are}
+use Rattle.pm_cluster.proofs.opening.concentrators.Goals as goal
+
+pub concentrator-requires : goal.concentrator-requires
+concentrator-requires c = record {
+  inside = omega (arith, nodes_are c.args.plan.now, c.loop-number-test.true, c.len-number-end.ensures.len, ap length c.tree.ensures.tree);
+}
+
+pub returns : goal.returns
+returns c =
+    let plan = c.args.plan.now in
+    let all : c.loop-number.number ≡ nodes (plan_lists plan) + 1 =
+    omega (arith, nodes_are plan, c.loop-number-test.false, c.loop-number.auto.number-end, c.len-number-end.ensures.len, ap length c.tree.ensures.tree) in
+    record {
+      concentrators = record {
+        one_each = c.loop-number.invariant.0 ∙ all;
+        new = λ y inside. c.loop-number.invariant.1 y (omega (arith, all, inside));
+      };
+    }

@@ -1,0 +1,222 @@
+ghost use Rattle.std.specs.Prelude.{◌≡◌, ℕ, ◌+◌, ◌<◌, ◌≤◌, if◌then◌else◌, length, map, Ok, Some, None, IfOk, IfErr, IfSome, MatchOption};
+ghost use Rattle.pm_market.specs.Lists.{nodes, is_leaf, IsLeaf};
+ghost use Rattle.pm_market.specs.State.{State};
+ghost use Rattle.pm_market.specs.Moves.{act_of};
+ghost use Rattle.pm_plan.specs.Market.{plan_lists};
+ghost use Rattle.pm_plan.specs.Plans.{plan_bound};
+ghost use Rattle.pm_market.specs.Held.{held};
+ghost use Rattle.pm_offer.specs.Offers.{local_at};
+ghost use Rattle.pm_stands.specs.Stands.{StandsFor, MakesMove};
+ghost use Rattle.pm_stands.specs.Actors.{IsMoveOf, NoMoveOf, IsMadeLine};
+ghost use Rattle.pm_market.specs.declared.moves.Act.{Act};
+ghost use Rattle.pm_cluster.specs.Acts.{NoMoveBy, NotActed, IsRunOf, NeverGoesBack, AreRefused};
+
+use crate::cluster::Cluster;
+use crate::fault::{ActFault, ApplyFault};
+use crate::tree::is_device;
+use pm_agent::DeviceAgent;
+use pm_market::{Act, Journal, Line, Move};
+use pm_plan::Plan;
+use pm_tree::NodeId;
+use std::alloc::{AllocError, Global};
+
+impl<'p> Cluster<'p> {
+    /// MakesMove one node move of a node, where one is legal: a node learns from its children, a concentrator publishes and
+    /// passes a price on, the auctioneer clears, a device takes a price. None comes exactly where no such move is legal,
+    /// and never an error.
+    pub fn step(&mut self, node: NodeId) -> Result<Option<Line>, AllocError>
+        requires inside { node.0 ≤ nodes (plan_lists self.old.plan) }
+        ensures ok { IfErr result (λ e. ⊥) }
+        ensures plan { self.new.plan ≡ self.old.plan }
+        ensures mine { IfOk result (λ made. IfSome made (λ line. IsMoveOf (plan_lists self.old.plan) node.0 line.what)) }
+        ensures none { result ≡ Ok None → self.new ≡ self.old }
+        ensures made { (s : State) → StandsFor self.old.plan self.old.core s → IfOk result (λ made. MatchOption made
+            (NoMoveOf (plan_lists self.old.plan) s node.0)
+            (IsMadeLine self.old.plan self.new.core s)) }
+    {
+        match self.move_of(node) {
+            None => Ok(None),
+            Some(what) => Ok(Some(self.line_of(what))),
+        }
+    }
+
+    /// The line of a move that was just made: after a price was passed to a device it has the step and the number that
+    /// the device then holds.
+    fn line_of(&self, what: Move) -> Line
+        ensures line { (s : State) → MakesMove self.now.plan self.now.core s what → IsMadeLine self.now.plan self.now.core s result }
+        ensures what { result.what ≡ what }
+    {
+        let held = match what {
+            Move::Pass { node, index: _ } => self.held_by(NodeId(node)),
+            _ => None,
+        };
+        Line { what, held }
+    }
+
+    /// The step and the number that a device holds; none for any other node.
+    fn held_by(&self, node: NodeId) -> Option<(u32, u32)>
+        ensures held { (s : State) → StandsFor self.now.plan self.now.core s →
+            result ≡ (if is_leaf (plan_lists self.now.plan) node.0 then held (plan_lists self.now.plan) (local_at self.now.plan) s node.0 else None) }
+    {
+        if self.plan.tree().len() < node.0 || !is_device(self.plan, node) {
+            return None;
+        }
+        let Some(price) = self.held(node) else {
+            return None;
+        };
+        Some((price.step, price.number))
+    }
+
+    /// MakesMove the legal move of an act's form; for a change it computes the device's bid.
+    ///
+    /// `Illegal` comes exactly where no move of that form is legal; a node that does not exist or is of the wrong sort has
+    /// none.
+    pub fn act(&mut self, alloc: Global, act: Act) -> Result<Line, ActFault>
+        ensures plan { self.new.plan ≡ self.old.plan }
+        ensures form { IfOk result (λ line. act_of line.what ≡ act) }
+        ensures made { (s : State) → StandsFor self.old.plan self.old.core s → IfOk result (IsMadeLine self.old.plan self.new.core s) }
+        ensures refused { (s : State) → StandsFor self.old.plan self.old.core s → IfErr result (NotActed self.old.plan s act) }
+        ensures unchanged { IfErr result (λ fault. self.new ≡ self.old) }
+    {
+        match self.move_by(alloc, act)? {
+            None => Err(ActFault::Illegal),
+            Some(what) => Ok(self.line_of(what)),
+        }
+    }
+
+    /// MakesMove the legal move of an act's form, where there is one.
+    fn move_by(&mut self, alloc: Global, act: Act) -> Result<Option<Move>, AllocError>
+        ensures plan { self.new.plan ≡ self.old.plan }
+        ensures form { IfOk result (λ made. IfSome made (λ what. act_of what ≡ act)) }
+        ensures none { result ≡ Ok None → self.new ≡ self.old }
+        ensures unchanged { IfErr result (λ e. self.new ≡ self.old) }
+        ensures made { (s : State) → StandsFor self.old.plan self.old.core s → IfOk result (λ made. MatchOption made
+            (NoMoveBy self.old.plan s act)
+            (MakesMove self.old.plan self.new.core s)) }
+    {
+        match act {
+            Act::Change { device } => self.change_by_plan(alloc, NodeId(device)),
+            Act::Learn { child } => Ok(self.learn_from(NodeId(child))),
+            Act::Publish { node } => Ok(self.publish_at(NodeId(node))),
+            Act::Clear => Ok(self.clear()),
+            Act::Pass { node } => Ok(self.pass_to(NodeId(node))),
+            Act::Close => Ok(self.close_phase()),
+        }
+    }
+
+    /// MakesMove the next change of a device, where it has one.
+    fn change_by_plan(&mut self, alloc: Global, device: NodeId) -> Result<Option<Move>, AllocError>
+        ensures plan { self.new.plan ≡ self.old.plan }
+        ensures form { IfOk result (λ made. IfSome made (λ what. act_of what ≡ Act.Change device.0)) }
+        ensures none { result ≡ Ok None → self.new ≡ self.old }
+        ensures unchanged { IfErr result (λ e. self.new ≡ self.old) }
+        ensures made { (s : State) → StandsFor self.old.plan self.old.core s → IfOk result (λ made. MatchOption made
+            (NoMoveBy self.old.plan s (Act.Change device.0))
+            (MakesMove self.old.plan self.new.core s)) }
+    {
+        let plan = self.plan;
+        if plan.tree().len() < device.0 || !is_device(plan, device) {
+            return Ok(None);
+        }
+        let Some(next) = self.next(device) else {
+            return Ok(None);
+        };
+        let kind = plan.kind(device);
+        let mut agent = DeviceAgent::new(alloc, kind, device.0, plan.basis().steps())?;
+        let made = agent.work(next, plan.arrays());
+        match self.change(made) {
+            Ok(what) => Ok(Some(what)),
+            Err(_) => Ok(None),
+        }
+    }
+
+    /// The parent of a node learns the node's newest bid, where that is legal.
+    fn learn_from(&mut self, child: NodeId) -> Option<Move>
+        ensures plan { self.new.plan ≡ self.old.plan }
+        ensures form { IfSome result (λ what. act_of what ≡ Act.Learn child.0) }
+        ensures none { result ≡ None → self.new ≡ self.old }
+        ensures made { (s : State) → StandsFor self.old.plan self.old.core s → MatchOption result
+            (NoMoveBy self.old.plan s (Act.Learn child.0))
+            (MakesMove self.old.plan self.new.core s) }
+    {
+        if child.0 == 0 || self.plan.tree().len() < child.0 {
+            return None;
+        }
+        self.learn(child)
+    }
+
+    /// A concentrator publishes, where that is legal.
+    fn publish_at(&mut self, node: NodeId) -> Option<Move>
+        ensures plan { self.new.plan ≡ self.old.plan }
+        ensures form { IfSome result (λ what. act_of what ≡ Act.Publish node.0) }
+        ensures none { result ≡ None → self.new ≡ self.old }
+        ensures made { (s : State) → StandsFor self.old.plan self.old.core s → MatchOption result
+            (NoMoveBy self.old.plan s (Act.Publish node.0))
+            (MakesMove self.old.plan self.new.core s) }
+    {
+        if node.0 == 0 || self.plan.tree().len() < node.0 || is_device(self.plan, node) {
+            return None;
+        }
+        self.publish(node)
+    }
+
+    /// The newest price that waits for a node is passed to it, where there is one.
+    fn pass_to(&mut self, node: NodeId) -> Option<Move>
+        ensures plan { self.new.plan ≡ self.old.plan }
+        ensures form { IfSome result (λ what. act_of what ≡ Act.Pass node.0) }
+        ensures none { result ≡ None → self.new ≡ self.old }
+        ensures made { (s : State) → StandsFor self.old.plan self.old.core s → MatchOption result
+            (NoMoveBy self.old.plan s (Act.Pass node.0))
+            (MakesMove self.old.plan self.new.core s) }
+    {
+        if node.0 == 0 || self.plan.tree().len() < node.0 {
+            return None;
+        }
+        if is_device(self.plan, node) {
+            return self.take(node);
+        }
+        self.pass_on(node)
+    }
+
+    /// Closes the open phase, where that is legal.
+    fn close_phase(&mut self) -> Option<Move>
+        ensures plan { self.new.plan ≡ self.old.plan }
+        ensures form { IfSome result (λ what. act_of what ≡ Act.Close) }
+        ensures none { result ≡ None → self.new ≡ self.old }
+        ensures made { (s : State) → StandsFor self.old.plan self.old.core s → MatchOption result
+            (NoMoveBy self.old.plan s Act.Close)
+            (MakesMove self.old.plan self.new.core s) }
+    {
+        let phase = self.closed + 1;
+        if !self.close() {
+            return None;
+        }
+        Some(Move::Close { phase })
+    }
+
+    /// Opens a cluster and makes acts in their order; the journal has their lines.
+    ///
+    /// `Illegal` comes exactly at the first act of whose form no move is legal.
+    pub fn apply(
+        alloc: Global,
+        plan: &'p Plan,
+        acts: &[Act],
+    ) -> Result<(Cluster<'p>, Journal), ApplyFault>
+        ensures plan { IfOk result (λ made. made.0.plan ≡ plan.now) }
+        ensures made { IfOk result (λ made. IsRunOf plan.now acts.now made.0.core made.1.lines) }
+        ensures forward { IfOk result (λ made. NeverGoesBack plan.now made.1.lines) }
+        ensures bounded { IfOk result (λ made. length made.1.lines ≤ plan_bound plan.now) }
+        ensures illegal { IfErr result (λ fault. AreRefused plan.now acts.now fault) }
+    {
+        let mut cluster = Cluster::open(alloc, plan)?;
+        let mut journal = Journal::new(alloc);
+        for (at, act) in acts.iter().enumerate() {
+            match cluster.act(alloc, *act) {
+                Ok(line) => journal.push(line)?,
+                Err(ActFault::Illegal) => return Err(ApplyFault::Illegal { at }),
+                Err(ActFault::NoMemory) => return Err(ApplyFault::NoMemory),
+            }
+        }
+        Ok((cluster, journal))
+    }
+}

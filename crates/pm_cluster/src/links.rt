@@ -1,0 +1,82 @@
+//! The links of a cluster, in rows: a row has the links of one node to its children.
+
+ghost use Rattle.std.specs.Prelude.{◌≡◌, ℕ, ◌<◌, ◌≤◌, length, map, None, MatchOption, if◌then◌else◌, Some, IsTrue, IsFalse, ◌↔◌};
+ghost use Rattle.std.specs.Option.{option_copied};
+ghost use Rattle.pm_session.specs.Links.{demand_offered, bid_offered, BidOffered, BidTaken, NothingWaited, PriceTaken};
+ghost use Rattle.pm_stands.specs.Core.{row_at, link_at};
+ghost use Rattle.pm_stands.specs.Rows.{OneLink};
+ghost use Rattle.pm_stands.specs.Made.{bid_demand};
+
+use pm_bid::{ArrayBid, BidHead};
+use pm_session::{Link, PriceUpdate};
+
+/// Offers a bid on the link of a child; none is a bid that is gone.
+pub(crate) fn offer_bid(
+    links: &mut Vec<Vec<Link>>,
+    parent: usize,
+    place: usize,
+    number: u32,
+    demand: Option<&ArrayBid>,
+)
+    requires parent { parent < length links.old.items }
+    requires place { place < length (row_at (map (λ row. row.items) links.old.items) parent) }
+    requires number { (link_at (map (λ row. row.items) links.old.items) parent place).up.offered < number }
+    requires steps { let old = link_at (map (λ row. row.items) links.old.items) parent place in
+        length (demand_offered old.steps (option_copied demand)) ≡ old.steps }
+    ensures one { OneLink (map (λ row. row.items) links.old.items) (map (λ row. row.items) links.new.items) parent place }
+    ensures offered { let old = link_at (map (λ row. row.items) links.old.items) parent place in
+        BidOffered old (link_at (map (λ row. row.items) links.new.items) parent place) (bid_offered old.steps number (option_copied demand.entry)) }
+{
+    let row = &mut links[parent];
+    let up = &mut row[place];
+    let _ = up.offer_bid(number, demand);
+}
+
+/// Takes the bid that waits on the link of a child, where one does.
+pub(crate) fn take_bid(
+    links: &mut Vec<Vec<Link>>,
+    parent: usize,
+    place: usize,
+    into: &mut ArrayBid,
+) -> Option<BidHead>
+    requires parent { parent < length links.old.items }
+    requires place { place < length (row_at (map (λ row. row.items) links.old.items) parent) }
+    requires steps { length into.old ≡ (link_at (map (λ row. row.items) links.old.items) parent place).steps }
+    ensures one { OneLink (map (λ row. row.items) links.old.items) (map (λ row. row.items) links.new.items) parent place }
+    ensures taken { let old = link_at (map (λ row. row.items) links.old.items) parent place in
+        let new = link_at (map (λ row. row.items) links.new.items) parent place in
+        MatchOption result (NothingWaited old.up old new × (into.new ≡ into.old)) (λ head.
+        BidTaken old new (record { number = head.number; gone = head.gone; demand = into.new })) }
+    ensures same_length { length into.new ≡ length into.old }
+    ensures none { result ≡ None → map (λ row. row.items) links.new.items ≡ map (λ row. row.items) links.old.items }
+{
+    let row = &mut links[parent];
+    let up = &mut row[place];
+    up.take_bid(into)
+}
+
+/// Takes the price that waits on the link of a node, where one does.
+pub(crate) fn take_price(
+    links: &mut Vec<Vec<Link>>,
+    parent: usize,
+    place: usize,
+) -> Option<PriceUpdate>
+    requires parent { parent < length links.old.items }
+    requires place { place < length (row_at (map (λ row. row.items) links.old.items) parent) }
+    ensures one { OneLink (map (λ row. row.items) links.old.items) (map (λ row. row.items) links.new.items) parent place }
+    ensures taken { let old = link_at (map (λ row. row.items) links.old.items) parent place in
+        let new = link_at (map (λ row. row.items) links.new.items) parent place in
+        MatchOption result (NothingWaited old.down old new) (λ price. PriceTaken old new price) }
+    ensures none { result ≡ None → map (λ row. row.items) links.new.items ≡ map (λ row. row.items) links.old.items }
+{
+    let row = &mut links[parent];
+    let down = &mut row[place];
+    down.take_price()
+}
+
+/// The demand of a bid, none where it is gone.
+pub(crate) fn unless_gone(gone: bool, demand: &ArrayBid) -> Option<&ArrayBid>
+    ensures { option_copied result ≡ bid_demand gone demand.now }
+{
+    if gone { None } else { Some(demand) }
+}
