@@ -21,7 +21,7 @@ use pm_tree::NodeId;
 use std::alloc::{AllocError, Global};
 
 impl<'p> Cluster<'p> {
-    /// MakesMove one node move of a node, where one is legal: a node learns from its children, a concentrator publishes and
+    /// Makes one node move of a node, where one is legal: a node learns from its children, a concentrator publishes and
     /// passes a price on, the auctioneer clears, a device takes a price. None comes exactly where no such move is legal,
     /// and never an error.
     pub fn step(&mut self, node: NodeId) -> Result<Option<Line>, AllocError>
@@ -67,7 +67,7 @@ impl<'p> Cluster<'p> {
         Some((price.step, price.number))
     }
 
-    /// MakesMove the legal move of an act's form; for a change it computes the device's bid.
+    /// Makes the legal move of an act's form; for a change it computes the device's bid.
     ///
     /// `Illegal` comes exactly where no move of that form is legal; a node that does not exist or is of the wrong sort has
     /// none.
@@ -84,7 +84,7 @@ impl<'p> Cluster<'p> {
         }
     }
 
-    /// MakesMove the legal move of an act's form, where there is one.
+    /// Makes the legal move of an act's form, where there is one.
     fn move_by(&mut self, alloc: Global, act: Act) -> Result<Option<Move>, AllocError>
         ensures plan { self.new.plan ≡ self.old.plan }
         ensures form { IfOk result (λ made. IfSome made (λ what. act_of what ≡ act)) }
@@ -104,7 +104,7 @@ impl<'p> Cluster<'p> {
         }
     }
 
-    /// MakesMove the next change of a device, where it has one.
+    /// Makes the next change of a device, where it has one.
     fn change_by_plan(&mut self, alloc: Global, device: NodeId) -> Result<Option<Move>, AllocError>
         ensures plan { self.new.plan ≡ self.old.plan }
         ensures form { IfOk result (λ made. IfSome made (λ what. act_of what ≡ Act.Change device.0)) }

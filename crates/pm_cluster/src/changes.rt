@@ -73,7 +73,7 @@ impl<'p> Cluster<'p> {
         self.powers[device.0 as usize]
     }
 
-    /// MakesMove the next change of a device and offers its bid to the device's parent.
+    /// Makes the next change of a device and offers its bid to the device's parent.
     ///
     /// `NotNext` comes exactly where what was made is of no device of the plan, is not the device's next change, or is
     /// not of its kind; it has the next change. For a manual device the bid is the plan's array.
@@ -99,7 +99,7 @@ impl<'p> Cluster<'p> {
         Ok(self.make(made))
     }
 
-    /// MakesMove the next change of a device.
+    /// Makes the next change of a device.
     fn make(&mut self, made: &Made) -> Move
         requires steps { length made.now.demand ≡ self.old.plan.basis.steps }
         requires follows { Follows self.old.plan self.old.core made.now }

@@ -36,7 +36,7 @@ impl<'p> Cluster<'p> {
         Ok(end)
     }
 
-    /// MakesMove `out` the end over all changes made so far, within its room. The cluster must be idle.
+    /// Makes `out` the end over all changes made so far, within its room. The cluster must be idle.
     #[tactic(auto, using(crate::proofs::Parents::nodes_are, crate::proofs::Parents::leaf_is))]
     pub fn phase_end_into(&self, out: &mut PhaseEnd)
         requires quiet { IsQuiet self.now.plan self.now.core }

@@ -25,8 +25,8 @@ use std::alloc::{AllocError, Global};
 use std::marker::Brand;
 
 impl<'p> Cluster<'p> {
-    /// Opens a cluster on a plan, before the first phase: no device made a change, and nobody sent anything. All memory
-    /// of the run is taken here. The answer is an error only for want of memory.
+    /// Opens a cluster on a plan, before the first phase: no device made a change, and nobody sent anything. It takes the
+    /// memory of all moves. The answer is an error only for want of memory.
     pub fn open(alloc: Global, plan: &'p Plan) -> Result<Cluster<'p>, AllocError>
         ensures plan { IfOk result (λ c. c.plan ≡ plan.now) }
         ensures sound { IsPlan plan.now }
