@@ -28,7 +28,7 @@ use Rattle.pm_agent.specs.MadeBids.{MadeBid}
 use Rattle.pm_stands.specs.Core.{Core}
 use Rattle.pm_stands.specs.Stands.{StandsFor, Stands}
 use Rattle.pm_plan.proofs.MarketLists.{lawful}
-use Rattle.pm_cluster.specs.Next.{HasNoNext, IsNext}
+use Rattle.pm_cluster.specs.Next.{count_of, HasNoNext, IsNext}
 use Rattle.pm_cluster.specs.Acts.{IsNextOrNone, NotChanged}
 use Rattle.pm_cluster.specs.declared.fault.ChangeFault.{ChangeFault}
 use Rattle.pm_cluster.specs.declared.fault.ChangeFault.TheVariants as change_faults
@@ -102,7 +102,7 @@ no_leaf plan s x none n legal = both_ways (is_leaf (plan_lists plan) x) none leg
 -- ---- the next change
 
 -- where a device has no next change none is legal
-pub none_legal : (plan : PlanData) → IsPlan plan → (c : Core) (s : State) → StandsFor plan c s → (d : ℕ) → HasNoNext plan c d → (n : ℕ) →
+pub none_legal : (plan : PlanData) → IsPlan plan → (c : Core) (s : State) → StandsFor plan c s → (d : ℕ) → HasNoNext plan c.closed (count_of c) d → (n : ℕ) →
     Legal (plan_lists plan) s (Change d n) → ⊥
 none_legal plan is_plan c s stands d none n legal =
     elim none [
@@ -119,21 +119,21 @@ none_legal plan is_plan c s stands d none n legal =
     ]
 
 -- a device has one next change
-one_next : (a b : Next) → a.device ≡ b.device → a.number ≡ b.number → a.member ≡ b.member → a.state.0 ≡ b.state.0 → a ≡ b
+pub one_next : (a b : Next) → a.device ≡ b.device → a.number ≡ b.number → a.member ≡ b.member → a.state.0 ≡ b.state.0 → a ≡ b
 one_next a b e f g h =
     let states : a.state ≡ b.state = ap (λ (z : ℤ). record { 0 = z }) h in
     ap (λ (x : ℕ). record a { device = x }) e ∙ ap (λ (x : ℕ). record { device = b.device; number = x; member = a.member; state = a.state }) f
     ∙ ap (λ (x : Bool). record { device = b.device; number = b.number; member = x; state = a.state }) g
     ∙ ap (λ (x : DeviceState). record { device = b.device; number = b.number; member = b.member; state = x }) states
 
-pub same_next : (plan : PlanData) (c : Core) (d : ℕ) (a b : Next) → IsNext plan c d a → IsNext plan c d b → a ≡ b
+pub same_next : (plan : PlanData) (c : Core) (d : ℕ) (a b : Next) → IsNext plan c.closed (count_of c) d a → IsNext plan c.closed (count_of c) d b → a ≡ b
 same_next plan c d a b at_a at_b =
     let numbers : a.number ≡ b.number = omega (arith, at_a.number, at_b.number) in
     one_next a b (at_a.device ∙ sym at_b.device) numbers
     (at_a.member ∙ ap (Rattle.pm_plan.specs.Plans.is_member plan d) numbers ∙ sym at_b.member)
     (at_a.state ∙ ap (Rattle.pm_plan.specs.States.state plan d) numbers ∙ sym at_b.state)
 
-pub found_next : (plan : PlanData) (c : Core) (d : ℕ) (found : Option Next) (b : Next) → IsNextOrNone plan c d found → IsNext plan c d b → found ≡ Some b
+pub found_next : (plan : PlanData) (c : Core) (d : ℕ) (found : Option Next) (b : Next) → IsNextOrNone plan c.closed (count_of c) d found → IsNext plan c.closed (count_of c) d b → found ≡ Some b
 found_next plan c d (Some a) b at_a at_b = ap Some (same_next plan c d a b at_a at_b)
 found_next plan c d None b none at_b = absurd (elim none [
   | inl all ↦ omega (arith, all, at_b.open_phase)
@@ -141,9 +141,9 @@ found_next plan c d None b none at_b = absurd (elim none [
 ])
 
 -- so what follows is not refused
-pub not_refused : (plan : PlanData) (c : Core) (made : MadeBid) (fault : ChangeFault) → NotChanged plan c made fault → IsLeaf
+pub not_refused : (plan : PlanData) (c : Core) (made : MadeBid) (fault : ChangeFault) → NotChanged plan c.closed (count_of c) made fault → IsLeaf
     (plan_lists plan) made.next.device →
-    IsNext plan c made.next.device made.next → kind_of (node plan made.next.device) ≡ Some made.kind → ⊥
+    IsNext plan c.closed (count_of c) made.next.device made.next → kind_of (node plan made.next.device) ≡ Some made.kind → ⊥
 not_refused plan c made (change_faults.NotNext next) refused leaf its_next kind_is = elim refused [
   | inl none ↦ both_ways (is_leaf (plan_lists plan) made.next.device) none.0 leaf
   | inr other ↦ elim other.2 [

@@ -32,7 +32,7 @@ use Rattle.pm_cluster.specs.Ends.{MayClose}
 use Rattle.pm_cluster.proofs.Parents.{leaf_inside}
 
 -- the ends of the plan and of its lists
-ends_agree : (plan : PlanData) (p d : ℕ) → IsPlan plan → IsLeaf (plan_lists plan) d → p ≤ phases plan → end_count (plan_lists plan) p d ≡ end_cut plan p d
+pub ends_agree : (plan : PlanData) (p d : ℕ) → IsPlan plan → IsLeaf (plan_lists plan) d → p ≤ phases plan → end_count (plan_lists plan) p d ≡ end_cut plan p d
 ends_agree plan p d is_plan leaf within =
     let here = leaf_inside plan is_plan d leaf in
     end-is plan p d here.0 (omega (arith, here.1, group_nodes.nodes_are plan is_plan)) within is_plan.in_phases
@@ -84,7 +84,7 @@ found_skip plan value n old now is no_leaf = record {
 }
 
 -- a device's power is that of its own change and of all others'
-power_alike : (plan : PlanData) (a b : Cut) (d : ℕ) → IsPlan plan → IsLeaf (plan_lists plan) d → SameOn (plan_lists plan) 0 a b → a d ≡ b d →
+pub power_alike : (plan : PlanData) (a b : Cut) (d : ℕ) → IsPlan plan → IsLeaf (plan_lists plan) d → SameOn (plan_lists plan) 0 a b → a d ≡ b d →
     power plan (state plan) a d ≡ power plan (state plan) b d
 unfolding power
 power_alike plan a b d is_plan leaf same here =

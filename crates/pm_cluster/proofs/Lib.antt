@@ -1,9 +1,9 @@
 mod Rows
-mod Parents
+pub mod Parents
 mod EntriesTold
 mod LimitedTold
 mod DueMore
-mod Kept
+pub mod Kept
 mod Seats
 mod Some
 mod Children
@@ -13,9 +13,10 @@ mod Opened
 mod OpenedCore
 mod Waits
 mod Readers
-mod ClosesLegally
-mod NextChanges
+pub mod ClosesLegally
+mod EndsAlike
+pub mod NextChanges
 mod Making
-mod ActForms
+pub mod ActForms
 mod SameNext
-mod Runs
+pub mod Runs

@@ -40,7 +40,7 @@ use Rattle.pm_cluster.proofs.NextChanges.{end_of_market, member_of_market, deman
 -- a change that follows is of a device, its next one, and of the device's kind
 pub record IsFollowed (plan : PlanData) (c : Core) (next : Next) (kind : Kind) : Type 0 where
   pub leaf : IsLeaf (plan_lists plan) next.device
-  pub its_next : IsNext plan c next.device next
+  pub its_next : IsNext plan c.closed (count_of c) next.device next
   pub its_kind : kind_of (node plan next.device) ≡ Some kind
 
 pub within_changes : (plan : PlanData) (c : Core) (next : Next) (kind : Kind) → IsFollowed plan c next kind → next.number ≤ change_count plan next.device

@@ -173,7 +173,7 @@ demand_of_none plan d n kind kind_is none = demand_of_kind plan d n kind kind_is
 
 -- no next change: no phase is open, or the count is that of its end
 pub no_next : (plan : PlanData) (c : Core) (d due : ℕ) → KeepsDevice plan c d → (c.closed < phases plan → due ≡ end_cut plan (c.closed + 1) d) →
-    (c.closed < phases plan → due ≤ count_of c d) → HasNoNext plan c d
+    (c.closed < phases plan → due ≤ count_of c d) → HasNoNext plan c.closed (count_of c) d
 no_next plan c d due keeps is le = elim (cases_lt c.closed (phases plan)) [
   | inl lt ↦ inr (omega (arith, keeps.to lt, is lt, le lt))
   | inr ge ↦ inl (omega arith)
@@ -197,7 +197,7 @@ pub is_next : (plan : PlanData) → IsPlan plan → (c : Core) → ∥ Stands pl
     FoundNext plan c d count what → (member : Bool) (made : DeviceState) → member ≡ member_after (is_member plan d count) what →
     ((kind : Kind) → kind_of (node plan d) ≡ Some kind →
     made.0 ≡ changed_state kind (slice_index_or c.states d (pos 0)) (power plan (state plan) (end_cut plan c.closed) d) what) →
-    IsNext plan c d (record { device = d; number = count + 1; member = member; state = made })
+    IsNext plan c.closed (count_of c) d (record { device = d; number = count + 1; member = member; state = made })
 is_next plan is_plan c stands d count what leaf found member made member_is state_is =
     let keeps = keeps_device plan is_plan c stands d leaf in
     let kind = has_kind plan is_plan d leaf in

@@ -1,5 +1,6 @@
 -- Acts, the changes that are refused, and runs of acts.
 use Rattle.std.specs.Prelude.{◌≡◌, ℕ, ◌<◌, ◌≤◌, ◌⊎◌, false, List, ◌∷◌, ◌++◌, length, map, take, slice_get, Option, Some, None, MatchOption, ⊤}
+use Rattle.pm_base.specs.Cuts.{Cut}
 use Rattle.pm_agent.specs.MadeBids.{MadeBid}
 use Rattle.pm_device.specs.declared.state.Next.{Next}
 use Rattle.pm_market.specs.Lists.{is_leaf, IsLeaf}
@@ -24,23 +25,23 @@ use Rattle.pm_cluster.specs.declared.fault.ApplyFault.{ApplyFault}
 use Rattle.pm_cluster.specs.declared.fault.ApplyFault.TheVariants as apply_faults
 
 -- the next change of a device, where it has one
-abbrev pub IsNextOrNone : PlanData → Core → ℕ → Option Next → Type 0
-IsNextOrNone plan c d next = MatchOption next (HasNoNext plan c d) (IsNext plan c d)
+abbrev pub IsNextOrNone : PlanData → ℕ → Cut → ℕ → Option Next → Type 0
+IsNextOrNone plan closed counts d next = MatchOption next (HasNoNext plan closed counts d) (IsNext plan closed counts d)
 
 -- what was made is the device's next change, and of its kind
-pub record Follows (plan : PlanData) (c : Core) (made : MadeBid) : Type 0 where
+pub record Follows (plan : PlanData) (closed : ℕ) (counts : Cut) (made : MadeBid) : Type 0 where
   pub leaf : IsLeaf (plan_lists plan) made.next.device
-  pub next : IsNext plan c made.next.device made.next
+  pub next : IsNext plan closed counts made.next.device made.next
   pub kind : kind_of (node plan made.next.device) ≡ Some made.kind
 
 -- why a change is refused, with the next change of the device: it is of no device; or what was made is not the next
 -- change of its device, or not of its kind
-abbrev pub NotChanged : PlanData → Core → MadeBid → ChangeFault → Type 0
-NotChanged plan c made (change_faults.NotNext next) =
+abbrev pub NotChanged : PlanData → ℕ → Cut → MadeBid → ChangeFault → Type 0
+NotChanged plan closed counts made (change_faults.NotNext next) =
     ((is_leaf (plan_lists plan) made.next.device ≡ false) × (next ≡ None))
-    ⊎ (IsLeaf (plan_lists plan) made.next.device × IsNextOrNone plan c made.next.device next
+    ⊎ (IsLeaf (plan_lists plan) made.next.device × IsNextOrNone plan closed counts made.next.device next
     × ((next ≡ Some made.next → ⊥) ⊎ (kind_of (node plan made.next.device) ≡ Some made.kind → ⊥)))
-NotChanged plan c made change_faults.NoMemory = ⊥
+NotChanged plan closed counts made change_faults.NoMemory = ⊥
 
 -- no move of the act's form is legal
 abbrev pub NoMoveBy : PlanData → State → Act → Type 0

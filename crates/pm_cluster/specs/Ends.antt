@@ -19,6 +19,7 @@ use Rattle.pm_plan.specs.declared.end.LimitedLine.{LimitedLine}
 use Rattle.pm_plan.specs.Market.{plan_lists}
 use Rattle.pm_stands.specs.Core.{Core}
 use Rattle.pm_stands.specs.Quiet.{IsQuiet}
+use Rattle.pm_cluster.specs.Next.{count_of}
 
 -- the line of a node that is a member, and of one that is a limited concentrator
 abbrev pub member_at : PlanData → Cut → ℕ → List MemberLine
@@ -27,10 +28,14 @@ member_at plan cut x = cond (is_member plan x (cut x)) (member_line plan (state 
 abbrev pub limited_at : PlanData → Cut → ℕ → List LimitedLine
 limited_at plan cut x = cond (is_limited plan x) (limited_line plan (state plan) cut x ∷ []) []
 
+-- the changes made are those of the phases up to p
+abbrev pub AreMade : PlanData → Cut → ℕ → Type 0
+AreMade plan counts p = (d : ℕ) → IsLeaf (plan_lists plan) d → counts d ≡ end_cut plan p d
+
 -- a phase is open, each device made all its changes of the phase, and nothing is pending
 pub record MayClose (plan : PlanData) (c : Core) : Type 0 where
   pub open_phase : c.closed < phases plan
-  pub made : (d : ℕ) → IsLeaf (plan_lists plan) d → slice_index_or c.counts d 0 ≡ end_cut plan (c.closed + 1) d
+  pub made : AreMade plan (count_of c) (c.closed + 1)
   pub quiet : IsQuiet plan c
 
 -- a device has its port, and its place in the entries of its parent; the step that it holds is one of these entries

@@ -1,5 +1,6 @@
 -- The next change of a device.
 use Rattle.std.specs.Prelude.{◌≡◌, ℕ, ◌+◌, ◌<◌, ◌≤◌, ◌⊎◌, slice_index_or}
+use Rattle.pm_base.specs.Cuts.{Cut}
 use Rattle.pm_device.specs.declared.state.Next.{Next}
 use Rattle.pm_plan.specs.Plans.{PlanData, phases, end_cut, is_member}
 use Rattle.pm_plan.specs.States.{state}
@@ -9,15 +10,16 @@ use Rattle.pm_stands.specs.Core.{Core}
 abbrev pub count_of : Core → ℕ → ℕ
 count_of c d = slice_index_or c.counts d 0
 
--- no phase is open, or the device made all its changes of the open phase
-abbrev pub HasNoNext : PlanData → Core → ℕ → Type 0
-HasNoNext plan c d = (phases plan ≤ c.closed) ⊎ (count_of c d ≡ end_cut plan (c.closed + 1) d)
+-- where so many phases are closed and each device made so many changes: no phase is open, or the device made all its changes
+-- of the open phase
+abbrev pub HasNoNext : PlanData → ℕ → Cut → ℕ → Type 0
+HasNoNext plan closed counts d = (phases plan ≤ closed) ⊎ (counts d ≡ end_cut plan (closed + 1) d)
 
 -- the next change of a device belongs to the open phase; what it makes of the device is what the plan's changes do
-pub record IsNext (plan : PlanData) (c : Core) (d : ℕ) (next : Next) : Type 0 where
+pub record IsNext (plan : PlanData) (closed : ℕ) (counts : Cut) (d : ℕ) (next : Next) : Type 0 where
   pub device : next.device ≡ d
-  pub open_phase : c.closed < phases plan
-  pub number : next.number ≡ count_of c d + 1
-  pub of_phase : next.number ≤ end_cut plan (c.closed + 1) d
+  pub open_phase : closed < phases plan
+  pub number : next.number ≡ counts d + 1
+  pub of_phase : next.number ≤ end_cut plan (closed + 1) d
   pub member : next.member ≡ is_member plan d next.number
   pub state : next.state.0 ≡ state plan d next.number

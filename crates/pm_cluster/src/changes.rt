@@ -10,7 +10,7 @@ ghost use Rattle.pm_plan.specs.States.{state};
 ghost use Rattle.pm_offer.specs.Offers.{device_demand};
 ghost use Rattle.pm_stands.specs.Stands.{StandsFor, MakesMove};
 ghost use Rattle.pm_stands.specs.Made.{seat_after};
-ghost use Rattle.pm_cluster.specs.Next.{HasNoNext, IsNext};
+ghost use Rattle.pm_cluster.specs.Next.{count_of, HasNoNext, IsNext};
 ghost use Rattle.pm_cluster.specs.Acts.{Follows, NotChanged};
 
 use crate::cluster::Cluster;
@@ -32,7 +32,8 @@ impl<'p> Cluster<'p> {
     /// changes of the open phase.
     pub fn next(&self, device: NodeId) -> Option<Next>
         requires leaf { IsLeaf (plan_lists self.now.plan) device.0 }
-        ensures next { MatchOption result (HasNoNext self.now.plan self.now.core device.0) (IsNext self.now.plan self.now.core device.0) }
+        ensures next { MatchOption result (HasNoNext self.now.plan self.now.core.closed (count_of self.now.core) device.0)
+            (IsNext self.now.plan self.now.core.closed (count_of self.now.core) device.0) }
     {
         let at = device.0 as usize;
         let count = self.counts[at];
@@ -80,10 +81,10 @@ impl<'p> Cluster<'p> {
     pub fn change(&mut self, made: &Made) -> Result<Move, ChangeFault>
         requires steps { length made.now.demand ≡ self.old.plan.basis.steps }
         ensures plan { self.new.plan ≡ self.old.plan }
-        ensures follows { IfOk result (λ what. Follows self.old.plan self.old.core made.now) }
+        ensures follows { IfOk result (λ what. Follows self.old.plan self.old.core.closed (count_of self.old.core) made.now) }
         ensures form { IfOk result (λ what. what ≡ Move.Change made.now.next.device made.now.next.number) }
         ensures made { (s : State) → StandsFor self.old.plan self.old.core s → IfOk result (MakesMove self.old.plan self.new.core s) }
-        ensures refused { IfErr result (NotChanged self.old.plan self.old.core made.now) }
+        ensures refused { IfErr result (NotChanged self.old.plan self.old.core.closed (count_of self.old.core) made.now) }
         ensures unchanged { IfErr result (λ fault. self.new ≡ self.old) }
     {
         let next = made.next();
@@ -102,7 +103,7 @@ impl<'p> Cluster<'p> {
     /// Makes the next change of a device.
     fn make(&mut self, made: &Made) -> Move
         requires steps { length made.now.demand ≡ self.old.plan.basis.steps }
-        requires follows { Follows self.old.plan self.old.core made.now }
+        requires follows { Follows self.old.plan self.old.core.closed (count_of self.old.core) made.now }
         ensures plan { self.new.plan ≡ self.old.plan }
         ensures form { result ≡ Move.Change made.now.next.device made.now.next.number }
         ensures made { (s : State) → StandsFor self.old.plan self.old.core s → MakesMove self.old.plan self.new.core s result }

@@ -10,7 +10,8 @@ ghost use Rattle.pm_plan.specs.Market.{plan_lists};
 ghost use Rattle.pm_stands.specs.Quiet.{IsQuiet};
 ghost use Rattle.pm_stands.specs.Stands.{StandsFor, MakesMove};
 ghost use Rattle.pm_stands.specs.Current.{kept_power, kept_line};
-ghost use Rattle.pm_cluster.specs.Ends.{member_at, limited_at, MayClose, EntryTold, power_by_entry};
+ghost use Rattle.pm_cluster.specs.Next.{count_of};
+ghost use Rattle.pm_cluster.specs.Ends.{member_at, limited_at, AreMade, MayClose, EntryTold, power_by_entry};
 
 use crate::cluster::Cluster;
 use crate::tree::{is_device, parent_of, place_in_row};
@@ -25,11 +26,13 @@ use std::alloc::{AllocError, Global};
 use std::marker::Brand;
 
 impl<'p> Cluster<'p> {
-    /// The end over all changes made so far, which is that of the plain auction: once all changes of the open phase are
-    /// made it is the end of the phase. The cluster must be idle. The answer is an error only for want of memory.
+    /// The end over all changes made so far, which is that of the plain auction: where these are the changes of the phases up
+    /// to one, it is the end of that phase. The cluster must be idle. The answer is an error only for want of memory.
     pub fn phase_end(&self, alloc: Global) -> Result<PhaseEnd, AllocError>
         requires quiet { IsQuiet self.now.plan self.now.core }
         ensures end { (s : State) → StandsFor self.now.plan self.now.core s → IfOk result (λ e. e.end ≡ end_of self.now.plan s.counts) }
+        ensures phase { (s : State) (p : ℕ) → StandsFor self.now.plan self.now.core s → AreMade self.now.plan s.counts p →
+            IfOk result (λ e. e.end ≡ end_of self.now.plan (end_cut self.now.plan p)) }
     {
         let mut end = PhaseEnd::vacant(alloc, self.plan)?;
         self.phase_end_into(&mut end);
@@ -43,6 +46,8 @@ impl<'p> Cluster<'p> {
         requires members { nodes (plan_lists self.now.plan) ≤ out.old.member_room + length out.old.end.members }
         requires limited { nodes (plan_lists self.now.plan) ≤ out.old.limited_room + length out.old.end.limited }
         ensures end { (s : State) → StandsFor self.now.plan self.now.core s → out.new.end ≡ end_of self.now.plan s.counts }
+        ensures phase { (s : State) (p : ℕ) → StandsFor self.now.plan self.now.core s → AreMade self.now.plan s.counts p →
+            out.new.end ≡ end_of self.now.plan (end_cut self.now.plan p) }
     {
         let step = self.auctioneer.step();
         let sum = self.auctioneer.cache().aggregate();
@@ -144,8 +149,7 @@ impl<'p> Cluster<'p> {
     #[tactic(auto, using(crate::proofs::Parents::nodes_are, crate::proofs::Parents::leaf_is))]
     fn all_made(&self) -> bool
         requires open_phase { self.now.core.closed < phases self.now.plan }
-        ensures made { IsTrue result ↔ ((d : ℕ) → IsLeaf (plan_lists self.now.plan) d →
-            slice_index_or self.now.core.counts d 0 ≡ end_cut self.now.plan (self.now.core.closed + 1) d) }
+        ensures made { IsTrue result ↔ AreMade self.now.plan (count_of self.now.core) (self.now.core.closed + 1) }
     {
         for number in 1..self.plan.tree().len() + 1 {
             let at = number as usize;
@@ -163,6 +167,7 @@ impl<'p> Cluster<'p> {
         ensures plan { self.new.plan ≡ self.old.plan }
         ensures made { IsTrue result → (s : State) → StandsFor self.old.plan self.old.core s →
             MakesMove self.old.plan self.new.core s (Move.Close (s.closed + 1)) }
+        ensures quiet { IsTrue result → IsQuiet self.new.plan self.new.core }
         ensures refused { IsFalse result → (s : State) → StandsFor self.old.plan self.old.core s →
             (phase : ℕ) → Legal (plan_lists self.old.plan) s (Move.Close phase) → ⊥ }
         ensures none { IsFalse result → self.new ≡ self.old }

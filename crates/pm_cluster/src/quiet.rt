@@ -2,13 +2,13 @@ ghost use Rattle.std.specs.Prelude.{◌≡◌, ℕ, ◌<◌, ◌≤◌, ◌↔�
 ghost use Rattle.pm_basis.specs.Prices.{price_at};
 ghost use Rattle.pm_cache.specs.Cache.{aggregate_of};
 ghost use Rattle.pm_market.specs.Lists.{nodes, IsNode, IsLeaf, IsConcentrator, is_member};
-ghost use Rattle.pm_market.specs.State.{State, clearings};
+ghost use Rattle.pm_market.specs.State.{State, known, clearings};
 ghost use Rattle.pm_market.specs.Moves.{Idle};
 ghost use Rattle.pm_session.specs.Prices.{session_at};
 ghost use Rattle.pm_plan.specs.Auction.{total, plain};
 ghost use Rattle.pm_plan.specs.States.{state};
 ghost use Rattle.pm_plan.specs.Market.{plan_lists};
-ghost use Rattle.pm_offer.specs.Offers.{local_at};
+ghost use Rattle.pm_offer.specs.Offers.{children_sum, local_at};
 ghost use Rattle.pm_plan.specs.Kept.{IsPlan};
 ghost use Rattle.pm_stands.specs.Rows.{CannotPublish};
 ghost use Rattle.pm_stands.specs.Quiet.{IsQuiet};
@@ -120,10 +120,11 @@ impl<'p> Cluster<'p> {
         self.plan.basis().price(self.auctioneer.step() as usize)
     }
 
-    /// The auctioneer's sum of the bids that it learnt last, in watts at each step; where the cluster is idle the total
-    /// over all current bids.
+    /// The auctioneer's sum of the bids that it learnt last, in watts at each step: of what its children offer over the changes
+    /// that it knows. Where the cluster is idle it is the total over all current bids.
     pub fn aggregate(&self) -> &ArrayBid
         ensures sum { result.now ≡ aggregate_of self.now.core.auctioneer.cache }
+        ensures known { (s : State) → StandsFor self.now.plan self.now.core s → result.now ≡ children_sum self.now.plan 0 (known (plan_lists self.now.plan) s 0) }
         ensures current { (s : State) → StandsFor self.now.plan self.now.core s → Idle (plan_lists self.now.plan) s →
             result.now ≡ total self.now.plan (state self.now.plan) s.counts }
     {

@@ -29,7 +29,7 @@ module _ (plan : PlanData) (is_plan : IsPlan plan) (a b : Cut) (same : SameOn (p
   same_below : (x : ℕ) → SameOn (plan_lists plan) x a b
   same_below x d below = same d (leaf_of_auctioneer (plan_lists plan) (lawful plan is_plan) d (leaf_of_parts (plan_lists plan) x d below).0)
 
-  group_step_alike : (g : ℕ) → (g ≡ 0) ⊎ (is_limited plan g ≡ true) →
+  pub group_step_alike : (g : ℕ) → (g ≡ 0) ⊎ (is_limited plan g ≡ true) →
       group_step plan (state plan) a (plain plan (state plan) a) g ≡ group_step plan (state plan) b (plain plan (state plan) b) g
   unfolding group_step
   group_step_alike g (inl none) =

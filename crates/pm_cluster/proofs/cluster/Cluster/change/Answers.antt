@@ -5,6 +5,7 @@ use Rattle.pm_device.specs.declared.state.Next.{Next}
 use Rattle.pm_market.specs.Lists.{is_leaf, IsLeaf}
 use Rattle.pm_plan.specs.Plans.{node, kind_of}
 use Rattle.pm_plan.specs.Market.{plan_lists}
+use Rattle.pm_cluster.specs.Next.{count_of}
 use Rattle.pm_cluster.specs.Acts.{IsNextOrNone}
 use Rattle.pm_cluster.specs.Clusters.{ClusterValue}
 use Rattle.pm_cluster.proofs.Parents.{nodes_are}
@@ -43,9 +44,9 @@ leaf_made c =
     subst (Claim c.args.self.now) (ap (λ (n : Next). n.device) c.next-next.ensures.next) (
     subst (λ (v : ClusterValue). Claim v c.next-next.result.device) c.self.view_is (leaf c))
 
-next_made : (c : After-next-due) → IsNextOrNone c.args.self.now.plan c.args.self.now.core c.args.made.now.next.device c.next-due.result
+next_made : (c : After-next-due) → IsNextOrNone c.args.self.now.plan c.args.self.now.core.closed (count_of c.args.self.now.core) c.args.made.now.next.device c.next-due.result
 next_made c =
-    let Claim : ℕ → Type 0 = λ x. IsNextOrNone c.args.self.now.plan c.args.self.now.core x c.next-due.result in
+    let Claim : ℕ → Type 0 = λ x. IsNextOrNone c.args.self.now.plan c.args.self.now.core.closed (count_of c.args.self.now.core) x c.next-due.result in
     subst Claim (ap (λ (n : Next). n.device) c.next-next.ensures.next) c.next-due.ensures.next
 
 pub kind-requires : goal.kind-requires

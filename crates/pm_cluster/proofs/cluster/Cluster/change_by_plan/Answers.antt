@@ -14,7 +14,7 @@ use Rattle.pm_plan.proofs.Ends.{end-within}
 use Rattle.pm_agent.specs.Agents.{Agent}
 use Rattle.pm_agent.specs.MadeBids.{MadeBid}
 use Rattle.pm_cluster.specs.Clusters.{ClusterValue}
-use Rattle.pm_cluster.specs.Next.{IsNext}
+use Rattle.pm_cluster.specs.Next.{count_of, IsNext}
 use Rattle.pm_cluster.proofs.Parents.{nodes_are}
 use Rattle.pm_cluster.proofs.Kept.{leaf_of_plan}
 use Rattle.pm_cluster.proofs.NextChanges.{kind_valid, state_valid}
@@ -65,7 +65,7 @@ work-made-requires-clause-fits c =
     let plan = c.args.self.now.plan in
     let x = c.args.device.0 in
     let next = c.in-Some.next in
-    let is : IsNext plan c.args.self.now.core x next = c.in-Some.ensures.next in
+    let is : IsNext plan c.args.self.now.core.closed (count_of c.args.self.now.core) x next = c.in-Some.ensures.next in
     let agent_is : c.in_ok-agent.agent ≡ record { kind = c.kind-kind.result; device = x; steps = c.steps.result } = c.in_ok-agent.ensures.agent in
     subst (λ (k : Kind). IsTrue (state_fits k next.state.0)) (sym (ap (λ (a : Agent). a.kind) agent_is))
     (state_valid plan (is_plan p) x next.number c.kind-kind.result next.state.0 (kind_at p c.kind-kind.result c.kind-kind.ensures.kind)
@@ -84,7 +84,7 @@ returns-in-Ok-clause-made c s stands = c.in-Ok.ensures.made s stands
 
 pub returns-in-Ok-clause-form : goal.returns-in-Ok-clause-form
 returns-in-Ok-clause-form c =
-    let is : IsNext c.args.self.now.plan c.args.self.now.core c.args.device.0 c.in-Some.next = c.in-Some.ensures.next in
+    let is : IsNext c.args.self.now.plan c.args.self.now.core.closed (count_of c.args.self.now.core) c.args.device.0 c.in-Some.next = c.in-Some.ensures.next in
     let device : c.work-made.result.now.next.device ≡ c.args.device.0 = ap (λ (n : Next). n.device) c.work-made.ensures.next ∙ is.device in
     ap act_of c.in-Ok.ensures.form ∙ ap act.Change device
 
@@ -95,12 +95,12 @@ returns-clause-made c s stands =
     let core = c.args.self.now.core in
     let x = c.args.device.0 in
     let made : MadeBid = c.work-made.result.now in
-    let is : IsNext plan core x c.in-Some.next = c.in-Some.ensures.next in
+    let is : IsNext plan core.closed (count_of core) x c.in-Some.next = c.in-Some.ensures.next in
     let agent_is : c.in_ok-agent.agent ≡ record { kind = c.kind-kind.result; device = x; steps = c.steps.result } = c.in_ok-agent.ensures.agent in
     let device : made.next.device ≡ x = ap (λ (n : Next). n.device) c.work-made.ensures.next ∙ is.device in
     let kinds : made.kind ≡ c.kind-kind.result = c.work-made.ensures.kind ∙ ap (λ (a : Agent). a.kind) agent_is in
     let at_x : IsLeaf (plan_lists plan) x = subst (λ (v : ClusterValue). IsLeaf (plan_lists v.plan) x) c.self.view_is (leaf p) in
-    let its_next = subst (λ (n : Next). IsNext plan core n.device n) (sym c.work-made.ensures.next) (
-    subst (λ (d : ℕ). IsNext plan core d c.in-Some.next) (sym is.device) is) in
+    let its_next = subst (λ (n : Next). IsNext plan core.closed (count_of core) n.device n) (sym c.work-made.ensures.next) (
+    subst (λ (d : ℕ). IsNext plan core.closed (count_of core) d c.in-Some.next) (sym is.device) is) in
     absurd (not_refused plan core made c.in-Err.field-0 c.in-Err.ensures.refused (subst (λ (d : ℕ). IsLeaf (plan_lists plan) d) (sym device) at_x) its_next
     (ap (λ (d : ℕ). kind_of (node plan d)) device ∙ kind_at p c.kind-kind.result c.kind-kind.ensures.kind ∙ ap Some (sym kinds)))

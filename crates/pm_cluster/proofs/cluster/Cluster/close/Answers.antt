@@ -54,3 +54,8 @@ returns-clause-made c = λ yes.
     let at = (goal.at.returns-clause-made c).After-keep_powers in
     of_value c.self.inside c.args.self.now c.self.view_is
     (λ p s. MakesMove p (closed_core (core_of c.self.inside) c.keep_powers.new.powers.items (c.self.inside.closed + 1)) s (Close (s.closed + 1))) (makes at)
+
+pub returns-clause-quiet : goal.returns-clause-quiet
+returns-clause-quiet c = λ yes.
+    let quiet = (may (goal.at.returns-clause-quiet c).After-keep_powers).quiet in
+    record { bids = quiet.bids; prices = quiet.prices; concentrators = quiet.concentrators; changed = quiet.changed }

@@ -15,6 +15,7 @@ use Rattle.pm_plan.specs.Market.{plan_lists}
 use Rattle.pm_stands.specs.Core.{Core, seat_at, link_at}
 use Rattle.pm_stands.specs.Stands.{StandsFor, Stands, MakesMove}
 use Rattle.pm_stands.specs.Made.{seat_after, changed_core}
+use Rattle.pm_cluster.specs.Next.{count_of}
 use Rattle.pm_cluster.specs.Acts.{Follows}
 use Rattle.pm_cluster.specs.Clusters.{ClusterValue}
 use Rattle.pm_cluster.specs.ClusterFields.{core_of}
@@ -25,7 +26,7 @@ use Rattle.pm_cluster.proofs.cluster.Cluster.make.Goals.{After-place_in_row-plac
 
 follows : (c : After-place_in_row-place) → IsFollowed c.self.inside.plan.now (core_of c.self.inside) c.next-next.result c.args.made.now.kind
 follows c =
-    let given = subst (λ (v : ClusterValue). Follows v.plan v.core c.args.made.now) (sym c.self.view_is) c.requires.follows in
+    let given = subst (λ (v : ClusterValue). Follows v.plan v.core.closed (count_of v.core) c.args.made.now) (sym c.self.view_is) c.requires.follows in
     subst (λ (n : Next). IsFollowed c.self.inside.plan.now (core_of c.self.inside) n c.args.made.now.kind) (sym c.next-next.ensures.next)
     (record { leaf = given.leaf; its_next = given.next; its_kind = given.kind })
 

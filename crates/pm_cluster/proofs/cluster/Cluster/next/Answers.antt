@@ -81,7 +81,7 @@ pub returns-then-phases-self : goal.returns-then-phases-self
 returns-then-phases-self c =
     let plan = c.self.inside.plan.now in
     let d = c.args.device.0 in
-    let Claim : ClusterValue → Type 0 = λ v. HasNoNext v.plan v.core d in
+    let Claim : ClusterValue → Type 0 = λ v. HasNoNext v.plan v.core.closed (count_of v.core) d in
     let leaf = leaf_in c.self.inside c.args.self.now d c.self.view_is c.requires.leaf in
     let place = leaf_has_place plan c.self.invariant.is_plan d leaf in
     let keeps = keeps_device plan c.self.invariant.is_plan (core_of c.self.inside) c.self.invariant.stands d leaf in
@@ -226,7 +226,7 @@ returns c =
     let what = c.in-Some.what in
     let made = c.match-what.member in
     let used = power plan (state plan) (end_cut plan c.self.inside.closed) d in
-    let Claim : ClusterValue → Type 0 = λ v. IsNext v.plan v.core d (record { device = d; number = count + 1; member = made.1; state = made.0 }) in
+    let Claim : ClusterValue → Type 0 = λ v. IsNext v.plan v.core.closed (count_of v.core) d (record { device = d; number = count + 1; member = made.1; state = made.0 }) in
     let is = is_next plan c.self.invariant.is_plan (core_of c.self.inside) c.self.invariant.stands d count what leaf
     (found p what c.in-Some.is) made.1 made.0 in
     let member_of = member_after (is_member plan d count) in

@@ -4,11 +4,16 @@ use Rattle.pm_basis.specs.Prices.{price_at}
 use Rattle.pm_bid.specs.Bids.{demand_at}
 use Rattle.pm_cache.specs.Cache.{aggregate_of}
 use Rattle.pm_market.specs.Lists.{nodes}
+use Rattle.pm_market.specs.State.{State}
+use Rattle.pm_plan.specs.Plans.{end_cut}
 use Rattle.pm_plan.specs.Auction.{EndData}
 use Rattle.pm_plan.specs.States.{end_of}
 use Rattle.pm_plan.specs.Market.{plan_lists}
 use Rattle.pm_walk.specs.Parts.{members_to}
+use Rattle.pm_stands.specs.Stands.{StandsFor}
 use Rattle.pm_stands.specs.Quiet.{IsQuiet}
+use Rattle.pm_cluster.specs.Ends.{AreMade}
+use Rattle.pm_cluster.proofs.EndsAlike.{end_alike}
 use Rattle.pm_cluster.specs.Clusters.{ClusterValue}
 use Rattle.pm_cluster.proofs.Kept.{of_value}
 use Rattle.pm_cluster.proofs.Parents.{nodes_are}
@@ -60,7 +65,10 @@ returns c =
     ∙ ap (demand_at (aggregate_of c.self.inside.auctioneer.cache)) (sym (ap (λ (e : EndData). e.step) begun)) in
     let quiet = subst (λ (v : ClusterValue). IsQuiet v.plan v.core) (sym c.self.view_is) c.requires.quiet in
     let told = subst (λ (v : ClusterValue). IsEndTo v.plan v.core c.loop-number.number head c.loop-number.out) (sym c.self.view_is) c.loop-number.invariant in
+    let whole : (s : State) → StandsFor plan (core_of c.self.inside) s → c.loop-number.out.end ≡ end_of plan s.counts = λ s stands.
+    whole_end plan (core_of c.self.inside) s c.loop-number.number head c.loop-number.out c.self.invariant.is_plan stands quiet told all step_is price_is total_is in
     record {
-      end = of_value c.self.inside c.args.self.now c.self.view_is (λ p s. c.loop-number.out.end ≡ end_of p s.counts) (λ s stands.
-          whole_end plan (core_of c.self.inside) s c.loop-number.number head c.loop-number.out c.self.invariant.is_plan stands quiet told all step_is price_is total_is);
+      end = of_value c.self.inside c.args.self.now c.self.view_is (λ p s. c.loop-number.out.end ≡ end_of p s.counts) whole;
+      phase = λ s p stands made. of_value c.self.inside c.args.self.now c.self.view_is (λ q s. AreMade q s.counts p → c.loop-number.out.end ≡ end_of q (end_cut q p))
+          (λ s stands made. whole s stands ∙ end_alike plan c.self.invariant.is_plan s.counts (end_cut plan p) made) s stands made;
     }
