@@ -1,0 +1,4 @@
+mod Grows
+mod Opened
+mod Closed
+mod SameNext
