@@ -1,0 +1,157 @@
+use crate::lines::newest_line;
+use crate::one_thread::next_of;
+use crate::pending::Pending;
+use pm_agent::Made;
+use pm_board::Board;
+use pm_device::Next;
+use pm_market::Line;
+use pm_plan::Plan;
+use pm_tree::NodeId;
+
+/// What lies behind the lock.
+#[derive(Drop)]
+pub(crate) struct Desk<'p> {
+    pub(crate) board: Board<'p>,
+    pub(crate) pending: Pending,
+    /// The run was given up: the threads end, and the caller makes the moves that are left.
+    pub(crate) halted: bool,
+}
+
+/// A change that a device is to make, and the plan that has the bids of the manual devices.
+#[derive(Clone, Copy)]
+pub(crate) struct Job<'p> {
+    pub(crate) next: Next,
+    pub(crate) plan: &'p Plan,
+}
+
+/// What a node is to do in a turn.
+#[derive(Clone, Copy)]
+pub(crate) enum Task<'p> {
+    Nothing,
+    Change(Job<'p>),
+    Move,
+    Close,
+}
+
+impl<'p> Desk<'p> {
+    /// A board with what is pending on it.
+    pub(crate) fn new(board: Board<'p>, pending: Pending) -> Desk<'p> {
+        let mut pending = pending;
+        pending.open_phase(&board);
+        Desk {
+            board,
+            pending,
+            halted: false,
+        }
+    }
+
+    /// Whether the threads are to end.
+    pub(crate) fn is_over(&self) -> bool {
+        self.halted || self.board.done()
+    }
+
+    /// Gives the run up.
+    pub(crate) fn halt(&mut self) {
+        self.halted = true;
+        self.pending.wake_all();
+    }
+
+    /// Whether a node need not sleep: it has work, or the phase is to be closed.
+    pub(crate) fn has_task(&self, node: u32) -> bool {
+        self.pending.is_quiet() || self.pending.has_work(node)
+    }
+
+    /// What a node is to do.
+    pub(crate) fn task_of(&mut self, node: u32) -> Task<'p> {
+        if self.is_over() {
+            return Task::Nothing;
+        }
+        if self.pending.is_quiet() {
+            return Task::Close;
+        }
+        if self.pending.may_change(node) {
+            return self.change_of(node);
+        }
+        if self.pending.has_work(node) {
+            return Task::Move;
+        }
+        Task::Nothing
+    }
+
+    /// The change of a device that has one.
+    fn change_of(&mut self, node: u32) -> Task<'p> {
+        match self.job_of(node) {
+            Some(job) => Task::Change(job),
+            None => {
+                self.halt();
+                Task::Nothing
+            }
+        }
+    }
+
+    /// The next change of a node, where it is a device of the board's plan and has one.
+    pub(crate) fn job_of(&self, node: u32) -> Option<Job<'p>> {
+        let plan = self.board.plan();
+        let next = next_of(&self.board, node)?;
+        Some(Job { next, plan })
+    }
+
+    /// Makes a move of a node.
+    pub(crate) fn move_node(&mut self, node: u32) -> Option<Line> {
+        let plan = self.board.plan();
+        if node > plan.tree().len() {
+            self.halt();
+            return None;
+        }
+        let Ok(made) = self.board.turn(NodeId(node)) else {
+            self.halt();
+            return None;
+        };
+        match made {
+            Some(line) => self.pending.moved(plan, line.what),
+            None => self.pending.found_nothing(node),
+        }
+        made
+    }
+
+    /// Makes the change of a device.
+    pub(crate) fn post(&mut self, made: &Made) -> Option<Line> {
+        if self.is_over() {
+            return None;
+        }
+        if made.demand().steps() != self.board.plan().basis().steps() {
+            self.halt();
+            return None;
+        }
+        let Ok(what) = self.board.post(made) else {
+            self.halt();
+            return None;
+        };
+        let next = made.next();
+        let more = self.job_of(next.device).is_some();
+        self.pending.changed(next, more);
+        Some(Line { what, held: None })
+    }
+
+    /// Closes the open phase, and opens the next one.
+    pub(crate) fn close(&mut self) -> Option<Line> {
+        let Ok(true) = self.board.close() else {
+            self.halt();
+            return None;
+        };
+        if self.board.done() {
+            self.pending.wake_all();
+        } else {
+            self.pending.open_phase(&self.board);
+        }
+        newest_line(&self.board)
+    }
+
+    /// Notes that a node sleeps, and gives the bell at which it does.
+    pub(crate) fn lay(&mut self, node: u32) -> u32 {
+        let closed = self.board.ends().len();
+        let bell = self.pending.bell_of(self.board.plan(), closed, node);
+        self.pending.sleep(node, bell);
+        bell
+    }
+}

@@ -1,0 +1,23 @@
+use pm_market::Line;
+
+/// Is told of the turns of nodes, without the lock.
+///
+/// A turn that the caller's thread makes for a node is told in the same way. A closing is told for the node in whose turn
+/// it was made, and for node 0 where the caller closes a phase that the threads left open.
+pub trait Gate: Sync {
+    /// A turn of the node comes.
+    fn before(&self, node: u32);
+
+    /// A turn of the node was made, with the line that it put into the journal, if any.
+    fn after(&self, node: u32, line: Option<Line>);
+}
+
+/// The gate that does nothing.
+#[derive(Drop)]
+pub struct OpenGate;
+
+impl Gate for OpenGate {
+    fn before(&self, _node: u32) {}
+
+    fn after(&self, _node: u32, _line: Option<Line>) {}
+}

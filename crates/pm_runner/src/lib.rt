@@ -1,0 +1,31 @@
+//! A running market: a thread for each node of a plan, over one board behind a lock.
+//!
+//! [`settle`] makes all moves of a run. Each node, the auctioneer among them, has a thread, which makes the node's own
+//! moves, one call of the board a turn. What comes out of a lock is known by its type alone, and the type of a board keeps
+//! that its journal is legal and that its ends are those of its closed phases. So once the threads are joined the caller
+//! compares the board's plan with its own, and makes itself whatever moves the board does not show: that all phases are
+//! closed rests on no thread, no wake-up and no fairness.
+//!
+//! [`Gate`] is told of each turn.
+#![tactic(auto)]
+
+mod agents;
+mod bells;
+mod desk;
+mod following;
+mod gate;
+mod lines;
+mod node_work;
+mod one_thread;
+mod pending;
+mod plans;
+mod rotation;
+mod sleeping;
+mod threads;
+mod worker;
+
+pub use gate::{Gate, OpenGate};
+pub use threads::settle;
+
+#[cfg(test)]
+mod tests;

@@ -1,0 +1,153 @@
+ghost use Rattle.std.specs.Prelude.{◌≡◌, IfOk};
+ghost use Rattle.pm_runner.specs.Settled.{IsSettled};
+
+use crate::agents::make_agents;
+use crate::bells::{Bells, make_bells};
+use crate::desk::Desk;
+use crate::gate::Gate;
+use crate::one_thread::{drain, finish};
+use crate::pending::Pending;
+use crate::rotation::serve_in_rotation;
+use crate::worker::{Shared, Worker, give_up, serve_node};
+use pm_board::Board;
+use pm_plan::Plan;
+use pm_tree::NodeId;
+use std::alloc::{AllocError, Global};
+use std::sync::{Mutex, Wait};
+use std::thread;
+use std::thread::{Builder, Threads};
+
+/// The stack of a node's thread, in bytes.
+pub(crate) const STACK: usize = 262_144;
+
+/// Makes all moves of a plan's run, with a thread for each node, and tells the gate of each turn.
+///
+/// The board that it answers runs the plan; all phases are closed, all changes made, and nothing is pending. The memory of
+/// the run is taken before the threads start, and the answer is an error only for want of memory. Where a thread cannot be
+/// started the caller's thread serves its node.
+pub fn settle<'p, R: Threads + Wait + Sync, G: Gate>(
+    rt: &R,
+    alloc: Global,
+    plan: &'p Plan,
+    gate: &G,
+) -> Result<Board<'p>, AllocError>
+    ensures plan { IfOk result (λ b. b.plan ≡ plan.now) }
+    ensures settled { IfOk result IsSettled }
+{
+    settle_on(rt, alloc, plan, gate, STACK)
+}
+
+/// As `settle`, with threads of this stack. A size that no thread can have leaves all nodes to the caller.
+pub(crate) fn settle_on<'p, R: Threads + Wait + Sync, G: Gate>(
+    rt: &R,
+    alloc: Global,
+    plan: &'p Plan,
+    gate: &G,
+    stack: usize,
+) -> Result<Board<'p>, AllocError>
+    ensures plan { IfOk result (λ b. b.plan ≡ plan.now) }
+    ensures settled { IfOk result IsSettled }
+{
+    let board = run_threads(rt, alloc, plan, gate, stack)?;
+    complete(alloc, board, plan, gate)
+}
+
+/// The board as the threads leave it.
+pub(crate) fn run_threads<'p, R: Threads + Wait + Sync, G: Gate>(
+    rt: &R,
+    alloc: Global,
+    plan: &'p Plan,
+    gate: &G,
+    stack: usize,
+) -> Result<Board<'p>, AllocError> {
+    let bells = Bells::of(plan.tree().len() + 1);
+    let workers = make_workers(alloc, plan, bells.count())?;
+    let order = starting_order(alloc, plan)?;
+    let left = Vec::with_capacity(alloc, order.len())?;
+    let pending = Pending::new(alloc, plan, bells)?;
+    let bells = make_bells(alloc, bells.count())?;
+    let desk = Mutex::new(Desk::new(Board::open(alloc, plan)?, pending));
+    let shared = Shared {
+        desk: &desk,
+        bells: bells.as_slice(),
+        workers: workers.as_slice(),
+    };
+    serve_all(rt, shared, gate, order.as_slice(), left, stack);
+    let Desk {
+        board,
+        pending: _,
+        halted: _,
+    } = desk.into_inner();
+    Ok(board)
+}
+
+/// Serves each of the nodes on a thread of its own, and those whose threads cannot be started on this one.
+fn serve_all<R: Threads + Wait + Sync, G: Gate>(
+    rt: &R,
+    shared: Shared,
+    gate: &G,
+    nodes: &[u32],
+    left: Vec<u32>,
+    stack: usize,
+) {
+    let mut left = left;
+    thread::scope(thread::scope_env(), rt, move |scope| {
+        for node in nodes {
+            let node = *node;
+            let work = move || serve_node(rt, shared, gate, node);
+            let started = Builder::new().stack_size(stack).spawn_scoped(scope, work);
+            if started.is_err() && left.push(node).is_err() {
+                give_up(rt, shared);
+            }
+        }
+        serve_in_rotation(rt, shared, gate, left.as_slice());
+    });
+}
+
+/// What the threads left, completed on this thread; where their board runs another plan, a new board.
+pub(crate) fn complete<'p, G: Gate>(
+    alloc: Global,
+    board: Board<'p>,
+    plan: &'p Plan,
+    gate: &G,
+) -> Result<Board<'p>, AllocError>
+    ensures plan { IfOk result (λ b. b.plan ≡ plan.now) }
+    ensures settled { IfOk result IsSettled }
+{
+    let mut board = board;
+    if !board.plan().same(plan) {
+        return drain(alloc, plan, gate);
+    }
+    finish(alloc, &mut board, gate)?;
+    Ok(board)
+}
+
+/// A worker for each node, the devices' with their agents.
+fn make_workers(alloc: Global, plan: &Plan, bells: u32) -> Result<Vec<Mutex<Worker>>, AllocError> {
+    let agents = make_agents(alloc, plan)?;
+    let mut workers = Vec::with_capacity(alloc, agents.len())?;
+    for agent in agents {
+        let rings = Vec::with_capacity(alloc, bells as usize)?;
+        workers.push(Mutex::new(Worker { agent, rings }))?;
+    }
+    Ok(workers)
+}
+
+/// The nodes in the order in which their threads start: the devices first, since they have something to do, and a parent
+/// after all nodes below it.
+fn starting_order(alloc: Global, plan: &Plan) -> Result<Vec<u32>, AllocError> {
+    let nodes = plan.tree().len();
+    let mut order = Vec::with_capacity(alloc, nodes as usize + 1)?;
+    for node in 1..nodes + 1 {
+        if plan.tree().is_leaf(NodeId(node)) {
+            order.push(node)?;
+        }
+    }
+    for before in 0..nodes + 1 {
+        let node = nodes - before;
+        if !plan.tree().is_leaf(NodeId(node)) {
+            order.push(node)?;
+        }
+    }
+    Ok(order)
+}

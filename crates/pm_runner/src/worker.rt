@@ -1,0 +1,245 @@
+ghost use Rattle.std.specs.Prelude.{◌≡◌, true, IsTrue};
+ghost use Rattle.pm_bid.specs.Bids.{HaveSteps};
+ghost use Rattle.pm_device.specs.Kinds.{state_fits};
+
+use crate::desk::{Desk, Job, Task};
+use crate::gate::Gate;
+use pm_agent::DeviceAgent;
+use pm_device::Next;
+use pm_market::Line;
+use pm_plan::Plan;
+use std::sync::{Condvar, Mutex, MutexGuard, Wait};
+use std::thread;
+
+/// What the threads of a run share.
+#[derive(Clone, Copy)]
+pub(crate) struct Shared<'a, 'p> {
+    pub(crate) desk: &'a Mutex<Desk<'p>>,
+    pub(crate) bells: &'a [Condvar],
+    /// By the numbers of the nodes.
+    pub(crate) workers: &'a [Mutex<Worker>],
+}
+
+/// What serves one node.
+#[derive(Drop)]
+pub(crate) struct Worker {
+    /// The agent of a device.
+    pub(crate) agent: Option<DeviceAgent>,
+    /// The bells to ring once the lock is free. It has room for all bells.
+    pub(crate) rings: Vec<u32>,
+}
+
+/// What a turn came to.
+#[derive(Clone, Copy)]
+pub(crate) struct Turn<'p> {
+    pub(crate) line: Option<Line>,
+    /// The node takes no more turns.
+    pub(crate) over: bool,
+    /// The change that the device is to make next.
+    job: Option<Job<'p>>,
+    /// Where the device rests, as it has no work.
+    rest: Option<Rest>,
+}
+
+/// A bell, and how often it was rung when a node was noted as sleeping there.
+#[derive(Clone, Copy)]
+struct Rest {
+    bell: u32,
+    rung: u64,
+}
+
+/// How often a device yields the processor before it sleeps: the next move that concerns it is often near.
+const YIELDS: u32 = 50;
+
+impl<'p> Turn<'p> {
+    fn last() -> Turn<'p> {
+        Turn {
+            line: None,
+            over: true,
+            job: None,
+            rest: None,
+        }
+    }
+}
+
+/// Makes the turns of a node until the run is over.
+pub(crate) fn serve_node<R: Wait, G: Gate>(rt: &R, shared: Shared, gate: &G, node: u32) {
+    let Some(own) = shared.workers.get(node as usize) else {
+        return give_up(rt, shared);
+    };
+    let mut own = own.lock(rt);
+    let worker = &mut *own;
+    let mut job = None;
+    for _ in rt.forever() {
+        gate.before(node);
+        let turn = match job {
+            Some(job) => change(rt, shared, worker, node, job),
+            None => await_turn(rt, shared, worker, node),
+        };
+        gate.after(node, turn.line);
+        if turn.over {
+            return;
+        }
+        job = turn.job;
+        if let Some(rest) = turn.rest {
+            yield_at(shared, rest);
+        }
+    }
+}
+
+/// Gives the run up.
+pub(crate) fn give_up<R: Wait>(rt: &R, shared: Shared) {
+    let mut desk = shared.desk.lock(rt);
+    desk.halt();
+    drop(desk);
+    for bell in shared.bells {
+        bell.notify_all();
+    }
+}
+
+/// Sleeps until a node has something to do, and makes its turn.
+fn await_turn<'p, R: Wait>(
+    rt: &R,
+    shared: Shared<'_, 'p>,
+    worker: &mut Worker,
+    node: u32,
+) -> Turn<'p> {
+    let mut desk = shared.desk.lock(rt);
+    for _ in rt.forever() {
+        if desk.is_over() || desk.has_task(node) {
+            break;
+        }
+        if desk.pending.is_finished(node) {
+            return Turn::last();
+        }
+        let place = desk.lay(node);
+        let Some(bell) = shared.bells.get(place as usize) else {
+            desk.halt();
+            break;
+        };
+        desk = bell.wait(rt, desk);
+    }
+    desk.pending.rise(node);
+    take_turn(rt, shared, worker, node, desk)
+}
+
+/// Makes the turn of a node, which is awake. The lock is free afterwards.
+pub(crate) fn take_turn<'a, 'p, R: Wait>(
+    rt: &R,
+    shared: Shared<'a, 'p>,
+    worker: &mut Worker,
+    node: u32,
+    desk: MutexGuard<'a, Desk<'p>>,
+) -> Turn<'p> {
+    let mut desk = desk;
+    let line = match desk.task_of(node) {
+        Task::Change(job) => {
+            let_go(shared, &mut worker.rings, desk);
+            return change(rt, shared, worker, node, job);
+        }
+        Task::Move => desk.move_node(node),
+        Task::Close => desk.close(),
+        Task::Nothing => None,
+    };
+    end_turn(shared, &mut worker.rings, node, desk, line)
+}
+
+/// Works a change of a device out, without the lock, and makes it.
+fn change<'p, R: Wait>(
+    rt: &R,
+    shared: Shared<'_, 'p>,
+    worker: &mut Worker,
+    node: u32,
+    job: Job<'p>,
+) -> Turn<'p> {
+    let Worker { agent, rings } = worker;
+    let Some(agent) = agent.as_mut() else {
+        give_up(rt, shared);
+        return Turn::last();
+    };
+    if !can_work(agent, job.next, job.plan) {
+        give_up(rt, shared);
+        return Turn::last();
+    }
+    let made = agent.work(job.next, job.plan.arrays());
+    let mut desk = shared.desk.lock(rt);
+    let line = desk.post(made);
+    end_turn(shared, rings, node, desk, line)
+}
+
+/// Whether a change is one of the agent's device, in a state of its kind, and of its steps.
+#[tactic(auto, using(crate::proofs::Devices::plan_arrays))]
+fn can_work(agent: &DeviceAgent, next: Next, plan: &Plan) -> bool
+    ensures device { result ≡ true → next.device ≡ agent.now.device }
+    ensures fits { result ≡ true → IsTrue (state_fits agent.now.kind next.state.0) }
+    ensures arrays { result ≡ true → HaveSteps agent.now.steps plan.now.arrays }
+{
+    if next.device != agent.device() {
+        return false;
+    }
+    if agent.steps() != plan.basis().steps() {
+        return false;
+    }
+    agent.kind().fits(next.state)
+}
+
+/// Ends the turn of a node. The lock is free afterwards.
+fn end_turn<'a, 'p>(
+    shared: Shared<'a, 'p>,
+    rings: &mut Vec<u32>,
+    node: u32,
+    desk: MutexGuard<'a, Desk<'p>>,
+    line: Option<Line>,
+) -> Turn<'p> {
+    let mut desk = desk;
+    let over = desk.is_over();
+    let mut turn = Turn {
+        line,
+        over,
+        job: None,
+        rest: None,
+    };
+    if !over && desk.pending.may_change(node) {
+        turn.job = desk.job_of(node);
+    } else if !over && desk.pending.is_device(node) && !desk.has_task(node) {
+        turn.rest = rest_at(shared, &mut desk, node);
+    }
+    let_go(shared, rings, desk);
+    turn
+}
+
+/// Notes that a device rests, where it may be given work soon.
+fn rest_at(shared: Shared, desk: &mut Desk, node: u32) -> Option<Rest> {
+    if desk.pending.is_finished(node) {
+        return None;
+    }
+    let bell = desk.lay(node);
+    let rung = shared.bells.get(bell as usize)?.notifications();
+    Some(Rest { bell, rung })
+}
+
+/// Frees the lock, and rings the bells of those that the hold gave work.
+fn let_go<'a, 'p>(shared: Shared<'a, 'p>, rings: &mut Vec<u32>, desk: MutexGuard<'a, Desk<'p>>) {
+    let mut desk = desk;
+    desk.pending.hand_out(rings);
+    drop(desk);
+    for bell in rings.as_slice() {
+        if let Some(bell) = shared.bells.get(*bell as usize) {
+            bell.notify_all();
+        }
+    }
+    rings.clear();
+}
+
+/// Yields the processor for a while, as long as the bell is not rung.
+fn yield_at(shared: Shared, rest: Rest) {
+    let Some(bell) = shared.bells.get(rest.bell as usize) else {
+        return;
+    };
+    for _ in 0..YIELDS {
+        if bell.notifications() != rest.rung {
+            return;
+        }
+        thread::yield_now();
+    }
+}
