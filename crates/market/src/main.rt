@@ -5,6 +5,7 @@
 #![tactic(auto)]
 
 use pm_io::{StdSink, StdSource};
+use pm_runner::OpenGate;
 use pm_top::{Status, market};
 use std::alloc::Global;
 use std::env;
@@ -40,7 +41,14 @@ fn main(rt: HostRuntime) -> ExitCode {
         Ok(arguments) => {
             let mut source = StdSource::new(rt.stdin());
             let mut sink = StdSink::new(rt.stdout());
-            let status = market(rt.alloc(), &arguments, &mut source, &mut sink);
+            let status = market(
+                &rt,
+                rt.alloc(),
+                &arguments,
+                &mut source,
+                &mut sink,
+                &OpenGate,
+            );
             ExitCode::from(status.code())
         }
         Err(code) => ExitCode::from(code),

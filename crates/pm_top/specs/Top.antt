@@ -2,16 +2,24 @@
 use Rattle.std.specs.Prelude.{◌≡◌, ℕ, ◌<◌, ◌≤◌, List, codes, length, take, nat_lt, if◌then◌else◌, Option, Some, None, Result, Ok, Err}
 use Rattle.std.specs.Io.KnownBytes.{Appends, Consumes, IsAtEnd}
 use Rattle.pm_io.specs.Taken.{TookMore}
+use Rattle.pm_market.specs.Moves.{IsComplete}
+use Rattle.pm_market.specs.declared.journal.Line.{Line}
 use Rattle.pm_plan.specs.Plans.{PlanData}
 use Rattle.pm_plan.specs.States.{all_ends}
+use Rattle.pm_plan.specs.Market.{plan_lists}
 use Rattle.pm_plan.specs.declared.refusal.Refusal.{Refusal}
 use Rattle.pm_scene.specs.Scene.{scene}
 use Rattle.pm_gen.specs.Demo.{demo_plan}
 use Rattle.pm_report.specs.Report.{report_text}
+use Rattle.pm_report.specs.Trace.{trace_text}
 use Rattle.pm_report.specs.Summary.{summary_text}
 use Rattle.pm_report.specs.Refusal.{refusal_line}
+use Rattle.pm_cluster.specs.Acts.{moves_of}
+use Rattle.pm_board.specs.Boards.{IsJournal}
 use Rattle.pm_top.specs.declared.arguments.Command.{Command}
-use Rattle.pm_top.specs.declared.arguments.Command.TheVariants.{Run, Demo}
+use Rattle.pm_top.specs.declared.arguments.Command.TheVariants.{File, Demo}
+use Rattle.pm_top.specs.declared.arguments.FileCommand.{FileCommand}
+use Rattle.pm_top.specs.declared.arguments.FileCommand.TheVariants.{Run, Trace}
 use Rattle.pm_top.specs.declared.status.Status.{Status}
 use Rattle.pm_top.specs.declared.status.Status.TheVariants.{Done, Usage, TooLong, Refused}
 
@@ -41,39 +49,54 @@ IsNoCommand command = command ≡ None
 
 -- TooLong: of a file more than the limit was taken
 pub record IsTooLong (command : Option Command) (old new : Option (List ℕ)) : Type 0 where
-  pub asks : command ≡ Some Run
+  pub asked : FileCommand
+  pub asks : command ≡ Some (File asked)
   pub took : TookMore old new input_limit
 
 -- a file was read to its end, and this is what it means: its plan, or its refusal
-pub record IsFile (command : Option Command) (old new : Option (List ℕ)) (meaning : Result PlanData Refusal) : Type 0 where
-  pub asks : command ≡ Some Run
+pub record IsFile (command : Option Command) (asked : FileCommand) (old new : Option (List ℕ)) (meaning : Result PlanData Refusal) : Type 0 where
+  pub asks : command ≡ Some (File asked)
   pub input : List ℕ
   pub read : ReadsToEnd old new input
   pub means : scene input ≡ meaning
 
 -- Refused: a file was read to its end, and it has this refusal
-abbrev pub IsRefused : Option Command → Option (List ℕ) → Option (List ℕ) → Refusal → Type 0
-IsRefused command old new refusal = IsFile command old new (Err refusal)
+abbrev pub IsRefused : Option Command → FileCommand → Option (List ℕ) → Option (List ℕ) → Refusal → Type 0
+IsRefused command asked old new refusal = IsFile command asked old new (Err refusal)
 
 -- Done: a file was read to its end, and it has this plan
-abbrev pub IsPlanned : Option Command → Option (List ℕ) → Option (List ℕ) → PlanData → Type 0
-IsPlanned command old new plan = IsFile command old new (Ok plan)
+abbrev pub IsPlanned : Option Command → FileCommand → Option (List ℕ) → Option (List ℕ) → PlanData → Type 0
+IsPlanned command asked old new plan = IsFile command asked old new (Ok plan)
+
+-- the journal of a run: it is legal, its lines tell what devices held, and it closes every phase
+pub record IsCompleteJournal (plan : PlanData) (journal : List Line) : Type 0 where
+  pub legal : IsJournal plan journal
+  pub complete : IsComplete (plan_lists plan) (moves_of journal)
+
+-- Done: the text is the report of the plan and the lines of the journal of a run
+abbrev pub IsTrace : PlanData → List ℕ → Type 0
+IsTrace plan text = (journal : List Line) × IsCompleteJournal plan journal × (text ≡ trace_text plan (all_ends plan) journal)
+
+-- the text that is asked for of a plan
+abbrev pub IsTextOf : FileCommand → PlanData → List ℕ → Type 0
+IsTextOf Run plan text = text ≡ report_of plan
+IsTextOf Trace plan text = IsTrace plan text
 
 -- Done: the text is the summary of the demo cluster of this size and number
 abbrev pub IsSummary : ℕ → ℕ → List ℕ → Type 0
 IsSummary size number text = (plan : PlanData) × (demo_plan size number ≡ Ok plan) × (text ≡ summary_text size number plan (all_ends plan))
 
--- what is due for a file of these bytes: the report of its plan, or the line of its refusal
-pub data IsAnswer (input : List ℕ) : Status → List ℕ → Type 0 where
-  is_refused : (refusal : Refusal) → scene input ≡ Err refusal → IsAnswer input Refused (refusal_line refusal)
-  is_planned : (plan : PlanData) → scene input ≡ Ok plan → IsAnswer input Done (report_of plan)
+-- what is due for a file of these bytes: the text of its plan that is asked for, or the line of its refusal
+pub data IsAnswer (asked : FileCommand) (input : List ℕ) : Status → List ℕ → Type 0 where
+  is_refused : (refusal : Refusal) → scene input ≡ Err refusal → IsAnswer asked input Refused (refusal_line refusal)
+  is_planned : (plan : PlanData) (text : List ℕ) → scene input ≡ Ok plan → IsTextOf asked plan text → IsAnswer asked input Done text
 
 -- a status is due with a text where its cause stands
 pub data IsDue (command : Option Command) (old new : Option (List ℕ)) : Status → List ℕ → Type 0 where
   usage : IsNoCommand command → IsDue command old new Usage usage_line
   too_long : IsTooLong command old new → IsDue command old new TooLong too_long_line
-  refused : (refusal : Refusal) → IsRefused command old new refusal → IsDue command old new Refused (refusal_line refusal)
-  report : (plan : PlanData) → IsPlanned command old new plan → IsDue command old new Done (report_of plan)
+  refused : (asked : FileCommand) (refusal : Refusal) → IsRefused command asked old new refusal → IsDue command old new Refused (refusal_line refusal)
+  planned : (asked : FileCommand) (plan : PlanData) (text : List ℕ) → IsPlanned command asked old new plan → IsTextOf asked plan text → IsDue command old new Done text
   summary : (size number : ℕ) (text : List ℕ) → command ≡ Some (Demo size number) → IsSummary size number text → IsDue command old new Done text
 
 -- a prefix of the text was written, and not all of it

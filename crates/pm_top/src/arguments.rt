@@ -1,13 +1,22 @@
 ghost use Rattle.std.specs.Prelude.{◌≡◌, ◌<◌, map, string_bytes};
 ghost use Rattle.std.specs.List.{list_all};
 ghost use Rattle.std.specs.Char.{is_ascii_digit};
-ghost use Rattle.pm_top.specs.Arguments.{command, demo_of, is_number, number_within, value_up_to};
+ghost use Rattle.pm_top.specs.Arguments.{command, file_of, demo_of, is_number, number_within, value_up_to};
+
+/// The text that is asked for of a cluster file.
+#[derive(Clone, Copy, Debug, PartialEq, Eq)]
+pub(crate) enum FileCommand {
+    /// The report of its phases.
+    Run,
+    /// The report, and the moves of the run.
+    Trace,
+}
 
 /// What the program is asked to do.
 #[derive(Clone, Copy, Debug, PartialEq, Eq)]
 pub(crate) enum Command {
-    /// Report the phases of a cluster file.
-    Run,
+    /// Run a cluster file and write the text that is asked for.
+    File(FileCommand),
     /// Sum up the demo cluster of so many devices, made by this number.
     Demo { size: u32, number: u32 },
 }
@@ -17,12 +26,25 @@ pub(crate) fn command_of(arguments: &[String]) -> Option<Command>
     ensures { result ≡ command (map string_bytes arguments.now) }
 {
     match arguments {
-        [argument] if argument.as_str() == "run" => Some(Command::Run),
+        [argument] => file_of(argument.as_str()),
         [argument, size, number] if argument.as_str() == "demo" => demo_of(
             size.as_str(),
             number.as_str(),
         ),
         _ => None,
+    }
+}
+
+/// The command of this argument alone, where it is one.
+fn file_of(argument: &str) -> Option<Command>
+    ensures { result ≡ file_of argument.now }
+{
+    if argument == "run" {
+        Some(Command::File(FileCommand::Run))
+    } else if argument == "trace" {
+        Some(Command::File(FileCommand::Trace))
+    } else {
+        None
     }
 }
 

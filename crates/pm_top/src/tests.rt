@@ -1,7 +1,13 @@
 use super::*;
 use pm_io::{MemSink, MemSource};
+use pm_runner::OpenGate;
 use std::alloc::Global;
+use std::sync::Wait;
 use std::test::Fail;
+use std::thread::Threads;
+
+mod driven;
+mod meeting;
 
 /// A manual load of 100 watts, and a manual generator of 150 watts from price 4 on.
 const TWO_BIDS: &str =
@@ -17,7 +23,8 @@ const REFUSED: &str = "refused 1 document\n";
 
 /// What a call answers, and what the sink holds afterwards. Reads give at most 100 bytes and writes
 /// take at most 50; the calls of these numbers fail.
-fn ran(
+fn ran<R: Threads + Wait + Sync>(
+    rt: &R,
     alloc: Global,
     line: &str,
     input: &str,
@@ -31,7 +38,7 @@ fn ran(
     let input = input.as_bytes().to_vec(alloc)?;
     let mut source = MemSource::new(input, 100, Vec::from_array(alloc, [bad_read])?);
     let mut sink = MemSink::new(alloc, 1_048_576, 50, Vec::from_array(alloc, [bad_write])?)?;
-    let status = market(alloc, &arguments, &mut source, &mut sink);
+    let status = market(rt, alloc, &arguments, &mut source, &mut sink, &OpenGate);
     let text = String::from_utf8(sink.bytes().to_vec(alloc)?)?;
     Ok((status, text))
 }
@@ -58,7 +65,7 @@ fn each_fault_has_its_answer(rt: HostRuntime) -> Result<(), Fail> {
         ("run now", TWO_BIDS, 1, 1, Status::WriteFault, USAGE),
     ];
     for (line, input, bad_read, bad_write, status, text) in rows.iter() {
-        let ended = ran(alloc, *line, *input, *bad_read, *bad_write)?;
+        let ended = ran(&rt, alloc, *line, *input, *bad_read, *bad_write)?;
         assert_eq!(rt;
             ended.0,
             *status,

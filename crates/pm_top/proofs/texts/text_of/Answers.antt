@@ -1,0 +1,13 @@
+use Rattle.std.proofs.Common.{sym, List, subst}
+use Rattle.std.specs.Prelude.{All}
+use Rattle.pm_plan.specs.Ends.{EndValue}
+use Rattle.pm_report.specs.Report.{IsEndOf, ends_of}
+use Rattle.pm_top.proofs.texts.text_of.Goals as goal
+
+pub report_text-requires-clause-of_plan : goal.report_text-requires-clause-of_plan
+report_text-requires-clause-of_plan g c =
+    subst (λ (ends : List EndValue). All (IsEndOf c.args.plan.now) (ends_of ends)) (sym c.deref.ensures.value) c.in_ok-journal.ensures.of_plan
+
+pub trace_text-requires-clause-of_plan : goal.trace_text-requires-clause-of_plan
+trace_text-requires-clause-of_plan g c =
+    subst (λ (ends : List EndValue). All (IsEndOf c.args.plan.now) (ends_of ends)) (sym c.deref-in-Trace.ensures.value) c.in_ok-journal.ensures.of_plan
