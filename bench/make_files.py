@@ -1,5 +1,6 @@
 #!/usr/bin/env python3
-"""Makes the largest cluster files in the folder named: 256 nodes, 1000 steps, 20,000 changes, up to 4 MB."""
+"""Makes cluster files in the folder named: in `largest` those of 256 nodes, 1000 steps, 20,000 changes, up to 4 MB, and in
+`compared` those on which the ways to run a cluster are compared."""
 
 import json
 import os
@@ -18,10 +19,16 @@ def concentrators(count, limited):
         yield node
 
 
-def devices(count, parents):
-    """Devices of all kinds that tick, and loads, dealt out to the concentrators."""
+def chain(count):
+    """Concentrators c1, c2, .. each under the one before."""
     for i in range(1, count + 1):
-        node = {"name": f"d{i}", "parent": f"c{1 + i % parents}"}
+        yield {"name": f"c{i}", "kind": "concentrator", "parent": f"c{i - 1}" if i > 1 else "auctioneer"}
+
+
+def devices(count, parents):
+    """Devices of all kinds that tick, dealt out to the concentrators; with none, all under the auctioneer."""
+    for i in range(1, count + 1):
+        node = {"name": f"d{i}", "parent": f"c{1 + i % parents}" if parents else "auctioneer"}
         if i % 4 == 0:
             node |= {"kind": "freezer", "low": -2200, "high": -1800, "power": 100 + i, "warm": 20, "cool": 60,
                      "start": -2200 + 7 * i % 401}
@@ -50,10 +57,20 @@ def toggles(phases, events, count):
         yield {"events": phase}
 
 
-def ticks(count):
-    """All devices join, and then as many ticks as the changes of a run allow."""
-    yield {"events": [{"join": f"d{i}"} for i in range(1, count + 1)]}
-    for _ in range(20_000 // count - 1):
+def joins(count):
+    """A phase in which all devices join."""
+    return {"events": [{"join": f"d{i}"} for i in range(1, count + 1)]}
+
+
+def leaves(count):
+    """A phase in which so many devices leave."""
+    return {"events": [{"leave": f"d{i}"} for i in range(1, count + 1)]}
+
+
+def ticks(count, changes):
+    """All devices join, and then come as many ticks as make at most so many changes."""
+    yield joins(count)
+    for _ in range(changes // count - 1):
         yield {"tick": 15}
 
 
@@ -64,20 +81,88 @@ def arrays(count):
         yield {"name": f"d{i}", "kind": "manual", "parent": "auctioneer", "demand": demand}
 
 
-def main(folder):
-    files = {
-        "1000_phases": (1, list(concentrators(16, False)) + list(devices(240, 16)), list(toggles(1000, 20, 240))),
-        "5_phases": (1, list(concentrators(16, False)) + list(devices(240, 16)), list(toggles(5, 4000, 240))),
-        "limited": (2, list(concentrators(128, True)) + list(devices(128, 128)), list(toggles(1000, 20, 128))),
-        "ticks": (1, list(concentrators(6, False)) + list(devices(250, 6)), list(ticks(250))),
-        "arrays": (1, list(arrays(256)), [{"events": [{"join": f"d{i}"} for i in range(1, 257)]}]),
+def demo_device(draw, kind, power):
+    """A device of a drawn kind."""
+    if kind == 0:
+        return {"kind": "freezer", "low": -2200, "high": -1800, "power": power, "warm": 20, "cool": 60,
+                "start": -2200 + draw(401)}
+    if kind == 1:
+        return {"kind": "heat_pump", "low": 1900, "high": 2200, "power": power, "loss": 10, "gain": 30,
+                "start": 1900 + draw(301)}
+    if kind == 2:
+        return {"kind": "cogeneration", "low": 5000, "high": 8000, "power": power, "loss": 100, "gain": 300,
+                "start": 5000 + draw(3001)}
+    if kind == 3:
+        return {"kind": "battery", "capacity": 1000, "charge": power, "discharge": power, "spread": 5,
+                "start": draw(1001)}
+    return {"kind": "solar" if kind == 4 else "load", "start": power}
+
+
+def demo(size, number):
+    """The demo cluster of the program, as docs/CLUSTER_FILE.md has its generator: nodes and phases."""
+    seed = number % 65536
+
+    def draw(choices):
+        nonlocal seed
+        seed = (75 * seed + 74) % 65537
+        return seed % choices
+
+    parents = (size + 19) // 20
+    nodes = [{"name": f"c{i}", "kind": "concentrator", "parent": f"c{i // 2}" if i > 1 else "auctioneer"}
+             for i in range(1, parents + 1)]
+    for i in range(1, size + 1):
+        kind, power = draw(6), 100 * (1 + draw(20))
+        nodes.append({"name": f"d{i}", "parent": f"c{1 + (i - 1) % parents}"} | demo_device(draw, kind, power))
+    phases = [joins(size)]
+    joined = [True] * (size + 1)
+    for _ in range(10):
+        events = []
+        for _ in range(size // 10 + 1):
+            device = 1 + draw(size)
+            events.append({"leave" if joined[device] else "join": f"d{device}"})
+            joined[device] = not joined[device]
+        phases += [{"tick": 15}, {"events": events}]
+    return nodes, phases
+
+
+def scene(version, nodes, phases, basis=BASIS):
+    return {"version": version, "basis": basis, "nodes": list(nodes), "phases": list(phases)}
+
+
+def largest():
+    """The largest files, by their names."""
+    side_by_side = [*concentrators(16, False), *devices(240, 16)]
+    return {
+        "1000_phases": scene(1, side_by_side, toggles(1000, 20, 240)),
+        "5_phases": scene(1, side_by_side, toggles(5, 4000, 240)),
+        "limited": scene(2, [*concentrators(128, True), *devices(128, 128)], toggles(1000, 20, 128)),
+        "ticks": scene(1, [*concentrators(6, False), *devices(250, 6)], ticks(250, 20_000)),
+        "arrays": scene(1, arrays(256), [joins(256)]),
     }
+
+
+def compared():
+    """The files on which the ways to run a cluster are compared, by their names."""
+    return {
+        "demo": scene(1, *demo(200, 7), {"min": 0, "max": 99, "steps": 100}),
+        "wide": scene(1, [*concentrators(6, False), *devices(250, 6)], [*ticks(250, 19_750), leaves(150)]),
+        "deep": scene(1, [*chain(6), *devices(240, 6)], toggles(1000, 16, 240)),
+        "calm": scene(1, devices(256, 0), [joins(256)] + [{"events": []}] * 999),
+    }
+
+
+def write(folder, files):
     os.makedirs(folder, exist_ok=True)
-    for name, (version, nodes, phases) in files.items():
-        text = json.dumps({"version": version, "basis": BASIS, "nodes": nodes, "phases": phases}, separators=(",", ":"))
+    for name, file in files.items():
+        text = json.dumps(file, separators=(",", ":"))
         assert len(text) <= LIMIT, name
-        with open(os.path.join(folder, name + ".json"), "w", encoding="utf-8") as file:
-            file.write(text.ljust(LIMIT if name == "arrays" else len(text)))
+        with open(os.path.join(folder, name + ".json"), "w", encoding="utf-8") as target:
+            target.write(text.ljust(LIMIT if name == "arrays" else len(text)))
+
+
+def main(folder):
+    write(os.path.join(folder, "largest"), largest())
+    write(os.path.join(folder, "compared"), compared())
 
 
 if __name__ == "__main__":

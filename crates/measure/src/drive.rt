@@ -1,0 +1,119 @@
+//! A cluster that one thread drives through all phases: first all changes of a phase, then the bids go up the tree, the
+//! auctioneer clears, and the prices go down.
+
+use pm_base::MOST_CHANGES;
+use pm_cluster::{ActFault, Cluster};
+use pm_market::Act;
+use pm_plan::{PhaseEnd, Plan};
+use std::alloc::{AllocError, Global};
+use thiserror::Error;
+
+/// How often bids go up and prices come down in a phase at most. After the first time nothing is pending.
+const MOST_ROUNDS: u32 = 4;
+
+/// Why a cluster is not driven to its end.
+#[derive(Clone, Copy, Debug, PartialEq, Eq, Error)]
+pub(crate) enum DriveFault {
+    /// Moves are pending that no round made, or a phase stays open.
+    #[error("the cluster does not come to rest")]
+    Stuck,
+    /// An allocation failed.
+    #[error("out of memory")]
+    NoMemory,
+}
+
+impl From<AllocError> for DriveFault {
+    fn from(_error: AllocError) -> DriveFault {
+        DriveFault::NoMemory
+    }
+}
+
+/// The ends of all phases of a plan, from the first to the last.
+pub(crate) fn driven_ends(alloc: Global, plan: &Plan) -> Result<Vec<PhaseEnd>, DriveFault> {
+    let mut cluster = Cluster::open(alloc, plan)?;
+    let mut ends = Vec::new(alloc);
+    for _ in 0..plan.phases() {
+        make_changes(alloc, &mut cluster)?;
+        let end = end_at_rest(alloc, &mut cluster)?;
+        ends.push(end).map_err(AllocError::from)?;
+        close(&mut cluster)?;
+    }
+    Ok(ends)
+}
+
+/// Makes an act's move, and tells whether one was legal.
+fn try_act(alloc: Global, cluster: &mut Cluster<'_>, act: Act) -> Result<bool, DriveFault> {
+    match cluster.act(alloc, act) {
+        Ok(_) => Ok(true),
+        Err(ActFault::Illegal) => Ok(false),
+        Err(ActFault::NoMemory) => Err(DriveFault::NoMemory),
+    }
+}
+
+/// Makes the changes of the open phase, device by device.
+fn make_changes(alloc: Global, cluster: &mut Cluster<'_>) -> Result<(), DriveFault> {
+    for before in 0..cluster.plan().tree().len() {
+        change_device(alloc, cluster, before + 1)?;
+    }
+    Ok(())
+}
+
+/// Makes the changes of a device until it has no more in the open phase.
+fn change_device(alloc: Global, cluster: &mut Cluster<'_>, device: u32) -> Result<(), DriveFault> {
+    for _ in 0..MOST_CHANGES {
+        if !try_act(alloc, cluster, Act::Change { device })? {
+            break;
+        }
+    }
+    Ok(())
+}
+
+/// Lets the moves be made that are pending, and gives the end of the phase.
+fn end_at_rest(alloc: Global, cluster: &mut Cluster<'_>) -> Result<PhaseEnd, DriveFault> {
+    for _ in 0..MOST_ROUNDS {
+        if cluster.idle() {
+            return Ok(cluster.phase_end(alloc)?);
+        }
+        make_round(alloc, cluster)?;
+    }
+    Err(DriveFault::Stuck)
+}
+
+/// The bids go up, the auctioneer clears, and the prices come down.
+fn make_round(alloc: Global, cluster: &mut Cluster<'_>) -> Result<(), DriveFault> {
+    send_bids(alloc, cluster)?;
+    try_act(alloc, cluster, Act::Clear)?;
+    pass_prices(alloc, cluster)
+}
+
+/// Each node publishes, and its parent learns it. A parent stands before its children, so the last node comes first.
+fn send_bids(alloc: Global, cluster: &mut Cluster<'_>) -> Result<(), DriveFault> {
+    for before in (0..cluster.plan().tree().len()).rev() {
+        send_bid(alloc, cluster, before + 1)?;
+    }
+    Ok(())
+}
+
+/// A node publishes, where it is a concentrator with news, and its parent learns what it sent.
+fn send_bid(alloc: Global, cluster: &mut Cluster<'_>, node: u32) -> Result<(), DriveFault> {
+    try_act(alloc, cluster, Act::Publish { node })?;
+    try_act(alloc, cluster, Act::Learn { child: node })?;
+    Ok(())
+}
+
+/// Each node takes the price that waits for it, parents before their children.
+fn pass_prices(alloc: Global, cluster: &mut Cluster<'_>) -> Result<(), DriveFault> {
+    for before in 0..cluster.plan().tree().len() {
+        try_act(alloc, cluster, Act::Pass { node: before + 1 })?;
+    }
+    Ok(())
+}
+
+/// Closes the open phase.
+fn close(cluster: &mut Cluster<'_>) -> Result<(), DriveFault> {
+    if cluster.close() {
+        Ok(())
+    } else {
+        Err(DriveFault::Stuck)
+    }
+}

@@ -1,0 +1,38 @@
+use crate::drive::driven_ends;
+use crate::text::{ends_text, plan_text};
+use pm_plan::Plan;
+use pm_walk::all_ends;
+use std::alloc::Global;
+
+/// A way to find the ends of the phases.
+#[derive(Clone, Copy, Debug, PartialEq, Eq)]
+pub(crate) enum Way {
+    /// Find none: the file is only read.
+    Read,
+    /// By the plain program.
+    Walk,
+    /// By a cluster that one thread drives.
+    Drive,
+}
+
+/// The way that the arguments name, where they name one.
+pub(crate) fn way_of(arguments: &[String]) -> Option<Way> {
+    match arguments {
+        [word] if word.as_str() == "read" => Some(Way::Read),
+        [word] if word.as_str() == "walk" => Some(Way::Walk),
+        [word] if word.as_str() == "drive" => Some(Way::Drive),
+        _ => None,
+    }
+}
+
+impl Way {
+    /// What the program prints of a plan.
+    pub(crate) fn text(self, alloc: Global, plan: &Plan) -> anyhow::Result<String> {
+        let ends = match self {
+            Way::Read => return Ok(plan_text(alloc, plan)?),
+            Way::Walk => all_ends(alloc, plan)?,
+            Way::Drive => driven_ends(alloc, plan)?,
+        };
+        Ok(ends_text(alloc, &ends)?)
+    }
+}
