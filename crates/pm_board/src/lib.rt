@@ -12,3 +12,6 @@ mod board;
 mod moves;
 
 pub use board::Board;
+
+#[cfg(test)]
+mod tests;
