@@ -1,10 +1,11 @@
-//! A cluster that one thread drives through all phases: first all changes of a phase, then the bids go up the tree, the
+//! A cluster that one thread drives through all phases: the devices make their changes, the bids go up the tree, the
 //! auctioneer clears, and the prices go down.
 
 use pm_base::MOST_CHANGES;
 use pm_cluster::{ActFault, Cluster};
 use pm_market::Act;
 use pm_plan::{PhaseEnd, Plan};
+use pm_tree::NodeId;
 use std::alloc::{AllocError, Global};
 use thiserror::Error;
 
@@ -33,7 +34,6 @@ pub(crate) fn driven_ends(alloc: Global, plan: &Plan) -> Result<Vec<PhaseEnd>, D
     let mut cluster = Cluster::open(alloc, plan)?;
     let mut ends = Vec::new(alloc);
     for _ in 0..plan.phases() {
-        make_changes(alloc, &mut cluster)?;
         let end = end_at_rest(alloc, &mut cluster)?;
         ends.push(end).map_err(AllocError::from)?;
         close(&mut cluster)?;
@@ -50,10 +50,37 @@ fn try_act(alloc: Global, cluster: &mut Cluster<'_>, act: Act) -> Result<bool, D
     }
 }
 
-/// Makes the changes of the open phase, device by device.
-fn make_changes(alloc: Global, cluster: &mut Cluster<'_>) -> Result<(), DriveFault> {
-    for before in 0..cluster.plan().tree().len() {
-        change_device(alloc, cluster, before + 1)?;
+/// Lets all moves of the open phase be made, and gives its end. No change is left after the first round.
+fn end_at_rest(alloc: Global, cluster: &mut Cluster<'_>) -> Result<PhaseEnd, DriveFault> {
+    for _ in 0..MOST_ROUNDS {
+        make_round(alloc, cluster)?;
+        if cluster.idle() {
+            return Ok(cluster.phase_end(alloc)?);
+        }
+    }
+    Err(DriveFault::Stuck)
+}
+
+/// The bids go up, the auctioneer clears, and the prices come down.
+fn make_round(alloc: Global, cluster: &mut Cluster<'_>) -> Result<(), DriveFault> {
+    send_bids(alloc, cluster)?;
+    if try_act(alloc, cluster, Act::Clear)? {
+        pass_prices(alloc, cluster)?;
+    }
+    Ok(())
+}
+
+/// Each node sends its bid, and its parent learns it. A parent stands before its children, so the last node comes first.
+fn send_bids(alloc: Global, cluster: &mut Cluster<'_>) -> Result<(), DriveFault> {
+    let tree = cluster.plan().tree();
+    for after in 0..tree.len() {
+        let node = tree.len() - after;
+        if tree.is_leaf(NodeId(node)) {
+            change_device(alloc, cluster, node)?;
+        } else {
+            try_act(alloc, cluster, Act::Publish { node })?;
+        }
+        try_act(alloc, cluster, Act::Learn { child: node })?;
     }
     Ok(())
 }
@@ -65,39 +92,6 @@ fn change_device(alloc: Global, cluster: &mut Cluster<'_>, device: u32) -> Resul
             break;
         }
     }
-    Ok(())
-}
-
-/// Lets the moves be made that are pending, and gives the end of the phase.
-fn end_at_rest(alloc: Global, cluster: &mut Cluster<'_>) -> Result<PhaseEnd, DriveFault> {
-    for _ in 0..MOST_ROUNDS {
-        if cluster.idle() {
-            return Ok(cluster.phase_end(alloc)?);
-        }
-        make_round(alloc, cluster)?;
-    }
-    Err(DriveFault::Stuck)
-}
-
-/// The bids go up, the auctioneer clears, and the prices come down.
-fn make_round(alloc: Global, cluster: &mut Cluster<'_>) -> Result<(), DriveFault> {
-    send_bids(alloc, cluster)?;
-    try_act(alloc, cluster, Act::Clear)?;
-    pass_prices(alloc, cluster)
-}
-
-/// Each node publishes, and its parent learns it. A parent stands before its children, so the last node comes first.
-fn send_bids(alloc: Global, cluster: &mut Cluster<'_>) -> Result<(), DriveFault> {
-    for before in (0..cluster.plan().tree().len()).rev() {
-        send_bid(alloc, cluster, before + 1)?;
-    }
-    Ok(())
-}
-
-/// A node publishes, where it is a concentrator with news, and its parent learns what it sent.
-fn send_bid(alloc: Global, cluster: &mut Cluster<'_>, node: u32) -> Result<(), DriveFault> {
-    try_act(alloc, cluster, Act::Publish { node })?;
-    try_act(alloc, cluster, Act::Learn { child: node })?;
     Ok(())
 }
 
