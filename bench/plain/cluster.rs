@@ -1,0 +1,354 @@
+//! The market: bids go up the tree and prices down it, by messages on links, as `docs/PROTOCOL.md` has it.
+
+use crate::plan::{Event, Part, Phase, Plan, What};
+use std::fmt::Write;
+
+/// One move of the run.
+#[derive(Clone, Copy)]
+#[allow(dead_code, reason = "the journal is kept, and no text of this program shows it")]
+pub enum Move {
+    Change { device: u32, number: u32 },
+    Learn { child: u32, number: u32 },
+    Publish { node: u32, number: u32 },
+    Clear { index: u32 },
+    Pass { node: u32, index: u32 },
+    Close { phase: u32 },
+}
+
+/// A move and, after a price was passed to a device, the step and the number that the device then holds.
+pub struct Line {
+    pub what: Move,
+    pub held: Option<(u32, u32)>,
+}
+
+const _: () = assert!(size_of::<Line>() == 24);
+
+/// The number of a bid, and whether its sender is gone.
+#[derive(Clone, Copy)]
+struct Head {
+    number: u32,
+    gone: bool,
+}
+
+const NOTHING_SENT: Head = Head { number: 0, gone: true };
+
+/// The price at a step of a clearing, with the number of the bid that it answers.
+#[derive(Clone, Copy)]
+struct Price {
+    step: usize,
+    number: u32,
+    index: u32,
+}
+
+/// The link between a node and its parent: the newest bid and the newest price, until they are taken.
+struct Link {
+    bid: Option<Head>,
+    demand: Vec<i64>,
+    price: Option<Price>,
+}
+
+/// What a concentrator sent under a number: the heads of its children, and where it is limited the sum of their bids.
+struct Record {
+    heads: Vec<Head>,
+    sum: Vec<i64>,
+}
+
+const WINDOW: u32 = 8;
+
+/// The auctioneer or a concentrator.
+struct Parent {
+    /// The newest bids of the children, and their sum.
+    heads: Vec<Head>,
+    demands: Vec<Vec<i64>>,
+    sum: Vec<i64>,
+    /// Whether something was learnt that was not sent.
+    changed: bool,
+    /// The number of the newest bid, or of the newest clearing.
+    last: u32,
+    /// The number of its own that the last price names, and the records of this one and those after it.
+    answered: u32,
+    records: Vec<Record>,
+}
+
+struct Device {
+    count: u32,
+    member: bool,
+    state: i64,
+    /// The number of the join that began the membership.
+    joined: u32,
+    /// The price that was passed to it last.
+    given: Option<Price>,
+    /// The power at the end of the phase closed last.
+    power: i64,
+}
+
+pub struct Cluster<'p> {
+    plan: &'p Plan,
+    /// By the nodes; the auctioneer's own link stays empty.
+    links: Vec<Link>,
+    parents: Vec<Option<Parent>>,
+    devices: Vec<Option<Device>>,
+    /// The step of the last clearing.
+    step: usize,
+    closed: u32,
+    pub journal: Vec<Line>,
+    pub report: String,
+}
+
+impl Parent {
+    fn new(children: usize, steps: usize, records: usize, is_limited: bool) -> Parent {
+        let record = || Record { heads: vec![NOTHING_SENT; children], sum: vec![0; if is_limited { steps } else { 0 }] };
+        Parent {
+            heads: vec![NOTHING_SENT; children],
+            demands: vec![vec![0; steps]; children],
+            sum: vec![0; steps],
+            changed: false,
+            last: 0,
+            answered: 0,
+            records: (0..records).map(|_| record()).collect(),
+        }
+    }
+
+    /// Takes the bid in the place of the one before, which is then in its place.
+    fn learn(&mut self, place: usize, head: Head, demand: &mut Vec<i64>) {
+        for ((sum, old), new) in self.sum.iter_mut().zip(&self.demands[place]).zip(&*demand) {
+            *sum += new - old;
+        }
+        std::mem::swap(&mut self.demands[place], demand);
+        self.heads[place] = head;
+        self.changed = true;
+    }
+}
+
+impl Device {
+    /// The price that it holds: none of a former membership.
+    fn held(&self) -> Option<Price> {
+        self.given.filter(|price| self.member && price.number >= self.joined)
+    }
+}
+
+impl<'p> Cluster<'p> {
+    pub fn new(plan: &'p Plan) -> Cluster<'p> {
+        let link = || Link { bid: None, demand: vec![0; plan.steps], price: None };
+        let mut cluster = Cluster {
+            plan,
+            links: plan.nodes.iter().map(|_| link()).collect(),
+            parents: Vec::new(),
+            devices: Vec::new(),
+            step: 0,
+            closed: 0,
+            journal: Vec::with_capacity(plan.bound()),
+            report: String::new(),
+        };
+        for (number, node) in plan.nodes.iter().enumerate() {
+            let (parent, device) = match node.part {
+                Part::Parent { limits } => {
+                    let records = if number == 0 { 0 } else { WINDOW as usize + 1 };
+                    (Some(Parent::new(node.children.len(), plan.steps, records, limits.is_some())), None)
+                }
+                Part::Device { start, .. } => {
+                    (None, Some(Device { count: 0, member: false, state: start, joined: 0, given: None, power: 0 }))
+                }
+            };
+            cluster.parents.push(parent);
+            cluster.devices.push(device);
+        }
+        cluster
+    }
+
+    /// Runs all phases, and writes the report.
+    pub fn run(&mut self) {
+        let plan = self.plan;
+        for phase in &plan.phases {
+            self.make_changes(phase);
+            while !self.is_idle() {
+                self.send_bids();
+                self.clear();
+                self.pass_prices();
+            }
+            self.close();
+        }
+        let _ = writeln!(self.report, "end phases {} changes {}", plan.phases.len(), plan.changes);
+    }
+
+    fn make_changes(&mut self, phase: &Phase) {
+        match phase {
+            Phase::Events(events) => {
+                for Event { device, what } in events {
+                    let now = self.devices[*device].as_ref().unwrap();
+                    match what {
+                        What::Join => self.change(*device, true, now.state),
+                        What::Leave => self.change(*device, false, now.state),
+                        What::Set(state) => self.change(*device, now.member, *state),
+                    }
+                }
+            }
+            Phase::Tick(minutes) => {
+                for (number, node) in self.plan.nodes.iter().enumerate() {
+                    let Part::Device { kind, .. } = &node.part else { continue };
+                    let now = self.devices[number].as_ref().unwrap();
+                    if now.member && kind.ticks() {
+                        self.change(number, true, kind.after_tick(now.state, now.power, *minutes));
+                    }
+                }
+            }
+        }
+    }
+
+    /// A device makes its next change, and offers its bid.
+    fn change(&mut self, number: usize, member: bool, state: i64) {
+        let Part::Device { kind, .. } = &self.plan.nodes[number].part else { unreachable!() };
+        let device = self.devices[number].as_mut().unwrap();
+        device.count += 1;
+        if member && !device.member {
+            device.joined = device.count;
+        }
+        (device.member, device.state) = (member, state);
+        let count = device.count;
+        let link = &mut self.links[number];
+        link.bid = Some(Head { number: count, gone: !member });
+        if member {
+            kind.fill_bid(state, &self.plan.arrays, &mut link.demand);
+        } else {
+            link.demand.fill(0);
+        }
+        self.note(Move::Change { device: number as u32, number: count }, None);
+    }
+
+    fn note(&mut self, what: Move, held: Option<(u32, u32)>) {
+        self.journal.push(Line { what, held });
+    }
+
+    /// Whether nothing waits on a link, and no parent has something to send.
+    fn is_idle(&self) -> bool {
+        let waits = |link: &Link| link.bid.is_some() || link.price.is_some();
+        !self.links.iter().any(waits) && !self.parents.iter().flatten().any(|parent| parent.changed)
+    }
+
+    /// Each concentrator publishes, and each parent learns what its children sent. A parent stands before its children.
+    fn send_bids(&mut self) {
+        for node in (1..self.plan.nodes.len()).rev() {
+            self.publish(node);
+            self.learn(node);
+        }
+    }
+
+    /// A concentrator publishes, where it has something to send and room for its record.
+    fn publish(&mut self, node: usize) {
+        let Some(parent) = &mut self.parents[node] else { return };
+        if !parent.changed || parent.last - parent.answered == WINDOW {
+            return;
+        }
+        parent.changed = false;
+        parent.last += 1;
+        let record = &mut parent.records[(parent.last % (WINDOW + 1)) as usize];
+        record.heads.copy_from_slice(&parent.heads);
+        let link = &mut self.links[node];
+        link.bid = Some(Head { number: parent.last, gone: false });
+        link.demand.copy_from_slice(&parent.sum);
+        if let Part::Parent { limits: Some((floor, ceiling)) } = self.plan.nodes[node].part {
+            record.sum.copy_from_slice(&parent.sum);
+            link.demand.iter_mut().for_each(|demand| *demand = (*demand).clamp(floor, ceiling));
+        }
+        let number = parent.last;
+        self.note(Move::Publish { node: node as u32, number }, None);
+    }
+
+    /// A parent learns the bid of a child, where one waits.
+    fn learn(&mut self, child: usize) {
+        let node = &self.plan.nodes[child];
+        let link = &mut self.links[child];
+        let Some(head) = link.bid.take() else { return };
+        let parent = self.parents[node.parent].as_mut().unwrap();
+        parent.learn(node.place, head, &mut link.demand);
+        self.note(Move::Learn { child: child as u32, number: head.number }, None);
+    }
+
+    /// The auctioneer clears, where it has something to clear: at the first step where the sum is not positive.
+    fn clear(&mut self) {
+        let parent = self.parents[0].as_mut().unwrap();
+        if !parent.changed {
+            return;
+        }
+        parent.changed = false;
+        parent.last += 1;
+        self.step = parent.sum.iter().position(|sum| *sum <= 0).unwrap_or(self.plan.steps - 1);
+        let index = parent.last;
+        offer_prices(&mut self.links, &self.plan.nodes[0].children, &parent.heads, self.step, index);
+        self.note(Move::Clear { index }, None);
+    }
+
+    /// Each node takes the price that waits for it. A parent stands before its children.
+    fn pass_prices(&mut self) {
+        for node in 1..self.plan.nodes.len() {
+            if let Some(price) = self.links[node].price.take() {
+                self.pass(node, price);
+            }
+        }
+    }
+
+    fn pass(&mut self, number: usize, price: Price) {
+        let mut held = None;
+        if let Some(device) = &mut self.devices[number] {
+            device.given = Some(price);
+            held = device.held().map(|price| (price.step as u32, price.number));
+        }
+        if let Some(parent) = &mut self.parents[number] {
+            parent.answered = price.number;
+            let node = &self.plan.nodes[number];
+            let record = &parent.records[(price.number % (WINDOW + 1)) as usize];
+            let step = match node.part {
+                Part::Parent { limits: Some(limits) } => local_step(limits, &record.sum, price.step),
+                _ => price.step,
+            };
+            offer_prices(&mut self.links, &node.children, &record.heads, step, price.index);
+        }
+        self.note(Move::Pass { node: number as u32, index: price.index }, held);
+    }
+
+    /// Closes the phase: each device keeps its power, and the report gets its lines.
+    fn close(&mut self) {
+        let plan = self.plan;
+        self.closed += 1;
+        let total = self.parents[0].as_ref().unwrap().sum[self.step];
+        let members = self.devices.iter().flatten().filter(|device| device.member).count();
+        let (phase, price, step) = (self.closed, plan.price(self.step), self.step);
+        let _ = writeln!(self.report, "phase {phase} price {price} step {step} total {total} members {members}");
+        for (number, node) in plan.nodes.iter().enumerate() {
+            let Some(device) = &mut self.devices[number] else { continue };
+            let entry = &self.parents[node.parent].as_ref().unwrap().demands[node.place];
+            device.power = device.held().map_or(0, |price| entry[price.step]);
+            if device.member {
+                let _ = writeln!(self.report, "member {} power {} bid {}", node.name, device.power, device.count);
+            }
+        }
+        for (number, node) in plan.nodes.iter().enumerate() {
+            let Part::Parent { limits: Some(limits) } = node.part else { continue };
+            let sum = &self.parents[number].as_ref().unwrap().sum;
+            let step = local_step(limits, sum, self.step);
+            let (price, total) = (plan.price(step), sum[step]);
+            let _ = writeln!(self.report, "limited {} price {price} step {step} total {total}", node.name);
+        }
+        self.note(Move::Close { phase }, None);
+    }
+}
+
+/// Offers a price to each child that is not gone, with the child's number.
+fn offer_prices(links: &mut [Link], children: &[usize], heads: &[Head], step: usize, index: u32) {
+    for (child, head) in children.iter().zip(heads) {
+        if !head.gone {
+            links[*child].price = Some(Price { step, number: head.number, index });
+        }
+    }
+}
+
+/// The step of the nodes below a limited concentrator, for a price of this step and the sum of its children's bids.
+fn local_step((floor, ceiling): (i64, i64), sum: &[i64], step: usize) -> usize {
+    if sum[step] > ceiling {
+        sum.iter().position(|sum| *sum <= ceiling).unwrap_or(sum.len() - 1)
+    } else if sum[step] < floor {
+        sum.iter().rposition(|sum| *sum >= floor).unwrap_or(0)
+    } else {
+        step
+    }
+}
