@@ -1,40 +1,67 @@
 #!/usr/bin/env python3
-"""Runs the program `measure` on cluster files in each of its ways, and prints times, memory and their ratios.
+"""Measures ways to run a cluster side by side on cluster files, and prints times, memory, ratios and counts.
 
-Each way runs seven times on a file, in turn with the others, and the least time counts; the ratio of times has the reading
-taken off both sides. The time of the processors is told beside it, which other work on the machine disturbs less. A run
-before these gives the memory and the text. The status is 1 where a text differs or a run fails or hangs, else 2 where a
-ratio is above its limit, else 0.
+    compare.py RUNS MARKET MEASURE PLAIN COUNTER FILE..
+
+MARKET and MEASURE are the programs, PLAIN is the plain program of `bench/plain` and COUNTER the library of `bench/count.c`;
+either of these two may be `-`, and then what needs it is left out.
+
+Each way runs RUNS times on a file, in turn with the others, and the least time of the whole process counts. The time of the
+processors is told beside it, which other work on the machine disturbs less. A run before these gives the memory and the
+text, and one after them the counts. The status is 1 where a text differs or a run fails or hangs, else 2 where a goal is
+missed, else 0.
 """
 
 import os
 import signal
+import statistics
 import subprocess
 import sys
 import tempfile
+import textwrap
 import threading
 import time
+from dataclasses import dataclass
 
-READING = "read"
-PLAIN = "walk"
-COMPARED = ["drive"]
-WAYS = [READING, PLAIN, *COMPARED]
-
-RUNS = 7
 LONGEST_SECONDS = 60
-TIME_LIMIT = 2
-MEMORY_LIMIT = 3
+
+# The ways, by their names; `plain read` and `measure read` stop once the plan is made.
+MARKET = "market run"
+PLAIN = "plain"
+PLAIN_READING = "plain read"
+WALK = "measure walk"
+DRIVE = "measure drive"
+READING = "measure read"
+
+# How often longer than the plain program `market run` may take, by the file.
+MARKET_GOALS = {"demo": 12, "wide": 5.5, "deep": 2, "calm": 2}
+# How often more memory than the walk `market run` and the driven cluster may take.
+MEMORY_GOAL = 3
+# How often longer than the walk the driven cluster may take, the reading taken off both.
+DRIVE_GOAL = 2
 
 
 class Failed(Exception):
     """A run failed or hangs, or a text differs."""
 
 
-def run(command, path, text):
-    """Runs a command on a file, and gives the seconds and the processor seconds that it took; `text` takes its output."""
+@dataclass
+class Run:
+    """What a run took."""
+
+    seconds: float
+    processor_seconds: float
+    # How often a thread gave its processor up, and how often it was taken from one.
+    left: int
+    forced: int
+
+
+def run(command, path, text, variables=None):
+    """Runs a command on a file; `text` takes its output."""
+    settings = {"start_new_session": True, "env": os.environ | (variables or {})}
     with open(path, "rb") as source:
         begin = time.perf_counter()
-        child = subprocess.Popen(command, stdin=source, stdout=text, start_new_session=True)
+        child = subprocess.Popen(command, stdin=source, stdout=text, **settings)
         late = threading.Event()
         watchdog = threading.Timer(LONGEST_SECONDS, lambda: (late.set(), os.killpg(child.pid, signal.SIGKILL)))
         watchdog.start()
@@ -42,75 +69,162 @@ def run(command, path, text):
         seconds = time.perf_counter() - begin
         watchdog.cancel()
         child.returncode = os.waitstatus_to_exitcode(status)
+    words = " ".join(os.path.basename(word) for word in command)
     if late.is_set():
-        raise Failed(f"{command[-1]} hangs: it does not end within {LONGEST_SECONDS} seconds")
+        raise Failed(f"{words} hangs: it does not end within {LONGEST_SECONDS} seconds")
     if child.returncode != 0:
-        raise Failed(f"{command[-1]} ends with status {child.returncode}")
-    return seconds, usage.ru_utime + usage.ru_stime
+        raise Failed(f"{words} ends with status {child.returncode}")
+    return Run(seconds, usage.ru_utime + usage.ru_stime, usage.ru_nvcsw, usage.ru_nivcsw)
 
 
-def peak(program, way, path):
-    """The peak memory of a run in megabytes, and its text."""
-    with tempfile.TemporaryFile() as text, tempfile.NamedTemporaryFile("r") as told:
-        run(["/usr/bin/time", "-f", "%M", "-o", told.name, program, way], path, text)
+def text_of(command, path, variables=None):
+    """The text that a command writes."""
+    with tempfile.TemporaryFile() as text:
+        run(command, path, text, variables)
         text.seek(0)
-        return int(told.read()) / 1024, text.read()
+        return text.read()
 
 
-def least_times(program, path):
-    """The least seconds and the least processor seconds of each way."""
-    taken = {way: [] for way in WAYS}
+def peak(command, path):
+    """The peak memory of a run in megabytes, and its text."""
+    with tempfile.NamedTemporaryFile("r") as told:
+        text = text_of(["/usr/bin/time", "-f", "%M", "-o", told.name, *command], path)
+        return int(told.read()) / 1024, text
+
+
+def compare_texts(texts):
+    """Fails where a text is not the one due: the report is the same, and the other ways tell the lines of its phases."""
+    if PLAIN in texts and texts[PLAIN] != texts[MARKET]:
+        raise Failed(f"the texts of {MARKET} and {PLAIN} differ")
+    phases = b"".join(line for line in texts[MARKET].splitlines(True) if line.startswith(b"phase "))
+    for way in (WALK, DRIVE):
+        if texts[way] != phases:
+            raise Failed(f"the texts of {MARKET} and {way} differ")
+
+
+def runs_of(ways, runs, path):
+    """The runs of each way, all ways in turn."""
+    taken = {way: [] for way in ways}
     with open(os.devnull, "wb") as nowhere:
-        for _ in range(RUNS):
-            for way in WAYS:
-                taken[way].append(run([program, way], path, nowhere))
-    return [{way: min(pair[at] for pair in taken[way]) for way in WAYS} for at in (0, 1)]
+        for _ in range(runs):
+            for way, command in ways.items():
+                taken[way].append(run(command, path, nowhere))
+    return taken
 
 
-def ratio_of(least, way):
-    """The ratio of a way to the plain one, with the reading taken off both."""
-    return (least[way] - least[READING]) / max(least[PLAIN] - least[READING], 1e-6)
+def quotient(over, under):
+    return over / max(under, 1e-6)
 
 
-def judged(what, ratio, limit):
-    """A ratio beside its limit, and whether it is within it."""
-    within = ratio <= limit
-    return f"{what} {ratio:.2f} (limit {limit}{'' if within else ', BROKEN'})", within
+def beside(ratio, goal):
+    """A ratio beside its goal, and whether the goal is missed; there may be none."""
+    if goal is None:
+        return f"{ratio:.2f}", False
+    missed = ratio > goal
+    return f"{ratio:.2f} (goal {goal}{', MISSED' if missed else ''})", missed
 
 
-def measured(program, path):
-    """The lines of a file, and whether every ratio is within its limit."""
+def ratio_lines(name, least, processors, peaks):
+    """The lines of the ratios, and whether a goal is missed."""
+    lines = []
+    misses = []
+
+    def told(ratio, goal=None):
+        text, missed = beside(ratio, goal)
+        misses.append(missed)
+        return text
+
+    if PLAIN in least:
+        whole = told(quotient(least[MARKET], least[PLAIN]), MARKET_GOALS.get(name))
+        market, plain = least[MARKET] - least[READING], least[PLAIN] - least[PLAIN_READING]
+        computing = told(quotient(processors[MARKET], processors[PLAIN]))
+        lines.append(f"{MARKET} / {PLAIN}: time {whole}, without the reading {told(quotient(market, plain))}, "
+                     f"time of processors {computing}")
+    lines.append(f"{MARKET} / {WALK}: memory {told(quotient(peaks[MARKET], peaks[WALK]), MEMORY_GOAL)}")
+    drive, walk = ((least[way] - least[READING]) for way in (DRIVE, WALK))
+    computing = quotient(*(processors[way] - processors[READING] for way in (DRIVE, WALK)))
+    lines.append(f"{DRIVE} / {WALK}: time without the reading {told(quotient(drive, walk), DRIVE_GOAL)}, "
+                 f"time of processors {told(computing)}, memory {told(quotient(peaks[DRIVE], peaks[WALK]), MEMORY_GOAL)}")
+    return lines, any(misses)
+
+
+def moves(market, path):
+    """How many moves a run makes, which the last line of its trace tells."""
+    last = text_of([market, "trace"], path).rstrip(b"\n").rpartition(b"\n")[2].split()
+    if len(last) != 2 or last[0] != b"moves":
+        raise Failed("the trace does not end with the number of moves")
+    return int(last[1])
+
+
+def counted(command, counter, path, due):
+    """What the counter counts in a run, which must write the text due."""
+    with tempfile.NamedTemporaryFile("r") as told:
+        if text_of(command, path, {"LD_PRELOAD": counter, "COUNTS": told.name}) != due:
+            raise Failed("the text differs where a run is counted")
+        lines = [line.rsplit(" ", 1) for line in told.read().splitlines()]
+    if not lines:
+        raise Failed("the counter tells nothing")
+    return ", ".join(f"{what} {int(number):,}" for what, number in lines)
+
+
+def count_lines(command, counter, taken, path, due):
+    """The lines of the counts of `market run`."""
+    left = statistics.median_low(it.left for it in taken)
+    forced = statistics.median_low(it.forced for it in taken)
+    lines = [f"moves {moves(command[0], path):,}, switches of threads {left:,} given up and {forced:,} forced (medians)"]
+    if counter:
+        text = "counted in one more run: " + counted(command, counter, path, due)
+        lines += textwrap.wrap(text, 110, subsequent_indent="    ", break_on_hyphens=False)
+    return lines
+
+
+def measured(ways, runs, counter, path):
+    """The lines of a file, and whether a goal is missed."""
     name = os.path.basename(path).removesuffix(".json")
-    peaks = {way: peak(program, way, path) for way in WAYS}
-    for way in COMPARED:
-        if peaks[way][1] != peaks[PLAIN][1]:
-            raise Failed(f"the texts of {PLAIN} and {way} differ")
-    least, computing = least_times(program, path)
-    lines = [f"{name}: " + ", ".join(f"{way} {1000 * least[way]:.1f} ms {peaks[way][0]:.1f} MB" for way in WAYS)]
-    all_within = True
-    for way in COMPARED:
-        time_text, time_within = judged("time", ratio_of(least, way), TIME_LIMIT)
-        memory_text, memory_within = judged("memory", peaks[way][0] / peaks[PLAIN][0], MEMORY_LIMIT)
-        processors = f"time of processors {ratio_of(computing, way):.2f}"
-        lines.append(f"    {way}/{PLAIN}: {time_text}, {processors}, {memory_text}")
-        all_within = all_within and time_within and memory_within
-    return lines, all_within
+    peaks, texts = {}, {}
+    for way, command in ways.items():
+        peaks[way], texts[way] = peak(command, path)
+    compare_texts(texts)
+    taken = runs_of(ways, runs, path)
+    least = {way: min(it.seconds for it in taken[way]) for way in ways}
+    processors = {way: min(it.processor_seconds for it in taken[way]) for way in ways}
+    lines = [f"{name}:"]
+    for way in ways:
+        lines.append(f"    {way:<13} {1000 * least[way]:8.1f} ms, {1000 * processors[way]:8.1f} ms of processors, "
+                     f"{peaks[way]:5.1f} MB")
+    told, missed = ratio_lines(name, least, processors, peaks)
+    told += count_lines(ways[MARKET], counter, taken[MARKET], path, texts[MARKET])
+    return lines + [f"    {line}" for line in told], missed
 
 
-def main(program, paths):
-    print(f"{os.cpu_count()} processors, load {os.getloadavg()[0]:.1f}", flush=True)
+def ways_of(market, measure, plain):
+    """The commands of the ways."""
+    ways = {MARKET: [market, "run"]}
+    if plain:
+        ways |= {PLAIN: [plain], PLAIN_READING: [plain, "read"]}
+    return ways | {way: [measure, way.split()[1]] for way in (WALK, DRIVE, READING)}
+
+
+def load():
+    return f"load {os.getloadavg()[0]:.1f}"
+
+
+def main(runs, market, measure, plain, counter, *paths):
+    ways = ways_of(market, measure, None if plain == "-" else plain)
+    print(f"{os.cpu_count()} processors, {load()}, least of {runs} runs", flush=True)
     status = 0
     for path in paths:
         try:
-            lines, all_within = measured(program, path)
+            lines, missed = measured(ways, int(runs), None if counter == "-" else counter, path)
         except Failed as failure:
-            lines, all_within = [f"{path}: {failure}"], True
+            lines, missed = [f"{path}: {failure}"], False
             status = 1
-        if not all_within and status == 0:
+        if missed and status == 0:
             status = 2
         print("\n".join(lines), flush=True)
+    print(load())
     return status
 
 
 if __name__ == "__main__":
-    sys.exit(main(sys.argv[1], sys.argv[2:]))
+    sys.exit(main(*sys.argv[1:]))
