@@ -1,17 +1,18 @@
 #!/usr/bin/env python3
-"""Measures ways to run a cluster side by side on cluster files, and prints times, memory, ratios and counts.
+"""Measures ways to run a cluster side by side on the files of `make_files.py`, and prints times, memory, ratios and counts.
 
-    compare.py RUNS MARKET MEASURE PLAIN COUNTER FILE..
+    compare.py RUNS MARKET MEASURE PLAIN COUNTER FOLDER
 
 MARKET and MEASURE are the programs, PLAIN is the plain program of `bench/plain` and COUNTER the library of `bench/count.c`;
-either of these two may be `-`, and then what needs it is left out.
+either of these two may be `-`, and then what needs it is left out. FOLDER has the files.
 
 Each way runs RUNS times on a file, in turn with the others, and the least time of the whole process counts. The time of the
 processors is told beside it, which other work on the machine disturbs less. A run before these gives the memory and the
-text, and one after them the counts. The status is 1 where a text differs or a run fails or hangs, else 2 where a goal is
-missed, else 0.
+text, and one after them the counts. On the largest files only the times of `market run` and of the plain program are taken.
+The status is 1 where a text differs or a run fails or hangs, else 2 where a goal is missed, else 0.
 """
 
+import glob
 import os
 import signal
 import statistics
@@ -24,6 +25,9 @@ import time
 from dataclasses import dataclass
 
 LONGEST_SECONDS = 60
+
+# The files that are compared, in their order.
+COMPARED = ["demo", "wide", "deep", "chain", "calm"]
 
 # The ways, by their names; `plain read` and `measure read` stop once the plan is made.
 MARKET = "market run"
@@ -98,7 +102,7 @@ def compare_texts(texts):
         raise Failed(f"the texts of {MARKET} and {PLAIN} differ")
     phases = b"".join(line for line in texts[MARKET].splitlines(True) if line.startswith(b"phase "))
     for way in (WALK, DRIVE):
-        if texts[way] != phases:
+        if way in texts and texts[way] != phases:
             raise Failed(f"the texts of {MARKET} and {way} differ")
 
 
@@ -178,9 +182,12 @@ def count_lines(command, counter, taken, path, due):
     return lines
 
 
+def name_of(path):
+    return os.path.basename(path).removesuffix(".json")
+
+
 def measured(ways, runs, counter, path):
     """The lines of a file, and whether a goal is missed."""
-    name = os.path.basename(path).removesuffix(".json")
     peaks, texts = {}, {}
     for way, command in ways.items():
         peaks[way], texts[way] = peak(command, path)
@@ -188,13 +195,24 @@ def measured(ways, runs, counter, path):
     taken = runs_of(ways, runs, path)
     least = {way: min(it.seconds for it in taken[way]) for way in ways}
     processors = {way: min(it.processor_seconds for it in taken[way]) for way in ways}
-    lines = [f"{name}:"]
+    lines = [f"{name_of(path)}:"]
     for way in ways:
         lines.append(f"    {way:<13} {1000 * least[way]:8.1f} ms, {1000 * processors[way]:8.1f} ms of processors, "
                      f"{peaks[way]:5.1f} MB")
-    told, missed = ratio_lines(name, least, processors, peaks)
+    told, missed = ratio_lines(name_of(path), least, processors, peaks)
     told += count_lines(ways[MARKET], counter, taken[MARKET], path, texts[MARKET])
     return lines + [f"    {line}" for line in told], missed
+
+
+def measured_largest(ways, runs, path):
+    """The line of one of the largest files; no goal is set for it."""
+    ways = {way: ways[way] for way in (MARKET, PLAIN) if way in ways}
+    texts = {way: text_of(command, path) for way, command in ways.items()}
+    compare_texts(texts)
+    taken = runs_of(ways, runs, path)
+    times = ", ".join(f"{way} {min(it.seconds for it in taken[way]):.3f} s" for way in ways)
+    line = f"{name_of(path)}: {times}, {os.path.getsize(path):,} bytes read, {len(texts[MARKET]):,} bytes written"
+    return [line], False
 
 
 def ways_of(market, measure, plain):
@@ -209,21 +227,27 @@ def load():
     return f"load {os.getloadavg()[0]:.1f}"
 
 
-def main(runs, market, measure, plain, counter, *paths):
+def tried(measure, *arguments):
+    """Prints the lines of a file, and gives the status."""
+    try:
+        lines, missed = measure(*arguments)
+    except Failed as failure:
+        print(f"{name_of(arguments[-1])}: {failure}", flush=True)
+        return 1
+    print("\n".join(lines), flush=True)
+    return 2 if missed else 0
+
+
+def main(runs, market, measure, plain, counter, folder):
     ways = ways_of(market, measure, None if plain == "-" else plain)
+    counter = None if counter == "-" else counter
     print(f"{os.cpu_count()} processors, {load()}, least of {runs} runs", flush=True)
-    status = 0
-    for path in paths:
-        try:
-            lines, missed = measured(ways, int(runs), None if counter == "-" else counter, path)
-        except Failed as failure:
-            lines, missed = [f"{path}: {failure}"], False
-            status = 1
-        if missed and status == 0:
-            status = 2
-        print("\n".join(lines), flush=True)
+    largest = sorted(glob.glob(os.path.join(folder, "largest", "*.json")))
+    statuses = [tried(measured_largest, ways, int(runs), path) for path in largest]
+    paths = [os.path.join(folder, "compared", name + ".json") for name in COMPARED]
+    statuses += [tried(measured, ways, int(runs), counter, path) for path in paths]
     print(load())
-    return status
+    return 1 if 1 in statuses else max(statuses)
 
 
 if __name__ == "__main__":

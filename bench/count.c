@@ -245,9 +245,10 @@ __attribute__((constructor)) static void begin(void) {
 #endif
 }
 
+// Tells the counts of a program that has threads; one that only starts it, as `timeout` does, has none.
 static void tell(void) {
     static atomic_bool is_told;
-    if (!told_to || atomic_exchange(&is_told, 1)) {
+    if (!told_to || !threads || atomic_exchange(&is_told, 1)) {
         return;
     }
     unsigned long bells = 0, rung = 0, waits = 0, awake = 0, wakes = 0, woken = 0, lock_sleeps = 0;
