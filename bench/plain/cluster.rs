@@ -5,7 +5,10 @@ use std::fmt::Write;
 
 /// One move of the run.
 #[derive(Clone, Copy)]
-#[allow(dead_code, reason = "the journal is kept, and no text of this program shows it")]
+#[allow(
+    dead_code,
+    reason = "the journal is kept, and no text of this program shows it"
+)]
 pub enum Move {
     Change { device: u32, number: u32 },
     Learn { child: u32, number: u32 },
@@ -30,7 +33,10 @@ struct Head {
     gone: bool,
 }
 
-const NOTHING_SENT: Head = Head { number: 0, gone: true };
+const NOTHING_SENT: Head = Head {
+    number: 0,
+    gone: true,
+};
 
 /// The price at a step of a clearing, with the number of the bid that it answers.
 #[derive(Clone, Copy)]
@@ -97,7 +103,10 @@ pub struct Cluster<'p> {
 
 impl Parent {
     fn new(children: usize, steps: usize, records: usize, is_limited: bool) -> Parent {
-        let record = || Record { heads: vec![NOTHING_SENT; children], sum: vec![0; if is_limited { steps } else { 0 }] };
+        let record = || Record {
+            heads: vec![NOTHING_SENT; children],
+            sum: vec![0; if is_limited { steps } else { 0 }],
+        };
         Parent {
             heads: vec![NOTHING_SENT; children],
             demands: vec![vec![0; steps]; children],
@@ -123,13 +132,18 @@ impl Parent {
 impl Device {
     /// The price that it holds: none of a former membership.
     fn held(&self) -> Option<Price> {
-        self.given.filter(|price| self.member && price.number >= self.joined)
+        self.given
+            .filter(|price| self.member && price.number >= self.joined)
     }
 }
 
 impl<'p> Cluster<'p> {
     pub fn new(plan: &'p Plan) -> Cluster<'p> {
-        let link = || Link { bid: None, demand: vec![0; plan.steps], price: None };
+        let link = || Link {
+            bid: None,
+            demand: vec![0; plan.steps],
+            price: None,
+        };
         let mut cluster = Cluster {
             plan,
             links: plan.nodes.iter().map(|_| link()).collect(),
@@ -144,11 +158,27 @@ impl<'p> Cluster<'p> {
             let (parent, device) = match node.part {
                 Part::Parent { limits } => {
                     let records = if number == 0 { 0 } else { WINDOW as usize + 1 };
-                    (Some(Parent::new(node.children.len(), plan.steps, records, limits.is_some())), None)
+                    (
+                        Some(Parent::new(
+                            node.children.len(),
+                            plan.steps,
+                            records,
+                            limits.is_some(),
+                        )),
+                        None,
+                    )
                 }
-                Part::Device { start, .. } => {
-                    (None, Some(Device { count: 0, member: false, state: start, joined: 0, given: None, power: 0 }))
-                }
+                Part::Device { start, .. } => (
+                    None,
+                    Some(Device {
+                        count: 0,
+                        member: false,
+                        state: start,
+                        joined: 0,
+                        given: None,
+                        power: 0,
+                    }),
+                ),
             };
             cluster.parents.push(parent);
             cluster.devices.push(device);
@@ -168,7 +198,12 @@ impl<'p> Cluster<'p> {
             }
             self.close();
         }
-        let _ = writeln!(self.report, "end phases {} changes {}", plan.phases.len(), plan.changes);
+        let _ = writeln!(
+            self.report,
+            "end phases {} changes {}",
+            plan.phases.len(),
+            plan.changes
+        );
     }
 
     fn make_changes(&mut self, phase: &Phase) {
@@ -185,10 +220,16 @@ impl<'p> Cluster<'p> {
             }
             Phase::Tick(minutes) => {
                 for (number, node) in self.plan.nodes.iter().enumerate() {
-                    let Part::Device { kind, .. } = &node.part else { continue };
+                    let Part::Device { kind, .. } = &node.part else {
+                        continue;
+                    };
                     let now = self.devices[number].as_ref().unwrap();
                     if now.member && kind.ticks() {
-                        self.change(number, true, kind.after_tick(now.state, now.power, *minutes));
+                        self.change(
+                            number,
+                            true,
+                            kind.after_tick(now.state, now.power, *minutes),
+                        );
                     }
                 }
             }
@@ -197,7 +238,9 @@ impl<'p> Cluster<'p> {
 
     /// A device makes its next change, and offers its bid.
     fn change(&mut self, number: usize, member: bool, state: i64) {
-        let Part::Device { kind, .. } = &self.plan.nodes[number].part else { unreachable!() };
+        let Part::Device { kind, .. } = &self.plan.nodes[number].part else {
+            unreachable!()
+        };
         let device = self.devices[number].as_mut().unwrap();
         device.count += 1;
         if member && !device.member {
@@ -206,13 +249,22 @@ impl<'p> Cluster<'p> {
         (device.member, device.state) = (member, state);
         let count = device.count;
         let link = &mut self.links[number];
-        link.bid = Some(Head { number: count, gone: !member });
+        link.bid = Some(Head {
+            number: count,
+            gone: !member,
+        });
         if member {
             kind.fill_bid(state, &self.plan.arrays, &mut link.demand);
         } else {
             link.demand.fill(0);
         }
-        self.note(Move::Change { device: number as u32, number: count }, None);
+        self.note(
+            Move::Change {
+                device: number as u32,
+                number: count,
+            },
+            None,
+        );
     }
 
     fn note(&mut self, what: Move, held: Option<(u32, u32)>) {
@@ -235,7 +287,9 @@ impl<'p> Cluster<'p> {
 
     /// A concentrator publishes, where it has something to send and room for its record.
     fn publish(&mut self, node: usize) {
-        let Some(parent) = &mut self.parents[node] else { return };
+        let Some(parent) = &mut self.parents[node] else {
+            return;
+        };
         if !parent.changed || parent.last - parent.answered == WINDOW {
             return;
         }
@@ -244,14 +298,28 @@ impl<'p> Cluster<'p> {
         let record = &mut parent.records[(parent.last % (WINDOW + 1)) as usize];
         record.heads.copy_from_slice(&parent.heads);
         let link = &mut self.links[node];
-        link.bid = Some(Head { number: parent.last, gone: false });
+        link.bid = Some(Head {
+            number: parent.last,
+            gone: false,
+        });
         link.demand.copy_from_slice(&parent.sum);
-        if let Part::Parent { limits: Some((floor, ceiling)) } = self.plan.nodes[node].part {
+        if let Part::Parent {
+            limits: Some((floor, ceiling)),
+        } = self.plan.nodes[node].part
+        {
             record.sum.copy_from_slice(&parent.sum);
-            link.demand.iter_mut().for_each(|demand| *demand = (*demand).clamp(floor, ceiling));
+            link.demand
+                .iter_mut()
+                .for_each(|demand| *demand = (*demand).clamp(floor, ceiling));
         }
         let number = parent.last;
-        self.note(Move::Publish { node: node as u32, number }, None);
+        self.note(
+            Move::Publish {
+                node: node as u32,
+                number,
+            },
+            None,
+        );
     }
 
     /// A parent learns the bid of a child, where one waits.
@@ -261,7 +329,13 @@ impl<'p> Cluster<'p> {
         let Some(head) = link.bid.take() else { return };
         let parent = self.parents[node.parent].as_mut().unwrap();
         parent.learn(node.place, head, &mut link.demand);
-        self.note(Move::Learn { child: child as u32, number: head.number }, None);
+        self.note(
+            Move::Learn {
+                child: child as u32,
+                number: head.number,
+            },
+            None,
+        );
     }
 
     /// The auctioneer clears, where it has something to clear: at the first step where the sum is not positive.
@@ -272,9 +346,19 @@ impl<'p> Cluster<'p> {
         }
         parent.changed = false;
         parent.last += 1;
-        self.step = parent.sum.iter().position(|sum| *sum <= 0).unwrap_or(self.plan.steps - 1);
+        self.step = parent
+            .sum
+            .iter()
+            .position(|sum| *sum <= 0)
+            .unwrap_or(self.plan.steps - 1);
         let index = parent.last;
-        offer_prices(&mut self.links, &self.plan.nodes[0].children, &parent.heads, self.step, index);
+        offer_prices(
+            &mut self.links,
+            &self.plan.nodes[0].children,
+            &parent.heads,
+            self.step,
+            index,
+        );
         self.note(Move::Clear { index }, None);
     }
 
@@ -298,12 +382,26 @@ impl<'p> Cluster<'p> {
             let node = &self.plan.nodes[number];
             let record = &parent.records[(price.number % (WINDOW + 1)) as usize];
             let step = match node.part {
-                Part::Parent { limits: Some(limits) } => local_step(limits, &record.sum, price.step),
+                Part::Parent {
+                    limits: Some(limits),
+                } => local_step(limits, &record.sum, price.step),
                 _ => price.step,
             };
-            offer_prices(&mut self.links, &node.children, &record.heads, step, price.index);
+            offer_prices(
+                &mut self.links,
+                &node.children,
+                &record.heads,
+                step,
+                price.index,
+            );
         }
-        self.note(Move::Pass { node: number as u32, index: price.index }, held);
+        self.note(
+            Move::Pass {
+                node: number as u32,
+                index: price.index,
+            },
+            held,
+        );
     }
 
     /// Closes the phase: each device keeps its power, and the report gets its lines.
@@ -311,23 +409,46 @@ impl<'p> Cluster<'p> {
         let plan = self.plan;
         self.closed += 1;
         let total = self.parents[0].as_ref().unwrap().sum[self.step];
-        let members = self.devices.iter().flatten().filter(|device| device.member).count();
+        let members = self
+            .devices
+            .iter()
+            .flatten()
+            .filter(|device| device.member)
+            .count();
         let (phase, price, step) = (self.closed, plan.price(self.step), self.step);
-        let _ = writeln!(self.report, "phase {phase} price {price} step {step} total {total} members {members}");
+        let _ = writeln!(
+            self.report,
+            "phase {phase} price {price} step {step} total {total} members {members}"
+        );
         for (number, node) in plan.nodes.iter().enumerate() {
-            let Some(device) = &mut self.devices[number] else { continue };
+            let Some(device) = &mut self.devices[number] else {
+                continue;
+            };
             let entry = &self.parents[node.parent].as_ref().unwrap().demands[node.place];
             device.power = device.held().map_or(0, |price| entry[price.step]);
             if device.member {
-                let _ = writeln!(self.report, "member {} power {} bid {}", node.name, device.power, device.count);
+                let _ = writeln!(
+                    self.report,
+                    "member {} power {} bid {}",
+                    node.name, device.power, device.count
+                );
             }
         }
         for (number, node) in plan.nodes.iter().enumerate() {
-            let Part::Parent { limits: Some(limits) } = node.part else { continue };
+            let Part::Parent {
+                limits: Some(limits),
+            } = node.part
+            else {
+                continue;
+            };
             let sum = &self.parents[number].as_ref().unwrap().sum;
             let step = local_step(limits, sum, self.step);
             let (price, total) = (plan.price(step), sum[step]);
-            let _ = writeln!(self.report, "limited {} price {price} step {step} total {total}", node.name);
+            let _ = writeln!(
+                self.report,
+                "limited {} price {price} step {step} total {total}",
+                node.name
+            );
         }
         self.note(Move::Close { phase }, None);
     }
@@ -337,7 +458,11 @@ impl<'p> Cluster<'p> {
 fn offer_prices(links: &mut [Link], children: &[usize], heads: &[Head], step: usize, index: u32) {
     for (child, head) in children.iter().zip(heads) {
         if !head.gone {
-            links[*child].price = Some(Price { step, number: head.number, index });
+            links[*child].price = Some(Price {
+                step,
+                number: head.number,
+                index,
+            });
         }
     }
 }
@@ -345,7 +470,9 @@ fn offer_prices(links: &mut [Link], children: &[usize], heads: &[Head], step: us
 /// The step of the nodes below a limited concentrator, for a price of this step and the sum of its children's bids.
 fn local_step((floor, ceiling): (i64, i64), sum: &[i64], step: usize) -> usize {
     if sum[step] > ceiling {
-        sum.iter().position(|sum| *sum <= ceiling).unwrap_or(sum.len() - 1)
+        sum.iter()
+            .position(|sum| *sum <= ceiling)
+            .unwrap_or(sum.len() - 1)
     } else if sum[step] < floor {
         sum.iter().rposition(|sum| *sum >= floor).unwrap_or(0)
     } else {

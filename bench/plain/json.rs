@@ -13,33 +13,59 @@ pub enum Value {
 
 impl Value {
     pub fn whole(&self) -> Option<i64> {
-        if let Value::Whole(number) = self { Some(*number) } else { None }
+        if let Value::Whole(number) = self {
+            Some(*number)
+        } else {
+            None
+        }
     }
 
     pub fn text(&self) -> Option<&str> {
-        if let Value::Text(text) = self { Some(text) } else { None }
+        if let Value::Text(text) = self {
+            Some(text)
+        } else {
+            None
+        }
     }
 
     pub fn list(&self) -> Option<&[Value]> {
-        if let Value::List(items) = self { Some(items) } else { None }
+        if let Value::List(items) = self {
+            Some(items)
+        } else {
+            None
+        }
     }
 
     /// The member of an object. Of a name that stands twice the last value counts.
     pub fn get(&self, name: &str) -> Option<&Value> {
-        let Value::Object(members) = self else { return None };
-        members.iter().rev().find(|member| member.0 == name).map(|member| &member.1)
+        let Value::Object(members) = self else {
+            return None;
+        };
+        members
+            .iter()
+            .rev()
+            .find(|member| member.0 == name)
+            .map(|member| &member.1)
     }
 
     /// Whether it is an object with exactly these members.
     pub fn has_exactly(&self, names: &[&str]) -> bool {
-        let Value::Object(members) = self else { return false };
-        names.iter().all(|name| self.get(name).is_some()) && members.iter().all(|member| names.contains(&member.0.as_str()))
+        let Value::Object(members) = self else {
+            return false;
+        };
+        names.iter().all(|name| self.get(name).is_some())
+            && members
+                .iter()
+                .all(|member| names.contains(&member.0.as_str()))
     }
 }
 
 /// The value that a text is.
 pub fn parse(text: &str) -> Option<Value> {
-    let mut reader = Reader { bytes: text.as_bytes(), at: 0 };
+    let mut reader = Reader {
+        bytes: text.as_bytes(),
+        at: 0,
+    };
     let value = reader.value(0)?;
     reader.skip_blanks();
     (reader.at == reader.bytes.len()).then_some(value)
@@ -83,7 +109,10 @@ impl Reader<'_> {
             b'[' if depth < DEEPEST => self.list(depth),
             b'{' if depth < DEEPEST => self.object(depth),
             b'-' | b'0'..=b'9' => self.number(),
-            _ => ["null", "true", "false"].iter().any(|word| self.take_word(word)).then_some(Value::Other),
+            _ => ["null", "true", "false"]
+                .iter()
+                .any(|word| self.take_word(word))
+                .then_some(Value::Other),
         }
     }
 
@@ -192,7 +221,11 @@ impl Reader<'_> {
                 if !(0xd800..0xdc00).contains(&first) {
                     return char::from_u32(first);
                 }
-                let second = if self.take_word("\\u") { self.four_digits()? } else { 0 };
+                let second = if self.take_word("\\u") {
+                    self.four_digits()?
+                } else {
+                    0
+                };
                 if !(0xdc00..0xe000).contains(&second) {
                     return None;
                 }

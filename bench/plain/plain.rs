@@ -20,10 +20,16 @@ const LIMIT: u64 = 4_194_304;
 
 /// The text of a cluster file; none where the file is refused.
 fn text_of(bytes: Vec<u8>, only_read: bool) -> Option<String> {
-    let text = String::from_utf8(bytes).ok().filter(|text| text.len() as u64 <= LIMIT)?;
+    let text = String::from_utf8(bytes)
+        .ok()
+        .filter(|text| text.len() as u64 <= LIMIT)?;
     let plan = plan::read(&text)?;
     if only_read {
-        return Some(format!("phases {} nodes {}\n", plan.phases.len(), plan.nodes.len() - 1));
+        return Some(format!(
+            "phases {} nodes {}\n",
+            plan.phases.len(),
+            plan.nodes.len() - 1
+        ));
     }
     let mut cluster = cluster::Cluster::new(&plan);
     cluster.run();
@@ -37,7 +43,11 @@ fn text_of(bytes: Vec<u8>, only_read: bool) -> Option<String> {
 fn main() -> ExitCode {
     let only_read = std::env::args().nth(1).is_some_and(|word| word == "read");
     let mut bytes = Vec::new();
-    if std::io::stdin().take(LIMIT + 1).read_to_end(&mut bytes).is_err() {
+    if std::io::stdin()
+        .take(LIMIT + 1)
+        .read_to_end(&mut bytes)
+        .is_err()
+    {
         return ExitCode::FAILURE;
     }
     match text_of(bytes, only_read) {
