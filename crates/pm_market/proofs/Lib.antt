@@ -2,4 +2,5 @@ pub mod Tree
 pub mod Cuts
 pub mod Loops
 pub mod Legality
+pub mod Due
 pub mod Tables

@@ -1,8 +1,8 @@
 -- Turns of the loops over a market's tables.
-use Rattle.std.proofs.Common.{◌≡◌, ℕ, zero, suc, ◌+◌, ◌-◌, ◌≤◌, Bool, true, false, eqb, not, ◌&&◌, ◌||◌, ◌⊎◌, inl, inr, List, [], ◌∷◌, map, length, get_or, refl, sym, ◌∙◌, ap, arith}
+use Rattle.std.proofs.Common.{◌≡◌, ℕ, zero, suc, ◌+◌, ◌-◌, ◌≤◌, Bool, true, false, cond, eqb, not, ◌&&◌, ◌||◌, ◌⊎◌, inl, inr, List, [], ◌∷◌, map, length, get_or, refl, sym, ◌∙◌, ap, arith}
 use Rattle.std.proofs.lemmas.Bool.{cases_eq, cases_Bool, cond-true, cond-false, and_from, both_ways, false_from_ne_true, eq-eqb, ne_eqb}
 use Rattle.std.proofs.Math.ListN.{get_or-map}
-use Rattle.pm_market.specs.Lists.{Lists, parent, is_leaf, is_member, is_below_in, IsInner}
+use Rattle.pm_market.specs.Lists.{Lists, parent, is_leaf, is_leaf_of, is_member, is_below, is_below_in, IsInner}
 use Rattle.pm_market.specs.State.{State, all_to, cut_at, part, part_of, known_of, newest, is_same_on, greatest_number}
 use Rattle.pm_base.specs.Cuts.{Cut, cut_of}
 use Rattle.pm_market.specs.Held.{last_join}
@@ -135,3 +135,76 @@ join_below lists d (suc n) k e h =
     let same : suc n - 1 ≡ n = omega arith in
     let at : n ≡ k = omega arith in
     cond-false (is_member lists d (suc n) && not (is_member lists d n)) (suc n) (last_join lists d n) (ap (λ (j : ℕ). is_member lists d (suc n) && not (is_member lists d j)) (sym same) ∙ h) ∙ ap (last_join lists d) at
+
+or_turned : (a b c : Bool) → a || b || c ≡ a || (b || c)
+or_turned true b c = refl
+or_turned false b c = refl
+
+-- a node is on the way up from another, or the rest of the way has it
+pub below_marked : (lists : Lists) (levels more x d : ℕ) (old new goal : Bool) → more ≡ levels + 1 → new ≡ old || eqb x d →
+    old || is_below_in lists more x d ≡ goal → new || is_below_in lists levels x (parent lists d) ≡ goal
+unfolding is_below_in
+below_marked lists levels zero x d old new goal e marked h = absurd (omega arith)
+below_marked lists levels (suc more) x d old new goal e marked h =
+    let same : more ≡ levels = omega arith in
+    ap (λ (b : Bool). b || is_below_in lists levels x (parent lists d)) marked
+    ∙ or_turned old (eqb x d) (is_below_in lists levels x (parent lists d))
+    ∙ ap (λ (k : ℕ). old || (eqb x d || is_below_in lists k x (parent lists d))) (sym same) ∙ h
+
+-- at the auctioneer the way ends
+pub below_ends : (lists : Lists) (levels x d : ℕ) → d ≡ 0 → is_below_in lists levels x d ≡ eqb x d
+below_ends lists levels x d top =
+    elim (cases_eq x 0) [
+      | inl e ↦ below_here lists levels x d (top ∙ sym e) ∙ sym (eq-eqb x d (e ∙ sym top))
+      | inr ne ↦ ap (is_below_in lists levels x) top ∙ below_zero lists levels x ne ∙ sym (ne_eqb x d (λ e. ne (e ∙ top)))
+    ]
+
+pub below_last : (lists : Lists) (levels x d : ℕ) → levels ≡ 0 → is_below_in lists levels x d ≡ eqb x d
+unfolding is_below_in
+below_last lists zero x d e = refl
+below_last lists (suc levels) x d e = absurd (omega arith)
+
+not_and : (a b : Bool) → not a || not b ≡ not (b && a)
+not_and true true = refl
+not_and true false = refl
+not_and false true = refl
+not_and false false = refl
+
+or_none : (a : Bool) → a || false ≡ a
+or_none true = refl
+or_none false = refl
+
+-- a mark says that some number so far does not pass
+pub marked_more : (n k : ℕ) (p : ℕ → Bool) (old new : Bool) → k ≡ n + 1 → old ≡ not (all_to n p) → new ≡ old || not (p k) → new ≡ not (all_to k p)
+unfolding all_to
+marked_more n zero p old new e before here = absurd (omega arith)
+marked_more n (suc k) p old new e before here =
+    let same : n ≡ k = omega arith in
+    here ∙ ap (λ (b : Bool). b || not (p (suc k))) (before ∙ ap (λ (m : ℕ). not (all_to m p)) same) ∙ not_and (all_to k p) (p (suc k))
+
+pub marked_same : (n k : ℕ) (p : ℕ → Bool) (old new : Bool) → k ≡ n + 1 → old ≡ not (all_to n p) → new ≡ old → p k ≡ true → new ≡ not (all_to k p)
+marked_same n k p old new e before here passes =
+    marked_more n k p old new e before (here ∙ sym (or_none old) ∙ ap (λ (b : Bool). old || not b) (sym passes))
+
+-- a number above 0 is one of the leaves of each node above the device
+pub number_marks : (lists : Lists) (x d : ℕ) (cut : Cut) → is_leaf lists d ≡ true → 1 ≤ cut d → not (cond (is_leaf_of lists x d) (eqb (cut d) 0) true) ≡ is_below lists x d
+unfolding is_leaf_of
+number_marks lists x d cut leaf some =
+    ap (λ (b : Bool). not (cond (b && is_below lists x d) (eqb (cut d) 0) true)) leaf
+    ∙ ap (λ (b : Bool). not (cond (is_below lists x d) b true)) (ne_eqb (cut d) 0 (λ e. absurd (omega (arith, some, e))))
+    ∙ turned (is_below lists x d)
+  where
+    turned : (b : Bool) → not (cond b false true) ≡ b
+    turned true = refl
+    turned false = refl
+
+pub no_number_passes : (lists : Lists) (x d : ℕ) (cut : Cut) → cut d ≡ 0 → cond (is_leaf_of lists x d) (eqb (cut d) 0) true ≡ true
+no_number_passes lists x d cut none =
+    elim (cases_Bool (is_leaf_of lists x d)) [
+      | inl e ↦ cond-true (is_leaf_of lists x d) (eqb (cut d) 0) true e ∙ eq-eqb (cut d) 0 none
+      | inr e ↦ cond-false (is_leaf_of lists x d) (eqb (cut d) 0) true e
+    ]
+
+pub no_leaf_passes : (lists : Lists) (x d : ℕ) (cut : Cut) → is_leaf lists d ≡ false → cond (is_leaf_of lists x d) (eqb (cut d) 0) true ≡ true
+unfolding is_leaf_of
+no_leaf_passes lists x d cut none = ap (λ (b : Bool). cond (b && is_below lists x d) (eqb (cut d) 0) true) none

@@ -13,6 +13,11 @@ pub on_error : {T E : Type 0} (r : Result T E) (P : Type 0) → P → OnErr r P
 on_error (Ok x) P p = tt
 on_error (Err e) P p = p
 
+-- what follows from a success and from an error
+pub on_either : {T E : Type 0} (r : Result T E) (P Q X : Type 0) → OnOk r P → OnErr r Q → (P → X) → (Q → X) → X
+on_either (Ok x) P Q X p q f g = f p
+on_either (Err e) P Q X p q f g = g q
+
 -- states with the same parts
 pub state_same : (counts counts' : Cut) (closed : ℕ) (published published' : ℕ → List Cut) (learnt learnt' : ℕ → ℕ) (passed passed' : ℕ → List ℕ) →
     counts ≡ counts' → published ≡ published' → learnt ≡ learnt' → passed ≡ passed' →
@@ -47,3 +52,10 @@ row_pushed {X} {Y} h old new at item y e lt more = fun_ext (λ (k : ℕ).
           ∙ sym (ap (updated f at (h (get_or old at []) ++ y ∷ [])) same ∙ updated_same f at (h (get_or old at []) ++ y ∷ []))
       | inr ne ↦ ap h (get_or-set_other old at k row [] ne) ∙ sym (updated_other f at (h (get_or old at []) ++ y ∷ []) k ne)
     ])
+
+-- an item joins a row of a table that was lent
+pub lent_row_pushed : {X Y : Type 0} (h : List X → List Y) (old lent new : List (List X)) (at : ℕ) (item : X) (y : Y) →
+    lent ≡ old → new ≡ set lent at (get_or lent at [] ++ item ∷ []) → at < length old → ((rows : List X) → h (rows ++ item ∷ []) ≡ h rows ++ y ∷ []) →
+    (λ (k : ℕ). h (get_or new k [])) ≡ updated (λ (k : ℕ). h (get_or old k [])) at (h (get_or old at []) ++ y ∷ [])
+lent_row_pushed {X} {Y} h old lent new at item y same e lt more =
+    row_pushed h old new at item y (e ∙ ap (λ (rows : List (List X)). set rows at (get_or rows at [] ++ item ∷ [])) same) lt more

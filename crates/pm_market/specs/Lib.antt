@@ -4,6 +4,7 @@ pub mod Moves
 pub mod Sound
 pub mod Bound
 pub mod Legality
+pub mod Due
 pub mod Held
 pub mod Offers
 pub mod Journal

@@ -24,6 +24,10 @@ market_state m = record {
   passed = λ x. slice_index_or (map (λ row. row.items) m.passed.items) x [];
 }
 
+-- the greatest index of a clearing that is due to a node
+abbrev pub market_due : Market → ℕ → ℕ
+market_due m x = slice_index_or m.due.items x 0
+
 -- what a node knows joins the cuts that it published or cleared
 abbrev pub Publishes : Lists → State → State → ℕ → Type 0
 Publishes lists old new node = new ≡ record old { published = updated old.published node (old.published node ++ known lists old node ∷ []) }

@@ -11,8 +11,9 @@
 //! The definitions stand in `specs/`, over four plain lists: `Lists` (the tree, the memberships, the phases' ends),
 //! `State`, `Moves` (legal moves and journals), `Held` (which price a device holds), `Sound`, `Bound`. `Legality` has
 //! tests of the same that compute; for lawful lists and a sound state they agree with the definitions of `Moves`.
-//! `Market` is a plain program that computes the tests and makes the moves, on whole cuts. That the tests agree, and what
-//! else follows from the definitions, is proved in `pm_laws`.
+//! `Market` is a plain program that computes the tests and makes the moves, on whole cuts; `Due` says what it keeps of the
+//! clearings that are still to be passed. That the tests agree, and what else follows from the definitions, is proved in
+//! `pm_laws`.
 #![tactic(auto)]
 
 mod journal;

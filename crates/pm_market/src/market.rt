@@ -1,5 +1,8 @@
-ghost use Rattle.std.specs.Prelude.{◌≡◌, ◌+◌, vec_len, slice_index};
+ghost use Rattle.std.specs.Prelude.{◌≡◌, ◌+◌, [], map, vec_len, slice_index, slice_index_or};
+ghost use Rattle.pm_base.specs.Cuts.{cut_of};
+ghost use Rattle.pm_market.specs.Due.{KnowsDue, AreParents};
 
+mod due;
 mod held;
 mod legality;
 mod moving;
@@ -14,8 +17,10 @@ use std::alloc::Global;
 /// With `n` nodes, `is_legal` takes a few look-ups for a change, a learning or a pass to a device; a pass also seeks the
 /// index among those passed to the parent, from the newest on. A publishing takes a walk up the tree, 7 levels at most,
 /// for each node, and in a legal run at most 9 comparisons of two cuts, which are `n` numbers each; a clearing takes one
-/// such walk, a pass to a concentrator one comparison, and a closing all this once for each node. `apply` writes the `n`
-/// numbers of a cut for a publishing or a clearing, and one number otherwise.
+/// such walk for each node, and a pass to a concentrator one comparison. A closing tests once whether each node may learn,
+/// publish or be passed a clearing; the last is one comparison of two indices, however many clearings there were.
+/// `apply` writes the `n` numbers of a cut for a publishing or a clearing, and one number otherwise. A clearing and a pass
+/// to a node with children also take a walk for each device and write for each node the greatest index due to it.
 #[derive(Drop)]
 pub struct Market {
     alloc: Global,
@@ -28,13 +33,28 @@ pub struct Market {
     published: Vec<Vec<Vec<u32>>>,
     learnt: Vec<u32>,
     passed: Vec<Vec<usize>>,
+    due: Vec<usize>,
+    has_child: Vec<bool>,
     // each table has a place for the auctioneer and one for each node, and nothing is learnt of the auctioneer
     ghost leaf_of_each: { vec_len leaves ≡ vec_len parents },
     ghost count_of_each: { vec_len counts ≡ vec_len parents + 1 },
     ghost cuts_of_each: { vec_len published ≡ vec_len parents + 1 },
     ghost number_of_each: { vec_len learnt ≡ vec_len parents + 1 },
     ghost indices_of_each: { vec_len passed ≡ vec_len parents + 1 },
+    ghost due_of_each: { vec_len due ≡ vec_len parents + 1 },
     ghost none_above: { slice_index learnt.items 0 ≡ 0 },
+    // which nodes have children, and of each node the greatest index of a clearing that is due to it
+    ghost parents_marked: { AreParents parents.items has_child.items },
+    ghost greatest_due: { KnowsDue
+        (record { parents = parents.items; leaves = leaves.items; members = map (λ row. row.items) members.items; ends = map (λ row. row.items) ends.items })
+        (record {
+          counts = cut_of counts.items;
+          closed = closed;
+          published = λ c. map cut_of (map (λ row. row.items) (slice_index_or (map (λ rows. rows.items) published.items) c []));
+          learnt = λ x. slice_index_or learnt.items x 0;
+          passed = λ x. slice_index_or (map (λ row. row.items) passed.items) x [];
+        })
+        (λ x. slice_index_or due.items x 0) },
 }
 
 /// The tree and the plan of a market.

@@ -1,4 +1,5 @@
-ghost use Rattle.std.specs.Prelude.{◌≡◌, ◌<◌, ◌∷◌, ◌++◌, [], length, map, replicate, slice_index_or, slice_set, IfOk, OnErr, OnOk};
+ghost use Rattle.std.specs.Prelude.{◌≡◌, ◌==◌, ◌<◌, ◌||◌, ◌∷◌, ◌++◌, ℕ, false, [], length, map, replicate, slice_index_or, slice_set, IfOk, OnErr, OnOk};
+ghost use Rattle.pm_market.specs.Due.{AreParents};
 ghost use Rattle.pm_market.specs.Legality.{is_one_of};
 
 use std::alloc::{AllocError, Global};
@@ -68,6 +69,34 @@ pub(crate) fn empty_rows<T: Drop>(alloc: Global, rows: usize) -> Result<Vec<Vec<
         table.push(Vec::new(alloc))?;
     }
     Ok(table)
+}
+
+/// For each node whether it is the parent of another, the auctioneer's place first.
+pub(crate) fn marked_parents(
+    alloc: Global,
+    parents: &[u32],
+    places: usize,
+) -> Result<Vec<bool>, AllocError>
+    ensures { IfOk result (λ marks. AreParents parents.now marks.items) }
+{
+    let mut marks = vec![in alloc; false; places]?;
+    for at in 0..parents.len() {
+        let parent = parents[at] as usize;
+        if parent < marks.len() {
+            marks[parent] = true;
+        }
+    }
+    Ok(marks)
+}
+
+/// Sets the mark at a place, where there is one.
+pub(crate) fn mark(marks: &mut [bool], place: usize)
+    ensures length { length marks.new ≡ length marks.old }
+    ensures marks { (x : ℕ) → x < length marks.old → slice_index_or marks.new x false ≡ (slice_index_or marks.old x false || (x == place)) }
+{
+    if place < marks.len() {
+        marks[place] = true;
+    }
 }
 
 /// Whether an item is in a list, sought from its end.

@@ -72,12 +72,7 @@ impl Market {
     fn may_pass_none(&self, node: usize) -> bool
         ensures { result ≡ all_to (clearings (market_state self.now)) (λ j. not (pass_is_legal (market_lists self.now) (market_state self.now) node j)) }
     {
-        for before in self.last(node)..self.published_by(0) {
-            if self.may_pass(node, before + 1) {
-                return false;
-            }
-        }
-        true
+        !self.is_node(node) || self.due(node) <= self.last(node)
     }
 
     /// Whether no move of this node is legal.

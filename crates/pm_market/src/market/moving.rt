@@ -1,13 +1,13 @@
 use super::Market;
 use crate::moves::Move;
-use crate::rows::{empty_rows, push_at};
+use crate::rows::{empty_rows, item_at, marked_parents, push_at};
 use std::alloc::{AllocError, Global};
 
 /// Making moves.
 impl Market {
-    ghost use Rattle.std.specs.Prelude.{◌≡◌, ◌≤◌, true, map, vec_len, IfOk, OnOk, OnErr};
-    ghost use Rattle.pm_market.specs.Lists.{nodes, IsNode};
-    ghost use Rattle.pm_market.specs.State.{start, known, updated};
+    ghost use Rattle.std.specs.Prelude.{◌≡◌, ◌≢◌, ◌≤◌, ℕ, true, map, vec_len, IfOk, OnOk, OnErr};
+    ghost use Rattle.pm_market.specs.Lists.{nodes, parent, IsNode};
+    ghost use Rattle.pm_market.specs.State.{start, known, updated, clearings};
     ghost use Rattle.pm_market.specs.Moves.{step};
     ghost use Rattle.pm_market.specs.Legality.{is_legal};
     ghost use Rattle.pm_market.specs.Market.{Publishes, Passes, market_lists, market_state};
@@ -32,6 +32,8 @@ impl Market {
             published: empty_rows(alloc, places)?,
             learnt: vec![in alloc; 0; places]?,
             passed: empty_rows(alloc, places)?,
+            due: vec![in alloc; 0; places]?,
+            has_child: marked_parents(alloc, &parents, places)?,
             closed: 0,
             alloc,
             parents,
@@ -70,9 +72,9 @@ impl Market {
         self.learnt[child] = number;
     }
 
-    /// What a node knows joins the cuts that it published or cleared.
+    /// What a concentrator knows joins the cuts that it published.
     fn publish(&mut self, node: usize) -> Result<(), AllocError>
-        requires { node ≤ nodes (market_lists self.old) }
+        requires { IsNode (market_lists self.old) node }
         ensures lists { market_lists self.new ≡ market_lists self.old }
         ensures ok { OnOk result (Publishes (market_lists self.old) (market_state self.old) (market_state self.new) node) }
         ensures err { OnErr result (market_state self.new ≡ market_state self.old) }
@@ -81,14 +83,46 @@ impl Market {
         push_at(&mut self.published, node, row)
     }
 
-    /// A clearing was passed to a node.
-    fn pass(&mut self, node: usize, index: usize) -> Result<(), AllocError>
-        requires { node ≤ nodes (market_lists self.old) }
+    /// What the auctioneer knows joins the cuts that it cleared, and is due to its children that it addresses.
+    fn clear(&mut self) -> Result<(), AllocError>
+        ensures lists { market_lists self.new ≡ market_lists self.old }
+        ensures ok { OnOk result (Publishes (market_lists self.old) (market_state self.old) (market_state self.new) 0) }
+        ensures err { OnErr result (market_state self.new ≡ market_state self.old) }
+    {
+        let row = self.known_row(0)?;
+        let due = self.due_row(0, self.next_index(), &row)?;
+        push_at(&mut self.published, 0, row)?;
+        self.due = due;
+        Ok(())
+    }
+
+    /// A clearing was passed to a node without children.
+    fn pass_to_last(&mut self, node: usize, index: usize) -> Result<(), AllocError>
+        requires node { node ≤ nodes (market_lists self.old) }
+        requires made { index ≤ clearings (market_state self.old) }
+        requires childless { (x : ℕ) → IsNode (market_lists self.old) x → parent (market_lists self.old) x ≢ node }
         ensures lists { market_lists self.new ≡ market_lists self.old }
         ensures ok { OnOk result (Passes (market_state self.old) (market_state self.new) node index) }
         ensures err { OnErr result (market_state self.new ≡ market_state self.old) }
     {
         push_at(&mut self.passed, node, index)
+    }
+
+    /// A clearing was passed to a node, and is due to its children that it addresses.
+    fn pass(&mut self, node: usize, index: usize) -> Result<(), AllocError>
+        requires node { node ≤ nodes (market_lists self.old) }
+        requires made { index ≤ clearings (market_state self.old) }
+        ensures lists { market_lists self.new ≡ market_lists self.old }
+        ensures ok { OnOk result (Passes (market_state self.old) (market_state self.new) node index) }
+        ensures err { OnErr result (market_state self.new ≡ market_state self.old) }
+    {
+        if !item_at(&self.has_child, node, true) {
+            return self.pass_to_last(node, index);
+        }
+        let due = self.due_row(node, index, self.cut_row(0, index))?;
+        push_at(&mut self.passed, node, index)?;
+        self.due = due;
+        Ok(())
     }
 
     /// Makes a legal move. On an error all is as before.
@@ -108,7 +142,7 @@ impl Market {
                 Ok(())
             }
             Move::Publish { node, .. } => self.publish(node as usize),
-            Move::Clear { .. } => self.publish(0),
+            Move::Clear { .. } => self.clear(),
             Move::Pass { node, index } => self.pass(node as usize, index as usize),
             Move::Close { phase } => {
                 self.closed = phase;
