@@ -1,20 +1,22 @@
--- The sum of a group never rises with the step, so limits that some step keeps are kept at the group's step.
+-- The sum of a group never rises with the step, and no more does the total; limits that some step keeps are kept at the
+-- group's step.
 use Rattle.std.proofs.Common.{◌≡◌, ◌∙◌, sym, ap, subst, ℕ, zero, suc, ◌+◌, ◌-◌, ◌<◌, ◌≤◌, ℤ, pos, ◌≤ℤ◌, Bool, true, false, cond, eqb, inl, inr}
 use Rattle.std.proofs.Common.{List, length, arith}
-use Rattle.std.specs.Prelude.{int_lt}
-use Rattle.std.proofs.lemmas.Int.{ints}
+use Rattle.std.specs.Prelude.{int_lt, Option, Some, None}
+use Rattle.std.proofs.lemmas.Int.{ints, clamps}
 use Rattle.std.proofs.lemmas.Bool.{cases_lt, cases_eq, cases_Bool, cond_both}
 use Rattle.pm_base.specs.declared.limits.Limits.{Limits}
 use Rattle.pm_base.specs.Cuts.{Cut}
 use Rattle.pm_base.proofs.Ints.{is_not_below}
-use Rattle.pm_bid.specs.Bids.{demand_at, NeverRises}
+use Rattle.pm_bid.specs.Bids.{demand_at, nearest, NeverRises}
 use Rattle.pm_bid.specs.Clearing.{first_at_most, last_at_least}
-use Rattle.pm_bid.specs.Limited.{step_within}
+use Rattle.pm_bid.specs.Limited.{step_within, within_limits}
+use Rattle.pm_bid.proofs.EachStep.{clamped-at}
 use Rattle.pm_bid.proofs.FoundStep.{first_at_most_is_first, last_at_least_is_last}
 use Rattle.pm_market.specs.Lists.{is_leaf}
-use Rattle.pm_plan.specs.Plans.{PlanData, NodeData, node, is_member, group}
+use Rattle.pm_plan.specs.Plans.{PlanData, NodeData, node, is_member, is_limited, limits_of, group}
 use Rattle.pm_plan.specs.Kept.{IsPlan}
-use Rattle.pm_plan.specs.Auction.{node_bid, demand_in_cut, sum_in}
+use Rattle.pm_plan.specs.Auction.{node_bid, demand_in_cut, sum_in, announced, total}
 use Rattle.pm_plan.specs.States.{state}
 use Rattle.pm_plan.specs.Market.{plan_lists}
 use Rattle.pm_plan.proofs.DeviceNodes.{device-is}
@@ -22,7 +24,7 @@ use Rattle.pm_plan.proofs.Fits.{bid-steps, bid-falls}
 use Rattle.pm_plan.proofs.MarketLists.{is_leaf-is}
 use Rattle.pm_offer.specs.Powers.{KeepsLimits}
 use Rattle.pm_offer.proofs.Sums.{sum_at_most, demand_where}
-use Rattle.pm_offer.proofs.Steps.{watts, no_watts, sum_steps, sum_in_at}
+use Rattle.pm_offer.proofs.Steps.{watts, no_watts, sum_steps, sum_in_at, announced_watts, announced_sum, total_steps, total_is}
 
 -- ---- no demand rises
 
@@ -62,6 +64,39 @@ sum_falls plan is cut g step more =
     (λ d. cond (eqb (group plan d) g) (watts plan cut (step + 1) d) (pos 0)) (λ d. cond (eqb (group plan d) g) (watts plan cut step d) (pos 0))
     (λ d one le. falls_where (eqb (group plan d) g) (watts plan cut (step + 1) d) (watts plan cut step d) (watts_fall plan is cut step d inside)) in
     omega (arith, ints, next, here, each)
+
+-- the nearest number within limits does not rise where the number falls
+nearest_falls : (floor ceiling y z : ℤ) → y ≤ℤ z → nearest floor ceiling y ≤ℤ nearest floor ceiling z
+nearest_falls floor ceiling y z h = omega (arith, ints, clamps)
+
+limited_falls : (l : Option Limits) (sum : List ℤ) → NeverRises sum → (step : ℕ) → step + 1 < length sum →
+    demand_at (within_limits l sum) (step + 1) ≤ℤ demand_at (within_limits l sum) step
+limited_falls None sum falls step more = falls step more
+limited_falls (Some l) sum falls step more =
+    let next = clamped-at l.floor l.ceiling sum (step + 1) more in
+    let here = clamped-at l.floor l.ceiling sum step (omega arith) in
+    let nearer = nearest_falls l.floor l.ceiling (demand_at sum (step + 1)) (demand_at sum step) (falls step more) in
+    omega (arith, ints, next, here, nearer)
+
+announced_falls : (plan : PlanData) → IsPlan plan → (cut : Cut) (g step : ℕ) → step + 1 < plan.basis.steps →
+    announced_watts plan cut (step + 1) g ≤ℤ announced_watts plan cut step g
+unfolding announced
+announced_falls plan is cut g step inside =
+    limited_falls (limits_of (node plan g)) (sum_in plan (state plan) cut g) (sum_falls plan is cut g) step
+    (subst (λ (n : ℕ). step + 1 < n) (sym (sum_steps plan is cut g)) inside)
+
+-- the total never rises
+pub total_falls : (plan : PlanData) → IsPlan plan → (cut : Cut) → NeverRises (total plan (state plan) cut)
+total_falls plan is cut step more =
+    let inside : step + 1 < plan.basis.steps = subst (λ (n : ℕ). step + 1 < n) (total_steps plan is cut) more in
+    let free = sum_falls plan is cut 0 step (subst (λ (n : ℕ). step + 1 < n) (sym (sum_steps plan is cut 0)) inside) in
+    let each = sum_at_most (length plan.nodes)
+    (λ g. cond (is_limited plan g) (announced_watts plan cut (step + 1) g) (pos 0)) (λ g. cond (is_limited plan g) (announced_watts plan cut step g) (pos 0))
+    (λ g one le. falls_where (is_limited plan g) (announced_watts plan cut (step + 1) g) (announced_watts plan cut step g)
+    (announced_falls plan is cut g step inside)) in
+    let next = total_is plan is cut (step + 1) inside in
+    let here = total_is plan is cut step (omega arith) in
+    omega (arith, ints, next, here, announced_sum plan cut (step + 1), announced_sum plan cut step, free, each)
 
 -- so a later step has no greater demand
 falls_by : (bid : List ℤ) → NeverRises bid → (step n : ℕ) → step + n < length bid → demand_at bid (step + n) ≤ℤ demand_at bid step

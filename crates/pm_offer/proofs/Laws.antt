@@ -1,13 +1,16 @@
 -- The laws in the order of their clauses.
-use Rattle.std.proofs.Common.{◌≡◌, ℕ, ◌+◌, ◌<◌, ◌≤◌, ◌+ℤ◌, length, Some}
+use Rattle.std.proofs.Common.{◌≡◌, ◌∙◌, sym, ap, ℕ, ℤ, ◌+◌, ◌<◌, ◌≤◌, ◌+ℤ◌, List, length, map, Some}
+use Rattle.std.proofs.Math.Path.{fun_ext}
+use Rattle.pm_tree.specs.Entries.{children_of}
 use Rattle.pm_base.specs.Cuts.{Cut}
 use Rattle.pm_base.specs.Limits.{sum_limit}
 use Rattle.pm_base.specs.declared.limits.Limits.{Limits}
-use Rattle.pm_bid.specs.Bids.{AllWithinLimit, demand_at}
+use Rattle.pm_bid.specs.Bids.{AllWithinLimit, NeverRises, demand_at, sum_of}
 use Rattle.pm_bid.specs.Clearing.{clearing_step}
 use Rattle.pm_bid.specs.Limited.{within_limits, local_step}
 use Rattle.pm_market.specs.Lists.{parent, IsNode, IsLeaf, IsInner, IsConcentrator}
 use Rattle.pm_market.specs.State.{SameOn}
+use Rattle.pm_market.proofs.Tree.{leaf_of_parts}
 use Rattle.pm_plan.specs.Plans.{PlanData, node, limits_of, end_cut}
 use Rattle.pm_plan.specs.Kept.{IsPlan, change_at}
 use Rattle.pm_plan.specs.Auction.{sum_in, total, plain, group_step}
@@ -19,6 +22,7 @@ use Rattle.pm_offer.proofs.Steps.{offer_length}
 use Rattle.pm_offer.proofs.Offers as offers
 use Rattle.pm_offer.proofs.LocalSteps as steps
 use Rattle.pm_offer.proofs.Bounds as bounds
+use Rattle.pm_offer.proofs.Falls as falls
 use Rattle.pm_offer.proofs.PhaseChanges as phases
 use Rattle.pm_offer.proofs.GroupPowers as powers
 
@@ -52,6 +56,19 @@ local_below plan x cut is here inner = steps.local_below plan x cut is here inne
 
 pub local_inside : (plan : PlanData) (x : ℕ) (cut : Cut) → IsPlan plan → local_at plan cut x < plan.basis.steps
 local_inside plan x cut is = steps.local_inside plan x cut is
+
+-- ---- totals
+
+pub total_falls : (plan : PlanData) (cut : Cut) → IsPlan plan → NeverRises (total plan (state plan) cut)
+total_falls plan cut is = falls.total_falls plan is cut
+
+pub total_alike : (plan : PlanData) (a b : Cut) → IsPlan plan → ((d : ℕ) → IsLeaf (plan_lists plan) d → a d ≡ b d) →
+    total plan (state plan) a ≡ total plan (state plan) b
+total_alike plan a b is same =
+    let offers_same : (λ (x : ℕ). offer plan x a) ≡ (λ (x : ℕ). offer plan x b) =
+    fun_ext (λ (x : ℕ). offers.offer_alike plan x a b is (λ d leaf. same d (leaf_of_parts (plan_lists plan) x d leaf).0)) in
+    offers.offer_total plan a is ∙ ap (λ (f : ℕ → List ℤ). sum_of plan.basis.steps (map f (children_of plan.entries 0))) offers_same
+    ∙ sym (offers.offer_total plan b is)
 
 -- ---- offers are bounded
 

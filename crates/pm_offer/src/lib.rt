@@ -12,7 +12,7 @@ ghost use Rattle.std.specs.Prelude.{◌≡◌, ℕ, ◌+◌, ◌<◌, ◌≤◌,
 ghost use Rattle.pm_base.specs.Cuts.{Cut};
 ghost use Rattle.pm_base.specs.Limits.{sum_limit};
 ghost use Rattle.pm_base.specs.declared.limits.Limits.{Limits};
-ghost use Rattle.pm_bid.specs.Bids.{AllWithinLimit, demand_at};
+ghost use Rattle.pm_bid.specs.Bids.{AllWithinLimit, NeverRises, demand_at};
 ghost use Rattle.pm_bid.specs.Clearing.{clearing_step};
 ghost use Rattle.pm_bid.specs.Limited.{within_limits, local_step};
 ghost use Rattle.pm_market.specs.Lists.{parent, IsNode, IsLeaf, IsInner, IsConcentrator};
@@ -59,6 +59,15 @@ pub fn steps_go_down()
 pub fn offers_are_bounded()
     ensures steps { (plan : PlanData) (x : ℕ) (cut : Cut) → IsPlan plan → length (offer plan x cut) ≡ plan.basis.steps }
     ensures within { (plan : PlanData) (y : ℕ) (cut : Cut) → IsPlan plan → IsInner (plan_lists plan) y → AllWithinLimit sum_limit (children_sum plan y cut) }
+{}
+
+/// A law: the total of the plain auction never rises with the step, since no bid does and limits keep that; it depends on
+/// the changes of the devices alone.
+#[tactic(auto, using(crate::proofs::Laws::total_falls, crate::proofs::Laws::total_alike))]
+pub fn totals_are_curves()
+    ensures falls { (plan : PlanData) (cut : Cut) → IsPlan plan → NeverRises (total plan (state plan) cut) }
+    ensures devices_alone { (plan : PlanData) (a b : Cut) → IsPlan plan → ((d : ℕ) → IsLeaf (plan_lists plan) d → a d ≡ b d) →
+        total plan (state plan) a ≡ total plan (state plan) b }
 {}
 
 /// A law: the powers that the members of a group take add up to the demand of the group at its step, and the total of the
