@@ -1,7 +1,7 @@
--- Why a file is refused, and the number of each cause.
+-- Why a file, or an input that begins with one, is refused, and the number of each cause.
 use Rattle.std.specs.Prelude.{ℕ}
 use Rattle.pm_plan.specs.declared.refusal.Cause.{Cause}
-use Rattle.pm_plan.specs.declared.refusal.Cause.TheVariants.{Unreadable, WrongType, MissingMember, UnknownMember, UnknownVersion, BadBasis, BadName, NameTwice, UnknownParent, TooDeep, TooManyNodes, UnknownKind, OutsideLimits, UnknownDevice, JoinedAlready, NotJoined, BadArray, BadPoints, UnfitState, RunTooLarge, LimitedTwice}
+use Rattle.pm_plan.specs.declared.refusal.Cause.TheVariants.{Unreadable, WrongType, MissingMember, UnknownMember, UnknownVersion, BadBasis, BadName, NameTwice, UnknownParent, TooDeep, TooManyNodes, UnknownKind, OutsideLimits, UnknownDevice, JoinedAlready, NotJoined, BadArray, BadPoints, UnfitState, RunTooLarge, LimitedTwice, BadEnvelope, BadTarget}
 
 -- the number by which the line of a refusal names its cause
 abbrev pub cause_code : Cause → ℕ
@@ -26,3 +26,5 @@ cause_code BadPoints = 18
 cause_code UnfitState = 19
 cause_code RunTooLarge = 20
 cause_code LimitedTwice = 22
+cause_code BadEnvelope = 23
+cause_code BadTarget = 25

@@ -22,7 +22,7 @@ pub enum Place {
     Line { number: u32 },
 }
 
-/// Why a file is refused.
+/// Why a file, or an input that begins with one, is refused.
 #[derive(Clone, Copy, Debug, PartialEq, Eq)]
 pub enum Cause {
     /// The bytes are no UTF-8, or no JSON text.
@@ -67,6 +67,10 @@ pub enum Cause {
     RunTooLarge,
     /// A limited concentrator stands above a limited one.
     LimitedTwice,
+    /// An input does not begin with a cluster file whose length stands before it.
+    BadEnvelope,
+    /// A line is no target, or there are too many.
+    BadTarget,
 }
 
 impl Cause {
@@ -96,6 +100,8 @@ impl Cause {
             Cause::UnfitState => 19,
             Cause::RunTooLarge => 20,
             Cause::LimitedTwice => 22,
+            Cause::BadEnvelope => 23,
+            Cause::BadTarget => 25,
         }
     }
 }
