@@ -1,0 +1,157 @@
+-- The shares and the sums of groups at an end are those of the plain auction of its cut, and it may be charged.
+use Rattle.std.proofs.Common.{◌≡◌, ◌∙◌, sym, ap, ℕ, ◌+◌, ◌≤◌, ◌<◌, ℤ, Bool, true, false, cond, eqb, List, [], ◌∷◌, length, map, get_or, refl, arith, inl, inr}
+use Rattle.std.specs.Prelude.{All, filter, ◌==◌, ◌&&◌, not}
+use Rattle.std.specs.List.{range_with_len}
+use Rattle.std.proofs.lemmas.Bool.{cases_Bool, cond-true, cond-false}
+use Rattle.std.proofs.lemmas.Simd.{map-map}
+use Rattle.std.proofs.lemmas.List.{length-map}
+use Rattle.std.proofs.lemmas.List.Elements.{All-map, All-filter, All-head, All-tail}
+use Rattle.std.proofs.lemmas.List.Filters.{length-filter_both}
+use Rattle.std.proofs.lemmas.List.FromFn.{get_or-range_with_len, length-range_with_len}
+use Rattle.pm_base.specs.Cuts.{Cut}
+use Rattle.pm_base.specs.Limits.{IsWithin, demand_limit}
+use Rattle.pm_plan.specs.declared.end.MemberLine.{MemberLine}
+use Rattle.pm_plan.specs.declared.end.LimitedLine.{LimitedLine}
+use Rattle.pm_basis.specs.Prices.{price_at}
+use Rattle.pm_plan.specs.Plans.{PlanData, is_member, is_limited, group, node_numbers, end_cut}
+use Rattle.pm_plan.specs.Kept.{IsPlan}
+use Rattle.pm_plan.specs.Auction.{limited, plain, local, power, member_line, limited_line, end_in}
+use Rattle.pm_plan.specs.States.{state, end_of}
+use Rattle.pm_plan.proofs.Ends.{end-within}
+use Rattle.pm_plan.proofs.Fits.{power-within}
+use Rattle.pm_offer.specs.Powers.{group_power}
+use Rattle.pm_offer.proofs.Offers.{group_inside}
+use Rattle.pm_offer.proofs.GroupPowers.{step_of}
+use Rattle.pm_offer.proofs.LocalSteps.{group_step_inside}
+use Rattle.pm_offer.proofs.Laws.{powers_group}
+use Rattle.pm_bill.specs.declared.share.Share.{Share}
+use Rattle.pm_bill.specs.declared.share.GroupSum.{GroupSum}
+use Rattle.pm_bill.specs.Shares.{sum_each}
+use Rattle.pm_bill.specs.Runs.{device_share, group_sum, group_sums}
+use Rattle.pm_bill.specs.Charges.{price_in_end, member_share, member_shares, free_power, limited_sum, end_groups, MayBeCharged}
+use Rattle.pm_bill.proofs.NodeSums.{sum_each-map, watts-sum_each}
+use Rattle.pm_bill.proofs.GroupShares.{group_price}
+use Rattle.pm_bill.proofs.EndShares.{price-in_end, free_step}
+
+-- ---- lists
+
+-- functions that agree at each element
+map_alike : {X Y : Type 0} (f g : X → Y) (xs : List X) → All (λ x. f x ≡ g x) xs → map f xs ≡ map g xs
+map_alike f g [] alike = refl
+map_alike f g (x ∷ xs) alike =
+    ap (λ y. y ∷ map f xs) (All-head (λ z. f z ≡ g z) x xs alike) ∙ ap (λ ys. g x ∷ ys) (map_alike f g xs (All-tail (λ z. f z ≡ g z) x xs alike))
+
+-- a filter of what a function made
+pub filter-map : {X Y : Type 0} (p : Y → Bool) (f : X → Y) (xs : List X) → filter p (map f xs) ≡ map f (filter (λ x. p (f x)) xs)
+filter-map p f [] = refl
+filter-map p f (x ∷ xs) = ap (λ ys. cond (p (f x)) (f x ∷ ys) ys) (filter-map p f xs) ∙ where_it_is (p (f x))
+  where
+    where_it_is : (b : Bool) →
+        cond b (f x ∷ map f (filter (λ y. p (f y)) xs)) (map f (filter (λ y. p (f y)) xs))
+        ≡ map f (cond b (x ∷ filter (λ y. p (f y)) xs) (filter (λ y. p (f y)) xs))
+    where_it_is true = refl
+    where_it_is false = refl
+
+filter_both : {X : Type 0} (p : X → Bool) (x : X) (a b : Bool) (once both : List X) → p x ≡ a → filter p once ≡ both →
+    filter p (cond b (x ∷ once) once) ≡ cond (a && b) (x ∷ both) both
+filter_both p x true true once both here rest = cond-true (p x) (x ∷ filter p once) (filter p once) here ∙ ap (λ ys. x ∷ ys) rest
+filter_both p x false true once both here rest = cond-false (p x) (x ∷ filter p once) (filter p once) here ∙ rest
+filter_both p x true false once both here rest = rest
+filter_both p x false false once both here rest = rest
+
+-- a filter of what another one kept
+pub filter_twice : {X : Type 0} (p q : X → Bool) (xs : List X) → filter p (filter q xs) ≡ filter (λ x. p x && q x) xs
+filter_twice p q [] = refl
+filter_twice p q (x ∷ xs) = filter_both p x (p x) (q x) (filter q xs) (filter (λ y. p y && q y) xs) refl (filter_twice p q xs)
+
+-- the numbers of nodes are those of nodes
+nodes_inside : (n : ℕ) → All (λ x. x ≤ n) (range_with_len 1 n)
+nodes_inside n i d inside =
+    let long = length-range_with_len 1 n in
+    let here = get_or-range_with_len 1 n i d (omega arith) in
+    omega (arith, here)
+
+-- ---- shares
+
+-- the members of a cut in file order
+abbrev pub members : PlanData → Cut → List ℕ
+members plan cut = filter (λ d. is_member plan d (cut d)) (node_numbers plan)
+
+line_share : (plan : PlanData) (cut : Cut) (d : ℕ) → IsPlan plan → d ≤ length plan.nodes →
+    member_share plan (end_of plan cut) (member_line plan (state plan) cut d) ≡ device_share plan cut d
+unfolding member_line local
+line_share plan cut d is inside =
+    ap (λ z. record { node = d; price = z; power = power plan (state plan) cut d })
+    (price-in_end plan cut (group plan d) (λ bounded. group_inside plan is d inside))
+
+pub shares_at_end : (plan : PlanData) (cut : Cut) → IsPlan plan →
+    member_shares plan (end_of plan cut) ≡ map (device_share plan cut) (members plan cut)
+unfolding end_in
+shares_at_end plan cut is =
+    map-map (member_share plan (end_of plan cut)) (member_line plan (state plan) cut) (members plan cut)
+    ∙ map_alike (λ d. member_share plan (end_of plan cut) (member_line plan (state plan) cut d)) (device_share plan cut) (members plan cut)
+    (All-filter (λ d. is_member plan d (cut d))
+    (λ d. member_share plan (end_of plan cut) (member_line plan (state plan) cut d) ≡ device_share plan cut d) (node_numbers plan)
+    (λ i e inside. line_share plan cut (get_or (node_numbers plan) i e) is (nodes_inside (length plan.nodes) i e inside)))
+
+-- ---- groups
+
+line_in_group : (plan : PlanData) (cut : Cut) (g d : ℕ) → (group plan (member_line plan (state plan) cut d).node == g) ≡ (group plan d == g)
+unfolding member_line
+line_in_group plan cut g d = refl
+
+line_power : (plan : PlanData) (cut : Cut) (d : ℕ) → (member_line plan (state plan) cut d).power ≡ power plan (state plan) cut d
+unfolding member_line
+line_power plan cut d = refl
+
+-- the power of the members below no limited concentrator is the power of group 0
+free_power_is : (plan : PlanData) (cut : Cut) → IsPlan plan → free_power plan (end_of plan cut) ≡ (group_sum plan cut 0).power
+unfolding end_in member_line group_power
+free_power_is plan cut is =
+    let line : ℕ → MemberLine = member_line plan (state plan) cut in
+    let free : ℕ → Bool = λ d. group plan d == 0 in
+    ap (sum_each (λ (member : MemberLine). member.power)) (filter-map (λ (member : MemberLine). group plan member.node == 0) line (members plan cut))
+    ∙ sum_each-map (λ (member : MemberLine). member.power) line (filter free (members plan cut))
+    ∙ ap (sum_each (power plan (state plan) cut)) (filter_twice free (λ d. is_member plan d (cut d)) (node_numbers plan))
+    ∙ sym (watts-sum_each (power plan (state plan) cut) _)
+    ∙ powers_group plan 0 cut is
+
+line_sum : (plan : PlanData) (cut : Cut) (gs : List ℕ) → map (limited_sum plan) (map (limited_line plan (state plan) cut) gs) ≡ map (group_sum plan cut) gs
+unfolding limited_line
+line_sum plan cut gs = map-map (limited_sum plan) (limited_line plan (state plan) cut) gs
+
+pub groups_at_end : (plan : PlanData) (cut : Cut) → IsPlan plan → end_groups plan (end_of plan cut) ≡ group_sums plan cut
+unfolding end_in
+groups_at_end plan cut is =
+    let rest : List GroupSum = map (limited_sum plan) (map (limited_line plan (state plan) cut) (limited plan)) in
+    let step : ℕ = plain plan (state plan) cut in
+    ap (λ z. record { price = price_at plan.basis step; power = z } ∷ rest) (free_power_is plan cut is)
+    ∙ ap (λ k. record { price = price_at plan.basis k; power = (group_sum plan cut 0).power } ∷ rest) (free_step plan cut 0 refl)
+    ∙ ap (λ sums. group_sum plan cut 0 ∷ sums) (line_sum plan cut (limited plan))
+
+-- ---- bounds
+
+pub may_charge : (plan : PlanData) (p : ℕ) → IsPlan plan → MayBeCharged plan (end_of plan (end_cut plan p))
+unfolding end_in member_line limited_line
+may_charge plan p is =
+    let cut : Cut = end_cut plan p in
+    let all = nodes_inside (length plan.nodes) in
+    record {
+      nodes =
+          All-map (λ (line : MemberLine). line.node ≤ length plan.nodes) (member_line plan (state plan) cut) (members plan cut)
+          (All-filter (λ d. is_member plan d (cut d)) (λ d. d ≤ length plan.nodes) (node_numbers plan) all);
+      steps =
+          All-map (λ (line : LimitedLine). line.step < plan.basis.steps) (limited_line plan (state plan) cut) (limited plan)
+          (All-filter (is_limited plan) (λ g. step_of plan cut g < plan.basis.steps) (node_numbers plan)
+          (λ i d inside. group_step_inside plan cut (get_or (node_numbers plan) i d) is));
+      powers =
+          All-map (λ (line : MemberLine). IsWithin demand_limit line.power) (member_line plan (state plan) cut) (members plan cut)
+          (All-filter (λ d. is_member plan d (cut d)) (λ d. IsWithin demand_limit (power plan (state plan) cut d)) (node_numbers plan)
+          (λ i d inside. power-within plan cut (get_or (node_numbers plan) i d) is (end-within plan p (get_or (node_numbers plan) i d))));
+      few =
+          let member : ℕ → Bool = λ d. is_member plan d (cut d) in
+          let lines = length-map (members plan cut) (member_line plan (state plan) cut) in
+          let both = length-filter_both member (λ d. not (member d)) (λ d. refl) (node_numbers plan) in
+          let long = length-range_with_len 1 (length plan.nodes) in
+          omega (arith, lines, both, long, is.nodes.few);
+    }

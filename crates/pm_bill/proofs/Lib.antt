@@ -1,0 +1,11 @@
+pub mod Products
+pub mod AccountSums
+pub mod ShareSums
+pub mod Ticks
+pub mod Texts
+pub mod NodeSums
+pub mod GroupShares
+pub mod EndShares
+pub mod EndCharges
+pub mod Charged
+pub mod RunBills
