@@ -26,7 +26,8 @@ account_sum-none a = same_account _ _ (omega (arith, ints)) (omega (arith, ints)
 pub none-account_sum : (a : Account) → account_sum no_account a ≡ a
 none-account_sum a = same_account _ _ (omega (arith, ints)) (omega (arith, ints)) (omega (arith, ints))
 
-pub account_sum_within : (a b c : ℕ) (one other : Account) → a + b ≡ c → IsAccountWithin a one → IsAccountWithin b other → IsAccountWithin c (account_sum one other)
+pub account_sum_within : (a b c : ℕ) (one other : Account) → a + b ≡ c → IsAccountWithin a one → IsAccountWithin b other →
+    IsAccountWithin c (account_sum one other)
 account_sum_within a b c one other is one_within other_within = record {
   amount = sum_within a b c _ _ is one_within.amount other_within.amount;
   taken = sum_within a b c _ _ is one_within.taken other_within.taken;
@@ -45,11 +46,14 @@ net_taken-account_sum one other = omega (arith, ints)
 pub net_taken-account_of : (minutes cost power : ℤ) → net_taken (account_of minutes cost power) ≡ power *ℤ minutes
 net_taken-account_of minutes cost power =
     let given = positive_part (neg_ℤ power) in
-    let parts : positive_part power *ℤ minutes ≡ (given *ℤ minutes) +ℤ (power *ℤ minutes) = ap (λ z. z *ℤ minutes) (positive_parts power) ∙ sum-times given power minutes in
+    let parts : positive_part power *ℤ minutes ≡ (given *ℤ minutes) +ℤ (power *ℤ minutes) =
+    ap (λ z. z *ℤ minutes) (positive_parts power)
+    ∙ sum-times given power minutes in
     omega (arith, ints, parts)
 
 -- a tick adds no more than the most
-pub account_of_within : (minutes cost power : ℤ) → IsTrue (are_minutes minutes) → IsWithin cost_limit cost → IsWithin cost_limit power → IsAccountWithin tick_limit (account_of minutes cost power)
+pub account_of_within : (minutes cost power : ℤ) → IsTrue (are_minutes minutes) → IsWithin cost_limit cost → IsWithin cost_limit power →
+    IsAccountWithin tick_limit (account_of minutes cost power)
 account_of_within minutes cost power are cost_within power_within =
     let most = minutes_within minutes are in
     let opposite : IsWithin cost_limit (neg_ℤ power) = record { low = omega (arith, ints, power_within); high = omega (arith, ints, power_within) } in

@@ -1,5 +1,6 @@
 -- The shares of the members of a cut, and the sums of its groups, charge all devices and the grid as the cut does.
-use Rattle.std.proofs.Common.{◌≡◌, ◌≢◌, ◌∙◌, sym, ap, subst, ℕ, zero, suc, ◌+◌, ◌*◌, ◌≤◌, ◌<◌, ℤ, pos, ◌-ℤ◌, ◌*ℤ◌, Bool, true, false, cond, eqb, List, [], ◌∷◌, ◌++◌, length, map, get_or, refl, arith, inl, inr}
+use Rattle.std.proofs.Common.{◌≡◌, ◌≢◌, ◌∙◌, sym, ap, subst, ℕ, zero, suc, ◌+◌, ◌*◌, ◌≤◌, ◌<◌, ℤ, pos, ◌-ℤ◌, ◌*ℤ◌, Bool, true, false, cond, eqb, List}
+use Rattle.std.proofs.Common.{[], ◌∷◌, ◌++◌, length, map, get_or, refl, arith, inl, inr}
 use Rattle.std.specs.Prelude.{All, filter, ◌==◌, ◌&&◌, not}
 use Rattle.std.specs.List.{AllPairs, range_with_len}
 use Rattle.std.proofs.Math.IntN.{*ℤ_comm, zero-*ℤ}
@@ -65,8 +66,8 @@ none_of_it p x xs out =
     and_false true = refl
     and_false false = refl
 
-before_it : (p : ℕ → Bool) (n x : ℕ) → n < x → All (λ d. (d == x && p d) ≡ false) (range_with_len 1 n)
-before_it p n x later i e inside =
+earlier_nodes : (p : ℕ → Bool) (n x : ℕ) → n < x → All (λ d. (d == x && p d) ≡ false) (range_with_len 1 n)
+earlier_nodes p n x later i e inside =
     let long = length-range_with_len 1 n in
     let here = get_or-range_with_len 1 n i e (omega arith) in
     no_other p x (get_or (range_with_len 1 n) i e) (λ same. omega arith)
@@ -86,7 +87,7 @@ once p (suc n) x kept one inside =
           let here : 1 + n ≡ x = omega arith in
           let passes : test x ≡ true = ap (λ b. b && p x) (eq-eqb x x refl) ∙ kept in
           parts
-          ∙ ap (λ xs. xs ++ filter test ((1 + n) ∷ [])) (filter_none test (range_with_len 1 n) (before_it p n x later))
+          ∙ ap (λ xs. xs ++ filter test ((1 + n) ∷ [])) (filter_none test (range_with_len 1 n) (earlier_nodes p n x later))
           ∙ ap (λ k. filter test (k ∷ [])) here
           ∙ cond-true (test x) (x ∷ []) [] passes
       | inr earlier ↦
@@ -210,7 +211,8 @@ different_nodes plan cut p n =
     pairs-map (λ (one other : Share). one.node ≢ other.node) (device_share plan cut) (filter p (range_with_len 1 n)) 0
     (AllPairs-filter (λ one other. one ≢ other) p (range_with_len 1 n) (different_numbers n))
 
-shares_are : (plan : PlanData) (cut : Cut) → IsPlan plan → IsPlanned plan cut → AreShares (leaves_of plan.entries) (map (device_share plan cut) (members plan cut))
+shares_are : (plan : PlanData) (cut : Cut) → IsPlan plan → IsPlanned plan cut →
+    AreShares (leaves_of plan.entries) (map (device_share plan cut) (members plan cut))
 shares_are plan cut is planned =
     let member : ℕ → Bool = λ d. is_member plan d (cut d) in
     record {

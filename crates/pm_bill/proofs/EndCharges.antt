@@ -28,10 +28,10 @@ use Rattle.pm_bill.specs.declared.share.Share.{Share}
 use Rattle.pm_bill.specs.declared.share.GroupSum.{GroupSum}
 use Rattle.pm_bill.specs.Shares.{sum_each}
 use Rattle.pm_bill.specs.Runs.{device_share, group_sum, group_sums}
-use Rattle.pm_bill.specs.Charges.{price_in_end, member_share, member_shares, free_power, limited_sum, end_groups, MayBeCharged}
+use Rattle.pm_bill.specs.Charges.{price_in_end, member_share, member_shares, free_power, limited_group, end_groups, MayBeCharged}
 use Rattle.pm_bill.proofs.NodeSums.{sum_each-map, watts-sum_each}
 use Rattle.pm_bill.proofs.GroupShares.{group_price}
-use Rattle.pm_bill.proofs.EndShares.{price-in_end, free_step}
+use Rattle.pm_bill.proofs.EndShares.{price-in_end, unlimited_step}
 
 -- ---- lists
 
@@ -64,11 +64,11 @@ pub filter_twice : {X : Type 0} (p q : X → Bool) (xs : List X) → filter p (f
 filter_twice p q [] = refl
 filter_twice p q (x ∷ xs) = filter_both p x (p x) (q x) (filter q xs) (filter (λ y. p y && q y) xs) refl (filter_twice p q xs)
 
--- the numbers of nodes are those of nodes
-nodes_inside : (n : ℕ) → All (λ x. x ≤ n) (range_with_len 1 n)
-nodes_inside n i d inside =
-    let long = length-range_with_len 1 n in
-    let here = get_or-range_with_len 1 n i d (omega arith) in
+-- the numbers of a plan's nodes go no further than its nodes
+nodes_inside : (plan : PlanData) → All (λ x. x ≤ length plan.nodes) (node_numbers plan)
+nodes_inside plan i d inside =
+    let long = length-range_with_len 1 (length plan.nodes) in
+    let here = get_or-range_with_len 1 (length plan.nodes) i d (omega arith) in
     omega (arith, here)
 
 -- ---- shares
@@ -92,7 +92,7 @@ shares_at_end plan cut is =
     ∙ map_alike (λ d. member_share plan (end_of plan cut) (member_line plan (state plan) cut d)) (device_share plan cut) (members plan cut)
     (All-filter (λ d. is_member plan d (cut d))
     (λ d. member_share plan (end_of plan cut) (member_line plan (state plan) cut d) ≡ device_share plan cut d) (node_numbers plan)
-    (λ i e inside. line_share plan cut (get_or (node_numbers plan) i e) is (nodes_inside (length plan.nodes) i e inside)))
+    (λ i e inside. line_share plan cut (get_or (node_numbers plan) i e) is (nodes_inside plan i e inside)))
 
 -- ---- groups
 
@@ -116,18 +116,18 @@ free_power_is plan cut is =
     ∙ sym (watts-sum_each (power plan (state plan) cut) _)
     ∙ powers_group plan 0 cut is
 
-line_sum : (plan : PlanData) (cut : Cut) (gs : List ℕ) → map (limited_sum plan) (map (limited_line plan (state plan) cut) gs) ≡ map (group_sum plan cut) gs
+line_groups : (plan : PlanData) (cut : Cut) (gs : List ℕ) → map (limited_group plan) (map (limited_line plan (state plan) cut) gs) ≡ map (group_sum plan cut) gs
 unfolding limited_line
-line_sum plan cut gs = map-map (limited_sum plan) (limited_line plan (state plan) cut) gs
+line_groups plan cut gs = map-map (limited_group plan) (limited_line plan (state plan) cut) gs
 
 pub groups_at_end : (plan : PlanData) (cut : Cut) → IsPlan plan → end_groups plan (end_of plan cut) ≡ group_sums plan cut
 unfolding end_in
 groups_at_end plan cut is =
-    let rest : List GroupSum = map (limited_sum plan) (map (limited_line plan (state plan) cut) (limited plan)) in
+    let rest : List GroupSum = map (limited_group plan) (map (limited_line plan (state plan) cut) (limited plan)) in
     let step : ℕ = plain plan (state plan) cut in
     ap (λ z. record { price = price_at plan.basis step; power = z } ∷ rest) (free_power_is plan cut is)
-    ∙ ap (λ k. record { price = price_at plan.basis k; power = (group_sum plan cut 0).power } ∷ rest) (free_step plan cut 0 refl)
-    ∙ ap (λ sums. group_sum plan cut 0 ∷ sums) (line_sum plan cut (limited plan))
+    ∙ ap (λ k. record { price = price_at plan.basis k; power = (group_sum plan cut 0).power } ∷ rest) (unlimited_step plan cut 0 refl)
+    ∙ ap (λ sums. group_sum plan cut 0 ∷ sums) (line_groups plan cut (limited plan))
 
 -- ---- bounds
 
@@ -135,7 +135,7 @@ pub may_charge : (plan : PlanData) (p : ℕ) → IsPlan plan → MayBeCharged pl
 unfolding end_in member_line limited_line
 may_charge plan p is =
     let cut : Cut = end_cut plan p in
-    let all = nodes_inside (length plan.nodes) in
+    let all = nodes_inside plan in
     record {
       nodes =
           All-map (λ (line : MemberLine). line.node ≤ length plan.nodes) (member_line plan (state plan) cut) (members plan cut)

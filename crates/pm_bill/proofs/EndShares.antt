@@ -1,5 +1,6 @@
 -- What a phase's end says of shares and groups is what the plain auction of its cut says.
-use Rattle.std.proofs.Common.{◌≡◌, ◌∙◌, sym, ap, subst, ℕ, zero, suc, ◌+◌, ◌≤◌, ◌<◌, ℤ, pos, Bool, true, false, cond, eqb, List, [], ◌∷◌, ◌++◌, length, map, get_or, refl, arith, inl, inr, Option, Some, None}
+use Rattle.std.proofs.Common.{◌≡◌, ◌∙◌, sym, ap, subst, ℕ, zero, suc, ◌+◌, ◌≤◌, ◌<◌, ℤ, pos, Bool, true, false, cond, eqb, List, [], ◌∷◌, ◌++◌}
+use Rattle.std.proofs.Common.{length, map, get_or, refl, arith, inl, inr, Option, Some, None}
 use Rattle.std.specs.Prelude.{All, filter, find, ◌==◌, ◌&&◌}
 use Rattle.std.specs.List.{range_with_len}
 use Rattle.std.specs.Option.{option_map_or, option_or}
@@ -34,7 +35,7 @@ use Rattle.pm_bill.specs.declared.share.Share.{Share}
 use Rattle.pm_bill.specs.declared.share.GroupSum.{GroupSum}
 use Rattle.pm_bill.specs.Shares.{sum_each}
 use Rattle.pm_bill.specs.Runs.{device_share, group_sum, group_sums}
-use Rattle.pm_bill.specs.Charges.{price_in_end, member_share, member_shares, free_power, limited_sum, end_groups, MayBeCharged}
+use Rattle.pm_bill.specs.Charges.{price_in_end, member_share, member_shares, free_power, limited_group, end_groups, MayBeCharged}
 use Rattle.pm_bill.proofs.NodeSums.{sum_each-map, watts-sum_each}
 use Rattle.pm_bill.proofs.GroupShares.{group_price}
 
@@ -67,8 +68,8 @@ not_found line p g nodes (x ∷ xs) others =
       | inr left ↦ ap finds (cond-false (p x) (x ∷ filter p xs) (filter p xs) left) ∙ rest
     ]
 
-before_it : (p : ℕ → Bool) (n g : ℕ) → n < g → All (λ x. p x ≡ true → x ≡ g → ⊥) (range_with_len 1 n)
-before_it p n g later i d inside =
+earlier_lines : (p : ℕ → Bool) (n g : ℕ) → n < g → All (λ x. p x ≡ true → x ≡ g → ⊥) (range_with_len 1 n)
+earlier_lines p n g later i d inside =
     let long = length-range_with_len 1 n in
     let here = get_or-range_with_len 1 n i d (omega arith) in
     λ kept same. omega arith
@@ -94,7 +95,7 @@ line_found line p (suc n) g nodes kept one inside =
           let kept_here : filter p ((1 + n) ∷ []) ≡ g ∷ [] = ap (λ k. filter p (k ∷ [])) here ∙ cond-true (p g) (g ∷ []) [] kept in
           let own : finds (map line (g ∷ [])) ≡ Some (line g) = cond-true ((line g).node == g) (Some (line g)) None (eq-eqb (line g).node g (nodes g)) in
           parts
-          ∙ ap (λ o. option_or o (finds last)) (not_found line p g nodes (range_with_len 1 n) (before_it p n g later))
+          ∙ ap (λ o. option_or o (finds last)) (not_found line p g nodes (range_with_len 1 n) (earlier_lines p n g later))
           ∙ ap (λ xs. finds (map line xs)) kept_here
           ∙ own
       | inr earlier ↦
@@ -110,9 +111,9 @@ unfolding limited_line
 line_price plan cut g = refl
 
 -- the step of a group without limits is that of the whole
-pub free_step : (plan : PlanData) (cut : Cut) (g : ℕ) → is_limited plan g ≡ false → plain plan (state plan) cut ≡ step_of plan cut g
+pub unlimited_step : (plan : PlanData) (cut : Cut) (g : ℕ) → is_limited plan g ≡ false → plain plan (state plan) cut ≡ step_of plan cut g
 unfolding group_step
-free_step plan cut g free =
+unlimited_step plan cut g free =
     sym (ap (λ (own : Option Limits). local_step own (plain plan (state plan) cut) (sum_in plan (state plan) cut g)) (none_of (limits_of (node plan g)) free))
 
 -- the price of a group at an end
@@ -130,5 +131,5 @@ price-in_end plan cut g inside =
       | inr free ↦
           ap price (not_found line (is_limited plan) g (line_node plan cut) (node_numbers plan)
           (λ i d within kept same. both_ways (is_limited plan g) free (sym (ap (is_limited plan) same) ∙ kept)))
-          ∙ ap (price_at plan.basis) (free_step plan cut g free)
+          ∙ ap (price_at plan.basis) (unlimited_step plan cut g free)
     ]

@@ -58,7 +58,8 @@ pub record Costs (price power cost : ℤ) : Type 0 where
   pub computed : to_z w128 (of_z w128 cost) ≡ price *ℤ power
   pub within : IsWithin (price_limit * sum_limit) (price *ℤ power)
 
-pub computed_cost : (price power cost : ℤ) → IsWithin price_limit price → IsWithin sum_limit power → cost ≡ to_z w64 (of_z w64 price) *ℤ to_z w64 (of_z w64 power) → Costs price power cost
+pub computed_cost : (price power cost : ℤ) → IsWithin price_limit price → IsWithin sum_limit power →
+    cost ≡ to_z w64 (of_z w64 price) *ℤ to_z w64 (of_z w64 power) → Costs price power cost
 computed_cost price power cost price_within power_within is =
     let price_is : to_z w64 (of_z w64 price) ≡ price = omega (arith, ints, price_within) in
     let power_is : to_z w64 (of_z w64 power) ≡ power = omega (arith, ints, power_within) in

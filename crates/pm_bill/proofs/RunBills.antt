@@ -1,5 +1,6 @@
 -- The bill of tick phases, to which one more is added.
-use Rattle.std.proofs.Common.{◌≡◌, ◌∙◌, sym, ap, subst, ℕ, zero, suc, ◌+◌, ◌-◌, ◌≤◌, ◌<◌, ℤ, ◌+ℤ◌, Bool, true, false, cond, List, [], ◌∷◌, ◌++◌, length, map, get_or, refl, arith, inl, inr, length-append, neg_ℤ}
+use Rattle.std.proofs.Common.{◌≡◌, ◌∙◌, sym, ap, subst, ℕ, zero, suc, ◌+◌, ◌-◌, ◌≤◌, ◌<◌, ℤ, ◌+ℤ◌, Bool, true, false, cond, List, [], ◌∷◌, ◌++◌}
+use Rattle.std.proofs.Common.{length, map, get_or, refl, arith, inl, inr, length-append, neg_ℤ}
 use Rattle.std.specs.Prelude.{filter, is_some, unwrap_or, not, Some, pos}
 use Rattle.std.specs.List.{range_with_len}
 use Rattle.std.proofs.lemmas.Bool.{cases_Bool, cond-true, cond-false}
@@ -72,7 +73,8 @@ total_more gain ticks p = ap account_total (map-append gain ticks (p ∷ [])) �
 minutes_are : (plan : PlanData) (p : ℕ) (minutes : ℤ) → minutes_of plan p ≡ Some minutes → tick_minutes plan p ≡ minutes
 minutes_are plan p minutes some = ap (λ given. unwrap_or given (pos 0)) some
 
-gained : (leaf : Bool) (before gain : Account) → account_sum (cond leaf before no_account) (cond leaf gain no_account) ≡ cond leaf (account_sum before gain) no_account
+gained : (leaf : Bool) (before gain : Account) →
+    account_sum (cond leaf before no_account) (cond leaf gain no_account) ≡ cond leaf (account_sum before gain) no_account
 gained true before gain = refl
 gained false before gain = none-account_sum no_account
 

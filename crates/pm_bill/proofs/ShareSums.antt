@@ -1,5 +1,6 @@
 -- Sums over shares, and accounts to which shares are added one by one.
-use Rattle.std.proofs.Common.{◌≡◌, ◌≢◌, ◌∙◌, sym, ap, subst, ℕ, zero, suc, ◌+◌, ◌<◌, ◌≤◌, ◌==◌, true, false, ℤ, pos, ◌+ℤ◌, ◌-ℤ◌, ◌*ℤ◌, List, [], ◌∷◌, ◌++◌, length, get_or, take, replicate, refl, arith, inl, inr, get_or-set_same, get_or-set_other}
+use Rattle.std.proofs.Common.{◌≡◌, ◌≢◌, ◌∙◌, sym, ap, subst, ℕ, zero, suc, ◌+◌, ◌<◌, ◌≤◌, ◌==◌, true, false, ℤ, pos, ◌+ℤ◌, ◌-ℤ◌, ◌*ℤ◌, List, [], ◌∷◌}
+use Rattle.std.proofs.Common.{◌++◌, length, get_or, take, replicate, refl, arith, inl, inr, get_or-set_same, get_or-set_other}
 use Rattle.std.specs.Prelude.{All}
 use Rattle.std.specs.List.{AllPairs}
 use Rattle.std.proofs.Math.IntN.{zero-*ℤ}
@@ -20,7 +21,8 @@ pub sum_each-push : {X : Type 0} (part : X → ℤ) (xs : List X) (x : X) → su
 sum_each-push part [] x = omega (arith, ints)
 sum_each-push part (y ∷ xs) x = let rest = sum_each-push part xs x in omega (arith, ints, rest)
 
-pub sum_each-set : {X : Type 0} (part : X → ℤ) (xs : List X) (i : ℕ) (x d : X) → i < length xs → sum_each part (set xs i x) ≡ (sum_each part xs -ℤ part (get_or xs i d)) +ℤ part x
+pub sum_each-set : {X : Type 0} (part : X → ℤ) (xs : List X) (i : ℕ) (x d : X) → i < length xs →
+    sum_each part (set xs i x) ≡ (sum_each part xs -ℤ part (get_or xs i d)) +ℤ part x
 sum_each-set part [] i x d inside = absurd (omega arith)
 sum_each-set part (y ∷ xs) zero x d inside = omega (arith, ints)
 sum_each-set part (y ∷ xs) (suc i) x d inside = let rest = sum_each-set part xs i x d (omega arith) in omega (arith, ints, rest)
@@ -30,11 +32,13 @@ sum_each-replicate part zero x none = refl
 sum_each-replicate part (suc n) x none = let rest = sum_each-replicate part n x none in omega (arith, ints, rest, none)
 
 -- a sum over the first so many elements, and one more
-pub sum_each-more : {X : Type 0} (part : X → ℤ) (xs : List X) (i : ℕ) (d : X) → i < length xs → sum_each part (take (i + 1) xs) ≡ sum_each part (take i xs) +ℤ part (get_or xs i d)
+pub sum_each-more : {X : Type 0} (part : X → ℤ) (xs : List X) (i : ℕ) (d : X) → i < length xs →
+    sum_each part (take (i + 1) xs) ≡ sum_each part (take i xs) +ℤ part (get_or xs i d)
 sum_each-more part xs i d inside = ap (sum_each part) (take_more xs i d inside) ∙ sum_each-push part (take i xs) (get_or xs i d)
 
 -- the account of shares and one more
-pub account_of_shares-push : (minutes : ℤ) (shares : List Share) (share : Share) → account_of_shares minutes (shares ++ share ∷ []) ≡ account_sum (account_of_shares minutes shares) (account_of_share minutes share)
+pub account_of_shares-push : (minutes : ℤ) (shares : List Share) (share : Share) →
+    account_of_shares minutes (shares ++ share ∷ []) ≡ account_sum (account_of_shares minutes shares) (account_of_share minutes share)
 unfolding account_of_shares
 account_of_shares-push minutes [] share = account_sum-none (account_of_share minutes share) ∙ sym (none-account_sum (account_of_share minutes share))
 account_of_shares-push minutes (first ∷ shares) share =
@@ -65,7 +69,8 @@ no_shares node (share ∷ shares) others =
     rw test (no_shares node shares (λ k d inside. others (suc k) d (omega arith)))
 
 -- of shares of different nodes the earlier ones are none of a later one's node
-pub no_earlier : (shares : List Share) (i : ℕ) (d : Share) → AllPairs (λ one other. one.node ≢ other.node) shares → i < length shares → shares_of (get_or shares i d).node (take i shares) ≡ []
+pub no_earlier : (shares : List Share) (i : ℕ) (d : Share) → AllPairs (λ one other. one.node ≢ other.node) shares → i < length shares →
+    shares_of (get_or shares i d).node (take i shares) ≡ []
 no_earlier shares i d different inside = no_shares (get_or shares i d).node (take i shares) (λ k e before.
     let earlier : k < i = omega (arith, length-take i shares) in
     λ same. different k i e earlier inside
@@ -85,7 +90,8 @@ all_wider small big accounts more all = λ k d inside. account_wider small big (
 pub no_account_within : (limit : ℕ) → IsAccountWithin limit no_account
 no_account_within limit = record { amount = none-within limit; taken = none-within limit; given = none-within limit }
 
-pub account_at_within : (limit : ℕ) (accounts : List Account) → All (IsAccountWithin limit) accounts → (node : ℕ) → IsAccountWithin limit (account_at accounts node)
+pub account_at_within : (limit : ℕ) (accounts : List Account) → All (IsAccountWithin limit) accounts → (node : ℕ) →
+    IsAccountWithin limit (account_at accounts node)
 account_at_within limit accounts all node = elim (cases_lt node (length accounts)) [
   | inl inside ↦ all node no_account inside
   | inr outside ↦ rw (get_or-eq_default accounts no_account {n = node} outside) (no_account_within limit)
@@ -101,7 +107,9 @@ none_added minutes accounts = record {
 }
 
 -- the account of a node to which its first share is added
-gained_here : (minutes : ℤ) (shares : List Share) (share : Share) (old now : List Account) → share.node < length now → AreAdded minutes shares old now → account_at (set now share.node (account_sum (account_at now share.node) (account_of_share minutes share))) share.node ≡ account_sum (account_at old share.node) (account_of_shares minutes (shares_of share.node (shares ++ share ∷ [])))
+gained_here : (minutes : ℤ) (shares : List Share) (share : Share) (old now : List Account) → share.node < length now → AreAdded minutes shares old now →
+    account_at (set now share.node (account_sum (account_at now share.node) (account_of_share minutes share))) share.node
+    ≡ account_sum (account_at old share.node) (account_of_shares minutes (shares_of share.node (shares ++ share ∷ [])))
 gained_here minutes shares share old now inside added =
     let node = share.node in
     let gain = account_of_share minutes share in
@@ -111,26 +119,39 @@ gained_here minutes shares share old now inside added =
     ∙ ap (account_sum (account_at old node)) (sym (account_of_shares-push minutes (shares_of node shares) share)
     ∙ ap (account_of_shares minutes) (sym (own_share node shares share refl))))
 
-gained_other : (minutes : ℤ) (shares : List Share) (share : Share) (old now : List Account) (new : Account) (node : ℕ) → AreAdded minutes shares old now → (share.node ≡ node → ⊥) → account_at (set now share.node new) node ≡ account_sum (account_at old node) (account_of_shares minutes (shares_of node (shares ++ share ∷ [])))
+gained_other : (minutes : ℤ) (shares : List Share) (share : Share) (old now : List Account) (new : Account) (node : ℕ) →
+    AreAdded minutes shares old now → (share.node ≡ node → ⊥) →
+    account_at (set now share.node new) node ≡ account_sum (account_at old node) (account_of_shares minutes (shares_of node (shares ++ share ∷ [])))
 gained_other minutes shares share old now new node added different =
     let other : node ≢ share.node = λ same. different (sym same) in
-    rw get_or-set_other (added.gains node ∙ ap (λ own. account_sum (account_at old node) (account_of_shares minutes own)) (sym (other_share node shares share different)))
+    rw get_or-set_other (added.gains node
+    ∙ ap (λ own. account_sum (account_at old node) (account_of_shares minutes own)) (sym (other_share node shares share different)))
 
 -- the account of a node that has no share yet is the old one
-pub not_yet_added : (minutes : ℤ) (shares : List Share) (share : Share) (limit : ℕ) (old now : List Account) → AreAdded minutes shares old now → shares_of share.node shares ≡ [] → All (IsAccountWithin limit) old → IsAccountWithin limit (account_at now share.node)
+pub not_yet_added : (minutes : ℤ) (shares : List Share) (share : Share) (limit : ℕ) (old now : List Account) → AreAdded minutes shares old now →
+    shares_of share.node shares ≡ [] → All (IsAccountWithin limit) old → IsAccountWithin limit (account_at now share.node)
 not_yet_added minutes shares share limit old now added first all =
-    let is : account_at now share.node ≡ account_at old share.node = added.gains share.node ∙ ap (λ own. account_sum (account_at old share.node) (account_of_shares minutes own)) first ∙ ap (account_sum (account_at old share.node)) (account_of_shares-none minutes) ∙ account_sum-none (account_at old share.node) in
+    let is : account_at now share.node ≡ account_at old share.node =
+    added.gains share.node
+    ∙ ap (λ own. account_sum (account_at old share.node) (account_of_shares minutes own)) first
+    ∙ ap (account_sum (account_at old share.node)) (account_of_shares-none minutes)
+    ∙ account_sum-none (account_at old share.node) in
     rw is (account_at_within limit old all share.node)
 
 -- one more share is added, the first one of its node
-pub share_added : (minutes : ℤ) (shares : List Share) (share : Share) (old now : List Account) → share.node < length now → AreAdded minutes shares old now → shares_of share.node shares ≡ [] → IsAccountWithin tick_limit (account_of_share minutes share) → AreAdded minutes (shares ++ share ∷ []) old (set now share.node (account_sum (account_at now share.node) (account_of_share minutes share)))
+pub share_added : (minutes : ℤ) (shares : List Share) (share : Share) (old now : List Account) → share.node < length now →
+    AreAdded minutes shares old now → shares_of share.node shares ≡ [] → IsAccountWithin tick_limit (account_of_share minutes share) →
+    AreAdded minutes (shares ++ share ∷ []) old (set now share.node (account_sum (account_at now share.node) (account_of_share minutes share)))
 share_added minutes shares share old now inside added first within =
     let here = account_at now share.node in
     let gain = account_of_share minutes share in
     let new = account_sum here gain in
     record {
       gains = λ node. elim (cases_eq share.node node) [
-        | inl same ↦ subst (λ (n : ℕ). account_at (set now share.node new) n ≡ account_sum (account_at old n) (account_of_shares minutes (shares_of n (shares ++ share ∷ [])))) same (gained_here minutes shares share old now inside added)
+        | inl same ↦
+            subst (λ (n : ℕ). account_at (set now share.node new) n
+                ≡ account_sum (account_at old n) (account_of_shares minutes (shares_of n (shares ++ share ∷ []))))
+            same (gained_here minutes shares share old now inside added)
         | inr different ↦ gained_other minutes shares share old now new node added different
       ];
       amounts =
@@ -147,5 +168,6 @@ share_added minutes shares share old now inside added first within =
           omega (arith, ints, changed, more, times, one, its_own, added.powers);
       within = λ limit all.
           let before = not_yet_added minutes shares share limit old now added first all in
-          All-set (IsAccountWithin (limit + tick_limit)) now share.node new (account_sum_within limit tick_limit (limit + tick_limit) here gain refl before within) (added.within limit all);
+          All-set (IsAccountWithin (limit + tick_limit)) now share.node new
+          (account_sum_within limit tick_limit (limit + tick_limit) here gain refl before within) (added.within limit all);
     }

@@ -22,17 +22,20 @@ unfolding account_lines
 no_lines plan accounts = refl
 
 -- whether a node is a device, by its place among the nodes
-pub is_leaf-at_place : (plan : PlanData) (leaves : List Bool) (place : ℕ) → leaves ≡ leaves_of plan.entries → is_leaf plan (place + 1) ≡ get_or leaves place false
+pub is_leaf-at_place : (plan : PlanData) (leaves : List Bool) (place : ℕ) → leaves ≡ leaves_of plan.entries →
+    is_leaf plan (place + 1) ≡ get_or leaves place false
 is_leaf-at_place plan leaves place are = rw (are, add-one) refl
 
 -- one node more
-more_nodes : (plan : PlanData) (count : ℕ) → filter (is_leaf plan) (range_with_len 1 (count + 1)) ≡ filter (is_leaf plan) (range_with_len 1 count) ++ filter (is_leaf plan) ((count + 1) ∷ [])
+more_nodes : (plan : PlanData) (count : ℕ) →
+    filter (is_leaf plan) (range_with_len 1 (count + 1)) ≡ filter (is_leaf plan) (range_with_len 1 count) ++ filter (is_leaf plan) ((count + 1) ∷ [])
 more_nodes plan count =
     let next : 1 + count ≡ count + 1 = omega arith in
     ap (filter (is_leaf plan)) (range_with_len-more 1 count ∙ ap (λ n. range_with_len 1 count ++ n ∷ []) next)
     ∙ filter-append (is_leaf plan) (range_with_len 1 count) ((count + 1) ∷ [])
 
-pub one_more_line : (plan : PlanData) (accounts : List Account) (count : ℕ) → is_leaf plan (count + 1) ≡ true → lines_before plan accounts (count + 1) ≡ lines_before plan accounts count ++ account_line plan (count + 1) (account_at accounts (count + 1))
+pub one_more_line : (plan : PlanData) (accounts : List Account) (count : ℕ) → is_leaf plan (count + 1) ≡ true →
+    lines_before plan accounts (count + 1) ≡ lines_before plan accounts count ++ account_line plan (count + 1) (account_at accounts (count + 1))
 unfolding account_lines
 one_more_line plan accounts count leaf =
     let line = λ (node : ℕ). account_line plan node (account_at accounts node) in
@@ -41,13 +44,17 @@ one_more_line plan accounts count leaf =
     ∙ flat_map-append line (filter (is_leaf plan) (range_with_len 1 count)) ((count + 1) ∷ [])
     ∙ ap (λ more. flat_map line (filter (is_leaf plan) (range_with_len 1 count)) ++ more) (append-nil (line (count + 1)))
 
-pub no_more_line : (plan : PlanData) (accounts : List Account) (count : ℕ) → is_leaf plan (count + 1) ≡ false → lines_before plan accounts (count + 1) ≡ lines_before plan accounts count
+pub no_more_line : (plan : PlanData) (accounts : List Account) (count : ℕ) → is_leaf plan (count + 1) ≡ false →
+    lines_before plan accounts (count + 1) ≡ lines_before plan accounts count
 no_more_line plan accounts count leaf =
     let none : filter (is_leaf plan) ((count + 1) ∷ []) ≡ [] = rw leaf refl in
-    ap (account_lines plan accounts) (more_nodes plan count ∙ ap (λ more. filter (is_leaf plan) (range_with_len 1 count) ++ more) none ∙ append-nil (filter (is_leaf plan) (range_with_len 1 count)))
+    let before = filter (is_leaf plan) (range_with_len 1 count) in
+    ap (account_lines plan accounts) (more_nodes plan count ∙ ap (λ more. before ++ more) none ∙ append-nil before)
 
 -- a text to which the lines of the devices, of the grid and of the ticks are added one after the other
-pub bill_text_is : (plan : PlanData) (bill : BillData) (none some more all : List ℕ) → none ≡ [] → some ≡ none ++ account_lines plan bill.accounts (devices plan) → more ≡ some ++ grid_line bill.grid → all ≡ more ++ ticks_line bill.ticks bill.minutes → all ≡ bill_text plan bill
+pub bill_text_is : (plan : PlanData) (bill : BillData) (none some more all : List ℕ) → none ≡ [] →
+    some ≡ none ++ account_lines plan bill.accounts (devices plan) → more ≡ some ++ grid_line bill.grid →
+    all ≡ more ++ ticks_line bill.ticks bill.minutes → all ≡ bill_text plan bill
 unfolding bill_text
 bill_text_is plan bill none some more all empty accounts grid ticks =
     let lines = account_lines plan bill.accounts (devices plan) in

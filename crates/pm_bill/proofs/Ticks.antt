@@ -1,5 +1,6 @@
 -- A bill keeps its facts over a tick.
-use Rattle.std.proofs.Common.{◌≡◌, ◌∙◌, sym, ap, subst, ℕ, ◌+◌, ◌*◌, ◌<◌, true, false, ℤ, pos, neg_ℤ, ◌+ℤ◌, ◌*ℤ◌, List, ◌∷◌, ◌++◌, length, take, drop, refl, replicate, arith, Bool, inl, inr}
+use Rattle.std.proofs.Common.{◌≡◌, ◌∙◌, sym, ap, subst, ℕ, ◌+◌, ◌*◌, ◌<◌, true, false, ℤ, pos, neg_ℤ, ◌+ℤ◌, ◌*ℤ◌, List, ◌∷◌, ◌++◌, length, take, drop}
+use Rattle.std.proofs.Common.{refl, replicate, arith, Bool, inl, inr}
 use Rattle.std.specs.Prelude.{All, IsTrue}
 use Rattle.std.proofs.Math.IntN.{zero-*ℤ}
 use Rattle.std.proofs.Math.ListN.{get_or-eq_default}
@@ -46,7 +47,9 @@ ticked bill minutes shares groups accounts = record {
   minutes = bill.minutes +ℤ minutes;
 }
 
-adds_up : (bill : BillData) (minutes : ℤ) (shares : List Share) (groups : List GroupSum) (accounts : List Account) → AddsUp bill → AreShares bill.leaves shares → ComeToTheSame shares groups → AreAdded minutes shares bill.accounts accounts → AddsUp (ticked bill minutes shares groups accounts)
+adds_up : (bill : BillData) (minutes : ℤ) (shares : List Share) (groups : List GroupSum) (accounts : List Account) → AddsUp bill →
+    AreShares bill.leaves shares → ComeToTheSame shares groups → AreAdded minutes shares bill.accounts accounts →
+    AddsUp (ticked bill minutes shares groups accounts)
 unfolding account_of_grid
 adds_up bill minutes shares groups accounts before are same added =
     let power = sum_each (λ (share : Share). share.power) shares in
@@ -82,7 +85,9 @@ pub record MayTick (bill : BillData) (minutes : ℤ) (shares : List Share) (grou
 more_limit : (ticks : ℕ) → ticks * tick_limit + tick_limit ≡ (ticks + 1) * tick_limit
 more_limit ticks = omega arith
 
-pub keeps_bill : (bill : BillData) (minutes : ℤ) (shares : List Share) (groups : List GroupSum) (accounts : List Account) → IsBill bill → MayTick bill minutes shares groups → AreAdded minutes shares bill.accounts accounts → length accounts ≡ length bill.accounts → IsBill (ticked bill minutes shares groups accounts)
+pub keeps_bill : (bill : BillData) (minutes : ℤ) (shares : List Share) (groups : List GroupSum) (accounts : List Account) → IsBill bill →
+    MayTick bill minutes shares groups → AreAdded minutes shares bill.accounts accounts → length accounts ≡ length bill.accounts →
+    IsBill (ticked bill minutes shares groups accounts)
 unfolding account_of_grid
 keeps_bill bill minutes shares groups accounts is may added long =
     let most = minutes_within minutes may.are in
@@ -96,7 +101,8 @@ keeps_bill bill minutes shares groups accounts is may added long =
       };
       within = subst (λ (limit : ℕ). All (IsAccountWithin limit) accounts) (more_limit bill.ticks) (added.within (bill.ticks * tick_limit) is.within);
       grid_within = account_sum_within (bill.ticks * tick_limit) tick_limit ((bill.ticks + 1) * tick_limit) bill.grid _ (more_limit bill.ticks) is.grid_within
-          (account_of_within minutes (neg_ℤ (sum_each group_cost groups)) (neg_ℤ (sum_each (λ (share : Share). share.power) shares)) may.are may.cost may.power);
+          (account_of_within minutes (neg_ℤ (sum_each group_cost groups)) (neg_ℤ (sum_each (λ (share : Share). share.power) shares))
+          may.are may.cost may.power);
     }
 
 -- a new bill
@@ -114,7 +120,8 @@ new_bill_is leaves = record {
   grid_within = no_account_within (0 * tick_limit);
 }
 
-pub opens_bill : (leaves : List Bool) (accounts : List Account) (grid : Account) → accounts ≡ replicate (length leaves + 1) no_account → grid ≡ no_account → IsBill (record { leaves = leaves; accounts = accounts; grid = grid; ticks = 0; minutes = pos 0 })
+pub opens_bill : (leaves : List Bool) (accounts : List Account) (grid : Account) → accounts ≡ replicate (length leaves + 1) no_account →
+    grid ≡ no_account → IsBill (record { leaves = leaves; accounts = accounts; grid = grid; ticks = 0; minutes = pos 0 })
 opens_bill leaves accounts grid accounts_are grid_is = rw (accounts_are, grid_is) (new_bill_is leaves)
 
 -- what a list that was lent as a slice has after it is written back

@@ -33,12 +33,12 @@ abbrev pub free_power : PlanData → EndData → ℤ
 free_power plan end = sum_each (λ member. member.power) (filter (λ member. group plan member.node == 0) end.members)
 
 -- what the group of a line comes to
-abbrev pub limited_sum : PlanData → LimitedLine → GroupSum
-limited_sum plan line = record { price = price_at plan.basis line.step; power = line.total }
+abbrev pub limited_group : PlanData → LimitedLine → GroupSum
+limited_group plan line = record { price = price_at plan.basis line.step; power = line.total }
 
 -- what each group comes to at an end: the members below no limited concentrator, and each limited concentrator
 abbrev pub end_groups : PlanData → EndData → List GroupSum
-end_groups plan end = record { price = end.price; power = free_power plan end } ∷ map (limited_sum plan) end.limited
+end_groups plan end = record { price = end.price; power = free_power plan end } ∷ map (limited_group plan) end.limited
 
 -- the nodes and the steps of an end are those of the plan, and its members are no more, and have no more power, than
 -- devices may

@@ -5,7 +5,7 @@ ghost use Rattle.pm_plan.specs.Kept.{IsPlan};
 ghost use Rattle.pm_plan.specs.States.{all_ends};
 ghost use Rattle.pm_report.specs.Report.{ends_of};
 ghost use Rattle.pm_bill.specs.Runs.{cut_before};
-ghost use Rattle.pm_bill.specs.Charges.{price_in_end, member_share, member_shares, free_power, limited_sum, end_groups, MayBeCharged, AreCharges};
+ghost use Rattle.pm_bill.specs.Charges.{price_in_end, member_share, member_shares, free_power, limited_group, end_groups, MayBeCharged, AreCharges};
 
 use crate::share::{GroupSum, Share};
 use pm_plan::{LimitedLine, MemberLine, PhaseEnd, Plan};
@@ -132,9 +132,9 @@ fn free_power(plan: &Plan, end: &PhaseEnd) -> i64
 }
 
 /// What the group of a line comes to.
-fn limited_sum(plan: &Plan, line: &LimitedLine) -> GroupSum
+fn limited_group(plan: &Plan, line: &LimitedLine) -> GroupSum
     requires { line.now.step < plan.now.basis.steps }
-    ensures { result ≡ limited_sum plan.now line.now }
+    ensures { result ≡ limited_group plan.now line.now }
 {
     GroupSum {
         price: plan.basis().price(line.step as usize),
@@ -153,7 +153,7 @@ fn end_groups(alloc: Global, plan: &Plan, end: &PhaseEnd) -> Result<Vec<GroupSum
         power: free_power(plan, end),
     })?;
     for line in end.limited() {
-        groups.push(limited_sum(plan, line))?;
+        groups.push(limited_group(plan, line))?;
     }
     Ok(groups)
 }

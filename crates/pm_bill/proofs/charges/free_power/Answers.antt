@@ -10,27 +10,27 @@ use Rattle.pm_bill.proofs.NodeSums.{sum_each-filter_more}
 use Rattle.pm_bill.proofs.charges.free_power.Goals as goal
 use Rattle.pm_bill.proofs.charges.free_power.Goals.{then-group_of-eq0, else-group_of-eq0}
 
-abbrev no_member : MemberLine
-no_member = record { node = 0; power = pos 0; number = 0 }
+abbrev no_line : MemberLine
+no_line = record { node = 0; power = pos 0; number = 0 }
 
 -- the power of the members so far that pass a test, as one member more adds to it or not
-counted : (p : MemberLine → Bool) (members : List MemberLine) (i : ℕ) (b : Bool) → i < length members → p (get_or members i no_member) ≡ b →
+counted : (p : MemberLine → Bool) (members : List MemberLine) (i : ℕ) (b : Bool) → i < length members → p (get_or members i no_line) ≡ b →
     sum_each (λ member. member.power) (filter p (take (i + 1) members))
-    ≡ sum_each (λ member. member.power) (filter p (take i members)) +ℤ cond b (get_or members i no_member).power (pos 0)
+    ≡ sum_each (λ member. member.power) (filter p (take i members)) +ℤ cond b (get_or members i no_line).power (pos 0)
 counted p members i b inside test =
     let front = sum_each (λ (member : MemberLine). member.power) (filter p (take i members)) in
-    sum_each-filter_more (λ (member : MemberLine). member.power) p members i no_member inside
-    ∙ ap (λ c. front +ℤ cond c (get_or members i no_member).power (pos 0)) test
+    sum_each-filter_more (λ (member : MemberLine). member.power) p members i no_line inside
+    ∙ ap (λ c. front +ℤ cond c (get_or members i no_line).power (pos 0)) test
 
 pub loop-member-preserved : goal.loop-member-preserved
 loop-member-preserved c =
     let members = c.members-member-items.result.now in
     let at = c.loop-member.member-index in
-    let member = get_or members at no_member in
+    let member = get_or members at no_line in
     let inside = c.loop-member-test.true in
     let free : MemberLine → Bool = λ line. group c.args.plan.now line.node == 0 in
     let powers = subst (All (λ (line : MemberLine). IsWithin demand_limit line.power)) (sym c.members-member-items.ensures) c.requires.powers in
-    let power : IsWithin demand_limit member.power = powers at no_member inside in
+    let power : IsWithin demand_limit member.power = powers at no_line inside in
     let few = ap length c.members-member-items.ensures in
     let before = c.loop-member.invariant.within in
     elim c.if-group_of-eq0.branch [

@@ -27,13 +27,15 @@ add-requires-clause-old c =
     let shares = c.args.shares.now in
     let share = get_or shares c.loop-share.share-index no_share in
     let inside = c.loop-share-test.true in
-    not_yet_added _ _ share (most_phases * tick_limit) _ _ c.loop-share.invariant (no_earlier shares c.loop-share.share-index no_share c.requires.different inside) c.requires.within
+    not_yet_added _ _ share (most_phases * tick_limit) _ _ c.loop-share.invariant
+    (no_earlier shares c.loop-share.share-index no_share c.requires.different inside) c.requires.within
 
 pub add-requires-clause-cost : goal.add-requires-clause-cost
 add-requires-clause-cost c =
     let share = get_or c.args.shares.now c.loop-share.share-index no_share in
     let inside = c.loop-share-test.true in
-    let cost = computed_cost share.price share.power c.cost_of-cost.result (c.requires.prices _ no_share inside) (wider demand_limit sum_limit share.power (omega arith) (c.requires.powers _ no_share inside)) c.cost_of-cost.ensures in
+    let power = wider demand_limit sum_limit share.power (omega arith) (c.requires.powers _ no_share inside) in
+    let cost = computed_cost share.price share.power c.cost_of-cost.result (c.requires.prices _ no_share inside) power c.cost_of-cost.ensures in
     record { low = omega (arith, ints, cost.computed, cost.within); high = omega (arith, ints, cost.computed, cost.within) }
 
 pub loop-share-preserved : goal.loop-share-preserved
@@ -43,18 +45,22 @@ loop-share-preserved c =
     let share = get_or shares at no_share in
     let inside = c.loop-share-test.true in
     let power = c.requires.powers at no_share inside in
-    let cost = computed_cost share.price share.power c.cost_of-cost.result (c.requires.prices at no_share inside) (wider demand_limit sum_limit share.power (omega arith) power) c.cost_of-cost.ensures in
+    let cost = computed_cost share.price share.power c.cost_of-cost.result (c.requires.prices at no_share inside)
+    (wider demand_limit sum_limit share.power (omega arith) power) c.cost_of-cost.ensures in
     let power_is : to_z w128 (of_z w128 c.from.result) ≡ share.power = omega (arith, ints, power, c.from.ensures) in
     let minutes = to_z w64 (of_z w64 c.args.minutes) in
     let now = c.loop-share.accounts in
     let here : share.node < length now = omega (arith, c.requires.inside at no_share inside, c.loop-share.auto.accounts) in
     let cost_small : IsWithin cost_limit (share_cost share) = record { low = omega (arith, ints, cost.within); high = omega (arith, ints, cost.within) } in
     let power_small : IsWithin cost_limit share.power = record { low = omega (arith, ints, power); high = omega (arith, ints, power) } in
-    let are : IsTrue (are_minutes minutes) = subst (λ (z : ℤ). IsTrue (are_minutes z)) (sym (to_z-of_z w64 c.args.minutes c.ranges.minutes)) c.requires.minutes in
-    let one = share_added minutes (take at shares) share c.args.accounts.now now here c.loop-share.invariant (no_earlier shares at no_share c.requires.different inside) (account_of_within minutes (share_cost share) share.power are cost_small power_small) in
+    let are : IsTrue (are_minutes minutes) =
+    subst (λ (z : ℤ). IsTrue (are_minutes z)) (sym (to_z-of_z w64 c.args.minutes c.ranges.minutes)) c.requires.minutes in
+    let one = share_added minutes (take at shares) share c.args.accounts.now now here c.loop-share.invariant
+    (no_earlier shares at no_share c.requires.different inside) (account_of_within minutes (share_cost share) share.power are cost_small power_small) in
     let new : c.add.new.self ≡ account_sum (account_at now share.node) (account_of_share minutes share) =
     c.add.ensures
     ∙ ap (λ z. account_sum (account_at now share.node) (account_of minutes z (to_z w128 (of_z w128 c.from.result)))) cost.computed
     ∙ ap (λ z. account_sum (account_at now share.node) (account_of minutes (share_cost share) z)) power_is in
     let P : Account → Type 0 = λ a. AreAdded minutes (take at shares ++ share ∷ []) c.args.accounts.now (set now share.node a) in
-    subst (λ (some : List Share). AreAdded minutes some c.args.accounts.now (set now share.node c.add.new.self)) (sym (take_more shares at no_share inside)) (subst P (sym new) one)
+    subst (λ (some : List Share). AreAdded minutes some c.args.accounts.now (set now share.node c.add.new.self))
+    (sym (take_more shares at no_share inside)) (subst P (sym new) one)

@@ -13,7 +13,8 @@ pub overflow_add-cost : goal.overflow_add-cost
 overflow_add-cost c =
     let group = get_or c.args.groups.now c.loop-group.group-index no_group in
     let inside = c.loop-group-test.true in
-    let cost = computed_cost group.price group.power c.cost_of-cost.result (c.requires.prices _ no_group inside) (c.requires.powers _ no_group inside) c.cost_of-cost.ensures in
+    let cost = computed_cost group.price group.power c.cost_of-cost.result
+    (c.requires.prices _ no_group inside) (c.requires.powers _ no_group inside) c.cost_of-cost.ensures in
     omega (arith, ints, c.requires.few, cost.computed, cost.within, c.loop-group.invariant.cost_within)
 
 pub loop-group-preserved : goal.loop-group-preserved

@@ -9,9 +9,12 @@ pub returns : goal.returns
 returns c =
     let plan = c.args.plan.now in
     let fits : FitsSigned w64 c.self.inside.minutes = search rules in
-    let accounts : string_bytes c.push_accounts.new.text ≡ string_bytes c.new-text.result ++ account_lines plan c.deref-2.result.now (devices plan) = c.in_ok-push_accounts.ensures in
+    let accounts : string_bytes c.push_accounts.new.text ≡ string_bytes c.new-text.result ++ account_lines plan c.deref-2.result.now (devices plan) =
+    c.in_ok-push_accounts.ensures in
     let accounts_are = ap (λ list. string_bytes c.new-text.result ++ account_lines plan list (devices plan)) c.deref-2.ensures.value in
-    let ticks : string_bytes c.push_ticks.new.text ≡ string_bytes c.push_grid.new.text ++ ticks_line c.self.inside.ticks (to_z w64 (of_z w64 c.self.inside.minutes)) = c.in_ok-push_ticks.ensures in
+    let computed = to_z w64 (of_z w64 c.self.inside.minutes) in
+    let ticks : string_bytes c.push_ticks.new.text ≡ string_bytes c.push_grid.new.text ++ ticks_line c.self.inside.ticks computed =
+    c.in_ok-push_ticks.ensures in
     let minutes = ap (λ m. string_bytes c.push_grid.new.text ++ ticks_line c.self.inside.ticks m) (to_z-of_z w64 c.self.inside.minutes fits) in
     let all = bill_text_is plan (record {
       leaves = c.self.inside.leaves.items;

@@ -14,21 +14,27 @@ use Rattle.pm_bill.proofs.Ticks.{written_back, keeps_bill, MayTick, leaf_has_acc
 use Rattle.pm_bill.proofs.bill.Bill.tick.Goals as goal
 
 -- what a tick asks of the bill, of the fields that the bill is made of
-of_fields : (now fields : BillData) (shares : List Share) → fields ≡ now → now.ticks < most_phases → AreShares now.leaves shares → (fields.ticks < most_phases) × AreShares fields.leaves shares
+of_fields : (now fields : BillData) (shares : List Share) → fields ≡ now → now.ticks < most_phases → AreShares now.leaves shares →
+    (fields.ticks < most_phases) × AreShares fields.leaves shares
 of_fields now fields shares is ticks are = (
   subst (λ (bill : BillData). bill.ticks < most_phases) (sym is) ticks,
   subst (λ (bill : BillData). AreShares bill.leaves shares) (sym is) are,
 )
 
 -- the opposite of a number, as the code computes it
-opposite : (number sum : ℤ) → IsWithin cost_limit number → number ≡ sum → (to_z w128 (of_z w128 (pos 0 -ℤ to_z w128 (of_z w128 number))) ≡ neg_ℤ sum) × IsWithin cost_limit (neg_ℤ sum)
+abbrev negated : ℤ → ℤ
+negated number = to_z w128 (of_z w128 (pos 0 -ℤ to_z w128 (of_z w128 number)))
+
+opposite : (number sum : ℤ) → IsWithin cost_limit number → number ≡ sum →
+    (negated number ≡ neg_ℤ sum) × IsWithin cost_limit (neg_ℤ sum)
 opposite number sum within is = (
-  (let computed : to_z w128 (of_z w128 (pos 0 -ℤ to_z w128 (of_z w128 number))) ≡ neg_ℤ number = omega (arith, ints, within) in computed ∙ ap neg_ℤ is),
+  (let computed : negated number ≡ neg_ℤ number = omega (arith, ints, within) in computed ∙ ap neg_ℤ is),
   rw (← is) (record { low = omega (arith, ints, within); high = omega (arith, ints, within) }),
 )
 
 -- the minutes after a tick, as the code computes them
-minutes_after : (ticks : ℕ) (minutes more : ℤ) → ticks < most_phases → AreMinutesOf ticks minutes → IsTrue (are_minutes more) → to_z w64 (of_z w64 (to_z w64 (of_z w64 minutes) +ℤ to_z w64 (of_z w64 more))) ≡ minutes +ℤ more
+minutes_after : (ticks : ℕ) (minutes more : ℤ) → ticks < most_phases → AreMinutesOf ticks minutes → IsTrue (are_minutes more) →
+    to_z w64 (of_z w64 (to_z w64 (of_z w64 minutes) +ℤ to_z w64 (of_z w64 more))) ≡ minutes +ℤ more
 minutes_after ticks minutes more few before are =
     omega (arith, ints, before.least, before.most, minutes_within more are)
 
@@ -42,13 +48,16 @@ pub add_shares-requires-clause-within : goal.add_shares-requires-clause-within
 add_shares-requires-clause-within c =
     let asked = of_fields c.args.self.now _ c.args.shares.now c.self.view_is c.requires.ticks c.requires.shares in
     let ticks : c.self.inside.ticks < most_phases = asked.0 in
-    rw c.deref_mut.ensures.value (all_wider (c.self.inside.ticks * tick_limit) (most_phases * tick_limit) c.self.inside.accounts.items (omega (arith, ticks)) c.self.invariant.within)
+    rw c.deref_mut.ensures.value (all_wider (c.self.inside.ticks * tick_limit) (most_phases * tick_limit) c.self.inside.accounts.items
+    (omega (arith, ticks)) c.self.invariant.within)
 
 pub add-requires-clause-cost : goal.add-requires-clause-cost
-add-requires-clause-cost c = record { low = omega (arith, ints, c.sums_of-cost.ensures.cost_within); high = omega (arith, ints, c.sums_of-cost.ensures.cost_within) }
+add-requires-clause-cost c =
+    record { low = omega (arith, ints, c.sums_of-cost.ensures.cost_within); high = omega (arith, ints, c.sums_of-cost.ensures.cost_within) }
 
 pub add-requires-clause-power : goal.add-requires-clause-power
-add-requires-clause-power c = record { low = omega (arith, ints, c.sums_of-cost.ensures.power_within); high = omega (arith, ints, c.sums_of-cost.ensures.power_within) }
+add-requires-clause-power c =
+    record { low = omega (arith, ints, c.sums_of-cost.ensures.power_within); high = omega (arith, ints, c.sums_of-cost.ensures.power_within) }
 
 pub overflow_add-self-2 : goal.overflow_add-self-2
 overflow_add-self-2 c =
@@ -63,19 +72,25 @@ grid_is c =
     let cost = opposite c.sums_of-cost.result.0 _ c.sums_of-cost.ensures.cost_within c.sums_of-cost.ensures.cost in
     let power = opposite c.sums_of-cost.result.1 _ c.sums_of-cost.ensures.power_within (c.sums_of-cost.ensures.power ∙ sym c.requires.same.powers) in
     let minutes = to_z-of_z w64 c.args.minutes c.ranges.minutes in
+    let grid = c.self.inside.grid in
     c.add.ensures
-    ∙ ap (λ z. account_sum c.self.inside.grid (account_of z (to_z w128 (of_z w128 (pos 0 -ℤ to_z w128 (of_z w128 c.sums_of-cost.result.0)))) (to_z w128 (of_z w128 (pos 0 -ℤ to_z w128 (of_z w128 c.sums_of-cost.result.1)))))) minutes
-    ∙ ap (λ z. account_sum c.self.inside.grid (account_of c.args.minutes z (to_z w128 (of_z w128 (pos 0 -ℤ to_z w128 (of_z w128 c.sums_of-cost.result.1)))))) cost.0
-    ∙ ap (λ z. account_sum c.self.inside.grid (account_of c.args.minutes (neg_ℤ (sum_each group_cost c.args.groups.now)) z)) power.0
+    ∙ ap (λ z. account_sum grid (account_of z (negated c.sums_of-cost.result.0) (negated c.sums_of-cost.result.1))) minutes
+    ∙ ap (λ z. account_sum grid (account_of c.args.minutes z (negated c.sums_of-cost.result.1))) cost.0
+    ∙ ap (λ z. account_sum grid (account_of c.args.minutes (neg_ℤ (sum_each group_cost c.args.groups.now)) z)) power.0
 
 -- the accounts after the tick
-accounts_are : (c : goal.After-self-4-1) → take c.self.inside.accounts.len (c.add_shares.new.accounts ++ drop (length c.add_shares.new.accounts) c.self.inside.accounts.items) ≡ c.add_shares.new.accounts
-accounts_are c = written_back c.self.inside.accounts.items c.add_shares.new.accounts c.self.inside.accounts.len (omega arith) (omega (arith, c.add_shares.auto.accounts, c.deref_mut.ensures.len, ap length c.deref_mut.ensures.value))
+accounts_are : (c : goal.After-self-4-1) →
+    take c.self.inside.accounts.len (c.add_shares.new.accounts ++ drop (length c.add_shares.new.accounts) c.self.inside.accounts.items)
+    ≡ c.add_shares.new.accounts
+accounts_are c =
+    written_back c.self.inside.accounts.items c.add_shares.new.accounts c.self.inside.accounts.len (omega arith)
+    (omega (arith, c.add_shares.auto.accounts, c.deref_mut.ensures.len, ap length c.deref_mut.ensures.value))
 
 added : (c : goal.After-self-4-1) → AreAdded c.args.minutes c.args.shares.now c.self.inside.accounts.items c.add_shares.new.accounts
 added c =
     let at_fields = rw c.deref_mut.ensures.value at c.add_shares.ensures in
-    subst (λ (z : ℤ). AreAdded z c.args.shares.now c.self.inside.accounts.items c.add_shares.new.accounts) (to_z-of_z w64 c.args.minutes c.ranges.minutes) at_fields
+    subst (λ (z : ℤ). AreAdded z c.args.shares.now c.self.inside.accounts.items c.add_shares.new.accounts)
+    (to_z-of_z w64 c.args.minutes c.ranges.minutes) at_fields
 
 -- the bill before the tick
 abbrev fields_of : goal.After-self-4-1 → BillData
@@ -101,8 +116,10 @@ invariant_of-self c =
       cost = cost.1;
       power = power.1;
     } in
-    let long : length c.add_shares.new.accounts ≡ length c.self.inside.accounts.items = omega (arith, c.add_shares.auto.accounts, c.deref_mut.ensures.len, ap length c.deref_mut.ensures.value) in
-    rw (accounts_are c, grid_is c, minutes) (keeps_bill (fields_of c) c.args.minutes c.args.shares.now c.args.groups.now c.add_shares.new.accounts c.self.invariant may (added c) long)
+    let long : length c.add_shares.new.accounts ≡ length c.self.inside.accounts.items =
+    omega (arith, c.add_shares.auto.accounts, c.deref_mut.ensures.len, ap length c.deref_mut.ensures.value) in
+    rw (accounts_are c, grid_is c, minutes)
+    (keeps_bill (fields_of c) c.args.minutes c.args.shares.now c.args.groups.now c.add_shares.new.accounts c.self.invariant may (added c) long)
 
 pub returns-clause-accounts : goal.returns-clause-accounts
 returns-clause-accounts c = λ node.

@@ -78,5 +78,6 @@ returns c =
     let end = end_before plan c.args.ends.now c.args.phase c.index-ends-phase.result c.requires.ends
     (is_before c.args.phase c.if-phase-eq1.false c.requires.first) c.requires.last c.index-ends-phase.is in
     both_ok c.at.result _ _ _
-    (λ charges shares groups. charged plan c.args.phase c.index-ends-phase.result.end charges.shares.items charges.groups.items c.requires.sound end shares groups)
+    (λ charges shares groups. charged plan c.args.phase c.index-ends-phase.result.end charges.shares.items charges.groups.items
+    c.requires.sound end shares groups)
     c.at.ensures.shares c.at.ensures.groups
