@@ -1,5 +1,5 @@
 -- The shares of the members of a cut, and the sums of its groups, charge all devices and the grid as the cut does.
-use Rattle.std.proofs.Common.{◌≡◌, ◌≢◌, ◌∙◌, sym, ap, subst, ℕ, zero, suc, ◌+◌, ◌*◌, ◌≤◌, ◌<◌, ℤ, pos, ◌-ℤ◌, ◌*ℤ◌, Bool, true, false, cond, eqb, List}
+use Rattle.std.proofs.Common.{◌≡◌, ◌≢◌, ◌∙◌, sym, ap, ℕ, zero, suc, ◌+◌, ◌*◌, ◌≤◌, ◌<◌, ℤ, pos, ◌-ℤ◌, ◌*ℤ◌, Bool, true, false, cond, eqb, List}
 use Rattle.std.proofs.Common.{[], ◌∷◌, ◌++◌, length, map, get_or, refl, arith, inl, inr}
 use Rattle.std.specs.Prelude.{All, filter, ◌==◌, ◌&&◌, not}
 use Rattle.std.specs.List.{AllPairs, range_with_len}
@@ -7,12 +7,12 @@ use Rattle.std.proofs.Math.IntN.{*ℤ_comm, zero-*ℤ}
 use Rattle.std.proofs.lemmas.Bool.{cases_Bool, cases_eq, cases_lt, cond-true, cond-false, eq-eqb, ne_eqb, both_ways}
 use Rattle.std.proofs.lemmas.Int.{ints}
 use Rattle.std.proofs.lemmas.List.{length-map, get_or-map}
-use Rattle.std.proofs.lemmas.List.Elements.{All-map, All-filter, All-head, All-tail, All-nil, All-weaker, filter_passes, filter-append}
+use Rattle.std.proofs.lemmas.List.Elements.{All-map, All-head, All-tail, All-nil, All-weaker, filter_passes, filter-append}
 use Rattle.std.proofs.lemmas.List.Filters.{length-filter_both}
 use Rattle.std.proofs.lemmas.List.FromFn.{get_or-range_with_len, length-range_with_len}
 use Rattle.std.proofs.lemmas.List.Kept.{AllPairs-filter}
 use Rattle.pm_base.specs.Cuts.{Cut}
-use Rattle.pm_base.specs.Limits.{IsWithin, price_limit, demand_limit, sum_limit, most_nodes}
+use Rattle.pm_base.specs.Limits.{IsWithin, price_limit, demand_limit, sum_limit}
 use Rattle.pm_base.proofs.Lists.{range_with_len-more}
 use Rattle.pm_base.proofs.Ints.{none-within}
 use Rattle.pm_basis.specs.Prices.{BasisValue, IsBasis, price_at}
@@ -34,12 +34,12 @@ use Rattle.pm_offer.proofs.LocalSteps.{group_step_inside}
 use Rattle.pm_bill.specs.declared.account.Account.{Account}
 use Rattle.pm_bill.specs.declared.share.Share.{Share}
 use Rattle.pm_bill.specs.declared.share.GroupSum.{GroupSum}
-use Rattle.pm_bill.specs.Accounts.{no_account, account_sum, account_of}
+use Rattle.pm_bill.specs.Accounts.{no_account, account_of}
 use Rattle.pm_bill.specs.Shares.{shares_of, account_of_share, account_of_shares, AreShares, AreGroups}
 use Rattle.pm_bill.specs.Runs.{device_share, group_sum, group_sums}
 use Rattle.pm_bill.specs.Charges.{AreCharges}
 use Rattle.pm_bill.proofs.AccountSums.{same_account, account_sum-none}
-use Rattle.pm_bill.proofs.GroupShares.{no_power, group_price, in_group, power_in_group, groups_power, groups_cost, cost_of_none, shares_power, shares_cost}
+use Rattle.pm_bill.proofs.GroupShares.{no_power, group_price, power_in_group, groups_power, groups_cost, cost_of_none, shares_power, shares_cost}
 use Rattle.pm_bill.proofs.EndCharges.{members, filter-map, filter_twice}
 
 -- ---- the share of one node
@@ -280,7 +280,7 @@ charges_of_none plan cut is none =
       same = record { powers = refl; costs = refl };
       own = λ minutes x. absent_account plan cut minutes x (none x);
       power = sym (shares_power plan cut (is_leaf plan) (other_is_no_member plan cut is)
-      ∙ sum_zeros n (power plan (state plan) cut) (λ d one le. no_power plan cut d (none d)));
+          ∙ sum_zeros n (power plan (state plan) cut) (λ d one le. no_power plan cut d (none d)));
       cost = sym (groups_cost plan cut is ∙ sum_zeros n _ (λ d one le. cost_of_none plan cut d (none d)));
     }
 

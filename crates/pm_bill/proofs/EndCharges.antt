@@ -1,8 +1,7 @@
 -- The shares and the sums of groups at an end are those of the plain auction of its cut, and it may be charged.
-use Rattle.std.proofs.Common.{◌≡◌, ◌∙◌, sym, ap, ℕ, ◌+◌, ◌≤◌, ◌<◌, ℤ, Bool, true, false, cond, eqb, List, [], ◌∷◌, length, map, get_or, refl, arith, inl, inr}
+use Rattle.std.proofs.Common.{◌≡◌, ◌∙◌, sym, ap, ℕ, ◌≤◌, ◌<◌, Bool, true, false, cond, List, [], ◌∷◌, length, map, get_or, refl, arith}
 use Rattle.std.specs.Prelude.{All, filter, ◌==◌, ◌&&◌, not}
-use Rattle.std.specs.List.{range_with_len}
-use Rattle.std.proofs.lemmas.Bool.{cases_Bool, cond-true, cond-false}
+use Rattle.std.proofs.lemmas.Bool.{cond-true, cond-false}
 use Rattle.std.proofs.lemmas.Simd.{map-map}
 use Rattle.std.proofs.lemmas.List.{length-map}
 use Rattle.std.proofs.lemmas.List.Elements.{All-map, All-filter, All-head, All-tail}
@@ -24,13 +23,11 @@ use Rattle.pm_offer.proofs.Offers.{group_inside}
 use Rattle.pm_offer.proofs.GroupPowers.{step_of}
 use Rattle.pm_offer.proofs.LocalSteps.{group_step_inside}
 use Rattle.pm_offer.proofs.Laws.{powers_group}
-use Rattle.pm_bill.specs.declared.share.Share.{Share}
 use Rattle.pm_bill.specs.declared.share.GroupSum.{GroupSum}
 use Rattle.pm_bill.specs.Shares.{sum_each}
 use Rattle.pm_bill.specs.Runs.{device_share, group_sum, group_sums}
-use Rattle.pm_bill.specs.Charges.{price_in_end, member_share, member_shares, free_power, limited_group, end_groups, MayBeCharged}
+use Rattle.pm_bill.specs.Charges.{member_share, member_shares, free_power, limited_group, end_groups, MayBeCharged}
 use Rattle.pm_bill.proofs.NodeSums.{sum_each-map, watts-sum_each}
-use Rattle.pm_bill.proofs.GroupShares.{group_price}
 use Rattle.pm_bill.proofs.EndShares.{price-in_end, unlimited_step}
 
 -- ---- lists

@@ -1,42 +1,27 @@
 -- What a phase's end says of shares and groups is what the plain auction of its cut says.
-use Rattle.std.proofs.Common.{◌≡◌, ◌∙◌, sym, ap, subst, ℕ, zero, suc, ◌+◌, ◌≤◌, ◌<◌, ℤ, pos, Bool, true, false, cond, eqb, List, [], ◌∷◌, ◌++◌}
-use Rattle.std.proofs.Common.{length, map, get_or, refl, arith, inl, inr, Option, Some, None}
-use Rattle.std.specs.Prelude.{All, filter, find, ◌==◌, ◌&&◌}
+use Rattle.std.proofs.Common.{◌≡◌, ◌∙◌, sym, ap, subst, ℕ, zero, suc, ◌+◌, ◌≤◌, ◌<◌, ℤ, Bool, true, false, List, [], ◌∷◌}
+use Rattle.std.proofs.Common.{length, map, refl, arith, inl, inr, Option, Some, None}
+use Rattle.std.specs.Prelude.{All, filter, find, ◌==◌}
 use Rattle.std.specs.List.{range_with_len}
 use Rattle.std.specs.Option.{option_map_or, option_or}
-use Rattle.std.proofs.lemmas.Bool.{cases_Bool, cases_lt, cond-true, cond-false, eq-eqb, eqb-true, ne_eqb, both_ways}
+use Rattle.std.proofs.lemmas.Bool.{cases_Bool, cases_lt, cond-true, cond-false, eq-eqb, ne_eqb, both_ways}
 use Rattle.std.proofs.lemmas.List.Folds.{find-append}
 use Rattle.std.proofs.lemmas.List.{map-append}
-use Rattle.std.proofs.lemmas.List.Elements.{All-map, All-filter, All-head, All-tail, filter-append}
+use Rattle.std.proofs.lemmas.List.Elements.{All-head, All-tail, filter-append}
 use Rattle.std.proofs.lemmas.List.FromFn.{get_or-range_with_len, length-range_with_len}
 use Rattle.pm_base.specs.Cuts.{Cut}
-use Rattle.pm_base.specs.Limits.{IsWithin, demand_limit}
 use Rattle.pm_base.specs.declared.limits.Limits.{Limits}
 use Rattle.pm_base.proofs.Lists.{range_with_len-more}
 use Rattle.pm_base.proofs.Options.{none_of}
 use Rattle.pm_basis.specs.Prices.{price_at}
 use Rattle.pm_bid.specs.Limited.{local_step}
-use Rattle.pm_plan.specs.declared.end.MemberLine.{MemberLine}
 use Rattle.pm_plan.specs.declared.end.LimitedLine.{LimitedLine}
-use Rattle.pm_plan.specs.Plans.{PlanData, node, limits_of, is_member, is_limited, group, node_numbers, change_count, end_cut}
-use Rattle.pm_plan.specs.Kept.{IsPlan}
-use Rattle.pm_plan.specs.Auction.{EndData, sum_in, limited, plain, group_step, local, power, member_line, limited_line, end_in}
+use Rattle.pm_plan.specs.Plans.{PlanData, node, limits_of, is_limited, node_numbers}
+use Rattle.pm_plan.specs.Auction.{sum_in, plain, group_step, limited_line, end_in}
 use Rattle.pm_plan.specs.States.{state, end_of}
-use Rattle.pm_plan.proofs.Ends.{end-within}
-use Rattle.pm_plan.proofs.Fits.{power-within}
 use Rattle.pm_plan.proofs.Drafts.{limited_is_no_root}
-use Rattle.pm_offer.specs.Powers.{members_in, group_power}
-use Rattle.pm_offer.proofs.GroupNodes.{group_kind}
-use Rattle.pm_offer.proofs.Offers.{group_inside}
 use Rattle.pm_offer.proofs.GroupPowers.{step_of}
-use Rattle.pm_offer.proofs.LocalSteps.{group_step_inside}
-use Rattle.pm_offer.proofs.Laws.{powers_group}
-use Rattle.pm_bill.specs.declared.share.Share.{Share}
-use Rattle.pm_bill.specs.declared.share.GroupSum.{GroupSum}
-use Rattle.pm_bill.specs.Shares.{sum_each}
-use Rattle.pm_bill.specs.Runs.{device_share, group_sum, group_sums}
-use Rattle.pm_bill.specs.Charges.{price_in_end, member_share, member_shares, free_power, limited_group, end_groups, MayBeCharged}
-use Rattle.pm_bill.proofs.NodeSums.{sum_each-map, watts-sum_each}
+use Rattle.pm_bill.specs.Charges.{price_in_end}
 use Rattle.pm_bill.proofs.GroupShares.{group_price}
 
 -- ---- the line of a group

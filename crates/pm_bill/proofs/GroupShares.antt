@@ -1,8 +1,8 @@
 -- Each device belongs to one group, so that the groups come to the same power and the same cost as the devices.
-use Rattle.std.proofs.Common.{◌≡◌, ◌∙◌, sym, ap, subst, ℕ, ◌≤◌, ◌<◌, ℤ, pos, ◌+ℤ◌, ◌*ℤ◌, Bool, true, false, cond, eqb, List, ◌∷◌, length, map, refl}
+use Rattle.std.proofs.Common.{◌≡◌, ◌∙◌, sym, ap, ℕ, ◌≤◌, ℤ, pos, ◌+ℤ◌, ◌*ℤ◌, Bool, true, false, cond, eqb, List, ◌∷◌, length, map, refl}
 use Rattle.std.proofs.Common.{arith, inl, inr}
 use Rattle.std.specs.Prelude.{filter, ◌&&◌}
-use Rattle.std.proofs.lemmas.Bool.{cases_Bool, cases_eq, cond-true, cond-false, eqb-true, eq-eqb, ne_eqb}
+use Rattle.std.proofs.lemmas.Bool.{cases_eq, cond-true, cond-false, eq-eqb, ne_eqb}
 use Rattle.std.proofs.lemmas.Int.{ints}
 use Rattle.std.proofs.Math.IntN.{*ℤ_comm, zero-*ℤ}
 use Rattle.pm_base.specs.Cuts.{Cut}
@@ -11,9 +11,9 @@ use Rattle.pm_bid.specs.Bids.{demand_at, zeros}
 use Rattle.pm_bid.proofs.Sums.{zeros-at}
 use Rattle.pm_market.specs.Offers.{int_sum_to}
 use Rattle.pm_laws.proofs.Offers.{int_sum_same, int_sum_add, int_sum_only, int_sum_swap}
-use Rattle.pm_plan.specs.Plans.{PlanData, is_member, is_limited, is_leaf, group, node_numbers}
+use Rattle.pm_plan.specs.Plans.{PlanData, is_member, is_limited, group, node_numbers}
 use Rattle.pm_plan.specs.Kept.{IsPlan}
-use Rattle.pm_plan.specs.Auction.{demand_in_cut, sum_in, limited, plain, group_step, local, power}
+use Rattle.pm_plan.specs.Auction.{demand_in_cut, limited, local, power}
 use Rattle.pm_plan.specs.States.{state}
 use Rattle.pm_plan.proofs.Drafts.{limited_is_no_root}
 use Rattle.pm_offer.specs.Powers.{members_in, group_power}
@@ -24,7 +24,7 @@ use Rattle.pm_offer.proofs.GroupPowers.{step_of}
 use Rattle.pm_offer.proofs.Laws.{powers_group}
 use Rattle.pm_bill.specs.declared.share.Share.{Share}
 use Rattle.pm_bill.specs.declared.share.GroupSum.{GroupSum}
-use Rattle.pm_bill.specs.Shares.{sum_each, share_cost, group_cost, ComeToTheSame}
+use Rattle.pm_bill.specs.Shares.{sum_each, share_cost, group_cost}
 use Rattle.pm_bill.specs.Runs.{device_share, group_sum, group_sums}
 use Rattle.pm_bill.proofs.NodeSums.{sum_each-map, sum_each-same, watts-sum_each, sum_each-nodes, times-int_sum, times-where}
 

@@ -1,9 +1,9 @@
 -- The bill of tick phases, to which one more is added.
 use Rattle.std.proofs.Common.{◌≡◌, ◌∙◌, sym, ap, subst, ℕ, zero, suc, ◌+◌, ◌-◌, ◌≤◌, ◌<◌, ℤ, ◌+ℤ◌, Bool, true, false, cond, List, [], ◌∷◌, ◌++◌}
-use Rattle.std.proofs.Common.{length, map, get_or, refl, arith, inl, inr, length-append, neg_ℤ}
+use Rattle.std.proofs.Common.{length, map, get_or, refl, arith, length-append, neg_ℤ}
 use Rattle.std.specs.Prelude.{filter, is_some, unwrap_or, not, Some, pos}
 use Rattle.std.specs.List.{range_with_len}
-use Rattle.std.proofs.lemmas.Bool.{cases_Bool, cond-true, cond-false}
+use Rattle.std.proofs.lemmas.Bool.{cond-true, cond-false}
 use Rattle.std.proofs.lemmas.List.{ext_get_or, map-append, length-map, length-replicate, get_or-map, append-nil}
 use Rattle.std.proofs.lemmas.List.Elements.{filter-append}
 use Rattle.std.proofs.lemmas.List.Filters.{length-filter_both}
@@ -19,7 +19,7 @@ use Rattle.pm_bill.specs.declared.share.GroupSum.{GroupSum}
 use Rattle.pm_bill.specs.Accounts.{no_account, account_at, account_sum, account_total, account_of}
 use Rattle.pm_bill.specs.Shares.{sum_each, group_cost, shares_of, account_of_share, account_of_shares, account_of_grid}
 use Rattle.pm_bill.specs.Bills.{BillData, new_bill}
-use Rattle.pm_bill.specs.Runs.{tick_minutes, cut_before, device_share, device_shares, group_sums, device_gain, grid_gain, node_account, bill_over}
+use Rattle.pm_bill.specs.Runs.{tick_minutes, cut_before, device_share, group_sums, device_gain, grid_gain, node_account, bill_over}
 use Rattle.pm_bill.specs.Charges.{AreCharges}
 use Rattle.pm_bill.proofs.AccountSums.{account_sum_assoc, account_sum-none, none-account_sum}
 use Rattle.pm_bill.proofs.ShareSums.{sum_each-push}

@@ -150,7 +150,7 @@ share_added minutes shares share old now inside added first within =
       gains = λ node. elim (cases_eq share.node node) [
         | inl same ↦
             subst (λ (n : ℕ). account_at (set now share.node new) n
-                ≡ account_sum (account_at old n) (account_of_shares minutes (shares_of n (shares ++ share ∷ []))))
+            ≡ account_sum (account_at old n) (account_of_shares minutes (shares_of n (shares ++ share ∷ []))))
             same (gained_here minutes shares share old now inside added)
         | inr different ↦ gained_other minutes shares share old now new node added different
       ];

@@ -6,7 +6,7 @@ use Rattle.pm_tree.specs.Shape.{leaf_at}
 use Rattle.pm_bill.specs.declared.account.Account.{Account}
 use Rattle.pm_bill.specs.declared.share.Share.{Share}
 use Rattle.pm_bill.specs.declared.share.GroupSum.{GroupSum}
-use Rattle.pm_bill.specs.Accounts.{no_account, account_at, account_sum, account_total, account_of, net_taken, tick_limit, IsAccountWithin}
+use Rattle.pm_bill.specs.Accounts.{account_at, account_sum, account_total, account_of, net_taken, tick_limit, IsAccountWithin}
 
 -- one number of each element, added up
 abbrev pub sum_each : {X : Type 0} → (X → ℤ) → List X → ℤ

@@ -53,7 +53,7 @@ impl Model for Bill {
 }
 
 impl Bill {
-    /// The bill of a plan before its first tick.
+    /// The bill of a plan before its first tick. The answer is an error only for want of memory.
     pub fn open(alloc: Global, plan: &Plan) -> Result<Bill, AllocError>
         ensures { IfOk result (λ bill. bill ≡ new_bill (leaves_of plan.now.entries)) }
     {
@@ -68,8 +68,11 @@ impl Bill {
         })
     }
 
-    /// Adds a tick: each share to the account of its device, and to the grid's account what the groups' power costs and
-    /// what the devices leave over.
+    /// Adds a tick of so many minutes: each share to the account of its device, and to the grid's account what the groups'
+    /// power costs and what the devices leave over. It takes no memory.
+    ///
+    /// A bill takes up to 1,000 ticks, each of one minute to one day. The shares are of different devices, and shares and
+    /// groups come to the same power and cost the same.
     pub fn tick(&mut self, shares: &[Share], groups: &[GroupSum], minutes: i64)
         requires ticks { self.old.ticks < most_phases }
         requires minutes { IsTrue (are_minutes minutes) }
@@ -119,6 +122,8 @@ impl Bill {
     /// grid amount A taken T given G
     /// ticks N minutes M
     /// ```
+    ///
+    /// The answer is an error only for want of memory.
     #[tactic(auto, unfolding(crate::specs::Text::bill_text))]
     pub fn text(&self, plan: &Plan) -> Result<Vec<u8>, AllocError>
         // The devices of the plan are those of the plan that the bill was opened with.

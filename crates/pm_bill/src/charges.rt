@@ -63,7 +63,7 @@ impl Charges {
     }
 }
 
-/// The limited concentrator above a node, 0 where there is none.
+/// The group of a node: the limited concentrator above it, 0 where there is none.
 fn group_of(plan: &Plan, node: u32) -> u32
     requires { node ≤ length plan.now.nodes }
     ensures { result ≡ group plan.now node }

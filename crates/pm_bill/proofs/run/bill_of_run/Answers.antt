@@ -1,7 +1,6 @@
-use Rattle.std.proofs.Common.{rules, ◌≡◌, ◌∙◌, sym, ap, subst, ℕ, ◌+◌, ◌-◌, ◌≤◌, ◌<◌, length, arith, ℤ, List, to_z, of_z, w64, FitsSigned, Option, Some, Bool}
+use Rattle.std.proofs.Common.{rules, ◌≡◌, ◌∙◌, sym, ap, subst, ℕ, ◌+◌, ◌-◌, ◌≤◌, length, arith, ℤ, List, to_z, of_z, w64, FitsSigned, Some, Bool}
 use Rattle.std.specs.Prelude.{IsTrue, is_some, true, false}
 use Rattle.std.proofs.lemmas.Int.{to_z-of_z}
-use Rattle.pm_tree.specs.Entries.{leaves_of}
 use Rattle.pm_plan.specs.Plans.{PlanData, minutes_of}
 use Rattle.pm_plan.specs.Kept.{are_minutes}
 use Rattle.pm_bill.specs.declared.share.Share.{Share}

@@ -27,5 +27,5 @@ loop-name-init c =
 
 pub loop-name-preserved : goal.loop-name-preserved
 loop-name-preserved c =
-    more c.loop-name.nodes.items _ c.loop-name.entries.items _ c.spec_of-spec.result _ c.loop-name.invariant (sym c.is_leaf.ensures)
+    more c.loop-name.nodes.items _ c.loop-name.entries.items _ c.in_ok-spec.spec _ c.loop-name.invariant (sym c.is_leaf.ensures)
     c.in_ok-push-2.ensures.items c.in_ok-push.ensures.items
