@@ -17,15 +17,19 @@ pub same_account : (one other : Account) → one.amount ≡ other.amount → one
 same_account one other amount taken given =
     ap (λ z. made z one.taken one.given) amount ∙ ap (λ z. made other.amount z one.given) taken ∙ ap (λ z. made other.amount other.taken z) given
 
+-- accounts may be added in any order; an account without anything adds nothing
 pub account_sum_assoc : (a b c : Account) → account_sum (account_sum a b) c ≡ account_sum a (account_sum b c)
 account_sum_assoc a b c = same_account _ _ (omega (arith, ints)) (omega (arith, ints)) (omega (arith, ints))
 
+-- with nothing behind it
 pub account_sum-none : (a : Account) → account_sum a no_account ≡ a
 account_sum-none a = same_account _ _ (omega (arith, ints)) (omega (arith, ints)) (omega (arith, ints))
 
+-- with nothing in front of it
 pub none-account_sum : (a : Account) → account_sum no_account a ≡ a
 none-account_sum a = same_account _ _ (omega (arith, ints)) (omega (arith, ints)) (omega (arith, ints))
 
+-- a sum of accounts lies within the sum of their limits
 pub account_sum_within : (a b c : ℕ) (one other : Account) → a + b ≡ c → IsAccountWithin a one → IsAccountWithin b other →
     IsAccountWithin c (account_sum one other)
 account_sum_within a b c one other is one_within other_within = record {
@@ -40,9 +44,11 @@ positive_parts (pos zero) = refl
 positive_parts (pos (suc n)) = omega (arith, ints)
 positive_parts (negsuc n) = omega (arith, ints)
 
+-- what a sum of accounts took less what it gave
 pub net_taken-account_sum : (one other : Account) → net_taken (account_sum one other) ≡ net_taken one +ℤ net_taken other
 net_taken-account_sum one other = omega (arith, ints)
 
+-- what a power came to, taken less given
 pub net_taken-account_of : (minutes cost power : ℤ) → net_taken (account_of minutes cost power) ≡ power *ℤ minutes
 net_taken-account_of minutes cost power =
     let given = positive_part (neg_ℤ power) in

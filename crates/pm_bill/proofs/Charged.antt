@@ -39,7 +39,7 @@ use Rattle.pm_bill.specs.Shares.{shares_of, account_of_share, account_of_shares,
 use Rattle.pm_bill.specs.Runs.{device_share, group_sum, group_sums}
 use Rattle.pm_bill.specs.Charges.{AreCharges}
 use Rattle.pm_bill.proofs.AccountSums.{same_account, account_sum-none}
-use Rattle.pm_bill.proofs.GroupShares.{no_power, group_price, power_in_group, groups_power, groups_cost, cost_of_none, shares_power, shares_cost}
+use Rattle.pm_bill.proofs.GroupShares.{no_power, group_price, power_in_group, groups_power, groups_cost, no_cost, shares_power, shares_cost}
 use Rattle.pm_bill.proofs.EndCharges.{members, filter-map, filter_twice}
 
 -- ---- the share of one node
@@ -281,7 +281,7 @@ charges_of_none plan cut is none =
       own = λ minutes x. absent_account plan cut minutes x (none x);
       power = sym (shares_power plan cut (is_leaf plan) (other_is_no_member plan cut is)
           ∙ sum_zeros n (power plan (state plan) cut) (λ d one le. no_power plan cut d (none d)));
-      cost = sym (groups_cost plan cut is ∙ sum_zeros n _ (λ d one le. cost_of_none plan cut d (none d)));
+      cost = sym (groups_cost plan cut is ∙ sum_zeros n _ (λ d one le. no_cost plan cut d (none d)));
     }
 
 -- before the first phase no device is a member

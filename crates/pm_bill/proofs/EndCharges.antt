@@ -81,6 +81,7 @@ line_share plan cut d is inside =
     ap (λ z. record { node = d; price = z; power = power plan (state plan) cut d })
     (price-in_end plan cut (group plan d) (λ bounded. group_inside plan is d inside))
 
+-- the shares at a cut's end are those of its members
 pub shares_at_end : (plan : PlanData) (cut : Cut) → IsPlan plan →
     member_shares plan (end_of plan cut) ≡ map (device_share plan cut) (members plan cut)
 unfolding end_in
@@ -117,6 +118,7 @@ line_groups : (plan : PlanData) (cut : Cut) (gs : List ℕ) → map (limited_gro
 unfolding limited_line
 line_groups plan cut gs = map-map (limited_group plan) (limited_line plan (state plan) cut) gs
 
+-- the groups at a cut's end are those of the plain auction
 pub groups_at_end : (plan : PlanData) (cut : Cut) → IsPlan plan → end_groups plan (end_of plan cut) ≡ group_sums plan cut
 unfolding end_in
 groups_at_end plan cut is =
@@ -128,6 +130,7 @@ groups_at_end plan cut is =
 
 -- ---- bounds
 
+-- the end of each phase may be charged
 pub may_charge : (plan : PlanData) (p : ℕ) → IsPlan plan → MayBeCharged plan (end_of plan (end_cut plan p))
 unfolding end_in member_line limited_line
 may_charge plan p is =

@@ -108,27 +108,28 @@ power_in_group plan cut g is =
     ∙ int_sum_same n (λ d. cond (counts d) (watts d) (pos 0)) (λ d. cond (eqb (group plan d) g) (watts d) (pos 0))
     (λ d one le. member_alone (eqb (group plan d) g) (is_member plan d (cut d)) (watts d) (no_power plan cut d))
 
--- what a device costs is the price of its group times its power
+-- the price of a device is that of its group
 share_price : (plan : PlanData) (cut : Cut) (d : ℕ) → (device_share plan cut d).price ≡ group_price plan cut (group plan d)
 unfolding local
 share_price plan cut d = refl
 
-abbrev pub cost_of : PlanData → Cut → ℕ → ℤ
-cost_of plan cut d = share_cost (device_share plan cut d)
+-- what a device costs a minute
+abbrev pub device_cost : PlanData → Cut → ℕ → ℤ
+device_cost plan cut d = share_cost (device_share plan cut d)
 
 cost_where : (plan : PlanData) (cut : Cut) (g d : ℕ) →
     cond (eqb (group plan d) g) (group_price plan cut g *ℤ power plan (state plan) cut d) (pos 0)
-    ≡ cond (eqb (group plan d) g) (cost_of plan cut d) (pos 0)
+    ≡ cond (eqb (group plan d) g) (device_cost plan cut d) (pos 0)
 cost_where plan cut g d = elim (cases_eq (group plan d) g) [
   | inl same ↦
       ap (λ z. cond (eqb (group plan d) g) (z *ℤ power plan (state plan) cut d) (pos 0))
       (sym (share_price plan cut d ∙ ap (group_price plan cut) same))
   | inr other ↦
       cond-false (eqb (group plan d) g) _ (pos 0) (ne_eqb (group plan d) g other)
-      ∙ sym (cond-false (eqb (group plan d) g) (cost_of plan cut d) (pos 0) (ne_eqb (group plan d) g other))
+      ∙ sym (cond-false (eqb (group plan d) g) (device_cost plan cut d) (pos 0) (ne_eqb (group plan d) g other))
 ]
 
-cost_in_group : (plan : PlanData) (cut : Cut) (g : ℕ) → IsPlan plan → group_cost (group_sum plan cut g) ≡ in_group plan (cost_of plan cut) g
+cost_in_group : (plan : PlanData) (cut : Cut) (g : ℕ) → IsPlan plan → group_cost (group_sum plan cut g) ≡ in_group plan (device_cost plan cut) g
 cost_in_group plan cut g is =
     let n : ℕ = length plan.nodes in
     let watts : ℕ → ℤ = power plan (state plan) cut in
@@ -150,15 +151,15 @@ pub groups_cost : (plan : PlanData) (cut : Cut) → IsPlan plan →
     sum_each group_cost (group_sums plan cut) ≡ int_sum_to (length plan.nodes) (λ d. share_cost (device_share plan cut d))
 groups_cost plan cut is =
     sum_each-map group_cost (group_sum plan cut) (0 ∷ limited plan)
-    ∙ sum_each-same (λ g. group_cost (group_sum plan cut g)) (in_group plan (cost_of plan cut)) (0 ∷ limited plan)
+    ∙ sum_each-same (λ g. group_cost (group_sum plan cut g)) (in_group plan (device_cost plan cut)) (0 ∷ limited plan)
     (λ g. cost_in_group plan cut g is)
-    ∙ in_all_groups plan is (cost_of plan cut)
+    ∙ in_all_groups plan is (device_cost plan cut)
 
 -- ---- a list of devices that has all members
 
--- a list of nodes that leaves out none but such as are no members has the power and the cost of all
-pub cost_of_none : (plan : PlanData) (cut : Cut) (d : ℕ) → is_member plan d (cut d) ≡ false → cost_of plan cut d ≡ pos 0
-cost_of_none plan cut d absent =
+-- a device that is no member costs nothing
+pub no_cost : (plan : PlanData) (cut : Cut) (d : ℕ) → is_member plan d (cut d) ≡ false → device_cost plan cut d ≡ pos 0
+no_cost plan cut d absent =
     ap (λ z. (device_share plan cut d).price *ℤ z) (no_power plan cut d absent)
     ∙ *ℤ_comm (device_share plan cut d).price (pos 0) ∙ zero-*ℤ (device_share plan cut d).price
 
@@ -166,6 +167,7 @@ left_out : (chosen : Bool) (z : ℤ) → (chosen ≡ false → z ≡ pos 0) → 
 left_out true z none = refl
 left_out false z none = sym (none refl)
 
+-- a list of devices that leaves out no member has the power of all
 pub shares_power : (plan : PlanData) (cut : Cut) (p : ℕ → Bool) → ((d : ℕ) → p d ≡ false → is_member plan d (cut d) ≡ false) →
     sum_each (λ share. share.power) (map (device_share plan cut) (filter p (node_numbers plan)))
     ≡ int_sum_to (length plan.nodes) (power plan (state plan) cut)
@@ -174,10 +176,11 @@ shares_power plan cut p no_member =
     ∙ sum_each-nodes (power plan (state plan) cut) p (length plan.nodes)
     ∙ int_sum_same (length plan.nodes) _ _ (λ d one le. left_out (p d) (power plan (state plan) cut d) (λ out. no_power plan cut d (no_member d out)))
 
+-- and the cost of all
 pub shares_cost : (plan : PlanData) (cut : Cut) (p : ℕ → Bool) → ((d : ℕ) → p d ≡ false → is_member plan d (cut d) ≡ false) →
     sum_each share_cost (map (device_share plan cut) (filter p (node_numbers plan)))
     ≡ int_sum_to (length plan.nodes) (λ d. share_cost (device_share plan cut d))
 shares_cost plan cut p no_member =
     sum_each-map share_cost (device_share plan cut) (filter p (node_numbers plan))
-    ∙ sum_each-nodes (cost_of plan cut) p (length plan.nodes)
-    ∙ int_sum_same (length plan.nodes) _ _ (λ d one le. left_out (p d) (cost_of plan cut d) (λ out. cost_of_none plan cut d (no_member d out)))
+    ∙ sum_each-nodes (device_cost plan cut) p (length plan.nodes)
+    ∙ int_sum_same (length plan.nodes) _ _ (λ d one le. left_out (p d) (device_cost plan cut d) (λ out. no_cost plan cut d (no_member d out)))

@@ -2,6 +2,7 @@ pub mod Products
 pub mod AccountSums
 pub mod ShareSums
 pub mod Ticks
+pub mod TickSums
 pub mod Texts
 pub mod NodeSums
 pub mod GroupShares

@@ -12,14 +12,17 @@ use Rattle.pm_offer.specs.Powers.{total_watts}
 use Rattle.pm_bill.specs.Shares.{sum_each}
 use Rattle.pm_bill.proofs.Products.{sum-times}
 
+-- a sum over two lists, one behind the other
 pub sum_each-append : {X : Type 0} (part : X → ℤ) (xs ys : List X) → sum_each part (xs ++ ys) ≡ sum_each part xs +ℤ sum_each part ys
 sum_each-append part [] ys = omega (arith, ints)
 sum_each-append part (x ∷ xs) ys = let rest = sum_each-append part xs ys in omega (arith, ints, rest)
 
+-- a sum over what a function made
 pub sum_each-map : {X Y : Type 0} (part : Y → ℤ) (f : X → Y) (xs : List X) → sum_each part (map f xs) ≡ sum_each (λ x. part (f x)) xs
 sum_each-map part f [] = refl
 sum_each-map part f (x ∷ xs) = ap (λ z. part (f x) +ℤ z) (sum_each-map part f xs)
 
+-- sums of numbers that agree
 pub sum_each-same : {X : Type 0} (f g : X → ℤ) (xs : List X) → ((x : X) → f x ≡ g x) → sum_each f xs ≡ sum_each g xs
 sum_each-same f g [] same = refl
 sum_each-same f g (x ∷ xs) same = ap (λ z. z +ℤ sum_each f xs) (same x) ∙ ap (λ z. g x +ℤ z) (sum_each-same f g xs same)

@@ -17,13 +17,16 @@ abs_within limit z within = omega (arith, ints)
 within_abs : (limit : ℕ) (z : ℤ) → unsigned_abs z ≤ limit → IsWithin limit z
 within_abs limit z small = record { low = omega (arith, ints); high = omega (arith, ints) }
 
+-- a product lies within the product of the limits
 pub product_within : (a b : ℕ) (x y : ℤ) → IsWithin a x → IsWithin b y → IsWithin (a * b) (x *ℤ y)
 product_within a b x y x_within y_within =
     within_abs (a * b) (x *ℤ y) (rw unsigned_abs-mul (mul-le-mul (abs_within a x x_within) (abs_within b y y_within)))
 
+-- a sum lies within the sum of the limits
 pub sum_within : (a b c : ℕ) (x y : ℤ) → a + b ≡ c → IsWithin a x → IsWithin b y → IsWithin c (x +ℤ y)
 sum_within a b c x y is x_within y_within = record { low = omega (arith, ints); high = omega (arith, ints) }
 
+-- products of the same numbers are one
 pub same_product : {x x' y y' : ℤ} → x ≡ x' → y ≡ y' → x *ℤ y ≡ x' *ℤ y'
 same_product {x} {x'} {y} {y'} one other = ap (λ z. z *ℤ y) one ∙ ap (λ z. x' *ℤ z) other
 
@@ -37,6 +40,7 @@ times_sum a b (suc n) =
 sum-times_pos : (a b : ℤ) (n : ℕ) → (a +ℤ b) *ℤ pos n ≡ (a *ℤ pos n) +ℤ (b *ℤ pos n)
 sum-times_pos a b n = omega (arith, ints, times_sum a b n, *ℤ_comm (a +ℤ b) (pos n), *ℤ_comm a (pos n), *ℤ_comm b (pos n))
 
+-- a sum times any number
 pub sum-times : (a b m : ℤ) → (a +ℤ b) *ℤ m ≡ (a *ℤ m) +ℤ (b *ℤ m)
 sum-times a b (pos n) = sum-times_pos a b n
 sum-times a b (negsuc n) =
@@ -46,9 +50,11 @@ sum-times a b (negsuc n) =
 pub minutes_within : (minutes : ℤ) → IsTrue (are_minutes minutes) → IsWithin minutes_limit minutes
 minutes_within minutes are = record { low = grind (arith, ints); high = grind (arith, ints) }
 
+-- a tick has a minute at least
 pub minutes_positive : (minutes : ℤ) → IsTrue (are_minutes minutes) → pos 1 ≤ℤ minutes
 minutes_positive minutes are = grind (arith, ints)
 
+-- the positive part of a number within a limit
 pub positive_part_within : (limit : ℕ) (z : ℤ) → IsWithin limit z → IsWithin limit (positive_part z)
 positive_part_within limit (pos n) within = within
 positive_part_within limit (negsuc n) within = none-within limit
@@ -58,6 +64,7 @@ pub record Costs (price power cost : ℤ) : Type 0 where
   pub computed : to_z w128 (of_z w128 cost) ≡ price *ℤ power
   pub within : IsWithin (price_limit * sum_limit) (price *ℤ power)
 
+-- the cost that the code computes is that of the price and the power
 pub computed_cost : (price power cost : ℤ) → IsWithin price_limit price → IsWithin sum_limit power →
     cost ≡ to_z w64 (of_z w64 price) *ℤ to_z w64 (of_z w64 power) → Costs price power cost
 computed_cost price power cost price_within power_within is =

@@ -19,6 +19,7 @@ use Rattle.pm_bill.specs.declared.share.GroupSum.{GroupSum}
 use Rattle.pm_bill.specs.Accounts.{no_account, account_at, account_sum, account_total, account_of}
 use Rattle.pm_bill.specs.Shares.{sum_each, group_cost, shares_of, account_of_share, account_of_shares, account_of_grid}
 use Rattle.pm_bill.specs.Bills.{BillData, new_bill}
+use Rattle.pm_bill.specs.Ticks.{TickData, IsTicked}
 use Rattle.pm_bill.specs.Runs.{tick_minutes, cut_before, device_share, group_sums, device_gain, grid_gain, node_account, bill_over}
 use Rattle.pm_bill.specs.Charges.{AreCharges}
 use Rattle.pm_bill.proofs.AccountSums.{account_sum_assoc, account_sum-none, none-account_sum}
@@ -26,6 +27,7 @@ use Rattle.pm_bill.proofs.ShareSums.{sum_each-push}
 
 -- ---- tick phases
 
+-- whether a phase is a tick
 abbrev pub is_tick : PlanData → ℕ → Bool
 is_tick plan p = is_some (minutes_of plan p)
 
@@ -47,12 +49,14 @@ pub one_more_tick : (plan : PlanData) (p : ℕ) → 1 ≤ p → is_tick plan p �
 one_more_tick plan p first tick =
     next_phase plan p first ∙ ap (λ more. ticks_to plan (p - 1) ++ more) (cond-true (is_tick plan p) (p ∷ []) [] tick)
 
+-- a phase of events adds none
 pub no_more_tick : (plan : PlanData) (p : ℕ) → 1 ≤ p → is_tick plan p ≡ false → ticks_to plan p ≡ ticks_to plan (p - 1)
 no_more_tick plan p first events =
     next_phase plan p first
     ∙ ap (λ more. ticks_to plan (p - 1) ++ more) (cond-false (is_tick plan p) (p ∷ []) [] events)
     ∙ append-nil (ticks_to plan (p - 1))
 
+-- there are no more tick phases than phases
 pub few_ticks : (plan : PlanData) (k : ℕ) → length (ticks_to plan k) ≤ k
 few_ticks plan k =
     let both = length-filter_both (is_tick plan) (λ p. not (is_tick plan p)) (λ p. refl) (range_with_len 1 k) in
@@ -61,6 +65,7 @@ few_ticks plan k =
 
 -- ---- one more tick phase
 
+-- the sum of accounts and one account more
 pub account_total-push : (accounts : List Account) (account : Account) → account_total (accounts ++ account ∷ []) ≡ account_sum (account_total accounts) account
 account_total-push [] account = account_sum-none account ∙ sym (none-account_sum account)
 account_total-push (first ∷ accounts) account =
@@ -111,14 +116,9 @@ account_of_number f n i inside =
     let long = length-range_with_len 1 n in
     get_or-map f (0 ∷ range_with_len 1 n) i 0 no_account (omega arith) ∙ ap f (number_at n i 0 inside)
 
--- what a tick leaves, where it was charged for phase p
-pub record IsTicked (minutes : ℤ) (shares : List Share) (groups : List GroupSum) (old new : BillData) : Type 0 where
-  pub accounts : (node : ℕ) → account_at new.accounts node ≡ account_sum (account_at old.accounts node) (account_of_shares minutes (shares_of node shares))
-  pub grid : new.grid ≡ account_sum old.grid (account_of_grid minutes shares groups)
-  pub one_each : length new.accounts ≡ length old.accounts
-  pub leaves : new.leaves ≡ old.leaves
-  pub ticks : new.ticks ≡ old.ticks + 1
-  pub minutes_are : new.minutes ≡ old.minutes +ℤ minutes
+-- a tick of these parts
+abbrev pub tick_of : List Share → List GroupSum → ℤ → TickData
+tick_of shares groups minutes = record { shares = shares; groups = groups; minutes = minutes }
 
 abbrev made : List Bool → List Account → Account → ℕ → ℤ → BillData
 made leaves accounts grid ticks minutes = record { leaves = leaves; accounts = accounts; grid = grid; ticks = ticks; minutes = minutes }
@@ -134,7 +134,7 @@ same_bill one other leaves accounts grid ticks minutes =
     ∙ ap (λ it. made other.leaves other.accounts other.grid other.ticks it) minutes
 
 accounts_after : (plan : PlanData) (ticks : List ℕ) (p : ℕ) (minutes : ℤ) (shares : List Share) (groups : List GroupSum) (new : BillData) →
-    minutes_of plan p ≡ Some minutes → AreCharges plan (cut_before plan p) shares groups → IsTicked minutes shares groups (bill_over plan ticks) new →
+    minutes_of plan p ≡ Some minutes → AreCharges plan (cut_before plan p) shares groups → IsTicked (tick_of shares groups minutes) (bill_over plan ticks) new →
     new.accounts ≡ map (node_account plan (ticks ++ p ∷ [])) (0 ∷ node_numbers plan)
 unfolding bill_over
 accounts_after plan ticks p minutes shares groups new some are ticked =
@@ -154,16 +154,16 @@ accounts_after plan ticks p minutes shares groups new some are ticked =
 -- the bill of tick phases after one more tick is that of one phase more
 pub next_bill : (plan : PlanData) (ticks : List ℕ) (p : ℕ) (minutes : ℤ) (shares : List Share) (groups : List GroupSum) (old new : BillData) →
     old ≡ bill_over plan ticks → minutes_of plan p ≡ Some minutes → AreCharges plan (cut_before plan p) shares groups →
-    IsTicked minutes shares groups old new → new ≡ bill_over plan (ticks ++ p ∷ [])
+    IsTicked (tick_of shares groups minutes) old new → new ≡ bill_over plan (ticks ++ p ∷ [])
 unfolding bill_over
 next_bill plan ticks p minutes shares groups old new so_far some are ticked =
-    let from : IsTicked minutes shares groups (bill_over plan ticks) new = subst (λ bill. IsTicked minutes shares groups bill new) so_far ticked in
+    let from : IsTicked (tick_of shares groups minutes) (bill_over plan ticks) new = subst (λ bill. IsTicked (tick_of shares groups minutes) bill new) so_far ticked in
     same_bill new (bill_over plan (ticks ++ p ∷ []))
     from.leaves
     (accounts_after plan ticks p minutes shares groups new some are from)
     (from.grid ∙ grid_gains plan ticks p minutes shares groups some are)
     (from.ticks ∙ sym (length-append ticks (p ∷ [])))
-    (from.minutes_are
+    (from.minutes
     ∙ ap (λ m. sum_each (tick_minutes plan) ticks +ℤ m) (sym (minutes_are plan p minutes some))
     ∙ sym (sum_each-push (tick_minutes plan) ticks p))
 
@@ -177,6 +177,7 @@ none_on_account : (plan : PlanData) (x : ℕ) → node_account plan [] x ≡ no_
 unfolding node_account
 none_on_account plan x = nothing (is_leaf plan x)
 
+-- a bill before its first tick is that of no tick phase
 pub first_bill : (plan : PlanData) → IsPlan plan → new_bill (leaves_of plan.entries) ≡ bill_over plan []
 unfolding bill_over
 first_bill plan is =
@@ -194,10 +195,12 @@ first_bill plan is =
 
 -- ---- parts of the bill of tick phases
 
+-- the devices of such a bill
 pub bill_over-leaves : (plan : PlanData) (ticks : List ℕ) → (bill_over plan ticks).leaves ≡ leaves_of plan.entries
 unfolding bill_over
 bill_over-leaves plan ticks = refl
 
+-- the number of its ticks
 pub bill_over-ticks : (plan : PlanData) (ticks : List ℕ) → (bill_over plan ticks).ticks ≡ length ticks
 unfolding bill_over
 bill_over-ticks plan ticks = refl

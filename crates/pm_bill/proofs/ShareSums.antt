@@ -17,16 +17,19 @@ use Rattle.pm_bill.specs.Shares.{sum_each, share_cost, shares_of, account_of_sha
 use Rattle.pm_bill.proofs.Products.{sum-times}
 use Rattle.pm_bill.proofs.AccountSums.{account_sum_assoc, account_sum-none, none-account_sum, account_sum_within, net_taken-account_sum, net_taken-account_of}
 
+-- a sum over a list and one element more
 pub sum_each-push : {X : Type 0} (part : X → ℤ) (xs : List X) (x : X) → sum_each part (xs ++ x ∷ []) ≡ sum_each part xs +ℤ part x
 sum_each-push part [] x = omega (arith, ints)
 sum_each-push part (y ∷ xs) x = let rest = sum_each-push part xs x in omega (arith, ints, rest)
 
+-- a sum over a list of which one element was exchanged
 pub sum_each-set : {X : Type 0} (part : X → ℤ) (xs : List X) (i : ℕ) (x d : X) → i < length xs →
     sum_each part (set xs i x) ≡ (sum_each part xs -ℤ part (get_or xs i d)) +ℤ part x
 sum_each-set part [] i x d inside = absurd (omega arith)
 sum_each-set part (y ∷ xs) zero x d inside = omega (arith, ints)
 sum_each-set part (y ∷ xs) (suc i) x d inside = let rest = sum_each-set part xs i x d (omega arith) in omega (arith, ints, rest)
 
+-- a sum of nothing, any number of times
 pub sum_each-replicate : {X : Type 0} (part : X → ℤ) (n : ℕ) (x : X) → part x ≡ pos 0 → sum_each part (replicate n x) ≡ pos 0
 sum_each-replicate part zero x none = refl
 sum_each-replicate part (suc n) x none = let rest = sum_each-replicate part n x none in omega (arith, ints, rest, none)
@@ -45,6 +48,7 @@ account_of_shares-push minutes (first ∷ shares) share =
     ap (account_sum (account_of_share minutes first)) (account_of_shares-push minutes shares share)
     ∙ sym (account_sum_assoc (account_of_share minutes first) (account_of_shares minutes shares) (account_of_share minutes share))
 
+-- the account of no share
 pub account_of_shares-none : (minutes : ℤ) → account_of_shares minutes [] ≡ no_account
 unfolding account_of_shares
 account_of_shares-none minutes = refl
@@ -84,12 +88,15 @@ account_wider small big account more within = record {
   given = wider small big account.given more within.given;
 }
 
+-- all of a list of accounts
 pub all_wider : (small big : ℕ) (accounts : List Account) → small ≤ big → All (IsAccountWithin small) accounts → All (IsAccountWithin big) accounts
 all_wider small big accounts more all = λ k d inside. account_wider small big (get_or accounts k d) more (all k d inside)
 
+-- an account without anything lies within any limit
 pub no_account_within : (limit : ℕ) → IsAccountWithin limit no_account
 no_account_within limit = record { amount = none-within limit; taken = none-within limit; given = none-within limit }
 
+-- the account of any number, of a node or not
 pub account_at_within : (limit : ℕ) (accounts : List Account) → All (IsAccountWithin limit) accounts → (node : ℕ) →
     IsAccountWithin limit (account_at accounts node)
 account_at_within limit accounts all node = elim (cases_lt node (length accounts)) [

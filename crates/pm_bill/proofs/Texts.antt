@@ -17,6 +17,7 @@ use Rattle.pm_bill.specs.Bills.{BillData}
 abbrev pub lines_before : PlanData → List Account → ℕ → List ℕ
 lines_before plan accounts count = account_lines plan accounts (filter (is_leaf plan) (range_with_len 1 count))
 
+-- no node has no line
 pub no_lines : (plan : PlanData) (accounts : List Account) → lines_before plan accounts 0 ≡ []
 unfolding account_lines
 no_lines plan accounts = refl
@@ -34,6 +35,7 @@ more_nodes plan count =
     ap (filter (is_leaf plan)) (range_with_len-more 1 count ∙ ap (λ n. range_with_len 1 count ++ n ∷ []) next)
     ∙ filter-append (is_leaf plan) (range_with_len 1 count) ((count + 1) ∷ [])
 
+-- one node more that is a device has a line
 pub one_more_line : (plan : PlanData) (accounts : List Account) (count : ℕ) → is_leaf plan (count + 1) ≡ true →
     lines_before plan accounts (count + 1) ≡ lines_before plan accounts count ++ account_line plan (count + 1) (account_at accounts (count + 1))
 unfolding account_lines
@@ -44,6 +46,7 @@ one_more_line plan accounts count leaf =
     ∙ flat_map-append line (filter (is_leaf plan) (range_with_len 1 count)) ((count + 1) ∷ [])
     ∙ ap (λ more. flat_map line (filter (is_leaf plan) (range_with_len 1 count)) ++ more) (append-nil (line (count + 1)))
 
+-- one node more that is no device has none
 pub no_more_line : (plan : PlanData) (accounts : List Account) (count : ℕ) → is_leaf plan (count + 1) ≡ false →
     lines_before plan accounts (count + 1) ≡ lines_before plan accounts count
 no_more_line plan accounts count leaf =

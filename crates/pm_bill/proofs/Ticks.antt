@@ -85,6 +85,7 @@ pub record MayTick (bill : BillData) (minutes : ℤ) (shares : List Share) (grou
 more_limit : (ticks : ℕ) → ticks * tick_limit + tick_limit ≡ (ticks + 1) * tick_limit
 more_limit ticks = omega arith
 
+-- a tick keeps what the type of a bill keeps
 pub keeps_bill : (bill : BillData) (minutes : ℤ) (shares : List Share) (groups : List GroupSum) (accounts : List Account) → IsBill bill →
     MayTick bill minutes shares groups → AreAdded minutes shares bill.accounts accounts → length accounts ≡ length bill.accounts →
     IsBill (ticked bill minutes shares groups accounts)
@@ -120,6 +121,7 @@ new_bill_is leaves = record {
   grid_within = no_account_within (0 * tick_limit);
 }
 
+-- and so does the bill that is opened
 pub opens_bill : (leaves : List Bool) (accounts : List Account) (grid : Account) → accounts ≡ replicate (length leaves + 1) no_account →
     grid ≡ no_account → IsBill (record { leaves = leaves; accounts = accounts; grid = grid; ticks = 0; minutes = pos 0 })
 opens_bill leaves accounts grid accounts_are grid_is = rw (accounts_are, grid_is) (new_bill_is leaves)

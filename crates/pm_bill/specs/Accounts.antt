@@ -40,10 +40,11 @@ account_of minutes cost power = record {
 abbrev pub net_taken : Account → ℤ
 net_taken account = account.taken -ℤ account.given
 
--- the most that a minute of all groups costs, and a tick
+-- the most that a minute of all groups costs
 abbrev pub cost_limit : ℕ
 cost_limit = (most_nodes + 1) * (price_limit * sum_limit)
 
+-- the most that a tick costs
 abbrev pub tick_limit : ℕ
 tick_limit = cost_limit * minutes_limit
 

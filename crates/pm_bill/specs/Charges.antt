@@ -25,6 +25,7 @@ abbrev pub member_share : PlanData → EndData → MemberLine → Share
 member_share plan end member =
     record { node = member.node; price = price_in_end plan end (group plan member.node); power = member.power }
 
+-- the shares of all members, in the order of the end
 abbrev pub member_shares : PlanData → EndData → List Share
 member_shares plan end = map (member_share plan end) end.members
 

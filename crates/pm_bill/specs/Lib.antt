@@ -1,6 +1,7 @@
 pub mod Accounts
 pub mod Shares
 pub mod Bills
+pub mod Ticks
 pub mod Text
 pub mod Runs
 pub mod Charges

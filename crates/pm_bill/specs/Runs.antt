@@ -34,6 +34,7 @@ abbrev pub device_share : PlanData → Cut → ℕ → Share
 device_share plan cut d =
     record { node = d; price = price_at plan.basis (local plan (state plan) cut d); power = power plan (state plan) cut d }
 
+-- the shares of all devices in file order
 abbrev pub device_shares : PlanData → Cut → List Share
 device_shares plan cut = map (device_share plan cut) (devices plan)
 

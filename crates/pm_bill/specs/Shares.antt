@@ -13,10 +13,11 @@ abbrev pub sum_each : {X : Type 0} → (X → ℤ) → List X → ℤ
 sum_each part [] = pos 0
 sum_each part (x ∷ xs) = part x +ℤ sum_each part xs
 
--- what the power of a device, and of a group, costs a minute
+-- what the power of a device costs a minute
 abbrev pub share_cost : Share → ℤ
 share_cost share = share.price *ℤ share.power
 
+-- what the power of a group costs a minute
 abbrev pub group_cost : GroupSum → ℤ
 group_cost group = group.price *ℤ group.power
 
@@ -24,10 +25,11 @@ group_cost group = group.price *ℤ group.power
 abbrev pub shares_of : ℕ → List Share → List Share
 shares_of node shares = filter (λ share. share.node == node) shares
 
--- the account of a share over so many minutes, and of several shares the sum of theirs
+-- the account of a share over so many minutes
 abbrev pub account_of_share : ℤ → Share → Account
 account_of_share minutes share = account_of minutes (share_cost share) share.power
 
+-- the account of shares: the sum of theirs
 unfoldable pub account_of_shares : ℤ → List Share → Account
 account_of_shares minutes shares = account_total (map (account_of_share minutes) shares)
 

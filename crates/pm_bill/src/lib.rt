@@ -7,13 +7,14 @@
 //! are in price units times watts times minutes, in 128 bits.
 //!
 //! The definitions stand in `specs/`: `Accounts` (what a power comes to), `Shares` (a tick's shares and groups), `Bills`
-//! (the accounts of all), `Text`, `Runs` (the bill of a run, from its plan alone), `Charges` (what a phase's end says of
-//! the tick after it). Bills are this project's own profile.
+//! (the accounts of all), `Ticks` (the ticks that a bill took), `Text`, `Runs` (the bill of a run, from its plan alone),
+//! `Charges` (what a phase's end says of the tick after it). Bills are this project's own profile.
 #![tactic(auto)]
 
 mod account;
 mod bill;
 mod charges;
+mod law;
 mod run;
 mod share;
 mod sums;
@@ -23,5 +24,6 @@ mod text;
 
 pub use account::Account;
 pub use bill::Bill;
+pub use law::accounts_are_sums;
 pub use run::bill_of_run;
 pub use share::{GroupSum, Share};

@@ -69,7 +69,7 @@ loop-phase-preserved c =
             one_each = w.tick.ensures.one_each;
             leaves = w.tick.ensures.leaves;
             ticks = w.tick.ensures.ticks;
-            minutes_are = w.tick.ensures.minutes;
+            minutes = w.tick.ensures.minutes;
           })
           ∙ ap (bill_over plan) (sym (one_more_tick plan p first tick)))
       | in_default w ↦

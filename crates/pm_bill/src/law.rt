@@ -1,0 +1,20 @@
+ghost use Rattle.std.specs.Prelude.{◌≡◌, ℕ, Bool, List, length, map};
+ghost use Rattle.pm_bill.specs.Accounts.{account_at, account_total};
+ghost use Rattle.pm_bill.specs.Shares.{shares_of, sum_each, account_of_shares, account_of_grid};
+ghost use Rattle.pm_bill.specs.Bills.{BillData};
+ghost use Rattle.pm_bill.specs.Ticks.{TickData, IsAfterTicks};
+
+/// A law: after any list of ticks, each of which does to the bill what [`crate::Bill::tick`] does, the account of each node
+/// is the sum of its shares, that of the grid the sum of what it is due, and the bill tells how many ticks and how many
+/// minutes there were.
+#[tactic(auto, using(crate::proofs::TickSums::account_is, crate::proofs::TickSums::grid_is, crate::proofs::TickSums::tick_count, crate::proofs::TickSums::all_minutes))]
+pub fn accounts_are_sums()
+    ensures account { (leaves : List Bool) (ticks : List TickData) (bill : BillData) (node : ℕ) → IsAfterTicks leaves ticks bill →
+        account_at bill.accounts node ≡ account_total (map (λ tick. account_of_shares tick.minutes (shares_of node tick.shares)) ticks) }
+    ensures grid { (leaves : List Bool) (ticks : List TickData) (bill : BillData) → IsAfterTicks leaves ticks bill →
+        bill.grid ≡ account_total (map (λ tick. account_of_grid tick.minutes tick.shares tick.groups) ticks) }
+    ensures count { (leaves : List Bool) (ticks : List TickData) (bill : BillData) → IsAfterTicks leaves ticks bill →
+        bill.ticks ≡ length ticks }
+    ensures minutes { (leaves : List Bool) (ticks : List TickData) (bill : BillData) → IsAfterTicks leaves ticks bill →
+        bill.minutes ≡ sum_each (λ tick. tick.minutes) ticks }
+{}
