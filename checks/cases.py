@@ -2,7 +2,7 @@
 """Runs each of the named programs on the cases, and compares what it writes and its exit status.
 
 A case is a list of arguments, a standard input, the text due and the status due. checks/README.md says how the files of
-checks/cases make one. Here stand the cases whose input is large, or that have no file at all.
+checks/cases and examples make one. Here stand the cases whose input is large, or that have no file at all.
 """
 
 import os
@@ -13,6 +13,9 @@ from pathlib import Path
 
 TOP = Path(__file__).resolve().parent.parent
 CASES = TOP / "checks" / "cases"
+EXAMPLES = TOP / "examples"
+# The text of each command on the example NAME.json stands beside it, under NAME with this ending.
+TEXTS = {"run": ".txt"}
 LIMIT = 4_194_304
 
 DONE, USAGE, READ_FAULT, TOO_LONG, REFUSED, WRITE_FAULT = 0, 2, 3, 4, 5, 6
@@ -88,12 +91,18 @@ def stored_case(folder, name):
 
     if (folder / f"{name}.json").is_file():
         stdin = folder / f"{name}.json"
-    elif (folder / f"{name}.input").is_file():
-        stdin = TOP / (folder / f"{name}.input").read_text().strip()
     else:
         stdin = folder
     arguments = text_of("args", b"run\n").decode().splitlines()
     return Case(f"{folder.name}/{name}", arguments, stdin, text_of("stdout", b""), int(text_of("status", b"0")))
+
+
+def examples():
+    """Each example with each command: each has to have its text."""
+    for file in sorted(EXAMPLES.glob("*.json")):
+        for command, ending in TEXTS.items():
+            text = file.with_suffix(ending).read_bytes()
+            yield Case(f"{command} of examples/{file.name}", [command], file, text, DONE)
 
 
 def file_of(name):
@@ -156,8 +165,7 @@ def large_files():
 
 def first_phases():
     """The village over its first two phases alone."""
-    file = (TOP / "examples" / "village.json").read_text()
-    text = (CASES / "run" / "example_village.stdout").read_text()
+    file, text = ((EXAMPLES / it).read_text() for it in ("village.json", "village.txt"))
     yield run_of(
         "the village's first two phases",
         file[: file.index(',\n{"events":[{"state":')] + "]}",
@@ -191,6 +199,7 @@ def faults():
 
 def cases(program):
     yield from stored_cases()
+    yield from examples()
     yield from first_phases()
     yield from cut_files()
     yield from large_files()
