@@ -156,7 +156,9 @@ def large_files():
     empty = '{"events":[]}'
     ends = "".join(nobody.format(number) for number in range(1, 1_001))
     yield run_of("1,000 phases", changed(file, phase, ",".join([empty] * 1_000)), f"{ends}end phases 1000 changes 0\n")
-    yield refused("1,001 phases", changed(file, phase, ",".join([empty] * 1_001)), "20 document")
+    many = changed(file, phase, ",".join([empty] * 1_001))
+    yield refused("1,001 phases", many, "20 document")
+    yield refused("1,001 phases before a start that does not fit", changed(many, '"start":100', '"start":-1'), "20 document")
 
     file, text = file_of("two_bids")
     yield run_of("4,194,304 bytes", file.ljust(LIMIT), text)
