@@ -1,6 +1,6 @@
 #!/usr/bin/env python3
-"""Whether cluster.schema.json agrees with the program: each file that has a plan passes it, and each file that is refused for
-its shape or for a number in it fails it, but for those of BEYOND. The files are those of examples/ and checks/cases."""
+"""Whether cluster.schema.json agrees with the program: each file that has a plan passes it, and each file that is refused
+for its shape or for a number in it fails it, but for those of BEYOND. The files are those of examples/ and checks/cases."""
 
 import json
 import re
