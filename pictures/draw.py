@@ -151,8 +151,10 @@ def draw_powers(axes, file, name, ends, looks, title):
 
 
 def draw(file, ends, phase, picture):
-    import matplotlib
-
+    try:
+        import matplotlib
+    except ImportError:
+        raise SystemExit("draw.py: Python's matplotlib is not installed; on Debian: apt-get install python3-matplotlib") from None
     matplotlib.use("Agg")
     matplotlib.rcParams.update({"svg.hashsalt": "market", "hatch.linewidth": 0.5, "axes.titlesize": 10, "axes.labelsize": 9,
                                 "xtick.labelsize": 9, "ytick.labelsize": 9})
