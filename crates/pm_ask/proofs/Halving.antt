@@ -1,0 +1,66 @@
+-- A search by halving: which steps are left, and how many looks are enough for them.
+use Rattle.std.proofs.Common.{◌≡◌, ℕ, zero, suc, ◌+◌, ◌*◌, ◌^◌, ◌<◌, ◌≤◌, ℤ, ◌≤ℤ◌, List, length, arith}
+use Rattle.std.specs.Prelude.{◌<ℤ◌}
+use Rattle.pm_bid.specs.Bids.{demand_at, NeverRises}
+use Rattle.pm_ask.proofs.Targets.{Meets, above_before}
+
+-- the step of the target is not before `low` and not after `high`
+pub record IsBetween (total : List ℤ) (target : ℤ) (low high : ℕ) : Type 0 where
+  pub order : low ≤ high
+  pub inside : high < length total
+  pub above : (earlier : ℕ) → earlier < low → target <ℤ demand_at total earlier
+  pub met : high + 1 < length total → demand_at total high ≤ℤ target
+
+pub between_all : (total : List ℤ) (target : ℤ) (last : ℕ) → last + 1 ≡ length total → IsBetween total target 0 last
+between_all total target last is = record {
+  order = omega arith;
+  inside = omega arith;
+  above = λ earlier h. absurd (omega arith);
+  met = λ h. absurd (omega arith);
+}
+
+pub between_lower : (total : List ℤ) (target : ℤ) (low high middle : ℕ) → IsBetween total target low high → low ≤ middle → middle < high
+    → demand_at total middle ≤ℤ target → IsBetween total target low middle
+between_lower total target low high middle between from to met = record {
+  order = from;
+  inside = omega (arith, between.inside);
+  above = between.above;
+  met = λ h. met;
+}
+
+pub between_upper : (total : List ℤ) (target : ℤ) (low high middle : ℕ) → NeverRises total → IsBetween total target low high → low ≤ middle → middle < high
+    → target <ℤ demand_at total middle → IsBetween total target (middle + 1) high
+between_upper total target low high middle falls between from to above = record {
+  order = omega arith;
+  inside = between.inside;
+  above = λ earlier h. above_before total target middle earlier falls (omega (arith, between.inside)) (omega arith) above;
+  met = between.met;
+}
+
+pub between_one : (total : List ℤ) (target : ℤ) (low high : ℕ) → IsBetween total target low high → high ≤ low → Meets total target low
+between_one total target low high between one =
+    let same : high ≡ low = omega (arith, between.order) in
+    record {
+      inside = omega (arith, between.inside);
+      before = between.above;
+      met = rw (← same) between.met;
+    }
+
+-- for each number of looks that is enough for so many steps, some are left that are enough for a gap between two steps
+abbrev pub LooksLeft : ℕ → ℕ → ℕ → ℕ → Type 0
+LooksLeft steps start counter gap =
+    (n : ℕ) → steps ≤ 2 ^ n → (left : ℕ) × ((counter + left ≤ start + n) × (gap < 2 ^ left))
+
+pub looks_all : (steps start gap : ℕ) → gap < steps → LooksLeft steps start start gap
+looks_all steps start gap less = λ n enough. (n, (omega arith, omega arith))
+
+half_left : (counter next bound gap half left : ℕ) → next ≡ counter + 1 → 1 ≤ gap → 2 * half ≤ gap → counter + left ≤ bound → gap < 2 ^ left
+    → (after : ℕ) × ((next + after ≤ bound) × (half < 2 ^ after))
+half_left counter next bound gap half zero more some less in_bound enough = absurd (omega arith)
+half_left counter next bound gap half (suc left) more some less in_bound enough = (left, (omega arith, omega arith))
+
+-- a look halves the gap
+pub looks_half : (steps start counter next gap half : ℕ) → next ≡ counter + 1 → 1 ≤ gap → 2 * half ≤ gap → LooksLeft steps start counter gap
+    → LooksLeft steps start next half
+looks_half steps start counter next gap half more some less looks =
+    λ n enough. let before = looks n enough in half_left counter next (start + n) gap half before.0 more some less before.1.0 before.1.1
