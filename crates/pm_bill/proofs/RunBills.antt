@@ -157,7 +157,8 @@ pub next_bill : (plan : PlanData) (ticks : List ℕ) (p : ℕ) (minutes : ℤ) (
     IsTicked (tick_of shares groups minutes) old new → new ≡ bill_over plan (ticks ++ p ∷ [])
 unfolding bill_over
 next_bill plan ticks p minutes shares groups old new so_far some are ticked =
-    let from : IsTicked (tick_of shares groups minutes) (bill_over plan ticks) new = subst (λ bill. IsTicked (tick_of shares groups minutes) bill new) so_far ticked in
+    let from : IsTicked (tick_of shares groups minutes) (bill_over plan ticks) new =
+    subst (λ bill. IsTicked (tick_of shares groups minutes) bill new) so_far ticked in
     same_bill new (bill_over plan (ticks ++ p ∷ []))
     from.leaves
     (accounts_after plan ticks p minutes shares groups new some are from)

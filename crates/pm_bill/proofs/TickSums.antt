@@ -1,5 +1,5 @@
 -- After ticks each account is the sum of what each tick added to it.
-use Rattle.std.proofs.Common.{◌≡◌, ◌∙◌, ap, ℕ, ◌+◌, ◌+ℤ◌, List, [], ◌∷◌, length, map, arith, Bool}
+use Rattle.std.proofs.Common.{◌≡◌, ◌∙◌, ap, ℕ, ◌+◌, List, [], ◌∷◌, length, map, arith, Bool}
 use Rattle.std.proofs.lemmas.Int.{ints}
 use Rattle.pm_base.proofs.Lists.{get_or-replicate_same}
 use Rattle.pm_bill.specs.declared.account.Account.{Account}

@@ -1,5 +1,4 @@
 ghost use Rattle.std.specs.Prelude.{◌≡◌, ◌==◌, ◌≤◌, ◌<◌, [], All, IfOk, find, length};
-ghost use Rattle.pm_base.specs.Limits.{most_nodes, demand_limit, IsWithin};
 ghost use Rattle.pm_plan.specs.Plans.{group, phases};
 ghost use Rattle.pm_plan.specs.Kept.{IsPlan};
 ghost use Rattle.pm_plan.specs.States.{all_ends};
