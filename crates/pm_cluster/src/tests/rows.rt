@@ -138,6 +138,21 @@ const FORMER_PRICE: [Row; 9] = [
     Row::Holds(1, Some((9, 3, 2))),
 ];
 
+/// A device that leaves gives up the price that it holds, and its next join does not bring it back.
+const LEFT: [Row; 11] = [
+    JOIN_1,
+    LEARN_1,
+    CLEAR_1,
+    Row::Makes(Act::Pass { node: 1 }, 1, Some((9, 1))),
+    Row::Holds(1, Some((9, 1, 1))),
+    Row::Makes(Act::Change { device: 1 }, 2, None),
+    Row::Holds(1, None),
+    Row::Makes(Act::Change { device: 1 }, 3, None),
+    Row::Holds(1, None),
+    Row::Rest,
+    Row::Holds(1, Some((9, 3, 2))),
+];
+
 const NEWEST_BID: [Row; 4] = [
     JOIN_1,
     Row::Makes(Act::Change { device: 1 }, 2, None),
@@ -163,10 +178,11 @@ const OLD_NUMBERS: [Row; 13] = [
 ];
 
 /// What each script shows, its file and its rows.
-const SCRIPTS: [(&str, &str, &[Row]); 5] = [
+const SCRIPTS: [(&str, &str, &[Row]); 6] = [
     ("a lone load", LONE, &LONE_LOAD),
     ("two clearings", TWO_BIDS, &TWO_CLEARINGS),
     ("a price of a former membership", REJOINS, &FORMER_PRICE),
+    ("a price that is given up", REJOINS, &LEFT),
     ("the newest waiting bid", REJOINS, &NEWEST_BID),
     ("a later price for an old number", BESIDE, &OLD_NUMBERS),
 ];
