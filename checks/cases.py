@@ -11,12 +11,18 @@ import sys
 from dataclasses import dataclass
 from pathlib import Path
 
+from accounts import bill_of
+from targets import answers_of, envelope
+
 TOP = Path(__file__).resolve().parent.parent
 CASES = TOP / "checks" / "cases"
 EXAMPLES = TOP / "examples"
 # The text of each command on the example NAME.json stands beside it, under NAME with this ending.
 TEXTS = {"run": ".txt"}
 LIMIT = 4_194_304
+ASK_LIMIT = 8_388_608
+# Targets that each file is asked for, in watts.
+TARGETS = [0, 1, -1, 100, -60, 2500, -2500, 1_000_000_000, -1_000_000_000]
 
 DONE, USAGE, READ_FAULT, TOO_LONG, REFUSED, WRITE_FAULT = 0, 2, 3, 4, 5, 6
 
@@ -182,6 +188,52 @@ def demos(program):
     yield Case("demo 200 7", ["demo", "200", "7"], CASES, lambda it: it.startswith(front) and it == first, DONE)
 
 
+def with_reports():
+    """The examples and the files of checks/cases/run, each with its report."""
+    for folder, ending in ((EXAMPLES, ".txt"), (CASES / "run", ".stdout")):
+        for file in sorted(folder.glob("*.json")):
+            yield file.name, file.read_text(), file.with_suffix(ending).read_text()
+
+
+def bills_and_answers():
+    """Of each file that has a report, the bill that follows from it, and what its bids answer to targets."""
+    text = "".join(f"{target}\n" for target in TARGETS)
+    for name, file, report in with_reports():
+        yield Case(f"bill of {name}", ["bill"], file.encode(), bill_of(file, report).encode(), DONE)
+        yield Case(f"ask of {name}", ["ask"], envelope(file, text), answers_of(file, TARGETS).encode(), DONE)
+
+
+def asked():
+    """Envelopes and lists of targets, and what is wrong with them."""
+    file = next(file_of("two_bids"))
+    curve = "curve step 0 price 0 from 100 to high\ncurve step 4 price 4 from -50 to 99\ncurve step 9 price 9 from low to -51\n"
+
+    def ask(name, stdin, text, status):
+        return Case(f"ask, {name}", ["ask"], stdin, text.encode(), status)
+
+    answers = "target 0 price 4 step 4 total -50\ntarget 100 price 0 step 0 total 0\ntarget -60 price 9 step 9 total 10\n"
+    yield ask("three targets", envelope(file, "0\n100\n-60\n"), curve + answers, DONE)
+    yield ask("no target", envelope(file, ""), curve, DONE)
+    lines = {"5\n05\n": 2, "-0\n": 1, "5": 1, "5\n\n": 2, "+5\n": 1, "5 \n": 1, "1000000001\n": 1, "0\n-1000000001\n": 2, "1\r\n": 1}
+    for rest, line in lines.items():
+        yield ask(f"targets {rest!r}", envelope(file, rest), f"refused 25 line {line}\n", REFUSED)
+    many = "7\n" * 100_000
+    yield ask("100,000 targets", envelope(file, many), curve + "target 7 price 4 step 4 total -57\n" * 100_000, DONE)
+    yield ask("100,001 targets", envelope(file, many + "7\n"), "refused 25 line 100001\n", REFUSED)
+
+    size, body = len(file.encode()), file.encode()
+    headers = [b"", b"%d" % size, b"0%d\n" % size, b"+%d\n" % size, b"%d\n" % (size + 1), b"%d\r\n" % size, b"4194305\n", b"\n"]
+    for header in headers:
+        yield ask(f"a first line {header!r}", header + body, "refused 23 document\n", REFUSED)
+    yield ask("an empty file", b"0\n", "refused 1 document\n", REFUSED)
+    yield ask("a file that is refused", envelope('{"version":1}', "05\n"), "refused 3 document\n", REFUSED)
+    padded = file.ljust(LIMIT)
+    yield ask("a file of 4,194,304 bytes", envelope(padded, "0\n"), curve + answers.splitlines(True)[0], DONE)
+    longest = envelope(file, "").ljust(ASK_LIMIT, b"0")
+    yield ask("8,388,608 bytes", longest, "refused 25 line 1\n", REFUSED)
+    yield ask("8,388,609 bytes", longest + b"0", f"too long, more than {ASK_LIMIT} bytes\n", TOO_LONG)
+
+
 def faults():
     """Standard input that cannot be read, and standard output that takes nothing."""
     file = next(file_of("two_bids")).encode()
@@ -206,6 +258,8 @@ def cases(program):
     yield from cut_files()
     yield from large_files()
     yield from demos(program)
+    yield from bills_and_answers()
+    yield from asked()
     yield from faults()
 
 

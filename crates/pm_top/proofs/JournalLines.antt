@@ -1,13 +1,11 @@
 -- Each line of a legal journal is a line of a run: it names nodes and steps of the plan, only a device that a price is
 -- passed to holds one, and its numbers have 32 bits.
-use Rattle.std.proofs.Common.{◌≡◌, ◌∙◌, sym, ap, subst, refl, ℕ, ◌+◌, ◌*◌, ◌<◌, ◌≤◌, ◌^◌, Bool, true, false, List, [], ◌∷◌, ◌++◌, length, cond, arith, mul-le-mul, inl, inr}
+use Rattle.std.proofs.Common.{◌≡◌, ◌∙◌, sym, ap, subst, refl, ℕ, ◌+◌, ◌<◌, ◌≤◌, ◌^◌, Bool, true, false, List, [], ◌∷◌, ◌++◌, length, cond, arith, mul-le-mul, inl, inr}
 use Rattle.std.specs.Prelude.{All, Option, Some, None, IfSome}
-use Rattle.std.specs.List.{Contains}
-use Rattle.std.proofs.lemmas.Bool.{cases_Bool, cond-true, cond-false, false≢true}
+use Rattle.std.proofs.lemmas.Bool.{cases_Bool, cond-true, cond-false}
 use Rattle.std.proofs.lemmas.List.Elements.{All-nil, All-cons}
 use Rattle.pm_base.specs.Limits.{most_changes}
 use Rattle.pm_market.specs.Lists.{Lists, nodes, parent, is_leaf, IsNode, IsLeaf, Lawful}
-use Rattle.pm_market.specs.Lists as market
 use Rattle.pm_market.specs.State.{State, start, newest, number, last, last_of, clearings, cleared}
 use Rattle.pm_market.specs.Moves.{Legal, Reached, step, LegalFrom}
 use Rattle.pm_market.specs.Bound.{bound, change_total}
@@ -23,7 +21,7 @@ use Rattle.pm_laws.proofs.Facts.{last_push}
 use Rattle.pm_laws.proofs.Bound.{counted_bound, newest_small}
 use Rattle.pm_laws.proofs.Kept.{sound_start, sound_step}
 use Rattle.pm_laws.proofs.Numbers.{cleared_is_part}
-use Rattle.pm_plan.specs.Plans.{PlanData, phases, all_changes}
+use Rattle.pm_plan.specs.Plans.{PlanData, all_changes}
 use Rattle.pm_plan.specs.Kept.{IsPlan}
 use Rattle.pm_plan.specs.Market.{plan_lists}
 use Rattle.pm_plan.proofs.MarketLists.{lawful, bound-is, phases-is, is_leaf-is}

@@ -1,3 +1,4 @@
 pub mod Arguments
 pub mod Codes
+pub mod Inputs
 pub mod Top

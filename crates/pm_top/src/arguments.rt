@@ -3,13 +3,17 @@ ghost use Rattle.std.specs.List.{list_all};
 ghost use Rattle.std.specs.Char.{is_ascii_digit};
 ghost use Rattle.pm_top.specs.Arguments.{command, file_of, demo_of, is_number, number_within, value_up_to};
 
-/// The text that is asked for of a cluster file.
+/// The text that is asked for of an input, which is a cluster file, or for `Ask` an envelope of one with targets behind it.
 #[derive(Clone, Copy, Debug, PartialEq, Eq)]
 pub(crate) enum FileCommand {
     /// The report of its phases.
     Run,
     /// The report, and the moves of the run.
     Trace,
+    /// What the devices and the grid pay over the ticks of its run.
+    Bill,
+    /// At which price the cluster would take or deliver so much more, for each of a list of targets.
+    Ask,
 }
 
 /// What the program is asked to do.
@@ -43,6 +47,10 @@ fn file_of(argument: &str) -> Option<Command>
         Some(Command::File(FileCommand::Run))
     } else if argument == "trace" {
         Some(Command::File(FileCommand::Trace))
+    } else if argument == "bill" {
+        Some(Command::File(FileCommand::Bill))
+    } else if argument == "ask" {
+        Some(Command::File(FileCommand::Ask))
     } else {
         None
     }

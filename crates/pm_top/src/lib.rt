@@ -6,6 +6,7 @@
 //! comes and exactly which bytes are appended.
 #![tactic(auto)]
 
+mod answer;
 mod arguments;
 mod law;
 mod status;

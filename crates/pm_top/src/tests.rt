@@ -8,6 +8,7 @@ use std::thread::Threads;
 
 mod driven;
 mod meeting;
+mod village;
 
 /// A manual load of 100 watts, and a manual generator of 150 watts from price 4 on.
 const TWO_BIDS: &str =
@@ -17,7 +18,8 @@ const TWO_BIDS: &str =
 const TWO_BIDS_TEXT: &str =
     "phase 1 price 4 step 4 total -50 members 2\nmember load1 power 100 bid 1\nmember gen1 power -150 bid 1\nend phases 1 changes 2\n";
 
-const USAGE: &str = "usage: market run | market trace | market demo SIZE NUMBER\n";
+const USAGE: &str =
+    "usage: market run | market trace | market demo SIZE NUMBER | market bill | market ask\n";
 
 const REFUSED: &str = "refused 1 document\n";
 

@@ -1,13 +1,15 @@
 ghost use Rattle.std.specs.Prelude.{◌≡◌, ◌≤◌, All, IfOk, length};
-ghost use Rattle.pm_base.specs.Limits.{most_phases};
+ghost use Rattle.pm_base.specs.Limits.{most_phases, IsWithin, demand_limit};
 ghost use Rattle.pm_plan.specs.Plans.{phases};
 ghost use Rattle.pm_plan.specs.States.{all_ends};
 ghost use Rattle.pm_report.specs.Report.{IsEndOf, ends_of};
 ghost use Rattle.pm_report.specs.Trace.{IsLineOf};
 ghost use Rattle.pm_report.specs.Summary.{summary_text};
-ghost use Rattle.pm_top.specs.Top.{IsTextOf, IsCompleteJournal, IsSummary};
+ghost use Rattle.pm_top.specs.Top.{last_total, IsTextOf, IsCompleteJournal, IsSummary};
 
 use crate::arguments::FileCommand;
+use pm_ask::{Curve, CurveFault, ask_text};
+use pm_bill::bill_of_run;
 use pm_gen::{GenFault, make_plan};
 use pm_market::Journal;
 use pm_plan::{PhaseEnd, Plan};
@@ -37,22 +39,55 @@ fn run<R: Threads + Wait + Sync, G: Gate>(
     Ok((journal, ends))
 }
 
-/// The text that is asked for of a plan: the report of its phases' ends, and behind it, for a trace, the lines of the run's
-/// journal.
+/// The total at the end of a run of a plan, to be asked for targets.
+fn last_curve<R: Threads + Wait + Sync, G: Gate>(
+    rt: &R,
+    alloc: Global,
+    plan: &Plan,
+    gate: &G,
+) -> Result<Curve, AllocError>
+    ensures { IfOk result (λ curve. curve ≡ last_total plan.now) }
+{
+    let _basis = plan.basis();
+    let board = settle(rt, alloc, plan, gate)?;
+    match Curve::new(alloc, board.aggregate()) {
+        Ok(curve) => Ok(curve),
+        Err(CurveFault::NoMemory) => Err(AllocError),
+        Err(CurveFault::Rising { .. }) => unreachable!(),
+    }
+}
+
+/// The text that is asked for of a plan: the report of its phases' ends; behind it, for a trace, the lines of the run's
+/// journal; the bill of the run; or what its last total answers to targets in watts.
 #[tactic(auto, unfolding(crate::specs::Top::report_of))]
 pub(crate) fn text_of<R: Threads + Wait + Sync, G: Gate>(
     rt: &R,
     alloc: Global,
     asked: FileCommand,
     plan: &Plan,
+    targets: &[i64],
     gate: &G,
 ) -> Result<Vec<u8>, AllocError>
-    ensures { IfOk result (λ text. IsTextOf asked plan.now text.items) }
+    requires { All (IsWithin demand_limit) targets.now }
+    ensures { IfOk result (λ text. IsTextOf asked plan.now targets.now text.items) }
 {
-    let (journal, ends) = run(rt, alloc, plan, gate)?;
     match asked {
-        FileCommand::Run => report_text(alloc, plan, &ends),
-        FileCommand::Trace => trace_text(alloc, plan, &ends, &journal),
+        FileCommand::Run => {
+            let (_journal, ends) = run(rt, alloc, plan, gate)?;
+            report_text(alloc, plan, &ends)
+        }
+        FileCommand::Trace => {
+            let (journal, ends) = run(rt, alloc, plan, gate)?;
+            trace_text(alloc, plan, &ends, &journal)
+        }
+        FileCommand::Bill => {
+            let (_journal, ends) = run(rt, alloc, plan, gate)?;
+            bill_of_run(alloc, plan, &ends)?.text(plan)
+        }
+        FileCommand::Ask => {
+            let curve = last_curve(rt, alloc, plan, gate)?;
+            ask_text(alloc, plan.basis(), &curve, targets)
+        }
     }
 }
 

@@ -3,7 +3,7 @@
 use pm_cluster::{ActFault, Cluster};
 use pm_gen::make_plan;
 use pm_market::Act;
-use pm_plan::PhaseEnd;
+use pm_plan::{PhaseEnd, Plan};
 use pm_walk::all_ends;
 use std::alloc::Global;
 use std::test::Fail;
@@ -99,19 +99,29 @@ fn ends_so(alloc: Global, cluster: &Cluster, due: &PhaseEnd) -> Result<bool, Fai
     Ok(are_alike(&cluster.phase_end(alloc)?, due))
 }
 
-/// How many phases of a demo cluster end as those of the plain program, up to the first that does not.
-fn count_alike(alloc: Global, size: u32, number: u32) -> Result<usize, Fail> {
-    let plan = make_plan(alloc, size, number)?;
-    let mut draws = Draws { state: number };
-    let mut cluster = Cluster::open(alloc, &plan)?;
-    let ends = all_ends(alloc, &plan)?;
+/// How many phases end as they should, up to the first that does not.
+fn count_right(
+    alloc: Global,
+    plan: &Plan,
+    ends: &[PhaseEnd],
+    draws: &mut Draws,
+) -> Result<usize, Fail> {
+    let mut cluster = Cluster::open(alloc, plan)?;
     for (place, due) in ends.iter().enumerate() {
-        settle(alloc, &mut cluster, &mut draws)?;
+        settle(alloc, &mut cluster, draws)?;
         if !ends_so(alloc, &cluster, due)? || !is_made(alloc, &mut cluster, Act::Close)? {
             return Ok(place);
         }
     }
     Ok(ends.len())
+}
+
+/// How many phases of a demo cluster end as those of the plain program, up to the first that does not.
+fn count_alike(alloc: Global, size: u32, number: u32) -> Result<usize, Fail> {
+    let plan = make_plan(alloc, size, number)?;
+    let ends = all_ends(alloc, &plan)?;
+    let mut draws = Draws { state: number };
+    count_right(alloc, &plan, &ends, &mut draws)
 }
 
 /// A demo cluster has 21 phases.

@@ -15,7 +15,7 @@ const LOOKS: u32 = 20_000_000;
 
 /// The first line of node 1 waits until that of node 2 has begun, and the other way round. It keeps every line.
 #[derive(Drop)]
-struct MeetingGate<'r, R: Wait> {
+pub(super) struct MeetingGate<'r, R: Wait> {
     rt: &'r R,
     first: AtomicU64,
     second: AtomicU64,
@@ -24,7 +24,7 @@ struct MeetingGate<'r, R: Wait> {
 }
 
 impl<'r, R: Wait> MeetingGate<'r, R> {
-    fn new(rt: &'r R, alloc: Global) -> MeetingGate<'r, R> {
+    pub(super) fn new(rt: &'r R, alloc: Global) -> MeetingGate<'r, R> {
         MeetingGate {
             rt,
             first: AtomicU64::new(0),
@@ -32,6 +32,11 @@ impl<'r, R: Wait> MeetingGate<'r, R> {
             met: AtomicU64::new(0),
             lines: Mutex::new(Vec::new(alloc)),
         }
+    }
+
+    /// How many of the two found that the other has begun.
+    pub(super) fn met(&self) -> u64 {
+        self.met.load(Ordering::SeqCst)
     }
 
     fn meet(&self, me: &AtomicU64, other: &AtomicU64) {
@@ -97,17 +102,18 @@ fn trace_line(alloc: Global, line: Line) -> Result<String, Fail> {
 }
 
 /// What a call answers under a gate, and what the sink then holds.
-fn ran<R: thread::Threads + Wait + Sync>(
+pub(super) fn ran<R: thread::Threads + Wait + Sync, G: Gate>(
     rt: &R,
     alloc: Global,
     line: &str,
-    gate: &MeetingGate<'_, R>,
+    input: &str,
+    gate: &G,
 ) -> Result<(Status, String), Fail> {
     let mut arguments = Vec::new(alloc);
     for argument in line.split_whitespace() {
         arguments.push(String::from_str(alloc, argument)?)?;
     }
-    let input = super::TWO_BIDS.as_bytes().to_vec(alloc)?;
+    let input = input.as_bytes().to_vec(alloc)?;
     let mut source = MemSource::new(input, 100, Vec::new(alloc));
     let mut sink = MemSink::new(alloc, 1_048_576, 50, Vec::new(alloc))?;
     let status = market(rt, alloc, &arguments, &mut source, &mut sink, gate);
@@ -125,14 +131,37 @@ fn are_told(alloc: Global, moves: &str, told: &[Line]) -> Result<bool, Fail> {
     Ok(right)
 }
 
+/// The file of the two manual bids, and an hour behind its only phase.
+fn with_an_hour(alloc: Global) -> Result<String, Fail> {
+    let file = super::TWO_BIDS.strip_suffix("]}").ok_or("no phases")?;
+    Ok(format!(in alloc; "{file},{{\"tick\":60}}]}}")?)
+}
+
+/// The file in an envelope, with three targets behind it.
+fn with_targets(alloc: Global) -> Result<String, Fail> {
+    let file = super::TWO_BIDS;
+    let length = file.len();
+    Ok(format!(in alloc; "{length}\n{file}0\n100\n-60\n")?)
+}
+
+/// The input of a command, over the two manual bids.
+fn input_of(alloc: Global, line: &str) -> Result<String, Fail> {
+    match line {
+        "bill" => with_an_hour(alloc),
+        "ask" => with_targets(alloc),
+        _ => Ok(String::from_str(alloc, super::TWO_BIDS)?),
+    }
+}
+
 /// Under each command the two nodes meet, and the moves that a trace prints are those that were told.
 #[test]
 fn two_nodes_meet(rt: HostRuntime) -> Result<(), Fail> {
-    for line in ["run", "trace", "demo 2 7"] {
+    for line in ["run", "trace", "demo 2 7", "bill", "ask"] {
         let gate = MeetingGate::new(&rt, rt.alloc());
-        let (status, text) = ran(&rt, rt.alloc(), line, &gate)?;
+        let input = input_of(rt.alloc(), line)?;
+        let (status, text) = ran(&rt, rt.alloc(), line, &input, &gate)?;
         assert_eq!(rt; status, Status::Done, "at {line}");
-        assert_eq!(rt; gate.met.load(Ordering::SeqCst), 2, "at {line}");
+        assert_eq!(rt; gate.met(), 2, "at {line}");
         if line == "trace" {
             let told = gate.lines.into_inner();
             let moves = text.strip_prefix(super::TWO_BIDS_TEXT).ok_or("no report")?;

@@ -1,0 +1,109 @@
+ghost use Rattle.std.specs.Prelude.{◌≡◌, ℕ, List, All, IfOk, IfSome, IfNone};
+ghost use Rattle.pm_base.specs.Limits.{IsWithin, demand_limit};
+ghost use Rattle.pm_report.specs.Refusal.{refusal_line};
+ghost use Rattle.pm_ask.specs.TargetLists.{IsFirstBadLine};
+ghost use Rattle.pm_top.specs.Inputs.{HasFile, HasPlan, AreAsked};
+ghost use Rattle.pm_top.specs.Top.{IsAnswer};
+
+use crate::arguments::FileCommand;
+use crate::status::Status;
+use crate::texts::text_of;
+use pm_ask::{TargetsFault, read_targets};
+use pm_envelope::{Envelope, open_envelope};
+use pm_plan::{Cause, Place, Plan, Refusal};
+use pm_report::refusal_line;
+use pm_runner::Gate;
+use pm_scene::{SceneFault, read_scene};
+use std::alloc::{AllocError, Global};
+use std::sync::Wait;
+use std::thread::Threads;
+
+/// What is due for an input: a status, and the text that comes with it.
+#[derive(Drop)]
+pub(crate) struct Answer {
+    pub(crate) status: Status,
+    pub(crate) text: Vec<u8>,
+}
+
+/// The answer to an input of these bytes: the text that is asked for of its plan, or the line of its refusal.
+pub(crate) fn answer_of<R: Threads + Wait + Sync, G: Gate>(
+    rt: &R,
+    alloc: Global,
+    asked: FileCommand,
+    input: &[u8],
+    gate: &G,
+) -> Result<Answer, AllocError>
+    ensures { IfOk result (λ answer. IsAnswer asked input.now answer.status answer.text.items) }
+{
+    let Some(envelope) = open_input(asked, input) else {
+        return refused(alloc, Refusal::at(Cause::BadEnvelope, Place::Document));
+    };
+    match read_scene(alloc, envelope.file) {
+        Ok(plan) => plan_answer(rt, alloc, asked, &plan, input, envelope.rest, gate),
+        Err(SceneFault::Refused(refusal)) => refused(alloc, refusal),
+        Err(SceneFault::NoMemory) => Err(AllocError),
+    }
+}
+
+/// The cluster file of an input, and what stands behind it.
+fn open_input(asked: FileCommand, input: &[u8]) -> Option<Envelope<'_>>
+    ensures some { IfSome result (λ envelope. HasFile asked input.now envelope.file.now envelope.rest.now) }
+    ensures none { IfNone result ((file rest : List ℕ) → HasFile asked input.now file rest → ⊥) }
+{
+    match asked {
+        FileCommand::Ask => open_envelope(input),
+        FileCommand::Run | FileCommand::Trace | FileCommand::Bill => {
+            let (file, rest) = (input, &input[input.len()..]);
+            Some(Envelope { file, rest })
+        }
+    }
+}
+
+/// The answer of a refusal: its line.
+fn refused(alloc: Global, refusal: Refusal) -> Result<Answer, AllocError>
+    ensures status { IfOk result (λ answer. answer.status ≡ Status.Refused) }
+    ensures text { IfOk result (λ answer. answer.text.items ≡ refusal_line refusal) }
+{
+    let text = refusal_line(alloc, &refusal)?;
+    let status = Status::Refused;
+    Ok(Answer { status, text })
+}
+
+/// The answer to an input with a plan, behind whose file this stands: the text that is asked for, or the line of a refusal.
+fn plan_answer<R: Threads + Wait + Sync, G: Gate>(
+    rt: &R,
+    alloc: Global,
+    asked: FileCommand,
+    plan: &Plan,
+    input: &[u8],
+    rest: &[u8],
+    gate: &G,
+) -> Result<Answer, AllocError>
+    requires { HasPlan asked input.now plan.now rest.now }
+    ensures { IfOk result (λ answer. IsAnswer asked input.now answer.status answer.text.items) }
+{
+    match targets_of(alloc, asked, rest) {
+        Ok(targets) => {
+            let text = text_of(rt, alloc, asked, plan, &targets, gate)?;
+            let status = Status::Done;
+            Ok(Answer { status, text })
+        }
+        Err(TargetsFault::Bad { line }) => {
+            let place = Place::Line { number: line };
+            refused(alloc, Refusal::at(Cause::BadTarget, place))
+        }
+        Err(TargetsFault::NoMemory) => Err(AllocError),
+    }
+}
+
+/// The targets that stand behind a cluster file, in watts; none where the command takes none.
+fn targets_of(alloc: Global, asked: FileCommand, rest: &[u8]) -> Result<Vec<i64>, TargetsFault>
+    ensures asked { IfOk result (λ targets. AreAsked asked rest.now targets.items) }
+    ensures within { IfOk result (λ targets. All (IsWithin demand_limit) targets.items) }
+    ensures bad { (line : ℕ) → result ≡ Err (TargetsFault.Bad line) → (asked ≡ FileCommand.Ask) × IsFirstBadLine line rest.now }
+{
+    match asked {
+        FileCommand::Ask => read_targets(alloc, rest),
+        FileCommand::Run | FileCommand::Trace | FileCommand::Bill => Ok(Vec::new(alloc)),
+    }
+}
