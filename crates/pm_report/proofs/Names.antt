@@ -119,7 +119,7 @@ next_name seen entry are is =
     (not_found (names_of seen) entry.name (list_any-position (bytes_eq entry.name) (names_of seen) is.new)))
 
 -- no first refusal, so none at all
-split_none : {A : Type 0} (o : Option A) (xs : List A) → slice_get (option_to_list o ++ xs) 0 ≡ None → (o ≡ None) × (slice_get xs 0 ≡ None)
+pub split_none : {A : Type 0} (o : Option A) (xs : List A) → slice_get (option_to_list o ++ xs) 0 ≡ None → (o ≡ None) × (slice_get xs 0 ≡ None)
 split_none None xs none = (refl, none)
 split_none (Some x) xs none = absurd cc
 
@@ -138,7 +138,8 @@ first_name = record {
   differ = λ j k j_inside k_inside same. omega arith;
 }
 
-accepted_all : (entries : List Entry) (refusal : Option TreeFault) → tree_unless entries refusal ≡ Ok entries → refusal ≡ None
+-- a tree that is accepted has no refusal
+pub accepted_all : (entries : List Entry) (refusal : Option TreeFault) → tree_unless entries refusal ≡ Ok entries → refusal ≡ None
 accepted_all entries None is = refl
 accepted_all entries (Some fault) is = absurd cc
 
@@ -146,7 +147,7 @@ none_of_rest : {A : Type 0} (many : Bool) (x : A) (o : Option A) → cond many (
 none_of_rest true x o none = absurd cc
 none_of_rest false x o none = none
 
-none_refused : (entries : List Entry) → first_refusal entries ≡ None → slice_get (refusals_after [] entries) 0 ≡ None
+pub none_refused : (entries : List Entry) → first_refusal entries ≡ None → slice_get (refusals_after [] entries) 0 ≡ None
 unfolding first_refusal
 none_refused entries none = none_of_rest (nat_lt most_nodes (length entries)) (TooMany (length entries)) (slice_get (refusals_after [] entries) 0) none
 

@@ -1,0 +1,132 @@
+-- The line of a move by what follows its first word.
+use Rattle.std.proofs.Common.{◌≡◌, ◌≢◌, sym, ap, refl, ℕ, ◌+◌, ◌≤◌, ◌<◌, ◌^◌, List, [], ◌∷◌, ◌++◌, length, get_or, arith, Option, Some, None, true}
+use Rattle.std.specs.Prelude.{decimal, codes, option_map}
+use Rattle.pm_market.specs.declared.moves.Move.{Move}
+use Rattle.pm_market.specs.declared.moves.Move.TheVariants.{Change, Learn, Publish, Clear, Pass, Close}
+use Rattle.pm_market.specs.declared.journal.Line.{Line}
+use Rattle.pm_plan.specs.Plans.{PlanData, parent, is_leaf}
+use Rattle.pm_report.specs.Words.{name, text_line}
+use Rattle.pm_report.specs.Trace.{IsLineOfRun, move_line, device_words}
+use Rattle.pm_lines.specs.Reading.{Reads, IsPassing, is_word}
+use Rattle.pm_lines.proofs.Readings.{reads_none, reads_some, first_same}
+
+abbrev line : Move → Option (ℕ × ℕ) → Line
+line what held = record { what = what; held = held }
+
+-- the second and the third byte, which together tell the six words apart
+abbrev key : List ℕ → ℕ
+key bytes = get_or bytes 1 0 + get_or bytes 2 0
+
+module _ (plan : PlanData) (rest : List ℕ) (answer : Option Line) where
+  pub reads_change : (read : Option (ℕ × ℕ)) → answer ≡ option_map (λ read. line (Change read.0 read.1) None) read →
+      Reads (λ read. (read.0 ≤ length plan.nodes) × (read.1 < 2 ^ 32)) (λ read. text_line (name plan read.0 ∷ decimal read.1 ∷ [])) rest read →
+      Reads (IsLineOfRun plan) (move_line plan) (codes "change" ++ 32 ∷ rest) answer
+  reads_change (Some read) is reads =
+      let told = reads.told in
+      reads_some _ _ _ answer (line (Change read.0 read.1) None) is
+      (record { of_plan = record { nodes = told.0.0; step = tt }; holder = λ e. refl; number_fits = told.0.1; held_fits = tt })
+      (ap (λ (bytes : List ℕ). codes "change" ++ 32 ∷ bytes) told.1)
+  reads_change None is reads = reads_none _ _ _ answer is (λ one fits same. go one.what one.held fits same)
+    where
+      go : (what : Move) (held : Option (ℕ × ℕ)) → IsLineOfRun plan (line what held) → move_line plan (line what held) ≢ codes "change" ++ 32 ∷ rest
+      go (Change d n) held fits same = reads.none refl (d, n) (fits.of_plan.nodes, fits.number_fits) (first_same (codes "change") (codes "change") _ rest refl refl same).rest
+      go what held fits same = let keys = ap key same in absurd (omega (arith, keys))
+
+  pub reads_learn : (read : Option (ℕ × ℕ)) → answer ≡ option_map (λ read. line (Learn read.0 read.1) None) read →
+      Reads (λ read. (1 ≤ read.0) × (read.0 ≤ length plan.nodes) × (read.1 < 2 ^ 32)) (λ read. text_line (name plan (parent plan read.0) ∷ name plan read.0 ∷ decimal read.1 ∷ [])) rest read →
+      Reads (IsLineOfRun plan) (move_line plan) (codes "learn" ++ 32 ∷ rest) answer
+  reads_learn (Some read) is reads =
+      let told = reads.told in
+      reads_some _ _ _ answer (line (Learn read.0 read.1) None) is
+      (record { of_plan = record { nodes = (told.0.0, told.0.1); step = tt }; holder = λ e. refl; number_fits = told.0.2; held_fits = tt })
+      (ap (λ (bytes : List ℕ). codes "learn" ++ 32 ∷ bytes) told.1)
+  reads_learn None is reads = reads_none _ _ _ answer is (λ one fits same. go one.what one.held fits same)
+    where
+      go : (what : Move) (held : Option (ℕ × ℕ)) → IsLineOfRun plan (line what held) → move_line plan (line what held) ≢ codes "learn" ++ 32 ∷ rest
+      go (Learn d n) held fits same = reads.none refl (d, n) (fits.of_plan.nodes.0, fits.of_plan.nodes.1, fits.number_fits) (first_same (codes "learn") (codes "learn") _ rest refl refl same).rest
+      go what held fits same = let keys = ap key same in absurd (omega (arith, keys))
+
+  pub reads_publish : (read : Option (ℕ × ℕ)) → answer ≡ option_map (λ read. line (Publish read.0 read.1) None) read →
+      Reads (λ read. (read.0 ≤ length plan.nodes) × (read.1 < 2 ^ 32)) (λ read. text_line (name plan read.0 ∷ decimal read.1 ∷ [])) rest read →
+      Reads (IsLineOfRun plan) (move_line plan) (codes "publish" ++ 32 ∷ rest) answer
+  reads_publish (Some read) is reads =
+      let told = reads.told in
+      reads_some _ _ _ answer (line (Publish read.0 read.1) None) is
+      (record { of_plan = record { nodes = told.0.0; step = tt }; holder = λ e. refl; number_fits = told.0.1; held_fits = tt })
+      (ap (λ (bytes : List ℕ). codes "publish" ++ 32 ∷ bytes) told.1)
+  reads_publish None is reads = reads_none _ _ _ answer is (λ one fits same. go one.what one.held fits same)
+    where
+      go : (what : Move) (held : Option (ℕ × ℕ)) → IsLineOfRun plan (line what held) → move_line plan (line what held) ≢ codes "publish" ++ 32 ∷ rest
+      go (Publish d n) held fits same = reads.none refl (d, n) (fits.of_plan.nodes, fits.number_fits) (first_same (codes "publish") (codes "publish") _ rest refl refl same).rest
+      go what held fits same = let keys = ap key same in absurd (omega (arith, keys))
+
+  pub reads_clear : (read : Option ℕ) → answer ≡ option_map (λ read. line (Clear read) None) read →
+      Reads (λ read. read < 2 ^ 32) (λ read. text_line (decimal read ∷ [])) rest read →
+      Reads (IsLineOfRun plan) (move_line plan) (codes "clear" ++ 32 ∷ rest) answer
+  reads_clear (Some read) is reads =
+      let told = reads.told in
+      reads_some _ _ _ answer (line (Clear read) None) is
+      (record { of_plan = record { nodes = tt; step = tt }; holder = λ e. refl; number_fits = told.0; held_fits = tt })
+      (ap (λ (bytes : List ℕ). codes "clear" ++ 32 ∷ bytes) told.1)
+  reads_clear None is reads = reads_none _ _ _ answer is (λ one fits same. go one.what one.held fits same)
+    where
+      go : (what : Move) (held : Option (ℕ × ℕ)) → IsLineOfRun plan (line what held) → move_line plan (line what held) ≢ codes "clear" ++ 32 ∷ rest
+      go (Clear n) held fits same = reads.none refl n fits.number_fits (first_same (codes "clear") (codes "clear") _ rest refl refl same).rest
+      go what held fits same = let keys = ap key same in absurd (omega (arith, keys))
+
+  pub reads_close : (read : Option ℕ) → answer ≡ option_map (λ read. line (Close read) None) read →
+      Reads (λ read. read < 2 ^ 32) (λ read. text_line (decimal read ∷ [])) rest read →
+      Reads (IsLineOfRun plan) (move_line plan) (codes "close" ++ 32 ∷ rest) answer
+  reads_close (Some read) is reads =
+      let told = reads.told in
+      reads_some _ _ _ answer (line (Close read) None) is
+      (record { of_plan = record { nodes = tt; step = tt }; holder = λ e. refl; number_fits = told.0; held_fits = tt })
+      (ap (λ (bytes : List ℕ). codes "close" ++ 32 ∷ bytes) told.1)
+  reads_close None is reads = reads_none _ _ _ answer is (λ one fits same. go one.what one.held fits same)
+    where
+      go : (what : Move) (held : Option (ℕ × ℕ)) → IsLineOfRun plan (line what held) → move_line plan (line what held) ≢ codes "close" ++ 32 ∷ rest
+      go (Close n) held fits same = reads.none refl n fits.number_fits (first_same (codes "close") (codes "close") _ rest refl refl same).rest
+      go what held fits same = let keys = ap key same in absurd (omega (arith, keys))
+
+  pub reads_pass : (read : Option (ℕ × ℕ × Option (ℕ × ℕ))) → answer ≡ option_map (λ read. line (Pass read.0 read.1) read.2) read →
+      Reads (IsPassing plan) (λ read. text_line (name plan read.0 ∷ decimal read.1 ∷ device_words (is_leaf plan read.0) plan.basis read.2)) rest read →
+      Reads (IsLineOfRun plan) (move_line plan) (codes "pass" ++ 32 ∷ rest) answer
+  reads_pass (Some read) is reads =
+      let told = reads.told in
+      let passing = told.0 in
+      reads_some _ _ _ answer (line (Pass read.0 read.1) read.2) is
+      (record { of_plan = record { nodes = (passing.first, passing.last); step = passing.held.step }; holder = passing.holder; number_fits = passing.index; held_fits = passing.held.number })
+      (ap (λ (bytes : List ℕ). codes "pass" ++ 32 ∷ bytes) told.1)
+  reads_pass None is reads = reads_none _ _ _ answer is (λ one fits same. go one.what one.held fits same)
+    where
+      go : (what : Move) (held : Option (ℕ × ℕ)) → IsLineOfRun plan (line what held) → move_line plan (line what held) ≢ codes "pass" ++ 32 ∷ rest
+      go (Pass x j) held fits same =
+          reads.none refl (x, j, held)
+          (record { first = fits.of_plan.nodes.0; last = fits.of_plan.nodes.1; index = fits.number_fits; held = record { step = fits.of_plan.step; number = fits.held_fits }; holder = fits.holder })
+          (first_same (codes "pass") (codes "pass") _ rest refl refl same).rest
+      go what held fits same = let keys = ap key same in absurd (omega (arith, keys))
+
+-- a line begins with one of the six words and a blank
+pub no_kind : (plan : PlanData) (word rest : List ℕ) → is_word word ≡ true → word ≢ codes "change" → word ≢ codes "learn" → word ≢ codes "publish" →
+    word ≢ codes "clear" → word ≢ codes "pass" → word ≢ codes "close" → (one : Line) → IsLineOfRun plan one → move_line plan one ≢ word ++ 32 ∷ rest
+no_kind plan word rest is change learn publish clear pass close one fits same = go one.what one.held same
+  where
+    go : (what : Move) (held : Option (ℕ × ℕ)) → move_line plan (line what held) ≢ word ++ 32 ∷ rest
+    go (Change d n) held same = change (sym (first_same (codes "change") word _ rest refl is same).word)
+    go (Learn d n) held same = learn (sym (first_same (codes "learn") word _ rest refl is same).word)
+    go (Publish d n) held same = publish (sym (first_same (codes "publish") word _ rest refl is same).word)
+    go (Clear n) held same = clear (sym (first_same (codes "clear") word _ rest refl is same).word)
+    go (Pass d n) held same = pass (sym (first_same (codes "pass") word _ rest refl is same).word)
+    go (Close n) held same = close (sym (first_same (codes "close") word _ rest refl is same).word)
+
+pub no_first : (plan : PlanData) (bytes : List ℕ) → ((word rest : List ℕ) → is_word word ≡ true → bytes ≢ word ++ 32 ∷ rest) →
+    (one : Line) → IsLineOfRun plan one → move_line plan one ≢ bytes
+no_first plan bytes none one fits same = go one.what one.held same
+  where
+    go : (what : Move) (held : Option (ℕ × ℕ)) → move_line plan (line what held) ≢ bytes
+    go (Change d n) held same = none (codes "change") _ refl (sym same)
+    go (Learn d n) held same = none (codes "learn") _ refl (sym same)
+    go (Publish d n) held same = none (codes "publish") _ refl (sym same)
+    go (Clear n) held same = none (codes "clear") _ refl (sym same)
+    go (Pass d n) held same = none (codes "pass") _ refl (sym same)
+    go (Close n) held same = none (codes "close") _ refl (sym same)
