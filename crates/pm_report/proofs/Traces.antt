@@ -58,3 +58,10 @@ unfolding trace_text
 same_journal plan ends a b is a_are b_are same =
     same_lines plan is a b a b a_are b_are
     (append_cancel_left (report_text plan ends) (flat_map (move_line plan) a ++ moves_line a) (flat_map (move_line plan) b ++ moves_line b) same)
+
+-- lines that are written alike are the same
+pub same_one : (plan : PlanData) (one other : Line) → IsPlan plan → IsLineOfRun plan one → IsLineOfRun plan other → move_line plan one ≡ move_line plan other → one ≡ other
+same_one plan one other is one_is other_is same =
+    let line = same_line (move_words plan one.what one.held) (move_words plan other.what other.held) [] []
+    (move_are_words plan is one one_is) (move_are_words plan is other other_is) (ap (λ bytes. bytes ++ []) same) in
+    same_move plan is one other one_is other_is line.words

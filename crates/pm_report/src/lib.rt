@@ -15,7 +15,7 @@ mod tests;
 mod trace;
 mod words;
 
-pub use law::traces_tell_their_journals;
+pub use law::{lines_tell_their_moves, traces_tell_their_journals};
 pub use refusal::refusal_line;
 pub use report::{phase_text, report_text};
 pub use summary::summary_text;
