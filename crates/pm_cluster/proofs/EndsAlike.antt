@@ -11,7 +11,7 @@ use Rattle.pm_market.specs.State.{State, SameOn, known}
 use Rattle.pm_market.proofs.Tree.{leaf_zero, leaf_of_parts}
 use Rattle.pm_plan.specs.Kept.{IsPlan}
 use Rattle.pm_plan.specs.Plans.{PlanData, is_member, is_limited, node_numbers}
-use Rattle.pm_plan.specs.Auction.{plain, total, sum_in, group_step, power, member_line, limited_line, limited, end_in}
+use Rattle.pm_plan.specs.Auction.{plain, total, sum_in, group_step, power, member_line, limited_line, end_in}
 use Rattle.pm_plan.specs.States.{state, end_of}
 use Rattle.pm_plan.specs.Market.{plan_lists}
 use Rattle.pm_walk.proofs.EndLines.{member_line_is, limited_line_is, end_is}

@@ -7,9 +7,9 @@ use Rattle.std.proofs.Math.Logic.{∥∥₁_elim, ∥∥₁_map}
 use Rattle.std.proofs.Props.{props}
 use Rattle.std.proofs.lemmas.Bool.{cases_eq}
 use Rattle.pm_bid.specs.Bids.{zeros}
-use Rattle.pm_bid.proofs.Sums.{length-zeros}
 use Rattle.pm_device.specs.declared.kind.Kind.{Kind}
 use Rattle.pm_device.specs.declared.state.Next.{Next}
+use Rattle.pm_strategy.specs.Strategies.{bid_of}
 use Rattle.pm_tree.specs.Entries.{place_of}
 use Rattle.pm_market.specs.Lists.{nodes, parent, IsNode, IsLeaf}
 use Rattle.pm_market.specs.Lists as market
@@ -18,24 +18,25 @@ use Rattle.pm_market.specs.declared.moves.Move.TheVariants.{Change}
 use Rattle.pm_market.specs.State.{State, updated}
 use Rattle.pm_market.proofs.Tree.{leaf_node}
 use Rattle.pm_market.proofs.Cuts.{updated_same, updated_other, newest_leaf}
-use Rattle.pm_session.specs.Links.{Session, BidOffered, demand_offered, bid_offered}
+use Rattle.pm_session.specs.Links.{Session, BidOffered, bid_offered}
 use Rattle.pm_session.specs.Ports.{Seat}
 use Rattle.pm_plan.specs.Plans.{PlanData, node, kind_of, is_member, change_count, end_cut}
+use Rattle.pm_plan.specs.States.{state}
 use Rattle.pm_plan.specs.Kept.{IsPlan}
 use Rattle.pm_plan.specs.Market.{plan_lists}
 use Rattle.pm_plan.proofs.Ends.{end-within}
 use Rattle.pm_plan.proofs.MarketLists.{phases-is}
 use Rattle.pm_offer.specs.Offers.{device_demand}
-use Rattle.pm_stands.specs.Core.{Core, link_at, uplink_of, seat_at}
+use Rattle.pm_stands.specs.Core.{Core, link_at, seat_at}
 use Rattle.pm_stands.specs.Rows.{OneLink}
 use Rattle.pm_stands.specs.Stands.{is_gone, StandsFor, Stands, MakesMove}
 use Rattle.pm_stands.specs.Made.{bid_demand, seat_after, DidChange, changed_core}
 use Rattle.pm_plan.proofs.MarketLists.{lawful}
-use Rattle.pm_stands.proofs.Places.{from_node}
+use Rattle.pm_stands.proofs.Places.{at_node, from_node}
 use Rattle.pm_stands.proofs.Gone.{gone_leaf}
 use Rattle.pm_stands.proofs.Changing.{change_did}
 use Rattle.pm_cluster.specs.Next.{count_of, IsNext}
-use Rattle.pm_cluster.proofs.NextChanges.{end_of_market, member_of_market, demand_of_none}
+use Rattle.pm_cluster.proofs.NextChanges.{end_of_market, member_of_market, demand_of_member, demand_of_none}
 
 -- a change that follows is of a device, its next one, and of the device's kind
 pub record IsFollowed (plan : PlanData) (c : Core) (next : Next) (kind : Kind) : Type 0 where
@@ -62,6 +63,15 @@ legal_next plan is_plan c s stands next kind follows =
       ),
     )
 
+-- what a device agent made of it is the demand of the plan
+pub made_demand : (plan : PlanData) (c : Core) (next : Next) (kind : Kind) (demand : List ℤ) (steps : ℕ) → next.member ≡ true →
+    kind_of (node plan next.device) ≡ Some kind → IsNext plan c.closed (count_of c) next.device next → steps ≡ plan.basis.steps →
+    ((arrays : List (List ℤ)) → demand ≡ bid_of kind next.state.0 arrays steps) → demand ≡ device_demand plan next.device next.number
+made_demand plan c next kind demand steps on kind_is is same made =
+    made plan.arrays ∙ ap (λ (z : ℤ). bid_of kind z plan.arrays steps) is.state
+    ∙ ap (bid_of kind (state plan next.device next.number) plan.arrays) same
+    ∙ sym (demand_of_member plan next.device next.number kind kind_is (sym is.member ∙ on))
+
 -- its number is new on the device's link
 pub new_number : (plan : PlanData) → IsPlan plan → (c : Core) → ∥ Stands plan c ∥₁ → (next : Next) (kind : Kind) → IsFollowed plan c next kind → (y k : ℕ) →
     y ≡ parent (plan_lists plan) next.device → k ≡ place_of plan.entries next.device → (link_at c.links y k).up.offered < next.number
@@ -77,15 +87,22 @@ new_number plan is_plan c stands next kind follows y k e f =
       follows.its_next.number,
     )))
 
-pub link_steps : (plan : PlanData) → IsPlan plan → (c : Core) → ((x : ℕ) → IsNode (plan_lists plan) x → (uplink_of plan c x).steps ≡ plan.basis.steps) →
-    (x : ℕ) → IsLeaf (plan_lists plan) x → (y k : ℕ) → y ≡ parent (plan_lists plan) x → k ≡ place_of plan.entries x →
-    (link_at c.links y k).steps ≡ plan.basis.steps
-link_steps plan is_plan c same x leaf y k e f =
-    from_node plan x y k (λ (i j : ℕ). (link_at c.links i j).steps ≡ plan.basis.steps) e f (same x (leaf_node (plan_lists plan) (lawful plan is_plan) x leaf))
+-- a link that was read for a device has the steps of the basis
+pub read_steps : (plan : PlanData) (links : List (List Session)) (x y k : ℕ) → y ≡ parent (plan_lists plan) x → k ≡ place_of plan.entries x →
+    (link_at links (parent (plan_lists plan) x) (place_of plan.entries x)).steps ≡ plan.basis.steps → (link_at links y k).steps ≡ plan.basis.steps
+read_steps plan links x y k e f same = from_node plan x y k (λ (i j : ℕ). (link_at links i j).steps ≡ plan.basis.steps) e f same
 
-pub offered_length : (steps : ℕ) (gone : Bool) (demand : List ℤ) → length demand ≡ steps → length (demand_offered steps (bid_demand gone demand)) ≡ steps
-offered_length steps true demand same = length-zeros steps
-offered_length steps false demand same = same
+-- what was offered on the link that was read is the demand of a member
+pub offered_demand : (plan : PlanData) (old new : List (List Session)) (x n y k : ℕ) (member : Bool) (demand : List ℤ) → y ≡ parent (plan_lists plan) x →
+    k ≡ place_of plan.entries x → member ≡ true → demand ≡ device_demand plan x n →
+    BidOffered (link_at old y k) (link_at new y k) (bid_offered (link_at old y k).steps n (Some demand)) →
+    BidOffered (link_at old (parent (plan_lists plan) x) (place_of plan.entries x)) (link_at new (parent (plan_lists plan) x) (place_of plan.entries x))
+    (bid_offered (link_at old (parent (plan_lists plan) x) (place_of plan.entries x)).steps n (bid_demand (not member) (device_demand plan x n)))
+offered_demand plan old new x n y k member demand e f on is offered =
+    let bid : List ℤ = device_demand plan x n in
+    at_node plan x y k (λ (i j : ℕ). BidOffered (link_at old i j) (link_at new i j) (bid_offered (link_at old i j).steps n (bid_demand (not member) bid))) e f
+    (subst (λ (d : Option (List ℤ)). BidOffered (link_at old y k) (link_at new y k) (bid_offered (link_at old y k).steps n d))
+    (ap Some is ∙ ap (λ (m : Bool). bid_demand (not m) bid) (sym on)) offered)
 
 -- the bid that was offered is the device's
 bid_is : (plan : PlanData) → IsPlan plan → (x n steps : ℕ) (kind : Kind) (member : Bool) → IsLeaf (plan_lists plan) x → kind_of (node plan x) ≡ Some kind →
@@ -112,16 +129,14 @@ set_updated xs x v d lt e = elim (cases_eq e x) [
 ]
 
 -- what the code wrote
-pub record Written (plan : PlanData) (c : Core) (next : Next) (before : Bool) (y k : ℕ) (links : List (List Session)) (demand : Option (List ℤ))
-    (out : List ℤ) (seat : Seat) : Type 0 where
+pub record Written (plan : PlanData) (c : Core) (next : Next) (before : Bool) (y k : ℕ) (links : List (List Session)) (seat : Seat) : Type 0 where
   pub place_counts : next.device < length c.counts
   pub place_states : next.device < length c.states
   pub place_ports : next.device < length c.ports
   pub steps : (link_at c.links y k).steps ≡ plan.basis.steps
   pub one : OneLink c.links links y k
-  pub offered : BidOffered (link_at c.links y k) (link_at links y k) (bid_offered (link_at c.links y k).steps next.number demand)
-  pub demand_is : demand ≡ bid_demand (not next.member) out
-  pub out_is : out ≡ device_demand plan next.device next.number
+  pub offered : BidOffered (link_at c.links y k) (link_at links y k)
+      (bid_offered (link_at c.links y k).steps next.number (bid_demand (not next.member) (device_demand plan next.device next.number)))
   pub before_is : before ≡ is_member plan next.device (count_of c next.device)
   pub seat_is : seat ≡ seat_after (seat_at c.ports next.device) before next.member next.number
 
@@ -134,18 +149,17 @@ unfolding seat_at
 seat_other ports x d seat ne = get_or-set_other ports x d seat _ ne
 
 pub did_change : (plan : PlanData) → IsPlan plan → (c : Core) (next : Next) (kind : Kind) → IsFollowed plan c next kind → (before : Bool) (y k : ℕ)
-    (links : List (List Session)) (demand : Option (List ℤ)) (out : List ℤ) (seat : Seat) → Written plan c next before y k links demand out seat →
+    (links : List (List Session)) (seat : Seat) → Written plan c next before y k links seat →
     DidChange plan c next.device next.number links (set c.counts next.device next.number) (set c.states next.device next.state.0)
     (set c.ports next.device seat) y k
-did_change plan is_plan c next kind follows before y k links demand out seat written =
+did_change plan is_plan c next kind follows before y k links seat written =
     let x = next.device in
     let n = next.number in
     let le = within_changes plan c next kind follows in
     let le_before : count_of c x ≤ change_count plan x = omega (arith, le, follows.its_next.number) in
     record {
       made = subst (BidOffered (link_at c.links y k) (link_at links y k))
-          (ap (bid_offered (link_at c.links y k).steps n) (written.demand_is ∙ ap (bid_demand (not next.member)) written.out_is)
-          ∙ bid_is plan is_plan x n (link_at c.links y k).steps kind next.member follows.leaf follows.its_kind le follows.its_next.member written.steps)
+          (bid_is plan is_plan x n (link_at c.links y k).steps kind next.member follows.leaf follows.its_kind le follows.its_next.member written.steps)
           written.offered;
       one = written.one;
       same_counts = length-set c.counts x n;
@@ -167,22 +181,22 @@ did_change plan is_plan c next kind follows before y k links demand out seat wri
 -- so the move was made
 pub change_makes : (plan : PlanData) → IsPlan plan → (c : Core) (s : State) → StandsFor plan c s → (next : Next) (kind : Kind) → IsFollowed plan c next kind →
     (before : Bool) (y k : ℕ) → y ≡ parent (plan_lists plan) next.device → k ≡ place_of plan.entries next.device →
-    (links : List (List Session)) (demand : Option (List ℤ)) (out : List ℤ) (seat : Seat) → Written plan c next before y k links demand out seat →
+    (links : List (List Session)) (seat : Seat) → Written plan c next before y k links seat →
     MakesMove plan (changed_core c links (set c.counts next.device next.number) (set c.states next.device next.state.0) (set c.ports next.device seat)) s
     (Change next.device next.number)
-change_makes plan is_plan c s stands next kind follows before y k e f links demand out seat written =
+change_makes plan is_plan c s stands next kind follows before y k e f links seat written =
     change_did plan is_plan c s stands next.device next.number y k (legal_next plan is_plan c s stands next kind follows) e f links
     (set c.counts next.device next.number) (set c.states next.device next.state.0) (set c.ports next.device seat)
-    (did_change plan is_plan c next kind follows before y k links demand out seat written)
+    (did_change plan is_plan c next kind follows before y k links seat written)
 
 pub change_stands : (plan : PlanData) → IsPlan plan → (c : Core) → ∥ Stands plan c ∥₁ → (next : Next) (kind : Kind) → IsFollowed plan c next kind →
     (before : Bool) (y k : ℕ) → y ≡ parent (plan_lists plan) next.device → k ≡ place_of plan.entries next.device →
-    (links : List (List Session)) (demand : Option (List ℤ)) (out : List ℤ) (seat : Seat) → Written plan c next before y k links demand out seat →
+    (links : List (List Session)) (seat : Seat) → Written plan c next before y k links seat →
     ∥ Stands plan (changed_core c links (set c.counts next.device next.number) (set c.states next.device next.state.0) (set c.ports next.device seat)) ∥₁
-change_stands plan is_plan c stands next kind follows before y k e f links demand out seat written =
+change_stands plan is_plan c stands next kind follows before y k e f links seat written =
     ∥∥₁_map stands (λ st. record {
       state = step (plan_lists plan) st.state (Change next.device next.number);
-      is = (change_makes plan is_plan c st.state st.is next kind follows before y k e f links demand out seat written).stands;
+      is = (change_makes plan is_plan c st.state st.is next kind follows before y k e f links seat written).stands;
     })
 
 -- who is a member afterwards

@@ -9,12 +9,12 @@ ghost use Rattle.pm_offer.specs.Offers.{local_at};
 ghost use Rattle.pm_stands.specs.Stands.{StandsFor, MakesMove};
 ghost use Rattle.pm_stands.specs.Actors.{IsMoveOf, NoMoveOf, IsMadeLine};
 ghost use Rattle.pm_market.specs.declared.moves.Act.{Act};
+ghost use Rattle.pm_cluster.specs.declared.fault.ActFault.{ActFault};
 ghost use Rattle.pm_cluster.specs.Acts.{NoMoveBy, NotActed, IsRunOf, NeverGoesBack, AreRefused};
 
 use crate::cluster::Cluster;
 use crate::fault::{ActFault, ApplyFault};
 use crate::tree::is_device;
-use pm_agent::DeviceAgent;
 use pm_market::{Act, Journal, Line, Move};
 use pm_plan::Plan;
 use pm_tree::NodeId;
@@ -70,64 +70,57 @@ impl<'p> Cluster<'p> {
     /// Makes the legal move of an act's form; for a change it computes the device's bid.
     ///
     /// `Illegal` comes exactly where no move of that form is legal; a node that does not exist or is of the wrong sort has
-    /// none.
-    pub fn act(&mut self, alloc: Global, act: Act) -> Result<Line, ActFault>
+    /// none. No memory is taken, so `NoMemory` never comes.
+    pub fn act(&mut self, _alloc: Global, act: Act) -> Result<Line, ActFault>
         ensures plan { self.new.plan ≡ self.old.plan }
         ensures form { IfOk result (λ line. act_of line.what ≡ act) }
         ensures made { (s : State) → StandsFor self.old.plan self.old.core s → IfOk result (IsMadeLine self.old.plan self.new.core s) }
         ensures refused { (s : State) → StandsFor self.old.plan self.old.core s → IfErr result (NotActed self.old.plan s act) }
+        ensures illegal { IfErr result (λ fault. fault ≡ ActFault.Illegal) }
         ensures unchanged { IfErr result (λ fault. self.new ≡ self.old) }
     {
-        match self.move_by(alloc, act)? {
+        match self.move_by(act) {
             None => Err(ActFault::Illegal),
             Some(what) => Ok(self.line_of(what)),
         }
     }
 
     /// Makes the legal move of an act's form, where there is one.
-    fn move_by(&mut self, alloc: Global, act: Act) -> Result<Option<Move>, AllocError>
+    fn move_by(&mut self, act: Act) -> Option<Move>
         ensures plan { self.new.plan ≡ self.old.plan }
-        ensures form { IfOk result (λ made. IfSome made (λ what. act_of what ≡ act)) }
-        ensures none { result ≡ Ok None → self.new ≡ self.old }
-        ensures unchanged { IfErr result (λ e. self.new ≡ self.old) }
-        ensures made { (s : State) → StandsFor self.old.plan self.old.core s → IfOk result (λ made. MatchOption made
+        ensures form { IfSome result (λ what. act_of what ≡ act) }
+        ensures none { result ≡ None → self.new ≡ self.old }
+        ensures made { (s : State) → StandsFor self.old.plan self.old.core s → MatchOption result
             (NoMoveBy self.old.plan s act)
-            (MakesMove self.old.plan self.new.core s)) }
+            (MakesMove self.old.plan self.new.core s) }
     {
         match act {
-            Act::Change { device } => self.change_by_plan(alloc, NodeId(device)),
-            Act::Learn { child } => Ok(self.learn_from(NodeId(child))),
-            Act::Publish { node } => Ok(self.publish_at(NodeId(node))),
-            Act::Clear => Ok(self.clear()),
-            Act::Pass { node } => Ok(self.pass_to(NodeId(node))),
-            Act::Close => Ok(self.close_phase()),
+            Act::Change { device } => self.change_by_plan(NodeId(device)),
+            Act::Learn { child } => self.learn_from(NodeId(child)),
+            Act::Publish { node } => self.publish_at(NodeId(node)),
+            Act::Clear => self.clear(),
+            Act::Pass { node } => self.pass_to(NodeId(node)),
+            Act::Close => self.close_phase(),
         }
     }
 
     /// Makes the next change of a device, where it has one.
-    fn change_by_plan(&mut self, alloc: Global, device: NodeId) -> Result<Option<Move>, AllocError>
+    fn change_by_plan(&mut self, device: NodeId) -> Option<Move>
         ensures plan { self.new.plan ≡ self.old.plan }
-        ensures form { IfOk result (λ made. IfSome made (λ what. act_of what ≡ Act.Change device.0)) }
-        ensures none { result ≡ Ok None → self.new ≡ self.old }
-        ensures unchanged { IfErr result (λ e. self.new ≡ self.old) }
-        ensures made { (s : State) → StandsFor self.old.plan self.old.core s → IfOk result (λ made. MatchOption made
+        ensures form { IfSome result (λ what. act_of what ≡ Act.Change device.0) }
+        ensures none { result ≡ None → self.new ≡ self.old }
+        ensures made { (s : State) → StandsFor self.old.plan self.old.core s → MatchOption result
             (NoMoveBy self.old.plan s (Act.Change device.0))
-            (MakesMove self.old.plan self.new.core s)) }
+            (MakesMove self.old.plan self.new.core s) }
     {
         let plan = self.plan;
         if plan.tree().len() < device.0 || !is_device(plan, device) {
-            return Ok(None);
+            return None;
         }
         let Some(next) = self.next(device) else {
-            return Ok(None);
+            return None;
         };
-        let kind = plan.kind(device);
-        let mut agent = DeviceAgent::new(alloc, kind, device.0, plan.basis().steps())?;
-        let made = agent.work(next, plan.arrays());
-        match self.change(made) {
-            Ok(what) => Ok(Some(what)),
-            Err(_) => Ok(None),
-        }
+        Some(self.make(next, plan.kind(device), None))
     }
 
     /// The parent of a node learns the node's newest bid, where that is legal.

@@ -1,31 +1,37 @@
-ghost use Rattle.std.specs.Prelude.{◌≡◌, ℕ, ◌+◌, ◌<◌, ◌≤◌, length, true, false, IfOk, IfErr, MatchOption, IsTrue, Some, if◌then◌else◌};
-ghost use Rattle.pm_market.specs.Lists.{nodes, IsLeaf};
+ghost use Rattle.std.specs.Prelude.{◌≡◌, ℕ, ℤ, ◌+◌, ◌<◌, ◌≤◌, List, length, map, not, true, false, IfOk, IfErr, IfSome, MatchOption, Some};
+ghost use Rattle.std.specs.Option.{option_copied};
+ghost use Rattle.pm_tree.specs.Entries.{place_of};
+ghost use Rattle.pm_strategy.specs.Strategies.{bid_of};
+ghost use Rattle.pm_session.specs.Links.{BidOffered, bid_offered};
+ghost use Rattle.pm_market.specs.Lists.{nodes, parent, IsLeaf};
 ghost use Rattle.pm_market.specs.State.{State};
 ghost use Rattle.pm_market.specs.Moves.{Legal};
 ghost use Rattle.pm_market.specs.declared.moves.Move.{Move};
+ghost use Rattle.pm_plan.specs.Kept.{IsPlan};
 ghost use Rattle.pm_plan.specs.Market.{plan_lists};
 ghost use Rattle.pm_plan.specs.Plans.{node, kind_of, change_count, end_cut, is_member};
 ghost use Rattle.pm_plan.specs.Auction.{power};
 ghost use Rattle.pm_plan.specs.States.{state};
 ghost use Rattle.pm_offer.specs.Offers.{device_demand};
 ghost use Rattle.pm_stands.specs.Stands.{StandsFor, MakesMove};
-ghost use Rattle.pm_stands.specs.Made.{seat_after};
+ghost use Rattle.pm_stands.specs.Core.{row_at, link_at};
+ghost use Rattle.pm_stands.specs.Rows.{OneLink};
+ghost use Rattle.pm_stands.specs.Made.{seat_after, bid_demand};
 ghost use Rattle.pm_cluster.specs.Next.{count_of, HasNoNext, IsNext};
 ghost use Rattle.pm_cluster.specs.Acts.{Follows, NotChanged};
 
 use crate::cluster::Cluster;
 use crate::fault::ChangeFault;
-use crate::links::{offer_bid, unless_gone};
+use crate::links::offer_bid;
 use crate::tree::{is_device, parent_of, place_in_row};
 use pm_agent::Made;
-use pm_bid::{ArrayBid, Steps};
+use pm_bid::ArrayBid;
 use pm_device::{Kind, Next, advance};
 use pm_market::Move;
 use pm_plan::{Plan, Planned};
-use pm_session::Port;
+use pm_session::{Link, Port};
 use pm_strategy::fill_bid;
 use pm_tree::NodeId;
-use std::marker::Brand;
 
 impl<'p> Cluster<'p> {
     /// What the next change of a device makes of it; none exactly where no phase is open, or the device made all its
@@ -94,28 +100,32 @@ impl<'p> Cluster<'p> {
             return Err(ChangeFault::NotNext { next: None });
         }
         let due = self.next(device);
-        if due != Some(next) || plan.kind(device) != made.kind() {
+        let kind = plan.kind(device);
+        if due != Some(next) || kind != made.kind() {
             return Err(ChangeFault::NotNext { next: due });
         }
-        Ok(self.make(made))
+        Ok(self.make(next, kind, own_demand(made)))
     }
 
-    /// Makes the next change of a device.
-    fn make(&mut self, made: &Made) -> Move
-        requires steps { length made.now.demand ≡ self.old.plan.basis.steps }
-        requires follows { Follows self.old.plan self.old.core.closed (count_of self.old.core) made.now }
+    /// Makes the next change of a device. The bid of a member is the one given, and else computed by the plan.
+    pub(crate) fn make(&mut self, next: Next, kind: Kind, given: Option<&ArrayBid>) -> Move
+        requires leaf { IsLeaf (plan_lists self.old.plan) next.device }
+        requires next { IsNext self.old.plan self.old.core.closed (count_of self.old.core) next.device next }
+        requires kind { kind_of (node self.old.plan next.device) ≡ Some kind }
+        requires given { next.member ≡ true → IfSome (option_copied given) (λ demand. demand ≡ device_demand self.old.plan next.device next.number) }
         ensures plan { self.new.plan ≡ self.old.plan }
-        ensures form { result ≡ Move.Change made.now.next.device made.now.next.number }
+        ensures form { result ≡ Move.Change next.device next.number }
         ensures made { (s : State) → StandsFor self.old.plan self.old.core s → MakesMove self.old.plan self.new.core s result }
     {
-        let next = made.next();
-        let device = NodeId(next.device);
         let at = next.device as usize;
-        let parent = parent_of(self.plan, device);
-        let place = place_in_row(self.plan, device);
-        write_demand(self.plan, made, &mut self.spare);
-        let demand = unless_gone(!next.member, &self.spare);
-        offer_bid(&mut self.links, parent, place, next.number, demand);
+        offer_demand(
+            self.plan,
+            next,
+            kind,
+            given,
+            &mut self.spare,
+            &mut self.links,
+        );
         take_seat(&mut self.ports[at], self.members[at], next);
         self.counts[at] = next.number;
         self.states[at] = next.state;
@@ -138,23 +148,57 @@ fn take_seat(port: &mut Port, before: bool, next: Next)
     }
 }
 
-/// Writes the demand of a device after its next change: of a manual device that is a member the plan's array, else what
-/// was made.
-fn write_demand(plan: &Plan, made: &Made, out: &mut ArrayBid)
-    requires leaf { IsLeaf (plan_lists plan.now) made.now.next.device }
-    requires kind { kind_of (node plan.now made.now.next.device) ≡ Some made.now.kind }
-    requires number { made.now.next.number ≤ change_count plan.now made.now.next.device }
-    requires member { made.now.next.member ≡ is_member plan.now made.now.next.device made.now.next.number }
-    requires state { made.now.next.state.0 ≡ state plan.now made.now.next.device made.now.next.number }
-    requires steps { length made.now.demand ≡ plan.now.basis.steps }
-    requires room { length out.old ≡ plan.now.basis.steps }
-    ensures demand { out.new ≡ device_demand plan.now made.now.next.device made.now.next.number }
-    ensures steps { length out.new ≡ plan.now.basis.steps }
+/// The demand that was made for a change; none for a manual device, whose bids are the plan's arrays.
+fn own_demand(made: &Made) -> Option<&ArrayBid>
+    ensures demand { made.now.next.member ≡ true → IfSome (option_copied result) (λ demand. (arrays : List (List ℤ)) →
+        demand ≡ bid_of made.now.kind made.now.next.state.0 arrays (length made.now.demand)) }
 {
-    let next = made.next();
-    if next.member && made.kind() == Kind::Manual {
-        fill_bid(&Kind::Manual, next.state, plan.arrays(), out);
+    if made.kind() == Kind::Manual {
+        return None;
+    }
+    Some(made.demand())
+}
+
+/// Offers the demand of a device after its next change on the device's link: of a member what is given, and else its bid
+/// by the plan, which is written into the spare bid. Of a device that is no member the bid is gone.
+fn offer_demand(
+    plan: &Plan,
+    next: Next,
+    kind: Kind,
+    given: Option<&ArrayBid>,
+    spare: &mut ArrayBid,
+    links: &mut Vec<Vec<Link>>,
+)
+    requires sound { IsPlan plan.now }
+    requires leaf { IsLeaf (plan_lists plan.now) next.device }
+    requires kind { kind_of (node plan.now next.device) ≡ Some kind }
+    requires change { next.number ≤ change_count plan.now next.device }
+    requires member { next.member ≡ is_member plan.now next.device next.number }
+    requires state { next.state.0 ≡ state plan.now next.device next.number }
+    requires given { next.member ≡ true → IfSome (option_copied given) (λ demand. demand ≡ device_demand plan.now next.device next.number) }
+    requires room { length spare.old ≡ plan.now.basis.steps }
+    requires parent { parent (plan_lists plan.now) next.device < length links.old.items }
+    requires place { let rows = map (λ row. row.items) links.old.items in
+        place_of plan.now.entries next.device < length (row_at rows (parent (plan_lists plan.now) next.device)) }
+    requires number { let rows = map (λ row. row.items) links.old.items in
+        (link_at rows (parent (plan_lists plan.now) next.device) (place_of plan.now.entries next.device)).up.offered < next.number }
+    requires steps { let rows = map (λ row. row.items) links.old.items in
+        (link_at rows (parent (plan_lists plan.now) next.device) (place_of plan.now.entries next.device)).steps ≡ plan.now.basis.steps }
+    ensures room { length spare.new ≡ plan.now.basis.steps }
+    ensures one { OneLink (map (λ row. row.items) links.old.items) (map (λ row. row.items) links.new.items)
+        (parent (plan_lists plan.now) next.device) (place_of plan.now.entries next.device) }
+    ensures offered { let old = link_at (map (λ row. row.items) links.old.items) (parent (plan_lists plan.now) next.device) (place_of plan.now.entries next.device) in
+        let new = link_at (map (λ row. row.items) links.new.items) (parent (plan_lists plan.now) next.device) (place_of plan.now.entries next.device) in
+        BidOffered old new (bid_offered old.steps next.number (bid_demand (not next.member) (device_demand plan.now next.device next.number))) }
+{
+    let parent = parent_of(plan, NodeId(next.device));
+    let place = place_in_row(plan, NodeId(next.device));
+    if !next.member {
+        offer_bid(links, parent, place, next.number, None);
+    } else if let Some(demand) = given {
+        offer_bid(links, parent, place, next.number, Some(demand));
     } else {
-        made.demand().copy_into(out, &mut Steps::<Brand>::start());
+        fill_bid(&kind, next.state, plan.arrays(), spare);
+        offer_bid(links, parent, place, next.number, Some(spare));
     }
 }

@@ -26,7 +26,7 @@ pub enum ActFault {
     /// No move of the act's form is legal.
     #[error("no move of this form is legal")]
     Illegal,
-    /// An allocation failed.
+    /// An allocation failed; this never comes.
     #[error("out of memory")]
     NoMemory,
 }

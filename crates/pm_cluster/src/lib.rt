@@ -5,8 +5,8 @@
 //! of the market of cuts that it stands for (the relation of `pm_stands`); each call that makes a move says that the move
 //! is legal there, and that the cluster stands for the state after it.
 //!
-//! [`Cluster::open`] takes the memory of all moves. More is taken only by the act of a change (one bid), by a list of acts
-//! (a cluster and a journal), and by an end that is not written into a given one.
+//! [`Cluster::open`] takes the memory of all moves. More is taken only by a list of acts (a cluster and a journal), and by an
+//! end that is not written into a given one.
 #![tactic(auto)]
 
 mod acts;

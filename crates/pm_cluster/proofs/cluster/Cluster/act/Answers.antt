@@ -9,4 +9,4 @@ pub returns-in-Some-clause-made : goal.returns-in-Some-clause-made
 returns-in-Some-clause-made c s stands =
     let Claim : PlanData → Type 0 = λ p. MakesMove p c.move_by.new.self.core s c.in-Some.what → IsMadeLine p c.move_by.new.self.core s c.line_of.result in
     subst Claim c.move_by.ensures.plan (c.line_of.ensures.line s)
-    (MatchOption-at_some _ _ c.in-Some.what c.in-Some.is (c.in_ok-move_by.ensures.made s stands))
+    (MatchOption-at_some _ _ c.in-Some.what c.in-Some.is (c.move_by.ensures.made s stands))

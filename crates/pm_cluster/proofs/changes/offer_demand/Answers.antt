@@ -1,0 +1,59 @@
+use Rattle.std.proofs.Common.{◌≡◌, ◌∙◌, sym, ap, subst, ℕ, ℤ, true, List, length, map, rules}
+use Rattle.std.specs.Prelude.{IfSome}
+use Rattle.std.specs.Option.{option_copied}
+use Rattle.pm_strategy.specs.Strategies.{bid_of}
+use Rattle.pm_market.proofs.Tree.{leaf_node}
+use Rattle.pm_plan.specs.Market.{plan_lists}
+use Rattle.pm_plan.specs.States.{state}
+use Rattle.pm_plan.proofs.MarketLists.{lawful}
+use Rattle.pm_offer.specs.Offers.{device_demand}
+use Rattle.pm_offer.proofs.Steps.{demand_steps}
+use Rattle.pm_cluster.proofs.Making.{read_steps, offered_demand}
+use Rattle.pm_cluster.proofs.NextChanges.{demand_of_member, kind_valid, state_valid}
+use Rattle.pm_cluster.proofs.changes.offer_demand.Goals as goal
+
+pub parent_of-parent-requires : goal.parent_of-parent-requires
+parent_of-parent-requires c = record {
+  node = leaf_node (plan_lists c.args.plan.now) (lawful c.args.plan.now c.requires.sound) c.args.next.device c.requires.leaf;
+}
+
+pub place_in_row-place-requires : goal.place_in_row-place-requires
+place_in_row-place-requires c = record {
+  node = leaf_node (plan_lists c.args.plan.now) (lawful c.args.plan.now c.requires.sound) c.args.next.device c.requires.leaf;
+}
+
+pub offer_bid-requires-in-Some-clause-steps : goal.offer_bid-requires-in-Some-clause-steps
+offer_bid-requires-in-Some-clause-steps c =
+    let plan = c.args.plan.now in
+    let next = c.args.next in
+    let member : next.member ≡ true = search rules in
+    let given : c.in-Some.demand.now ≡ device_demand plan next.device next.number =
+    subst (λ g. IfSome (option_copied g) (λ demand. demand ≡ device_demand plan next.device next.number)) c.in-Some.is (c.requires.given member) in
+    ap length given ∙ demand_steps plan c.requires.sound next.device next.number
+    ∙ sym (read_steps plan (map (λ row. row.items) c.args.links.now.items) next.device c.parent_of-parent.result c.place_in_row-place.result
+    c.parent_of-parent.ensures.parent c.place_in_row-place.ensures.place c.requires.steps)
+
+pub fill_bid-requires-clause-valid : goal.fill_bid-requires-clause-valid
+fill_bid-requires-clause-valid c = kind_valid c.args.plan.now c.requires.sound c.args.next.device c.args.kind c.requires.kind
+
+pub fill_bid-requires-clause-fits : goal.fill_bid-requires-clause-fits
+fill_bid-requires-clause-fits c =
+    state_valid c.args.plan.now c.requires.sound c.args.next.device c.args.next.number c.args.kind c.args.next.state.0 c.requires.kind c.requires.change
+    c.requires.state
+
+pub returns-in_default-clause-offered : goal.returns-in_default-clause-offered
+returns-in_default-clause-offered c =
+    let plan = c.args.plan.now in
+    let next = c.args.next in
+    let kind = c.args.kind in
+    let z = state plan next.device next.number in
+    let member : next.member ≡ true = search rules in
+    let filled : c.fill_bid.new.out ≡ device_demand plan next.device next.number =
+    c.fill_bid.ensures.bid
+    ∙ ap (λ (y : ℤ). bid_of kind y c.arrays.result.now (length c.args.spare.now)) c.requires.state
+    ∙ ap (λ (n : ℕ). bid_of kind z c.arrays.result.now n) c.requires.room
+    ∙ ap (λ (a : List (List ℤ)). bid_of kind z a plan.basis.steps) c.arrays.ensures.arrays
+    ∙ sym (demand_of_member plan next.device next.number kind c.requires.kind (sym c.requires.member ∙ member)) in
+    offered_demand plan (map (λ row. row.items) c.args.links.now.items) (map (λ row. row.items) c.offer_bid-in_default.new.links.items) next.device
+    next.number c.parent_of-parent.result c.place_in_row-place.result next.member c.fill_bid.new.out c.parent_of-parent.ensures.parent
+    c.place_in_row-place.ensures.place member filled c.offer_bid-in_default.ensures.offered
