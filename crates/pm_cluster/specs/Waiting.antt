@@ -4,6 +4,7 @@ use Rattle.pm_tree.specs.Entries.{children_of}
 use Rattle.pm_market.specs.Lists.{IsNode, IsConcentrator}
 use Rattle.pm_plan.specs.Plans.{PlanData}
 use Rattle.pm_plan.specs.Market.{plan_lists}
+use Rattle.pm_session.specs.Links.{Session}
 use Rattle.pm_stands.specs.Core.{Core, link_at, uplink_of, concentrator_of}
 use Rattle.pm_stands.specs.Rows.{CannotPublish}
 
@@ -19,3 +20,17 @@ pub record NothingToSend (plan : PlanData) (c : Core) (x : ℕ) : Type 0 where
 -- no price waits to be taken
 abbrev pub NoPrice : PlanData → Core → ℕ → Type 0
 NoPrice plan c x = IsNode (plan_lists plan) x → (uplink_of plan c x).down.offered ≡ (uplink_of plan c x).down.taken
+
+-- the bid and the price that were offered last on a link were taken
+pub record IsTaken (link : Session) : Type 0 where
+  pub bid : link.up.offered ≡ link.up.taken
+  pub price : link.down.offered ≡ link.down.taken
+
+-- nothing waits on the links of a node to its children
+abbrev pub NothingBelow : PlanData → Core → ℕ → Type 0
+NothingBelow plan c x = (k : ℕ) → k < length (children_of plan.entries x) → IsTaken (link_at c.links x k)
+
+-- a node waits for none of its children, none of them waits for it, and it can neither publish nor clear
+pub record IsAtRest (plan : PlanData) (c : Core) (x : ℕ) : Type 0 where
+  pub below : NothingBelow plan c x
+  pub sends : NothingToSend plan c x

@@ -16,7 +16,7 @@ ghost use Rattle.pm_stands.specs.Still.{IsStill};
 ghost use Rattle.pm_stands.specs.Stands.{StandsFor};
 ghost use Rattle.pm_stands.specs.Actors.{NoMoveOf};
 ghost use Rattle.pm_stands.specs.Current.{held_price, IsCurrent};
-ghost use Rattle.pm_cluster.specs.Waiting.{NoBids, NothingToSend, NoPrice};
+ghost use Rattle.pm_cluster.specs.Waiting.{NoBids, NothingToSend, NoPrice, IsTaken, NothingBelow, IsAtRest};
 
 use crate::cluster::Cluster;
 use crate::tree::{is_device, parent_of, place_in_row};
@@ -33,7 +33,29 @@ impl<'p> Cluster<'p> {
         ensures idle { (s : State) → StandsFor self.now.plan self.now.core s → IsTrue result ↔ Idle (plan_lists self.now.plan) s }
         ensures current { IsTrue result → (s : State) → StandsFor self.now.plan self.now.core s → IsCurrent self.now.plan self.now.core s }
     {
-        self.next_node().is_none()
+        let last = self.plan.tree().len();
+        for number in 0..last + 1 {
+            if self.is_busy(NodeId(number)) {
+                return false;
+            }
+        }
+        true
+    }
+
+    /// Whether a message waits on the links of a node to its children, or the node can publish or clear.
+    fn is_busy(&self, node: NodeId) -> bool
+        requires inside { node.0 ≤ nodes (plan_lists self.now.plan) }
+        ensures rests { IsFalse result ↔ IsAtRest self.now.plan self.now.core node.0 }
+    {
+        self.waits_below(node) || self.can_send(node)
+    }
+
+    /// Whether a bid or a price waits on one of the links of a node to its children.
+    fn waits_below(&self, node: NodeId) -> bool
+        requires inside { node.0 ≤ nodes (plan_lists self.now.plan) }
+        ensures nothing { IsFalse result ↔ NothingBelow self.now.plan self.now.core node.0 }
+    {
+        message_waits(&self.links[node.0 as usize])
     }
 
     /// The lowest node that [`Cluster::step`] would move; none exactly where the cluster is idle.
@@ -149,4 +171,23 @@ fn bid_waits(row: &[Link]) -> bool
         }
     }
     false
+}
+
+/// Whether a bid or a price waits on one of the links.
+fn message_waits(row: &[Link]) -> bool
+    ensures none { IsFalse result ↔ ((k : ℕ) → k < length row.now → IsTaken (session_at row.now k)) }
+{
+    for link in row {
+        if link_waits(link) {
+            return true;
+        }
+    }
+    false
+}
+
+/// Whether a bid or a price waits on a link.
+fn link_waits(link: &Link) -> bool
+    ensures none { IsFalse result ↔ IsTaken link.now }
+{
+    link.bids_waiting() || link.prices_waiting()
 }

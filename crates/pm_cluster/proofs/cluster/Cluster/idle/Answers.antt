@@ -1,46 +1,77 @@
-use Rattle.std.proofs.Common.{◌≡◌, ℕ, ◌<◌, ◌≤◌, ◌↔◌, Bool, true, false, not, Option, Some, None, MatchOption, is_some, refl}
-use Rattle.std.specs.Prelude.{IfSome}
-use Rattle.pm_tree.specs.declared.node.NodeId.{NodeId}
+use Rattle.std.proofs.Common.{◌≡◌, ap, subst, ◌≤◌, length, refl, arith, below_more}
 use Rattle.pm_market.specs.Lists.{nodes}
 use Rattle.pm_plan.specs.Kept.{IsPlan}
-use Rattle.pm_plan.specs.Plans.{PlanData}
 use Rattle.pm_plan.specs.Market.{plan_lists}
-use Rattle.pm_stands.specs.Core.{Core}
 use Rattle.pm_stands.specs.Quiet.{IsQuiet}
-use Rattle.pm_stands.specs.Still.{IsStill}
-use Rattle.pm_stands.proofs.StillNodes.{all_still_is}
 use Rattle.pm_stands.proofs.MoveLaws.{quiet_is_idle}
 use Rattle.pm_stands.proofs.AllCurrent.{quiet_current}
+use Rattle.pm_cluster.specs.Clusters.{ClusterValue}
+use Rattle.pm_cluster.proofs.Parents.{nodes_are}
+use Rattle.pm_cluster.proofs.Waits.{all_rest_is}
 use Rattle.pm_cluster.proofs.cluster.Cluster.idle.Goals as goal
-use Rattle.pm_cluster.proofs.cluster.Cluster.idle.Goals.{After-is_none}
+use Rattle.pm_cluster.proofs.cluster.Cluster.idle.Goals.{After-len-last, Then-is_busy, After-loop-number}
 
-quiet_by : (plan : PlanData) (c : Core) → IsPlan plan → (r : Option NodeId) (none : Bool) → is_some r ≡ not none →
-    IfSome r (λ node. node.0 ≤ nodes (plan_lists plan)) →
-    MatchOption r ((x : ℕ) → x ≤ nodes (plan_lists plan) → IsStill plan c x)
-    (λ node. (IsStill plan c node.0 → ⊥) × ((x : ℕ) → x < node.0 → IsStill plan c x)) →
-    (none ≡ true) ↔ IsQuiet plan c
-quiet_by plan c is_plan None true e inside still = (λ z. (all_still_is plan c is_plan).0 still, λ quiet. refl)
-quiet_by plan c is_plan None false e inside still = (λ z. (cc), λ quiet. (cc))
-quiet_by plan c is_plan (Some node) true e inside still = (λ z. (cc), λ quiet. refl)
-quiet_by plan c is_plan (Some node) false e inside still = (λ z. (cc), λ quiet. absurd (still.0 ((all_still_is plan c is_plan).1 quiet node.0 inside)))
+is_plan : (c : After-len-last) → IsPlan c.args.self.now.plan
+is_plan c = subst (λ (v : ClusterValue). IsPlan v.plan) c.self.view_is c.self.invariant.is_plan
 
-quiet_is : (c : After-is_none) → (c.is_none.result ≡ true) ↔ IsQuiet c.args.self.now.plan c.args.self.now.core
-quiet_is c =
-    quiet_by c.args.self.now.plan c.args.self.now.core c.next_node.ensures.sound c.next_node.result c.is_none.result c.is_none.ensures
-    c.next_node.ensures.inside c.next_node.ensures.still
+many : (c : After-len-last) → c.len-last.result ≡ nodes (plan_lists c.args.self.now.plan)
+many c =
+    omega (
+      arith,
+      nodes_are c.self.inside.plan.now,
+      c.len-last.ensures.len,
+      ap length c.tree.ensures.tree,
+      ap (λ (v : ClusterValue). nodes (plan_lists v.plan)) c.self.view_is,
+    )
+
+pub is_busy-requires : goal.is_busy-requires
+is_busy-requires c = record { inside = omega (arith, c.loop-number-test.true, many (goal.at.is_busy-requires c).After-len-last) }
+
+pub loop-number-preserved : goal.loop-number-preserved
+loop-number-preserved c = below_more _ _ c.loop-number.invariant (c.is_busy.ensures.rests.0 c.if-is_busy.false)
+
+-- a node was found that is not at rest
+busy : (c : Then-is_busy) → c.loop-number.number ≤ nodes (plan_lists c.args.self.now.plan) → IsPlan c.args.self.now.plan →
+    IsQuiet c.args.self.now.plan c.args.self.now.core → ⊥
+busy c inside plan_is quiet =
+    let rest = c.is_busy.ensures.rests.1 ((all_rest_is c.args.self.now.plan c.args.self.now.core plan_is).1 quiet c.loop-number.number inside) in
+    cc
+
+pub returns-then-is_busy-clause-quiet : goal.returns-then-is_busy-clause-quiet
+returns-then-is_busy-clause-quiet c =
+    let at = goal.at.returns-then-is_busy-clause-quiet c in
+    let inside : c.loop-number.number ≤ nodes (plan_lists c.args.self.now.plan) = omega (arith, c.loop-number-test.true, many at.After-len-last) in
+    (λ e. (cc), λ quiet. absurd (busy at.Then-is_busy inside (is_plan at.After-len-last) quiet))
+
+pub returns-then-is_busy-clause-idle : goal.returns-then-is_busy-clause-idle
+returns-then-is_busy-clause-idle c s stands =
+    let at = goal.at.returns-then-is_busy-clause-idle c in
+    let inside : c.loop-number.number ≤ nodes (plan_lists c.args.self.now.plan) = omega (arith, c.loop-number-test.true, many at.After-len-last) in
+    let idle = quiet_is_idle c.args.self.now.plan c.args.self.now.core s (is_plan at.After-len-last) stands in
+    (λ e. (cc), λ none. absurd (busy at.Then-is_busy inside (is_plan at.After-len-last) (idle.1 none)))
+
+-- every node is at rest
+quiet_is : (c : After-loop-number) → c.len-last.result ≡ nodes (plan_lists c.args.self.now.plan) → IsPlan c.args.self.now.plan →
+    IsQuiet c.args.self.now.plan c.args.self.now.core
+quiet_is c last plan_is =
+    (all_rest_is c.args.self.now.plan c.args.self.now.core plan_is).0 (λ x inside.
+    c.loop-number.invariant x (omega (arith, inside, c.loop-number-test.false, last)))
 
 pub returns-clause-quiet : goal.returns-clause-quiet
-returns-clause-quiet c = quiet_is (goal.at.returns-clause-quiet c).After-is_none
+returns-clause-quiet c =
+    let at = goal.at.returns-clause-quiet c in
+    (λ e. quiet_is at.After-loop-number (many at.After-len-last) (is_plan at.After-len-last), λ quiet. refl)
 
 pub returns-clause-idle : goal.returns-clause-idle
 returns-clause-idle c s stands =
-    let quiet = quiet_is (goal.at.returns-clause-idle c).After-is_none in
-    let idle = quiet_is_idle c.args.self.now.plan c.args.self.now.core s c.next_node.ensures.sound stands in
-    (λ e. idle.0 (quiet.0 e), λ none. quiet.1 (idle.1 none))
+    let at = goal.at.returns-clause-idle c in
+    let quiet = quiet_is at.After-loop-number (many at.After-len-last) (is_plan at.After-len-last) in
+    (λ e. (quiet_is_idle c.args.self.now.plan c.args.self.now.core s (is_plan at.After-len-last) stands).0 quiet, λ none. refl)
 
 pub returns-clause-current : goal.returns-clause-current
 returns-clause-current c e s stands =
+    let at = goal.at.returns-clause-current c in
     let plan = c.args.self.now.plan in
     let core = c.args.self.now.core in
-    let quiet = quiet_is (goal.at.returns-clause-current c).After-is_none in
-    quiet_current plan core s c.next_node.ensures.sound stands ((quiet_is_idle plan core s c.next_node.ensures.sound stands).0 (quiet.0 e))
+    let quiet = quiet_is at.After-loop-number (many at.After-len-last) (is_plan at.After-len-last) in
+    quiet_current plan core s (is_plan at.After-len-last) stands ((quiet_is_idle plan core s (is_plan at.After-len-last) stands).0 quiet)
