@@ -11,6 +11,8 @@ import sys
 from dataclasses import dataclass
 from pathlib import Path
 
+sys.dont_write_bytecode = True
+import members
 from accounts import bill_of
 from targets import answers_of, envelope
 
@@ -171,6 +173,12 @@ def large_files():
     yield run_of("4,194,305 bytes", file.ljust(LIMIT + 1), f"too long, more than {LIMIT} bytes\n", TOO_LONG)
 
 
+def edited_members():
+    """Files that differ from a right one in one member."""
+    for name, file, text in members.files():
+        yield Case(f"members/{name}", ["run"], file, text.encode(), REFUSED if text.startswith("refused") else DONE)
+
+
 def first_phases():
     """The village over its first two phases alone."""
     file, text = ((EXAMPLES / it).read_text() for it in ("village.json", "village.txt"))
@@ -254,6 +262,7 @@ def faults():
 def cases(program):
     yield from stored_cases()
     yield from examples()
+    yield from edited_members()
     yield from first_phases()
     yield from cut_files()
     yield from large_files()

@@ -1,13 +1,14 @@
 #!/usr/bin/env python3
 """Whether cluster.schema.json agrees with the program: each file that has a plan passes it, and each file that is refused
-for its shape or for a number in it fails it, but for those of BEYOND. The files are those of examples/ and checks/cases."""
+for its shape or for a number in it fails it, but for those of BEYOND. The files are those of examples/ and checks/cases, and
+those of checks/members.py."""
 
 import json
 import re
 import sys
 
 sys.dont_write_bytecode = True
-from cases import TOP, examples, stored_cases
+from cases import TOP, edited_members, examples, stored_cases
 
 # The codes that are no matter of a schema: no reading at all, and what names and places have to do with each other.
 NOT_OF_SHAPE = {1, 8, 9, 10, 14, 15, 16, 22}
@@ -52,16 +53,20 @@ def validator():
 
 
 def files():
-    """The name and the path of each cluster file that is run, and the code with which it is refused, or None."""
-    for case in [*examples(), *stored_cases()]:
-        if case.arguments in (["run"], ["trace"]) and case.stdin.is_file():
-            found = re.match(rb"refused (\d+) ", case.stdout)
-            yield case.name, case.stdin, int(found[1]) if found else None
+    """The name and the text of each cluster file that is run, and the code with which it is refused, or None."""
+    for case in [*examples(), *stored_cases(), *edited_members()]:
+        if case.arguments not in (["run"], ["trace"]) or not (isinstance(case.stdin, bytes) or case.stdin.is_file()):
+            continue
+        found = re.match(rb"refused (\d+) ", case.stdout)
+        code = int(found[1]) if found else None
+        if code not in NOT_OF_SHAPE:
+            text = case.stdin if isinstance(case.stdin, bytes) else case.stdin.read_bytes()
+            yield case.name, json.loads(text), code
 
 
 def why_wrong(check, name, file, code):
     """What is wrong with the schema's answer on a file, or None."""
-    fault = next(check.iter_errors(json.loads(file.read_text())), None)
+    fault = next(check.iter_errors(file), None)
     passes = code is None or name in BEYOND
     if passes and fault is not None:
         return f"fails: {fault.message[:200]}"
@@ -76,8 +81,6 @@ def main():
         return 0
     passed, failed = 0, 0
     for name, file, code in files():
-        if code in NOT_OF_SHAPE:
-            continue
         why = why_wrong(check, name, file, code)
         if why is None:
             passed += 1
