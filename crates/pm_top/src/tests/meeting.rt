@@ -13,10 +13,11 @@ use std::thread;
 /// How often a node looks for the other at most.
 const LOOKS: u32 = 20_000_000;
 
-/// The first line of node 1 waits until that of node 2 has begun, and the other way round. It keeps every line.
+/// The first line of one node waits until that of the other has begun, and the other way round. It keeps every line.
 #[derive(Drop)]
 pub(super) struct MeetingGate<'r, R: Wait> {
     rt: &'r R,
+    nodes: (u32, u32),
     first: AtomicU64,
     second: AtomicU64,
     met: AtomicU64,
@@ -24,9 +25,10 @@ pub(super) struct MeetingGate<'r, R: Wait> {
 }
 
 impl<'r, R: Wait> MeetingGate<'r, R> {
-    pub(super) fn new(rt: &'r R, alloc: Global) -> MeetingGate<'r, R> {
+    pub(super) fn new(rt: &'r R, alloc: Global, nodes: (u32, u32)) -> MeetingGate<'r, R> {
         MeetingGate {
             rt,
+            nodes,
             first: AtomicU64::new(0),
             second: AtomicU64::new(0),
             met: AtomicU64::new(0),
@@ -61,10 +63,10 @@ impl<'r, R: Wait + Sync> Gate for MeetingGate<'r, R> {
             return;
         };
         let _ = self.lines.lock(self.rt).push(line);
-        match node {
-            1 => self.meet(&self.first, &self.second),
-            2 => self.meet(&self.second, &self.first),
-            _ => {}
+        if node == self.nodes.0 {
+            self.meet(&self.first, &self.second);
+        } else if node == self.nodes.1 {
+            self.meet(&self.second, &self.first);
         }
     }
 }
@@ -157,7 +159,7 @@ fn input_of(alloc: Global, line: &str) -> Result<String, Fail> {
 #[test]
 fn two_nodes_meet(rt: HostRuntime) -> Result<(), Fail> {
     for line in ["run", "trace", "demo 2 7", "bill", "ask"] {
-        let gate = MeetingGate::new(&rt, rt.alloc());
+        let gate = MeetingGate::new(&rt, rt.alloc(), (1, 2));
         let input = input_of(rt.alloc(), line)?;
         let (status, text) = ran(&rt, rt.alloc(), line, &input, &gate)?;
         assert_eq!(rt; status, Status::Done, "at {line}");

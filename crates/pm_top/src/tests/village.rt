@@ -112,10 +112,10 @@ fn slow_nodes_change_no_text(rt: HostRuntime) -> Result<(), Fail> {
     Ok(())
 }
 
-/// The two concentrators meet, and the text is that of a run that nothing holds back.
+/// The lower concentrator and a device beside it meet, and the text is that of a run that nothing holds back.
 #[test]
-fn two_concentrators_meet(rt: HostRuntime) -> Result<(), Fail> {
-    let gate = MeetingGate::new(&rt, rt.alloc());
+fn a_concentrator_and_a_device_meet(rt: HostRuntime) -> Result<(), Fail> {
+    let gate = MeetingGate::new(&rt, rt.alloc(), (2, 6));
     let (status, text) = ran(&rt, rt.alloc(), "run", VILLAGE, &gate)?;
     assert_eq!(rt; (status, text.as_str()), (Status::Done, VILLAGE_TEXT));
     assert_eq!(rt; gate.met(), 2);
