@@ -150,16 +150,27 @@ def draw_powers(axes, file, name, ends, looks, title):
         axes.legend(fontsize=8, loc="center left", bbox_to_anchor=(1.01, 0.5), frameon=False)
 
 
-def draw(file, ends, phase, picture):
+def pyplot_of():
+    """What draws, without a screen."""
     try:
         import matplotlib
     except ImportError:
-        raise SystemExit("draw.py: Python's matplotlib is not installed; on Debian: apt-get install python3-matplotlib") from None
+        raise SystemExit("Python's matplotlib is not installed; on Debian: apt-get install python3-matplotlib") from None
     matplotlib.use("Agg")
     matplotlib.rcParams.update({"svg.hashsalt": "market", "hatch.linewidth": 0.5, "axes.titlesize": 10, "axes.labelsize": 9,
                                 "xtick.labelsize": 9, "ytick.labelsize": 9})
     from matplotlib import pyplot
 
+    return pyplot
+
+
+def save(figure, picture):
+    figure.savefig(f"{picture}.png", dpi=90)
+    figure.savefig(f"{picture}.svg", metadata={"Date": None})
+
+
+def draw(file, ends, phase, picture):
+    pyplot = pyplot_of()
     end, looks, parts = ends[phase - 1], looks_of(file), list(ends[0].parts)
     top = max(2.8, 0.24 * (len(file["nodes"]) + 1))
     figure = pyplot.figure(figsize=(10, top + 2.9 * len(parts)), layout="constrained")
@@ -176,8 +187,7 @@ def draw(file, ends, phase, picture):
             summed, which = (" within limits", " outside limited parts") if len(parts) > 1 else ("", "")
         draw_bids(bids, file, name, end.parts[name], f"Sum of the bids{summed} in phase {phase}")
         draw_powers(powers, file, name, ends, looks, f"Powers of the devices{which}")
-    figure.savefig(f"{picture}.png", dpi=90)
-    figure.savefig(f"{picture}.svg", metadata={"Date": None})
+    save(figure, picture)
 
 
 def main(arguments):
