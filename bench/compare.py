@@ -8,7 +8,8 @@ either of these two may be `-`, and then what needs it is left out. FOLDER has t
 
 Each way runs RUNS times on a file, in turn with the others, and the least time of the whole process counts. The time of the
 processors is told beside it, which other work on the machine disturbs less. A run before these gives the memory and the
-text, and one after them the counts. On the largest files only the times of `market run` and of the plain program are taken.
+text, and one after them the counts. On the largest files only the times of `market run` and of the plain program are taken,
+and of the demo cluster also that of `market ask` with many targets.
 The status is 1 where a text differs or a run fails or hangs, else 2 where a goal is missed, else 0.
 """
 
@@ -39,6 +40,9 @@ READING = "measure read"
 
 # How often longer than the plain program `market run` may take, by the file.
 MARKET_GOALS = {"demo": 12, "wide": 5.5, "deep": 2, "calm": 2}
+# How many targets are asked of the total of a file, how often longer than `market run` that may take, and by how much.
+ASKED, TARGETS = "demo", 100_000
+ASK_GOAL, ASK_SECONDS = 2, 0.050
 # How often more memory than the walk `market run` and the driven cluster may take.
 MEMORY_GOAL = 3
 # How often longer than the walk the driven cluster may take, the reading taken off both.
@@ -215,6 +219,34 @@ def measured_largest(ways, runs, path):
     return [line], False
 
 
+def envelope_of(path, folder):
+    """A file with an envelope of the cluster file and of targets on both sides of nothing."""
+    asked = os.path.join(folder, f"{name_of(path)}.ask")
+    with open(path, "rb") as source, open(asked, "wb") as envelope:
+        file = source.read()
+        envelope.write(b"%d\n" % len(file) + file)
+        envelope.writelines(b"%d\n" % (it * 7 - 3 * TARGETS) for it in range(TARGETS))
+    return asked
+
+
+def measured_targets(market, runs, folder, path):
+    """The line of many targets, and whether their goal is missed."""
+    asked = envelope_of(path, folder)
+    answers = sum(line.startswith(b"target ") for line in text_of([market, "ask"], asked).splitlines())
+    if answers != TARGETS:
+        raise Failed(f"{answers} targets of {TARGETS} have an answer")
+    times = {"run": [], "ask": []}
+    with open(os.devnull, "wb") as nowhere:
+        for _ in range(runs):
+            for command, file in (("run", path), ("ask", asked)):
+                times[command].append(run([market, command], file, nowhere).seconds)
+    least = {command: min(taken) for command, taken in times.items()}
+    goal = ASK_GOAL * least["run"] + ASK_SECONDS
+    missed = least["ask"] > goal
+    line = f"{name_of(path)}: {TARGETS:,} targets in {1000 * least['ask']:.1f} ms, {MARKET} in {1000 * least['run']:.1f} ms "
+    return [line + f"(goal {1000 * goal:.1f} ms{', MISSED' if missed else ''})"], missed
+
+
 def ways_of(market, measure, plain):
     """The commands of the ways."""
     ways = {MARKET: [market, "run"]}
@@ -246,6 +278,8 @@ def main(runs, market, measure, plain, counter, folder):
     statuses = [tried(measured_largest, ways, int(runs), path) for path in largest]
     paths = [os.path.join(folder, "compared", name + ".json") for name in COMPARED]
     statuses += [tried(measured, ways, int(runs), counter, path) for path in paths]
+    asked = os.path.join(folder, "compared", ASKED + ".json")
+    statuses.append(tried(measured_targets, market, int(runs), folder, asked))
     print(load())
     return 1 if 1 in statuses else max(statuses)
 
