@@ -121,11 +121,14 @@ def runs_of(ways, runs, path):
 
 
 def quotient(over, under):
-    return over / max(under, 1e-6)
+    """A ratio of seconds or of megabytes; None where less than a millisecond, or its like, would divide."""
+    return over / under if under >= 0.001 else None
 
 
 def beside(ratio, goal):
-    """A ratio beside its goal, and whether the goal is missed; there may be none."""
+    """A ratio beside its goal, and whether the goal is missed; there may be no goal, and no ratio, which misses none."""
+    if ratio is None:
+        return "none, as too little would divide", False
     if goal is None:
         return f"{ratio:.2f}", False
     missed = ratio > goal
