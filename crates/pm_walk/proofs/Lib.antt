@@ -5,3 +5,4 @@ pub mod Standings
 pub mod GroupTotals
 pub mod EndLines
 pub mod Phases
+pub mod DeviceCuts

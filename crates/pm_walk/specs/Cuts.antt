@@ -1,6 +1,6 @@
 -- A cut as a list of numbers, and where the devices stop on the way to it.
-use Rattle.std.specs.Prelude.{◌≡◌, ℕ, min, List, ◌∷◌}
-use Rattle.pm_plan.specs.Plans.{PlanData, end_cut}
+use Rattle.std.specs.Prelude.{◌≡◌, ℕ, min, cond, List, ◌∷◌}
+use Rattle.pm_plan.specs.Plans.{PlanData, is_leaf, end_cut}
 use Rattle.pm_base.specs.Cuts.{Cut, cut_of}
 use Rattle.pm_walk.specs.Standing.{HaveCome, cut_made}
 use Rattle.pm_walk.specs.declared.changes.Progress.{Progress}
@@ -17,3 +17,7 @@ earlier_cut cut other x = min (cut x) (other x)
 pub record AreStops (plan : PlanData) (counts : List ℕ) (p : ℕ) (progress : List Progress) : Type 0 where
   pub reached : HaveCome plan progress
   pub cut : cut_made progress ≡ earlier_cut (file_cut counts) (end_cut plan p)
+
+-- the numbers that a cut has of the devices alone
+abbrev pub device_cut : PlanData → Cut → Cut
+device_cut plan cut x = cond (is_leaf plan x) (cut x) 0

@@ -6,11 +6,16 @@
 //! Its time grows with changes times steps: demands and sums of groups are kept from phase to phase, and a change
 //! takes its device's old demand off and adds the new one. The total, the steps of the groups and the powers are found
 //! anew in the phases in which some device makes a change.
+//!
+//! [`CutAuction`] is the same auction over cuts that come one by one, as a run clears them: `rising` makes the changes
+//! between two cuts.
 #![tactic(auto)]
 
+mod auction;
 mod changes;
 mod clearing;
 mod lines;
+mod rising;
 mod run;
 mod standing;
 mod stops;
@@ -18,4 +23,5 @@ mod stops;
 mod tests;
 mod totals;
 
+pub use auction::CutAuction;
 pub use run::{all_ends, end_of_cut};

@@ -41,7 +41,7 @@ impl Run {
     }
 
     /// A run before the first phase.
-    fn start(alloc: Global, plan: &Plan) -> Result<Run, AllocError>
+    pub(crate) fn start(alloc: Global, plan: &Plan) -> Result<Run, AllocError>
         ensures { IfOk result (IsAtEnd plan.now 0) }
     {
         let standing = Standing::start(alloc, plan)?;

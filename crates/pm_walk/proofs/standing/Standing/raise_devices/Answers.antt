@@ -1,0 +1,71 @@
+use Rattle.std.proofs.Common.{◌≡◌, ◌∙◌, ◌+◌, ◌<◌, ap, sym, subst, refl, true, false, length, arith}
+use Rattle.pm_tree.specs.Entries.{is_leaf_at}
+use Rattle.pm_base.specs.Cuts.{cut_of}
+use Rattle.pm_plan.specs.Plans.{is_leaf}
+use Rattle.pm_walk.specs.Cuts.{device_cut}
+use Rattle.pm_walk.specs.Standing.{StandingValue, IsStanding, cut_made}
+use Rattle.pm_walk.proofs.DeviceCuts.{device-here, device-other, made-none, beyond-other, zero-other}
+use Rattle.pm_walk.proofs.Standings.{AreBetween, first_node, made-zero, between-more, between-passed, all_between}
+use Rattle.pm_walk.proofs.standing.Standing.raise_devices.Goals as goal
+use Rattle.pm_walk.proofs.standing.Standing.raise_devices.Goals.{then-is_leaf, else-is_leaf}
+
+pub loop-number-init : goal.loop-number-init
+loop-number-init c =
+    let plan = c.args.plan.now in
+    let cut = cut_of c.args.cut.now in
+    record {
+      stands = c.requires.stands;
+      between = record {
+        done = λ x below. first_node (cut_made c.args.self.now.progress) (device_cut plan cut) x below
+            (made-zero plan c.args.self.now.progress c.requires.stands.progress ∙ sym (device-other plan cut 0 (zero-other plan c.requires.stands.sound)));
+        left = λ x from. refl;
+      };
+      spare = c.requires.spare;
+    }
+
+pub raise_device-requires-clause-stands : goal.raise_device-requires-clause-stands
+raise_device-requires-clause-stands c = c.loop-number.invariant.stands
+
+pub raise_device-requires-clause-spare : goal.raise_device-requires-clause-spare
+raise_device-requires-clause-spare c = c.loop-number.invariant.spare
+
+pub loop-number-preserved : goal.loop-number-preserved
+loop-number-preserved c =
+    let plan = c.args.plan.now in
+    let n = c.loop-number.number in
+    let cut = cut_of c.args.cut.now in
+    let before = cut_made c.args.self.now.progress in
+    let between = c.loop-number.invariant.between in
+    elim c.if-is_leaf.branch [
+      | then-is_leaf w ↦
+          let leaf : is_leaf plan n ≡ true = ap (λ e. is_leaf_at e n) (sym c.tree-tree.ensures.tree) ∙ sym c.is_leaf.ensures ∙ w.if-is_leaf.true in
+          let raised = w.raise_device.ensures in
+          let here = raised.done ∙ w.number_at.ensures ∙ sym (device-here plan cut n leaf) in
+          record {
+            stands = subst (IsStanding plan) (sym w.self-is) raised.stands;
+            between = subst (λ (s : StandingValue). AreBetween (n + 1) s.progress (device_cut plan cut) before) (sym w.self-is)
+                (between-more n c.loop-number.self.progress _ (device_cut plan cut) before between here raised.others);
+            spare = ap (λ l. length l) w.spare-is ∙ raised.spare;
+          }
+      | else-is_leaf w ↦
+          let other : is_leaf plan n ≡ false = ap (λ e. is_leaf_at e n) (sym c.tree-tree.ensures.tree) ∙ sym c.is_leaf.ensures ∙ w.if-is_leaf.false in
+          let is = c.tree-tree.ensures.sound in
+          let none = made-none plan c.args.self.now.progress n is c.requires.stands.progress other ∙ sym (device-other plan cut n other) in
+          record {
+            stands = subst (IsStanding plan) (sym w.self-is) c.loop-number.invariant.stands;
+            between = subst (λ (s : StandingValue). AreBetween (n + 1) s.progress (device_cut plan cut) before) (sym w.self-is)
+                (between-passed n c.loop-number.self.progress (device_cut plan cut) before between none);
+            spare = ap (λ l. length l) w.spare-is ∙ c.loop-number.invariant.spare;
+          }
+    ]
+
+pub returns-clause-done : goal.returns-clause-done
+returns-clause-done c =
+    let plan = c.args.plan.now in
+    let is = c.tree-tree.ensures.sound in
+    let cut = cut_of c.args.cut.now in
+    let n = c.loop-number.number in
+    let all : length plan.nodes < n = omega (arith, is.nodes.one_each, c.len-number-end.ensures.len, ap (λ e. length e) c.tree-tree.ensures.tree) in
+    all_between n c.loop-number.self.progress (device_cut plan cut) (cut_made c.args.self.now.progress) c.loop-number.invariant.between (λ x from.
+    let other = beyond-other plan x is (omega arith) in
+    made-none plan c.args.self.now.progress x is c.requires.stands.progress other ∙ sym (device-other plan cut x other))
