@@ -60,7 +60,8 @@ module _ (plan : PlanData) (is_plan : IsPlan plan) (a b : Cut) (same : (d : ℕ)
   same_demand : (x : ℕ) → demand_in_cut plan (state plan) a x ≡ demand_in_cut plan (state plan) b x
   unfolding demand_in_cut
   same_demand x = elim (cases_Bool (plans.is_leaf plan x)) [
-    | inl leaf ↦ ap (λ n. cond (plans.is_member plan x n) (node_bid plan (node plan x) (state plan x n)) (zeros plan.basis.steps)) (same x (is_leaf-is plan x ∙ leaf))
+    | inl leaf ↦ ap (λ n. cond (plans.is_member plan x n) (node_bid plan (node plan x) (state plan x n)) (zeros plan.basis.steps))
+        (same x (is_leaf-is plan x ∙ leaf))
     | inr other ↦
         let none = is_plan.nodes.devices x ∙ other in
         no_demand plan (state plan) a x none ∙ sym (no_demand plan (state plan) b x none)
@@ -93,7 +94,8 @@ module _ (plan : PlanData) (is_plan : IsPlan plan) (a b : Cut) (same : (d : ℕ)
 -- ---- moves that clear and close nothing
 
 -- only the clearings and the closed phases matter
-cleared_alike : (plan : PlanData) (s t : State) (steps : ClearedSteps) → t.published 0 ≡ s.published 0 → t.closed ≡ s.closed → AreCleared plan s steps → AreCleared plan t steps
+cleared_alike : (plan : PlanData) (s t : State) (steps : ClearedSteps) → t.published 0 ≡ s.published 0 → t.closed ≡ s.closed →
+    AreCleared plan s steps → AreCleared plan t steps
 cleared_alike plan s t steps same closed are = record {
   closed = are.closed ∙ sym closed;
   auction = subst (λ (p : ℕ). IsAuction plan p steps.auction) (sym closed) are.auction;
@@ -107,16 +109,20 @@ cleared_alike plan s t steps same closed are = record {
   };
 }
 
-pub change_keeps : (plan : PlanData) (s : State) (steps : ClearedSteps) (d n : ℕ) → AreCleared plan s steps → AreCleared plan (step (plan_lists plan) s (Change d n)) steps
+pub change_keeps : (plan : PlanData) (s : State) (steps : ClearedSteps) (d n : ℕ) → AreCleared plan s steps →
+    AreCleared plan (step (plan_lists plan) s (Change d n)) steps
 change_keeps plan s steps d n are = cleared_alike plan s (step (plan_lists plan) s (Change d n)) steps refl refl are
 
-pub learn_keeps : (plan : PlanData) (s : State) (steps : ClearedSteps) (x n : ℕ) → AreCleared plan s steps → AreCleared plan (step (plan_lists plan) s (Learn x n)) steps
+pub learn_keeps : (plan : PlanData) (s : State) (steps : ClearedSteps) (x n : ℕ) → AreCleared plan s steps →
+    AreCleared plan (step (plan_lists plan) s (Learn x n)) steps
 learn_keeps plan s steps x n are = cleared_alike plan s (step (plan_lists plan) s (Learn x n)) steps refl refl are
 
-pub pass_keeps : (plan : PlanData) (s : State) (steps : ClearedSteps) (x j : ℕ) → AreCleared plan s steps → AreCleared plan (step (plan_lists plan) s (Pass x j)) steps
+pub pass_keeps : (plan : PlanData) (s : State) (steps : ClearedSteps) (x j : ℕ) → AreCleared plan s steps →
+    AreCleared plan (step (plan_lists plan) s (Pass x j)) steps
 pass_keeps plan s steps x j are = cleared_alike plan s (step (plan_lists plan) s (Pass x j)) steps refl refl are
 
-pub publish_keeps : (plan : PlanData) (s : State) (steps : ClearedSteps) (c n : ℕ) → 1 ≤ c → AreCleared plan s steps → AreCleared plan (step (plan_lists plan) s (Publish c n)) steps
+pub publish_keeps : (plan : PlanData) (s : State) (steps : ClearedSteps) (c n : ℕ) → 1 ≤ c → AreCleared plan s steps →
+    AreCleared plan (step (plan_lists plan) s (Publish c n)) steps
 publish_keeps plan s steps c n low are =
     cleared_alike plan s (step (plan_lists plan) s (Publish c n)) steps
     (updated_other s.published c (s.published c ++ known (plan_lists plan) s c ∷ []) 0 (λ same. omega (arith, same, low))) refl are
@@ -182,10 +188,12 @@ module _ (plan : PlanData) (is_plan : IsPlan plan) (s : State) (sound : Sound (p
 
     module _ (old new : ClearedSteps) (cut : List ℕ) (are : AreCleared plan s old) (cut_is : cut_of cut ≡ cleared next (clearings s + 1)) where
       -- the steps of one clearing more
-      pub clear_adds : new.closed ≡ old.closed → IsAuction plan new.closed new.auction → ((d : ℕ) → plans.is_leaf plan d ≡ true → auction_cut new.auction d ≡ cut_of cut d) →
+      pub clear_adds : new.closed ≡ old.closed → IsAuction plan new.closed new.auction →
+          ((d : ℕ) → plans.is_leaf plan d ≡ true → auction_cut new.auction d ≡ cut_of cut d) →
           HasRow plan old new → AreCleared plan next new
       clear_adds closed auction cut' row =
-          let here : (d : ℕ) → IsLeaf lists d → auction_cut new.auction d ≡ cleared next (clearings s + 1) d = λ d leaf. cut' d (leaf_in_plan d leaf) ∙ ap (λ (c : Cut). c d) cut_is in
+          let here : (d : ℕ) → IsLeaf lists d →
+          auction_cut new.auction d ≡ cleared next (clearings s + 1) d = λ d leaf. cut' d (leaf_in_plan d leaf) ∙ ap (λ (c : Cut). c d) cut_is in
           let long : AreRows plan (rows_of new) = subst (AreRows plan) (sym row.1.1)
           (All-append (λ (r : List ℕ). length r ≡ length plan.nodes + 1) (rows_of old) (row.0 ∷ []) are.steps_are.long
           (All-cons (λ (r : List ℕ). length r ≡ length plan.nodes + 1) row.0 [] row.1.0.one_each (All-nil _))) in
@@ -195,17 +203,26 @@ module _ (plan : PlanData) (is_plan : IsPlan plan) (s : State) (sound : Sound (p
             cut = λ d leaf. here d leaf ∙ ap (λ (i : ℕ). cleared next i d) (sym clearings_are);
             steps_are = record {
               long = long;
-              one_each = omega (arith, ap (λ (rs : List (List ℕ)). length rs) row.1.1, length-append (rows_of old) (row.0 ∷ []), are.steps_are.one_each, clearings_are);
+              one_each = omega (
+                arith,
+                ap (λ (rs : List (List ℕ)). length rs) row.1.1,
+                length-append (rows_of old)
+                    (row.0 ∷ []),
+                are.steps_are.one_each,
+                clearings_are,
+              );
               steps = λ i x low high node. elim (cases_eq i (clearings s + 1)) [
                 | inl last ↦
                     ap (λ (rs : List (List ℕ)). get_or (get_or rs (i - 1) []) (group plan x) 0) row.1.1
-                    ∙ ap (λ (r : List ℕ). get_or r (group plan x) 0) (get_or_push (rows_of old) row.0 [] (i - 1) (omega (arith, last, are.steps_are.one_each)))
+                    ∙ ap (λ (r : List ℕ). get_or r (group plan x) 0)
+                    (get_or_push (rows_of old) row.0 [] (i - 1) (omega (arith, last, are.steps_are.one_each)))
                     ∙ steps_of plan is_plan (auction_cut new.auction) (cleared next (clearings s + 1)) here row.0 row.1.0 x node
                     ∙ ap (λ (k : ℕ). local_at plan (cleared next k) x) (sym last)
                 | inr before ↦
                     let within : i ≤ clearings s = omega (arith, before, high, clearings_are) in
                     ap (λ (rs : List (List ℕ)). get_or (get_or rs (i - 1) []) (group plan x) 0) row.1.1
-                    ∙ ap (λ (r : List ℕ). get_or r (group plan x) 0) (get_or_append_left (rows_of old) (row.0 ∷ []) [] (i - 1) (omega (arith, low, within, are.steps_are.one_each)))
+                    ∙ ap (λ (r : List ℕ). get_or r (group plan x) 0)
+                    (get_or_append_left (rows_of old) (row.0 ∷ []) [] (i - 1) (omega (arith, low, within, are.steps_are.one_each)))
                     ∙ are.steps_are.steps i x low within node
                     ∙ ap (λ (c : Cut). local_at plan c x) (sym (cleared_kept i within))
               ];
@@ -220,11 +237,13 @@ module _ (plan : PlanData) (is_plan : IsPlan plan) (s : State) (sound : Sound (p
     ends_closed d leaf' =
         let leaf : IsLeaf lists d = is_leaf-is plan d ∙ leaf' in
         let node = leaf_node lists law d leaf in
-        let end = end-is plan p d node.0 (omega (arith, node.1, group_nodes.nodes_are plan is_plan)) (omega (arith, legal.1, phases-is plan)) is_plan.in_phases in
+        let end = end-is plan p d node.0 (omega (arith, node.1, group_nodes.nodes_are plan is_plan)) (omega (arith, legal.1, phases-is plan))
+        is_plan.in_phases in
         let phase : p ≡ old.closed + 1 = omega (arith, legal.0, are.closed) in
         are.cut d leaf ∙ quiet_counts lists law s sound legal.3 d leaf ∙ legal.2 d leaf ∙ end ∙ ap (λ (q : ℕ). end_cut plan q d) phase
 
-    pub close_keeps : new.closed ≡ old.closed + 1 → IsAuction plan new.closed new.auction → auction_cut new.auction ≡ auction_cut old.auction → rows_of new ≡ rows_of old →
+    pub close_keeps : new.closed ≡ old.closed + 1 → IsAuction plan new.closed new.auction → auction_cut new.auction ≡ auction_cut old.auction →
+        rows_of new ≡ rows_of old →
         AreCleared plan (step lists s (Close p)) new
     close_keeps closed auction cut rows =
         let closed_is : new.closed ≡ p = omega (arith, closed, are.closed, legal.0) in
@@ -235,13 +254,15 @@ module _ (plan : PlanData) (is_plan : IsPlan plan) (s : State) (sound : Sound (p
           steps_are = record {
             long = subst (AreRows plan) (sym rows) are.steps_are.long;
             one_each = ap (λ (rs : List (List ℕ)). length rs) rows ∙ are.steps_are.one_each;
-            steps = λ j x low high node. ap (λ (rs : List (List ℕ)). get_or (get_or rs (j - 1) []) (group plan x) 0) rows ∙ are.steps_are.steps j x low high node;
+            steps = λ j x low high node. ap (λ (rs : List (List ℕ)). get_or (get_or rs (j - 1) []) (group plan x) 0) rows
+                ∙ are.steps_are.steps j x low high node;
           };
         }
 
 -- ---- before the first move
 
-pub cleared_start : (plan : PlanData) (steps : ClearedSteps) → steps.closed ≡ 0 → IsAuction plan 0 steps.auction → ((x : ℕ) → auction_cut steps.auction x ≡ 0) →
+pub cleared_start : (plan : PlanData) (steps : ClearedSteps) → steps.closed ≡ 0 → IsAuction plan 0 steps.auction →
+    ((x : ℕ) → auction_cut steps.auction x ≡ 0) →
     rows_of steps ≡ [] → AreCleared plan start steps
 cleared_start plan steps closed auction none rows = record {
   closed = closed;

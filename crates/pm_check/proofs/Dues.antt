@@ -56,13 +56,16 @@ lines_push : (plan : PlanData) (ms : List Move) (m : Move) (s : State) →
     ≡ map (move_line plan) (lines_from (plan_lists plan) (local_at plan) s ms)
     ++ move_line plan (line_of (plan_lists plan) (local_at plan) (after_from (plan_lists plan) s ms) m) ∷ []
 lines_push plan [] m s = refl
-lines_push plan (n ∷ ms) m s = ap (λ l. move_line plan (line_of (plan_lists plan) (local_at plan) s n) ∷ l) (lines_push plan ms m (step (plan_lists plan) s n))
+lines_push plan (n ∷ ms) m s = ap (λ l. move_line plan (line_of (plan_lists plan) (local_at plan) s n) ∷ l)
+    (lines_push plan ms m (step (plan_lists plan) s n))
 
-pub journal_push : (plan : PlanData) (journal : List Move) (m : Move) → journal_lines plan (journal ++ m ∷ []) ≡ journal_lines plan journal ++ next_line plan journal m ∷ []
+pub journal_push : (plan : PlanData) (journal : List Move) (m : Move) →
+    journal_lines plan (journal ++ m ∷ []) ≡ journal_lines plan journal ++ next_line plan journal m ∷ []
 journal_push plan journal m = lines_push plan journal m start
 
 -- where a line is due after lines that are due, all of them are
-pub due_push : (plan : PlanData) (report trace : List (List ℕ)) (line : List ℕ) → AreDue plan report trace → IsDue plan report trace line → AreDue plan report (trace ++ line ∷ [])
+pub due_push : (plan : PlanData) (report trace : List (List ℕ)) (line : List ℕ) → AreDue plan report trace → IsDue plan report trace line →
+    AreDue plan report (trace ++ line ∷ [])
 due_push plan report trace line due next before more other same =
     elim (split_push trace before more line other same) [
       | inl last ↦
@@ -92,7 +95,8 @@ module _ (plan : PlanData) (is_plan : IsPlan plan) where
   law = lawful plan is_plan
 
   -- a legal move that is made after a legal journal
-  pub legal_push : (journal : List Move) (m : Move) → LegalJournal lists journal → Legal lists (after lists journal) m → LegalJournal lists (journal ++ m ∷ [])
+  pub legal_push : (journal : List Move) (m : Move) → LegalJournal lists journal → Legal lists (after lists journal) m →
+      LegalJournal lists (journal ++ m ∷ [])
   legal_push journal m legal next = legal_append lists journal (m ∷ []) start legal (next, tt)
 
   pub after_push : (journal : List Move) (m : Move) → after lists (journal ++ m ∷ []) ≡ step lists (after lists journal) m
@@ -104,7 +108,8 @@ module _ (plan : PlanData) (is_plan : IsPlan plan) where
   move_due report journal m legal next =
       next_move journal m refl legal (λ complete. no_more lists (after lists journal) m (sound_after lists law journal legal) complete next) next refl
 
-  journal_due_from : (report : List (List ℕ)) (front back : List Move) → LegalJournal lists (front ++ back) → AreDue plan report (report ++ journal_lines plan front) →
+  journal_due_from : (report : List (List ℕ)) (front back : List Move) → LegalJournal lists (front ++ back) →
+      AreDue plan report (report ++ journal_lines plan front) →
       AreDue plan report (report ++ journal_lines plan (front ++ back))
   journal_due_from report front [] legal due = subst (λ (j : List Move). AreDue plan report (report ++ journal_lines plan j)) (sym (append-nil front)) due
   journal_due_from report front (m ∷ back) legal due =
@@ -119,13 +124,15 @@ module _ (plan : PlanData) (is_plan : IsPlan plan) where
   -- the lines of the report and of a legal journal are due
   pub journal_due : (report : List (List ℕ)) (journal : List Move) → LegalJournal lists journal → AreDue plan report (report ++ journal_lines plan journal)
   journal_due report journal legal =
-      journal_due_from report [] journal legal (subst (AreDue plan report) (sym (append-nil report)) (report_due plan report report [] (sym (append-nil report))))
+      journal_due_from report [] journal legal
+      (subst (AreDue plan report) (sym (append-nil report)) (report_due plan report report [] (sym (append-nil report))))
 
   -- and behind a complete journal the line with the number of moves
   pub count_due : (report : List (List ℕ)) (journal : List Move) → LegalJournal lists journal → IsComplete lists journal →
       AreDue plan report ((report ++ journal_lines plan journal) ++ count_line plan journal ∷ [])
   count_due report journal legal complete =
-      due_push plan report (report ++ journal_lines plan journal) (count_line plan journal) (journal_due report journal legal) (count journal refl legal complete refl)
+      due_push plan report (report ++ journal_lines plan journal) (count_line plan journal) (journal_due report journal legal)
+      (count journal refl legal complete refl)
 
   -- ---- what is not due
 
@@ -134,10 +141,12 @@ module _ (plan : PlanData) (is_plan : IsPlan plan) where
       ((m : Move) → Legal lists (after lists journal) m → line ≢ next_line plan journal m) → IsDue plan report (report ++ journal_lines plan journal) line → ⊥
   no_move_due report journal line legal going none (in_report more parts) = longer report (journal_lines plan journal) more line parts
   no_move_due report journal line legal going none (next_move other m parts other_legal other_goes next tells) =
-      let same = same_moves plan is_plan other journal other_legal legal (sym (append_cancel_left report (journal_lines plan journal) (journal_lines plan other) parts)) in
+      let same = same_moves plan is_plan other journal other_legal legal
+      (sym (append_cancel_left report (journal_lines plan journal) (journal_lines plan other) parts)) in
       none m (subst (λ (j : List Move). Legal lists (after lists j) m) same next) (tells ∙ ap (λ (j : List Move). next_line plan j m) same)
   no_move_due report journal line legal going none (count other parts other_legal complete tells) =
-      let same = same_moves plan is_plan other journal other_legal legal (sym (append_cancel_left report (journal_lines plan journal) (journal_lines plan other) parts)) in
+      let same = same_moves plan is_plan other journal other_legal legal
+      (sym (append_cancel_left report (journal_lines plan journal) (journal_lines plan other) parts)) in
       going (subst (IsComplete lists) same complete)
 
   -- behind a complete journal: what is not the line with its number of moves
@@ -145,10 +154,12 @@ module _ (plan : PlanData) (is_plan : IsPlan plan) where
       line ≢ count_line plan journal → IsDue plan report (report ++ journal_lines plan journal) line → ⊥
   no_count_due report journal line legal complete other_line (in_report more parts) = longer report (journal_lines plan journal) more line parts
   no_count_due report journal line legal complete other_line (next_move other m parts other_legal other_goes next tells) =
-      let same = same_moves plan is_plan other journal other_legal legal (sym (append_cancel_left report (journal_lines plan journal) (journal_lines plan other) parts)) in
+      let same = same_moves plan is_plan other journal other_legal legal
+      (sym (append_cancel_left report (journal_lines plan journal) (journal_lines plan other) parts)) in
       other_goes (subst (IsComplete lists) (sym same) complete)
   no_count_due report journal line legal complete other_line (count other parts other_legal other_complete tells) =
-      let same = same_moves plan is_plan other journal other_legal legal (sym (append_cancel_left report (journal_lines plan journal) (journal_lines plan other) parts)) in
+      let same = same_moves plan is_plan other journal other_legal legal
+      (sym (append_cancel_left report (journal_lines plan journal) (journal_lines plan other) parts)) in
       other_line (tells ∙ ap (count_line plan) same)
 
   -- a line with a number of moves stands among the lines of no journal

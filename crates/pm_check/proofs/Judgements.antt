@@ -44,16 +44,19 @@ module _ (plan : PlanData) (report : List (List ℕ)) (trace : List ℕ) (done :
   lines_of_all lines end are = subst (λ (t : List ℕ). AreLinesOf t (done ++ lines) end) (sym read.parts) (lines_before done rest lines end read.whole are)
 
   -- a whole line that is not due
-  pub bad_line : (line more : List ℕ) → IsWholeLine line → rest ≡ line ++ more → ¬ (IsDue plan report done line) → IsBadAmong plan report trace (length done + 1)
+  pub bad_line : (line more : List ℕ) → IsWholeLine line → rest ≡ line ++ more → ¬ (IsDue plan report done line) →
+      IsBadAmong plan report trace (length done + 1)
   bad_line line more whole parts other =
       let are = lines_exist more in
       let all = line_before line more are.0 are.1.0 whole are.1.1 in
-      not_due done are.0 line are.1.0 (lines_of_all (line ∷ are.0) are.1.0 (subst (λ (t : List ℕ). AreLinesOf t (line ∷ are.0) are.1.0) (sym parts) all)) read.due other refl
+      not_due done are.0 line are.1.0
+      (lines_of_all (line ∷ are.0) are.1.0 (subst (λ (t : List ℕ). AreLinesOf t (line ∷ are.0) are.1.0) (sym parts) all)) read.due other refl
 
   -- a line without end
   bad_end : HasNoLineFeed rest → rest ≢ [] → IsBadAmong plan report trace (length done + 1)
   bad_end none some =
-      no_end done rest (subst (λ (ls : List (List ℕ)). AreLinesOf trace ls rest) (append-nil done) (lines_of_all [] rest (no_lines rest none))) read.due some refl
+      no_end done rest (subst (λ (ls : List (List ℕ)). AreLinesOf trace ls rest) (append-nil done) (lines_of_all [] rest (no_lines rest none)))
+      read.due some refl
 
   -- nothing, where a line is due
   bad_missing : (line : List ℕ) → rest ≡ [] → HasNoLineFeed rest → IsDue plan report done line → IsBadAmong plan report trace (length done + 1)
@@ -103,26 +106,38 @@ module _ (report trace : List ℕ) (lines : ℕ) (done : List (List ℕ)) (later
   expected_due plan line more parts = in_report more parts
 
   -- and no other line
-  other_due : (plan : PlanData) (line other : List ℕ) (more : List (List ℕ)) → report_lines ≡ done ++ line ∷ more → other ≢ line → IsDue plan report_lines done other → ⊥
+  other_due : (plan : PlanData) (line other : List ℕ) (more : List (List ℕ)) → report_lines ≡ done ++ line ∷ more → other ≢ line →
+      IsDue plan report_lines done other → ⊥
   other_due plan line other more parts differ (in_report rest' also) =
       let same : other ∷ rest' ≡ line ∷ more = append_cancel_left done (other ∷ rest') (line ∷ more) (sym also ∙ parts) in
       differ (cc same)
   other_due plan line other more parts differ (next_move journal m begins legal goes next tells) =
-      absurd (omega (arith, ap (λ l. length l) (parts ∙ ap (λ (ls : List (List ℕ)). ls ++ line ∷ more) begins),
-      length-append (report_lines ++ journal_lines plan journal) (line ∷ more), length-append report_lines (journal_lines plan journal)))
+      absurd (omega (
+        arith,
+        ap (λ l. length l) (parts ∙ ap (λ (ls : List (List ℕ)). ls ++ line ∷ more) begins),
+        length-append (report_lines ++ journal_lines plan journal) (line ∷ more),
+        length-append report_lines (journal_lines plan journal),
+      ))
   other_due plan line other more parts differ (count journal begins legal complete tells) =
-      absurd (omega (arith, ap (λ l. length l) (parts ∙ ap (λ (ls : List (List ℕ)). ls ++ line ∷ more) begins),
-      length-append (report_lines ++ journal_lines plan journal) (line ∷ more), length-append report_lines (journal_lines plan journal)))
+      absurd (omega (
+        arith,
+        ap (λ l. length l) (parts ∙ ap (λ (ls : List (List ℕ)). ls ++ line ∷ more) begins),
+        length-append (report_lines ++ journal_lines plan journal) (line ∷ more),
+        length-append report_lines (journal_lines plan journal),
+      ))
 
   -- the line expected has a report's line behind it
-  expected_parts : (expected behind : List ℕ) → IsWholeLine expected → later ≡ expected ++ behind → (more : List (List ℕ)) × (report_lines ≡ done ++ expected ∷ more)
+  expected_parts : (expected behind : List ℕ) → IsWholeLine expected → later ≡ expected ++ behind →
+      (more : List (List ℕ)) × (report_lines ≡ done ++ expected ∷ more)
   expected_parts expected behind whole parts =
       let of_behind = lines_exist behind in
-      let of_later = subst (λ (t : List ℕ). AreLinesOf t (expected ∷ of_behind.0) of_behind.1.0) (sym parts) (line_before expected behind of_behind.0 of_behind.1.0 whole of_behind.1.1) in
+      let of_later = subst (λ (t : List ℕ). AreLinesOf t (expected ∷ of_behind.0) of_behind.1.0) (sym parts)
+      (line_before expected behind of_behind.0 of_behind.1.0 whole of_behind.1.1) in
       (of_behind.0, (report_parts (expected ∷ of_behind.0) of_behind.1.0 of_later).0)
 
   -- the trace has no whole line more, where the report has one
-  pub report_cut : (plan : PlanData) (expected behind : List ℕ) → IsWholeLine expected → later ≡ expected ++ behind → HasNoLineFeed rest → IsBadLine plan report trace (lines + 1)
+  pub report_cut : (plan : PlanData) (expected behind : List ℕ) → IsWholeLine expected → later ≡ expected ++ behind → HasNoLineFeed rest →
+      IsBadLine plan report trace (lines + 1)
   report_cut plan expected behind whole parts none =
       let all = expected_parts expected behind whole parts in
       record {
@@ -167,7 +182,8 @@ module _ (plan : PlanData) (is_plan : IsPlan plan) where
       (read : HasReadTo plan report_lines trace journal rest) where
     whole_lines : All IsWholeLine (report_lines ++ journal_lines plan journal)
     whole_lines =
-        All-append IsWholeLine report_lines (journal_lines plan journal) are.whole (whole_from plan is_plan journal start (sound_start lists (lawful plan is_plan)) read.legal)
+        All-append IsWholeLine report_lines (journal_lines plan journal) are.whole
+        (whole_from plan is_plan journal start (sound_start lists (lawful plan is_plan)) read.legal)
 
     lines_read : AreRead plan report_lines trace (report_lines ++ journal_lines plan journal) rest
     lines_read = record {
@@ -179,15 +195,27 @@ module _ (plan : PlanData) (is_plan : IsPlan plan) where
     }
 
     many : length (report_lines ++ journal_lines plan journal) ≡ length report_lines + length journal
-    many = omega (arith, length-append report_lines (journal_lines plan journal), length-map (lines lists (local_at plan) journal) (move_line plan), count_lines plan is_plan journal)
+    many = omega (
+      arith,
+      length-append report_lines (journal_lines plan journal),
+      length-map (lines lists (local_at plan) journal)
+          (move_line plan),
+      count_lines plan is_plan journal,
+    )
 
     -- there are no more lines than bytes
     pub lines_small : length report_lines + length journal ≤ length trace
     lines_small =
-        omega (arith, many, lines_within (report_lines ++ journal_lines plan journal) whole_lines, ap (λ l. length l) lines_read.parts,
-        length-append (joined (report_lines ++ journal_lines plan journal)) rest)
+        omega (
+          arith,
+          many,
+          lines_within (report_lines ++ journal_lines plan journal) whole_lines,
+          ap (λ l. length l) lines_read.parts,
+          length-append (joined (report_lines ++ journal_lines plan journal)) rest,
+        )
 
-    bad_at : IsBadAmong plan report_lines trace (length (report_lines ++ journal_lines plan journal) + 1) → IsBadLine plan report trace (length report_lines + length journal + 1)
+    bad_at : IsBadAmong plan report_lines trace (length (report_lines ++ journal_lines plan journal) + 1) →
+        IsBadLine plan report trace (length report_lines + length journal + 1)
     bad_at bad = record {
       report_lines = report_lines;
       lines_are = are;
@@ -196,7 +224,8 @@ module _ (plan : PlanData) (is_plan : IsPlan plan) where
 
     -- a line that tells no legal move
     pub bad_move : (line more : List ℕ) → IsWholeLine line → rest ≡ line ++ more → ¬ (IsComplete lists journal) →
-        ((m : Move) → Legal lists (after lists journal) m → line ≢ next_line plan journal m) → IsBadLine plan report trace (length report_lines + length journal + 1)
+        ((m : Move) → Legal lists (after lists journal) m → line ≢ next_line plan journal m) →
+        IsBadLine plan report trace (length report_lines + length journal + 1)
     bad_move line more whole parts going none =
         bad_at (bad_line plan report_lines trace (report_lines ++ journal_lines plan journal) rest lines_read line more whole parts
         (no_move_due plan is_plan report_lines journal line read.legal going none))
@@ -252,7 +281,8 @@ module _ (plan : PlanData) (is_plan : IsPlan plan) where
         legal = read.legal;
         complete = complete;
         text =
-            read.parts ∙ ap (λ t. joined report_lines ++ (joined (journal_lines plan journal) ++ t)) (parts ∙ ap (λ t. count_line plan journal ++ t) none ∙ append-nil _)
+            read.parts ∙ ap (λ t. joined report_lines ++ (joined (journal_lines plan journal) ++ t))
+            (parts ∙ ap (λ t. count_line plan journal ++ t) none ∙ append-nil _)
             ∙ ap (λ t. t ++ (joined (journal_lines plan journal) ++ count_line plan journal)) (sym (append-nil _) ∙ sym are.parts);
         count = refl;
       }
@@ -260,7 +290,8 @@ module _ (plan : PlanData) (is_plan : IsPlan plan) where
   -- ---- one judgement
 
   -- the lines of a valid trace
-  valid_lines : (report trace : List ℕ) (moves : ℕ) (report_lines : List (List ℕ)) → AreLinesOf report report_lines [] → (valid : IsValidTrace plan report trace moves) →
+  valid_lines : (report trace : List ℕ) (moves : ℕ) (report_lines : List (List ℕ)) → AreLinesOf report report_lines [] →
+      (valid : IsValidTrace plan report trace moves) →
       AreLinesOf trace ((report_lines ++ journal_lines plan valid.journal) ++ count_line plan valid.journal ∷ []) []
   valid_lines report trace moves report_lines are valid =
       let whole = All-append IsWholeLine report_lines (journal_lines plan valid.journal) are.whole
@@ -276,7 +307,8 @@ module _ (plan : PlanData) (is_plan : IsPlan plan) where
             ∙ sym (joined-push (report_lines ++ journal_lines plan valid.journal) (count_line plan valid.journal)) ∙ sym (append-nil _);
       }
 
-  not_bad_among : (report trace : List ℕ) (moves number : ℕ) (report_lines : List (List ℕ)) → AreLinesOf report report_lines [] → IsValidTrace plan report trace moves →
+  not_bad_among : (report trace : List ℕ) (moves number : ℕ) (report_lines : List (List ℕ)) → AreLinesOf report report_lines [] →
+      IsValidTrace plan report trace moves →
       IsBadAmong plan report_lines trace number → ⊥
   not_bad_among report trace moves number report_lines are valid (not_due before more line rest also due other number_is) =
       let same = one_list trace _ (before ++ line ∷ more) [] rest (valid_lines report trace moves report_lines are valid) also in
@@ -334,7 +366,8 @@ record StopsAt (plan : PlanData) (report lines before behind : List (List ℕ)) 
   parts : lines ≡ before ++ behind
   stops : (line : List ℕ) (more : List (List ℕ)) → behind ≡ line ∷ more → IsDue plan report before line → ⊥
 
-not_before : (plan : PlanData) (report lines a a_behind b b_behind : List (List ℕ)) → StopsAt plan report lines a a_behind → StopsAt plan report lines b b_behind →
+not_before : (plan : PlanData) (report lines a a_behind b b_behind : List (List ℕ)) → StopsAt plan report lines a a_behind →
+    StopsAt plan report lines b b_behind →
     length a < length b → ⊥
 not_before plan report lines a a_behind b b_behind a_stops b_stops less =
     let next = longer_beginning a b a_behind b_behind (sym a_stops.parts ∙ b_stops.parts) less in
@@ -344,25 +377,37 @@ not_before plan report lines a a_behind b b_behind a_stops b_stops less =
 
 -- where a trace with these lines stops to be due
 abbrev Stops : PlanData → List (List ℕ) → List (List ℕ) → ℕ → Type 0
-Stops plan report lines number = (before : List (List ℕ)) × ((behind : List (List ℕ)) × (StopsAt plan report lines before behind × (number ≡ length before + 1)))
+Stops plan report lines
+    number = (before : List (List ℕ)) × ((behind : List (List ℕ)) × (StopsAt plan report lines before behind × (number ≡ length before + 1)))
 
-end_stops : (plan : PlanData) (report lines before : List (List ℕ)) (number : ℕ) → AreDue plan report before → before ≡ lines → number ≡ length before + 1 → Stops plan report lines number
+end_stops : (plan : PlanData) (report lines before : List (List ℕ)) (number : ℕ) → AreDue plan report before → before ≡ lines →
+    number ≡ length before + 1 → Stops plan report lines number
 end_stops plan report lines before number due all number_is =
     (before, ([], (record { due = due; parts = sym all ∙ sym (append-nil before); stops = λ line more same next. absurd (cc same) }, number_is)))
 
-stops_among : (plan : PlanData) (report lines : List (List ℕ)) (trace rest : List ℕ) (number : ℕ) → AreLinesOf trace lines rest → IsBadAmong plan report trace number → Stops plan report lines number
-stops_among plan report lines trace rest number are (not_due before more line end also due other number_is) =
-    (before, (line ∷ more, (record {
-      due = due;
-      parts = (one_list trace lines (before ++ line ∷ more) rest end are also).0;
-      stops = λ next later same next_due. other (subst (IsDue plan report before) (let here : next ≡ line = cc same in here) next_due);
-    }, number_is)))
+stops_among : (plan : PlanData) (report lines : List (List ℕ)) (trace rest : List ℕ) (number : ℕ) → AreLinesOf trace lines rest →
+    IsBadAmong plan report trace number → Stops plan report lines number
+stops_among plan report lines trace rest number are (not_due before more line end also due other number_is) = (
+  before,
+  (
+    line ∷ more,
+    (
+      record {
+        due = due;
+        parts = (one_list trace lines (before ++ line ∷ more) rest end are also).0;
+        stops = λ next later same next_due. other (subst (IsDue plan report before) (let here : next ≡ line = cc same in here) next_due);
+      },
+      number_is,
+    ),
+  ),
+)
 stops_among plan report lines trace rest number are (no_end before end also due some number_is) =
     end_stops plan report lines before number due (sym (one_list trace lines before rest end are also).0) number_is
 stops_among plan report lines trace rest number are (missing before line also due next number_is) =
     end_stops plan report lines before number due (sym (one_list trace lines before rest [] are also).0) number_is
 
-one_stop : (plan : PlanData) (report lines : List (List ℕ)) (number other : ℕ) → Stops plan report lines number → Stops plan report lines other → number ≡ other
+one_stop : (plan : PlanData) (report lines : List (List ℕ)) (number other : ℕ) → Stops plan report lines number → Stops plan report lines other →
+    number ≡ other
 one_stop plan report lines number other a b =
     elim (cases_lt (length a.0) (length b.0)) [
       | inl less ↦ absurd (not_before plan report lines a.0 a.1.0 b.0 b.1.0 a.1.1.0 b.1.1.0 less)
@@ -373,7 +418,8 @@ one_stop plan report lines number other a b =
     ]
 
 -- a trace has one bad line
-pub one_bad_line : (plan : PlanData) (report trace : List ℕ) (line other : ℕ) → IsBadLine plan report trace line → IsBadLine plan report trace other → line ≡ other
+pub one_bad_line : (plan : PlanData) (report trace : List ℕ) (line other : ℕ) → IsBadLine plan report trace line → IsBadLine plan report trace other →
+    line ≡ other
 one_bad_line plan report trace line other a b =
     let same = (one_list report a.report_lines b.report_lines [] [] a.lines_are b.lines_are).0 in
     let all = lines_exist trace in

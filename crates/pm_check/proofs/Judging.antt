@@ -66,7 +66,8 @@ module _ (plan : PlanData) (judge : Judge) (is : IsJudge plan judge) (text : Lis
         false≢true (sym tested ∙ ap (λ (ls : Lists). is_legal ls s line.what) is.lists ∙ passes)
 
     -- the line of a legal move with something else that is held
-    pub tells_other : (new : Judge) → HasMade plan judge new line.what → line.held ≢ held_in plan (market_state new.market) line.what → TellsNone plan judge text
+    pub tells_other : (new : Judge) → HasMade plan judge new line.what → line.held ≢ held_in plan (market_state new.market) line.what →
+        TellsNone plan judge text
     tells_other new made other m legal same =
         let all = same_line m legal same in
         let here : line.what ≡ m = ap (λ (l : Line). l.what) all in
@@ -74,7 +75,8 @@ module _ (plan : PlanData) (judge : Judge) (is : IsJudge plan judge) (text : Lis
         ∙ ap (λ (t : State). held_in plan t line.what) (sym made.made))
 
     -- the line of a legal move, with what is then held
-    pub tells_legal : (new : Judge) → Legal lists s line.what → HasMade plan judge new line.what → line.held ≡ held_in plan (market_state new.market) line.what →
+    pub tells_legal : (new : Judge) → Legal lists s line.what → HasMade plan judge new line.what →
+        line.held ≡ held_in plan (market_state new.market) line.what →
         HasTaken plan judge new text line.what
     tells_legal new legal made held_is =
         let held_now = held_is ∙ ap (λ (t : State). held_in plan t line.what) made.made ∙ held_same plan s line.what in
@@ -84,7 +86,8 @@ module _ (plan : PlanData) (judge : Judge) (is : IsJudge plan judge) (text : Lis
 -- ---- the trace
 
 -- before the first move
-pub judging_start : (plan : PlanData) (report trace : List ℕ) (lines : ℕ) (judge : Judge) (rest : List ℕ) → IsReported report trace lines rest → IsJudge plan judge →
+pub judging_start : (plan : PlanData) (report trace : List ℕ) (lines : ℕ) (judge : Judge) (rest : List ℕ) → IsReported report trace lines rest →
+    IsJudge plan judge →
     market_state judge.market ≡ after (plan_lists plan) [] → IsJudging plan report trace lines judge 0 rest
 judging_start plan report trace lines judge rest reported sound made = record {
   report_lines = reported.report_lines;
@@ -97,7 +100,8 @@ judging_start plan report trace lines judge rest reported sound made = record {
   many = refl;
 }
 
-module _ (plan : PlanData) (report trace : List ℕ) (above : ℕ) (judge : Judge) (moves : ℕ) (rest : List ℕ) (judging : IsJudging plan report trace above judge moves rest) where
+module _ (plan : PlanData) (report trace : List ℕ) (above : ℕ) (judge : Judge) (moves : ℕ) (rest : List ℕ)
+    (judging : IsJudging plan report trace above judge moves rest) where
   is_plan : IsPlan plan
   is_plan = plan_of plan judge judging.sound
 
@@ -129,7 +133,8 @@ module _ (plan : PlanData) (report trace : List ℕ) (above : ℕ) (judge : Judg
 
   module _ (line more : List ℕ) (whole : IsWholeLine line) (parts : rest ≡ line ++ more) where
     -- a line that tells no legal move
-    pub not_a_move : ¬ ((market_state judge.market).closed ≡ phases (market_lists judge.market)) → TellsNone plan judge line → IsBadLine plan report trace (above + moves + 1)
+    pub not_a_move : ¬ ((market_state judge.market).closed ≡ phases (market_lists judge.market)) → TellsNone plan judge line →
+        IsBadLine plan report trace (above + moves + 1)
     not_a_move going none =
         at_line 1 (bad_move plan is_plan report trace judging.report_lines judging.lines_are judging.journal rest judging.read line more whole parts
         (λ complete. going (complete_back complete))
@@ -143,7 +148,8 @@ module _ (plan : PlanData) (report trace : List ℕ) (above : ℕ) (judge : Judg
         at_line 1 (bad_count plan is_plan report trace judging.report_lines judging.lines_are judging.journal rest judging.read line more whole parts
         (complete_is closed) (λ same. other (same ∙ sym count_is)))
 
-    module _ (closed : (market_state judge.market).closed ≡ phases (market_lists judge.market)) (is_count : line ≡ text_line (codes "moves" ∷ decimal moves ∷ [])) where
+    module _ (closed : (market_state judge.market).closed ≡ phases (market_lists judge.market))
+        (is_count : line ≡ text_line (codes "moves" ∷ decimal moves ∷ [])) where
       counted : rest ≡ count_line plan judging.journal ++ more
       counted = parts ∙ ap (λ (l : List ℕ). l ++ more) (is_count ∙ count_is)
 
@@ -157,7 +163,8 @@ module _ (plan : PlanData) (report trace : List ℕ) (above : ℕ) (judge : Judg
       pub is_valid : more ≡ [] → IsValidTrace plan report trace moves
       is_valid none =
           subst (IsValidTrace plan report trace) (sym judging.many)
-          (valid_trace plan is_plan report trace judging.report_lines judging.lines_are judging.journal rest judging.read more (complete_is closed) counted none)
+          (valid_trace plan is_plan report trace judging.report_lines judging.lines_are judging.journal rest judging.read more (complete_is closed)
+          counted none)
 
     -- a line that tells a legal move, which was made
     pub judging_next : (new : Judge) (m : Move) → HasTaken plan judge new line m → IsJudging plan report trace above new (moves + 1) more
@@ -175,8 +182,11 @@ module _ (plan : PlanData) (report trace : List ℕ) (above : ℕ) (judge : Judg
             parts =
                 judging.read.parts
                 ∙ ap (λ t. joined judging.report_lines ++ (joined (journal_lines plan judging.journal) ++ t)) (parts ∙ ap (λ (l : List ℕ). l ++ more) told)
-                ∙ ap (λ t. joined judging.report_lines ++ t) (sym (append_assoc (joined (journal_lines plan judging.journal)) (next_line plan judging.journal m) more)
-                ∙ ap (λ t. t ++ more) (sym (ap joined (journal_push plan judging.journal m) ∙ joined-push (journal_lines plan judging.journal) (next_line plan judging.journal m))));
+                ∙ ap (λ t. joined judging.report_lines ++ t)
+                (sym (append_assoc (joined (journal_lines plan judging.journal)) (next_line plan judging.journal m) more)
+                ∙ ap (λ t. t ++ more)
+                (sym (ap joined (journal_push plan judging.journal m)
+                ∙ joined-push (journal_lines plan judging.journal) (next_line plan judging.journal m))));
           };
           sound = taken.made.judge;
           made = taken.made.made ∙ ap (λ (t : State). step (plan_lists plan) t m) judging.made ∙ sym (after_push plan is_plan judging.journal m);

@@ -49,7 +49,8 @@ judge_start plan market steps lists state closed auction none rows = record {
   cleared = subst (λ (s : State). AreCleared plan s steps) (sym state) (cleared_start plan steps closed auction none rows);
 }
 
-module _ (plan : PlanData) (old : Judge) (judge : IsJudge plan old) (m : Move) (tested : is_legal (market_lists old.market) (market_state old.market) m ≡ true) where
+module _ (plan : PlanData) (old : Judge) (judge : IsJudge plan old) (m : Move)
+    (tested : is_legal (market_lists old.market) (market_state old.market) m ≡ true) where
   abbrev lists : Lists
   lists = plan_lists plan
 
@@ -65,7 +66,8 @@ module _ (plan : PlanData) (old : Judge) (judge : IsJudge plan old) (m : Move) (
   pub closed_within : old.steps.closed < plans.phases plan
   closed_within = omega (arith, judge.cleared.closed, phase_open plan is_plan s judge.sound m legal_is)
 
-  module _ (market : Market) (lists_is : market_lists market ≡ market_lists old.market) (state_is : market_state market ≡ step (market_lists old.market) s m) where
+  module _ (market : Market) (lists_is : market_lists market ≡ market_lists old.market)
+      (state_is : market_state market ≡ step (market_lists old.market) s m) where
     made_is : market_state market ≡ step lists s m
     made_is = state_is ∙ ap (λ (ls : Lists). step ls s m) judge.lists
 
@@ -118,7 +120,8 @@ module _ (plan : PlanData) (old : Judge) (judge : IsJudge plan old) (m : Move) (
       close_ended d leaf = ends_closed plan is_plan s judge.sound p legal_close old.steps old.steps judge.cleared d leaf
 
       pub close_made : (steps : ClearedSteps) → steps.closed ≡ old.steps.closed + 1 → IsAuction plan steps.closed steps.auction →
-          auction_cut steps.auction ≡ auction_cut old.steps.auction → rows_of steps ≡ rows_of old.steps → HasMade plan old (record { market = market; steps = steps }) m
+          auction_cut steps.auction ≡ auction_cut old.steps.auction → rows_of steps ≡ rows_of old.steps →
+          HasMade plan old (record { market = market; steps = steps }) m
       close_made steps closed auction cut rows =
           makes steps (subst (λ (k : Move). AreCleared plan (step lists s k) steps) (sym is)
           (close_keeps plan is_plan s judge.sound p legal_close old.steps steps judge.cleared closed auction cut rows))
@@ -161,7 +164,8 @@ module _ (plan : PlanData) (judge : Judge) (is : IsJudge plan judge) (d : ℕ) (
       let node = leaf_node (plan_lists plan) (lawful plan (plan_of plan judge is)) d leaf in
       let within = has_steps in
       let low = was_passed in
-      let steps = step_is ∙ is.cleared.steps_are.steps index d (omega (arith, index_is, low)) (omega (arith, index_is, within, is.cleared.steps_are.one_each)) node
+      let steps = step_is ∙ is.cleared.steps_are.steps index d (omega (arith, index_is, low))
+      (omega (arith, index_is, within, is.cleared.steps_are.one_each)) node
       ∙ ap (λ (j : ℕ). local_at plan (cleared t j) d) index_is in
       let numbers = number_is ∙ ap (λ (j : ℕ). cleared t j d) index_is in
       (λ i. Some (steps i, numbers i))

@@ -34,7 +34,8 @@ next_parent entries xs at x inside so_far here =
     ∙ sym (take_more (parents_of entries) at 0 (omega (arith, length-parents_of entries, inside)))
 
 -- one more test for a device
-pub next_leaf : (entries : List Entry) (xs : List Bool) (at : ℕ) (x : Bool) → at < length entries → xs ≡ take at (leaves_of entries) → x ≡ is_leaf_at entries (at + 1) →
+pub next_leaf : (entries : List Entry) (xs : List Bool) (at : ℕ) (x : Bool) → at < length entries → xs ≡ take at (leaves_of entries) →
+    x ≡ is_leaf_at entries (at + 1) →
     xs ++ x ∷ [] ≡ take (at + 1) (leaves_of entries)
 next_leaf entries xs at x inside so_far here =
     let read : is_leaf_at entries (at + 1) ≡ get_or (leaves_of entries) at false = ap (is_leaf_at entries) (add-one at) in

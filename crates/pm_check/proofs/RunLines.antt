@@ -51,12 +51,14 @@ pub whole_words : (words : List (List ℕ)) → AreWords words → IsWholeLine (
 whole_words [] are = absurd are
 whole_words (word ∷ []) are = (word, (word_bytes word are, refl))
 whole_words (word ∷ next ∷ more) are =
-    let rest = whole_words (next ∷ more) are.1 in
-    (word ++ 32 ∷ rest.0, (
-      All-append (λ (b : ℕ). b ≢ 10) word (32 ∷ rest.0) (word_bytes word are.0)
-      (All-cons (λ (b : ℕ). b ≢ 10) 32 rest.0 (λ feed. absurd (omega (arith, feed))) rest.1.0),
-      ap (λ line. word ++ 32 ∷ line) rest.1.1 ∙ sym (append_assoc word (32 ∷ rest.0) (10 ∷ [])),
-    ))
+    let rest = whole_words (next ∷ more) are.1 in (
+      word ++ 32 ∷ rest.0,
+      (
+        All-append (λ (b : ℕ). b ≢ 10) word (32 ∷ rest.0) (word_bytes word are.0)
+            (All-cons (λ (b : ℕ). b ≢ 10) 32 rest.0 (λ feed. absurd (omega (arith, feed))) rest.1.0),
+        ap (λ line. word ++ 32 ∷ line) rest.1.1 ∙ sym (append_assoc word (32 ∷ rest.0) (10 ∷ [])),
+      ),
+    )
 
 -- no line of a move begins as the line with their number does
 first_byte : (plan : PlanData) (m : Move) (held : Option (ℕ × ℕ)) → get_or (text_line (move_words plan m held)) 0 0 ≢ 109
@@ -115,7 +117,14 @@ module _ (plan : PlanData) (is_plan : IsPlan plan) where
         let node = leaf_node lists law d leaf in
         let part = cleared_is_part lists law s sound d j node le in
         number_small d (cleared s j d) node
-        (omega (arith, part.0 d (leaf_of_itself lists law d leaf), part_leaf lists s.published d (number lists s d (cleared s j)) d leaf, part.1, sound.learnt_within d node))
+        (omega (
+          arith,
+          part.0 d (leaf_of_itself lists law d leaf),
+          part_leaf lists s.published d (number lists s d (cleared s j)) d
+              leaf,
+          part.1,
+          sound.learnt_within d node,
+        ))
 
     held_fit : (x j : ℕ) → Legal lists s (Pass x j) → IsLeaf lists x → (b : Bool) → let t : State = step lists s (Pass x j) in
         HeldFits plan (cond b (Some (local_at plan (cleared t (last t x)) x, cleared t (last t x) x)) None)
@@ -129,7 +138,8 @@ module _ (plan : PlanData) (is_plan : IsPlan plan) where
 
     pass_fits : (x j : ℕ) → Legal lists s (Pass x j) → HeldFits plan (held_after lists (local_at plan) s (Pass x j))
     pass_fits x j legal = elim (cases_Bool (is_leaf lists x)) [
-      | inl leaf ↦ subst (HeldFits plan) (sym (cond-true (is_leaf lists x) _ None leaf)) (held_fit x j legal leaf (holds_price lists (step lists s (Pass x j)) x))
+      | inl leaf ↦ subst (HeldFits plan) (sym (cond-true (is_leaf lists x) _ None leaf))
+          (held_fit x j legal leaf (holds_price lists (step lists s (Pass x j)) x))
       | inr inner ↦ subst (HeldFits plan) (sym (cond-false (is_leaf lists x) _ None inner)) (tt, tt)
     ]
 
@@ -177,10 +187,12 @@ module _ (plan : PlanData) (is_plan : IsPlan plan) where
     pub same_next : (m n : Move) → Legal lists s m → Legal lists s n →
         move_line plan (line_of lists (local_at plan) s m) ≡ move_line plan (line_of lists (local_at plan) s n) → m ≡ n
     same_next m n m_legal n_legal same =
-        ap (λ (line : Line). line.what) (same_one plan (line_of lists (local_at plan) s m) (line_of lists (local_at plan) s n) is_plan (line_is m m_legal) (line_is n n_legal) same)
+        ap (λ (line : Line). line.what)
+        (same_one plan (line_of lists (local_at plan) s m) (line_of lists (local_at plan) s n) is_plan (line_is m m_legal) (line_is n n_legal) same)
 
     pub whole_next : (m : Move) → Legal lists s m → IsWholeLine (move_line plan (line_of lists (local_at plan) s m))
-    whole_next m legal = whole_words (move_words plan m (held_after lists (local_at plan) s m)) (move_are_words plan is_plan (line_of lists (local_at plan) s m) (line_is m legal))
+    whole_next m legal = whole_words (move_words plan m (held_after lists (local_at plan) s m))
+        (move_are_words plan is_plan (line_of lists (local_at plan) s m) (line_is m legal))
 
   -- ---- the lines of a legal journal
 
@@ -190,7 +202,8 @@ module _ (plan : PlanData) (is_plan : IsPlan plan) where
       All-cons (IsLineOfRun plan) (line_of lists (local_at plan) s m) (lines_from lists (local_at plan) (step lists s m) ms) (line_is s sound m legal.0)
       (lines_are ms (step lists s m) (sound_step lists law s sound m legal.0) legal.1)
 
-  pub whole_from : (ms : List Move) (s : State) → Sound lists s → LegalFrom lists s ms → All IsWholeLine (map (move_line plan) (lines_from lists (local_at plan) s ms))
+  pub whole_from : (ms : List Move) (s : State) → Sound lists s → LegalFrom lists s ms →
+      All IsWholeLine (map (move_line plan) (lines_from lists (local_at plan) s ms))
   whole_from [] s sound legal = All-nil IsWholeLine
   whole_from (m ∷ ms) s sound legal =
       All-cons IsWholeLine (move_line plan (line_of lists (local_at plan) s m)) (map (move_line plan) (lines_from lists (local_at plan) (step lists s m) ms))
@@ -204,7 +217,8 @@ module _ (plan : PlanData) (is_plan : IsPlan plan) where
   same_from (m ∷ a) [] s sound a_legal b_legal same = absurd (cc same)
   same_from (m ∷ a) (n ∷ b) s sound a_legal b_legal same =
       let first : move_line plan (line_of lists (local_at plan) s m) ≡ move_line plan (line_of lists (local_at plan) s n) = cc same in
-      let later : map (move_line plan) (lines_from lists (local_at plan) (step lists s m) a) ≡ map (move_line plan) (lines_from lists (local_at plan) (step lists s n) b) = cc same in
+      let later : map (move_line plan) (lines_from lists (local_at plan) (step lists s m) a) ≡ map (move_line plan)
+      (lines_from lists (local_at plan) (step lists s n) b) = cc same in
       let here : m ≡ n = same_next s sound m n a_legal.0 b_legal.0 first in
       let more = same_from a b (step lists s m) (sound_step lists law s sound m a_legal.0) a_legal.1
       (subst (λ (k : Move). LegalFrom lists (step lists s k) b) (sym here) b_legal.1)
@@ -225,6 +239,7 @@ module _ (plan : PlanData) (is_plan : IsPlan plan) where
 
   pub whole_count : (journal : List Move) → LegalJournal lists journal → IsWholeLine (moves_line (lines lists (local_at plan) journal))
   whole_count journal legal =
-      let few : length (lines lists (local_at plan) journal) < 2 ^ 64 = omega (arith, count_lines journal, journal_bound lists law journal legal, bound_small) in
+      let few : length (lines lists (local_at plan) journal) < 2 ^
+      64 = omega (arith, count_lines journal, journal_bound lists law journal legal, bound_small) in
       let many = length (lines lists (local_at plan) journal) in
       whole_words (codes "moves" ∷ decimal many ∷ []) (refl, decimal_word many few)

@@ -65,7 +65,8 @@ pub lines_before : (front : List (List ℕ)) (text : List ℕ) (lines : List (Li
 lines_before front text lines rest whole are = record {
   whole = All-append IsWholeLine front lines whole are.whole;
   no_end = are.no_end;
-  parts = ap (λ t. joined front ++ t) are.parts ∙ sym (append_assoc (joined front) (joined lines) rest) ∙ ap (λ t. t ++ rest) (sym (joined-append front lines));
+  parts = ap (λ t. joined front ++ t) are.parts ∙ sym (append_assoc (joined front) (joined lines) rest)
+      ∙ ap (λ t. t ++ rest) (sym (joined-append front lines));
 }
 
 -- a text without a line feed is a rest alone
@@ -73,7 +74,8 @@ pub no_lines : (text : List ℕ) → HasNoLineFeed text → AreLinesOf text [] t
 no_lines text none = record { whole = All-nil IsWholeLine; no_end = none; parts = refl }
 
 -- a line in front of a text
-pub line_before : (line text : List ℕ) (lines : List (List ℕ)) (rest : List ℕ) → IsWholeLine line → AreLinesOf text lines rest → AreLinesOf (line ++ text) (line ∷ lines) rest
+pub line_before : (line text : List ℕ) (lines : List (List ℕ)) (rest : List ℕ) → IsWholeLine line → AreLinesOf text lines rest →
+    AreLinesOf (line ++ text) (line ∷ lines) rest
 line_before line text lines rest whole are = record {
   whole = All-cons IsWholeLine line lines whole are.whole;
   no_end = are.no_end;
@@ -87,20 +89,31 @@ HasLines text = (lines : List (List ℕ)) × ((rest : List ℕ) × AreLinesOf te
 
 -- a byte in front of the first line, or of the rest
 longer : (byte : ℕ) (text : List ℕ) (lines : List (List ℕ)) (rest : List ℕ) → byte ≢ 10 → AreLinesOf text lines rest → HasLines (byte ∷ text)
-longer byte text [] rest other are = ([], (byte ∷ rest, record {
-  whole = All-nil IsWholeLine;
-  no_end = All-cons (λ (b : ℕ). b ≢ 10) byte rest other are.no_end;
-  parts = ap (λ t. byte ∷ t) are.parts;
-}))
-longer byte text (line ∷ lines) rest other are =
-    let first = All-head IsWholeLine line lines are.whole in
-    ((byte ∷ line) ∷ lines, (rest, record {
-      whole = All-cons IsWholeLine (byte ∷ line) lines
-          (byte ∷ first.0, (All-cons (λ (b : ℕ). b ≢ 10) byte first.0 other first.1.0, ap (λ t. byte ∷ t) first.1.1))
-          (All-tail IsWholeLine line lines are.whole);
-      no_end = are.no_end;
+longer byte text [] rest other are = (
+  [],
+  (
+    byte ∷ rest,
+    record {
+      whole = All-nil IsWholeLine;
+      no_end = All-cons (λ (b : ℕ). b ≢ 10) byte rest other are.no_end;
       parts = ap (λ t. byte ∷ t) are.parts;
-    }))
+    },
+  ),
+)
+longer byte text (line ∷ lines) rest other are =
+    let first = All-head IsWholeLine line lines are.whole in (
+      (byte ∷ line) ∷ lines,
+      (
+        rest,
+        record {
+          whole = All-cons IsWholeLine (byte ∷ line) lines
+              (byte ∷ first.0, (All-cons (λ (b : ℕ). b ≢ 10) byte first.0 other first.1.0, ap (λ t. byte ∷ t) first.1.1))
+              (All-tail IsWholeLine line lines are.whole);
+          no_end = are.no_end;
+          parts = ap (λ t. byte ∷ t) are.parts;
+        },
+      ),
+    )
 
 pub lines_exist : (text : List ℕ) → HasLines text
 lines_exist [] = ([], ([], no_lines [] (All-nil (λ (b : ℕ). b ≢ 10))))
@@ -117,11 +130,13 @@ lines_exist (byte ∷ text) =
 pub ended_lines : (front : List ℕ) → (lines : List (List ℕ)) × AreLinesOf (front ++ 10 ∷ []) lines []
 ended_lines front =
     let are = lines_exist front in
-    let last : IsWholeLine (are.1.0 ++ 10 ∷ []) = (are.1.0, (are.1.1.no_end, refl)) in
-    (are.0 ++ (are.1.0 ++ 10 ∷ []) ∷ [], record {
-      whole = All-append IsWholeLine are.0 _ are.1.1.whole (All-cons IsWholeLine _ [] last (All-nil IsWholeLine));
-      no_end = All-nil (λ (b : ℕ). b ≢ 10);
-      parts =
-          ap (λ t. t ++ 10 ∷ []) are.1.1.parts ∙ append_assoc (joined are.0) are.1.0 (10 ∷ [])
-          ∙ sym (joined-push are.0 (are.1.0 ++ 10 ∷ [])) ∙ sym (append-nil _);
-    })
+    let last : IsWholeLine (are.1.0 ++ 10 ∷ []) = (are.1.0, (are.1.1.no_end, refl)) in (
+      are.0 ++ (are.1.0 ++ 10 ∷ []) ∷ [],
+      record {
+        whole = All-append IsWholeLine are.0 _ are.1.1.whole (All-cons IsWholeLine _ [] last (All-nil IsWholeLine));
+        no_end = All-nil (λ (b : ℕ). b ≢ 10);
+        parts =
+            ap (λ t. t ++ 10 ∷ []) are.1.1.parts ∙ append_assoc (joined are.0) are.1.0 (10 ∷ [])
+            ∙ sym (joined-push are.0 (are.1.0 ++ 10 ∷ [])) ∙ sym (append-nil _);
+      },
+    )

@@ -14,6 +14,6 @@ returns-clause-whole c =
       (
         c.in_ok-line.ensures.some.no_line_feed,
         c.split_at.ensures.front ∙ ap (take (length line + 1)) c.in_ok-line.ensures.some.parts
-        ∙ ap (λ n. take n (line ++ 10 ∷ rest)) (add-one (length line)) ∙ front_at line rest,
+            ∙ ap (λ n. take n (line ++ 10 ∷ rest)) (add-one (length line)) ∙ front_at line rest,
       ),
     )

@@ -14,7 +14,11 @@ overflow_add-count c =
     let d = c.args.device.0 in
     let p = c.loop-phase.phase in
     omega (
-      arith, c.loop-phase.invariant, c.changes_of-count.ensures, end-rises plan (p - 1) p d (omega arith), end-within plan p d,
+      arith,
+      c.loop-phase.invariant,
+      c.changes_of-count.ensures,
+      end-rises plan (p - 1) p d (omega arith),
+      end-within plan p d,
       few_changes plan d c.phases-phase-end.ensures.sound,
     )
 

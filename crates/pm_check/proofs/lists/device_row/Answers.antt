@@ -28,7 +28,8 @@ loop-at-preserved c =
     let inside : c.loop-at.at < change_count plan d = omega (arith, c.change_count-at-end.ensures) in
     let read = c.planned.ensures ∙ planned-is plan d c.loop-at.at inside in
     let what : c.unwrap-what.result ≡ (change_at plan d c.loop-at.at).what = cc (read, c.unwrap-what.ensures) in
-    let next = c.member_after-member.ensures ∙ ap (member_after c.loop-at.member) what ∙ next_member plan d c.loop-at.at c.loop-at.member inside c.loop-at.invariant.member in
+    let next = c.member_after-member.ensures ∙ ap (member_after c.loop-at.member) what
+    ∙ next_member plan d c.loop-at.at c.loop-at.member inside c.loop-at.invariant.member in
     record {
       member = next;
       row = c.in_ok-push.ensures.items ∙ next_mapped (is_member plan d) c.loop-at.row.items c.loop-at.at _ c.loop-at.invariant.row next;

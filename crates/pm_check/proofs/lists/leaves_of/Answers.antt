@@ -18,4 +18,5 @@ returns-clause-leaves c =
 pub returns-clause-one_each : goal.returns-clause-one_each
 returns-clause-one_each c =
     let all : length (leaves_of c.tree-tree.result.now) ≤ c.loop-at.at = omega (arith, length-leaves_of c.tree-tree.result.now, c.len-at-end.ensures.len) in
-    ap (λ l. length l) (c.loop-at.invariant ∙ take_all _ (leaves_of c.tree-tree.result.now) all ∙ ap leaves_of c.tree-tree.ensures.tree) ∙ length-leaves_of c.args.plan.now.entries
+    ap (λ l. length l) (c.loop-at.invariant ∙ take_all _ (leaves_of c.tree-tree.result.now) all ∙ ap leaves_of c.tree-tree.ensures.tree)
+    ∙ length-leaves_of c.args.plan.now.entries

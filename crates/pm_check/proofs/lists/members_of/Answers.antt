@@ -15,5 +15,6 @@ loop-at-preserved c =
 
 pub returns : goal.returns
 returns c =
-    let all : c.loop-at.at ≡ length c.args.plan.now.nodes = omega (arith, c.tree.ensures.sound.nodes.one_each, c.len-at-end.ensures.len, ap (λ e. length e) c.tree.ensures.tree) in
+    let all : c.loop-at.at ≡ length
+    c.args.plan.now.nodes = omega (arith, c.tree.ensures.sound.nodes.one_each, c.len-at-end.ensures.len, ap (λ e. length e) c.tree.ensures.tree) in
     c.loop-at.invariant ∙ ap (λ n. map (members_of c.args.plan.now) (range_with_len 1 n)) all

@@ -5,4 +5,5 @@ use Rattle.pm_check.proofs.steps.group_place.Goals as goal
 pub returns-in-Some-clause-inside : goal.returns-in-Some-clause-inside
 returns-in-Some-clause-inside c =
     let plan = c.args.plan.now in
-    subst (λ (g : ℕ). g ≤ length plan.nodes) (sym (group_found plan c.args.node.0 c.group.result c.in-Some.above c.group.ensures.group c.in-Some.is)) (group_inside plan c.args.node.0 c.group.ensures.sound c.requires)
+    subst (λ (g : ℕ). g ≤ length plan.nodes) (sym (group_found plan c.args.node.0 c.group.result c.in-Some.above c.group.ensures.group c.in-Some.is))
+    (group_inside plan c.args.node.0 c.group.ensures.sound c.requires)

@@ -17,7 +17,8 @@ module _ (plan : PlanData) (is : IsPlan plan) (report trace : List ℕ) where
   not_refused (Err (Invalid line)) fault moves valid = absurd (not_both plan is report trace moves line valid fault)
 
   -- one with a bad line is not taken
-  not_taken : (result : Result ℕ CheckFault) → IfOk result (IsValidTrace plan report trace) → (line : ℕ) → IsBadLine plan report trace line → IfOk result (λ moves. ⊥)
+  not_taken : (result : Result ℕ CheckFault) → IfOk result (IsValidTrace plan report trace) → (line : ℕ) → IsBadLine plan report trace line →
+      IfOk result (λ moves. ⊥)
   not_taken (Ok n) valid line bad = not_both plan is report trace n line valid bad
   not_taken (Err e) valid line bad = tt
 
@@ -31,4 +32,5 @@ returns-in-Ok-clause-refused c =
 
 pub returns-in-Err-clause-accepted : goal.returns-in-Err-clause-accepted
 returns-in-Err-clause-accepted c =
-    not_refused c.args.plan.now c.phases-phases.ensures.sound c.args.report.now c.args.trace.now (Err (Invalid c.in-Err.line)) (c.in-Err.ensures.bad c.args.plan.now)
+    not_refused c.args.plan.now c.phases-phases.ensures.sound c.args.report.now c.args.trace.now (Err (Invalid c.in-Err.line))
+    (c.in-Err.ensures.bad c.args.plan.now)

@@ -10,18 +10,22 @@ use Rattle.pm_check.proofs.Judgements.{IsMatched, report_cut, report_other, repo
 use Rattle.pm_check.proofs.trace.read_report.Goals as goal
 
 -- no more lines were read than the report has bytes
-pub lines_matched : (report trace : List ℕ) (lines : ℕ) (done : List (List ℕ)) (due rest : List ℕ) → IsMatched report trace lines done due rest → lines ≤ length report
+pub lines_matched : (report trace : List ℕ) (lines : ℕ) (done : List (List ℕ)) (due rest : List ℕ) → IsMatched report trace lines done due rest →
+    lines ≤ length report
 lines_matched report trace lines done due rest matched =
     omega (arith, matched.count, lines_within done matched.whole, ap (λ l. length l) matched.report_is, length-append (joined done) due)
 
 -- one line more
-pub next_matched : (report trace : List ℕ) (lines : ℕ) (done : List (List ℕ)) (due rest line later more : List ℕ) → IsMatched report trace lines done due rest → IsWholeLine line →
+pub next_matched : (report trace : List ℕ) (lines : ℕ) (done : List (List ℕ)) (due rest line later more : List ℕ) →
+    IsMatched report trace lines done due rest → IsWholeLine line →
     due ≡ line ++ later → rest ≡ line ++ more → IsMatched report trace (lines + 1) (done ++ line ∷ []) later more
 next_matched report trace lines done due rest line later more matched whole due_is rest_is = record {
   whole = All-append IsWholeLine done (line ∷ []) matched.whole (All-cons IsWholeLine line [] whole (All-nil IsWholeLine));
   count = omega (arith, matched.count, length-append done (line ∷ []));
-  report_is = matched.report_is ∙ ap (λ t. joined done ++ t) due_is ∙ sym (append_assoc (joined done) line later) ∙ ap (λ t. t ++ later) (sym (joined-push done line));
-  trace_is = matched.trace_is ∙ ap (λ t. joined done ++ t) rest_is ∙ sym (append_assoc (joined done) line more) ∙ ap (λ t. t ++ more) (sym (joined-push done line));
+  report_is = matched.report_is ∙ ap (λ t. joined done ++ t) due_is ∙ sym (append_assoc (joined done) line later)
+      ∙ ap (λ t. t ++ later) (sym (joined-push done line));
+  trace_is = matched.trace_is ∙ ap (λ t. joined done ++ t) rest_is ∙ sym (append_assoc (joined done) line more)
+      ∙ ap (λ t. t ++ more) (sym (joined-push done line));
 }
 
 both_not : (b : Bool) → not b ≡ false → b ≡ true
@@ -51,26 +55,35 @@ pub returns-in_default-split_whole_line-clause-bad : goal.returns-in_default-spl
 returns-in_default-split_whole_line-clause-bad c = λ plan.
     let matched = c.loop-expected.invariant in
     let report = c.requires in
-    report_cut c.args.report.now c.args.trace.now c.loop-expected.lines matched.0 c.loop-expected.due.now c.loop-expected.rest.now matched.1 report.0 report.1 plan
+    report_cut c.args.report.now c.args.trace.now c.loop-expected.lines matched.0 c.loop-expected.due.now c.loop-expected.rest.now matched.1 report.0
+    report.1 plan
     c.in-Some.expected.now c.in-Some.later.now c.in-Some.ensures.whole c.in-Some.ensures.parts c.in_default-split_whole_line.ensures.none
 
 pub returns-then-ne-clause-bad : goal.returns-then-ne-clause-bad
 returns-then-ne-clause-bad c = λ plan.
     let matched = c.loop-expected.invariant in
     let report = c.requires in
-    report_other c.args.report.now c.args.trace.now c.loop-expected.lines matched.0 c.loop-expected.due.now c.loop-expected.rest.now matched.1 report.0 report.1 plan
+    report_other c.args.report.now c.args.trace.now c.loop-expected.lines matched.0 c.loop-expected.due.now c.loop-expected.rest.now matched.1
+    report.0 report.1 plan
     c.in-Some.expected.now c.in-Some.later.now c.in-Some-split_whole_line.found.now c.in-Some-split_whole_line.more.now
-    c.in-Some.ensures.whole c.in-Some.ensures.parts c.in-Some-split_whole_line.ensures.whole c.in-Some-split_whole_line.ensures.parts (differ_by c.in-Some-split_whole_line.found.now c.in-Some.expected.now (sym c.ne.ensures ∙ c.if-ne.true))
+    c.in-Some.ensures.whole c.in-Some.ensures.parts c.in-Some-split_whole_line.ensures.whole c.in-Some-split_whole_line.ensures.parts
+    (differ_by c.in-Some-split_whole_line.found.now c.in-Some.expected.now (sym c.ne.ensures ∙ c.if-ne.true))
 
 pub loop-expected-preserved : goal.loop-expected-preserved
 loop-expected-preserved c =
-    let matched = c.loop-expected.invariant in
-    (matched.0 ++ c.in-Some.expected.now ∷ [], next_matched c.args.report.now c.args.trace.now c.loop-expected.lines matched.0 c.loop-expected.due.now c.loop-expected.rest.now
-      c.in-Some.expected.now c.in-Some.later.now c.in-Some-split_whole_line.more.now matched.1 c.in-Some.ensures.whole c.in-Some.ensures.parts
-      (c.in-Some-split_whole_line.ensures.parts ∙ ap (λ l. l ++ c.in-Some-split_whole_line.more.now) (same_by c.in-Some-split_whole_line.found.now c.in-Some.expected.now (sym c.ne.ensures ∙ c.if-ne.false))))
+    let matched = c.loop-expected.invariant in (
+      matched.0 ++ c.in-Some.expected.now ∷ [],
+      next_matched c.args.report.now c.args.trace.now c.loop-expected.lines matched.0 c.loop-expected.due.now
+          c.loop-expected.rest.now
+          c.in-Some.expected.now c.in-Some.later.now c.in-Some-split_whole_line.more.now matched.1 c.in-Some.ensures.whole c.in-Some.ensures.parts
+          (c.in-Some-split_whole_line.ensures.parts
+          ∙ ap (λ l. l ++ c.in-Some-split_whole_line.more.now)
+          (same_by c.in-Some-split_whole_line.found.now c.in-Some.expected.now (sym c.ne.ensures ∙ c.if-ne.false))),
+    )
 
 pub returns-clause-read : goal.returns-clause-read
 returns-clause-read c =
     let matched = c.loop-expected.invariant in
     let report = c.requires in
-    report_read c.args.report.now c.args.trace.now c.loop-expected.lines matched.0 c.loop-expected.due.now c.loop-expected.rest.now matched.1 report.0 report.1 c.in_default.ensures.none
+    report_read c.args.report.now c.args.trace.now c.loop-expected.lines matched.0 c.loop-expected.due.now c.loop-expected.rest.now matched.1 report.0
+    report.1 c.in_default.ensures.none

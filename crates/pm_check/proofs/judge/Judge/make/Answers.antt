@@ -24,7 +24,8 @@ close-requires-clause-open c = closed_within c.args.plan.now c.args.self.now c.r
 pub close-requires-clause-ended : goal.close-requires-clause-ended
 close-requires-clause-ended c =
     let applied = c.in_ok-apply.ensures in
-    close_ended c.args.plan.now c.args.self.now c.requires.judge c.args.what c.requires.legal c.apply.new.self applied.lists applied.ok c.in-Close.phase c.in-Close.is
+    close_ended c.args.plan.now c.args.self.now c.requires.judge c.args.what c.requires.legal c.apply.new.self applied.lists applied.ok
+    c.in-Close.phase c.in-Close.is
 
 pub returns-in-Clear : goal.returns-in-Clear
 returns-in-Clear c =
@@ -40,8 +41,10 @@ pub returns-in-Close : goal.returns-in-Close
 returns-in-Close c =
     let applied = c.in_ok-apply.ensures in
     let closed = c.close.ensures in
-    close_made c.args.plan.now c.args.self.now c.requires.judge c.args.what c.requires.legal c.apply.new.self applied.lists applied.ok c.in-Close.phase c.in-Close.is
-    c.close.new.self closed.closed closed.auction closed.cut (ap (λ (rows : Vec (Vec ℕ Global) Global). map (λ (row : Vec ℕ Global). row.items) rows.items) closed.rows)
+    close_made c.args.plan.now c.args.self.now c.requires.judge c.args.what c.requires.legal c.apply.new.self applied.lists applied.ok
+    c.in-Close.phase c.in-Close.is
+    c.close.new.self closed.closed closed.auction closed.cut
+    (ap (λ (rows : Vec (Vec ℕ Global) Global). map (λ (row : Vec ℕ Global). row.items) rows.items) closed.rows)
 
 pub returns-in_default : goal.returns-in_default
 returns-in_default c =

@@ -18,7 +18,7 @@ returns-clause-taken c = λ same.
     let legal = legal_is c.args.plan.now c.args.self.now c.requires c.in-Some.told.what (sym c.is_legal.ensures ∙ c.if-not-is_legal.false) in (
       c.in-Some.told.what,
       tells_legal c.args.plan.now c.args.self.now c.requires c.args.line.now c.in-Some.told c.in-Some.ensures.told.0 c.in-Some.ensures.told.1
-      c.make.new.self legal c.in_ok-make.ensures (c.is_same.ensures.same same ∙ c.held_after.ensures),
+          c.make.new.self legal c.in_ok-make.ensures (c.is_same.ensures.same same ∙ c.held_after.ensures),
     )
 
 pub returns-clause-none : goal.returns-clause-none

@@ -20,7 +20,7 @@ returns-clause-row c = (
   c.in_ok-row.row.items,
   (
     subst (AreGroupSteps c.args.plan.now (auction_cut c.raise.new.self)) (sym c.in_ok-row.ensures.items)
-    (c.group_steps.ensures c.args.plan.now (c.args.self.now.closed + 1 - 1) c.raise.ensures.auction),
+        (c.group_steps.ensures c.args.plan.now (c.args.self.now.closed + 1 - 1) c.raise.ensures.auction),
     ap (map (λ (row : Vec ℕ Global). row.items)) c.in_ok-push.ensures.items ∙ map-append (λ (row : Vec ℕ Global). row.items) _ _,
   ),
 )

@@ -8,7 +8,8 @@ index-requires-2 c =
     let at = c.args.index - 1 in
     let row = c.index.result.now in
     let read : get_or (map (λ (r : Vec ℕ Global). r.items) rows) at row.items ≡ row.items =
-    get_or-map (λ (r : Vec ℕ Global). r.items) rows at row row.items (omega (arith, c.requires.first, c.requires.last, length-map rows (λ (r : Vec ℕ Global). r.items)))
+    get_or-map (λ (r : Vec ℕ Global). r.items) rows at row row.items
+    (omega (arith, c.requires.first, c.requires.last, length-map rows (λ (r : Vec ℕ Global). r.items)))
     ∙ ap (λ (r : Vec ℕ Global). r.items) (sym c.index.ensures) in
     let long = c.requires.rows at row.items (omega (arith, c.requires.first, c.requires.last)) in
     omega (arith, c.group_place.ensures.inside, ap (λ (l : List ℕ). length l) read, long, row.ok)
