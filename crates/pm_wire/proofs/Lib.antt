@@ -1,0 +1,5 @@
+pub mod OneField
+pub mod OneFrame
+pub mod Places
+pub mod ReadFrames
+pub mod Fed

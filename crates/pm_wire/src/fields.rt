@@ -1,4 +1,4 @@
-ghost use Rattle.std.specs.Prelude.{◌≡◌, ◌*◌, ◌≤◌, ◌++◌, length, IfOk, vec_len, FitsSigned};
+ghost use Rattle.std.specs.Prelude.{◌≡◌, ◌*◌, ◌≤◌, ◌++◌, length, IfOk, FitsSigned};
 ghost use Rattle.std.specs.Int.{w16, w32, to_be_bytes};
 ghost use Rattle.std.specs.List.{AllByRecursion};
 ghost use Rattle.pm_wire.specs.Frames.{signed_bytes, demand_bytes};
@@ -42,14 +42,14 @@ pub(crate) fn read_demands(
     requires { length bytes.now ≡ 4 * count }
     ensures bytes { IfOk result (λ demands. bytes.now ≡ demand_bytes demands.items) }
     ensures fit { IfOk result (λ demands. AllByRecursion (λ z. FitsSigned w32 z) demands.items) }
-    ensures count { IfOk result (λ demands. vec_len demands ≡ count) }
+    ensures count { IfOk result (λ demands. length demands.items ≡ count) }
 {
     let mut demands = Vec::with_capacity(alloc, count)?;
-    for step in 0..count {
-        let at = 4 * step;
-        let number =
-            i32::from_be_bytes([bytes[at], bytes[at + 1], bytes[at + 2], bytes[at + 3]]);
-        demands.push(i64::from(number))?;
+    let mut rest = bytes;
+    for _step in 0..count {
+        let (demand, behind) = read_i32(rest);
+        demands.push(demand)?;
+        rest = behind;
     }
     Ok(demands)
 }

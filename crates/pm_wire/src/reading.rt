@@ -30,7 +30,8 @@ pub(crate) enum Reading {
 /// How many bytes a frame of this kind has, if it may stand at this place: before Hello, or behind it.
 fn size_at(steps: Option<usize>, kind: u8) -> Option<usize>
     requires { IfSome steps AreSteps }
-    ensures { result ≡ size_at steps kind }
+    ensures size { result ≡ size_at steps kind }
+    ensures positive { IfSome result (λ size. 1 ≤ size) }
 {
     match steps {
         None => {

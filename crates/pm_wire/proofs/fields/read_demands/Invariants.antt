@@ -1,4 +1,4 @@
-use Rattle.std.proofs.Common.{◌≡◌, ◌*◌, take, vec_len, FitsSigned}
+use Rattle.std.proofs.Common.{◌≡◌, ◌*◌, ◌+◌, ◌++◌, length, FitsSigned}
 use Rattle.std.specs.Int.{w32}
 use Rattle.std.specs.List.{AllByRecursion}
 use Rattle.pm_wire.specs.Frames.{demand_bytes}
@@ -6,7 +6,8 @@ use Rattle.pm_wire.proofs.fields.read_demands.Given as goal
 
 abbrev pub invariant-loop-step : goal.invariant-loop-step
 invariant-loop-step l = record {
-  bytes : take (4 * l.step) l.bytes ≡ demand_bytes l.demands.items;
+  bytes : l.fn.bytes ≡ demand_bytes l.demands.items ++ l.rest;
+  left : length l.rest + 4 * l._step ≡ 4 * l.count;
   fit : AllByRecursion (λ z. FitsSigned w32 z) l.demands.items;
-  count : vec_len l.demands ≡ l.step;
+  count : length l.demands.items ≡ l._step;
 }
