@@ -3,3 +3,4 @@ pub mod OneFrame
 pub mod Places
 pub mod ReadFrames
 pub mod Fed
+pub mod Markets

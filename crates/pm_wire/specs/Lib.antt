@@ -2,3 +2,5 @@ pub mod Frames
 pub mod Decoding
 pub mod DecoderFields
 pub mod Readings
+pub mod Answers
+pub mod ServerFields

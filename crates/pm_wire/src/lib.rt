@@ -11,14 +11,17 @@
 //! `Decoding` (what a decoder keeps, and what its calls do), `Answers` (what is answered to a list of frames).
 #![tactic(auto)]
 
+mod answer;
 mod decoder;
 mod fault;
 mod fields;
 mod frame;
+mod market;
 mod reading;
+mod server;
 
-
-
+pub use answer::Answer;
 pub use decoder::Decoder;
 pub use fault::DecodeFault;
 pub use frame::Frame;
+pub use server::Server;
