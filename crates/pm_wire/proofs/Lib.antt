@@ -4,3 +4,4 @@ pub mod Places
 pub mod ReadFrames
 pub mod Fed
 pub mod Markets
+pub mod OneReading

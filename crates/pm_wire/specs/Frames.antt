@@ -148,3 +148,9 @@ pub record EndsWithin (bytes : List ℕ) (offset : ℕ) : Type 0 where
   pub unfinished : IsUnfinished (place_behind None frames) rest
   pub some : rest ≢ []
   pub before : offset ≡ length (stream_bytes frames)
+
+-- ---- where a list of frames ends
+
+-- no further frame is whole at this place: the bytes are less than one, or begin badly
+abbrev pub Stops : Option ℕ → List ℕ → Type 0
+Stops place rest = IsUnfinished place rest ⊎ BeginsBadly place rest

@@ -4,3 +4,4 @@ pub mod DecoderFields
 pub mod Readings
 pub mod Answers
 pub mod ServerFields
+pub mod Streams
