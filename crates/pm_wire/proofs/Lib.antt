@@ -5,3 +5,4 @@ pub mod ReadFrames
 pub mod Fed
 pub mod Markets
 pub mod OneReading
+pub mod Taking

@@ -1,6 +1,6 @@
 -- What a service over a stream reads and writes, by how it ends. `old` and `new` are what the source had left before and
 -- after, `held` and `holds` what the sink held.
-use Rattle.std.specs.Prelude.{◌≡◌, ◌≢◌, ◌⊎◌, ℕ, ◌+◌, ◌<◌, ◌≤◌, IfSome, false, List, [], ◌++◌, length, take, Option, None}
+use Rattle.std.specs.Prelude.{◌≡◌, ◌≢◌, ◌⊎◌, ℕ, ◌+◌, ◌<◌, ◌≤◌, IfSome, List, [], ◌++◌, length, take, Option, None}
 use Rattle.std.specs.Io.KnownBytes.{Appends, Consumes, IsAtEnd}
 use Rattle.pm_wire.specs.declared.frame.Frame.{Frame}
 use Rattle.pm_wire.specs.declared.answer.Answer.TheVariants.{Fault}
@@ -96,7 +96,6 @@ pub record Follows (bytes : List ℕ) (frames : List Frame) (decoding : Decoding
   pub place : decoding.place ≡ place_behind None frames
   pub offset : decoding.offset ≡ length (stream_bytes frames)
   pub knows : market ≡ market_behind None frames
-  pub told : decoding.refused ≡ false
 
 -- from a decoder and a market to a later pair of them: these frames were given and taken, and the bytes of their answers are
 -- what was appended
@@ -105,7 +104,6 @@ pub record Takes (frames : List Frame) (old new : Decoding) (market after : Opti
   pub spelled : old.rest ≡ stream_bytes frames ++ new.rest
   pub offset : new.offset ≡ old.offset + length (stream_bytes frames)
   pub place : new.place ≡ place_behind old.place frames
-  pub told : new.refused ≡ old.refused
   pub knows : after ≡ market_behind market frames
   pub replied : reply ≡ reply_bytes (answers_behind market frames)
 
