@@ -6,3 +6,4 @@ pub mod Fed
 pub mod Markets
 pub mod OneReading
 pub mod Taking
+pub mod Following

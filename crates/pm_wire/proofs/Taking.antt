@@ -125,23 +125,23 @@ clearings_after (Some market) (Bid child number demand) offset stands few = omeg
 clearings_after (Some market) (Gone child number) offset stands few = omega (arith, few)
 clearings_after (Some market) Clear offset stands few = omega (arith, few, cleared_index market market.changed)
 
-fewer : (market : Option Market) (m n : ℕ) → m ≤ n → IfSome market (λ known. known.index ≤ m) → IfSome market (λ known. known.index ≤ n)
+pub fewer : (market : Option Market) (m n : ℕ) → m ≤ n → IfSome market (λ known. known.index ≤ m) → IfSome market (λ known. known.index ≤ n)
 fewer None m n le few = tt
 fewer (Some market) m n le few = omega (arith, few)
 
-stream_length : (fs : List Frame) (place : Option ℕ) → AllStand place fs → length fs ≤ length (stream_bytes fs)
+pub stream_length : (fs : List Frame) (place : Option ℕ) → AllStand place fs → length fs ≤ length (stream_bytes fs)
 stream_length [] place all = omega arith
 stream_length (f ∷ fs) place all = omega (arith, frame_length place f all.0.formed, length-append (frame_bytes f) (stream_bytes fs), stream_length fs (place_after place f) all.1)
 
 -- the market of frames knows their basis
-place_of-behind : (fs : List Frame) (market : Option Market) → AllStand (place_of market) fs → place_of (market_behind market fs) ≡ place_behind (place_of market) fs
+pub place_of-behind : (fs : List Frame) (market : Option Market) → AllStand (place_of market) fs → place_of (market_behind market fs) ≡ place_behind (place_of market) fs
 place_of-behind [] market all = refl
 place_of-behind (f ∷ fs) market all =
     let same = place_of-after market f all.0 in
     let P : Option ℕ → Type 0 = λ place. AllStand place fs in
     place_of-behind fs (market_after market f) (subst P (sym same) all.1) ∙ ap (λ p. place_behind p fs) same
 
-clearings_behind : (fs : List Frame) (market : Option Market) (offset : ℕ) → AllStand (place_of market) fs → IfSome market (λ known. known.index ≤ offset) →
+pub clearings_behind : (fs : List Frame) (market : Option Market) (offset : ℕ) → AllStand (place_of market) fs → IfSome market (λ known. known.index ≤ offset) →
     IfSome (market_behind market fs) (λ known. known.index ≤ offset + length fs)
 clearings_behind [] market offset all few = fewer market offset (offset + 0) (omega arith) few
 clearings_behind (f ∷ fs) market offset all few =

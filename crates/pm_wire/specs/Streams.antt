@@ -63,6 +63,10 @@ pub record IsAnswered (old new held holds : Option (List ℕ)) (input : List ℕ
   pub has : HasFrames input frames
   pub appends : Appends held holds (replies frames)
 
+-- ReadFault: so it is with the bytes that were taken
+abbrev pub FailsReading : Option (List ℕ) → Option (List ℕ) → Option (List ℕ) → Option (List ℕ) → Type 0
+FailsReading old new held holds = (input : List ℕ) × IsAnswered old new held holds input
+
 -- TooLong: more bytes than the limit were taken
 pub record IsTooLong (old new held holds : Option (List ℕ)) : Type 0 where
   pub input : List ℕ
@@ -111,3 +115,13 @@ pub record Takes (frames : List Frame) (old new : Decoding) (market after : Opti
 pub record Agrees (decoding : Decoding) (market : Option Market) : Type 0 where
   pub place : place_of market ≡ decoding.place
   pub clearings : IfSome market (λ known. known.index ≤ decoding.offset)
+
+-- So far: the bytes taken were fed and counted, all their whole frames were answered, and no bad frame shows.
+pub record Serving (old new held holds : Option (List ℕ)) (decoding : Decoding) (market : Option Market) (count : ℕ) : Type 0 where
+  pub input : List ℕ
+  pub frames : List Frame
+  pub consumes : Consumes old new input
+  pub counted : count ≡ length input
+  pub follows : Follows input frames decoding market
+  pub unfinished : IsUnfinished decoding.place decoding.rest
+  pub appends : Appends held holds (replies frames)

@@ -21,6 +21,7 @@ mod laws;
 mod market;
 mod reading;
 mod server;
+mod stream;
 
 pub use answer::Answer;
 pub use decoder::Decoder;
@@ -28,3 +29,4 @@ pub use fault::DecodeFault;
 pub use frame::Frame;
 pub use laws::streams_have_one_reading;
 pub use server::Server;
+pub use stream::{STREAM_LIMIT, Served};

@@ -1,0 +1,105 @@
+ghost use Rattle.std.specs.Prelude.{◌≡◌, ◌≢◌, ◌⊎◌, ◌<◌, ◌≤◌, ◌++◌, ℕ, List, [], length, take};
+ghost use Rattle.std.specs.Io.KnownBytes.{Appends};
+ghost use Rattle.pm_io.specs.Causes.{Rose};
+ghost use Rattle.pm_wire.specs.declared.answer.Answer.TheVariants.{Fault};
+ghost use Rattle.pm_wire.specs.Answers.{answer_bytes};
+ghost use Rattle.pm_wire.specs.Streams.{IsDone, IsRefused, IsTooLong, IsCutShort, IsBegun, FailsReading};
+
+use crate::answer::Answer;
+use crate::decoder::Decoder;
+use crate::fault::DecodeFault;
+use crate::frames::take_piece;
+use crate::server::Server;
+use pm_io::{Sink, Source, write_all};
+use std::alloc::Global;
+
+/// The most bytes of a stream.
+pub const STREAM_LIMIT: usize = 1_073_741_824;
+
+/// How many bytes one read asks for.
+const PIECE: usize = 16_384;
+
+/// How the service of a stream ended.
+#[derive(Clone, Copy, Debug, PartialEq, Eq)]
+pub enum Served {
+    /// The input was read to its end and is a list of frames.
+    Done,
+    /// A frame is bad, or the input ends within one. Its fault was written.
+    Refused,
+    /// More than 1,073,741,824 bytes were taken, and no bad frame shows in them.
+    TooLong,
+    /// The source failed.
+    ReadFault,
+    /// The sink failed.
+    WriteFault,
+    /// An allocation failed.
+    NoMemory,
+}
+
+/// Appends the fault of the frame at this offset to the answers, and writes them.
+fn refuse<K: Sink>(sink: &mut K, out: &mut Vec<u8>, offset: u64) -> Served
+    ensures either { (result ≡ Served.Refused) ⊎ (result ≡ Served.WriteFault) ⊎ (result ≡ Served.NoMemory) }
+    ensures refused { result ≡ Served.Refused
+        → Appends (K.held sink.old) (K.held sink.new) (out.old.items ++ answer_bytes (Fault offset)) }
+    ensures write_fault { result ≡ Served.WriteFault → Rose (K.faults sink.old) (K.faults sink.new)
+        × ((written : ℕ) × (written < length (out.old.items ++ answer_bytes (Fault offset)))
+        × Appends (K.held sink.old) (K.held sink.new) (take written (out.old.items ++ answer_bytes (Fault offset)))) }
+    ensures no_memory { result ≡ Served.NoMemory → sink.new ≡ sink.old }
+    ensures count { K.faults sink.old ≤ K.faults sink.new }
+{
+    if (Answer::Fault { offset }).write(out).is_err() {
+        return Served::NoMemory;
+    }
+    match write_all(sink, out) {
+        Ok(()) => Served::Refused,
+        Err(_) => Served::WriteFault,
+    }
+}
+
+/// Serves the stream, and tells how it ended.
+fn run<S: Source, K: Sink>(alloc: Global, source: &mut S, sink: &mut K) -> Served
+    ensures done { result ≡ Served.Done
+        → IsDone (S.left source.old) (S.left source.new) (K.held sink.old) (K.held sink.new) }
+    ensures refused { result ≡ Served.Refused
+        → IsRefused (S.left source.old) (S.left source.new) (K.held sink.old) (K.held sink.new) }
+    ensures too_long { result ≡ Served.TooLong
+        → IsTooLong (S.left source.old) (S.left source.new) (K.held sink.old) (K.held sink.new) }
+    ensures read_fault { result ≡ Served.ReadFault → Rose (S.faults source.old) (S.faults source.new)
+        × FailsReading (S.left source.old) (S.left source.new) (K.held sink.old) (K.held sink.new) }
+    ensures write_fault { result ≡ Served.WriteFault → Rose (K.faults sink.old) (K.faults sink.new)
+        × IsCutShort (S.left source.old) (S.left source.new) (K.held sink.old) (K.held sink.new) }
+    ensures no_memory { result ≡ Served.NoMemory
+        → IsBegun (S.left source.old) (S.left source.new) (K.held sink.old) (K.held sink.new) }
+    ensures source_count { S.faults source.old ≤ S.faults source.new }
+    ensures sink_count { K.faults sink.old ≤ K.faults sink.new }
+{
+    let mut decoder = Decoder::new(alloc);
+    let mut server = Server::new(alloc);
+    let mut out = Vec::new(alloc);
+    let mut piece = [0u8; PIECE];
+    let mut taken = 0;
+    while taken <= STREAM_LIMIT {
+        let count = match source.read(&mut piece) {
+            Ok(count) => count,
+            Err(_) => return Served::ReadFault,
+        };
+        if count == 0 {
+            let rest = decoder.rest();
+            if rest > 0 {
+                return refuse(sink, &mut out, (taken - rest) as u64);
+            }
+            return Served::Done;
+        }
+        taken += count;
+        match take_piece(&mut decoder, &mut server, &piece[..count], &mut out) {
+            Ok(()) => {}
+            Err(DecodeFault::Bad { at }) => return refuse(sink, &mut out, at),
+            Err(DecodeFault::NoMemory) => return Served::NoMemory,
+        }
+        if write_all(sink, &out).is_err() {
+            return Served::WriteFault;
+        }
+        out.clear();
+    }
+    Served::TooLong
+}
