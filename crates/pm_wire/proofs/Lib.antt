@@ -7,3 +7,4 @@ pub mod Markets
 pub mod OneReading
 pub mod Taking
 pub mod Following
+pub mod Ending
