@@ -11,7 +11,7 @@ use Rattle.pm_wire.specs.declared.market.Market.{Market}
 use Rattle.pm_wire.specs.Frames.{stream_bytes, place_behind, BeginsWith, IsUnfinished, BeginsBadly}
 use Rattle.pm_wire.specs.Answers.{answer_bytes}
 use Rattle.pm_wire.specs.Decoding.{Decoding}
-use Rattle.pm_wire.specs.Streams.{Follows, Serving, replies, replies_and_fault, HasFrames, HasFault, IsDue, answered, refused, IsRefused, IsCutShort, IsBegun}
+use Rattle.pm_wire.specs.Streams.{Follows, Serving, stream_limit, replies, replies_and_fault, HasFrames, HasFault, IsDue, answered, refused, IsRefused, IsCutShort, IsBegun}
 use Rattle.pm_wire.proofs.OneReading.{begins_more}
 use Rattle.pm_wire.proofs.Following.{follows_length}
 
@@ -132,13 +132,18 @@ serving_more old mid new held holds held' a b m n count more piece reply serving
 some_rest : (bytes : List ℕ) → 0 < length bytes → bytes ≢ []
 some_rest bytes some none = omega (arith, some, ap length none)
 
-end_due : (old mid new held holds : Option (List ℕ)) (a : Decoding) (m : Option Market) (count : ℕ) (reply : List ℕ) (serving : Serving old mid held holds a m count) → IsAtEnd new →
+end_due : (old mid new held holds : Option (List ℕ)) (a : Decoding) (m : Option Market) (count : ℕ) (reply : List ℕ) (serving : Serving old mid held holds a m count) → IsAtEnd new → count ≤ stream_limit →
     0 < length a.rest → reply ≡ [] → FaultDue new serving.input (replies serving.frames) reply (count - length a.rest)
-end_due old mid new held holds a m count reply serving at_end some none =
+end_due old mid new held holds a m count reply serving at_end short some none =
     let P : Option ℕ → Type 0 = λ place. IsUnfinished place a.rest in
     record {
       frames = serving.frames;
-      fault = record { rest = a.rest; begins = serving.follows.begins; bad = inr (at_end, some_rest a.rest some, subst P serving.follows.place serving.unfinished) };
+      fault = record { rest = a.rest; begins = serving.follows.begins; bad = inr (record {
+        at_end = at_end;
+        short = omega (arith, serving.counted, short);
+        some = some_rest a.rest some;
+        unfinished = subst P serving.follows.place serving.unfinished;
+      }) };
       text = fault_text (replies serving.frames) reply serving.frames (count - length a.rest) (ap (λ l. replies serving.frames ++ l) none ∙ append-nil (replies serving.frames))
           (omega (arith, follows_length serving.input serving.frames a m serving.follows, serving.counted, serving.follows.offset));
     }
@@ -149,9 +154,9 @@ no_more old mid new input first second =
     subst P (append-nil input) (Consumes-trans old mid new input [] first second)
 
 pub end_refused : (old mid new held holds held' : Option (List ℕ)) (a : Decoding) (m : Option Market) (count : ℕ) (reply : List ℕ) → Serving old mid held holds a m count →
-    Consumes mid new [] → IsAtEnd new → 0 < length a.rest → reply ≡ [] → Appends holds held' (reply ++ answer_bytes (Fault (count - length a.rest))) → IsRefused old new held held'
-end_refused old mid new held holds held' a m count reply serving consumes at_end some none appends =
-    let due = end_due old mid new held holds a m count reply serving at_end some none in
+    Consumes mid new [] → IsAtEnd new → count ≤ stream_limit → 0 < length a.rest → reply ≡ [] → Appends holds held' (reply ++ answer_bytes (Fault (count - length a.rest))) → IsRefused old new held held'
+end_refused old mid new held holds held' a m count reply serving consumes at_end short some none appends =
+    let due = end_due old mid new held holds a m count reply serving at_end short some none in
     let P : List ℕ → Type 0 = λ l. Appends held held' l in
     record {
       input = serving.input;
@@ -162,10 +167,10 @@ end_refused old mid new held holds held' a m count reply serving consumes at_end
     }
 
 pub end_cut_short : (old mid new held holds held' : Option (List ℕ)) (a : Decoding) (m : Option Market) (count written : ℕ) (reply : List ℕ) → Serving old mid held holds a m count →
-    Consumes mid new [] → IsAtEnd new → 0 < length a.rest → reply ≡ [] → written < length (reply ++ answer_bytes (Fault (count - length a.rest))) →
+    Consumes mid new [] → IsAtEnd new → count ≤ stream_limit → 0 < length a.rest → reply ≡ [] → written < length (reply ++ answer_bytes (Fault (count - length a.rest))) →
     Appends holds held' (take written (reply ++ answer_bytes (Fault (count - length a.rest)))) → IsCutShort old new held held'
-end_cut_short old mid new held holds held' a m count written reply serving consumes at_end some none proper appends =
-    let due = end_due old mid new held holds a m count reply serving at_end some none in
+end_cut_short old mid new held holds held' a m count written reply serving consumes at_end short some none proper appends =
+    let due = end_due old mid new held holds a m count reply serving at_end short some none in
     cut_short old new held holds held' serving.input (replies serving.frames) _ (replies_and_fault due.frames) written
         (no_more old mid new serving.input serving.consumes consumes) serving.appends (refused due.frames due.fault) due.text proper appends
 

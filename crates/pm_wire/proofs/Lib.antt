@@ -8,3 +8,4 @@ pub mod OneReading
 pub mod Taking
 pub mod Following
 pub mod Ending
+pub mod Outcomes

@@ -27,11 +27,18 @@ pub record HasFrames (bytes : List ℕ) (frames : List Frame) : Type 0 where
   pub begins : BeginsWith bytes frames rest
   pub unfinished : IsUnfinished (place_behind None frames) rest
 
+-- the bytes taken are all that the source had, no more than the limit, and end within a frame
+pub record EndsInside (new : Option (List ℕ)) (bytes : List ℕ) (place : Option ℕ) (rest : List ℕ) : Type 0 where
+  pub at_end : IsAtEnd new
+  pub short : length bytes ≤ stream_limit
+  pub some : rest ≢ []
+  pub unfinished : IsUnfinished place rest
+
 -- a bad frame stands behind these frames in the bytes taken, or they end within one and are all that the source had
 pub record HasFault (new : Option (List ℕ)) (bytes : List ℕ) (frames : List Frame) : Type 0 where
   pub rest : List ℕ
   pub begins : BeginsWith bytes frames rest
-  pub bad : BeginsBadly (place_behind None frames) rest ⊎ (IsAtEnd new × (rest ≢ []) × IsUnfinished (place_behind None frames) rest)
+  pub bad : BeginsBadly (place_behind None frames) rest ⊎ EndsInside new bytes (place_behind None frames) rest
 
 -- what is due for the bytes taken: the answers to their frames, and a fault where there is one
 pub data IsDue (new : Option (List ℕ)) (bytes : List ℕ) : List ℕ → Type 0 where
@@ -65,7 +72,7 @@ pub record IsAnswered (old new held holds : Option (List ℕ)) (input : List ℕ
 
 -- ReadFault: so it is with the bytes that were taken
 abbrev pub FailsReading : Option (List ℕ) → Option (List ℕ) → Option (List ℕ) → Option (List ℕ) → Type 0
-FailsReading old new held holds = (input : List ℕ) × IsAnswered old new held holds input
+FailsReading old new held holds = (input : List ℕ) × IsAnswered old new held holds input × (length input ≤ stream_limit)
 
 -- TooLong: more bytes than the limit were taken
 pub record IsTooLong (old new held holds : Option (List ℕ)) : Type 0 where

@@ -1,5 +1,6 @@
-ghost use Rattle.std.specs.Prelude.{◌≡◌, ◌≢◌, ℕ, List, [], ◌++◌, None};
+ghost use Rattle.std.specs.Prelude.{◌≡◌, ℕ, List, ◌++◌, Option, Some, None};
 ghost use Rattle.pm_wire.specs.declared.frame.Frame.{Frame};
+ghost use Rattle.pm_wire.specs.Streams.{IsDone, IsRefused};
 ghost use Rattle.pm_wire.specs.Frames.{BeginsWith, AreFrames, Stops, place_behind, HasBadFrame, EndsWithin};
 
 /// A law: some bytes have one list of frames, and one offset at which a bad frame stands or they end within one, and no two
@@ -20,5 +21,17 @@ pub fn streams_have_one_reading()
         → HasBadFrame bytes offset → ¬ EndsWithin bytes other }
     ensures bad_stays { (bytes more : List ℕ) (offset : ℕ)
         → HasBadFrame bytes offset → HasBadFrame (bytes ++ more) offset }
+{
+}
+
+/// A law: what a service appends is a function of the bytes of its input where it ends with Done, and where it ends with
+/// Refused, however the source cuts them; and one input does not end both ways.
+pub fn replies_are_of_the_bytes()
+    ensures done { (all held : List ℕ) (new other holds kept : Option (List ℕ))
+        → IsDone (Some all) new (Some held) holds → IsDone (Some all) other (Some held) kept → holds ≡ kept }
+    ensures refused { (all held : List ℕ) (new other holds kept : Option (List ℕ))
+        → IsRefused (Some all) new (Some held) holds → IsRefused (Some all) other (Some held) kept → holds ≡ kept }
+    ensures not_both { (all held : List ℕ) (new other holds kept : Option (List ℕ))
+        → IsDone (Some all) new (Some held) holds → ¬ IsRefused (Some all) other (Some held) kept }
 {
 }

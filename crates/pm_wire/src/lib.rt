@@ -27,6 +27,9 @@ pub use answer::Answer;
 pub use decoder::Decoder;
 pub use fault::DecodeFault;
 pub use frame::Frame;
-pub use laws::streams_have_one_reading;
+pub use laws::{replies_are_of_the_bytes, streams_have_one_reading};
 pub use server::Server;
-pub use stream::{STREAM_LIMIT, Served};
+pub use stream::{STREAM_LIMIT, Served, serve};
+
+#[cfg(test)]
+mod tests;

@@ -6,7 +6,7 @@ pub returns-then-rest-gt0-clause-refused : goal.returns-then-rest-gt0-clause-ref
 returns-then-rest-gt0-clause-refused g c = λ e.
     let kept = c.loop-taken.invariant in
     end_refused _ _ _ _ _ _ _ _ _ _ kept.serving (none_read _ _ _ c.in-Ok.count c.if-count-eq0.true c.in-Ok.ensures.bytes.0)
-        (c.in-Ok.ensures.bytes.1 c.if-count-eq0.true (omega arith)) (omega arith) kept.empty
+        (c.in-Ok.ensures.bytes.1 c.if-count-eq0.true (omega arith)) c.loop-taken-test.true (omega arith) kept.empty
         (rest_text _ _ _ _ _ _ c.rest-rest.ensures (c.refuse.ensures.refused e))
 
 pub returns-then-rest-gt0-clause-write_fault : goal.returns-then-rest-gt0-clause-write_fault
@@ -15,7 +15,7 @@ returns-then-rest-gt0-clause-write_fault g c = λ e.
     let fault = c.refuse.ensures.write_fault e in
     (rose_later _ _ _ kept.sink_count fault.0,
      end_cut_short _ _ _ _ _ _ _ _ _ fault.1.0 _ kept.serving (none_read _ _ _ c.in-Ok.count c.if-count-eq0.true c.in-Ok.ensures.bytes.0)
-        (c.in-Ok.ensures.bytes.1 c.if-count-eq0.true (omega arith)) (omega arith) kept.empty (rest_proper _ _ _ _ _ c.rest-rest.ensures fault.1.1)
+        (c.in-Ok.ensures.bytes.1 c.if-count-eq0.true (omega arith)) c.loop-taken-test.true (omega arith) kept.empty (rest_proper _ _ _ _ _ c.rest-rest.ensures fault.1.1)
         (rest_prefix _ _ _ _ _ _ _ c.rest-rest.ensures fault.1.2))
 
 pub returns-in-Err-Bad-clause-refused : goal.returns-in-Err-Bad-clause-refused
