@@ -203,12 +203,6 @@ pub not_failed : {T E : Type 0} (A : Type 0) (r : Result T E) → is_err r ≡ f
 not_failed A (Ok x) is a = a
 not_failed A (Err e) is a = absurd (cc is)
 
-pub text_is : (holds held' : Option (List ℕ)) (text reply : List ℕ) → text ≡ reply → Appends holds held' text → Appends holds held' reply
-text_is holds held' text reply is appends = let P : List ℕ → Type 0 = λ l. Appends holds held' l in subst P is appends
-
-pub prefix_is : (holds held' : Option (List ℕ)) (text reply : List ℕ) (n : ℕ) → text ≡ reply → Appends holds held' (take n text) → Appends holds held' (take n reply)
-prefix_is holds held' text reply n is appends = let P : List ℕ → Type 0 = λ l. Appends holds held' (take n l) in subst P is appends
-
 pub rest_proper : (reply : List ℕ) (count left written : ℕ) (rest : List ℕ) → left ≡ length rest → written < length (reply ++ answer_bytes (Fault (count - left))) →
     written < length (reply ++ answer_bytes (Fault (count - length rest)))
 rest_proper reply count left written rest is proper = let P : ℕ → Type 0 = λ n. written < length (reply ++ answer_bytes (Fault (count - n))) in subst P is proper

@@ -1,4 +1,4 @@
-ghost use Rattle.std.specs.Prelude.{◌≡◌, ◌≢◌, ◌⊎◌, Some, ◌<◌, ◌≤◌, ◌++◌, ℕ, List, [], length, take};
+ghost use Rattle.std.specs.Prelude.{◌≡◌, ◌≢◌, ◌⊎◌, Some, ◌<◌, ◌≤◌, ◌++◌, ℕ, List, [], length, take, OnOk, IfErr};
 ghost use Rattle.std.specs.Io.KnownBytes.{Appends};
 ghost use Rattle.pm_io.specs.Causes.{Rose};
 ghost use Rattle.pm_io.specs.Taken.{taken};
@@ -13,7 +13,7 @@ use crate::decoder::Decoder;
 use crate::fault::DecodeFault;
 use crate::frames::take_piece;
 use crate::server::Server;
-use pm_io::{Sink, Source, write_all};
+use pm_io::{Sink, Source, WriteFault, write_all};
 use std::alloc::Global;
 
 /// The most bytes of a stream.
@@ -39,6 +39,21 @@ pub enum Served {
     NoMemory,
 }
 
+/// Writes the answers that were appended so far, and lets them go.
+fn flush<K: Sink>(sink: &mut K, out: &mut Vec<u8>) -> Result<(), WriteFault>
+    ensures all { OnOk result (Appends (K.held sink.old) (K.held sink.new) out.old.items) }
+    ensures empty { OnOk result (out.new.items ≡ []) }
+    ensures prefix { IfErr result (λ fault.
+        Appends (K.held sink.old) (K.held sink.new) (take fault.written out.old.items)) }
+    ensures proper { IfErr result (λ fault. fault.written < length out.old.items) }
+    ensures count { K.faults sink.old ≤ K.faults sink.new }
+    ensures cause { IfErr result (λ fault. Rose (K.faults sink.old) (K.faults sink.new)) }
+{
+    write_all(sink, out)?;
+    out.clear();
+    Ok(())
+}
+
 /// Appends the fault of the frame at this offset to the answers, and writes them.
 fn refuse<K: Sink>(sink: &mut K, out: &mut Vec<u8>, offset: u64) -> Served
     ensures either { (result ≡ Served.Refused) ⊎ (result ≡ Served.WriteFault) ⊎ (result ≡ Served.NoMemory) }
@@ -53,7 +68,7 @@ fn refuse<K: Sink>(sink: &mut K, out: &mut Vec<u8>, offset: u64) -> Served
     if (Answer::Fault { offset }).write(out).is_err() {
         return Served::NoMemory;
     }
-    match write_all(sink, out) {
+    match flush(sink, out) {
         Ok(()) => Served::Refused,
         Err(_) => Served::WriteFault,
     }
@@ -99,10 +114,9 @@ fn run<S: Source, K: Sink>(alloc: Global, source: &mut S, sink: &mut K) -> Serve
             Err(DecodeFault::Bad { at }) => return refuse(sink, &mut out, at),
             Err(DecodeFault::NoMemory) => return Served::NoMemory,
         }
-        if write_all(sink, &out).is_err() {
+        if flush(sink, &mut out).is_err() {
             return Served::WriteFault;
         }
-        out.clear();
     }
     Served::TooLong
 }

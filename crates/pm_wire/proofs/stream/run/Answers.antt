@@ -1,5 +1,5 @@
 use Rattle.std.proofs.Common.{◌≡◌, ◌∙◌, sym, ap, refl, subst, arith, length, take, [], ℕ, List}
-use Rattle.pm_wire.proofs.Ending.{bad_refused, bad_cut_short, begun_by, piece_cut_short, serving_more, end_refused, end_cut_short, none_read, rest_text, rest_prefix, rest_proper, rose_later, failed, not_failed, text_is, prefix_is, told_text, told_prefix, told_proper}
+use Rattle.pm_wire.proofs.Ending.{bad_refused, bad_cut_short, begun_by, piece_cut_short, serving_more, end_refused, end_cut_short, none_read, rest_text, rest_prefix, rest_proper, rose_later, failed, not_failed, told_text, told_prefix, told_proper}
 use Rattle.pm_wire.proofs.stream.run.Goals as goal
 
 pub returns-then-rest-gt0-clause-refused : goal.returns-then-rest-gt0-clause-refused
@@ -42,19 +42,19 @@ returns-in-Err-NoMemory-clause-no_memory g c = λ e.
 pub returns-then-is_err-clause-write_fault : goal.returns-then-is_err-clause-write_fault
 returns-then-is_err-clause-write_fault g c = λ e.
     let kept = c.loop-taken.invariant in
-    let fault = failed _ _ _ c.write_all.result (sym c.is_err.ensures.value ∙ c.if-is_err.true) c.write_all.ensures.cause c.write_all.ensures.proper c.write_all.ensures.prefix in
+    let fault = failed _ _ _ c.flush.result (sym c.is_err.ensures.value ∙ c.if-is_err.true) c.flush.ensures.cause c.flush.ensures.proper c.flush.ensures.prefix in
     (rose_later _ _ _ kept.sink_count fault.1,
-     piece_cut_short _ _ _ _ _ _ _ _ _ _ _ fault.0.written _ _ kept.serving c.in-Ok.ensures.bytes.0 c.in-Ok-take_piece.ensures.taken
-        (omega (arith, fault.2, ap length c.deref.ensures.value)) (prefix_is _ _ _ _ _ c.deref.ensures.value fault.3))
+     piece_cut_short _ _ _ _ _ _ _ _ _ _ _ fault.0.written _ _ kept.serving c.in-Ok.ensures.bytes.0 c.in-Ok-take_piece.ensures.taken fault.2 fault.3)
 
 pub loop-taken-preserved : goal.loop-taken-preserved
 loop-taken-preserved g c =
     let kept = c.loop-taken.invariant in
+    let succeeds = sym c.is_err.ensures.value ∙ c.if-is_err.false in
     record {
       serving = serving_more _ _ _ _ _ _ _ _ _ _ _ _ _ _ kept.serving c.in-Ok.ensures.bytes.0 (sym c.in-Ok.ensures.bound.1) c.in-Ok-take_piece.ensures.taken
-          (text_is _ _ _ _ c.deref.ensures.value (not_failed _ c.write_all.result (sym c.is_err.ensures.value ∙ c.if-is_err.false) c.write_all.ensures.all));
+          (not_failed _ c.flush.result succeeds c.flush.ensures.all);
       within = omega (arith, c.in-Ok.ensures.bound.0);
-      empty = c.clear.ensures.items;
+      empty = not_failed _ c.flush.result succeeds c.flush.ensures.empty;
       source_count = omega (arith, kept.source_count, c.in-Ok.ensures.cause.later);
-      sink_count = omega (arith, kept.sink_count, c.write_all.ensures.count);
+      sink_count = omega (arith, kept.sink_count, c.flush.ensures.count);
     }
