@@ -6,7 +6,8 @@ use Rattle.pm_wire.specs.Frames.{BeginsBadly}
 use Rattle.pm_wire.proofs.Places.{bad_more}
 
 -- a bad frame stays bad
-pub fed_bad : (place : Option ℕ) (buffer kept after piece : List ℕ) (start start' : ℕ) (ok : Bool) → drop start' kept ≡ drop start buffer → start' ≤ length kept →
+pub fed_bad : (place : Option ℕ) (buffer kept after piece : List ℕ) (start start' : ℕ) (ok : Bool) → drop start' kept ≡ drop start buffer →
+    start' ≤ length kept →
     after ≡ (if ok then kept ++ piece else kept) → BeginsBadly place (drop start buffer) → BeginsBadly place (drop start' after)
 fed_bad place buffer kept after piece start start' true same within is bad =
     let P : List ℕ → Type 0 = λ l. BeginsBadly place l in

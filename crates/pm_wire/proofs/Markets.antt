@@ -1,5 +1,6 @@
 -- A market behind its frames: its entries are single bids, and its prices one behind the other.
-use Rattle.std.proofs.Common.{◌≡◌, ◌∙◌, sym, ap, refl, subst, ℕ, ◌+◌, ◌<◌, ◌≤◌, ℤ, pos, Bool, true, false, List, [], ◌∷◌, ◌++◌, length, drop, replicate, get_or, Result, Ok, Err, arith, append_assoc, All}
+use Rattle.std.proofs.Common.{◌≡◌, ◌∙◌, sym, ap, refl, subst, ℕ, ◌+◌, ◌<◌, ◌≤◌, ℤ, pos, Bool, true, false, List, [], ◌∷◌, ◌++◌, length, drop, replicate}
+use Rattle.std.proofs.Common.{get_or, Result, Ok, Err, arith, append_assoc, All}
 use Rattle.std.specs.Prelude.{◌==◌, nat_lt, if◌then◌else◌}
 use Rattle.std.proofs.lemmas.Bool.Decides.{nat_tests}
 use Rattle.std.proofs.lemmas.Grind.{flat_map-append, common_steps}
@@ -33,7 +34,8 @@ prices_more index step child i heads d out out' total inside before is =
     ∙ ap (λ l. out ++ reply_bytes (prices index step child l)) (sym first) ∙ before
 
 -- a market in which nothing was sent
-pub open_market_is : (steps : ℕ) (cache : Cache) → cache ≡ empty_cache most_nodes steps → record { cache = cache; index = 0; changed = false } ≡ open_market steps
+pub open_market_is : (steps : ℕ) (cache : Cache) → cache ≡ empty_cache most_nodes steps →
+    record { cache = cache; index = 0; changed = false } ≡ open_market steps
 unfolding open_market
 open_market_is steps cache is = ap (λ c. record { cache = c; index = 0; changed = false }) is
 
@@ -56,7 +58,8 @@ opened_sound children steps index changed cache all basis is =
       single = subst Q (sym is) (empty_single children steps);
     }
 
-else_ok : {A E : Type 0} (test : Bool) (fault : E) (rest : Result A E) (value : A) → (if test then Err fault else rest) ≡ Ok value → (test ≡ false) × (rest ≡ Ok value)
+else_ok : {A E : Type 0} (test : Bool) (fault : E) (rest : Result A E) (value : A) → (if test then Err fault else rest) ≡ Ok value →
+    (test ≡ false) × (rest ≡ Ok value)
 else_ok true fault rest value h = absurd (cc h)
 else_ok false fault rest value h = (refl, h)
 

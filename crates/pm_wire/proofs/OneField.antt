@@ -1,5 +1,6 @@
 -- The bytes of a field determine it, and the demands of a bid.
-use Rattle.std.proofs.Common.{◌≡◌, ◌∙◌, sym, ap, refl, ℕ, ◌+◌, ◌*◌, ◌<◌, ◌^◌, ℤ, List, [], ◌∷◌, ◌++◌, length, take, drop, arith, append_assoc, length-append, FitsSigned}
+use Rattle.std.proofs.Common.{◌≡◌, ◌∙◌, sym, ap, refl, ℕ, ◌+◌, ◌*◌, ◌<◌, ◌^◌, ℤ, List, [], ◌∷◌, ◌++◌, length, take, drop, arith, append_assoc}
+use Rattle.std.proofs.Common.{length-append, FitsSigned}
 use Rattle.std.specs.Int.{w16, w32, w64, to_be_bytes, from_be_bytes, cast_signed, cast_unsigned}
 use Rattle.std.specs.List.{AllByRecursion, flat_map}
 use Rattle.std.proofs.lemmas.Int.{to_z-of_z}
@@ -11,9 +12,10 @@ use Rattle.pm_wire.specs.Frames.{signed_bytes, demand_bytes}
 
 -- two lists whose fronts are equally long have the same fronts and the same rests
 pub parts_same : (p q x y : List ℕ) → length p ≡ length q → p ++ x ≡ q ++ y → (p ≡ q) × (x ≡ y)
-parts_same p q x y same e =
-    (sym (take_at p x (length p) refl) ∙ ap (λ l. take (length p) l) e ∙ take_at q y (length p) (sym same),
-     sym (drop_at p x (length p) refl) ∙ ap (λ l. drop (length p) l) e ∙ drop_at q y (length p) (sym same))
+parts_same p q x y same e = (
+  sym (take_at p x (length p) refl) ∙ ap (λ l. take (length p) l) e ∙ take_at q y (length p) (sym same),
+  sym (drop_at p x (length p) refl) ∙ ap (λ l. drop (length p) l) e ∙ drop_at q y (length p) (sym same),
+)
 
 -- a field of two bytes
 pub two_same : (a b : ℕ) (x y : List ℕ) → a < 2 ^ 16 → b < 2 ^ 16 → to_be_bytes w16 a ++ x ≡ to_be_bytes w16 b ++ y → (a ≡ b) × (x ≡ y)
@@ -41,7 +43,7 @@ demands_same [] (d ∷ b) x y many fit fit' e = absurd (omega (arith, many))
 demands_same (c ∷ a) [] x y many fit fit' e = absurd (omega (arith, many))
 demands_same (c ∷ a) (d ∷ b) x y many fit fit' e =
     let first = signed_same c d (demand_bytes a ++ x) (demand_bytes b ++ y) fit.0 fit'.0
-        (sym (append_assoc (signed_bytes c) (demand_bytes a) x) ∙ e ∙ append_assoc (signed_bytes d) (demand_bytes b) y) in
+    (sym (append_assoc (signed_bytes c) (demand_bytes a) x) ∙ e ∙ append_assoc (signed_bytes d) (demand_bytes b) y) in
     let others = demands_same a b x y (omega (arith, many)) fit.1 fit'.1 first.1 in
     (ap (λ z. z ∷ a) first.0 ∙ ap (λ l. d ∷ l) others.0, others.1)
 
@@ -57,7 +59,8 @@ demands_more bytes rest behind demand d e e' =
     let one : demand_bytes (demand ++ d ∷ []) ≡ demand_bytes demand ++ signed_bytes d = flat_map-append signed_bytes demand (d ∷ []) in
     e ∙ ap (λ l. demand_bytes demand ++ l) e' ∙ sym (append_assoc (demand_bytes demand) (signed_bytes d) behind) ∙ ap (λ l. l ++ behind) (sym one)
 
-pub fit_more : (demand : List ℤ) (d : ℤ) → AllByRecursion (λ z. FitsSigned w32 z) demand → FitsSigned w32 d → AllByRecursion (λ z. FitsSigned w32 z) (demand ++ d ∷ [])
+pub fit_more : (demand : List ℤ) (d : ℤ) → AllByRecursion (λ z. FitsSigned w32 z) demand → FitsSigned w32 d →
+    AllByRecursion (λ z. FitsSigned w32 z) (demand ++ d ∷ [])
 fit_more [] d fit fits = (fits, tt)
 fit_more (c ∷ demand) d fit fits = (fit.0, fit_more demand d fit.1 fits)
 

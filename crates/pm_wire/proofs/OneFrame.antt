@@ -1,5 +1,6 @@
 -- The bytes of a frame determine it, whatever follows.
-use Rattle.std.proofs.Common.{◌≡◌, ◌∙◌, sym, ap, refl, ℕ, ◌+◌, ◌<◌, ◌^◌, ℤ, List, [], ◌∷◌, ◌++◌, length, Option, None, Some, arith, append_assoc, FitsSigned}
+use Rattle.std.proofs.Common.{◌≡◌, ◌∙◌, sym, ap, refl, ℕ, ◌+◌, ◌<◌, ◌^◌, ℤ, List, [], ◌∷◌, ◌++◌, length, Option, None, Some, arith, append_assoc}
+use Rattle.std.proofs.Common.{FitsSigned}
 use Rattle.std.specs.Int.{w16, w32, to_be_bytes}
 use Rattle.pm_basis.specs.Prices.{BasisValue}
 use Rattle.pm_wire.specs.declared.frame.Frame.{Frame}
@@ -16,18 +17,22 @@ head_same a b x y e = cc
 hello_same : (b c : BasisValue) (x y : List ℕ) → IsFormed None (Hello b) → IsFormed None (Hello c) →
     frame_bytes (Hello b) ++ x ≡ frame_bytes (Hello c) ++ y → (Hello b ≡ Hello c) × (x ≡ y)
 hello_same b c x y f g e =
-    let low = signed_same b.min c.min ((signed_bytes b.max ++ to_be_bytes w16 b.steps) ++ x) ((signed_bytes c.max ++ to_be_bytes w16 c.steps) ++ y) f.0 g.0 (tail_same _ _ _ _ e) in
+    let low = signed_same b.min c.min ((signed_bytes b.max ++ to_be_bytes w16 b.steps) ++ x) ((signed_bytes c.max ++ to_be_bytes w16 c.steps) ++ y) f.0
+    g.0 (tail_same _ _ _ _ e) in
     let high = signed_same b.max c.max (to_be_bytes w16 b.steps ++ x) (to_be_bytes w16 c.steps ++ y) f.1 g.1 low.1 in
-    let many = two_same b.steps c.steps x y f.2 g.2 high.1 in
-    (ap (λ n. Hello (record { min = n; max = b.max; steps = b.steps })) low.0
-     ∙ ap (λ n. Hello (record { min = c.min; max = n; steps = b.steps })) high.0
-     ∙ ap (λ n. Hello (record { min = c.min; max = c.max; steps = n })) many.0, many.1)
+    let many = two_same b.steps c.steps x y f.2 g.2 high.1 in (
+      ap (λ n. Hello (record { min = n; max = b.max; steps = b.steps })) low.0
+          ∙ ap (λ n. Hello (record { min = c.min; max = n; steps = b.steps })) high.0
+          ∙ ap (λ n. Hello (record { min = c.min; max = c.max; steps = n })) many.0,
+      many.1,
+    )
 
 bid_same : (steps child number child' number' : ℕ) (demand demand' : List ℤ) (x y : List ℕ) → IsFormed (Some steps) (Bid child number demand) →
     IsFormed (Some steps) (Bid child' number' demand') → frame_bytes (Bid child number demand) ++ x ≡ frame_bytes (Bid child' number' demand') ++ y →
     (Bid child number demand ≡ Bid child' number' demand') × (x ≡ y)
 bid_same steps child number child' number' demand demand' x y f g e =
-    let senders = two_same child child' (to_be_bytes w32 number ++ (demand_bytes demand ++ x)) (to_be_bytes w32 number' ++ (demand_bytes demand' ++ y)) f.0 g.0 (tail_same _ _ _ _ e) in
+    let senders = two_same child child' (to_be_bytes w32 number ++ (demand_bytes demand ++ x)) (to_be_bytes w32 number' ++ (demand_bytes demand' ++ y))
+    f.0 g.0 (tail_same _ _ _ _ e) in
     let numbers = four_same number number' (demand_bytes demand ++ x) (demand_bytes demand' ++ y) f.1 g.1 senders.1 in
     let demands = demands_same demand demand' x y (f.2 ∙ sym g.2) f.3 g.3 numbers.1 in
     (cc (senders.0, numbers.0, demands.0), demands.1)
@@ -40,7 +45,8 @@ gone_same steps child number child' number' x y f g e =
     (cc (senders.0, numbers.0), numbers.1)
 
 -- no frame that is formed begins another one, nor has another one's bytes
-pub one_frame : (place : Option ℕ) (f g : Frame) (x y : List ℕ) → IsFormed place f → IsFormed place g → frame_bytes f ++ x ≡ frame_bytes g ++ y → (f ≡ g) × (x ≡ y)
+pub one_frame : (place : Option ℕ) (f g : Frame) (x y : List ℕ) → IsFormed place f → IsFormed place g → frame_bytes f ++ x ≡ frame_bytes g ++ y →
+    (f ≡ g) × (x ≡ y)
 one_frame None (Hello b) (Hello c) x y f g e = hello_same b c x y f g e
 one_frame None (Hello b) (Bid child number demand) x y f g e = absurd g
 one_frame None (Hello b) (Gone child number) x y f g e = absurd g

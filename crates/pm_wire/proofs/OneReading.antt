@@ -2,7 +2,8 @@
 use Rattle.std.proofs.Common.{◌≡◌, ◌≢◌, ◌∙◌, sym, ap, subst, refl, ℕ, ◌<◌, List, [], ◌∷◌, ◌++◌, length, Option, None, append_assoc, inl, inr, ◌⊎◌}
 use Rattle.std.proofs.lemmas.List.{append-nil}
 use Rattle.pm_wire.specs.declared.frame.Frame.{Frame}
-use Rattle.pm_wire.specs.Frames.{frame_bytes, stream_bytes, place_after, place_behind, MayStand, AllStand, IsUnfinished, BeginsBadly, Stops, BeginsWith, AreFrames, HasBadFrame, EndsWithin}
+use Rattle.pm_wire.specs.Frames.{frame_bytes, stream_bytes, place_after, place_behind, MayStand, AllStand, IsUnfinished, BeginsBadly, Stops, BeginsWith}
+use Rattle.pm_wire.specs.Frames.{AreFrames, HasBadFrame, EndsWithin}
 use Rattle.pm_wire.proofs.Places.{whole_same, whole_not_unfinished, whole_not_bad, bad_not_unfinished, bad_more}
 
 -- no frame stands where a list of frames stops
@@ -14,7 +15,8 @@ cut : (f : Frame) (frames : List Frame) (rest : List ℕ) → stream_bytes (f �
 cut f frames rest = append_assoc (frame_bytes f) (stream_bytes frames) rest
 
 -- two lists of frames of the same bytes are one, where both stop
-pub one_list : (place : Option ℕ) (fs gs : List Frame) (r s : List ℕ) → AllStand place fs → AllStand place gs → Stops (place_behind place fs) r → Stops (place_behind place gs) s →
+pub one_list : (place : Option ℕ) (fs gs : List Frame) (r s : List ℕ) → AllStand place fs → AllStand place gs → Stops (place_behind place fs) r →
+    Stops (place_behind place gs) s →
     stream_bytes fs ++ r ≡ stream_bytes gs ++ s → (fs ≡ gs) × (r ≡ s)
 one_list place [] [] r s f g stop stop' e = (refl, e)
 one_list place [] (h ∷ gs) r s f g stop stop' e = absurd (frame_not_stop place r h (stream_bytes gs ++ s) g.0 (e ∙ cut h gs s) stop)
@@ -26,11 +28,13 @@ one_list place (h ∷ fs) (k ∷ gs) r s f g stop stop' e =
     let others = one_list (place_after place h) fs gs r s f.1 (subst P (sym first.0) g.1) stop (subst Q (sym first.0) stop') first.1 in
     (ap (λ x. x ∷ fs) first.0 ∙ ap (λ l. k ∷ l) others.0, others.1)
 
-pub same_reading : (bytes : List ℕ) (fs gs : List Frame) (r s : List ℕ) → BeginsWith bytes fs r → Stops (place_behind None fs) r → BeginsWith bytes gs s → Stops (place_behind None gs) s → (fs ≡ gs) × (r ≡ s)
+pub same_reading : (bytes : List ℕ) (fs gs : List Frame) (r s : List ℕ) → BeginsWith bytes fs r → Stops (place_behind None fs) r →
+    BeginsWith bytes gs s → Stops (place_behind None gs) s → (fs ≡ gs) × (r ≡ s)
 same_reading bytes fs gs r s b stop b' stop' = one_list None fs gs r s b.stand b'.stand stop stop' (sym b.spelled ∙ b'.spelled)
 
 -- where a list of frames stops with a bad frame it does not stop within one
-pub bad_or_unfinished : (bytes : List ℕ) (fs gs : List Frame) (r s : List ℕ) → BeginsWith bytes fs r → BeginsBadly (place_behind None fs) r → BeginsWith bytes gs s → IsUnfinished (place_behind None gs) s → ⊥
+pub bad_or_unfinished : (bytes : List ℕ) (fs gs : List Frame) (r s : List ℕ) → BeginsWith bytes fs r → BeginsBadly (place_behind None fs) r →
+    BeginsWith bytes gs s → IsUnfinished (place_behind None gs) s → ⊥
 bad_or_unfinished bytes fs gs r s b bad b' unfinished =
     let same = same_reading bytes fs gs r s b (inr bad) b' (inl unfinished) in
     let P : List ℕ → Type 0 = λ l. BeginsBadly (place_behind None gs) l in

@@ -1,5 +1,6 @@
 -- The ways in which a service ends, as what its source had says.
-use Rattle.std.proofs.Common.{◌≡◌, ◌≢◌, ◌∙◌, sym, ap, refl, subst, ℕ, ◌+◌, ◌-◌, ◌<◌, ◌≤◌, List, [], ◌∷◌, ◌++◌, length, Option, None, Some, arith, append_assoc, length-append, inl, inr, ◌⊎◌}
+use Rattle.std.proofs.Common.{◌≡◌, ◌≢◌, ◌∙◌, sym, ap, refl, subst, ℕ, ◌+◌, ◌-◌, ◌<◌, ◌≤◌, List, [], ◌∷◌, ◌++◌, length, Option, None, Some, arith}
+use Rattle.std.proofs.Common.{append_assoc, length-append, inl, inr, ◌⊎◌}
 use Rattle.std.specs.Io.KnownBytes.{Appends, Consumes, IsAtEnd}
 use Rattle.std.proofs.lemmas.List.{append-nil}
 use Rattle.pm_io.specs.Taken.{taken}
@@ -8,7 +9,8 @@ use Rattle.pm_wire.specs.declared.frame.Frame.{Frame}
 use Rattle.pm_wire.specs.declared.stream.Served.{Served}
 use Rattle.pm_wire.specs.declared.stream.Served.TheVariants.{Done, Refused, TooLong, ReadFault, WriteFault, NoMemory}
 use Rattle.pm_wire.specs.Frames.{stream_bytes, place_behind, BeginsWith, AreFrames, IsUnfinished, BeginsBadly, HasBadFrame, EndsWithin, Stops}
-use Rattle.pm_wire.specs.Streams.{stream_limit, replies, replies_and_fault, HasFrames, HasFault, EndsInside, IsDone, IsRefused, IsAnswered, IsTooLong, FailsReading}
+use Rattle.pm_wire.specs.Streams.{stream_limit, replies, replies_and_fault, HasFrames, HasFault, EndsInside, IsDone, IsRefused, IsAnswered, IsTooLong}
+use Rattle.pm_wire.specs.Streams.{FailsReading}
 use Rattle.pm_wire.proofs.OneReading.{same_reading, bad_or_unfinished, frames_not_bad, frames_not_within, bad_stays, begins_more}
 use Rattle.pm_wire.proofs.Places.{bad_more}
 
@@ -45,7 +47,18 @@ fault_is : (new : Option (List ℕ)) (input : List ℕ) (frames : List Frame) �
     HasBadFrame input (length (stream_bytes frames)) ⊎ (IsAtEnd new × (length input ≤ stream_limit) × EndsWithin input (length (stream_bytes frames)))
 fault_is new input frames fault = elim fault.bad [
   | inl bad ↦ inl (record { frames = frames; rest = fault.rest; begins = fault.begins; bad = bad; before = refl })
-  | inr ends ↦ inr (ends.at_end, ends.short, record { frames = frames; rest = fault.rest; begins = fault.begins; unfinished = ends.unfinished; some = ends.some; before = refl })
+  | inr ends ↦ inr (
+    ends.at_end,
+    ends.short,
+    record {
+      frames = frames;
+      rest = fault.rest;
+      begins = fault.begins;
+      unfinished = ends.unfinished;
+      some = ends.some;
+      before = refl;
+    },
+  )
 ]
 
 move_bad : (a b : List ℕ) (n : ℕ) → a ≡ b → HasBadFrame a n → HasBadFrame b n
@@ -57,7 +70,8 @@ move_end a b n e ends = let P : List ℕ → Type 0 = λ l. EndsWithin l n in su
 move_frames : (a b : List ℕ) (frames : List Frame) → a ≡ b → AreFrames a frames → AreFrames b frames
 move_frames a b frames e are = let P : List ℕ → Type 0 = λ l. AreFrames l frames in subst P e are
 
-pub bad_frame : (all : List ℕ) (new held holds : Option (List ℕ)) (r k : Type 0) (result : Served) (n : ℕ) → Outcomes (Some all) new held holds r k result → HasBadFrame (taken (Some all) new) n →
+pub bad_frame : (all : List ℕ) (new held holds : Option (List ℕ)) (r k : Type 0) (result : Served) (n : ℕ) →
+    Outcomes (Some all) new held holds r k result → HasBadFrame (taken (Some all) new) n →
     (result ≡ Refused) ⊎ (result ≡ WriteFault) ⊎ (result ≡ NoMemory)
 bad_frame all new held holds r k Done n out bad =
     let d = out.done refl in
@@ -81,7 +95,8 @@ refused_long all new held holds d long none =
       | inr ends ↦ omega (arith, ends.1, ap length same, long)
     ]
 
-pub took_more : (all : List ℕ) (new held holds : Option (List ℕ)) (r k : Type 0) (result : Served) → Outcomes (Some all) new held holds r k result → stream_limit < length (taken (Some all) new) →
+pub took_more : (all : List ℕ) (new held holds : Option (List ℕ)) (r k : Type 0) (result : Served) → Outcomes (Some all) new held holds r k result →
+    stream_limit < length (taken (Some all) new) →
     ((n : ℕ) → HasBadFrame (taken (Some all) new) n → ⊥) → (result ≡ TooLong) ⊎ (result ≡ WriteFault) ⊎ (result ≡ NoMemory)
 took_more all new held holds r k Done out long none =
     let d = out.done refl in
@@ -103,7 +118,8 @@ refused_frames all new held holds frames d are =
       | inr ends ↦ frames_not_within all frames _ are (move_end _ _ _ (whole all d.input new d.consumes ends.0) ends.2)
     ]
 
-pub frames : (all : List ℕ) (new held holds : Option (List ℕ)) (r k : Type 0) (result : Served) (list : List Frame) → Outcomes (Some all) new held holds r k result → length all ≤ stream_limit →
+pub frames : (all : List ℕ) (new held holds : Option (List ℕ)) (r k : Type 0) (result : Served) (list : List Frame) →
+    Outcomes (Some all) new held holds r k result → length all ≤ stream_limit →
     AreFrames all list → (result ≡ Done) ⊎ (result ≡ ReadFault) ⊎ (result ≡ WriteFault) ⊎ (result ≡ NoMemory)
 frames all new held holds r k Done list out short are = inl refl
 frames all new held holds r k Refused list out short are = absurd (refused_frames all new held holds list (out.refused refl) are)
@@ -116,9 +132,11 @@ frames all new held holds r k NoMemory list out short are = inr (inr (inr refl))
 
 done_refusal : (all : List ℕ) (new held holds : Option (List ℕ)) (n : ℕ) → IsDone (Some all) new held holds → HasBadFrame all n ⊎ EndsWithin all n → ⊥
 done_refusal all new held holds n d (inl bad) = frames_not_bad all d.frames n (move_frames _ _ _ (whole all d.input new d.consumes d.at_end) d.are_frames) bad
-done_refusal all new held holds n d (inr ends) = frames_not_within all d.frames n (move_frames _ _ _ (whole all d.input new d.consumes d.at_end) d.are_frames) ends
+done_refusal all new held holds n d (inr ends) = frames_not_within all d.frames n (move_frames _ _ _ (whole all d.input new d.consumes d.at_end)
+    d.are_frames) ends
 
-pub refusal : (all : List ℕ) (new held holds : Option (List ℕ)) (r k : Type 0) (result : Served) (n : ℕ) → Outcomes (Some all) new held holds r k result → length all ≤ stream_limit →
+pub refusal : (all : List ℕ) (new held holds : Option (List ℕ)) (r k : Type 0) (result : Served) (n : ℕ) →
+    Outcomes (Some all) new held holds r k result → length all ≤ stream_limit →
     HasBadFrame all n ⊎ EndsWithin all n → (result ≡ Refused) ⊎ (result ≡ ReadFault) ⊎ (result ≡ WriteFault) ⊎ (result ≡ NoMemory)
 refusal all new held holds r k Done n out short bad = absurd (done_refusal all new held holds n (out.done refl) bad)
 refusal all new held holds r k Refused n out short bad = inl refl
@@ -129,7 +147,8 @@ refusal all new held holds r k ReadFault n out short bad = inr (inl refl)
 refusal all new held holds r k WriteFault n out short bad = inr (inr (inl refl))
 refusal all new held holds r k NoMemory n out short bad = inr (inr (inr refl))
 
-pub complete : (all : List ℕ) (new held holds : Option (List ℕ)) (r k : Type 0) (result : Served) → Outcomes (Some all) new held holds r k result → length all ≤ stream_limit →
+pub complete : (all : List ℕ) (new held holds : Option (List ℕ)) (r k : Type 0) (result : Served) → Outcomes (Some all) new held holds r k result →
+    length all ≤ stream_limit →
     (r → ⊥) → (k → ⊥) → (result ≡ Done) ⊎ (result ≡ Refused) ⊎ (result ≡ NoMemory)
 complete all new held holds r k Done out short calm quiet = inl refl
 complete all new held holds r k Refused out short calm quiet = inr (inl refl)
@@ -142,12 +161,14 @@ complete all new held holds r k NoMemory out short calm quiet = inr (inr refl)
 
 -- ---- what is appended is of the bytes alone
 
-same_holds : (held text text' : List ℕ) (holds kept : Option (List ℕ)) → text ≡ text' → Appends (Some held) holds text → Appends (Some held) kept text' → holds ≡ kept
+same_holds : (held text text' : List ℕ) (holds kept : Option (List ℕ)) → text ≡ text' → Appends (Some held) holds text →
+    Appends (Some held) kept text' → holds ≡ kept
 same_holds held text text' None kept e a b = absurd a
 same_holds held text text' (Some x) None e a b = absurd b
 same_holds held text text' (Some x) (Some y) e a b = ap (λ l. Some l) (a ∙ ap (λ l. held ++ l) e ∙ sym b)
 
-pub one_done : (all held : List ℕ) (new other holds kept : Option (List ℕ)) → IsDone (Some all) new (Some held) holds → IsDone (Some all) other (Some held) kept → holds ≡ kept
+pub one_done : (all held : List ℕ) (new other holds kept : Option (List ℕ)) → IsDone (Some all) new (Some held) holds →
+    IsDone (Some all) other (Some held) kept → holds ≡ kept
 one_done all held new other holds kept a b =
     let x = move_frames _ _ _ (whole all a.input new a.consumes a.at_end) a.are_frames in
     let y = move_frames _ _ _ (whole all b.input other b.consumes b.at_end) b.are_frames in
@@ -166,21 +187,29 @@ fault_stops all new x fs consumes fault =
     let P : List ℕ → Type 0 = λ l. BeginsWith l fs (fault.rest ++ s.more) in
     let Q : List ℕ → Type 0 = λ l. BeginsWith l fs fault.rest in
     elim fault.bad [
-      | inl bad ↦ record { rest = fault.rest ++ s.more; begins = subst P (sym s.is) (begins_more x s.more fs fault.rest fault.begins); stops = inr (bad_more _ fault.rest s.more bad) }
+      | inl bad ↦ record {
+        rest = fault.rest ++ s.more;
+        begins = subst P (sym s.is) (begins_more x s.more fs fault.rest fault.begins);
+        stops = inr
+            (bad_more _ fault.rest s.more bad);
+      }
       | inr ends ↦ record { rest = fault.rest; begins = subst Q (whole all x new consumes ends.at_end) fault.begins; stops = inl ends.unfinished }
     ]
 
-fault_frames : (all : List ℕ) (new other : Option (List ℕ)) (x y : List ℕ) (fs gs : List Frame) → Consumes (Some all) new x → Consumes (Some all) other y → HasFault new x fs → HasFault other y gs → fs ≡ gs
+fault_frames : (all : List ℕ) (new other : Option (List ℕ)) (x y : List ℕ) (fs gs : List Frame) → Consumes (Some all) new x →
+    Consumes (Some all) other y → HasFault new x fs → HasFault other y gs → fs ≡ gs
 fault_frames all new other x y fs gs cx cy f g =
     let a = fault_stops all new x fs cx f in
     let b = fault_stops all other y gs cy g in
     (same_reading all fs gs a.rest b.rest a.begins a.stops b.begins b.stops).0
 
-pub one_refused : (all held : List ℕ) (new other holds kept : Option (List ℕ)) → IsRefused (Some all) new (Some held) holds → IsRefused (Some all) other (Some held) kept → holds ≡ kept
+pub one_refused : (all held : List ℕ) (new other holds kept : Option (List ℕ)) → IsRefused (Some all) new (Some held) holds →
+    IsRefused (Some all) other (Some held) kept → holds ≡ kept
 one_refused all held new other holds kept a b =
     same_holds held (replies_and_fault a.frames) (replies_and_fault b.frames) holds kept
-        (ap (λ l. replies_and_fault l) (fault_frames all new other a.input b.input a.frames b.frames a.consumes b.consumes a.fault b.fault)) a.appends b.appends
+    (ap (λ l. replies_and_fault l) (fault_frames all new other a.input b.input a.frames b.frames a.consumes b.consumes a.fault b.fault)) a.appends b.appends
 
-pub not_both : (all held : List ℕ) (new other holds kept : Option (List ℕ)) → IsDone (Some all) new (Some held) holds → IsRefused (Some all) other (Some held) kept → ⊥
+pub not_both : (all held : List ℕ) (new other holds kept : Option (List ℕ)) → IsDone (Some all) new (Some held) holds →
+    IsRefused (Some all) other (Some held) kept → ⊥
 not_both all held new other holds kept a b =
     refused_frames all other (Some held) kept a.frames b (move_frames _ _ _ (whole all a.input new a.consumes a.at_end) a.are_frames)

@@ -1,8 +1,10 @@
 -- What stands at a place: a whole frame, fewer bytes than one, or a bad one, and no two of these.
-use Rattle.std.proofs.Common.{◌≡◌, ◌∙◌, sym, ap, refl, subst, ℕ, ◌+◌, ◌*◌, ◌<◌, ◌≤◌, ℤ, List, [], ◌∷◌, ◌++◌, length, Option, None, Some, arith, append_assoc, length-append, inl, inr, ◌⊎◌}
+use Rattle.std.proofs.Common.{◌≡◌, ◌∙◌, sym, ap, refl, subst, ℕ, ◌+◌, ◌*◌, ◌<◌, ◌≤◌, ℤ, List, [], ◌∷◌, ◌++◌, length, Option, None, Some, arith}
+use Rattle.std.proofs.Common.{append_assoc, length-append, inl, inr, ◌⊎◌}
 use Rattle.pm_wire.specs.declared.frame.Frame.{Frame}
 use Rattle.pm_wire.specs.declared.frame.Frame.TheVariants.{Hello, Bid, Gone, Clear}
-use Rattle.pm_wire.specs.Frames.{frame_bytes, size_at, demand_bytes, IsFormed, IsAccepted, MayStand, IsUnfinished, HasWrongKind, HasRefusedFrame, BeginsBadly}
+use Rattle.pm_wire.specs.Frames.{frame_bytes, size_at, demand_bytes, IsFormed, IsAccepted, MayStand, IsUnfinished, HasWrongKind, HasRefusedFrame}
+use Rattle.pm_wire.specs.Frames.{BeginsBadly}
 use Rattle.pm_wire.proofs.OneField.{length-demand_bytes}
 use Rattle.pm_wire.proofs.OneFrame.{one_frame}
 
@@ -43,23 +45,27 @@ sized_not_wrong : (place : Option ℕ) (bytes : List ℕ) (size : ℕ) → HasSi
 sized_not_wrong place [] size has wrong = has
 sized_not_wrong place (kind ∷ more) size has wrong = cc (sym has ∙ wrong)
 
-formed_not_unfinished : (place : Option ℕ) (bytes : List ℕ) (f : Frame) (more : List ℕ) → IsFormed place f → bytes ≡ frame_bytes f ++ more → IsUnfinished place bytes → ⊥
+formed_not_unfinished : (place : Option ℕ) (bytes : List ℕ) (f : Frame) (more : List ℕ) → IsFormed place f → bytes ≡ frame_bytes f ++ more →
+    IsUnfinished place bytes → ⊥
 formed_not_unfinished place bytes f more formed e unfinished =
     let P : List ℕ → Type 0 = λ l. IsUnfinished place l in
     sized_not_unfinished place (frame_bytes f ++ more) (length (frame_bytes f)) (formed_size place f more formed)
-        (omega (arith, length-append (frame_bytes f) more)) (subst P e unfinished)
+    (omega (arith, length-append (frame_bytes f) more)) (subst P e unfinished)
 
-formed_not_wrong : (place : Option ℕ) (bytes : List ℕ) (f : Frame) (more : List ℕ) → IsFormed place f → bytes ≡ frame_bytes f ++ more → HasWrongKind place bytes → ⊥
+formed_not_wrong : (place : Option ℕ) (bytes : List ℕ) (f : Frame) (more : List ℕ) → IsFormed place f → bytes ≡ frame_bytes f ++ more →
+    HasWrongKind place bytes → ⊥
 formed_not_wrong place bytes f more formed e wrong =
     let P : List ℕ → Type 0 = λ l. HasWrongKind place l in
     sized_not_wrong place (frame_bytes f ++ more) (length (frame_bytes f)) (formed_size place f more formed) (subst P e wrong)
 
 -- a whole frame is not one that may still come
-pub whole_not_unfinished : (place : Option ℕ) (bytes : List ℕ) (f : Frame) (more : List ℕ) → MayStand place f → bytes ≡ frame_bytes f ++ more → IsUnfinished place bytes → ⊥
+pub whole_not_unfinished : (place : Option ℕ) (bytes : List ℕ) (f : Frame) (more : List ℕ) → MayStand place f → bytes ≡ frame_bytes f ++ more →
+    IsUnfinished place bytes → ⊥
 whole_not_unfinished place bytes f more stands e unfinished = formed_not_unfinished place bytes f more stands.formed e unfinished
 
 -- a whole frame is not bad
-pub whole_not_bad : (place : Option ℕ) (bytes : List ℕ) (f : Frame) (more : List ℕ) → MayStand place f → bytes ≡ frame_bytes f ++ more → BeginsBadly place bytes → ⊥
+pub whole_not_bad : (place : Option ℕ) (bytes : List ℕ) (f : Frame) (more : List ℕ) → MayStand place f → bytes ≡ frame_bytes f ++ more →
+    BeginsBadly place bytes → ⊥
 whole_not_bad place bytes f more stands e (inl wrong) = formed_not_wrong place bytes f more stands.formed e wrong
 whole_not_bad place bytes f more stands e (inr bad) =
     let same = one_frame place f bad.frame more bad.more stands.formed bad.formed (sym e ∙ bad.spelled) in
@@ -76,7 +82,8 @@ bad_not_unfinished place bytes (inl wrong) unfinished = wrong_not_unfinished pla
 bad_not_unfinished place bytes (inr bad) unfinished = formed_not_unfinished place bytes bad.frame bad.more bad.formed bad.spelled unfinished
 
 -- two frames at one place with the same bytes are one
-pub whole_same : (place : Option ℕ) (bytes : List ℕ) (f g : Frame) (x y : List ℕ) → MayStand place f → MayStand place g → bytes ≡ frame_bytes f ++ x → bytes ≡ frame_bytes g ++ y → (f ≡ g) × (x ≡ y)
+pub whole_same : (place : Option ℕ) (bytes : List ℕ) (f g : Frame) (x y : List ℕ) → MayStand place f → MayStand place g → bytes ≡ frame_bytes f ++ x →
+    bytes ≡ frame_bytes g ++ y → (f ≡ g) × (x ≡ y)
 whole_same place bytes f g x y stands stands' e e' = one_frame place f g x y stands.formed stands'.formed (sym e ∙ e')
 
 wrong_more : (place : Option ℕ) (bytes more : List ℕ) → HasWrongKind place bytes → HasWrongKind place (bytes ++ more)

@@ -17,9 +17,14 @@ pub enum Answer {
     /// Nothing counted since the market was cleared last.
     NotChanged,
     /// A Bid or Gone of this child does not count, since its number is not above the kept one.
-    Old { child: u16, kept: u32 },
+    Old {
+        child: u16,
+        kept: u32,
+    },
     /// The frame that begins behind the first `offset` bytes is bad.
-    Fault { offset: u64 },
+    Fault {
+        offset: u64,
+    },
 }
 
 impl Answer {
@@ -45,15 +50,11 @@ impl Answer {
             Answer::NotChanged => out.extend_from_slice(&[6]),
             Answer::Old { child, kept } => {
                 let (child, kept) = (child.to_be_bytes(), kept.to_be_bytes());
-                out.extend_from_slice(&[
-                    7, child[0], child[1], kept[0], kept[1], kept[2], kept[3],
-                ])
+                out.extend_from_slice(&[7, child[0], child[1], kept[0], kept[1], kept[2], kept[3]])
             }
             Answer::Fault { offset } => {
                 let at = offset.to_be_bytes();
-                out.extend_from_slice(&[
-                    8, at[0], at[1], at[2], at[3], at[4], at[5], at[6], at[7],
-                ])
+                out.extend_from_slice(&[8, at[0], at[1], at[2], at[3], at[4], at[5], at[6], at[7]])
             }
         }
     }

@@ -5,7 +5,9 @@ use pm_bid::ArrayBid;
 #[derive(Drop)]
 pub enum Frame {
     /// The market basis, in price units. It stands first, and only there.
-    Hello { basis: Basis },
+    Hello {
+        basis: Basis,
+    },
     /// A child's bid: the child, from 1 to 256, the number of its bid, above 0, and its demand in watts at each step of
     /// the basis.
     Bid {
@@ -14,7 +16,10 @@ pub enum Frame {
         demand: ArrayBid,
     },
     /// A child has no bid any more, under this number, above 0.
-    Gone { child: u16, number: u32 },
+    Gone {
+        child: u16,
+        number: u32,
+    },
     /// The market is to be cleared.
     Clear,
 }

@@ -21,8 +21,7 @@ pub fn streams_have_one_reading()
         → HasBadFrame bytes offset → ¬ EndsWithin bytes other }
     ensures bad_stays { (bytes more : List ℕ) (offset : ℕ)
         → HasBadFrame bytes offset → HasBadFrame (bytes ++ more) offset }
-{
-}
+{}
 
 /// A law: what a service appends is a function of the bytes of its input where it ends with Done, and where it ends with
 /// Refused, however the source cuts them; and one input does not end both ways.
@@ -33,5 +32,4 @@ pub fn replies_are_of_the_bytes()
         → IsRefused (Some all) new (Some held) holds → IsRefused (Some all) other (Some held) kept → holds ≡ kept }
     ensures not_both { (all held : List ℕ) (new other holds kept : Option (List ℕ))
         → IsDone (Some all) new (Some held) holds → ¬ IsRefused (Some all) other (Some held) kept }
-{
-}
+{}

@@ -12,8 +12,11 @@ use std::alloc::{AllocError, Global};
 use std::marker::Brand;
 
 const HELLO: u8 = 1;
+
 const BID: u8 = 2;
+
 const GONE: u8 = 3;
+
 const CLEAR: u8 = 4;
 
 /// What stands at the front of some bytes.

@@ -80,14 +80,20 @@ fn failures_end_the_service(rt: HostRuntime) -> Result<(), Fail> {
     let mut source = MemSource::new(input, 27, fails);
     let mut sink = MemSink::new(alloc, 100, 100, Vec::new(alloc))?;
     assert_eq!(rt; serve(alloc, &mut source, &mut sink), Served::ReadFault);
-    assert_eq!(rt; sink.bytes(), [5, 0, 1, 0, 0, 0, 1, 0, 0, 0, 1, 0, 1, 6, 6, 6].as_slice());
+    assert_eq!(rt;
+        sink.bytes(),
+        [5, 0, 1, 0, 0, 0, 1, 0, 0, 0, 1, 0, 1, 6, 6, 6].as_slice()
+    );
 
     let input = input_of(alloc, &[&HELLO, &BID, &[4, 4, 4, 4]])?;
     let mut source = MemSource::new(input, 27, Vec::new(alloc));
     let fails = [2].to_vec(alloc)?;
     let mut sink = MemSink::new(alloc, 100, 100, fails)?;
     assert_eq!(rt; serve(alloc, &mut source, &mut sink), Served::WriteFault);
-    assert_eq!(rt; sink.bytes(), [5, 0, 1, 0, 0, 0, 1, 0, 0, 0, 1, 0, 1].as_slice());
+    assert_eq!(rt;
+        sink.bytes(),
+        [5, 0, 1, 0, 0, 0, 1, 0, 0, 0, 1, 0, 1].as_slice()
+    );
     Ok(())
 }
 
@@ -101,7 +107,16 @@ fn frames_come_in_pieces(rt: HostRuntime) -> Result<(), Fail> {
     decoder.feed(&[4, 9])?;
     assert_eq!(rt; decoder.rest(), 28);
     assert!(rt; matches!(decoder.next()?, Some(Frame::Hello { .. })));
-    assert!(rt; matches!(decoder.next()?, Some(Frame::Bid { child: 1, number: 1, .. })));
+    assert!(rt;
+        matches!(
+            decoder.next()?,
+            Some(Frame::Bid {
+                child: 1,
+                number: 1,
+                ..
+            })
+        )
+    );
     assert!(rt; matches!(decoder.next()?, Some(Frame::Clear)));
     assert_eq!(rt; decoder.rest(), 1);
     assert!(rt; matches!(decoder.next(), Err(DecodeFault::Bad { at: 27 })));

@@ -5,4 +5,4 @@ use Rattle.pm_wire.proofs.reading.read_gone.Goals as goal
 pub returns-then-not-is_sender : goal.returns-then-not-is_sender
 returns-then-not-is_sender c =
     gone_refused _ _ _ _ _ _ c.requires c.read_u16-child.ensures c.read_u32-number.ensures (omega arith) (omega arith)
-        (not_sender c.is_sender.result _ _ c.if-not-is_sender.true c.is_sender.ensures.1)
+    (not_sender c.is_sender.result _ _ c.if-not-is_sender.true c.is_sender.ensures.1)

@@ -9,7 +9,8 @@ use Rattle.pm_wire.proofs.stream.serve.Goals as goal
 
 -- what was said of the statuses, of a source that tells all that it has
 said : (all : List ℕ) (old new held holds : Option (List ℕ)) (r k : Type 0) (result : Served) → old ≡ Some all → (result ≡ Done → IsDone old new held holds) →
-    (result ≡ Refused → IsRefused old new held holds) → (result ≡ TooLong → IsTooLong old new held holds) → (result ≡ ReadFault → r × FailsReading old new held holds) →
+    (result ≡ Refused → IsRefused old new held holds) → (result ≡ TooLong → IsTooLong old new held holds) → (result ≡ ReadFault →
+    r × FailsReading old new held holds) →
     (result ≡ WriteFault → k × IsCutShort old new held holds) → Outcomes (Some all) new held holds r k result
 said all old new held holds r k result is done refused too_long read_fault write_fault =
     let P : Option (List ℕ) → Type 0 = λ o. Outcomes o new held holds r k result in

@@ -8,5 +8,6 @@ invariant_of-self c =
     record {
       start = fed_within _ _ c.args.piece.now _ (is_ok c.extend_from_slice.result) within c.extend_from_slice.ensures.items;
       steps = c.self.invariant.steps;
-      sound = λ told. fed_bad _ c.self.inside.buffer.items _ _ c.args.piece.now _ _ (is_ok c.extend_from_slice.result) c.drop_given-self-inside.ensures.rest within c.extend_from_slice.ensures.items (c.self.invariant.sound told);
+      sound = λ told. fed_bad _ c.self.inside.buffer.items _ _ c.args.piece.now _ _ (is_ok c.extend_from_slice.result)
+          c.drop_given-self-inside.ensures.rest within c.extend_from_slice.ensures.items (c.self.invariant.sound told);
     }

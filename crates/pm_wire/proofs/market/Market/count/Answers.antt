@@ -9,6 +9,7 @@ learn-requires c = record {
   bid = record {
     is_child = omega arith;
     equal_lengths = c.requires.steps;
-    within = single_within c.args.self.now.cache _ (offered c.args.self.now.cache (option_copied c.args.demand)) c.requires.sound.sound (omega arith) c.requires.sound.single c.requires.steps c.requires.small;
+    within = single_within c.args.self.now.cache _ (offered c.args.self.now.cache (option_copied c.args.demand)) c.requires.sound.sound (omega arith)
+        c.requires.sound.single c.requires.steps c.requires.small;
   };
 }
