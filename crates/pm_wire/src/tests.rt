@@ -7,7 +7,7 @@ use std::process::Abort;
 use std::test::Fail;
 
 /// Serves the input in pieces of so many bytes, and compares how it ends and what is answered.
-fn serves(
+fn serves_in_pieces(
     rt: &impl Abort,
     alloc: Global,
     chunk: usize,
@@ -22,6 +22,19 @@ fn serves(
     assert_eq!(rt; serve(alloc, &mut source, &mut sink), ended);
     assert_eq!(rt; sink.bytes(), answers);
     Ok(())
+}
+
+/// Serves the input in pieces of 1, 7 and 100 bytes.
+fn serves(
+    rt: &impl Abort,
+    alloc: Global,
+    input: &[u8],
+    ended: Served,
+    answers: &[u8],
+) -> Result<(), Fail> {
+    serves_in_pieces(rt, alloc, 1, input, (ended, answers))?;
+    serves_in_pieces(rt, alloc, 7, input, (ended, answers))?;
+    serves_in_pieces(rt, alloc, 100, input, (ended, answers))
 }
 
 /// Hello of two steps: prices 0 and 9.
@@ -39,36 +52,48 @@ fn input_of(alloc: Global, parts: &[&[u8]]) -> Result<Vec<u8>, Fail> {
     Ok(input)
 }
 
-/// The inputs of the profile, each in pieces of 1, 7 and 100 bytes.
+/// The price of the first clearing, and that of the second one.
+const PRICE: [u8; 13] = [5, 0, 1, 0, 0, 0, 1, 0, 0, 0, 1, 0, 1];
+
+const SECOND: [u8; 13] = [5, 0, 1, 0, 0, 0, 1, 0, 0, 0, 2, 0, 1];
+
+/// A market that is cleared twice without a change between.
 #[test]
-fn streams_are_served(rt: HostRuntime) -> Result<(), Fail> {
+fn a_second_clear_finds_nothing_changed(rt: HostRuntime) -> Result<(), Fail> {
     let alloc = rt.alloc();
-    let price = [5, 0, 1, 0, 0, 0, 1, 0, 0, 0, 1, 0, 1];
-    let second = [5, 0, 1, 0, 0, 0, 1, 0, 0, 0, 2, 0, 1];
+    let input = input_of(alloc, &[&HELLO, &BID, &[4, 4]])?;
+    let answers = input_of(alloc, &[&PRICE, &[6]])?;
+    serves(&rt, alloc, &input, Served::Done, &answers)
+}
+
+/// An input that ends within a frame, and an empty one.
+#[test]
+fn an_end_within_a_frame_is_refused(rt: HostRuntime) -> Result<(), Fail> {
+    let alloc = rt.alloc();
+    let input = input_of(alloc, &[&HELLO, &[2, 0]])?;
     let fault = [8, 0, 0, 0, 0, 0, 0, 0, 11];
-    for chunk in [1, 7, 100] {
-        let two_clears = input_of(alloc, &[&HELLO, &BID, &[4, 4]])?;
-        let answers = input_of(alloc, &[&price, &[6]])?;
-        serves(&rt, alloc, chunk, &two_clears, (Served::Done, &answers))?;
+    serves(&rt, alloc, &input, Served::Refused, &fault)?;
+    serves(&rt, alloc, &[], Served::Done, &[])
+}
 
-        let cut_off = input_of(alloc, &[&HELLO, &[2, 0]])?;
-        serves(&rt, alloc, chunk, &cut_off, (Served::Refused, &fault))?;
+/// A bid that comes again is old, and a child that is gone gets no price.
+#[test]
+fn an_old_bid_is_answered(rt: HostRuntime) -> Result<(), Fail> {
+    let alloc = rt.alloc();
+    let input = input_of(alloc, &[&HELLO, &BID, &BID, &[3, 0, 2, 0, 0, 0, 7, 4]])?;
+    let answers = input_of(alloc, &[&[7, 0, 1, 0, 0, 0, 1], &PRICE])?;
+    serves(&rt, alloc, &input, Served::Done, &answers)
+}
 
-        serves(&rt, alloc, chunk, &[], (Served::Done, &[]))?;
-
-        // A bid that comes again is old, and a child that is gone has no price but is a change.
-        let again = input_of(alloc, &[&HELLO, &BID, &BID, &[3, 0, 2, 0, 0, 0, 7, 4]])?;
-        let answers = input_of(alloc, &[&[7, 0, 1, 0, 0, 0, 1], &price])?;
-        serves(&rt, alloc, chunk, &again, (Served::Done, &answers))?;
-
-        // What moved no number of the sum is a change too.
-        let gone = [3, 0, 2, 0, 0, 0, 8];
-        let same_sum = input_of(alloc, &[&HELLO, &BID, &[4], &gone, &[4], &[9]])?;
-        let bad = [8, 0, 0, 0, 0, 0, 0, 0, 35];
-        let answers = input_of(alloc, &[&price, &second, &bad])?;
-        serves(&rt, alloc, chunk, &same_sum, (Served::Refused, &answers))?;
-    }
-    Ok(())
+/// A child that goes is a change, also where it moves no sum; behind the prices the frame of an unknown kind is bad.
+#[test]
+fn a_change_without_a_new_sum_is_cleared(rt: HostRuntime) -> Result<(), Fail> {
+    let alloc = rt.alloc();
+    let gone = [3, 0, 2, 0, 0, 0, 8];
+    let input = input_of(alloc, &[&HELLO, &BID, &[4], &gone, &[4], &[9]])?;
+    let fault = [8, 0, 0, 0, 0, 0, 0, 0, 35];
+    let answers = input_of(alloc, &[&PRICE, &SECOND, &fault])?;
+    serves(&rt, alloc, &input, Served::Refused, &answers)
 }
 
 /// A source that fails at its third call, and a sink that fails at its second one.
