@@ -1,0 +1,11 @@
+pub mod OneField
+pub mod OneFrame
+pub mod Places
+pub mod ReadFrames
+pub mod Fed
+pub mod Markets
+pub mod OneReading
+pub mod Taking
+pub mod Following
+pub mod Ending
+pub mod Outcomes

@@ -1,0 +1,44 @@
+use Rattle.std.proofs.Common.{arith, ◌∙◌, sym, subst, Option, ℕ}
+use Rattle.std.proofs.lemmas.Result.{err_from_is_err_and}
+use Rattle.pm_wire.specs.Frames.{MayStand}
+use Rattle.pm_wire.proofs.Taking.{takes_more, agrees_more, takes_length, few_clearings, takes_refused, bad_refused}
+use Rattle.pm_wire.proofs.frames.take_frames.Goals as goal
+
+pub returns-in_err-frame-clause-bad : goal.returns-in_err-frame-clause-bad
+returns-in_err-frame-clause-bad c =
+    let taken = c.loop-frame.invariant.taken in
+    let fault = err_from_is_err_and c.from_residual.result c.from_residual.ensures.1 in
+    rw fault.1 (λ at is.
+    let told = c.in_err-frame.ensures.bad at (sym fault.2 ∙ is) in
+    let bad = bad_refused c.loop-frame.decoder c.next.new.self at told in
+    (taken.0, taken.1, takes_refused taken.0 _ _ _ _ _ taken.1 taken.2 told.2, bad.0, taken.3, bad.1))
+
+pub take-requires-clause-stands : goal.take-requires-clause-stands
+take-requires-clause-stands c =
+    let taken = c.loop-frame.invariant.taken in
+    let gives = rw c.in-Some.is at c.in_ok-frame.ensures.given in
+    let agrees = agrees_more taken.0 _ _ _ _ taken.1 taken.2 c.requires.agrees in
+    let P : Option ℕ → Type 0 = λ place. MayStand place c.in-Some.frame in
+    subst P (sym agrees.place) gives.stands
+
+pub take-requires-clause-clearings : goal.take-requires-clause-clearings
+take-requires-clause-clearings c =
+    let taken = c.loop-frame.invariant.taken in
+    let agrees = agrees_more taken.0 _ _ _ _ taken.1 taken.2 c.requires.agrees in
+    few_clearings _ _ (omega (arith, takes_length taken.0 _ _ _ _ taken.1 taken.2, c.requires.fits)) agrees.clearings
+
+pub loop-frame-preserved : goal.loop-frame-preserved
+loop-frame-preserved c =
+    let taken = c.loop-frame.invariant.taken in
+    record {
+      taken = takes_more taken.0 c.in-Some.frame _ _ _ _ _ _ taken.1 _ _ _ taken.2 (rw c.in-Some.is at c.in_ok-frame.ensures.given)
+          c.in_ok-take.ensures.taken taken.3 c.in_ok-take.ensures.answered;
+    }
+
+pub loop-frame-preserved-in_ok-take : goal.loop-frame-preserved-in_ok-take
+loop-frame-preserved-in_ok-take c =
+    let taken = c.loop-frame.invariant.taken in
+    record {
+      taken = takes_more taken.0 c.in-Some.frame _ _ _ _ _ _ taken.1 _ _ _ taken.2 (rw c.in-Some.is at c.in_ok-frame.ensures.given)
+          c.in_ok-take.ensures.taken taken.3 c.in_ok-take.ensures.answered;
+    }

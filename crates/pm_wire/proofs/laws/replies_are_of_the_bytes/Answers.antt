@@ -1,0 +1,5 @@
+use Rattle.pm_wire.proofs.Outcomes as outcomes
+use Rattle.pm_wire.proofs.laws.replies_are_of_the_bytes.Goals as goal
+
+pub returns : goal.returns
+returns c = record { done = outcomes.one_done; refused = outcomes.one_refused; not_both = outcomes.not_both }

@@ -1,0 +1,108 @@
+-- What the auctioneer answers to a list of frames.
+use Rattle.std.specs.Prelude.{◌≡◌, ℕ, ◌+◌, ◌-◌, ◌<◌, ◌||◌, ℤ, Bool, true, false, not, nat_le, if◌then◌else◌, List, [], ◌∷◌, ◌++◌, Option, Some, None}
+use Rattle.std.specs.Int.{w16, w32, w64, to_be_bytes}
+use Rattle.std.specs.List.{flat_map}
+use Rattle.pm_base.specs.Limits.{most_nodes}
+use Rattle.pm_bid.specs.Clearing.{clearing_step}
+use Rattle.pm_bid.specs.declared.head.BidHead.{BidHead}
+use Rattle.pm_cache.specs.Cache.{Cache, empty_cache, kept_number, aggregate_of}
+use Rattle.pm_cache.specs.Learning.{learnt}
+use Rattle.pm_wire.specs.declared.answer.Answer.{Answer}
+use Rattle.pm_wire.specs.declared.answer.Answer.TheVariants.{Price, NotChanged, Old, Fault}
+use Rattle.pm_wire.specs.declared.frame.Frame.{Frame}
+use Rattle.pm_wire.specs.declared.frame.Frame.TheVariants.{Hello, Bid, Gone, Clear}
+use Rattle.pm_wire.specs.declared.market.Market.{Market}
+
+-- ---- the bytes of an answer
+
+-- the first byte tells the kind, and the fields have the most significant byte first
+abbrev pub answer_bytes : Answer → List ℕ
+answer_bytes (Price child number index step) =
+    5 ∷ (to_be_bytes w16 child ++ (to_be_bytes w32 number ++ (to_be_bytes w32 index ++ to_be_bytes w16 step)))
+answer_bytes NotChanged = 6 ∷ []
+answer_bytes (Old child kept) = 7 ∷ (to_be_bytes w16 child ++ to_be_bytes w32 kept)
+answer_bytes (Fault offset) = 8 ∷ to_be_bytes w64 offset
+
+-- the bytes of answers, one behind the other
+abbrev pub reply_bytes : List Answer → List ℕ
+reply_bytes answers = flat_map answer_bytes answers
+
+-- ---- what the auctioneer knows
+
+-- The market after Hello has an entry for each child: its newest Bid or Gone that counted. No clearing has come yet, and
+-- nothing counted.
+unfoldable pub open_market : ℕ → Market
+open_market steps = record { cache = empty_cache most_nodes steps; index = 0; changed = false }
+
+-- children count from 1 on the stream, and from 0 among the entries
+abbrev pub entry_of : ℕ → ℕ
+entry_of child = child - 1
+
+-- the greatest number of a Bid or Gone of a child so far, 0 where there is none
+abbrev pub number_kept : Market → ℕ → ℕ
+number_kept market child = kept_number market.cache (entry_of child)
+
+-- a Bid or Gone counts where its number is above the child's; a market has changed where one counted since the last clearing
+abbrev pub counted : Market → ℕ → ℕ → Option (List ℤ) → Market
+counted market child number demand = record {
+  cache = learnt market.cache (entry_of child) number demand;
+  index = market.index;
+  changed = market.changed || not (nat_le number (number_kept market child));
+}
+
+-- a clearing of a market that has changed
+abbrev pub cleared : Market → Market
+cleared market = if market.changed then record { cache = market.cache; index = market.index + 1; changed = false } else market
+
+-- what is known after a frame: nothing before Hello
+abbrev pub market_after : Option Market → Frame → Option Market
+market_after market (Hello basis) = Some (open_market basis.steps)
+market_after None frame = None
+market_after (Some market) (Bid child number demand) = Some (counted market child number (Some demand))
+market_after (Some market) (Gone child number) = Some (counted market child number None)
+market_after (Some market) Clear = Some (cleared market)
+
+-- ---- what is answered
+
+-- a Bid or Gone that does not count is old, and one that counts has no answer
+abbrev pub receipt : Market → ℕ → ℕ → List Answer
+receipt market child number = if nat_le number (number_kept market child) then Old child (number_kept market child) ∷ [] else []
+
+-- the price for a child whose newest is a Bid; there is none for a child that is gone
+abbrev pub price_for : ℕ → ℕ → ℕ → BidHead → List Answer
+price_for index step child head = if head.gone then [] else Price child head.number index step ∷ []
+
+-- the prices for children, rising from this one
+abbrev pub prices : ℕ → ℕ → ℕ → List BidHead → List Answer
+prices index step child [] = []
+prices index step child (head ∷ heads) = price_for index step child head ++ prices index step (child + 1) heads
+
+-- the market clears at the clearing step of the sum of all bids that count, under the next index
+abbrev pub clearing_prices : Market → List Answer
+clearing_prices market = prices (market.index + 1) (clearing_step (aggregate_of market.cache)) 1 market.cache.heads
+
+-- what is answered to a frame
+abbrev pub answers_to : Option Market → Frame → List Answer
+answers_to market (Hello basis) = []
+answers_to None frame = []
+answers_to (Some market) (Bid child number demand) = receipt market child number
+answers_to (Some market) (Gone child number) = receipt market child number
+answers_to (Some market) Clear = if market.changed then clearing_prices market else NotChanged ∷ []
+
+-- what is known after frames, and what is answered to them
+abbrev pub market_behind : Option Market → List Frame → Option Market
+market_behind market [] = market
+market_behind market (frame ∷ frames) = market_behind (market_after market frame) frames
+
+abbrev pub answers_behind : Option Market → List Frame → List Answer
+answers_behind market [] = []
+answers_behind market (frame ∷ frames) = answers_to market frame ++ answers_behind (market_after market frame) frames
+
+-- the answers to a list of frames
+abbrev pub answers : List Frame → List Answer
+answers frames = answers_behind None frames
+
+-- the place in the stream at which what is known leaves it
+abbrev pub place_of : Option Market → Option ℕ
+place_of None = None
+place_of (Some market) = Some market.cache.steps

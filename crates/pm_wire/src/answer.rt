@@ -1,0 +1,61 @@
+ghost use Rattle.std.specs.Prelude.{◌≡◌, ◌++◌, OnOk, OnErr};
+ghost use Rattle.pm_wire.specs.Answers.{answer_bytes};
+
+use std::alloc::AllocError;
+
+/// An answer of the auctioneer.
+#[derive(Clone, Copy, Debug, PartialEq, Eq)]
+pub enum Answer {
+    /// The price for a child: the number of the bid that it answers, the index of the clearing, from 1, and the step of the
+    /// basis at which the market clears.
+    Price {
+        child: u16,
+        number: u32,
+        index: u32,
+        step: u16,
+    },
+    /// Nothing counted since the market was cleared last.
+    NotChanged,
+    /// A Bid or Gone of this child does not count, since its number is not above the kept one.
+    Old {
+        child: u16,
+        kept: u32,
+    },
+    /// The frame that begins behind the first `offset` bytes is bad.
+    Fault {
+        offset: u64,
+    },
+}
+
+impl Answer {
+    /// Appends the bytes of the answer. Where an allocation fails nothing is appended.
+    pub fn write(&self, out: &mut Vec<u8>) -> Result<(), AllocError>
+        ensures written { OnOk result (out.new.items ≡ out.old.items ++ answer_bytes self.now) }
+        ensures unchanged { OnErr result (out.new.items ≡ out.old.items) }
+    {
+        match self {
+            Answer::Price {
+                child,
+                number,
+                index,
+                step,
+            } => {
+                let (child, number) = (child.to_be_bytes(), number.to_be_bytes());
+                let (index, step) = (index.to_be_bytes(), step.to_be_bytes());
+                out.extend_from_slice(&[
+                    5, child[0], child[1], number[0], number[1], number[2], number[3], index[0],
+                    index[1], index[2], index[3], step[0], step[1],
+                ])
+            }
+            Answer::NotChanged => out.extend_from_slice(&[6]),
+            Answer::Old { child, kept } => {
+                let (child, kept) = (child.to_be_bytes(), kept.to_be_bytes());
+                out.extend_from_slice(&[7, child[0], child[1], kept[0], kept[1], kept[2], kept[3]])
+            }
+            Answer::Fault { offset } => {
+                let at = offset.to_be_bytes();
+                out.extend_from_slice(&[8, at[0], at[1], at[2], at[3], at[4], at[5], at[6], at[7]])
+            }
+        }
+    }
+}

@@ -1,0 +1,129 @@
+ghost use Rattle.std.specs.Prelude.{◌≡◌, ◌+◌, ◌≤◌, ◌++◌, ◌⊎◌, ℕ, List, true, length, drop, vec_len, IfOk, IfErr, IfSome, IfNone, OnOk, OnErr};
+ghost use Rattle.pm_wire.specs.Frames.{frame_bytes, MayStand, IsUnfinished, BeginsBadly};
+ghost use Rattle.pm_wire.specs.Decoding.{nothing_fed, with_piece, with_refusal, GivesFrame};
+
+use crate::fault::DecodeFault;
+use crate::frame::Frame;
+use crate::reading::{Reading, read_frame};
+use std::alloc::{AllocError, Global};
+use std::marker::Model;
+
+/// Takes a stream of frames in pieces of any size, and gives the frames that are whole.
+///
+/// Contracts see how many bytes the frames given have, the place behind them (before Hello, or behind a Hello of so many
+/// steps), the bytes fed that belong to no frame given, and whether a bad frame was told. Bytes of frames given are let go,
+/// and each byte is copied a bounded number of times, however the stream is cut.
+#[derive(Drop)]
+pub struct Decoder {
+    alloc: Global,
+    buffer: Vec<u8>,
+    start: usize,
+    offset: u64,
+    steps: Option<usize>,
+    refused: bool,
+}
+
+impl Model for Decoder {
+    ghost use Rattle.pm_wire.specs.Decoding.{Decoding};
+
+    ghost Value = { Decoding };
+
+    ghost use Rattle.pm_wire.specs.DecoderFields.{decoding_of, AreDecoderFields};
+
+    ghost view = { decoding_of };
+
+    ghost invariant = { AreDecoderFields };
+}
+
+/// Takes the first `start` bytes off where they are at least as many as the others, so that each byte is moved at most once
+/// for each byte taken off. The answer is where the others begin now.
+fn drop_given(buffer: &mut Vec<u8>, start: usize) -> usize
+    requires { start ≤ vec_len buffer.old }
+    ensures rest { drop result buffer.new.items ≡ drop start buffer.old.items }
+    ensures within { result ≤ vec_len buffer.new }
+{
+    let left = buffer.len() - start;
+    if start < left {
+        return start;
+    }
+    buffer.copy_within(start.., 0);
+    buffer.truncate(left);
+    0
+}
+
+impl Decoder {
+    /// A decoder to which nothing was fed. It takes no memory.
+    pub fn new(alloc: Global) -> Decoder
+        ensures { result ≡ nothing_fed }
+    {
+        Decoder {
+            alloc,
+            buffer: Vec::new(alloc),
+            start: 0,
+            offset: 0,
+            steps: None,
+            refused: false,
+        }
+    }
+
+    /// Takes the next piece of the stream. With it at most 4,294,967,296 bytes are fed. Where an allocation fails nothing
+    /// changes.
+    pub fn feed(&mut self, piece: &[u8]) -> Result<(), AllocError>
+        requires { self.old.offset + length self.old.rest + length piece.now ≤ 4294967296 }
+        ensures fed { OnOk result (self.new ≡ with_piece self.old piece.now) }
+        ensures unchanged { OnErr result (self.new ≡ self.old) }
+    {
+        self.start = drop_given(&mut self.buffer, self.start);
+        self.buffer.extend_from_slice(piece)
+    }
+
+    /// Gives the next frame, or None where the bytes left are less than a frame and no bad frame shows. Where a bad frame is
+    /// next the answer is its offset, and it stays so. Where an allocation fails nothing changes.
+    pub fn next(&mut self) -> Result<Option<Frame>, DecodeFault>
+        requires { self.old.offset + length self.old.rest ≤ 4294967296 }
+        ensures given { IfOk result (λ next. IfSome next (λ frame. GivesFrame self.old frame self.new)) }
+        ensures nothing { IfOk result (λ next. IfNone next
+            (IsUnfinished self.old.place self.old.rest × (self.new ≡ self.old))) }
+        ensures bad { IfErr result (λ fault. (at : ℕ) → fault ≡ DecodeFault.Bad at → (at ≡ self.old.offset)
+            × BeginsBadly self.old.place self.old.rest × (self.new ≡ with_refusal self.old)) }
+        ensures no_memory { result ≡ Err DecodeFault.NoMemory → self.new ≡ self.old }
+
+        // Each of these answers comes wherever its cause stands, or an allocation failed.
+        ensures gives { (frame : Frame) (more : List ℕ) → MayStand self.old.place frame
+            → self.old.rest ≡ frame_bytes frame ++ more
+            → (result ≡ Ok (Some frame)) ⊎ (result ≡ Err DecodeFault.NoMemory) }
+        ensures waits { IsUnfinished self.old.place self.old.rest
+            → (result ≡ Ok None) ⊎ (result ≡ Err DecodeFault.NoMemory) }
+        ensures refuses { BeginsBadly self.old.place self.old.rest
+            → (result ≡ Err (DecodeFault.Bad self.old.offset)) ⊎ (result ≡ Err DecodeFault.NoMemory) }
+
+        // A bad frame that was told once is told always.
+        ensures always { self.old.refused ≡ true → result ≡ Err (DecodeFault.Bad self.old.offset) }
+    {
+        if self.refused {
+            return Err(DecodeFault::Bad { at: self.offset });
+        }
+        match read_frame(self.alloc, self.steps, &self.buffer[self.start..])? {
+            Reading::Whole { frame, size } => {
+                self.start += size;
+                self.offset += size as u64;
+                if let Frame::Hello { basis } = &frame {
+                    self.steps = Some(basis.steps());
+                }
+                Ok(Some(frame))
+            }
+            Reading::Unfinished => Ok(None),
+            Reading::Bad => {
+                self.refused = true;
+                Err(DecodeFault::Bad { at: self.offset })
+            }
+        }
+    }
+
+    /// How many of the bytes fed belong to no frame given.
+    pub fn rest(&self) -> usize
+        ensures { result ≡ length self.now.rest }
+    {
+        self.buffer.len() - self.start
+    }
+}

@@ -1,0 +1,36 @@
+//! The auctioneer as a service over a stream of bytes.
+//!
+//! Children send their bids as frames, one behind the other on one stream, and the auctioneer answers with frames of its
+//! own. A [`Decoder`] takes the stream in pieces of any size and gives the frames that are whole, or the offset of the
+//! first bad one. A [`Server`] keeps the newest bid of each of up to 256 children and their running sum, clears the market
+//! when it is asked to, and appends the bytes of its answers. [`serve`] does both over a source and a sink of pm_io. Memory
+//! is bounded by a piece, a frame and the children, and not by the stream. The market is Kok's ("The PowerMatcher", 2013):
+//! bids are demand functions, and the price is where their sum turns. The frames are this project's own profile.
+//!
+//! The definitions stand in `specs/`: `Frames` (the frames as bytes, which frame may stand where, and which is bad),
+//! `Decoding` (what a decoder keeps, and what its calls do), `Answers` (what is answered to a list of frames), `Streams`
+//! (what a service reads and writes, by how it ends).
+#![tactic(auto)]
+
+mod answer;
+mod decoder;
+mod fault;
+mod fields;
+mod frame;
+mod frames;
+mod laws;
+mod market;
+mod reading;
+mod server;
+mod stream;
+
+pub use answer::Answer;
+pub use decoder::Decoder;
+pub use fault::DecodeFault;
+pub use frame::Frame;
+pub use laws::{replies_are_of_the_bytes, streams_have_one_reading};
+pub use server::Server;
+pub use stream::{STREAM_LIMIT, Served, serve};
+
+#[cfg(test)]
+mod tests;

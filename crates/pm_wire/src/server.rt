@@ -1,0 +1,61 @@
+ghost use Rattle.std.specs.Prelude.{◌≡◌, ◌<◌, ◌++◌, ◌^◌, IfSome, OnOk, OnErr, None};
+ghost use Rattle.pm_wire.specs.Frames.{MayStand};
+ghost use Rattle.pm_wire.specs.Answers.{market_after, answers_to, reply_bytes, place_of};
+
+use crate::frame::Frame;
+use crate::market::Market;
+use std::alloc::{AllocError, Global};
+use std::marker::Model;
+
+/// The auctioneer that takes frames and answers them.
+///
+/// Contracts see what it knows: nothing before Hello, and then the market.
+#[derive(Drop)]
+pub struct Server {
+    alloc: Global,
+    market: Option<Market>,
+}
+
+impl Model for Server {
+    ghost use Rattle.std.specs.Prelude.{Option};
+    ghost use Rattle.pm_wire.specs.declared.market.Market.{Market};
+
+    ghost Value = { Option Market };
+
+    ghost use Rattle.pm_wire.specs.ServerFields.{AreServerFields};
+
+    ghost view = { λ server. server.market };
+
+    ghost invariant = { AreServerFields };
+}
+
+impl Server {
+    /// A server that took no frame. It takes no memory.
+    pub fn new(alloc: Global) -> Server
+        ensures { result ≡ None }
+    {
+        Server {
+            alloc,
+            market: None,
+        }
+    }
+
+    /// Takes the next frame, and appends the bytes of the answers to it. The frame may stand where the frames taken end, and
+    /// fewer than 2,147,483,648 clearings came before. Where an allocation fails nothing changes and nothing is appended.
+    pub fn take(&mut self, frame: &Frame, out: &mut Vec<u8>) -> Result<(), AllocError>
+        requires stands { MayStand (place_of self.old) frame.now }
+        requires clearings { IfSome self.old (λ market. market.index < 2147483648) }
+        ensures taken { OnOk result (self.new ≡ market_after self.old frame.now) }
+        ensures answered { OnOk result (out.new.items ≡ out.old.items ++ reply_bytes (answers_to self.old frame.now)) }
+        ensures unchanged { OnErr result (self.new ≡ self.old) }
+        ensures nothing_appended { OnErr result (out.new.items ≡ out.old.items) }
+    {
+        if let Some(market) = &mut self.market {
+            return market.take(frame, out);
+        }
+        if let Frame::Hello { basis } = frame {
+            self.market = Some(Market::new(self.alloc, basis.steps())?);
+        }
+        Ok(())
+    }
+}
