@@ -6,7 +6,7 @@ use lib.ListN.{get_elem?}
 use Rattle.std.specs.Prelude.{slice_set}
 use Rattle.atomic_table.specs.Table.{Splits, Joins, Seen}
 use Rattle.pm_cells.specs.Numbers.{AreRising, AllAmong}
-use Rattle.pm_cells.specs.Cells.{CellSlot, LinkTable, AreCells, IsBidWith, IsPriceOf, TookWhatWasPut, IsWhole, KeepsCells, whole_view}
+use Rattle.pm_cells.specs.Cells.{CellSlot, LinkTable, AreCells, IsBidWith, IsPriceOf, TookWhatWasPut, IsUncut, KeepsCells, whole_view}
 use Rattle.pm_cells.specs.Steps.{child_view, parent_view, joined_view, spent_view}
 use Rattle.pm_cells.specs.declared.view.EndView.{EndView}
 use Rattle.pm_cells.specs.declared.view.Role.TheVariants.{Whole, Child, Parent, Joined, Spent}
@@ -14,7 +14,7 @@ use Rattle.pm_cells.proofs.OneCell.{empty_cell}
 use Rattle.pm_cells.proofs.Seats.{HasView, keeps_cut, two_views, other_role, whole_is_not, joined_is_not, as_child}
 
 -- the table and the seat before the cut
-as_whole : (s : LinkTable) (id : ℕ) (v : EndView) → KeepsCells s → HasView s id v → v.role ≡ Whole → (id ≡ 0) × IsWhole s
+as_whole : (s : LinkTable) (id : ℕ) (v : EndView) → KeepsCells s → HasView s id v → v.role ≡ Whole → (id ≡ 0) × IsUncut s
 as_whole s id v (inl e) at is = (first id (subst (λ t. HasView t id v) e at), e)
   where
     first : (k : ℕ) → get_elem? (whole_view ∷ []) k ≡ opt.some v → k ≡ 0

@@ -5,7 +5,7 @@ use mathlib.Core.Option.{some-injective, some-ne-none}
 use lib.ListN.{get_elem?}
 use Rattle.std.specs.Prelude.{slice_index}
 use Rattle.atomic_table.specs.Table.{Act, Valid, step, stepped, carried_after, Allows}
-use Rattle.pm_cells.specs.Cells.{CellSlot, LinkTable, IsCell, AreCells, IsBidWith, IsPriceOf, two_cells, whole_view, IsWhole, IsJoined, KeepsCells}
+use Rattle.pm_cells.specs.Cells.{CellSlot, LinkTable, IsCell, AreCells, IsBidWith, IsPriceOf, two_cells, whole_view, IsUncut, IsJoined, KeepsCells}
 use Rattle.pm_cells.specs.Steps.{Seated, StepKind, with_up, with_down}
 use Rattle.pm_cells.specs.declared.view.EndView.{EndView}
 use Rattle.pm_cells.specs.declared.view.CellView.{CellView}
@@ -31,7 +31,7 @@ abbrev pub HasView : LinkTable → ℕ → EndView → Type 0
 HasView s id v = get_elem? s.views id ≡ opt.some v
 
 -- the roles that a seat has before the cut, and after the joining
-pub whole_is_not : (s : LinkTable) (id : ℕ) (v : EndView) (x : Role) → IsWhole s → HasView s id v → v.role ≡ x → Whole ≡ x
+pub whole_is_not : (s : LinkTable) (id : ℕ) (v : EndView) (x : Role) → IsUncut s → HasView s id v → v.role ≡ x → Whole ≡ x
 whole_is_not s id v x e at is = other_role whole_view v Whole x (one_view whole_view v id (subst (λ t. HasView t id v) e at)) refl is
 
 pub joined_is_not : (s : LinkTable) (id : ℕ) (v : EndView) (x : Role) → IsJoined s → HasView s id v → v.role ≡ x → (Joined ≡ x) ⊎ (Spent ≡ x)

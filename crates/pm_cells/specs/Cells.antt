@@ -67,8 +67,8 @@ pub record AreCells (w₀ w₁ : ℕ) (h₀ h₁ : opt.Option CellSlot) (child p
   pub down : IsCell (IsPriceOf child.up.puts) w₁ h₁ parent.down child.down
 
 -- before the cut: both words are 0, both slots are at home, and nothing is in them
-abbrev pub IsWhole : LinkTable → Type 0
-IsWhole s = s ≡ record { words = 0 ∷ 0 ∷ []; homes = opt.some None ∷ opt.some None ∷ []; views = whole_view ∷ [] }
+abbrev pub IsUncut : LinkTable → Type 0
+IsUncut s = s ≡ record { words = 0 ∷ 0 ∷ []; homes = opt.some None ∷ opt.some None ∷ []; views = whole_view ∷ [] }
 
 -- between the cut and the joining
 abbrev pub IsCut : LinkTable → Type 0
@@ -86,4 +86,4 @@ IsJoined s = (both other : EndView) × (s.views ≡ both ∷ other ∷ []) × (b
 
 -- the rule of the table
 abbrev pub KeepsCells : LinkTable → Type 0
-KeepsCells s = IsWhole s ⊎ (IsCut s ⊎ IsJoined s)
+KeepsCells s = IsUncut s ⊎ (IsCut s ⊎ IsJoined s)
