@@ -4,18 +4,19 @@
     (wc -c < FILE; cat FILE; cat TRACE) | python3 checks/judge.py
 
 Standard input is an envelope: a line with the number of bytes of the cluster file, the file, and the trace. It prints
-`valid moves M`, or `invalid line N` with status 1, or `refused 23 document` with status 5 where the input is no envelope.
+`valid moves M`, or `invalid line N` with status 1, or with status 5 the refusal of the envelope or of the file.
 
 The trace is judged by docs/PROTOCOL.md on whole cuts: what a node published is kept for good as the numbers of all devices
-below it, and there is no record, running sum, message or window. Reports and prices are those of pictures/auction.py. Nothing
-here knows the program.
+below it, and there is no record, running sum, message or window. Reports and prices are those of pictures/auction.py, refusals
+those of scene.py. Nothing here knows the program.
 """
 
-import json
 import re
 import sys
-from functools import cached_property
 from pathlib import Path
+
+sys.dont_write_bytecode = True
+from scene import Refused, scene_of
 
 sys.path.insert(0, str(Path(__file__).resolve().parent.parent / "pictures"))
 from auction import CONCENTRATORS, TICKING, after_tick, bid_of, ends_of, lines_of, parts_at, part_of, prices_of, state_of
@@ -25,8 +26,7 @@ ROOT = "auctioneer"
 WINDOW = 8
 FILE_LIMIT = 4_194_304
 INPUT_LIMIT = 536_870_912
-# The statuses of `market check`, and one for a cluster file that does not run, which the program alone can say more of.
-VALID, INVALID, UNREADABLE, TOO_LONG, REFUSED = 0, 1, 2, 4, 5
+VALID, INVALID, TOO_LONG, REFUSED = 0, 1, 4, 5
 NUMBER = rb"(0|[1-9][0-9]{0,18})"
 NAME = rb"([A-Za-z][A-Za-z0-9_-]*)"
 # The lines of moves, each with what it names; what a device holds after a price stands behind a `pass`.
@@ -38,10 +38,6 @@ FORMS = [
     ("pass", re.compile(rb"pass %b %b(?: .*)?" % (NAME, NUMBER))),
     ("close", re.compile(rb"close %b" % NUMBER)),
 ]
-
-
-class NoFile(Exception):
-    """Why the front of the input is no cluster file that runs."""
 
 
 class Device:
@@ -280,11 +276,8 @@ def opened(text):
 
 
 def plan_of(text):
-    """The plan of a cluster file that runs."""
-    try:
-        return Plan(json.loads(text))
-    except (ArithmeticError, AttributeError, LookupError, RecursionError, StopIteration, TypeError, ValueError):
-        raise NoFile("the file is no cluster file that runs: market run says why") from None
+    """The plan of a cluster file, where it is not refused."""
+    return Plan(scene_of(text))
 
 
 def verdict(plan, trace):
@@ -300,15 +293,14 @@ def answer(text):
     parts = opened(text)
     if parts is None:
         return REFUSED, "refused 23 document\n"
-    return verdict(plan_of(parts[0]), parts[1])
+    try:
+        return verdict(plan_of(parts[0]), parts[1])
+    except Refused as line:
+        return REFUSED, f"{line}\n"
 
 
 def main():
-    try:
-        status, line = answer(sys.stdin.buffer.read(INPUT_LIMIT + 1))
-    except NoFile as why:
-        print(why, file=sys.stderr)
-        return UNREADABLE
+    status, line = answer(sys.stdin.buffer.read(INPUT_LIMIT + 1))
     sys.stdout.write(line)
     return status
 

@@ -202,10 +202,10 @@ def try_file(program, checks, tried, path, most):
         try_trace(checks, tried, name, file, plan, lines, most // 3)
 
 
-def rows(tried):
+def rows():
     """What the judge has to say of the only trace of a lone load, worked by hand."""
     file = (CASES / "trace" / "only_trace.json").read_bytes()
-    plan, lines = judge.plan_of(file), (CASES / "trace" / "only_trace.stdout").read_bytes().split(b"\n")[:-1]
+    lines = (CASES / "trace" / "only_trace.stdout").read_bytes().split(b"\n")[:-1]
     at = lines.index(b"clear 1")
     due = [
         ("the only trace", text_of(lines), "valid moves 5\n"),
@@ -217,8 +217,6 @@ def rows(tried):
         ("no trace", b"", "invalid line 1\n"),
     ]
     for name, text, line in due:
-        found = judge.verdict(plan, text)[1]
-        tried.note(name, None if found == line else f"the judge says {found!r}, and {line!r} is due")
         yield name, envelope(file, text), line.encode()
 
 
@@ -242,10 +240,11 @@ def refused_files():
 
 def try_lines(program, tried):
     """Tries the program on inputs of which the line due stands beside them."""
-    inputs = [*rows(tried), *headers()]
-    for name, text, line in headers():
-        tried.note(f"judge: {name}", None if judge.answer(text)[1].encode() == line else "the judge does not refuse it")
-    for name, text, line in [*inputs, *refused_files()] if program else []:
+    inputs = [*rows(), *headers(), *refused_files()]
+    for name, text, line in inputs:
+        found = judge.answer(text)[1].encode()
+        tried.note(f"judge: {name}", None if found == line else f"the judge says {found}, and {line} is due")
+    for name, text, line in inputs if program else []:
         status = {b"v": DONE, b"i": judge.INVALID, b"r": REFUSED}[line[:1]]
         found = ended(program, ["check"], text)
         tried.note(f"check: {name}", None if found == (status, line) else f"it ends with {found}, and {(status, line)} is due")
