@@ -102,7 +102,9 @@ def value_of(text):
     """The JSON value of these bytes."""
     try:
         characters = text.decode()
-        value = json.loads(characters, parse_int=number_of, parse_float=float_of, parse_constant=no_constant, object_pairs_hook=object_of)
+        value = json.loads(
+            characters, parse_int=number_of, parse_float=float_of, parse_constant=no_constant, object_pairs_hook=object_of
+        )
         require_characters(value)
     except (RecursionError, ValueError):
         refuse(1, "document")
@@ -219,7 +221,8 @@ def require_state(node, given, basis, place):
             require_points(given["points"], basis, place)
         return
     value = given.get("value", given.get("start"))
-    least, most = {"battery": (0, node.get("capacity")), "solar": POWER, "load": POWER, "objective": (-MOST, MOST)}.get(node["kind"], TEMPERATURE)
+    limits = {"battery": (0, node.get("capacity")), "solar": POWER, "load": POWER, "objective": (-MOST, MOST)}
+    least, most = limits.get(node["kind"], TEMPERATURE)
     require(value is not None and least <= value <= most, 19, place)
 
 

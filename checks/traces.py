@@ -161,7 +161,8 @@ def compare(program, tried, name, file, plan, trace):
     """Compares the program with the judge on a trace."""
     status, line = judge.verdict(plan, trace)
     found = ended(program, ["check"], envelope(file, trace))
-    tried.note(name, None if found == (status, line.encode()) else f"the program ends with {found}, the judge with {(status, line)}")
+    due = (status, line.encode())
+    tried.note(name, None if found == due else f"the program ends with {found}, the judge with {due}")
 
 
 def try_trace(program, tried, name, file, plan, lines, most):
