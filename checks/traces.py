@@ -16,6 +16,7 @@ from pathlib import Path
 
 sys.dont_write_bytecode = True
 import judge
+import journals
 from built import ended, has_command, sampled
 
 TOP = Path(__file__).resolve().parent.parent
@@ -64,15 +65,45 @@ def next_moves(market):
 
 
 def made_trace(plan, haste, chance):
-    """The lines of a trace whose moves come in a legal order that chance picks, and the number of moves."""
-    market, lines = judge.Market(plan), list(plan.report)
+    """The lines of a trace whose moves come in a legal order that chance picks, and a law that a state on the way broke, or None."""
+    market, lines, broken = judge.Market(plan), list(plan.report), None
     while not market.is_complete():
         moves = next_moves(market)
+        broken = broken or broken_law(market, moves)
         (move,) = chance.choices(moves, [haste.get(it[0], 1) for it in moves])
         market.make(move)
         lines.append(market.line_of(move))
     moves = len(lines) - len(plan.report)
-    return [*lines, b"moves %d" % moves], moves
+    if moves > bound(plan):
+        broken = f"it has {moves} moves, and the bound is {bound(plan)}"
+    return [*lines, b"moves %d" % moves], broken
+
+
+def is_at_most(cut, other):
+    return all(number <= other[it] for it, number in cut.items())
+
+
+def broken_law(market, moves):
+    """What of the laws that are proved of each state after a legal journal does not hold, or None."""
+    cleared = market.published[judge.ROOT]
+    for name, cuts in market.published.items():
+        if not all(is_at_most(a, b) and a != b for a, b in zip(cuts, cuts[1:])):
+            return f"what {name} published does not rise"
+        answered = market.number_in(name, cleared[market.last(name)]) if name != judge.ROOT else len(cuts)
+        if len(cuts) - 1 - answered > 8:
+            return f"more than 8 numbers of {name} are unanswered"
+    for name, learnt in market.learnt.items():
+        if learnt > market.newest(name) or market.passed[name] != sorted(set(market.passed[name])):
+            return f"a number of {name} falls"
+        if not is_at_most(market.part(name, learnt), market.counts):
+            return f"more is known of {name} than it did"
+    if not is_at_most(market.plan.ends[market.closed], market.counts):
+        return "a change of a closed phase is missing"
+    is_idle = not any(it[0] not in ("change", "close") for it in moves)
+    members = [it for it, count in market.counts.items() if market.plan.devices[it].member[count]]
+    if is_idle and (cleared[-1] != market.counts or any(market.last(it) != len(cleared) - 1 for it in members)):
+        return "nothing is pending, and the last clearing is not current"
+    return None
 
 
 def bound(plan):
@@ -197,9 +228,9 @@ def try_file(program, checks, tried, path, most):
     try_trace(checks, tried, path.name, file, plan, text.split(b"\n")[:-1], most)
     chance = random.Random(f"{SEED} {path.name}")
     for number, haste in enumerate(HASTES, 1):
-        lines, moves = made_trace(plan, haste, chance)
+        lines, broken = made_trace(plan, haste, chance)
         name = f"made trace {number} of {path.name}"
-        tried.note(name, None if moves <= bound(plan) else f"it has {moves} moves, and the bound is {bound(plan)}")
+        tried.note(name, broken)
         try_trace(checks, tried, name, file, plan, lines, most // 3)
 
 
@@ -219,6 +250,12 @@ def rows():
     ]
     for name, text, line in due:
         yield name, envelope(file, text), line.encode()
+
+
+def beginnings():
+    """Beginnings of journals, with the line that is bad or missing."""
+    for it in journals.worked():
+        yield it.name, envelope(it.file, it.trace()), b"invalid line %d\n" % it.bad_line()
 
 
 def headers():
@@ -241,7 +278,7 @@ def refused_files():
 
 def try_lines(program, tried):
     """Tries the program on inputs of which the line due stands beside them."""
-    inputs = [*rows(), *headers(), *refused_files()]
+    inputs = [*rows(), *beginnings(), *headers(), *refused_files()]
     for name, text, line in inputs:
         found = judge.answer(text)[1].encode()
         tried.note(f"judge: {name}", None if found == line else f"the judge says {found}, and {line} is due")
