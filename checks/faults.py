@@ -15,7 +15,7 @@ import threading
 from pathlib import Path
 
 sys.dont_write_bytecode = True
-from built import SECONDS, ended, sampled
+from built import SECONDS, ended, has_command, sampled
 from oracle import due_of, envelope, why_wrong
 
 TOP = Path(__file__).resolve().parent.parent
@@ -183,22 +183,24 @@ def is_part(written, text):
     return len(written) < len(text) and text.startswith(written)
 
 
-def inputs():
-    """For each command that reads a whole input a small one, and the text due."""
+def inputs(program):
+    """For each command that reads a whole input a small one."""
     file = (CASES / "run" / "two_bids.json").read_bytes().strip()
     for command in ("run", "trace", "bill"):
         yield command, file
     yield "ask", envelope(file, TARGETS)
+    if has_command(program, "check"):
+        yield "check", envelope(file, ended(program, ["trace"], file)[1])
 
 
 def reads(program, everything):
     """Standard input that fails, waits, ends or comes in pieces: a name, and what is wrong or None."""
-    for command, text in inputs():
+    for command, text in inputs(program):
         all_lengths = everything or command == "run"
         for length in sampled(range(len(text) + 1), len(text) + 1 if all_lengths else SAMPLE):
             found = failing_read(program, [command], text[:length])
             yield f"{command}: input fails after {length} bytes", None if found == (READ_FAULT, b"") else f"it ends with {found}"
-        for length in sampled(range(len(text)), len(text) if everything or command == "ask" else SAMPLE):
+        for length in sampled(range(len(text)), len(text) if everything or command in ("ask", "check") else SAMPLE):
             found = ended(program, [command], text[:length])
             yield f"{command}: input ends after {length} bytes", why_wrong(command, text[:length], found)
         found = waiting_read(program, [command], text[:100])
@@ -218,7 +220,7 @@ def reads(program, everything):
 
 def writes(program, folder, everything):
     """Standard output that takes no more: a name, and what is wrong or None."""
-    for command, text in inputs():
+    for command, text in inputs(program):
         if command == "trace":
             text = (CASES / "trace" / "only_trace.json").read_bytes()
         due = ended(program, [command], text)[1]

@@ -251,7 +251,7 @@ class Inputs:
 
 
 def why_failed(program, command, text):
-    """What is wrong with the program's answer or None, and the status due."""
+    """What is wrong with the program's answer or None, and what is due."""
     due = due_of(command, text)
     try:
         found = ended(program, [command], text, SECONDS)
@@ -260,7 +260,7 @@ def why_failed(program, command, text):
             why = "a second run writes another text"
     except Hangs as it:
         why = str(it)
-    return why, due[0]
+    return why, due
 
 
 def kept(text):
@@ -275,20 +275,26 @@ def tried(program, seconds=None, number=None, seed=SEED, counts=None):
     while at < number if number else time.monotonic() - begin < seconds:
         at += 1
         command, text = inputs.next()
-        why, status = why_failed(program, command, text)
+        why, (status, due) = why_failed(program, command, text)
         if counts is not None:
-            counts[command, status] += 1
+            counts[f"{command} with status {status}"] += 1
+            if due.startswith(b"refused "):
+                counts[f"code {due.split()[1].decode():0>2}"] += 1
         yield f"{command} of input {at} of seed {seed}", why and f"{why}; the input is kept in {kept(text)}"
 
 
+def told(counts):
+    return ", ".join(f"{what} {number}" for what, number in sorted(counts.items()))
+
+
 def main(program, minutes, seed=SEED):
-    counts, failed = Counter(), 0
+    counts, passed, failed = Counter(), 0, 0
     for name, why in tried(program, seconds=60 * float(minutes), seed=seed, counts=counts):
+        passed, failed = passed + (why is None), failed + (why is not None)
         if why:
-            failed += 1
             print(f"{name}: {why}", flush=True)
-    print(", ".join(f"{command} with status {status}: {number}" for (command, status), number in sorted(counts.items())))
-    print(f"{sum(counts.values()) - failed} passed, {failed} failed")
+    print(told(counts))
+    print(f"{passed} passed, {failed} failed")
     return 1 if failed else 0
 
 

@@ -46,7 +46,7 @@ def main(program, everything, minutes):
             tell("schedules", schedules.tried(program, folder, everything)),
             tell("mutated inputs", fuzz.tried(program, counts=counts, **mutated)),
         ]
-    print(", ".join(f"{command} with status {status}: {number}" for (command, status), number in sorted(counts.items())))
+    print(fuzz.told(counts))
     passed, failed = (sum(it) for it in zip(*results))
     print(f"{passed} passed, {failed} failed")
     return 1 if failed else 0

@@ -4,7 +4,7 @@ import json
 import sys
 
 sys.dont_write_bytecode = True
-from built import Hangs, ended
+from built import Hangs, ended, has_command
 from oracle import due_of, envelope, why_wrong
 
 NODES, DEPTH, STEPS, PHASES, EVENTS, CHANGES, MOST = 256, 6, 1_000, 1_000, 4_096, 20_000, 1_000_000_000
@@ -77,12 +77,19 @@ def files(everything):
         yield "20,000 changes below 6 concentrators", most_events(5, CHANGES // 5), all_commands
 
 
+def why_not(program, command, text):
+    try:
+        return why_wrong(command, text, ended(program, [command], text, SECONDS), due_of(command, text))
+    except Hangs as it:
+        return str(it)
+
+
 def tried(program, everything):
     for name, file, commands in files(everything):
         for command in commands:
             text = envelope(file, b"0\n%d\n-%d\n" % (MOST, MOST)) if command == "ask" else file
-            try:
-                why = why_wrong(command, text, ended(program, [command], text, SECONDS), due_of(command, text))
-            except Hangs as it:
-                why = str(it)
-            yield f"{command} of {name}", why
+            yield f"{command} of {name}", why_not(program, command, text)
+        if "trace" in commands and has_command(program, "check"):
+            trace = ended(program, ["trace"], file, SECONDS)[1]
+            yield f"check of {name}", why_not(program, "check", envelope(file, trace))
+            yield f"check of {name}, without the last line", why_not(program, "check", envelope(file, trace[: trace.rindex(b"moves")]))
