@@ -109,7 +109,7 @@ def told(counts):
 
 def main(program, minutes, seed=SEED):
     counts, passed, failed = Counter(), 0, 0
-    for name, why in tried(program, seconds=60 * float(minutes), seed=seed, counts=counts):
+    for name, why in tried(program, seconds=60 * minutes, seed=seed, counts=counts):
         passed, failed = passed + (why is None), failed + (why is not None)
         if why:
             print(f"{name}: {why}", flush=True)
@@ -119,4 +119,4 @@ def main(program, minutes, seed=SEED):
 
 
 if __name__ == "__main__":
-    sys.exit(main(*sys.argv[1:]))
+    sys.exit(main(sys.argv[1], float(sys.argv[2]), *map(int, sys.argv[3:])))
