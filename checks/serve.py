@@ -58,10 +58,10 @@ def differs(found, due):
     return None if found == due else f"it ends with {told(found)}, and due is {told(due)}"
 
 
-def try_rows(words):
+def try_rows(words, sizes):
     for name, data, status, answers in rows():
         yield f"{name}, by the definitions", differs(stream.answers_to(data), (status, answers))
-        for size in (1, 7, 100, 100_000):
+        for size in sizes:
             pieces = [data[at : at + size] for at in range(0, len(data), size)]
             yield f"{name}, in pieces of {size}", differs(in_pieces(words, pieces), (status, answers))
 
@@ -205,7 +205,7 @@ def try_longest(words):
 
 
 def tried(words, folder, number, step, frames, longest):
-    yield from try_rows(words)
+    yield from try_rows(words, (1, 7, 100, 100_000) if step == 1 else (7,))
     yield from try_random(words, number)
     yield from try_faults(words, folder, step)
     yield from try_client(words)
