@@ -1,21 +1,24 @@
 -- What is given for an input is due, with the status for it.
-use Rattle.std.proofs.Common.{◌≡◌, ◌≢◌, ◌∙◌, ◌⊎◌, ℕ, ◌-◌, ◌<◌, ◌≤◌, List, ◌++◌, length, Option, Some, None, IfSome, sym, ap, subst, inl, inr, arith, append-nil}
+use Rattle.std.proofs.Common.{◌≡◌, ◌≢◌, ◌∙◌, ◌⊎◌, ℕ, ◌-◌, ◌<◌, ◌≤◌, List, ◌++◌, length, Option, Some, None, IfSome, sym, ap, subst, refl, inl, inr, arith, append-nil}
 use Rattle.std.proofs.lemmas.List.{length-take}
 use Rattle.std.specs.Io.KnownBytes.{Appends, Consumes, IsAtEnd}
 use Rattle.pm_io.specs.Taken.{TookMore}
 use Rattle.pm_top.specs.Inputs.{input_limit, HasStatus}
-use Rattle.pm_top.specs.Top.{IsAnswer, IsDue, summary, IsSummary, WrotePrefix}
+use Rattle.pm_wire.specs.Streams.{replies, replies_and_fault}
+use Rattle.pm_top.specs.Top.{IsAnswer, IsDue, summary, served, served_fault, served_long, IsServiceEnd, IsSummary, WrotePrefix}
 use Rattle.pm_top.specs.declared.arguments.Command.{Command}
-use Rattle.pm_top.specs.declared.arguments.Command.TheVariants.{Demo}
+use Rattle.pm_top.specs.declared.arguments.Command.TheVariants.{Demo, Serve}
 use Rattle.pm_top.specs.declared.arguments.FileCommand.{FileCommand}
 use Rattle.pm_top.specs.declared.status.Status.{Status}
-use Rattle.pm_top.specs.declared.status.Status.TheVariants.{Done, TooLong, ReadFault, WriteFault, NoMemory}
+use Rattle.pm_top.specs.declared.status.Status.TheVariants.{Done, Invalid, Usage, TooLong, Refused, ReadFault, WriteFault, NoMemory}
 use Rattle.pm_top.proofs.Meanings.{one_status, long_status}
 
 -- a demo's summary is due with the status Done, which is the one that is left
-pub summary_is_due : (old new : Option (List ℕ)) (command : Option Command) (size number : ℕ) (status : Status) (text : List ℕ) → command ≡ Some (Demo size number) → status ≡ Done → IsSummary size number text
+pub summary_is_due : (old new : Option (List ℕ)) (command : Option Command) (size number : ℕ) (status : Status) (text : List ℕ) →
+    command ≡ Some (Demo size number) → status ≡ Done → IsSummary size number text
     → IsDue command old new status text
-summary_is_due old new command size number status text asks done is = subst (λ (s : Status). IsDue command old new s text) (sym done) (summary size number text asks is)
+summary_is_due old new command size number status text asks done is = subst (λ (s : Status). IsDue command old new s text) (sym done)
+    (summary size number text asks is)
 
 pub left_done : (status : Status) → (status ≡ Done) ⊎ (status ≡ WriteFault) ⊎ (status ≡ NoMemory) → status ≢ WriteFault → status ≢ NoMemory → status ≡ Done
 left_done status (inl done) no_fault no_failure = done
@@ -23,15 +26,34 @@ left_done status (inr (inl fault)) no_fault no_failure = absurd (no_fault fault)
 left_done status (inr (inr failure)) no_fault no_failure = absurd (no_failure failure)
 
 -- what was given with its status is due
-pub given_is_due : (command : Option Command) (old new before after : Option (List ℕ)) (due status : Status) (text given : List ℕ) → IsDue command old new due text →
+pub given_is_due : (command : Option Command) (old new before after : Option (List ℕ)) (due status : Status) (text given : List ℕ) →
+    IsDue command old new due text →
     given ≡ text → (status ≡ due) × Appends before after given → (text' : List ℕ) × IsDue command old new status text' × Appends before after text'
 given_is_due command old new before after due status text given is same (told, appended) =
     (text, subst (λ (s : Status). IsDue command old new s text) (sym told) is, subst (Appends before after) same appended)
 
 -- where the sink failed, a prefix of what is due was written
-pub prefix_is_due : (command : Option Command) (old new before after : Option (List ℕ)) (due : Status) (text given : List ℕ) → IsDue command old new due text →
+pub prefix_is_due : (command : Option Command) (old new before after : Option (List ℕ)) (due : Status) (text given : List ℕ) →
+    IsDue command old new due text →
     given ≡ text → WrotePrefix before after given → (due' : Status) × ((text' : List ℕ) × IsDue command old new due' text' × WrotePrefix before after text')
 prefix_is_due command old new before after due text given is same wrote = (due, (text, is, subst (WrotePrefix before after) same wrote))
+
+-- what a service appended is due, unless it failed
+pub service_is_due : (command : Option Command) (old new held holds : Option (List ℕ)) (status : Status) → command ≡ Some Serve →
+    IsServiceEnd status old new held holds →
+    status ≢ ReadFault → status ≢ WriteFault → status ≢ NoMemory → (text : List ℕ) × IsDue command old new status text × Appends held holds text
+service_is_due command old new held holds Done asks end no_read no_write no_failure =
+    (replies end.frames, served end.frames end.input asks end.consumes end.at_end end.are_frames, end.appends)
+service_is_due command old new held holds Invalid asks end no_read no_write no_failure = absurd end
+service_is_due command old new held holds Usage asks end no_read no_write no_failure = absurd end
+service_is_due command old new held holds ReadFault asks end no_read no_write no_failure = absurd (no_read refl)
+service_is_due command old new held holds TooLong asks end no_read no_write no_failure =
+    let answered = end.answered in
+    (replies answered.frames, served_long answered.frames end.input asks answered.consumes answered.has end.long, answered.appends)
+service_is_due command old new held holds Refused asks end no_read no_write no_failure =
+    (replies_and_fault end.frames, served_fault end.frames end.input asks end.consumes end.fault, end.appends)
+service_is_due command old new held holds WriteFault asks end no_read no_write no_failure = absurd (no_write refl)
+service_is_due command old new held holds NoMemory asks end no_read no_write no_failure = absurd (no_failure refl)
 
 -- ---- the status for an input
 
@@ -59,7 +81,8 @@ read_status asked (Some input) bytes due text same short answer = λ status has.
     one_status asked bytes status due text short (subst (λ (i : List ℕ). HasStatus asked i status) (sym same) has) answer
 
 -- the answer to an input that was read to its end
-pub read_answers : (asked : FileCommand) (old new : Option (List ℕ)) (bytes : List ℕ) (result due : Status) (text : List ℕ) → Consumes old new bytes → IsAtEnd new →
+pub read_answers : (asked : FileCommand) (old new : Option (List ℕ)) (bytes : List ℕ) (result due : Status) (text : List ℕ) → Consumes old new bytes →
+    IsAtEnd new →
     length bytes ≤ input_limit asked → IsAnswer asked bytes due text → (result ≡ due) ⊎ (result ≡ WriteFault) → IfSome old (Answers asked result)
 read_answers asked old new bytes result due text all end short answer given =
     answers_by asked result due old given (read_status asked old bytes due text (whole old new bytes all end) short answer)
@@ -74,13 +97,16 @@ too_long_status asked None new more = tt
 too_long_status asked (Some input) new more = λ status has. long_status asked input status (long_input input new (input_limit asked) more) has
 
 -- the answer to an input of which more than the limit was taken
-pub long_answers : (asked : FileCommand) (old new : Option (List ℕ)) (result : Status) → TookMore old new (input_limit asked) → (result ≡ TooLong) ⊎ (result ≡ WriteFault) →
+pub long_answers : (asked : FileCommand) (old new : Option (List ℕ)) (result : Status) → TookMore old new (input_limit asked) →
+    (result ≡ TooLong) ⊎ (result ≡ WriteFault) →
     IfSome old (Answers asked result)
 long_answers asked old new result more given = answers_by asked result TooLong old given (too_long_status asked old new more)
 
 -- with no fault the status is the one for the input, or an allocation failed
-pub completes : (asked : FileCommand) (old : Option (List ℕ)) (result : Status) (read write : Type 0) → IfSome old (Answers asked result) → (result ≡ ReadFault → read) →
-    (result ≡ WriteFault → write) → IfSome old (λ input. (status : Status) → HasStatus asked input status → (read → ⊥) → (write → ⊥) → (result ≡ NoMemory) ⊎ (result ≡ status))
+pub completes : (asked : FileCommand) (old : Option (List ℕ)) (result : Status) (read write : Type 0) → IfSome old (Answers asked result) →
+    (result ≡ ReadFault → read) →
+    (result ≡ WriteFault → write) →
+    IfSome old (λ input. (status : Status) → HasStatus asked input status → (read → ⊥) → (write → ⊥) → (result ≡ NoMemory) ⊎ (result ≡ status))
 completes asked None result read write answers at_read at_write = tt
 completes asked (Some input) result read write answers at_read at_write = λ status has no_read no_write. elim (answers status has) [
   | inl told ↦ inr told

@@ -6,3 +6,4 @@ pub mod Meanings
 pub mod Answering
 pub mod Exact
 pub mod Due
+pub mod Reports

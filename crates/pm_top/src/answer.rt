@@ -1,14 +1,15 @@
-ghost use Rattle.std.specs.Prelude.{◌≡◌, ℕ, List, All, IfOk, IfSome, IfNone};
+ghost use Rattle.std.specs.Prelude.{◌≡◌, ◌≢◌, ℕ, List, All, IfOk, IfSome, IfNone};
 ghost use Rattle.pm_base.specs.Limits.{IsWithin, demand_limit};
 ghost use Rattle.pm_report.specs.Refusal.{refusal_line};
 ghost use Rattle.pm_ask.specs.TargetLists.{IsFirstBadLine};
 ghost use Rattle.pm_top.specs.Inputs.{HasFile, HasPlan, AreAsked};
-ghost use Rattle.pm_top.specs.Top.{IsAnswer};
+ghost use Rattle.pm_top.specs.Top.{IsAnswer, valid_line, invalid_line};
 
 use crate::arguments::FileCommand;
 use crate::status::Status;
 use crate::texts::text_of;
 use pm_ask::{TargetsFault, read_targets};
+use pm_check::{CheckFault, check};
 use pm_envelope::{Envelope, open_envelope};
 use pm_plan::{Cause, Place, Plan, Refusal};
 use pm_report::refusal_line;
@@ -39,7 +40,10 @@ pub(crate) fn answer_of<R: Threads + Wait + Sync, G: Gate>(
         return refused(alloc, Refusal::at(Cause::BadEnvelope, Place::Document));
     };
     match read_scene(alloc, envelope.file) {
-        Ok(plan) => plan_answer(rt, alloc, asked, &plan, input, envelope.rest, gate),
+        Ok(plan) => match asked {
+            FileCommand::Check => trace_answer(rt, alloc, &plan, input, envelope.rest, gate),
+            _ => plan_answer(rt, alloc, asked, &plan, input, envelope.rest, gate),
+        },
         Err(SceneFault::Refused(refusal)) => refused(alloc, refusal),
         Err(SceneFault::NoMemory) => Err(AllocError),
     }
@@ -51,7 +55,7 @@ fn open_input(asked: FileCommand, input: &[u8]) -> Option<Envelope<'_>>
     ensures none { IfNone result ((file rest : List ℕ) → HasFile asked input.now file rest → ⊥) }
 {
     match asked {
-        FileCommand::Ask => open_envelope(input),
+        FileCommand::Check | FileCommand::Ask => open_envelope(input),
         FileCommand::Run | FileCommand::Trace | FileCommand::Bill => {
             let (file, rest) = (input, &input[input.len()..]);
             Some(Envelope { file, rest })
@@ -79,7 +83,8 @@ fn plan_answer<R: Threads + Wait + Sync, G: Gate>(
     rest: &[u8],
     gate: &G,
 ) -> Result<Answer, AllocError>
-    requires { HasPlan asked input.now plan.now rest.now }
+    requires plan { HasPlan asked input.now plan.now rest.now }
+    requires text { asked ≢ FileCommand.Check }
     ensures { IfOk result (λ answer. IsAnswer asked input.now answer.status answer.text.items) }
 {
     match targets_of(alloc, asked, rest) {
@@ -96,14 +101,61 @@ fn plan_answer<R: Threads + Wait + Sync, G: Gate>(
     }
 }
 
+/// The judgement of a trace that stands behind a cluster file with a plan: how many moves it has where it is valid, and else
+/// its bad line.
+fn trace_answer<R: Threads + Wait + Sync, G: Gate>(
+    rt: &R,
+    alloc: Global,
+    plan: &Plan,
+    input: &[u8],
+    trace: &[u8],
+    gate: &G,
+) -> Result<Answer, AllocError>
+    requires { HasPlan FileCommand.Check input.now plan.now trace.now }
+    ensures { IfOk result (λ answer. IsAnswer FileCommand.Check input.now answer.status answer.text.items) }
+{
+    let report = text_of(rt, alloc, FileCommand::Run, plan, &[], gate)?;
+    match check(alloc, plan, &report, trace) {
+        Ok(moves) => {
+            let text = valid_line(alloc, moves)?;
+            let status = Status::Done;
+            Ok(Answer { status, text })
+        }
+        Err(CheckFault::Invalid { line }) => {
+            let text = invalid_line(alloc, line)?;
+            let status = Status::Invalid;
+            Ok(Answer { status, text })
+        }
+        Err(CheckFault::NoMemory) => Err(AllocError),
+    }
+}
+
+/// The line of a valid trace.
+fn valid_line(alloc: Global, moves: u64) -> Result<Vec<u8>, AllocError>
+    ensures { IfOk result (λ text. text.items ≡ valid_line moves) }
+{
+    let text = format!(in alloc; "valid moves {moves}\n")?;
+    Ok(text.into_bytes())
+}
+
+/// The line of a trace with a bad line.
+fn invalid_line(alloc: Global, line: u64) -> Result<Vec<u8>, AllocError>
+    ensures { IfOk result (λ text. text.items ≡ invalid_line line) }
+{
+    let text = format!(in alloc; "invalid line {line}\n")?;
+    Ok(text.into_bytes())
+}
+
 /// The targets that stand behind a cluster file, in watts; none where the command takes none.
 fn targets_of(alloc: Global, asked: FileCommand, rest: &[u8]) -> Result<Vec<i64>, TargetsFault>
+    requires { asked ≢ FileCommand.Check }
     ensures asked { IfOk result (λ targets. AreAsked asked rest.now targets.items) }
     ensures within { IfOk result (λ targets. All (IsWithin demand_limit) targets.items) }
     ensures bad { (line : ℕ) → result ≡ Err (TargetsFault.Bad line) → (asked ≡ FileCommand.Ask) × IsFirstBadLine line rest.now }
 {
     match asked {
         FileCommand::Ask => read_targets(alloc, rest),
+        FileCommand::Check => unreachable!(),
         FileCommand::Run | FileCommand::Trace | FileCommand::Bill => Ok(Vec::new(alloc)),
     }
 }

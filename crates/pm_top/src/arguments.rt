@@ -1,15 +1,18 @@
 ghost use Rattle.std.specs.Prelude.{◌≡◌, ◌<◌, map, string_bytes};
 ghost use Rattle.std.specs.List.{list_all};
 ghost use Rattle.std.specs.Char.{is_ascii_digit};
-ghost use Rattle.pm_top.specs.Arguments.{command, file_of, demo_of, is_number, number_within, value_up_to};
+ghost use Rattle.pm_top.specs.Arguments.{command, single_of, demo_of, is_number, number_within, value_up_to};
 
-/// The text that is asked for of an input, which is a cluster file, or for `Ask` an envelope of one with targets behind it.
+/// The text that is asked for of an input, which is a cluster file, for `Ask` an envelope of one with targets behind it, and
+/// for `Check` one with a trace behind it.
 #[derive(Clone, Copy, Debug, PartialEq, Eq)]
 pub(crate) enum FileCommand {
     /// The report of its phases.
     Run,
     /// The report, and the moves of the run.
     Trace,
+    /// Whether a trace is one of a legal run of it.
+    Check,
     /// What the devices and the grid pay over the ticks of its run.
     Bill,
     /// At which price the cluster would take or deliver so much more, for each of a list of targets.
@@ -23,6 +26,8 @@ pub(crate) enum Command {
     File(FileCommand),
     /// Sum up the demo cluster of so many devices, made by this number.
     Demo { size: u32, number: u32 },
+    /// Serve the auctioneer over a stream of bids.
+    Serve,
 }
 
 /// The command that the arguments are, where they are one.
@@ -30,7 +35,7 @@ pub(crate) fn command_of(arguments: &[String]) -> Option<Command>
     ensures { result ≡ command (map string_bytes arguments.now) }
 {
     match arguments {
-        [argument] => file_of(argument.as_str()),
+        [argument] => single_of(argument.as_str()),
         [argument, size, number] if argument.as_str() == "demo" => demo_of(
             size.as_str(),
             number.as_str(),
@@ -40,15 +45,19 @@ pub(crate) fn command_of(arguments: &[String]) -> Option<Command>
 }
 
 /// The command of this argument alone, where it is one.
-fn file_of(argument: &str) -> Option<Command>
-    ensures { result ≡ file_of argument.now }
+fn single_of(argument: &str) -> Option<Command>
+    ensures { result ≡ single_of argument.now }
 {
     if argument == "run" {
         Some(Command::File(FileCommand::Run))
     } else if argument == "trace" {
         Some(Command::File(FileCommand::Trace))
+    } else if argument == "check" {
+        Some(Command::File(FileCommand::Check))
     } else if argument == "bill" {
         Some(Command::File(FileCommand::Bill))
+    } else if argument == "serve" {
+        Some(Command::Serve)
     } else if argument == "ask" {
         Some(Command::File(FileCommand::Ask))
     } else {

@@ -6,13 +6,15 @@ ghost use Rattle.pm_top.specs.Codes.{status_code};
 pub enum Status {
     /// The command was done, and its text stands in the sink.
     Done,
+    /// A trace is not valid, and the line that names its bad line stands in the sink.
+    Invalid,
     /// The arguments are no command, and the usage line stands in the sink.
     Usage,
     /// The source failed.
     ReadFault,
-    /// The input has too many bytes, and the line that says so stands in the sink.
+    /// The input has too many bytes. The line that says so stands in the sink, or for a service the answers so far.
     TooLong,
-    /// The input is refused, and the line of the refusal stands in the sink.
+    /// The input is refused, and the line of the refusal stands in the sink, or for a service the frame of the fault.
     Refused,
     /// The sink failed; a part of the text due stands in it.
     WriteFault,
@@ -21,12 +23,13 @@ pub enum Status {
 }
 
 impl Status {
-    /// The exit code of the program: 0 for `Done`, and from 2 on for the others in their order.
+    /// The exit code of the program: from 0 on, in the order of the statuses.
     pub fn code(self) -> u8
         ensures { result ≡ status_code self }
     {
         match self {
             Status::Done => 0,
+            Status::Invalid => 1,
             Status::Usage => 2,
             Status::ReadFault => 3,
             Status::TooLong => 4,

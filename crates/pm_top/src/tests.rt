@@ -19,9 +19,20 @@ const TWO_BIDS_TEXT: &str =
     "phase 1 price 4 step 4 total -50 members 2\nmember load1 power 100 bid 1\nmember gen1 power -150 bid 1\nend phases 1 changes 2\n";
 
 const USAGE: &str =
-    "usage: market run | market trace | market demo SIZE NUMBER | market bill | market ask\n";
+    "usage: market run | market trace | market demo SIZE NUMBER | market check | market bill | market serve | market ask\n";
 
 const REFUSED: &str = "refused 1 document\n";
+
+const NO_ENVELOPE: &str = "refused 23 document\n";
+
+/// The frames of a basis of the prices 0 and 1, of bid 1 of child 1, which takes 1 watt at price 0, and of a clearing.
+const STREAM: &str = "\x01\0\0\0\0\0\0\0\x01\0\x02\x02\0\x01\0\0\0\x01\0\0\0\x01\0\0\0\0\x04";
+
+/// The price for the child: its bid 1, clearing 1, step 1.
+const PRICE: &str = "\x05\0\x01\0\0\0\x01\0\0\0\x01\0\x01";
+
+/// The fault of a first frame.
+const FAULT: &str = "\x08\0\0\0\0\0\0\0\0";
 
 /// What a call answers, and what the sink holds afterwards. Reads give at most 100 bytes and writes
 /// take at most 50; the calls of these numbers fail.
@@ -46,7 +57,8 @@ fn ran<R: Threads + Wait + Sync>(
 }
 
 /// A fault of the source or the sink at each of their calls, by its number, where 0 stands for none. The file has 326
-/// bytes, so a run without faults reads five times; its text has 124 bytes, so it writes three times.
+/// bytes, so a run without faults reads five times; its text has 124 bytes, so it writes three times. A service of the
+/// stream reads twice and writes once.
 #[test]
 fn each_fault_has_its_answer(rt: HostRuntime) -> Result<(), Fail> {
     let alloc = rt.alloc();
@@ -63,6 +75,12 @@ fn each_fault_has_its_answer(rt: HostRuntime) -> Result<(), Fail> {
         ("run", TWO_BIDS, 0, 3, Status::WriteFault, TWO_BIDS_TEXT),
         ("run", "{", 0, 0, Status::Refused, REFUSED),
         ("run", "{", 0, 1, Status::WriteFault, REFUSED),
+        ("check", TWO_BIDS, 0, 0, Status::Refused, NO_ENVELOPE),
+        ("serve", STREAM, 0, 0, Status::Done, PRICE),
+        ("serve", STREAM, 1, 0, Status::ReadFault, ""),
+        ("serve", STREAM, 2, 0, Status::ReadFault, PRICE),
+        ("serve", STREAM, 0, 1, Status::WriteFault, PRICE),
+        ("serve", "run", 0, 0, Status::Refused, FAULT),
         ("run now", TWO_BIDS, 1, 0, Status::Usage, USAGE),
         ("run now", TWO_BIDS, 1, 1, Status::WriteFault, USAGE),
     ];

@@ -1,4 +1,4 @@
-ghost use Rattle.std.specs.Prelude.{◌≡◌, ◌≤◌, All, IfOk, length};
+ghost use Rattle.std.specs.Prelude.{◌≡◌, ◌≢◌, ◌≤◌, All, IfOk, length};
 ghost use Rattle.pm_base.specs.Limits.{most_phases, IsWithin, demand_limit};
 ghost use Rattle.pm_plan.specs.Plans.{phases};
 ghost use Rattle.pm_plan.specs.States.{all_ends};
@@ -58,8 +58,8 @@ fn last_curve<R: Threads + Wait + Sync, G: Gate>(
 }
 
 /// The text that is asked for of a plan: the report of its phases' ends; behind it, for a trace, the lines of the run's
-/// journal; the bill of the run; or what its last total answers to targets in watts.
-#[tactic(auto, unfolding(crate::specs::Top::report_of))]
+/// journal; the bill of the run; or what its last total answers to targets in watts. Check asks for no text.
+#[tactic(auto, unfolding(crate::specs::Inputs::report_of))]
 pub(crate) fn text_of<R: Threads + Wait + Sync, G: Gate>(
     rt: &R,
     alloc: Global,
@@ -68,7 +68,8 @@ pub(crate) fn text_of<R: Threads + Wait + Sync, G: Gate>(
     targets: &[i64],
     gate: &G,
 ) -> Result<Vec<u8>, AllocError>
-    requires { All (IsWithin demand_limit) targets.now }
+    requires within { All (IsWithin demand_limit) targets.now }
+    requires text { asked ≢ FileCommand.Check }
     ensures { IfOk result (λ text. IsTextOf asked plan.now targets.now text.items) }
 {
     match asked {
@@ -80,6 +81,7 @@ pub(crate) fn text_of<R: Threads + Wait + Sync, G: Gate>(
             let (journal, ends) = run(rt, alloc, plan, gate)?;
             trace_text(alloc, plan, &ends, &journal)
         }
+        FileCommand::Check => unreachable!(),
         FileCommand::Bill => {
             let (_journal, ends) = run(rt, alloc, plan, gate)?;
             bill_of_run(alloc, plan, &ends)?.text(plan)

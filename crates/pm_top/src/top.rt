@@ -7,7 +7,10 @@ ghost use Rattle.pm_report.specs.Refusal.{refusal_line};
 ghost use Rattle.pm_top.specs.declared.arguments.FileCommand.{FileCommand};
 ghost use Rattle.pm_top.specs.Arguments.{command};
 ghost use Rattle.pm_top.specs.Inputs.{input_limit, IsRefusalOf, HasStatus};
-ghost use Rattle.pm_top.specs.Top.{too_long_line, WrotePrefix, IsSummary, IsDue};
+ghost use Rattle.pm_top.specs.Top.{too_long_line, WrotePrefix, IsSummary, IsDue, IsServiceEnd};
+ghost use Rattle.pm_wire.specs.declared.frame.Frame.{Frame};
+ghost use Rattle.pm_wire.specs.Frames.{AreFrames, HasBadFrame, EndsWithin};
+ghost use Rattle.pm_wire.specs.Streams.{stream_limit};
 
 use crate::answer::answer_of;
 use crate::arguments::{Command, FileCommand, command_of};
@@ -15,12 +18,13 @@ use crate::status::Status;
 use crate::texts::demo_of;
 use pm_io::{ReadAllFault, Sink, Source, read_all, write_all};
 use pm_runner::Gate;
+use pm_wire::{Served, serve};
 use std::alloc::Global;
 use std::sync::Wait;
 use std::thread::Threads;
 
 const USAGE_LINE: &str =
-    "usage: market run | market trace | market demo SIZE NUMBER | market bill | market ask\n";
+    "usage: market run | market trace | market demo SIZE NUMBER | market check | market bill | market serve | market ask\n";
 
 /// The most bytes of the input of a command.
 fn input_limit(asked: FileCommand) -> usize
@@ -28,6 +32,7 @@ fn input_limit(asked: FileCommand) -> usize
 {
     match asked {
         FileCommand::Run | FileCommand::Trace | FileCommand::Bill => 4_194_304,
+        FileCommand::Check => 536_870_912,
         FileCommand::Ask => 8_388_608,
     }
 }
@@ -40,6 +45,7 @@ fn too_long_line(asked: FileCommand) -> &'static str
         FileCommand::Run | FileCommand::Trace | FileCommand::Bill => {
             "too long, more than 4194304 bytes\n"
         }
+        FileCommand::Check => "too long, more than 536870912 bytes\n",
         FileCommand::Ask => "too long, more than 8388608 bytes\n",
     }
 }
@@ -124,12 +130,48 @@ fn file<R: Threads + Wait + Sync, S: Source, K: Sink, G: Gate>(
     }
 }
 
+/// Serves the auctioneer over the source and the sink.
+fn service<S: Source, K: Sink>(alloc: Global, source: &mut S, sink: &mut K) -> Status
+    ensures end { IsServiceEnd result (S.left source.old) (S.left source.new) (K.held sink.old) (K.held sink.new) }
+    ensures read_fault { result ≡ Status.ReadFault → Rose (S.faults source.old) (S.faults source.new) }
+    ensures write_fault { result ≡ Status.WriteFault → Rose (K.faults sink.old) (K.faults sink.new) }
+    ensures bad_frame { (all : List ℕ) (offset : ℕ) → S.left source.old ≡ Some all
+        → HasBadFrame (taken (S.left source.old) (S.left source.new)) offset
+        → (result ≡ Status.Refused) ⊎ (result ≡ Status.WriteFault) ⊎ (result ≡ Status.NoMemory) }
+    ensures took_more { (all : List ℕ) → S.left source.old ≡ Some all
+        → stream_limit < length (taken (S.left source.old) (S.left source.new))
+        → ((offset : ℕ) → ¬ HasBadFrame (taken (S.left source.old) (S.left source.new)) offset)
+        → (result ≡ Status.TooLong) ⊎ (result ≡ Status.WriteFault) ⊎ (result ≡ Status.NoMemory) }
+    ensures frames { (all : List ℕ) (frames : List Frame) → S.left source.old ≡ Some all → length all ≤ stream_limit
+        → AreFrames all frames → (result ≡ Status.Done)
+        ⊎ (result ≡ Status.ReadFault) ⊎ (result ≡ Status.WriteFault) ⊎ (result ≡ Status.NoMemory) }
+    ensures refusal { (all : List ℕ) (offset : ℕ) → S.left source.old ≡ Some all → length all ≤ stream_limit
+        → HasBadFrame all offset ⊎ EndsWithin all offset → (result ≡ Status.Refused)
+        ⊎ (result ≡ Status.ReadFault) ⊎ (result ≡ Status.WriteFault) ⊎ (result ≡ Status.NoMemory) }
+    ensures complete { (all : List ℕ) → S.left source.old ≡ Some all → length all ≤ stream_limit
+        → ¬ Rose (S.faults source.old) (S.faults source.new) → ¬ Rose (K.faults sink.old) (K.faults sink.new)
+        → (result ≡ Status.Done) ⊎ (result ≡ Status.Refused) ⊎ (result ≡ Status.NoMemory) }
+    ensures source_count { S.faults source.old ≤ S.faults source.new }
+    ensures sink_count { K.faults sink.old ≤ K.faults sink.new }
+{
+    match serve(alloc, source, sink) {
+        Served::Done => Status::Done,
+        Served::Refused => Status::Refused,
+        Served::TooLong => Status::TooLong,
+        Served::ReadFault => Status::ReadFault,
+        Served::WriteFault => Status::WriteFault,
+        Served::NoMemory => Status::NoMemory,
+    }
+}
+
 /// Does what the arguments ask, and tells how it ended.
 ///
 /// `run` reads a cluster file to its end and appends the report of its plan, or the line of its refusal; `trace` appends
 /// the lines of the run's journal behind the report, and `bill` the accounts of the devices and of the grid in place of it.
 /// `ask` reads an envelope of a cluster file and of targets in watts, and appends what the total at the end of the run
-/// answers to them. `demo SIZE NUMBER` reads nothing and appends the summary of the demo cluster; SIZE is in 1..=200, NUMBER
+/// answers to them. `check` reads an envelope of a cluster file and of a trace, and appends whether that is one of a legal run
+/// of the file, or its bad line. `serve` reads a stream of bids, frame by frame, and appends what the auctioneer answers as
+/// they come. `demo SIZE NUMBER` reads nothing and appends the summary of the demo cluster; SIZE is in 1..=200, NUMBER
 /// in 0..=4294967295, both in ASCII digits without sign and without a leading zero. All other arguments are no command, and
 /// the usage line is appended. The definition `IsDue` has for each status that writes a text the cause of the status and
 /// the text.
@@ -143,22 +185,29 @@ pub fn market<R: Threads + Wait + Sync, S: Source, K: Sink, G: Gate>(
     sink: &mut K,
     gate: &G,
 ) -> Status
-    // Done, Usage, TooLong and Refused come only where their causes stand, and their texts are appended, whole.
+    // Done, Invalid, Usage, TooLong and Refused come only where their causes stand, and their texts are appended, whole.
     ensures written { result ≢ Status.ReadFault → result ≢ Status.WriteFault → result ≢ Status.NoMemory → (text : List ℕ)
         × IsDue (command (map string_bytes arguments.now)) (S.left source.old) (S.left source.new) result text
         × Appends (K.held sink.old) (K.held sink.new) text }
 
-    // Of the others each leaves what it should, and the two faults come only where a count rose.
-    ensures read_fault { result ≡ Status.ReadFault
-        → Rose (S.faults source.old) (S.faults source.new) × (sink.new ≡ sink.old) }
-    ensures write_fault { result ≡ Status.WriteFault → Rose (K.faults sink.old) (K.faults sink.new)
-        × ((due : Status) × ((text : List ℕ)
-        × IsDue (command (map string_bytes arguments.now)) (S.left source.old) (S.left source.new) due text
-        × WrotePrefix (K.held sink.old) (K.held sink.new) text)) }
-    ensures no_memory { result ≡ Status.NoMemory → sink.new ≡ sink.old }
+    // The two faults come only where a count rose.
+    ensures read_fault { result ≡ Status.ReadFault → Rose (S.faults source.old) (S.faults source.new) }
+    ensures write_fault { result ≡ Status.WriteFault → Rose (K.faults sink.old) (K.faults sink.new) }
 
-    // Nothing is read but for a file.
-    ensures reads_nothing { ((asked : FileCommand) → command (map string_bytes arguments.now) ≢ Some (Command.File asked)) → source.new ≡ source.old }
+    // But for a service, which writes while it reads, a fault of the source and an allocation failure leave the sink as it
+    // was, and a fault of the sink leaves a part of the text due.
+    ensures unread { command (map string_bytes arguments.now) ≢ Some Command.Serve → result ≡ Status.ReadFault
+        → sink.new ≡ sink.old }
+    ensures cut_short { command (map string_bytes arguments.now) ≢ Some Command.Serve → result ≡ Status.WriteFault
+        → (due : Status) × ((text : List ℕ)
+        × IsDue (command (map string_bytes arguments.now)) (S.left source.old) (S.left source.new) due text
+        × WrotePrefix (K.held sink.old) (K.held sink.new) text) }
+    ensures no_memory { command (map string_bytes arguments.now) ≢ Some Command.Serve → result ≡ Status.NoMemory
+        → sink.new ≡ sink.old }
+
+    // Nothing is read but for a file or a service.
+    ensures reads_nothing { ((asked : FileCommand) → command (map string_bytes arguments.now) ≢ Some (Command.File asked))
+        → command (map string_bytes arguments.now) ≢ Some Command.Serve → source.new ≡ source.old }
 
     // Where the cause of Usage, TooLong or Refused stands, and the source tells what it has, this is the answer, or a
     // fault or an allocation failure.
@@ -189,12 +238,38 @@ pub fn market<R: Threads + Wait + Sync, S: Source, K: Sink, G: Gate>(
         → command (map string_bytes arguments.now) ≡ Some (Command.Demo size number)
         → ¬ Rose (K.faults sink.old) (K.faults sink.new)
         → (result ≡ Status.NoMemory) ⊎ (result ≡ Status.Done) }
+
+    // A service ends as its status says; which status that is follows from what the source has, but for a failure.
+    ensures served { command (map string_bytes arguments.now) ≡ Some Command.Serve
+        → IsServiceEnd result (S.left source.old) (S.left source.new) (K.held sink.old) (K.held sink.new) }
+    ensures serve_bad_frame { command (map string_bytes arguments.now) ≡ Some Command.Serve
+        → (all : List ℕ) (offset : ℕ) → S.left source.old ≡ Some all
+        → HasBadFrame (taken (S.left source.old) (S.left source.new)) offset
+        → (result ≡ Status.Refused) ⊎ (result ≡ Status.WriteFault) ⊎ (result ≡ Status.NoMemory) }
+    ensures serve_took_more { command (map string_bytes arguments.now) ≡ Some Command.Serve
+        → (all : List ℕ) → S.left source.old ≡ Some all
+        → stream_limit < length (taken (S.left source.old) (S.left source.new))
+        → ((offset : ℕ) → ¬ HasBadFrame (taken (S.left source.old) (S.left source.new)) offset)
+        → (result ≡ Status.TooLong) ⊎ (result ≡ Status.WriteFault) ⊎ (result ≡ Status.NoMemory) }
+    ensures serve_frames { command (map string_bytes arguments.now) ≡ Some Command.Serve
+        → (all : List ℕ) (frames : List Frame) → S.left source.old ≡ Some all → length all ≤ stream_limit
+        → AreFrames all frames → (result ≡ Status.Done)
+        ⊎ (result ≡ Status.ReadFault) ⊎ (result ≡ Status.WriteFault) ⊎ (result ≡ Status.NoMemory) }
+    ensures serve_refusal { command (map string_bytes arguments.now) ≡ Some Command.Serve
+        → (all : List ℕ) (offset : ℕ) → S.left source.old ≡ Some all → length all ≤ stream_limit
+        → HasBadFrame all offset ⊎ EndsWithin all offset → (result ≡ Status.Refused)
+        ⊎ (result ≡ Status.ReadFault) ⊎ (result ≡ Status.WriteFault) ⊎ (result ≡ Status.NoMemory) }
+    ensures serve_complete { command (map string_bytes arguments.now) ≡ Some Command.Serve
+        → (all : List ℕ) → S.left source.old ≡ Some all → length all ≤ stream_limit
+        → ¬ Rose (S.faults source.old) (S.faults source.new) → ¬ Rose (K.faults sink.old) (K.faults sink.new)
+        → (result ≡ Status.Done) ⊎ (result ≡ Status.Refused) ⊎ (result ≡ Status.NoMemory) }
     ensures source_count { S.faults source.old ≤ S.faults source.new }
     ensures sink_count { K.faults sink.old ≤ K.faults sink.new }
 {
     match command_of(arguments) {
         Some(Command::File(asked)) => file(rt, alloc, asked, source, sink, gate),
         Some(Command::Demo { size, number }) => demo(rt, alloc, size, number, sink, gate),
+        Some(Command::Serve) => service(alloc, source, sink),
         None => give(sink, Status::Usage, USAGE_LINE.as_bytes()),
     }
 }

@@ -139,30 +139,39 @@ fn with_an_hour(alloc: Global) -> Result<String, Fail> {
     Ok(format!(in alloc; "{file},{{\"tick\":60}}]}}")?)
 }
 
-/// The file in an envelope, with three targets behind it.
-fn with_targets(alloc: Global) -> Result<String, Fail> {
+/// The file in an envelope, with this behind it.
+fn envelope(alloc: Global, rest: &str) -> Result<String, Fail> {
     let file = super::TWO_BIDS;
     let length = file.len();
-    Ok(format!(in alloc; "{length}\n{file}0\n100\n-60\n")?)
+    Ok(format!(in alloc; "{length}\n{file}{rest}")?)
 }
 
 /// The input of a command, over the two manual bids.
 fn input_of(alloc: Global, line: &str) -> Result<String, Fail> {
     match line {
         "bill" => with_an_hour(alloc),
-        "ask" => with_targets(alloc),
+        "ask" => envelope(alloc, "0\n100\n-60\n"),
+        "check" => envelope(alloc, ""),
         _ => Ok(String::from_str(alloc, super::TWO_BIDS)?),
     }
 }
 
-/// Under each command the two nodes meet, and the moves that a trace prints are those that were told.
+/// The status of a command on its input: a trace without lines is none.
+fn status_of(line: &str) -> Status {
+    match line {
+        "check" => Status::Invalid,
+        _ => Status::Done,
+    }
+}
+
+/// Under each command that runs a cluster the two nodes meet, and the moves that a trace prints are those that were told.
 #[test]
 fn two_nodes_meet(rt: HostRuntime) -> Result<(), Fail> {
-    for line in ["run", "trace", "demo 2 7", "bill", "ask"] {
+    for line in ["run", "trace", "demo 2 7", "check", "bill", "ask"] {
         let gate = MeetingGate::new(&rt, rt.alloc(), (1, 2));
         let input = input_of(rt.alloc(), line)?;
         let (status, text) = ran(&rt, rt.alloc(), line, &input, &gate)?;
-        assert_eq!(rt; status, Status::Done, "at {line}");
+        assert_eq!(rt; status, status_of(line), "at {line}");
         assert_eq!(rt; gate.met(), 2, "at {line}");
         if line == "trace" {
             let told = gate.lines.into_inner();
