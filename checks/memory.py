@@ -1,6 +1,6 @@
 #!/usr/bin/env python3
 """Runs the built program where memory is wanting, and looks whether it ends as it should: with its whole text, or with the
-status of an allocation failure and no text. A trace is tried on a file of which only one journal is legal.
+status of an allocation failure and no text. A trace is tried on files of which only one journal is legal.
 
 Each allocation of a run is refused in turn, alone and with all that come after it; and the address space is limited, so
 that some threads cannot be started, or none. Without an argument a sample is tried, with `all` each number. checks/refuse.c
@@ -112,7 +112,9 @@ def main(program, everything):
     two_bids = (CASES / "run" / "two_bids.json").read_bytes()
     lone_load = (CASES / "trace" / "only_trace.json").read_bytes()
     village = (TOP / "examples" / "village.json").read_bytes()
+    deep = (CASES / "limits" / "load_under_6_concentrators.json").read_bytes()
     refused = [(["run"], two_bids), (["trace"], lone_load), (["run"], village), (["demo", "7", "7"], b"")]
+    refused += [([it], deep) for it in ("run", "trace", "bill")] + [(["ask"], b"%d\n" % len(deep) + deep + b"0\n100\n")]
     tried = []
     with tempfile.TemporaryDirectory() as name:
         folder = Path(name)

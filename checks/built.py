@@ -1,0 +1,31 @@
+"""Starts the built program, for the checks that start it often."""
+
+import subprocess
+
+SECONDS = 60
+
+
+class Hangs(Exception):
+    """The program had not ended in time."""
+
+
+def ended(program, arguments, text, seconds=SECONDS):
+    """The exit status of a run on a standard input, and what it wrote."""
+    try:
+        done = subprocess.run([program, *arguments], input=text, stdout=subprocess.PIPE, stderr=subprocess.DEVNULL, timeout=seconds)
+    except subprocess.TimeoutExpired:
+        raise Hangs(f"{' '.join(arguments)} had not ended after {seconds} seconds") from None
+    return done.returncode, done.stdout
+
+
+def has_command(program, word):
+    """Whether the usage line names a command."""
+    return word in ended(program, [], b"")[1].decode().replace("market ", "").split()
+
+
+def sampled(things, most):
+    """So many of a list, evenly over it; all where there are no more."""
+    things = list(things)
+    if len(things) <= most:
+        return things
+    return [things[at * (len(things) - 1) // (most - 1)] for at in range(most)]

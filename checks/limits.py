@@ -1,0 +1,95 @@
+"""Clusters at the limits of the market, through the threads of each command: texts by checks/oracle.py, traces judged."""
+
+import json
+import sys
+
+sys.dont_write_bytecode = True
+from built import Hangs, ended, has_command
+from oracle import due_of, envelope, why_wrong
+
+NODES, DEPTH, STEPS, PHASES, EVENTS, CHANGES, MOST = 256, 6, 1_000, 1_000, 4_096, 20_000, 1_000_000_000
+SECONDS = 120
+
+
+def chain():
+    """Concentrators as deep as they may stand."""
+    parents = ["auctioneer", *(f"c{it}" for it in range(1, DEPTH))]
+    return [{"name": f"c{at}", "kind": "concentrator", "parent": it} for at, it in enumerate(parents, 1)]
+
+
+def document(basis, nodes, phases):
+    names = ("min", "max", "steps")
+    file = {"version": 2, "basis": dict(zip(names, basis)), "nodes": nodes, "phases": phases}
+    return json.dumps(file, separators=(",", ":")).encode()
+
+
+def joins(names):
+    return {"events": [{"join": it} for it in names]}
+
+
+def widest():
+    """As many nodes as there may be, at the greatest depth, with the most prices."""
+    nodes = chain()
+    for it in range(1, NODES - DEPTH + 1):
+        kind = {"kind": "load", "start": it} if it % 2 else {"kind": "manual", "points": [[0, it], [STEPS - 1, -3 * it]]}
+        nodes.append({"name": f"d{it}", "parent": f"c{DEPTH}"} | kind)
+    names = [it["name"] for it in nodes[DEPTH:]]
+    return document((0, STEPS - 1, STEPS), nodes, [joins(names), {"tick": 1440}, {"events": [{"leave": it} for it in names[::2]]}])
+
+
+def most_events(phases, events):
+    """Two devices at the greatest depth that join and leave in turn, as often as a phase and a run may have it."""
+    nodes = [*chain(), *({"name": name, "kind": "load", "parent": f"c{DEPTH}", "start": 7} for name in ("a", "b"))]
+    turns = [{"join": "a"}, {"join": "b"}, {"leave": "a"}, {"leave": "b"}]
+    return document((0, 9, 10), nodes, [{"events": [turns[it % 4] for it in range(events)]}] * phases)
+
+
+def most_ticks():
+    """As many phases as there may be, all but the first the longest ticks, and of devices that tick nearly as many changes."""
+    nodes = [*chain(), *({"name": f"b{it}", "kind": "battery", "parent": f"c{1 + it % DEPTH}", "capacity": MOST, "charge": MOST,
+                          "discharge": MOST, "spread": it, "start": it * 50_000_000} for it in range(20))]
+    return document((0, 99, 100), nodes, [joins(it["name"] for it in nodes[DEPTH:]), *([{"tick": 1440}] * (PHASES - 1))])
+
+
+def greatest_sums(kind, basis):
+    """As many devices as there may be, each with the greatest power, over the greatest prices and the longest time."""
+    nodes = [{"name": f"d{it}", "kind": kind, "parent": "auctioneer", "start": MOST} for it in range(NODES)]
+    return document(basis, nodes, [joins(it["name"] for it in nodes), *([{"tick": 1440}] * (PHASES - 1))])
+
+
+def greatest_limits():
+    """Limited concentrators whose limits are those of a sum, and which they do not touch."""
+    nodes = [{"name": "c1", "kind": "limited", "parent": "auctioneer", "floor": -256 * MOST, "ceiling": 256 * MOST}]
+    nodes += [{"name": f"d{it}", "kind": "manual", "parent": "c1", "demand": [MOST, -MOST]} for it in range(NODES - 1)]
+    return document((-MOST, MOST, 2), nodes, [joins(it["name"] for it in nodes[1:])])
+
+
+def files(everything):
+    """Files with the commands that are tried on them."""
+    all_commands = ("run", "trace", "bill", "ask")
+    yield "256 nodes below 6 concentrators", widest(), all_commands
+    yield "4,096 events below 6 concentrators", most_events(1, EVENTS), all_commands
+    yield "1,000 phases of ticks", most_ticks(), all_commands if everything else ("run", "bill")
+    yield "the greatest sum", greatest_sums("load", (MOST - 1, MOST, 2)), ("run", "bill", "ask")
+    yield "the least sum", greatest_sums("solar", (-MOST, -MOST + 1, 2)), ("run", "bill", "ask")
+    yield "the widest limits", greatest_limits(), all_commands
+    if everything:
+        yield "20,000 changes below 6 concentrators", most_events(5, CHANGES // 5), all_commands
+
+
+def why_not(program, command, text):
+    try:
+        return why_wrong(command, text, ended(program, [command], text, SECONDS), due_of(command, text))
+    except Hangs as it:
+        return str(it)
+
+
+def tried(program, everything):
+    for name, file, commands in files(everything):
+        for command in commands:
+            text = envelope(file, b"0\n%d\n-%d\n" % (MOST, MOST)) if command == "ask" else file
+            yield f"{command} of {name}", why_not(program, command, text)
+        if "trace" in commands and has_command(program, "check"):
+            trace = ended(program, ["trace"], file, SECONDS)[1]
+            yield f"check of {name}", why_not(program, "check", envelope(file, trace))
+            yield f"check of {name}, without the last line", why_not(program, "check", envelope(file, trace[: trace.rindex(b"moves")]))

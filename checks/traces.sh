@@ -1,0 +1,11 @@
+#!/usr/bin/env bash
+# Compares `market check` of the built program with checks/judge.py on traces, right and wrong: checks/traces.py says how.
+# With `all` every variant of each trace is tried, else a sample.
+cd "$(dirname "$0")/.." || exit 1
+program=crates/market/out/market
+if [ ! -x "$program" ]; then
+    echo "there is no built program: checks/program.sh builds it"
+    echo "0 passed, 1 failed"
+    exit 1
+fi
+exec python3 checks/traces.py "$program" "$@"
