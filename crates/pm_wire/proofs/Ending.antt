@@ -12,14 +12,14 @@ use Rattle.pm_wire.specs.declared.market.Market.{Market}
 use Rattle.pm_wire.specs.Frames.{stream_bytes, place_behind, BeginsWith, IsUnfinished, BeginsBadly}
 use Rattle.pm_wire.specs.Answers.{answer_bytes}
 use Rattle.pm_wire.specs.Decoding.{Decoding}
-use Rattle.pm_wire.specs.Streams.{Follows, Serving, stream_limit, replies, replies_and_fault, HasFrames, HasFault, IsDue, answered, refused, IsRefused}
+use Rattle.pm_wire.specs.Streams.{AreBehind, Serving, stream_limit, replies, replies_and_fault, HasFrames, HasFault, IsReplyDue, answered, refused, IsRefused}
 use Rattle.pm_wire.specs.Streams.{IsCutShort, IsBegun}
 use Rattle.pm_wire.proofs.OneReading.{begins_more}
 use Rattle.pm_wire.proofs.Following.{follows_length}
 
 -- a prefix of what is due behind what was written before
 pub cut_short : (old new held holds held' : Option (List ℕ)) (input begun text due : List ℕ) (n : ℕ) → Consumes old new input →
-    Appends held holds begun → IsDue new input due →
+    Appends held holds begun → IsReplyDue new input due →
     begun ++ text ≡ due → n < length text → Appends holds held' (take n text) → IsCutShort old new held held'
 cut_short old new held holds held' input begun text due n consumes before is_due is proper appends =
     let P : List ℕ → Type 0 = λ l. Appends held held' l in
@@ -38,8 +38,8 @@ cut_short old new held holds held' input begun text due n consumes before is_due
 
 -- what `take_piece` says of a piece with a bad frame
 abbrev pub FindsBad : Decoding → Option Market → Decoding → Option Market → List ℕ → List ℕ → ℕ → Type 0
-FindsBad old market new after piece reply at = (bytes : List ℕ) (frames : List Frame) → Follows bytes frames old market →
-    (more : List Frame) × Follows (bytes ++ piece) (frames ++ more) new after
+FindsBad old market new after piece reply at = (bytes : List ℕ) (frames : List Frame) → AreBehind bytes frames old market →
+    (more : List Frame) × AreBehind (bytes ++ piece) (frames ++ more) new after
     × BeginsBadly new.place new.rest × (replies frames ++ reply ≡ replies (frames ++ more)) × (at ≡ new.offset)
 
 -- what is due then: a fault behind the answers to these frames
@@ -112,8 +112,8 @@ begun_by old mid new held holds held' a m count piece serving consumes same =
 
 -- what `take_piece` says of a piece without a bad frame
 abbrev pub TakesAll : Decoding → Option Market → Decoding → Option Market → List ℕ → List ℕ → Type 0
-TakesAll old market new after piece reply = (bytes : List ℕ) (frames : List Frame) → Follows bytes frames old market →
-    (more : List Frame) × Follows (bytes ++ piece) (frames ++ more) new after
+TakesAll old market new after piece reply = (bytes : List ℕ) (frames : List Frame) → AreBehind bytes frames old market →
+    (more : List Frame) × AreBehind (bytes ++ piece) (frames ++ more) new after
     × IsUnfinished new.place new.rest × (replies frames ++ reply ≡ replies (frames ++ more))
 
 pub piece_cut_short : (old mid new held holds held' : Option (List ℕ)) (a b : Decoding) (m n : Option Market) (count written : ℕ) (piece reply : List

@@ -4,18 +4,18 @@ use Rattle.std.proofs.Common.{IfSome, arith, append_assoc, length-append, inl, i
 use Rattle.pm_wire.specs.declared.frame.Frame.{Frame}
 use Rattle.pm_wire.specs.declared.market.Market.{Market}
 use Rattle.pm_wire.specs.Frames.{stream_bytes, place_behind, AllStand, BeginsWith, IsUnfinished, BeginsBadly}
-use Rattle.pm_wire.specs.Answers.{answers_behind, reply_bytes, market_behind, place_of}
+use Rattle.pm_wire.specs.Answers.{answers_behind, reply_bytes, market_behind, place_known}
 use Rattle.pm_wire.specs.Decoding.{Decoding, with_piece, nothing_fed}
-use Rattle.pm_wire.specs.Streams.{Takes, Agrees, Follows, replies}
-use Rattle.pm_wire.proofs.Taking.{all_stand-append, place_behind-append, market_behind-append, reply_bytes-append, stream_bytes-append, place_of-behind}
+use Rattle.pm_wire.specs.Streams.{Takes, Agrees, AreBehind, replies}
+use Rattle.pm_wire.proofs.Taking.{all_stand-append, place_behind-append, market_behind-append, reply_bytes-append, stream_bytes-append, place_known-behind}
 use Rattle.pm_wire.proofs.Taking.{clearings_behind, stream_length, fewer}
 
 -- nothing was fed
-pub follows_none : Follows [] [] nothing_fed None
+pub follows_none : AreBehind [] [] nothing_fed None
 follows_none = record { begins = record { stand = tt; spelled = refl }; place = refl; offset = refl; knows = refl }
 
 -- how many bytes were fed
-pub follows_length : (bytes : List ℕ) (frames : List Frame) (decoding : Decoding) (market : Option Market) → Follows bytes frames decoding market →
+pub follows_length : (bytes : List ℕ) (frames : List Frame) (decoding : Decoding) (market : Option Market) → AreBehind bytes frames decoding market →
     length bytes ≡ decoding.offset + length decoding.rest
 follows_length bytes frames decoding market follows = omega (
   arith,
@@ -26,20 +26,20 @@ follows_length bytes frames decoding market follows = omega (
 )
 
 -- the decoder and the market agree
-pub follows_agrees : (bytes : List ℕ) (frames : List Frame) (decoding : Decoding) (market : Option Market) → Follows bytes frames decoding market →
+pub follows_agrees : (bytes : List ℕ) (frames : List Frame) (decoding : Decoding) (market : Option Market) → AreBehind bytes frames decoding market →
     Agrees decoding market
 follows_agrees bytes frames decoding market follows =
     let Q : Option Market → Type 0 = λ known. IfSome known (λ k. k.index ≤ decoding.offset) in
     record {
-      place = ap (λ k. place_of k) follows.knows ∙ place_of-behind frames None follows.begins.stand ∙ sym follows.place;
+      place = ap (λ k. place_known k) follows.knows ∙ place_known-behind frames None follows.begins.stand ∙ sym follows.place;
       clearings = subst Q (sym follows.knows) (fewer (market_behind None frames) (0 + length frames) decoding.offset
           (omega (arith, follows.offset, stream_length frames None follows.begins.stand)) (clearings_behind frames None 0 follows.begins.stand tt));
     }
 
 -- with one more piece, and the frames that are whole with it
 pub follows_more : (bytes piece : List ℕ) (frames more : List Frame) (old new : Decoding) (market after : Option Market) (reply : List ℕ) →
-    Follows bytes frames old market →
-    Takes more (with_piece old piece) new market after reply → Follows (bytes ++ piece) (frames ++ more) new after
+    AreBehind bytes frames old market →
+    Takes more (with_piece old piece) new market after reply → AreBehind (bytes ++ piece) (frames ++ more) new after
 follows_more bytes piece frames more old new market after reply follows takes =
     let P : Option ℕ → Type 0 = λ place. AllStand place more in
     record {
@@ -62,7 +62,7 @@ follows_more bytes piece frames more old new market after reply follows takes =
     }
 
 pub follows_replies : (bytes : List ℕ) (frames more : List Frame) (old new : Decoding) (market after : Option Market) (reply : List ℕ) (piece : List ℕ)
-    → Follows bytes frames old market →
+    → AreBehind bytes frames old market →
     Takes more (with_piece old piece) new market after reply → replies frames ++ reply ≡ replies (frames ++ more)
 follows_replies bytes frames more old new market after reply piece follows takes =
     ap (λ l. replies frames ++ l) (takes.replied ∙ ap (λ k. reply_bytes (answers_behind k more)) follows.knows) ∙ sym (reply_bytes-append None frames more)

@@ -67,16 +67,13 @@ then_ok : {A E : Type 0} (test : Bool) (fault : E) (rest : Result A E) (value : 
 then_ok true fault rest value h = h
 then_ok false fault rest value h = absurd (cc h)
 
-passed : (at many : ℕ) → nat_lt at many ≡ false → many ≤ at
-passed at many h = grind (arith, nat_tests)
-
 -- an accepted bid has small demands
 pub accepted_small : (steps : ℕ) (demand : List ℤ) → checked_bid steps demand ≡ Ok demand → AllWithinLimit demand_limit demand
 accepted_small steps demand h =
     let falls = then_ok (length demand == steps) _ _ demand h in
     let large = else_ok (nat_lt (first_rising demand) (length demand)) _ _ demand falls in
     let small = else_ok (nat_lt (first_too_large demand) (length demand)) _ _ demand large.1 in
-    all_small demand (passed (first_too_large demand) (length demand) small.0)
+    all_small demand (grind (arith, nat_tests, small.0))
 
 -- what was appended to what was appended
 pub begun_more : (out0 out out' more reply : List ℕ) → out ≡ out0 ++ more → out' ≡ out ++ reply → (all : List ℕ) × (out' ≡ out0 ++ all)

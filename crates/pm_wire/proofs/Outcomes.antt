@@ -9,7 +9,7 @@ use Rattle.pm_wire.specs.declared.frame.Frame.{Frame}
 use Rattle.pm_wire.specs.declared.stream.Served.{Served}
 use Rattle.pm_wire.specs.declared.stream.Served.TheVariants.{Done, Refused, TooLong, ReadFault, WriteFault, NoMemory}
 use Rattle.pm_wire.specs.Frames.{stream_bytes, place_behind, BeginsWith, AreFrames, IsUnfinished, BeginsBadly, HasBadFrame, EndsWithin, Stops}
-use Rattle.pm_wire.specs.Streams.{stream_limit, replies, replies_and_fault, HasFrames, HasFault, EndsInside, IsDone, IsRefused, IsAnswered, IsTooLong}
+use Rattle.pm_wire.specs.Streams.{stream_limit, replies, replies_and_fault, HasFrames, HasFault, EndsInside, IsDone, IsRefused, IsAnswered, IsLongStream}
 use Rattle.pm_wire.specs.Streams.{FailsReading}
 use Rattle.pm_wire.proofs.OneReading.{same_reading, bad_or_unfinished, frames_not_bad, frames_not_within, bad_stays, begins_more}
 use Rattle.pm_wire.proofs.Places.{bad_more}
@@ -18,7 +18,7 @@ use Rattle.pm_wire.proofs.Places.{bad_more}
 pub record Outcomes (old new held holds : Option (List ℕ)) (rose_source rose_sink : Type 0) (result : Served) : Type 0 where
   pub done : result ≡ Done → IsDone old new held holds
   pub refused : result ≡ Refused → IsRefused old new held holds
-  pub too_long : result ≡ TooLong → IsTooLong old new held holds
+  pub too_long : result ≡ TooLong → IsLongStream old new held holds
   pub read_fault : result ≡ ReadFault → rose_source × FailsReading old new held holds
   pub write_fault : result ≡ WriteFault → rose_sink
 

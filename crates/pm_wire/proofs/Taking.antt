@@ -10,8 +10,8 @@ use Rattle.pm_wire.specs.declared.frame.Frame.{Frame}
 use Rattle.pm_wire.specs.declared.frame.Frame.TheVariants.{Hello, Bid, Gone, Clear}
 use Rattle.pm_wire.specs.declared.market.Market.{Market}
 use Rattle.pm_wire.specs.Frames.{frame_bytes, stream_bytes, place_after, place_behind, MayStand, AllStand, BeginsBadly}
-use Rattle.pm_wire.specs.Answers.{open_market, counted, cleared, market_after, market_behind, answers_to, answers_behind, answer_bytes, reply_bytes}
-use Rattle.pm_wire.specs.Answers.{place_of}
+use Rattle.pm_wire.specs.Answers.{open_market, after_entry, after_clear, market_after, market_behind, answers_to, answers_behind, answer_bytes, reply_bytes}
+use Rattle.pm_wire.specs.Answers.{place_known}
 use Rattle.pm_wire.specs.Decoding.{Decoding, GivesFrame, with_refusal}
 use Rattle.pm_wire.specs.Streams.{Takes, Agrees}
 use Rattle.pm_wire.proofs.Places.{frame_length}
@@ -113,20 +113,20 @@ cleared_index market true = omega arith
 cleared_index market false = omega arith
 
 -- the basis is that of Hello
-place_of-after : (market : Option Market) (frame : Frame) → MayStand (place_of market) frame →
-    place_of (market_after market frame) ≡ place_after (place_of market) frame
+place_known-after : (market : Option Market) (frame : Frame) → MayStand (place_known market) frame →
+    place_known (market_after market frame) ≡ place_after (place_known market) frame
 unfolding open_market
-place_of-after None (Hello basis) stands = refl
-place_of-after None (Bid child number demand) stands = absurd stands.formed
-place_of-after None (Gone child number) stands = absurd stands.formed
-place_of-after None Clear stands = absurd stands.formed
-place_of-after (Some market) (Hello basis) stands = absurd stands.formed
-place_of-after (Some market) (Bid child number demand) stands = ap (λ n. Some n) (learnt_steps market.cache _ number (Some demand) _)
-place_of-after (Some market) (Gone child number) stands = ap (λ n. Some n) (learnt_steps market.cache _ number None _)
-place_of-after (Some market) Clear stands = ap (λ n. Some n) (cleared_steps market market.changed)
+place_known-after None (Hello basis) stands = refl
+place_known-after None (Bid child number demand) stands = absurd stands.formed
+place_known-after None (Gone child number) stands = absurd stands.formed
+place_known-after None Clear stands = absurd stands.formed
+place_known-after (Some market) (Hello basis) stands = absurd stands.formed
+place_known-after (Some market) (Bid child number demand) stands = ap (λ n. Some n) (learnt_steps market.cache _ number (Some demand) _)
+place_known-after (Some market) (Gone child number) stands = ap (λ n. Some n) (learnt_steps market.cache _ number None _)
+place_known-after (Some market) Clear stands = ap (λ n. Some n) (cleared_steps market market.changed)
 
 -- a frame makes at most one clearing
-clearings_after : (market : Option Market) (frame : Frame) (offset : ℕ) → MayStand (place_of market) frame → IfSome market (λ known. known.index ≤ offset) →
+clearings_after : (market : Option Market) (frame : Frame) (offset : ℕ) → MayStand (place_known market) frame → IfSome market (λ known. known.index ≤ offset) →
     IfSome (market_after market frame) (λ known. known.index ≤ offset + 1)
 unfolding open_market
 clearings_after None (Hello basis) offset stands few = omega arith
@@ -153,21 +153,21 @@ stream_length (f ∷ fs) place all = omega (
 )
 
 -- the market of frames knows their basis
-pub place_of-behind : (fs : List Frame) (market : Option Market) → AllStand (place_of market) fs →
-    place_of (market_behind market fs) ≡ place_behind (place_of market) fs
-place_of-behind [] market all = refl
-place_of-behind (f ∷ fs) market all =
-    let same = place_of-after market f all.0 in
+pub place_known-behind : (fs : List Frame) (market : Option Market) → AllStand (place_known market) fs →
+    place_known (market_behind market fs) ≡ place_behind (place_known market) fs
+place_known-behind [] market all = refl
+place_known-behind (f ∷ fs) market all =
+    let same = place_known-after market f all.0 in
     let P : Option ℕ → Type 0 = λ place. AllStand place fs in
-    place_of-behind fs (market_after market f) (subst P (sym same) all.1) ∙ ap (λ p. place_behind p fs) same
+    place_known-behind fs (market_after market f) (subst P (sym same) all.1) ∙ ap (λ p. place_behind p fs) same
 
-pub clearings_behind : (fs : List Frame) (market : Option Market) (offset : ℕ) → AllStand (place_of market) fs → IfSome market (λ known. known.index ≤ offset) →
+pub clearings_behind : (fs : List Frame) (market : Option Market) (offset : ℕ) → AllStand (place_known market) fs → IfSome market (λ known. known.index ≤ offset) →
     IfSome (market_behind market fs) (λ known. known.index ≤ offset + length fs)
 clearings_behind [] market offset all few = fewer market offset (offset + 0) (omega arith) few
 clearings_behind (f ∷ fs) market offset all few =
     let P : Option ℕ → Type 0 = λ place. AllStand place fs in
     fewer (market_behind (market_after market f) fs) (offset + 1 + length fs) (offset + length (f ∷ fs)) (omega arith)
-    (clearings_behind fs (market_after market f) (offset + 1) (subst P (sym (place_of-after market f all.0)) all.1) (clearings_after market f
+    (clearings_behind fs (market_after market f) (offset + 1) (subst P (sym (place_known-after market f all.0)) all.1) (clearings_after market f
     offset all.0 few))
 
 -- what a decoder and a market agree on they agree on behind frames
@@ -176,9 +176,9 @@ pub agrees_more : (fs : List Frame) (old new : Decoding) (market after : Option 
 agrees_more fs old new market after reply takes agrees =
     let P : Option ℕ → Type 0 = λ place. AllStand place fs in
     let Q : Option Market → Type 0 = λ known. IfSome known (λ k. k.index ≤ new.offset) in
-    let stand : AllStand (place_of market) fs = subst P (sym agrees.place) takes.stand in
+    let stand : AllStand (place_known market) fs = subst P (sym agrees.place) takes.stand in
     record {
-      place = ap (λ k. place_of k) takes.knows ∙ place_of-behind fs market stand ∙ ap (λ p. place_behind p fs) agrees.place ∙ sym takes.place;
+      place = ap (λ k. place_known k) takes.knows ∙ place_known-behind fs market stand ∙ ap (λ p. place_behind p fs) agrees.place ∙ sym takes.place;
       clearings = subst Q (sym takes.knows) (fewer (market_behind market fs) (old.offset + length fs) new.offset
           (omega (arith, takes.offset, stream_length fs old.place takes.stand)) (clearings_behind fs market old.offset stand agrees.clearings));
     }

@@ -35,32 +35,32 @@ unfoldable pub open_market : ℕ → Market
 open_market steps = record { cache = empty_cache most_nodes steps; index = 0; changed = false }
 
 -- children count from 1 on the stream, and from 0 among the entries
-abbrev pub entry_of : ℕ → ℕ
-entry_of child = child - 1
+abbrev pub child_entry : ℕ → ℕ
+child_entry child = child - 1
 
 -- the greatest number of a Bid or Gone of a child so far, 0 where there is none
 abbrev pub number_kept : Market → ℕ → ℕ
-number_kept market child = kept_number market.cache (entry_of child)
+number_kept market child = kept_number market.cache (child_entry child)
 
 -- a Bid or Gone counts where its number is above the child's; a market has changed where one counted since the last clearing
-abbrev pub counted : Market → ℕ → ℕ → Option (List ℤ) → Market
-counted market child number demand = record {
-  cache = learnt market.cache (entry_of child) number demand;
+abbrev pub after_entry : Market → ℕ → ℕ → Option (List ℤ) → Market
+after_entry market child number demand = record {
+  cache = learnt market.cache (child_entry child) number demand;
   index = market.index;
   changed = market.changed || not (nat_le number (number_kept market child));
 }
 
 -- a clearing of a market that has changed
-abbrev pub cleared : Market → Market
-cleared market = if market.changed then record { cache = market.cache; index = market.index + 1; changed = false } else market
+abbrev pub after_clear : Market → Market
+after_clear market = if market.changed then record { cache = market.cache; index = market.index + 1; changed = false } else market
 
 -- what is known after a frame: nothing before Hello
 abbrev pub market_after : Option Market → Frame → Option Market
 market_after market (Hello basis) = Some (open_market basis.steps)
 market_after None frame = None
-market_after (Some market) (Bid child number demand) = Some (counted market child number (Some demand))
-market_after (Some market) (Gone child number) = Some (counted market child number None)
-market_after (Some market) Clear = Some (cleared market)
+market_after (Some market) (Bid child number demand) = Some (after_entry market child number (Some demand))
+market_after (Some market) (Gone child number) = Some (after_entry market child number None)
+market_after (Some market) Clear = Some (after_clear market)
 
 -- ---- what is answered
 
@@ -103,6 +103,6 @@ abbrev pub answers : List Frame → List Answer
 answers frames = answers_behind None frames
 
 -- the place in the stream at which what is known leaves it
-abbrev pub place_of : Option Market → Option ℕ
-place_of None = None
-place_of (Some market) = Some market.cache.steps
+abbrev pub place_known : Option Market → Option ℕ
+place_known None = None
+place_known (Some market) = Some market.cache.steps

@@ -6,7 +6,7 @@ use Rattle.pm_wire.specs.declared.frame.Frame.{Frame}
 use Rattle.pm_wire.specs.declared.answer.Answer.TheVariants.{Fault}
 use Rattle.pm_wire.specs.declared.market.Market.{Market}
 use Rattle.pm_wire.specs.Frames.{stream_bytes, place_behind, AllStand, BeginsWith, AreFrames, IsUnfinished, BeginsBadly}
-use Rattle.pm_wire.specs.Answers.{answers, answers_behind, answer_bytes, reply_bytes, market_behind, place_of}
+use Rattle.pm_wire.specs.Answers.{answers, answers_behind, answer_bytes, reply_bytes, market_behind, place_known}
 use Rattle.pm_wire.specs.Decoding.{Decoding}
 
 -- the most bytes of an input
@@ -41,9 +41,9 @@ pub record HasFault (new : Option (List ℕ)) (bytes : List ℕ) (frames : List 
   pub bad : BeginsBadly (place_behind None frames) rest ⊎ EndsInside new bytes (place_behind None frames) rest
 
 -- what is due for the bytes taken: the answers to their frames, and a fault where there is one
-pub data IsDue (new : Option (List ℕ)) (bytes : List ℕ) : List ℕ → Type 0 where
-  answered : (frames : List Frame) → HasFrames bytes frames → IsDue new bytes (replies frames)
-  refused : (frames : List Frame) → HasFault new bytes frames → IsDue new bytes (replies_and_fault frames)
+pub data IsReplyDue (new : Option (List ℕ)) (bytes : List ℕ) : List ℕ → Type 0 where
+  answered : (frames : List Frame) → HasFrames bytes frames → IsReplyDue new bytes (replies frames)
+  refused : (frames : List Frame) → HasFault new bytes frames → IsReplyDue new bytes (replies_and_fault frames)
 
 -- Done: the input was read to its end and is a list of frames
 pub record IsDone (old new held holds : Option (List ℕ)) : Type 0 where
@@ -75,7 +75,7 @@ abbrev pub FailsReading : Option (List ℕ) → Option (List ℕ) → Option (Li
 FailsReading old new held holds = (input : List ℕ) × IsAnswered old new held holds input × (length input ≤ stream_limit)
 
 -- TooLong: more bytes than the limit were taken
-pub record IsTooLong (old new held holds : Option (List ℕ)) : Type 0 where
+pub record IsLongStream (old new held holds : Option (List ℕ)) : Type 0 where
   pub input : List ℕ
   pub answered : IsAnswered old new held holds input
   pub long : stream_limit < length input
@@ -86,7 +86,7 @@ pub record IsCutShort (old new held holds : Option (List ℕ)) : Type 0 where
   pub due : List ℕ
   pub written : ℕ
   pub consumes : Consumes old new input
-  pub is_due : IsDue new input due
+  pub is_due : IsReplyDue new input due
   pub proper : written < length due
   pub appends : Appends held holds (take written due)
 
@@ -102,7 +102,7 @@ pub record IsBegun (old new held holds : Option (List ℕ)) : Type 0 where
 -- ---- on the way
 
 -- the decoder and the server are where these frames leave them, at the front of the bytes fed
-pub record Follows (bytes : List ℕ) (frames : List Frame) (decoding : Decoding) (market : Option Market) : Type 0 where
+pub record AreBehind (bytes : List ℕ) (frames : List Frame) (decoding : Decoding) (market : Option Market) : Type 0 where
   pub begins : BeginsWith bytes frames decoding.rest
   pub place : decoding.place ≡ place_behind None frames
   pub offset : decoding.offset ≡ length (stream_bytes frames)
@@ -120,7 +120,7 @@ pub record Takes (frames : List Frame) (old new : Decoding) (market after : Opti
 
 -- the market is one that a decoder of so many bytes leaves: it knows the same basis, and has no more clearings than bytes
 pub record Agrees (decoding : Decoding) (market : Option Market) : Type 0 where
-  pub place : place_of market ≡ decoding.place
+  pub place : place_known market ≡ decoding.place
   pub clearings : IfSome market (λ known. known.index ≤ decoding.offset)
 
 -- So far: the bytes taken were fed and counted, all their whole frames were answered, and no bad frame shows.
@@ -129,6 +129,6 @@ pub record Serving (old new held holds : Option (List ℕ)) (decoding : Decoding
   pub frames : List Frame
   pub consumes : Consumes old new input
   pub counted : count ≡ length input
-  pub follows : Follows input frames decoding market
+  pub follows : AreBehind input frames decoding market
   pub unfinished : IsUnfinished decoding.place decoding.rest
   pub appends : Appends held holds (replies frames)

@@ -1,7 +1,7 @@
 ghost use Rattle.std.specs.Prelude.{◌≡◌, ◌+◌, ◌<◌, ◌≤◌, ◌++◌, ℕ, List, [], length, OnOk, IfErr};
 ghost use Rattle.pm_wire.specs.declared.frame.Frame.{Frame};
 ghost use Rattle.pm_wire.specs.Frames.{IsUnfinished, BeginsBadly};
-ghost use Rattle.pm_wire.specs.Streams.{Takes, Agrees, Follows, replies};
+ghost use Rattle.pm_wire.specs.Streams.{Takes, Agrees, AreBehind, replies};
 
 use crate::decoder::Decoder;
 use crate::fault::DecodeFault;
@@ -36,16 +36,16 @@ pub(crate) fn take_piece(
     piece: &[u8],
     out: &mut Vec<u8>,
 ) -> Result<(), DecodeFault>
-    requires follows { (bytes : List ℕ) × (frames : List Frame) × Follows bytes frames decoder.old server.old }
+    requires follows { (bytes : List ℕ) × (frames : List Frame) × AreBehind bytes frames decoder.old server.old }
     requires fits { decoder.old.offset + length decoder.old.rest + length piece.now < 2147483648 }
     requires empty { out.old.items ≡ [] }
-    ensures taken { OnOk result ((bytes : List ℕ) (frames : List Frame) → Follows bytes frames decoder.old server.old
-        → (more : List Frame) × Follows (bytes ++ piece.now) (frames ++ more) decoder.new server.new
+    ensures taken { OnOk result ((bytes : List ℕ) (frames : List Frame) → AreBehind bytes frames decoder.old server.old
+        → (more : List Frame) × AreBehind (bytes ++ piece.now) (frames ++ more) decoder.new server.new
         × IsUnfinished decoder.new.place decoder.new.rest
         × (replies frames ++ out.new.items ≡ replies (frames ++ more))) }
     ensures bad { IfErr result (λ fault. (at : ℕ) → fault ≡ DecodeFault.Bad at
-        → (bytes : List ℕ) (frames : List Frame) → Follows bytes frames decoder.old server.old
-        → (more : List Frame) × Follows (bytes ++ piece.now) (frames ++ more) decoder.new server.new
+        → (bytes : List ℕ) (frames : List Frame) → AreBehind bytes frames decoder.old server.old
+        → (more : List Frame) × AreBehind (bytes ++ piece.now) (frames ++ more) decoder.new server.new
         × BeginsBadly decoder.new.place decoder.new.rest
         × (replies frames ++ out.new.items ≡ replies (frames ++ more))
         × (at ≡ decoder.new.offset)) }

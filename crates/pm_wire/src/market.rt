@@ -4,7 +4,7 @@ ghost use Rattle.pm_base.specs.Limits.{AreSteps, demand_limit};
 ghost use Rattle.pm_bid.specs.Bids.{AllWithinLimit};
 ghost use Rattle.pm_cache.specs.Learning.{offered};
 ghost use Rattle.pm_wire.specs.Frames.{MayStand};
-ghost use Rattle.pm_wire.specs.Answers.{open_market, counted, cleared, receipt, price_for, prices, reply_bytes, answers_to, market_after};
+ghost use Rattle.pm_wire.specs.Answers.{open_market, after_entry, after_clear, receipt, price_for, prices, reply_bytes, answers_to, market_after};
 ghost use Rattle.pm_wire.specs.ServerFields.{IsMarket};
 
 use crate::answer::Answer;
@@ -94,7 +94,7 @@ impl Market {
         requires last { child ≤ length self.old.cache.heads }
         requires steps { length (offered self.old.cache (option_copied demand)) ≡ self.old.cache.steps }
         requires small { AllWithinLimit demand_limit (offered self.old.cache (option_copied demand)) }
-        ensures counted { OnOk result (self.new ≡ counted self.old child number (option_copied demand.entry)) }
+        ensures counted { OnOk result (self.new ≡ after_entry self.old child number (option_copied demand.entry)) }
         ensures answered { OnOk result (out.new.items ≡ out.old.items ++ reply_bytes (receipt self.old child number)) }
         ensures unchanged { OnErr result ((self.new ≡ self.old) × (out.new.items ≡ out.old.items)) }
         ensures sound { IsMarket self.new }
@@ -115,7 +115,7 @@ impl Market {
     fn clear(&mut self, out: &mut Vec<u8>) -> Result<(), AllocError>
         requires sound { IsMarket self.old }
         requires index { self.old.index + 1 < 2 ^ 32 }
-        ensures cleared { OnOk result (self.new ≡ cleared self.old) }
+        ensures cleared { OnOk result (self.new ≡ after_clear self.old) }
         ensures answered { OnOk result (out.new.items ≡ out.old.items ++ reply_bytes (answers_to (Some self.old) Frame.Clear)) }
         ensures unchanged { OnErr result ((self.new ≡ self.old) × (out.new.items ≡ out.old.items)) }
         ensures sound { IsMarket self.new }

@@ -1,6 +1,6 @@
 ghost use Rattle.std.specs.Prelude.{◌≡◌, ◌<◌, ◌++◌, ◌^◌, IfSome, OnOk, OnErr, None};
 ghost use Rattle.pm_wire.specs.Frames.{MayStand};
-ghost use Rattle.pm_wire.specs.Answers.{market_after, answers_to, reply_bytes, place_of};
+ghost use Rattle.pm_wire.specs.Answers.{market_after, answers_to, reply_bytes, place_known};
 
 use crate::frame::Frame;
 use crate::market::Market;
@@ -43,7 +43,7 @@ impl Server {
     /// Takes the next frame, and appends the bytes of the answers to it. The frame may stand where the frames taken end, and
     /// fewer than 2,147,483,648 clearings came before. Where an allocation fails nothing changes and nothing is appended.
     pub fn take(&mut self, frame: &Frame, out: &mut Vec<u8>) -> Result<(), AllocError>
-        requires stands { MayStand (place_of self.old) frame.now }
+        requires stands { MayStand (place_known self.old) frame.now }
         requires clearings { IfSome self.old (λ market. market.index < 2147483648) }
         ensures taken { OnOk result (self.new ≡ market_after self.old frame.now) }
         ensures answered { OnOk result (out.new.items ≡ out.old.items ++ reply_bytes (answers_to self.old frame.now)) }

@@ -6,7 +6,7 @@ ghost use Rattle.pm_wire.specs.declared.frame.Frame.{Frame};
 ghost use Rattle.pm_wire.specs.Frames.{AreFrames, HasBadFrame, EndsWithin};
 ghost use Rattle.pm_wire.specs.declared.answer.Answer.TheVariants.{Fault};
 ghost use Rattle.pm_wire.specs.Answers.{answer_bytes};
-ghost use Rattle.pm_wire.specs.Streams.{stream_limit, IsDone, IsRefused, IsTooLong, IsCutShort, IsBegun, FailsReading};
+ghost use Rattle.pm_wire.specs.Streams.{stream_limit, IsDone, IsRefused, IsLongStream, IsCutShort, IsBegun, FailsReading};
 
 use crate::answer::Answer;
 use crate::decoder::Decoder;
@@ -81,7 +81,7 @@ fn run<S: Source, K: Sink>(alloc: Global, source: &mut S, sink: &mut K) -> Serve
     ensures refused { result ≡ Served.Refused
         → IsRefused (S.left source.old) (S.left source.new) (K.held sink.old) (K.held sink.new) }
     ensures too_long { result ≡ Served.TooLong
-        → IsTooLong (S.left source.old) (S.left source.new) (K.held sink.old) (K.held sink.new) }
+        → IsLongStream (S.left source.old) (S.left source.new) (K.held sink.old) (K.held sink.new) }
     ensures read_fault { result ≡ Served.ReadFault → Rose (S.faults source.old) (S.faults source.new)
         × FailsReading (S.left source.old) (S.left source.new) (K.held sink.old) (K.held sink.new) }
     ensures write_fault { result ≡ Served.WriteFault → Rose (K.faults sink.old) (K.faults sink.new)
@@ -133,7 +133,7 @@ pub fn serve<S: Source, K: Sink>(alloc: Global, source: &mut S, sink: &mut K) ->
     ensures refused { result ≡ Served.Refused
         → IsRefused (S.left source.old) (S.left source.new) (K.held sink.old) (K.held sink.new) }
     ensures too_long { result ≡ Served.TooLong
-        → IsTooLong (S.left source.old) (S.left source.new) (K.held sink.old) (K.held sink.new) }
+        → IsLongStream (S.left source.old) (S.left source.new) (K.held sink.old) (K.held sink.new) }
     ensures read_fault { result ≡ Served.ReadFault → Rose (S.faults source.old) (S.faults source.new)
         × FailsReading (S.left source.old) (S.left source.new) (K.held sink.old) (K.held sink.new) }
     ensures write_fault { result ≡ Served.WriteFault → Rose (K.faults sink.old) (K.faults sink.new)

@@ -1,7 +1,7 @@
 use Rattle.std.proofs.Common.{◌≡◌, ◌<◌, subst, ℕ, List, Option, Some, length}
 use Rattle.pm_io.specs.Taken.{taken}
 use Rattle.pm_wire.specs.Frames.{HasBadFrame}
-use Rattle.pm_wire.specs.Streams.{stream_limit, IsDone, IsRefused, IsTooLong, IsCutShort, FailsReading}
+use Rattle.pm_wire.specs.Streams.{stream_limit, IsDone, IsRefused, IsLongStream, IsCutShort, FailsReading}
 use Rattle.pm_wire.specs.declared.stream.Served.{Served}
 use Rattle.pm_wire.specs.declared.stream.Served.TheVariants.{Done, Refused, TooLong, ReadFault, WriteFault}
 use Rattle.pm_wire.proofs.Outcomes.{Outcomes, bad_frame, took_more, frames, refusal}
@@ -9,7 +9,7 @@ use Rattle.pm_wire.proofs.stream.serve.Goals as goal
 
 -- what was said of the statuses, of a source that tells all that it has
 said : (all : List ℕ) (old new held holds : Option (List ℕ)) (r k : Type 0) (result : Served) → old ≡ Some all → (result ≡ Done → IsDone old new held holds) →
-    (result ≡ Refused → IsRefused old new held holds) → (result ≡ TooLong → IsTooLong old new held holds) → (result ≡ ReadFault →
+    (result ≡ Refused → IsRefused old new held holds) → (result ≡ TooLong → IsLongStream old new held holds) → (result ≡ ReadFault →
     r × FailsReading old new held holds) →
     (result ≡ WriteFault → k × IsCutShort old new held holds) → Outcomes (Some all) new held holds r k result
 said all old new held holds r k result is done refused too_long read_fault write_fault =
