@@ -134,7 +134,19 @@ def never_reads(address):
     return f"it could send {sent} bytes, and then no more; another client then had {other}"
 
 
-CLIENTS = [half_a_frame, garbage, flood, never_reads]
+def last_answers(address, times=100):
+    """Clients that stop within a frame, one behind the other: each has to be told, though the program ends at once."""
+    for _ in range(times):
+        one = connected(address)
+        one.sendall(HELLO + b"\x02\x00")
+        one.shutdown(socket.SHUT_WR)
+        answer = read_to_end(one)
+        assert answer == struct.pack(">BQ", 8, len(HELLO)), answer
+        one.close()
+    return f"all of {times} bad frames were told"
+
+
+CLIENTS = [half_a_frame, last_answers, garbage, flood, never_reads]
 
 
 def wait_for(address):
@@ -186,9 +198,9 @@ def try_sockets(words, folder):
     if shutil.which("socat"):
         port, path = free_port(), f"{folder}/market.socket"
         listen = f"TCP-LISTEN:{port},bind=127.0.0.1,reuseaddr,fork,max-children=16,nodelay,keepalive"
-        try_address("socat over TCP", ["socat", "-t", "60", listen, f"EXEC:{quoted}"], f"127.0.0.1:{port}")
+        try_address("socat over TCP", ["socat", listen, f"EXEC:{quoted},nofork"], f"127.0.0.1:{port}")
         listen = f"UNIX-LISTEN:{path},fork,mode=660,max-children=16"
-        try_address("socat over a socket's path", ["socat", "-t", "60", listen, f"EXEC:{quoted}"], path)
+        try_address("socat over a socket's path", ["socat", listen, f"EXEC:{quoted},nofork"], path)
     if shutil.which("systemd-socket-activate"):
         port = free_port()
         activate = ["systemd-socket-activate", "--accept", "--inetd", "-l", f"127.0.0.1:{port}", *words]

@@ -18,7 +18,7 @@ use Rattle.pm_plan.specs.Market.{plan_lists}
 use Rattle.pm_plan.proofs.MarketLists.{lawful}
 use Rattle.pm_offer.specs.Offers.{local_at}
 use Rattle.pm_report.specs.Trace.{move_line, moves_line}
-use Rattle.pm_check.specs.Traces.{journal_lines, next_line, count_line, IsDue, in_report, next_move, count, AreDue}
+use Rattle.pm_check.specs.Traces.{journal_lines, next_line, count_line, IsLineDue, in_report, next_move, count, AreLinesDue}
 use Rattle.pm_check.proofs.RunLines.{no_count, same_moves}
 
 -- ---- lists
@@ -64,17 +64,17 @@ pub journal_push : (plan : PlanData) (journal : List Move) (m : Move) →
 journal_push plan journal m = lines_push plan journal m start
 
 -- where a line is due after lines that are due, all of them are
-pub due_push : (plan : PlanData) (report trace : List (List ℕ)) (line : List ℕ) → AreDue plan report trace → IsDue plan report trace line →
-    AreDue plan report (trace ++ line ∷ [])
+pub due_push : (plan : PlanData) (report trace : List (List ℕ)) (line : List ℕ) → AreLinesDue plan report trace → IsLineDue plan report trace line →
+    AreLinesDue plan report (trace ++ line ∷ [])
 due_push plan report trace line due next before more other same =
     elim (split_push trace before more line other same) [
       | inl last ↦
-          subst (λ (l : List ℕ). IsDue plan report before l) (sym last.1) (subst (λ (ls : List (List ℕ)). IsDue plan report ls line) (sym last.0) next)
+          subst (λ (l : List ℕ). IsLineDue plan report before l) (sym last.1) (subst (λ (ls : List (List ℕ)). IsLineDue plan report ls line) (sym last.0) next)
       | inr inside ↦ due before inside.0 other inside.1
     ]
 
 -- the first lines of the report are due
-pub report_due : (plan : PlanData) (report done later : List (List ℕ)) → report ≡ done ++ later → AreDue plan report done
+pub report_due : (plan : PlanData) (report done later : List (List ℕ)) → report ≡ done ++ later → AreLinesDue plan report done
 report_due plan report done later parts before more line same =
     in_report (more ++ later) (parts ∙ ap (λ l. l ++ later) same ∙ append_assoc before (line ∷ more) later)
 
@@ -104,32 +104,32 @@ module _ (plan : PlanData) (is_plan : IsPlan plan) where
 
   -- the line of a move that is legal after a journal is due
   move_due : (report : List (List ℕ)) (journal : List Move) (m : Move) → LegalJournal lists journal → Legal lists (after lists journal) m →
-      IsDue plan report (report ++ journal_lines plan journal) (next_line plan journal m)
+      IsLineDue plan report (report ++ journal_lines plan journal) (next_line plan journal m)
   move_due report journal m legal next =
       next_move journal m refl legal (λ complete. no_more lists (after lists journal) m (sound_after lists law journal legal) complete next) next refl
 
   journal_due_from : (report : List (List ℕ)) (front back : List Move) → LegalJournal lists (front ++ back) →
-      AreDue plan report (report ++ journal_lines plan front) →
-      AreDue plan report (report ++ journal_lines plan (front ++ back))
-  journal_due_from report front [] legal due = subst (λ (j : List Move). AreDue plan report (report ++ journal_lines plan j)) (sym (append-nil front)) due
+      AreLinesDue plan report (report ++ journal_lines plan front) →
+      AreLinesDue plan report (report ++ journal_lines plan (front ++ back))
+  journal_due_from report front [] legal due = subst (λ (j : List Move). AreLinesDue plan report (report ++ journal_lines plan j)) (sym (append-nil front)) due
   journal_due_from report front (m ∷ back) legal due =
       let again : front ++ m ∷ back ≡ (front ++ m ∷ []) ++ back = sym (append_assoc front (m ∷ []) back) in
       let parts = legal_parts lists front (m ∷ back) start legal in
       let next = due_push plan report (report ++ journal_lines plan front) (next_line plan front m) due (move_due report front m parts.0 parts.1.0) in
       let more : (report ++ journal_lines plan front) ++ next_line plan front m ∷ [] ≡ report ++ journal_lines plan (front ++ m ∷ []) =
       append_assoc report (journal_lines plan front) (next_line plan front m ∷ []) ∙ ap (λ l. report ++ l) (sym (journal_push plan front m)) in
-      subst (λ (j : List Move). AreDue plan report (report ++ journal_lines plan j)) (sym again)
-      (journal_due_from report (front ++ m ∷ []) back (subst (LegalJournal lists) again legal) (subst (AreDue plan report) more next))
+      subst (λ (j : List Move). AreLinesDue plan report (report ++ journal_lines plan j)) (sym again)
+      (journal_due_from report (front ++ m ∷ []) back (subst (LegalJournal lists) again legal) (subst (AreLinesDue plan report) more next))
 
   -- the lines of the report and of a legal journal are due
-  pub journal_due : (report : List (List ℕ)) (journal : List Move) → LegalJournal lists journal → AreDue plan report (report ++ journal_lines plan journal)
+  pub journal_due : (report : List (List ℕ)) (journal : List Move) → LegalJournal lists journal → AreLinesDue plan report (report ++ journal_lines plan journal)
   journal_due report journal legal =
       journal_due_from report [] journal legal
-      (subst (AreDue plan report) (sym (append-nil report)) (report_due plan report report [] (sym (append-nil report))))
+      (subst (AreLinesDue plan report) (sym (append-nil report)) (report_due plan report report [] (sym (append-nil report))))
 
   -- and behind a complete journal the line with the number of moves
   pub count_due : (report : List (List ℕ)) (journal : List Move) → LegalJournal lists journal → IsComplete lists journal →
-      AreDue plan report ((report ++ journal_lines plan journal) ++ count_line plan journal ∷ [])
+      AreLinesDue plan report ((report ++ journal_lines plan journal) ++ count_line plan journal ∷ [])
   count_due report journal legal complete =
       due_push plan report (report ++ journal_lines plan journal) (count_line plan journal) (journal_due report journal legal)
       (count journal refl legal complete refl)
@@ -138,7 +138,7 @@ module _ (plan : PlanData) (is_plan : IsPlan plan) where
 
   -- behind a legal journal that is not complete: what tells no move that is legal after it
   pub no_move_due : (report : List (List ℕ)) (journal : List Move) (line : List ℕ) → LegalJournal lists journal → ¬ (IsComplete lists journal) →
-      ((m : Move) → Legal lists (after lists journal) m → line ≢ next_line plan journal m) → IsDue plan report (report ++ journal_lines plan journal) line → ⊥
+      ((m : Move) → Legal lists (after lists journal) m → line ≢ next_line plan journal m) → IsLineDue plan report (report ++ journal_lines plan journal) line → ⊥
   no_move_due report journal line legal going none (in_report more parts) = longer report (journal_lines plan journal) more line parts
   no_move_due report journal line legal going none (next_move other m parts other_legal other_goes next tells) =
       let same = same_moves plan is_plan other journal other_legal legal
@@ -151,7 +151,7 @@ module _ (plan : PlanData) (is_plan : IsPlan plan) where
 
   -- behind a complete journal: what is not the line with its number of moves
   pub no_count_due : (report : List (List ℕ)) (journal : List Move) (line : List ℕ) → LegalJournal lists journal → IsComplete lists journal →
-      line ≢ count_line plan journal → IsDue plan report (report ++ journal_lines plan journal) line → ⊥
+      line ≢ count_line plan journal → IsLineDue plan report (report ++ journal_lines plan journal) line → ⊥
   no_count_due report journal line legal complete other_line (in_report more parts) = longer report (journal_lines plan journal) more line parts
   no_count_due report journal line legal complete other_line (next_move other m parts other_legal other_goes next tells) =
       let same = same_moves plan is_plan other journal other_legal legal
@@ -173,7 +173,7 @@ module _ (plan : PlanData) (is_plan : IsPlan plan) where
 
   -- behind the line with the number of moves nothing is due
   pub nothing_due : (report : List (List ℕ)) (journal : List Move) (line : List ℕ) →
-      IsDue plan report ((report ++ journal_lines plan journal) ++ count_line plan journal ∷ []) line → ⊥
+      IsLineDue plan report ((report ++ journal_lines plan journal) ++ count_line plan journal ∷ []) line → ⊥
   nothing_due report journal line (in_report more parts) =
       longer report (journal_lines plan journal ++ count_line plan journal ∷ []) more line
       (parts ∙ ap (λ l. l ++ line ∷ more) (append_assoc report (journal_lines plan journal) (count_line plan journal ∷ [])))

@@ -20,7 +20,7 @@ use Rattle.pm_offer.specs.Offers.{local_at}
 use Rattle.pm_report.specs.Trace.{move_line}
 use Rattle.pm_envelope.specs.Lines.{HasNoLineFeed}
 use Rattle.pm_check.specs.Lines.{IsWholeLine, joined, AreLinesOf}
-use Rattle.pm_check.specs.Traces.{journal_lines, next_line, count_line, IsDue, in_report, next_move, count, AreDue, IsValidTrace, IsBadAmong, not_due, no_end, missing, IsBadLine}
+use Rattle.pm_check.specs.Traces.{journal_lines, next_line, count_line, IsLineDue, in_report, next_move, count, AreLinesDue, IsValidTrace, IsBadAmong, not_due, no_end, missing, IsBadLine}
 use Rattle.pm_check.specs.Reading.{IsReported, HasReadTo}
 use Rattle.pm_check.proofs.TextLines.{joined-append, joined-push, lines_within, one_list, same_lines, lines_before, line_before, no_lines, lines_exist}
 use Rattle.pm_check.proofs.RunLines.{whole_from, whole_count, count_lines, bound_small}
@@ -35,7 +35,7 @@ no_bytes (byte ∷ bytes) none = absurd (omega (arith, none))
 -- these lines were read, each due, and this stands behind them
 pub record AreRead (plan : PlanData) (report : List (List ℕ)) (trace : List ℕ) (done : List (List ℕ)) (rest : List ℕ) : Type 0 where
   pub whole : All IsWholeLine done
-  pub due : AreDue plan report done
+  pub due : AreLinesDue plan report done
   pub parts : trace ≡ joined done ++ rest
 
 module _ (plan : PlanData) (report : List (List ℕ)) (trace : List ℕ) (done : List (List ℕ)) (rest : List ℕ) (read : AreRead plan report trace done rest) where
@@ -44,7 +44,7 @@ module _ (plan : PlanData) (report : List (List ℕ)) (trace : List ℕ) (done :
   lines_of_all lines end are = subst (λ (t : List ℕ). AreLinesOf t (done ++ lines) end) (sym read.parts) (lines_before done rest lines end read.whole are)
 
   -- a whole line that is not due
-  pub bad_line : (line more : List ℕ) → IsWholeLine line → rest ≡ line ++ more → ¬ (IsDue plan report done line) →
+  pub bad_line : (line more : List ℕ) → IsWholeLine line → rest ≡ line ++ more → ¬ (IsLineDue plan report done line) →
       IsBadAmong plan report trace (length done + 1)
   bad_line line more whole parts other =
       let are = lines_exist more in
@@ -59,26 +59,26 @@ module _ (plan : PlanData) (report : List (List ℕ)) (trace : List ℕ) (done :
       read.due some refl
 
   -- nothing, where a line is due
-  bad_missing : (line : List ℕ) → rest ≡ [] → HasNoLineFeed rest → IsDue plan report done line → IsBadAmong plan report trace (length done + 1)
+  bad_missing : (line : List ℕ) → rest ≡ [] → HasNoLineFeed rest → IsLineDue plan report done line → IsBadAmong plan report trace (length done + 1)
   bad_missing line nothing none next =
       let all = subst (λ (ls : List (List ℕ)). AreLinesOf trace ls rest) (append-nil done) (lines_of_all [] rest (no_lines rest none)) in
       missing done line (subst (AreLinesOf trace done) nothing all) read.due next refl
 
   -- the trace has no whole line more, and a line is due
-  pub bad_rest : (line : List ℕ) → HasNoLineFeed rest → IsDue plan report done line → IsBadAmong plan report trace (length done + 1)
+  pub bad_rest : (line : List ℕ) → HasNoLineFeed rest → IsLineDue plan report done line → IsBadAmong plan report trace (length done + 1)
   bad_rest line none next = elim (cases_eq (length rest) 0) [
     | inl empty ↦ bad_missing line (no_bytes rest empty) none next
     | inr some ↦ bad_end none (λ nothing. some (ap (λ l. length l) nothing))
   ]
 
   -- nothing is due, and something stands there
-  bad_behind : (lines : List (List ℕ)) (end : List ℕ) → rest ≢ [] → ((line : List ℕ) → IsDue plan report done line → ⊥) → AreLinesOf rest lines end →
+  bad_behind : (lines : List (List ℕ)) (end : List ℕ) → rest ≢ [] → ((line : List ℕ) → IsLineDue plan report done line → ⊥) → AreLinesOf rest lines end →
       IsBadAmong plan report trace (length done + 1)
   bad_behind [] end some none_due are = bad_end (subst HasNoLineFeed (sym are.parts) are.no_end) some
   bad_behind (line ∷ lines) end some none_due are =
       bad_line line (joined lines ++ end) (All-head IsWholeLine line lines are.whole) (are.parts ∙ append_assoc line (joined lines) end) (none_due line)
 
-  pub bad_more : rest ≢ [] → ((line : List ℕ) → IsDue plan report done line → ⊥) → IsBadAmong plan report trace (length done + 1)
+  pub bad_more : rest ≢ [] → ((line : List ℕ) → IsLineDue plan report done line → ⊥) → IsBadAmong plan report trace (length done + 1)
   bad_more some none_due = let are = lines_exist rest in bad_behind are.0 are.1.0 some none_due are.1.1
 
 -- ---- the report
@@ -102,12 +102,12 @@ module _ (report trace : List ℕ) (lines : ℕ) (done : List (List ℕ)) (later
   read_of plan more parts = record { whole = matched.whole; due = report_due plan report_lines done more parts; parts = matched.trace_is }
 
   -- a line of the report is due after those before it
-  expected_due : (plan : PlanData) (line : List ℕ) (more : List (List ℕ)) → report_lines ≡ done ++ line ∷ more → IsDue plan report_lines done line
+  expected_due : (plan : PlanData) (line : List ℕ) (more : List (List ℕ)) → report_lines ≡ done ++ line ∷ more → IsLineDue plan report_lines done line
   expected_due plan line more parts = in_report more parts
 
   -- and no other line
   other_due : (plan : PlanData) (line other : List ℕ) (more : List (List ℕ)) → report_lines ≡ done ++ line ∷ more → other ≢ line →
-      IsDue plan report_lines done other → ⊥
+      IsLineDue plan report_lines done other → ⊥
   other_due plan line other more parts differ (in_report rest' also) =
       let same : other ∷ rest' ≡ line ∷ more = append_cancel_left done (other ∷ rest') (line ∷ more) (sym also ∙ parts) in
       differ (cc same)
@@ -238,7 +238,7 @@ module _ (plan : PlanData) (is_plan : IsPlan plan) where
         (no_count_due plan is_plan report_lines journal line read.legal complete other))
 
     -- there is always a line due
-    some_due : (line : List ℕ) × IsDue plan report_lines (report_lines ++ journal_lines plan journal) line
+    some_due : (line : List ℕ) × IsLineDue plan report_lines (report_lines ++ journal_lines plan journal) line
     some_due = elim (cases_eq (after lists journal).closed (phases lists)) [
       | inl complete ↦ (count_line plan journal, count journal refl read.legal complete refl)
       | inr going ↦
@@ -317,7 +317,7 @@ module _ (plan : PlanData) (is_plan : IsPlan plan) where
       some (sym (one_list trace _ before [] rest (valid_lines report trace moves report_lines are valid) also).1)
   not_bad_among report trace moves number report_lines are valid (missing before line also due next number_is) =
       let same = one_list trace _ before [] [] (valid_lines report trace moves report_lines are valid) also in
-      nothing_due plan is_plan report_lines valid.journal line (subst (λ (ls : List (List ℕ)). IsDue plan report_lines ls line) (sym same.0) next)
+      nothing_due plan is_plan report_lines valid.journal line (subst (λ (ls : List (List ℕ)). IsLineDue plan report_lines ls line) (sym same.0) next)
 
   -- a valid trace has no bad line
   pub not_both : (report trace : List ℕ) (moves number : ℕ) → IsValidTrace plan report trace moves → IsBadLine plan report trace number → ⊥
@@ -362,9 +362,9 @@ longer_beginning (w ∷ a) (v ∷ b) x y same less =
 
 -- these lines of the trace are due, and the next one, where there is one, is not
 record StopsAt (plan : PlanData) (report lines before behind : List (List ℕ)) : Type 0 where
-  due : AreDue plan report before
+  due : AreLinesDue plan report before
   parts : lines ≡ before ++ behind
-  stops : (line : List ℕ) (more : List (List ℕ)) → behind ≡ line ∷ more → IsDue plan report before line → ⊥
+  stops : (line : List ℕ) (more : List (List ℕ)) → behind ≡ line ∷ more → IsLineDue plan report before line → ⊥
 
 not_before : (plan : PlanData) (report lines a a_behind b b_behind : List (List ℕ)) → StopsAt plan report lines a a_behind →
     StopsAt plan report lines b b_behind →
@@ -380,7 +380,7 @@ abbrev Stops : PlanData → List (List ℕ) → List (List ℕ) → ℕ → Type
 Stops plan report lines
     number = (before : List (List ℕ)) × ((behind : List (List ℕ)) × (StopsAt plan report lines before behind × (number ≡ length before + 1)))
 
-end_stops : (plan : PlanData) (report lines before : List (List ℕ)) (number : ℕ) → AreDue plan report before → before ≡ lines →
+end_stops : (plan : PlanData) (report lines before : List (List ℕ)) (number : ℕ) → AreLinesDue plan report before → before ≡ lines →
     number ≡ length before + 1 → Stops plan report lines number
 end_stops plan report lines before number due all number_is =
     (before, ([], (record { due = due; parts = sym all ∙ sym (append-nil before); stops = λ line more same next. absurd (cc same) }, number_is)))
@@ -395,7 +395,7 @@ stops_among plan report lines trace rest number are (not_due before more line en
       record {
         due = due;
         parts = (one_list trace lines (before ++ line ∷ more) rest end are also).0;
-        stops = λ next later same next_due. other (subst (IsDue plan report before) (let here : next ≡ line = cc same in here) next_due);
+        stops = λ next later same next_due. other (subst (IsLineDue plan report before) (let here : next ≡ line = cc same in here) next_due);
       },
       number_is,
     ),

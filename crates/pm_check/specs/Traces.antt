@@ -24,20 +24,20 @@ abbrev pub count_line : PlanData → List Move → List ℕ
 count_line plan journal = moves_line (lines (plan_lists plan) (local_at plan) journal)
 
 -- the line is due after the lines before it
-pub data IsDue (plan : PlanData) (report before : List (List ℕ)) (line : List ℕ) : Type 0 where
+pub data IsLineDue (plan : PlanData) (report before : List (List ℕ)) (line : List ℕ) : Type 0 where
   -- it is the next line of the report
-  in_report : (more : List (List ℕ)) → report ≡ before ++ line ∷ more → IsDue plan report before line
+  in_report : (more : List (List ℕ)) → report ≡ before ++ line ∷ more → IsLineDue plan report before line
   -- the report is followed by a legal journal that is not complete, and the line tells a move that is legal after it
   next_move : (journal : List Move) (m : Move) → before ≡ report ++ journal_lines plan journal → LegalJournal (plan_lists plan) journal →
       ¬ (IsComplete (plan_lists plan) journal) → Legal (plan_lists plan) (after (plan_lists plan) journal) m → line ≡ next_line plan journal m →
-      IsDue plan report before line
+      IsLineDue plan report before line
   -- the report is followed by a legal journal that is complete, and the line tells how many moves that has
   count : (journal : List Move) → before ≡ report ++ journal_lines plan journal → LegalJournal (plan_lists plan) journal →
-      IsComplete (plan_lists plan) journal → line ≡ count_line plan journal → IsDue plan report before line
+      IsComplete (plan_lists plan) journal → line ≡ count_line plan journal → IsLineDue plan report before line
 
 -- each of the lines is due after those before it
-abbrev pub AreDue : PlanData → List (List ℕ) → List (List ℕ) → Type 0
-AreDue plan report trace = (before more : List (List ℕ)) (line : List ℕ) → trace ≡ before ++ line ∷ more → IsDue plan report before line
+abbrev pub AreLinesDue : PlanData → List (List ℕ) → List (List ℕ) → Type 0
+AreLinesDue plan report trace = (before more : List (List ℕ)) (line : List ℕ) → trace ≡ before ++ line ∷ more → IsLineDue plan report before line
 
 -- a valid trace: the report, the lines of a legal and complete journal of so many moves, and their number
 pub record IsValidTrace (plan : PlanData) (report trace : List ℕ) (moves : ℕ) : Type 0 where
@@ -49,11 +49,11 @@ pub record IsValidTrace (plan : PlanData) (report trace : List ℕ) (moves : ℕ
 
 -- the first line, counted from 1, that is not one due or has no end, or the first line due that is missing
 pub data IsBadAmong (plan : PlanData) (report : List (List ℕ)) (trace : List ℕ) (number : ℕ) : Type 0 where
-  not_due : (before more : List (List ℕ)) (line rest : List ℕ) → AreLinesOf trace (before ++ line ∷ more) rest → AreDue plan report before →
-      ¬ (IsDue plan report before line) → number ≡ length before + 1 → IsBadAmong plan report trace number
-  no_end : (before : List (List ℕ)) (rest : List ℕ) → AreLinesOf trace before rest → AreDue plan report before → rest ≢ [] →
+  not_due : (before more : List (List ℕ)) (line rest : List ℕ) → AreLinesOf trace (before ++ line ∷ more) rest → AreLinesDue plan report before →
+      ¬ (IsLineDue plan report before line) → number ≡ length before + 1 → IsBadAmong plan report trace number
+  no_end : (before : List (List ℕ)) (rest : List ℕ) → AreLinesOf trace before rest → AreLinesDue plan report before → rest ≢ [] →
       number ≡ length before + 1 → IsBadAmong plan report trace number
-  missing : (before : List (List ℕ)) (line : List ℕ) → AreLinesOf trace before [] → AreDue plan report before → IsDue plan report before line →
+  missing : (before : List (List ℕ)) (line : List ℕ) → AreLinesOf trace before [] → AreLinesDue plan report before → IsLineDue plan report before line →
       number ≡ length before + 1 → IsBadAmong plan report trace number
 
 -- the bad line of a trace, by a report of whole lines
@@ -63,6 +63,6 @@ pub record IsBadLine (plan : PlanData) (report trace : List ℕ) (number : ℕ) 
   pub bad : IsBadAmong plan report_lines trace number
 
 -- a trace is refused at its bad line
-abbrev pub IsFaultOf : PlanData → List ℕ → List ℕ → CheckFault → Type 0
-IsFaultOf plan report trace (Invalid line) = IsBadLine plan report trace line
-IsFaultOf plan report trace NoMemory = ⊤
+abbrev pub IsFaultOfTrace : PlanData → List ℕ → List ℕ → CheckFault → Type 0
+IsFaultOfTrace plan report trace (Invalid line) = IsBadLine plan report trace line
+IsFaultOfTrace plan report trace NoMemory = ⊤

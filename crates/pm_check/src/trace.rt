@@ -1,8 +1,9 @@
 ghost use Rattle.std.specs.Prelude.{◌≡◌, ◌↔◌, ◌⊎◌, ℕ, ◌∷◌, List, [], codes, decimal, IsTrue, IfOk, IfErr};
 ghost use Rattle.pm_plan.specs.Plans.{PlanData};
+ghost use Rattle.pm_plan.specs.Kept.{IsPlan};
 ghost use Rattle.pm_report.specs.Words.{text_line};
 ghost use Rattle.pm_check.specs.Lines.{AreLinesOf};
-ghost use Rattle.pm_check.specs.Traces.{IsValidTrace, IsBadLine, IsFaultOf};
+ghost use Rattle.pm_check.specs.Traces.{IsValidTrace, IsBadLine, IsFaultOfTrace};
 ghost use Rattle.pm_check.specs.Reading.{IsReported};
 
 use crate::fault::CheckFault;
@@ -21,8 +22,9 @@ use std::alloc::{AllocError, Global};
 /// limited concentrator and once more, and once for each change since the clearing before it. No line is kept.
 pub fn check(alloc: Global, plan: &Plan, report: &[u8], trace: &[u8]) -> Result<u64, CheckFault>
     requires { (lines : List (List ℕ)) × AreLinesOf report.now lines [] }
+    ensures sound { IsPlan plan.now }
     ensures valid { IfOk result (IsValidTrace plan.now report.now trace.now) }
-    ensures bad { IfErr result (IsFaultOf plan.now report.now trace.now) }
+    ensures bad { IfErr result (IsFaultOfTrace plan.now report.now trace.now) }
     // A valid trace is not refused, and one with a bad line is.
     ensures accepted { (moves : ℕ) → IsValidTrace plan.now report.now trace.now moves → IfErr result (λ fault. fault ≡ CheckFault.NoMemory) }
     ensures refused { (line : ℕ) → IsBadLine plan.now report.now trace.now line → IfOk result (λ moves. ⊥) }
@@ -76,7 +78,7 @@ fn check_moves(
 ) -> Result<u64, CheckFault>
     requires { IsReported report.now trace.now reported.lines reported.rest.now }
     ensures valid { IfOk result (IsValidTrace plan.now report.now trace.now) }
-    ensures bad { IfErr result (IsFaultOf plan.now report.now trace.now) }
+    ensures bad { IfErr result (IsFaultOfTrace plan.now report.now trace.now) }
 {
     let mut judge = Judge::start(alloc, plan)?;
     let mut rest = reported.rest;

@@ -13,9 +13,6 @@ pub loop-at-init : goal.loop-at-init
 unfolding is_member
 loop-at-init c = record { member = refl; row = c.new-row.ensures.items }
 
-some_is : {A : Type 0} (x y : A) → Some x ≡ Some y → x ≡ y
-some_is x y h = cc h
-
 pub unwrap-what-requires : goal.unwrap-what-requires
 unwrap-what-requires c =
     let inside : c.loop-at.at < change_count c.args.plan.now c.args.device.0 = omega (arith, c.change_count-at-end.ensures) in

@@ -1,0 +1,34 @@
+use Rattle.std.proofs.Common.{◌≡◌, ◌/◌, ◌<◌, rules, ◌∷◌, [], Some, None, ap, ◌∙◌, arith, subst}
+use Rattle.std.specs.Prelude.{All}
+use Rattle.atomic_table.specs.Table.{rest}
+use Rattle.pm_cells.specs.Ends.{LinkEnd}
+use Rattle.pm_cells.specs.Steps.{Seated, with_up, taking}
+use Rattle.pm_cells.specs.declared.message.Message.TheVariants.{Bid}
+use Rattle.pm_cells.proofs.BidSteps.{may_claim_to_take_bid, may_end_take_bid}
+use Rattle.pm_cells.proofs.Takes.{bid_above, found_slot}
+use Rattle.pm_cells.proofs.bids.take_bid.Goals as goal
+
+pub fetch_or-found-requires : goal.fetch_or-found-requires
+fetch_or-found-requires c = (search rules, search rules, may_claim_to_take_bid _ _ _ c.end.invariant.role_is)
+
+pub store-requires : goal.store-requires
+store-requires c =
+    let v = c.end.inside.seat.me.0 in
+    let odd = c.if-found-eq1.false in
+    let n = c.fetch_or-found.result in
+    let got = c.fetch_or-found.ensures.2.0 (omega arith) in
+    let a = with_up v (taking v.up (n / 2)) in
+    let is : c.exchange-message.new.seat.me ≡ (a, (0, None) ∷ []) =
+    c.exchange-message.ensures.3 ∙ ap (λ (m : Seated). (m.0, (0, None) ∷ rest m.1)) got.1 ∙ ap (λ l. (a, (0, None) ∷ l)) c.end.invariant.has_no_slot in
+    (search rules, search rules, may_end_take_bid _ _ _ v n is c.end.invariant.role_is (omega arith))
+
+pub returns-in-Some-Bid-clause-above : goal.returns-in-Some-Bid-clause-above
+returns-in-Some-Bid-clause-above c =
+    let odd = c.if-found-eq1.false in
+    let n = c.fetch_or-found.result / 2 in
+    let got = c.fetch_or-found.ensures.2.0 (omega arith) in
+    let bid = c.in-Some-Bid.bid in
+    let brought = c.in-Some-Bid.is ∙ ap Some c.in-Some-Bid.field-0-is in
+    let same : got.0 ≡ Some (Bid bid) = found_slot _ _ _ _ _ got.0 _ got.1 c.exchange-message.ensures.2 ∙ brought in
+    let above = bid_above c.end.inside.seat.me.0.up n got.0 got.2 bid same in
+    subst (λ (e : LinkEnd). All (λ k. k < bid.number) e.known.up.takes) c.end.view_is above

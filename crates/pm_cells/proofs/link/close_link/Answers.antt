@@ -1,0 +1,22 @@
+use Rattle.std.proofs.Common.{rules, ap}
+use Rattle.pm_cells.specs.Steps.{Seated}
+use Rattle.pm_cells.proofs.Numbers.{AllAmong-same}
+use Rattle.pm_cells.proofs.CutAndJoin.{may_join, ends_agree}
+use Rattle.pm_cells.proofs.link.close_link.Goals as goal
+
+pub join_seat-requires : goal.join_seat-requires
+join_seat-requires c = (search rules, search rules, search rules, search rules, may_join _ _ _ _ c.child.invariant.role_is)
+
+pub returns-clause-bids_were_put : goal.returns-clause-bids_were_put
+returns-clause-bids_were_put c =
+    let seen = c.close_with-closed.ensures.values.2 in
+    let joined = ap (λ (m : Seated). m.0) c.join_seat.ensures.2 in
+    let agree = ends_agree seen.0 _ _ c.child.inside.seat.me.0 c.parent.inside.seat.me.0 seen.1 joined in
+    AllAmong-same _ _ _ _ c.parent.invariant.takes_are c.child.invariant.puts_are agree.0.1
+
+pub returns-clause-prices_were_put : goal.returns-clause-prices_were_put
+returns-clause-prices_were_put c =
+    let seen = c.close_with-closed.ensures.values.2 in
+    let joined = ap (λ (m : Seated). m.0) c.join_seat.ensures.2 in
+    let agree = ends_agree seen.0 _ _ c.child.inside.seat.me.0 c.parent.inside.seat.me.0 seen.1 joined in
+    AllAmong-same _ _ _ _ c.child.invariant.takes_are c.parent.invariant.puts_are agree.1.1
