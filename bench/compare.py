@@ -1,15 +1,17 @@
 #!/usr/bin/env python3
 """Measures ways to run a cluster side by side on the files of `make_files.py`, and prints times, memory, ratios and counts.
 
-    compare.py RUNS MARKET MEASURE PLAIN COUNTER FOLDER
+    compare.py RUNS MARKET MEASURE PLAIN PLAIN_SERVE COUNTER FOLDER
 
-MARKET and MEASURE are the programs, PLAIN is the plain program of `bench/plain` and COUNTER the library of `bench/count.c`;
-either of these two may be `-`, and then what needs it is left out. FOLDER has the files.
+MARKET and MEASURE are the programs, PLAIN and PLAIN_SERVE are the plain programs of `bench/plain` and `bench/plain_serve`, and
+COUNTER is the library of `bench/count.c`; each of these three may be `-`, and then what needs it is left out. FOLDER has the
+files and the stream of bids.
 
 Each way runs RUNS times on a file, in turn with the others, and the least time of the whole process counts. The time of the
 processors is told beside it, which other work on the machine disturbs less. A run before these gives the memory and the
 text, and one after them the counts. On the largest files only the times of `market run` and of the plain program are taken,
-and of the demo cluster also that of `market ask` with many targets.
+and of the demo cluster also that of `market ask` with many targets; further that of `market check` on a trace of one of the
+largest files, and of `market serve` beside its plain program on the stream.
 The status is 1 where a text differs or a run fails or hangs, else 2 where a goal is missed, else 0.
 """
 
@@ -43,6 +45,8 @@ MARKET_GOALS = {"demo": 12, "wide": 5.5, "deep": 2, "calm": 2}
 # How many targets are asked of the total of a file, how often longer than `market run` that may take, and by how much.
 ASKED, TARGETS = "demo", 100_000
 ASK_GOAL, ASK_SECONDS = 2, 0.050
+# The file of which a trace is judged.
+JUDGED = "1000_phases"
 # How often more memory than the walk `market run` and the driven cluster may take.
 MEMORY_GOAL = 3
 # How often longer than the walk the driven cluster may take, the reading taken off both.
@@ -159,9 +163,9 @@ def ratio_lines(name, least, processors, peaks):
     return lines, any(misses)
 
 
-def moves(market, path):
-    """How many moves a run makes, which the last line of its trace tells."""
-    last = text_of([market, "trace"], path).rstrip(b"\n").rpartition(b"\n")[2].split()
+def moves_of(trace):
+    """How many moves a run made, which the last line of its trace tells."""
+    last = trace.rstrip(b"\n").rpartition(b"\n")[2].split()
     if len(last) != 2 or last[0] != b"moves":
         raise Failed("the trace does not end with the number of moves")
     return int(last[1])
@@ -182,7 +186,8 @@ def count_lines(command, counter, taken, path, due):
     """The lines of the counts of `market run`."""
     left = statistics.median_low(it.left for it in taken)
     forced = statistics.median_low(it.forced for it in taken)
-    lines = [f"moves {moves(command[0], path):,}, switches of threads {left:,} given up and {forced:,} forced (medians)"]
+    moves = moves_of(text_of([command[0], "trace"], path))
+    lines = [f"moves {moves:,}, switches of threads {left:,} given up and {forced:,} forced (medians)"]
     if counter:
         text = "counted in one more run: " + counted(command, counter, path, due)
         lines += textwrap.wrap(text, 110, subsequent_indent="    ", break_on_hyphens=False)
@@ -250,6 +255,36 @@ def measured_targets(market, runs, folder, path):
     return [line + f"(goal {1000 * goal:.1f} ms{', MISSED' if missed else ''})"], missed
 
 
+def least_seconds(command, path, runs):
+    """The least time of some runs."""
+    with open(os.devnull, "wb") as nowhere:
+        return min(run(command, path, nowhere).seconds for _ in range(runs))
+
+
+def measured_trace(market, runs, folder, path):
+    """The line of a trace that is judged; no goal is set for it."""
+    trace = text_of([market, "trace"], path)
+    moves, judged = moves_of(trace), os.path.join(folder, f"{name_of(path)}.check")
+    with open(path, "rb") as source, open(judged, "wb") as envelope:
+        file = source.read()
+        envelope.write(b"%d\n" % len(file) + file + trace)
+    if text_of([market, "check"], judged) != b"valid moves %d\n" % moves:
+        raise Failed("its trace is not found valid")
+    seconds = least_seconds([market, "check"], judged, runs)
+    line = f"{name_of(path)}: a trace of {moves:,} moves and {len(trace):,} bytes judged in {seconds:.3f} s, "
+    return [line + f"{moves / seconds:,.0f} moves a second"], False
+
+
+def measured_stream(market, plain, runs, path):
+    """The line of the stream of bids; no goal is set for it."""
+    ways = {"market serve": [market, "serve"]} | ({"plain serve": [plain]} if plain else {})
+    texts = {way: text_of(command, path) for way, command in ways.items()}
+    if len(set(texts.values())) > 1:
+        raise Failed("the answers differ")
+    times = ", ".join(f"{way} {least_seconds(command, path, runs):.3f} s" for way, command in ways.items())
+    return [f"{name_of(path)}: {times}, {os.path.getsize(path):,} bytes read, {len(texts['market serve']):,} bytes written"], False
+
+
 def ways_of(market, measure, plain):
     """The commands of the ways."""
     ways = {MARKET: [market, "run"]}
@@ -273,8 +308,9 @@ def tried(measure, *arguments):
     return 2 if missed else 0
 
 
-def main(runs, market, measure, plain, counter, folder):
+def main(runs, market, measure, plain, plain_serve, counter, folder):
     ways = ways_of(market, measure, None if plain == "-" else plain)
+    plain_serve = None if plain_serve == "-" else plain_serve
     counter = None if counter == "-" else counter
     print(f"{os.cpu_count()} processors, {load()}, least of {runs} runs", flush=True)
     largest = sorted(glob.glob(os.path.join(folder, "largest", "*.json")))
@@ -283,6 +319,9 @@ def main(runs, market, measure, plain, counter, folder):
     statuses += [tried(measured, ways, int(runs), counter, path) for path in paths]
     asked = os.path.join(folder, "compared", ASKED + ".json")
     statuses.append(tried(measured_targets, market, int(runs), folder, asked))
+    judged = os.path.join(folder, "largest", JUDGED + ".json")
+    statuses.append(tried(measured_trace, market, int(runs), folder, judged))
+    statuses.append(tried(measured_stream, market, plain_serve, int(runs), os.path.join(folder, "stream")))
     print(load())
     return 1 if 1 in statuses else max(statuses)
 

@@ -18,11 +18,6 @@ def ended(program, arguments, text, seconds=SECONDS):
     return done.returncode, done.stdout
 
 
-def has_command(program, word):
-    """Whether the usage line names a command."""
-    return word in ended(program, [], b"")[1].decode().replace("market ", "").split()
-
-
 def sampled(things, most):
     """So many of a list, evenly over it; all where there are no more."""
     things = list(things)

@@ -8,11 +8,13 @@ checks/cases and examples make one. Here stand the cases whose input is large, o
 import os
 import subprocess
 import sys
+import tempfile
 from dataclasses import dataclass
 from pathlib import Path
 
 sys.dont_write_bytecode = True
 import members
+import streams
 from accounts import bill_of
 from targets import answers_of, envelope
 
@@ -23,6 +25,7 @@ EXAMPLES = TOP / "examples"
 TEXTS = {"run": ".txt"}
 LIMIT = 4_194_304
 ASK_LIMIT = 8_388_608
+CHECK_LIMIT = 536_870_912
 # Targets that each file is asked for, in watts.
 TARGETS = [0, 1, -1, 100, -60, 2500, -2500, 1_000_000_000, -1_000_000_000]
 
@@ -97,10 +100,8 @@ def stored_case(folder, name):
                 return path.read_bytes()
         return default
 
-    if (folder / f"{name}.json").is_file():
-        stdin = folder / f"{name}.json"
-    else:
-        stdin = folder
+    inputs = (folder / f"{name}.{it}" for it in ("json", "stdin"))
+    stdin = next((it for it in inputs if it.is_file()), folder)
     arguments = text_of("args", b"run\n").decode().splitlines()
     return Case(f"{folder.name}/{name}", arguments, stdin, text_of("stdout", b""), int(text_of("status", b"0")))
 
@@ -242,17 +243,38 @@ def asked():
     yield ask("8,388,609 bytes", longest + b"0", f"too long, more than {ASK_LIMIT} bytes\n", TOO_LONG)
 
 
+def longest_trace():
+    """An envelope that is too long for `check`: a first line, and zeros that take no room on the disk."""
+    with tempfile.NamedTemporaryFile() as file:
+        file.write(b"0\n")
+        file.truncate(CHECK_LIMIT + 1)
+        file.flush()
+        line = f"too long, more than {CHECK_LIMIT} bytes\n".encode()
+        yield Case("check, 536,870,913 bytes", ["check"], file.name, line, TOO_LONG)
+
+
+def served():
+    """Streams of bids with the answers that are due."""
+    for name, stream, status, answers in streams.rows():
+        yield Case(f"serve, {name}", ["serve"], stream, answers, status)
+
+
 def faults():
     """Standard input that cannot be read, and standard output that takes nothing."""
     file = next(file_of("two_bids")).encode()
-    yield Case("a closed standard input", ["run"], None, b"", READ_FAULT)
-    yield Case("a folder as standard input", ["run"], CASES, b"", READ_FAULT)
+    for command in ("run", "check", "serve"):
+        yield Case(f"{command}, a closed standard input", [command], None, b"", READ_FAULT)
+        yield Case(f"{command}, a folder as standard input", [command], CASES, b"", READ_FAULT)
     rows = [
         ("run", ["run"], file),
         ("a refusal", ["run"], file[:-2]),
         ("a file too long", ["run"], file.ljust(LIMIT + 1)),
         ("usage", ["run", "now"], CASES),
         ("demo", ["demo", "1", "7"], CASES),
+        ("a valid trace", ["check"], CASES / "check" / "only_trace.stdin"),
+        ("a trace with a bad line", ["check"], CASES / "check" / "bid_2.stdin"),
+        ("a stream of bids", ["serve"], streams.small_stream()),
+        ("a stream with a bad frame", ["serve"], streams.hello() + streams.hello()),
     ]
     for sink in ("full", "closed"):
         for name, arguments, stdin in rows:
@@ -269,6 +291,8 @@ def cases(program):
     yield from demos(program)
     yield from bills_and_answers()
     yield from asked()
+    yield from longest_trace()
+    yield from served()
     yield from faults()
 
 

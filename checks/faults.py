@@ -15,7 +15,7 @@ import threading
 from pathlib import Path
 
 sys.dont_write_bytecode = True
-from built import SECONDS, ended, has_command, sampled
+from built import SECONDS, ended, sampled
 from oracle import due_of, envelope, why_wrong
 
 TOP = Path(__file__).resolve().parent.parent
@@ -189,8 +189,7 @@ def inputs(program):
     for command in ("run", "trace", "bill"):
         yield command, file
     yield "ask", envelope(file, TARGETS)
-    if has_command(program, "check"):
-        yield "check", envelope(file, ended(program, ["trace"], file)[1])
+    yield "check", envelope(file, ended(program, ["trace"], file)[1])
 
 
 def reads(program, everything):

@@ -17,7 +17,7 @@ from collections import Counter
 from pathlib import Path
 
 sys.dont_write_bytecode = True
-from built import Hangs, ended, has_command
+from built import Hangs, ended
 from mutations import NUMBERS, exchanged_lines, mutated
 from oracle import due_of, envelope, why_wrong
 from streams import random_stream
@@ -36,8 +36,7 @@ class Inputs:
         folders = (TOP / "examples", CASES / "run", CASES / "limits")
         files = [it.read_bytes() for folder in folders for it in sorted(folder.glob("*.json"))]
         self.files = [it for it in files if len(it) < 10_000]
-        self.commands = ["run", "run", "trace", "bill", "ask", "ask"]
-        self.commands += [it for it in ("check", "check", "serve", "serve") if has_command(program, it)]
+        self.commands = ["run", "run", "trace", "bill", "ask", "ask", "check", "check", "serve", "serve"]
         self.traces = {}
         self.program = program
 

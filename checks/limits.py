@@ -4,7 +4,7 @@ import json
 import sys
 
 sys.dont_write_bytecode = True
-from built import Hangs, ended, has_command
+from built import Hangs, ended
 from oracle import due_of, envelope, why_wrong
 
 NODES, DEPTH, STEPS, PHASES, EVENTS, CHANGES, MOST = 256, 6, 1_000, 1_000, 4_096, 20_000, 1_000_000_000
@@ -89,7 +89,7 @@ def tried(program, everything):
         for command in commands:
             text = envelope(file, b"0\n%d\n-%d\n" % (MOST, MOST)) if command == "ask" else file
             yield f"{command} of {name}", why_not(program, command, text)
-        if "trace" in commands and has_command(program, "check"):
+        if "trace" in commands:
             trace = ended(program, ["trace"], file, SECONDS)[1]
             yield f"check of {name}", why_not(program, "check", envelope(file, trace))
             yield f"check of {name}, without the last line", why_not(program, "check", envelope(file, trace[: trace.rindex(b"moves")]))

@@ -1,9 +1,7 @@
 #!/usr/bin/env python3
 """Compares `market serve` of the built program with checks/stream.py, byte for byte, and with a client that waits for answers.
 
-Where the program has no such command, checks/stream.py is started as a program in its place, and so tried against its own
-definitions and against examples/serve/client.py. With `all` behind the program many more streams are tried, and those of a
-gigabyte.
+With `all` behind the program many more streams are tried, and those of a gigabyte.
 """
 
 import queue
@@ -18,7 +16,7 @@ from pathlib import Path
 sys.dont_write_bytecode = True
 import faults
 import stream
-from built import Hangs, ended, has_command
+from built import Hangs, ended
 from streams import CLEAR, bid, hello, many_frames, price, random_pieces, random_stream, rows, small_stream
 
 TOP = Path(__file__).resolve().parent.parent
@@ -58,10 +56,10 @@ def differs(found, due):
     return None if found == due else f"it ends with {told(found)}, and due is {told(due)}"
 
 
-def try_rows(words, sizes):
+def try_rows(words):
     for name, data, status, answers in rows():
         yield f"{name}, by the definitions", differs(stream.answers_to(data), (status, answers))
-        for size in sizes:
+        for size in (1, 7, 100, 100_000):
             pieces = [data[at : at + size] for at in range(0, len(data), size)]
             yield f"{name}, in pieces of {size}", differs(in_pieces(words, pieces), (status, answers))
 
@@ -76,16 +74,16 @@ def try_random(words, number):
             yield f"random stream {seed}, at once", differs(ended(words[0], words[1:], data, SECONDS), due)
 
 
-def try_faults(words, folder, step):
+def try_faults(words, folder):
     """Streams that end, or of which a read fails, at each byte; and answers that cannot be written from some byte on."""
     data = small_stream()
-    for length in range(0, len(data) + 1, step):
+    for length in range(len(data) + 1):
         found = ended(words[0], words[1:], data[:length], SECONDS)
         yield f"an end after {length} bytes", differs(found, stream.answers_to(data[:length]))
         found = faults.failing_read(words[0], words[1:], data[:length])
         yield f"a failing read after {length} bytes", differs(found, stream.answers_to(data[:length], ended=False))
     status, answers = stream.answers_to(data)
-    for size in range(0, len(answers) + 1, step):
+    for size in range(len(answers) + 1):
         found = faults.file_that_takes(words[0], words[1:], data, size, folder)
         due = (stream.WRITE_FAULT, answers[:size]) if size < len(answers) else (status, answers)
         yield f"answers of which {size} bytes can be written", differs(found, due)
@@ -204,28 +202,22 @@ def try_longest(words):
         yield f"a stream of {size} bytes", None if found == (status, size - 11) else f"it ends with {found}"
 
 
-def tried(words, folder, number, step, frames, longest):
-    yield from try_rows(words, (1, 7, 100, 100_000) if step == 1 else (7,))
-    yield from try_random(words, number)
-    yield from try_faults(words, folder, step)
+def tried(words, folder, everything):
+    yield from try_rows(words)
+    yield from try_random(words, 20_000 if everything else 2_000)
+    yield from try_faults(words, folder)
     yield from try_client(words)
     yield from try_open_ends(words)
-    yield from try_memory(words, 1_024, frames)
-    if longest:
+    yield from try_memory(words, 1_024, 102_400)
+    if everything:
         yield from try_longest(words)
 
 
 def main(program, everything):
-    if has_command(program, "serve"):
-        words, number, step, frames = [program, "serve"], 20_000 if everything else 2_000, 1, 102_400
-    else:
-        print("skipped: the program has no command `market serve` yet; checks/stream.py is started in its place")
-        words, number, step, frames = [sys.executable, str(TOP / "checks" / "stream.py")], 1_000 if everything else 50, 12, 10_240
-        everything = False
     passed = failed = 0
     with tempfile.TemporaryDirectory() as name:
         try:
-            for what, why in tried(words, Path(name), number, step, frames, everything):
+            for what, why in tried([program, "serve"], Path(name), everything):
                 passed, failed = passed + (why is None), failed + (why is not None)
                 if why is not None:
                     print(f"{what}: {why}")

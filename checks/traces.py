@@ -17,7 +17,7 @@ from pathlib import Path
 sys.dont_write_bytecode = True
 import judge
 import journals
-from built import ended, has_command, sampled
+from built import ended, sampled
 
 TOP = Path(__file__).resolve().parent.parent
 CASES = TOP / "checks" / "cases"
@@ -197,19 +197,17 @@ def compare(program, tried, name, file, plan, trace):
 
 
 def try_trace(program, tried, name, file, plan, lines, most):
-    """Tries a right trace and its variants; without a program the judge alone."""
+    """Tries a right trace and its variants."""
     moves = len(lines) - len(plan.report) - 1
     line = judge.verdict(plan, text_of(lines))[1]
     tried.note(name, None if line == f"valid moves {moves}\n" else f"the judge says {line!r} of a right trace")
-    if program:
-        compare(program, tried, name, file, plan, text_of(lines))
+    compare(program, tried, name, file, plan, text_of(lines))
     for what, text in [*byte_variants(lines), *sampled(variants(lines), most)]:
         if text == text_of(lines):
             continue
         found = judge.verdict(plan, text)[1]
         tried.note(f"{name}, {what}", why_unreasonable(found, lines, len(plan.report), text, moves))
-        if program:
-            compare(program, tried, f"{name}, {what}", file, plan, text)
+        compare(program, tried, f"{name}, {what}", file, plan, text)
 
 
 def small_files():
@@ -220,36 +218,24 @@ def small_files():
             yield file
 
 
-def try_file(program, checks, tried, path, most):
+def try_file(program, tried, path, most):
     """Tries the program's trace of a file, and those that are made here."""
     file, plan = path.read_bytes(), judge.plan_of(path.read_bytes())
     status, text = ended(program, ["trace"], file)
     tried.note(f"trace of {path.name}", None if status == DONE else f"status {status}")
-    try_trace(checks, tried, path.name, file, plan, text.split(b"\n")[:-1], most)
+    try_trace(program, tried, path.name, file, plan, text.split(b"\n")[:-1], most)
     chance = random.Random(f"{SEED} {path.name}")
     for number, haste in enumerate(HASTES, 1):
         lines, broken = made_trace(plan, haste, chance)
         name = f"made trace {number} of {path.name}"
         tried.note(name, broken)
-        try_trace(checks, tried, name, file, plan, lines, most // 3)
+        try_trace(program, tried, name, file, plan, lines, most // 3)
 
 
 def rows():
-    """What the judge has to say of the only trace of a lone load, worked by hand."""
-    file = (CASES / "trace" / "only_trace.json").read_bytes()
-    lines = (CASES / "trace" / "only_trace.stdout").read_bytes().split(b"\n")[:-1]
-    at = lines.index(b"clear 1")
-    due = [
-        ("the only trace", text_of(lines), "valid moves 5\n"),
-        ("the only trace without a clearing", text_of(lines[:at] + lines[at + 1 :]), "invalid line 6\n"),
-        ("the only trace with bid 2", text_of(lines).replace(b"price 9 bid 1", b"price 9 bid 2"), "invalid line 7\n"),
-        ("the only trace without its end", text_of(lines[:-1]), "invalid line 9\n"),
-        ("the only trace without a last line feed", text_of(lines)[:-1], "invalid line 9\n"),
-        ("the only trace and a line more", text_of([*lines, b""]), "invalid line 10\n"),
-        ("no trace", b"", "invalid line 1\n"),
-    ]
-    for name, text, line in due:
-        yield name, envelope(file, text), line.encode()
+    """The envelopes of checks/cases/check, each with the line due, worked by hand."""
+    for text in sorted((CASES / "check").glob("*.stdin")):
+        yield text.stem, text.read_bytes(), text.with_suffix(".stdout").read_bytes()
 
 
 def beginnings():
@@ -282,7 +268,7 @@ def try_lines(program, tried):
     for name, text, line in inputs:
         found = judge.answer(text)[1].encode()
         tried.note(f"judge: {name}", None if found == line else f"the judge says {found}, and {line} is due")
-    for name, text, line in inputs if program else []:
+    for name, text, line in inputs:
         status = {b"v": DONE, b"i": judge.INVALID, b"r": REFUSED}[line[:1]]
         found = ended(program, ["check"], text)
         tried.note(f"check: {name}", None if found == (status, line) else f"it ends with {found}, and {(status, line)} is due")
@@ -302,13 +288,10 @@ def try_longest(program, tried):
 
 def main(program, everything):
     tried = Tried()
-    checks = program if has_command(program, "check") else None
-    if checks is None:
-        print("skipped: the program has no command `market check` yet; the judge is tried alone")
-    try_lines(checks, tried)
+    try_lines(program, tried)
     for path in small_files():
-        try_file(program, checks, tried, path, 10**9 if everything else MOST)
-    if checks and everything:
+        try_file(program, tried, path, 10**9 if everything else MOST)
+    if everything:
         try_longest(program, tried)
     print(f"{tried.passed} passed, {tried.failed} failed")
     return 1 if tried.failed else 0
