@@ -1,2 +1,4 @@
 pub mod Devices
 pub mod Finishing
+mod Learning
+mod Placing

@@ -1,2 +1,4 @@
 pub mod Settled
 pub mod Alone
+pub mod FreeEnds
+pub mod FreeLearning

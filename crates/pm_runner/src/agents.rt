@@ -27,7 +27,11 @@ pub(crate) fn make_agents(
 
 /// The agent of a device; none of another node.
 #[tactic(auto, using(crate::proofs::Devices::leaf_of_plan, crate::proofs::Devices::kind_valid, crate::proofs::Devices::agent_is))]
-fn agent_of(alloc: Global, plan: &Plan, number: u32) -> Result<Option<DeviceAgent>, AllocError>
+pub(crate) fn agent_of(
+    alloc: Global,
+    plan: &Plan,
+    number: u32,
+) -> Result<Option<DeviceAgent>, AllocError>
     ensures agent { IfOk result (λ agent. IfSome agent (IsAgentOf plan.now number)) }
     ensures none { IfOk result (λ agent. agent ≡ None → IsLeaf (plan_lists plan.now) number → ⊥) }
 {

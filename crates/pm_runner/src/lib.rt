@@ -6,6 +6,8 @@
 //! compares the board's plan with its own, and makes itself whatever moves the board does not show: that all phases are
 //! closed rests on no thread, no wake-up and no fairness.
 //!
+//! [`settle_free`] finds the same ends with threads whose messages pass links without a lock.
+//!
 //! [`Gate`] is told of each turn.
 #![tactic(auto)]
 
@@ -13,6 +15,7 @@ mod agents;
 mod bells;
 mod desk;
 mod following;
+mod free;
 mod gate;
 mod lines;
 mod node_work;
@@ -24,6 +27,7 @@ mod sleeping;
 mod threads;
 mod worker;
 
+pub use free::settle_free;
 pub use gate::{Gate, OpenGate};
 pub use threads::settle;
 

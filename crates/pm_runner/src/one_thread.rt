@@ -73,7 +73,7 @@ fn make_moves<G: Gate>(board: &mut Board, agents: &mut [Option<DeviceAgent>], ga
 
 /// Makes one move: of the first node that has one, else a change of the first device that has one, else the closing of
 /// the phase.
-fn make_move<G: Gate>(board: &mut Board, agents: &mut [Option<DeviceAgent>], gate: &G)
+pub(crate) fn make_move<G: Gate>(board: &mut Board, agents: &mut [Option<DeviceAgent>], gate: &G)
     requires open_phase { (board_state board.old).closed ≢ phases board.old.plan }
     requires agents { AreAgents board.old.plan agents.old }
     ensures plan { board.new.plan ≡ board.old.plan }
@@ -108,7 +108,7 @@ fn take_turn<G: Gate>(board: &mut Board, gate: &G) -> bool
 }
 
 /// A turn of a node; whether it made a move.
-fn turn_of<G: Gate>(board: &mut Board, node: NodeId, gate: &G) -> bool
+pub(crate) fn turn_of<G: Gate>(board: &mut Board, node: NodeId, gate: &G) -> bool
     requires inside { node.0 ≤ nodes (plan_lists board.old.plan) }
     ensures plan { board.new.plan ≡ board.old.plan }
     ensures longer { result ≡ true → length board.new.lines ≡ length board.old.lines + 1 }
@@ -124,7 +124,7 @@ fn turn_of<G: Gate>(board: &mut Board, node: NodeId, gate: &G) -> bool
 }
 
 /// The next change of the first device that has one.
-fn first_next(board: &Board) -> Option<Next>
+pub(crate) fn first_next(board: &Board) -> Option<Next>
     ensures next { let s = board_state board.now in
         IfSome result (λ next. IsLeaf (plan_lists board.now.plan) next.device × IsNext board.now.plan s.closed s.counts next.device next) }
     ensures none { let s = board_state board.now in
@@ -154,7 +154,12 @@ pub(crate) fn next_of(board: &Board, number: u32) -> Option<Next>
 }
 
 /// Makes the next change of a device, by its agent.
-fn change<G: Gate>(board: &mut Board, agents: &mut [Option<DeviceAgent>], next: Next, gate: &G)
+pub(crate) fn change<G: Gate>(
+    board: &mut Board,
+    agents: &mut [Option<DeviceAgent>],
+    next: Next,
+    gate: &G,
+)
     requires leaf { IsLeaf (plan_lists board.old.plan) next.device }
     requires next { let s = board_state board.old in IsNext board.old.plan s.closed s.counts next.device next }
     requires agents { AreAgents board.old.plan agents.old }

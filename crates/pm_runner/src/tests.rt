@@ -1,3 +1,4 @@
+mod free;
 mod gates;
 
 use crate::one_thread::drain;

@@ -169,7 +169,7 @@ fn change<'p, R: Wait>(
 
 /// Whether a change is one of the agent's device, in a state of its kind, and of its steps.
 #[tactic(auto, using(crate::proofs::Devices::plan_arrays))]
-fn can_work(agent: &DeviceAgent, next: Next, plan: &Plan) -> bool
+pub(crate) fn can_work(agent: &DeviceAgent, next: Next, plan: &Plan) -> bool
     ensures device { result ≡ true → next.device ≡ agent.now.device }
     ensures fits { result ≡ true → IsTrue (state_fits agent.now.kind next.state.0) }
     ensures arrays { result ≡ true → HaveSteps agent.now.steps plan.now.arrays }

@@ -5,33 +5,36 @@ use std::sync::atomic::{AtomicU64, Ordering};
 use std::sync::{Mutex, Wait};
 use std::thread;
 
-/// The first line of node 1 waits until that of node 2 has begun, and the other way round, each for so many looks at most.
-/// It keeps every line that it is told.
+/// Node 1 waits when it first comes until node 2 has come, and the other way round, each for so many looks at most.
 #[derive(Drop)]
-pub(crate) struct MeetingGate<'r, R: Wait> {
-    rt: &'r R,
+struct Meeting {
     looks: u32,
     first: AtomicU64,
     second: AtomicU64,
     met: AtomicU64,
-    pub(crate) lines: Mutex<Vec<Line>>,
 }
 
-impl<'r, R: Wait> MeetingGate<'r, R> {
-    pub(crate) fn new(rt: &'r R, alloc: Global, looks: u32) -> MeetingGate<'r, R> {
-        MeetingGate {
-            rt,
+impl Meeting {
+    fn new(looks: u32) -> Meeting {
+        Meeting {
             looks,
             first: AtomicU64::new(0),
             second: AtomicU64::new(0),
             met: AtomicU64::new(0),
-            lines: Mutex::new(Vec::new(alloc)),
         }
     }
 
-    /// How many of the two found that the other has begun.
-    pub(crate) fn met(&self) -> u64 {
+    /// How many of the two found that the other has come.
+    fn met(&self) -> u64 {
         self.met.load(Ordering::SeqCst)
+    }
+
+    fn come(&self, node: u32) {
+        match node {
+            1 => self.meet(&self.first, &self.second),
+            2 => self.meet(&self.second, &self.first),
+            _ => {}
+        }
     }
 
     fn meet(&self, me: &AtomicU64, other: &AtomicU64) {
@@ -48,6 +51,30 @@ impl<'r, R: Wait> MeetingGate<'r, R> {
     }
 }
 
+/// The first line of node 1 waits until that of node 2 has begun, and the other way round. It keeps every line that it is
+/// told.
+#[derive(Drop)]
+pub(crate) struct MeetingGate<'r, R: Wait> {
+    rt: &'r R,
+    meeting: Meeting,
+    pub(crate) lines: Mutex<Vec<Line>>,
+}
+
+impl<'r, R: Wait> MeetingGate<'r, R> {
+    pub(crate) fn new(rt: &'r R, alloc: Global, looks: u32) -> MeetingGate<'r, R> {
+        MeetingGate {
+            rt,
+            meeting: Meeting::new(looks),
+            lines: Mutex::new(Vec::new(alloc)),
+        }
+    }
+
+    /// How many of the two found that the other has begun.
+    pub(crate) fn met(&self) -> u64 {
+        self.meeting.met()
+    }
+}
+
 impl<'r, R: Wait + Sync> Gate for MeetingGate<'r, R> {
     fn before(&self, _node: u32) {}
 
@@ -56,10 +83,45 @@ impl<'r, R: Wait + Sync> Gate for MeetingGate<'r, R> {
             return;
         };
         let _ = self.lines.lock(self.rt).push(line);
-        match node {
-            1 => self.meet(&self.first, &self.second),
-            2 => self.meet(&self.second, &self.first),
-            _ => {}
+        self.meeting.come(node);
+    }
+}
+
+/// The first turn of node 1 waits until that of node 2 has begun, and the other way round. It counts the lines that it is
+/// told.
+#[derive(Drop)]
+pub(crate) struct TurnGate {
+    meeting: Meeting,
+    lines: AtomicU64,
+}
+
+impl TurnGate {
+    pub(crate) fn new(looks: u32) -> TurnGate {
+        TurnGate {
+            meeting: Meeting::new(looks),
+            lines: AtomicU64::new(0),
+        }
+    }
+
+    /// How many of the two found that the other has begun.
+    pub(crate) fn met(&self) -> u64 {
+        self.meeting.met()
+    }
+
+    /// How many turns it was told a line of.
+    pub(crate) fn lines(&self) -> u64 {
+        self.lines.load(Ordering::SeqCst)
+    }
+}
+
+impl Gate for TurnGate {
+    fn before(&self, node: u32) {
+        self.meeting.come(node);
+    }
+
+    fn after(&self, _node: u32, line: Option<Line>) {
+        if line.is_some() {
+            self.lines.fetch_add(1, Ordering::SeqCst);
         }
     }
 }
