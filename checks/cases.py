@@ -22,7 +22,7 @@ TOP = Path(__file__).resolve().parent.parent
 CASES = TOP / "checks" / "cases"
 EXAMPLES = TOP / "examples"
 # The text of each command on the example NAME.json stands beside it, under NAME with this ending.
-TEXTS = {"run": ".txt"}
+TEXTS = {"run": ".txt", "free": ".txt"}
 LIMIT = 4_194_304
 ASK_LIMIT = 8_388_608
 CHECK_LIMIT = 536_870_912

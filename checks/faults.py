@@ -186,7 +186,7 @@ def is_part(written, text):
 def inputs(program):
     """For each command that reads a whole input a small one."""
     file = (CASES / "run" / "two_bids.json").read_bytes().strip()
-    for command in ("run", "trace", "bill"):
+    for command in ("run", "trace", "bill", "free"):
         yield command, file
     yield "ask", envelope(file, TARGETS)
     yield "check", envelope(file, ended(program, ["trace"], file)[1])

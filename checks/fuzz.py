@@ -36,7 +36,7 @@ class Inputs:
         folders = (TOP / "examples", CASES / "run", CASES / "limits")
         files = [it.read_bytes() for folder in folders for it in sorted(folder.glob("*.json"))]
         self.files = [it for it in files if len(it) < 10_000]
-        self.commands = ["run", "run", "trace", "bill", "ask", "ask", "check", "check", "serve", "serve"]
+        self.commands = ["run", "run", "trace", "bill", "ask", "ask", "check", "check", "serve", "serve", "free"]
         self.traces = {}
         self.program = program
 

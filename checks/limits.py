@@ -66,7 +66,7 @@ def greatest_limits():
 
 def files(everything):
     """Files with the commands that are tried on them."""
-    all_commands = ("run", "trace", "bill", "ask")
+    all_commands = ("run", "trace", "bill", "ask", "free")
     yield "256 nodes below 6 concentrators", widest(), all_commands
     yield "4,096 events below 6 concentrators", most_events(1, EVENTS), all_commands
     yield "1,000 phases of ticks", most_ticks(), all_commands if everything else ("run", "bill")

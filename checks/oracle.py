@@ -74,7 +74,7 @@ def due_of_check(text):
     return status, line.encode()
 
 
-DUE = {"run": due_of_run, "bill": due_of_bill, "ask": due_of_ask, "check": due_of_check, "serve": stream.answers_to}
+DUE = {"run": due_of_run, "free": due_of_run, "bill": due_of_bill, "ask": due_of_ask, "check": due_of_check, "serve": stream.answers_to}
 
 
 def due_of(command, text):

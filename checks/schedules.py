@@ -47,7 +47,7 @@ def inputs():
     """Inputs with the texts due, of the trace the report."""
     village = (TOP / "examples" / "village.json").read_bytes()
     for name, file in (("village", village), ("deep", deep_file())):
-        for command in ("run", "trace", "bill", "ask"):
+        for command in ("run", "trace", "bill", "ask", "free"):
             text = envelope(file, b"0\n-1000\n1000\n") if command == "ask" else file
             yield f"{command} of {name}", command, text, due_of(command, text)
 

@@ -10,7 +10,7 @@ use Rattle.pm_plan.specs.Causes.{cause_code}
 use Rattle.pm_plan.specs.Plans.{PlanData}
 use Rattle.pm_scene.specs.Scene.{scene}
 use Rattle.pm_top.specs.declared.arguments.FileCommand.{FileCommand}
-use Rattle.pm_top.specs.declared.arguments.FileCommand.TheVariants.{Run, Trace, Check, Bill, Ask}
+use Rattle.pm_top.specs.declared.arguments.FileCommand.TheVariants.{Run, Trace, Check, Bill, Ask, Free}
 use Rattle.pm_top.specs.declared.status.Status.{Status}
 use Rattle.pm_top.specs.declared.status.Status.TheVariants.{TooLong}
 use Rattle.pm_check.specs.Traces.{IsValidTrace, IsBadLine}
@@ -27,6 +27,7 @@ one_file Trace input file rest file' rest' has has' = (has.0 ∙ sym has'.0, has
 one_file Bill input file rest file' rest' has has' = (has.0 ∙ sym has'.0, has.1 ∙ sym has'.1)
 one_file Check input file rest file' rest' has has' = same_envelope input file rest file' rest' has has'
 one_file Ask input file rest file' rest' has has' = same_envelope input file rest file' rest' has has'
+one_file Free input file rest file' rest' has has' = (has.0 ∙ sym has'.0, has.1 ∙ sym has'.1)
 
 -- a file that is refused has no plan
 no_plan : (asked : FileCommand) (input file rest rest' : List ℕ) (refusal : Refusal) (plan : PlanData) → HasFile asked input file rest →
@@ -69,6 +70,7 @@ no_bad_line Trace rest targets line asks are bad = absurd (cc)
 no_bad_line Check rest targets line asks are bad = absurd (cc)
 no_bad_line Bill rest targets line asks are bad = absurd (cc)
 no_bad_line Ask rest targets line asks are bad = no_list targets line rest are bad
+no_bad_line Free rest targets line asks are bad = absurd (cc)
 
 -- an input that is refused has nothing that is asked for
 pub not_both : (asked : FileCommand) (input : List ℕ) (refusal : Refusal) (plan : PlanData) (rest : List ℕ) (targets : List ℤ) →

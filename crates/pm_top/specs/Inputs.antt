@@ -13,7 +13,7 @@ use Rattle.pm_envelope.specs.Envelopes.{IsEnvelope}
 use Rattle.pm_ask.specs.TargetLists.{IsListText, IsFirstBadLine}
 use Rattle.pm_check.specs.Traces.{IsValidTrace, IsBadLine}
 use Rattle.pm_top.specs.declared.arguments.FileCommand.{FileCommand}
-use Rattle.pm_top.specs.declared.arguments.FileCommand.TheVariants.{Run, Trace, Check, Bill, Ask}
+use Rattle.pm_top.specs.declared.arguments.FileCommand.TheVariants.{Run, Trace, Check, Bill, Ask, Free}
 use Rattle.pm_top.specs.declared.status.Status.{Status}
 use Rattle.pm_top.specs.declared.status.Status.TheVariants.{Done, Invalid, TooLong, Refused}
 
@@ -24,6 +24,7 @@ input_limit Trace = 4194304
 input_limit Check = 536870912
 input_limit Bill = 4194304
 input_limit Ask = 8388608
+input_limit Free = 4194304
 
 -- the input has this cluster file, and this behind it: for check and ask it is an envelope, and else the file alone
 abbrev pub HasFile : FileCommand → List ℕ → List ℕ → List ℕ → Type 0
@@ -32,6 +33,7 @@ HasFile Trace input file rest = (file ≡ input) × (rest ≡ [])
 HasFile Check input file rest = IsEnvelope input file rest
 HasFile Bill input file rest = (file ≡ input) × (rest ≡ [])
 HasFile Ask input file rest = IsEnvelope input file rest
+HasFile Free input file rest = (file ≡ input) × (rest ≡ [])
 
 -- the input has a cluster file with this plan, and this behind it
 pub record HasPlan (asked : FileCommand) (input : List ℕ) (plan : PlanData) (rest : List ℕ) : Type 0 where
@@ -47,6 +49,7 @@ AreAsked Trace rest targets = targets ≡ []
 AreAsked Check rest targets = ⊥
 AreAsked Bill rest targets = targets ≡ []
 AreAsked Ask rest targets = IsListText targets rest
+AreAsked Free rest targets = targets ≡ []
 
 -- a refusal without an item
 abbrev pub refusal_at : ℕ → Place → Refusal

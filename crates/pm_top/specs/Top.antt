@@ -27,13 +27,13 @@ use Rattle.pm_board.specs.Boards.{IsJournal}
 use Rattle.pm_top.specs.declared.arguments.Command.{Command}
 use Rattle.pm_top.specs.declared.arguments.Command.TheVariants.{File, Demo, Serve}
 use Rattle.pm_top.specs.declared.arguments.FileCommand.{FileCommand}
-use Rattle.pm_top.specs.declared.arguments.FileCommand.TheVariants.{Run, Trace, Check, Bill, Ask}
+use Rattle.pm_top.specs.declared.arguments.FileCommand.TheVariants.{Run, Trace, Check, Bill, Ask, Free}
 use Rattle.pm_top.specs.declared.status.Status.{Status}
 use Rattle.pm_top.specs.declared.status.Status.TheVariants.{Done, Invalid, Usage, ReadFault, TooLong, Refused, WriteFault, NoMemory}
 use Rattle.pm_top.specs.Inputs.{input_limit, HasPlan, AreAsked, IsRefusalOf, report_of}
 
 abbrev pub usage_line : List ℕ
-usage_line = codes "usage: market run | market trace | market demo SIZE NUMBER | market check | market bill | market serve | market ask\n"
+usage_line = codes "usage: market run | market trace | market demo SIZE NUMBER | market check | market bill | market serve | market ask | market free\n"
 
 -- the line of an input that has more bytes than its command's limit
 abbrev pub too_long_line : FileCommand → List ℕ
@@ -42,6 +42,7 @@ too_long_line Trace = codes "too long, more than 4194304 bytes\n"
 too_long_line Check = codes "too long, more than 536870912 bytes\n"
 too_long_line Bill = codes "too long, more than 4194304 bytes\n"
 too_long_line Ask = codes "too long, more than 8388608 bytes\n"
+too_long_line Free = codes "too long, more than 4194304 bytes\n"
 
 -- ---- the text that is asked for of a plan
 
@@ -65,6 +66,7 @@ IsTextOf Trace plan targets text = IsTrace plan text
 IsTextOf Check plan targets text = ⊥
 IsTextOf Bill plan targets text = text ≡ bill_text plan (plan_bill plan)
 IsTextOf Ask plan targets text = text ≡ ask_text plan.basis (last_total plan) targets
+IsTextOf Free plan targets text = text ≡ report_of plan
 
 -- valid moves M, for a trace of so many moves
 abbrev pub valid_line : ℕ → List ℕ

@@ -56,7 +56,7 @@ fn open_input(asked: FileCommand, input: &[u8]) -> Option<Envelope<'_>>
 {
     match asked {
         FileCommand::Check | FileCommand::Ask => open_envelope(input),
-        FileCommand::Run | FileCommand::Trace | FileCommand::Bill => {
+        FileCommand::Run | FileCommand::Trace | FileCommand::Bill | FileCommand::Free => {
             let (file, rest) = (input, &input[input.len()..]);
             Some(Envelope { file, rest })
         }
@@ -156,6 +156,8 @@ fn targets_of(alloc: Global, asked: FileCommand, rest: &[u8]) -> Result<Vec<i64>
     match asked {
         FileCommand::Ask => read_targets(alloc, rest),
         FileCommand::Check => unreachable!(),
-        FileCommand::Run | FileCommand::Trace | FileCommand::Bill => Ok(Vec::new(alloc)),
+        FileCommand::Run | FileCommand::Trace | FileCommand::Bill | FileCommand::Free => {
+            Ok(Vec::new(alloc))
+        }
     }
 }

@@ -17,6 +17,8 @@ pub(crate) enum FileCommand {
     Bill,
     /// At which price the cluster would take or deliver so much more, for each of a list of targets.
     Ask,
+    /// The report of its phases, by a run over links without a lock.
+    Free,
 }
 
 /// What the program is asked to do.
@@ -60,6 +62,8 @@ fn single_of(argument: &str) -> Option<Command>
         Some(Command::Serve)
     } else if argument == "ask" {
         Some(Command::File(FileCommand::Ask))
+    } else if argument == "free" {
+        Some(Command::File(FileCommand::Free))
     } else {
         None
     }

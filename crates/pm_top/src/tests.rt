@@ -19,7 +19,7 @@ const TWO_BIDS_TEXT: &str =
     "phase 1 price 4 step 4 total -50 members 2\nmember load1 power 100 bid 1\nmember gen1 power -150 bid 1\nend phases 1 changes 2\n";
 
 const USAGE: &str =
-    "usage: market run | market trace | market demo SIZE NUMBER | market check | market bill | market serve | market ask\n";
+    "usage: market run | market trace | market demo SIZE NUMBER | market check | market bill | market serve | market ask | market free\n";
 
 const REFUSED: &str = "refused 1 document\n";
 
@@ -75,6 +75,9 @@ fn each_fault_has_its_answer(rt: HostRuntime) -> Result<(), Fail> {
         ("run", TWO_BIDS, 0, 3, Status::WriteFault, TWO_BIDS_TEXT),
         ("run", "{", 0, 0, Status::Refused, REFUSED),
         ("run", "{", 0, 1, Status::WriteFault, REFUSED),
+        ("free", TWO_BIDS, 0, 0, Status::Done, TWO_BIDS_TEXT),
+        ("free", TWO_BIDS, 1, 0, Status::ReadFault, ""),
+        ("free", TWO_BIDS, 0, 1, Status::WriteFault, TWO_BIDS_TEXT),
         ("check", TWO_BIDS, 0, 0, Status::Refused, NO_ENVELOPE),
         ("serve", STREAM, 0, 0, Status::Done, PRICE),
         ("serve", STREAM, 1, 0, Status::ReadFault, ""),

@@ -14,7 +14,7 @@ use pm_gen::{GenFault, make_plan};
 use pm_market::Journal;
 use pm_plan::{PhaseEnd, Plan};
 use pm_report::{report_text, summary_text, trace_text};
-use pm_runner::{Gate, settle};
+use pm_runner::{Gate, settle, settle_free};
 use std::alloc::{AllocError, Global};
 use std::sync::Wait;
 use std::thread::Threads;
@@ -39,6 +39,22 @@ fn run<R: Threads + Wait + Sync, G: Gate>(
     Ok((journal, ends))
 }
 
+/// Runs a plan to its end over links without a lock: the end of each phase.
+fn run_free<R: Threads + Wait + Sync, G: Gate>(
+    rt: &R,
+    alloc: Global,
+    plan: &Plan,
+    gate: &G,
+) -> Result<Vec<PhaseEnd>, AllocError>
+    ensures are { IfOk result (λ ends. ends_of ends.items ≡ all_ends plan.now) }
+    ensures few { IfOk result (λ ends. length ends.items ≤ most_phases) }
+    ensures of_plan { IfOk result (λ ends. All (IsEndOf plan.now) (ends_of ends.items)) }
+{
+    let ends = settle_free(rt, alloc, plan, gate)?;
+    prove!(ends.len() == plan.phases() as usize);
+    Ok(ends)
+}
+
 /// The total at the end of a run of a plan, to be asked for targets.
 fn last_curve<R: Threads + Wait + Sync, G: Gate>(
     rt: &R,
@@ -58,7 +74,8 @@ fn last_curve<R: Threads + Wait + Sync, G: Gate>(
 }
 
 /// The text that is asked for of a plan: the report of its phases' ends; behind it, for a trace, the lines of the run's
-/// journal; the bill of the run; or what its last total answers to targets in watts. Check asks for no text.
+/// journal; the bill of the run; what its last total answers to targets in watts; or the same report by a run over links
+/// without a lock. Check asks for no text.
 #[tactic(auto, unfolding(crate::specs::Inputs::report_of))]
 pub(crate) fn text_of<R: Threads + Wait + Sync, G: Gate>(
     rt: &R,
@@ -89,6 +106,10 @@ pub(crate) fn text_of<R: Threads + Wait + Sync, G: Gate>(
         FileCommand::Ask => {
             let curve = last_curve(rt, alloc, plan, gate)?;
             ask_text(alloc, plan.basis(), &curve, targets)
+        }
+        FileCommand::Free => {
+            let ends = run_free(rt, alloc, plan, gate)?;
+            report_text(alloc, plan, &ends)
         }
     }
 }

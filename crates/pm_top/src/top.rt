@@ -24,14 +24,14 @@ use std::sync::Wait;
 use std::thread::Threads;
 
 const USAGE_LINE: &str =
-    "usage: market run | market trace | market demo SIZE NUMBER | market check | market bill | market serve | market ask\n";
+    "usage: market run | market trace | market demo SIZE NUMBER | market check | market bill | market serve | market ask | market free\n";
 
 /// The most bytes of the input of a command.
 fn input_limit(asked: FileCommand) -> usize
     ensures { result ≡ input_limit asked }
 {
     match asked {
-        FileCommand::Run | FileCommand::Trace | FileCommand::Bill => 4_194_304,
+        FileCommand::Run | FileCommand::Trace | FileCommand::Bill | FileCommand::Free => 4_194_304,
         FileCommand::Check => 536_870_912,
         FileCommand::Ask => 8_388_608,
     }
@@ -42,7 +42,7 @@ fn too_long_line(asked: FileCommand) -> &'static str
     ensures { result.now ≡ too_long_line asked }
 {
     match asked {
-        FileCommand::Run | FileCommand::Trace | FileCommand::Bill => {
+        FileCommand::Run | FileCommand::Trace | FileCommand::Bill | FileCommand::Free => {
             "too long, more than 4194304 bytes\n"
         }
         FileCommand::Check => "too long, more than 536870912 bytes\n",
@@ -168,6 +168,7 @@ fn service<S: Source, K: Sink>(alloc: Global, source: &mut S, sink: &mut K) -> S
 ///
 /// `run` reads a cluster file to its end and appends the report of its plan, or the line of its refusal; `trace` appends
 /// the lines of the run's journal behind the report, and `bill` the accounts of the devices and of the grid in place of it.
+/// `free` appends the same report by a run whose threads share links without a lock.
 /// `ask` reads an envelope of a cluster file and of targets in watts, and appends what the total at the end of the run
 /// answers to them. `check` reads an envelope of a cluster file and of a trace, and appends whether that is one of a legal run
 /// of the file, or its bad line. `serve` reads a stream of bids, frame by frame, and appends what the auctioneer answers as
@@ -176,7 +177,8 @@ fn service<S: Source, K: Sink>(alloc: Global, source: &mut S, sink: &mut K) -> S
 /// the usage line is appended. The definition `IsDue` has for each status that writes a text the cause of the status and
 /// the text.
 ///
-/// A cluster runs with a thread for each of its nodes, and the gate is told of each turn that a node takes.
+/// A cluster runs with a thread for each of its nodes, and the gate is told of each turn that a node takes; under `free`
+/// with one for each node and phase.
 pub fn market<R: Threads + Wait + Sync, S: Source, K: Sink, G: Gate>(
     rt: &R,
     alloc: Global,

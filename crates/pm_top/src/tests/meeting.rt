@@ -13,11 +13,13 @@ use std::thread;
 /// How often a node looks for the other at most.
 const LOOKS: u32 = 20_000_000;
 
-/// The first line of one node waits until that of the other has begun, and the other way round. It keeps every line.
+/// The first line of one node waits until that of the other has begun, and the other way round; or their first turns, where
+/// no lines are told. It keeps every line.
 #[derive(Drop)]
 pub(super) struct MeetingGate<'r, R: Wait> {
     rt: &'r R,
     nodes: (u32, u32),
+    by_turns: bool,
     first: AtomicU64,
     second: AtomicU64,
     met: AtomicU64,
@@ -25,10 +27,16 @@ pub(super) struct MeetingGate<'r, R: Wait> {
 }
 
 impl<'r, R: Wait> MeetingGate<'r, R> {
-    pub(super) fn new(rt: &'r R, alloc: Global, nodes: (u32, u32)) -> MeetingGate<'r, R> {
+    pub(super) fn new(
+        rt: &'r R,
+        alloc: Global,
+        nodes: (u32, u32),
+        by_turns: bool,
+    ) -> MeetingGate<'r, R> {
         MeetingGate {
             rt,
             nodes,
+            by_turns,
             first: AtomicU64::new(0),
             second: AtomicU64::new(0),
             met: AtomicU64::new(0),
@@ -39,6 +47,14 @@ impl<'r, R: Wait> MeetingGate<'r, R> {
     /// How many of the two found that the other has begun.
     pub(super) fn met(&self) -> u64 {
         self.met.load(Ordering::SeqCst)
+    }
+
+    fn come(&self, node: u32) {
+        if node == self.nodes.0 {
+            self.meet(&self.first, &self.second);
+        } else if node == self.nodes.1 {
+            self.meet(&self.second, &self.first);
+        }
     }
 
     fn meet(&self, me: &AtomicU64, other: &AtomicU64) {
@@ -56,17 +72,19 @@ impl<'r, R: Wait> MeetingGate<'r, R> {
 }
 
 impl<'r, R: Wait + Sync> Gate for MeetingGate<'r, R> {
-    fn before(&self, _node: u32) {}
+    fn before(&self, node: u32) {
+        if self.by_turns {
+            self.come(node);
+        }
+    }
 
     fn after(&self, node: u32, line: Option<Line>) {
         let Some(line) = line else {
             return;
         };
         let _ = self.lines.lock(self.rt).push(line);
-        if node == self.nodes.0 {
-            self.meet(&self.first, &self.second);
-        } else if node == self.nodes.1 {
-            self.meet(&self.second, &self.first);
+        if !self.by_turns {
+            self.come(node);
         }
     }
 }
@@ -167,8 +185,8 @@ fn status_of(line: &str) -> Status {
 /// Under each command that runs a cluster the two nodes meet, and the moves that a trace prints are those that were told.
 #[test]
 fn two_nodes_meet(rt: HostRuntime) -> Result<(), Fail> {
-    for line in ["run", "trace", "demo 2 7", "check", "bill", "ask"] {
-        let gate = MeetingGate::new(&rt, rt.alloc(), (1, 2));
+    for line in ["run", "trace", "demo 2 7", "check", "bill", "ask", "free"] {
+        let gate = MeetingGate::new(&rt, rt.alloc(), (1, 2), line == "free");
         let input = input_of(rt.alloc(), line)?;
         let (status, text) = ran(&rt, rt.alloc(), line, &input, &gate)?;
         assert_eq!(rt; status, status_of(line), "at {line}");

@@ -115,7 +115,7 @@ fn slow_nodes_change_no_text(rt: HostRuntime) -> Result<(), Fail> {
 /// The lower concentrator and a device beside it meet, and the text is that of a run that nothing holds back.
 #[test]
 fn a_concentrator_and_a_device_meet(rt: HostRuntime) -> Result<(), Fail> {
-    let gate = MeetingGate::new(&rt, rt.alloc(), (2, 6));
+    let gate = MeetingGate::new(&rt, rt.alloc(), (2, 6), false);
     let (status, text) = ran(&rt, rt.alloc(), "run", VILLAGE, &gate)?;
     assert_eq!(rt; (status, text.as_str()), (Status::Done, VILLAGE_TEXT));
     assert_eq!(rt; gate.met(), 2);
