@@ -20,3 +20,7 @@ unfolding last_total
 ask_text-requires-clause-steps g c =
     let plan = c.args.plan.now in
     ap length c.in_ok-curve-in-Ask.ensures ∙ total_steps plan c.basis.ensures.sound (end_cut plan (phases plan)) ∙ sym (ap (λ basis. basis.steps) c.basis.ensures.basis)
+
+pub report_text-requires-in-Free-clause-of_plan : goal.report_text-requires-in-Free-clause-of_plan
+report_text-requires-in-Free-clause-of_plan g c =
+    subst (λ (ends : List EndValue). All (IsEndOf c.args.plan.now) (ends_of ends)) (sym c.deref-in-Free.ensures.value) c.in_ok-ends-in-Free.ensures.of_plan
