@@ -9,10 +9,14 @@ use Rattle.pm_agent.specs.MadeBids.{MadeBid}
 abbrev pub agent_of : MadeBid → Agent
 agent_of made = record { kind = made.kind; device = made.next.device; steps = length made.demand }
 
-same_agent : (kind kind' : Kind) (device device' steps steps' : ℕ) → kind' ≡ kind → device' ≡ device → steps' ≡ steps → (let a : Agent = record { kind = kind'; device = device'; steps = steps' } in let b : Agent = record { kind = kind; device = device; steps = steps } in a ≡ b)
+same_agent : (kind kind' : Kind) (device device' steps steps' : ℕ) → kind' ≡ kind → device' ≡ device → steps' ≡ steps →
+    (let a : Agent = record { kind = kind'; device = device'; steps = steps' } in let b : Agent =
+    record { kind = kind; device = device; steps = steps } in a ≡ b)
 same_agent kind kind' device device' steps steps' k d s = cc
 
-pub kept_agent : (value : Agent) (made new : MadeBid) (next : Next) → agent_of made ≡ value → next.device ≡ value.device → new.next ≡ next → new.kind ≡ made.kind → length new.demand ≡ length made.demand → agent_of new ≡ value
+pub kept_agent : (value : Agent) (made new : MadeBid) (next : Next) → agent_of made ≡ value → next.device ≡ value.device →
+    new.next ≡ next → new.kind ≡ made.kind → length new.demand ≡ length made.demand → agent_of new ≡ value
 kept_agent value made new next view device next_is kind_is steps_is =
     let P : Agent → Type 0 = λ v. next.device ≡ v.device → agent_of new ≡ v in
-    subst P view (λ same. same_agent made.kind new.kind made.next.device new.next.device (length made.demand) (length new.demand) kind_is (ap (λ (n : Next). n.device) next_is ∙ same) steps_is) device
+    subst P view (λ same. same_agent made.kind new.kind made.next.device new.next.device (length made.demand)
+    (length new.demand) kind_is (ap (λ (n : Next). n.device) next_is ∙ same) steps_is) device

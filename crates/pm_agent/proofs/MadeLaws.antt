@@ -8,12 +8,14 @@ use Rattle.pm_strategy.proofs.BidLaws.{bid_of-strategy}
 use Rattle.pm_agent.specs.MadeBids.{IsMade}
 
 -- the arrays tell for a manual device alone
-bid_of-arrays : (kind : Kind) (state : ℤ) (arrays others : List (List ℤ)) (steps : ℕ) → kind ≢ Manual → bid_of kind state arrays steps ≡ bid_of kind state others steps
+bid_of-arrays : (kind : Kind) (state : ℤ) (arrays others : List (List ℤ)) (steps : ℕ) → kind ≢ Manual →
+    bid_of kind state arrays steps ≡ bid_of kind state others steps
 bid_of-arrays kind state arrays others steps other =
     bid_of-strategy kind state arrays steps other ∙ sym (bid_of-strategy kind state others steps other)
 
 -- the bid of a kind is the demand of a change to a member
-pub made_member : (next : Next) (kind : Kind) (demand : List ℤ) (arrays : List (List ℤ)) (steps : ℕ) → next.member ≡ true → length demand ≡ steps → demand ≡ bid_of kind next.state.0 arrays steps → IsMade (record { next = next; kind = kind; demand = demand })
+pub made_member : (next : Next) (kind : Kind) (demand : List ℤ) (arrays : List (List ℤ)) (steps : ℕ) → next.member ≡ true →
+    length demand ≡ steps → demand ≡ bid_of kind next.state.0 arrays steps → IsMade (record { next = next; kind = kind; demand = demand })
 made_member next kind demand arrays steps member same bid = record {
   gone = λ gone. (cc);
   strategic = λ stays other others.

@@ -19,4 +19,5 @@ demand_after_change kind next arrays steps = if next.member then bid_of kind nex
 -- the demand is that of the change; for a manual device that is a member it is an array of the caller's
 pub record IsMade (made : MadeBid) : Type 0 where
   pub gone : made.next.member ≡ false → made.demand ≡ zeros (length made.demand)
-  pub strategic : made.next.member ≡ true → made.kind ≢ Manual → (arrays : List (List ℤ)) → made.demand ≡ bid_of made.kind made.next.state.0 arrays (length made.demand)
+  pub strategic : made.next.member ≡ true → made.kind ≢ Manual → (arrays : List (List ℤ)) →
+      made.demand ≡ bid_of made.kind made.next.state.0 arrays (length made.demand)

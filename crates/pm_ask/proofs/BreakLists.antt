@@ -1,5 +1,6 @@
 -- The breaks of the first steps of a total.
-use Rattle.std.proofs.Common.{◌≡◌, ◌∙◌, sym, ap, subst, refl, ℕ, zero, suc, ◌+◌, ◌-◌, ◌<◌, ◌≤◌, ℤ, pos, ◌-ℤ◌, List, [], ◌∷◌, ◌++◌, length, Option, Some, None, Bool, true, false, arith, inl, inr}
+use Rattle.std.proofs.Common.{◌≡◌, ◌∙◌, sym, ap, subst, refl, ℕ, zero, suc, ◌+◌, ◌-◌, ◌<◌, ◌≤◌, ℤ, pos, ◌-ℤ◌, List, []}
+use Rattle.std.proofs.Common.{◌∷◌, ◌++◌, length, Option, Some, None, Bool, true, false, arith, inl, inr}
 use Rattle.std.specs.Prelude.{◌<ℤ◌, All, ◌↔◌, int_lt, nat_lt, if◌then◌else◌}
 use Rattle.std.specs.List.{AllPairs, Any, filter_map, cons_option, range_with_len}
 use Rattle.std.proofs.lemmas.Bool.{cases_lt}
@@ -15,7 +16,8 @@ use Rattle.pm_ask.specs.Asked.{asked_step}
 use Rattle.pm_ask.specs.Breaks.{IsTargetOf, HasTargets, HasEnds, LiesIn, IsBreakOf, AreBreaks}
 use Rattle.pm_ask.specs.Curves.{least_of, greatest_of, break_at, breaks_of, IsCurve}
 use Rattle.pm_ask.specs.declared.breaks.Break.{Break}
-use Rattle.pm_ask.proofs.Targets.{is_target, target_is_in, least_is_total, last_has_no_least, greatest_is_below, first_has_no_greatest, level_has_none, asked_step_meets}
+use Rattle.pm_ask.proofs.Targets.{is_target, target_is_in, least_is_total, last_has_no_least, greatest_is_below, first_has_no_greatest, level_has_none}
+use Rattle.pm_ask.proofs.Targets.{asked_step_meets}
 
 -- what holds of an element of a list holds of one of the longer list
 any_in_longer : {X : Type 0} (P : X → Type 0) (xs ys : List X) → Any P xs → Any P (xs ++ ys)
@@ -63,7 +65,8 @@ break_pushed total step breaks more break pushed is whole are = rw pushed (recor
 })
 
 -- a step without targets has no break
-break_left_out : (total : List ℤ) (step : ℕ) (breaks : List Break) → ((target : ℤ) → ¬ (IsTargetOf total step target)) → AreBreaksBefore total step breaks
+break_left_out : (total : List ℤ) (step : ℕ) (breaks : List Break) → ((target : ℤ) → ¬ (IsTargetOf total step target)) →
+    AreBreaksBefore total step breaks
     → AreBreaksBefore total (step + 1) breaks
 break_left_out total step breaks none are = record {
   rise = are.rise;
@@ -111,7 +114,8 @@ last_break total step falls after last =
       all = λ target its_own. record { from = tt; to = greatest.1 target its_own };
     }
 
-middle_break : (total : List ℤ) (step : ℕ) → NeverRises total → 0 < step → step + 1 < length total → demand_at total step <ℤ demand_at total (step - 1)
+middle_break : (total : List ℤ) (step : ℕ) → NeverRises total → 0 < step → step + 1 < length total →
+    demand_at total step <ℤ demand_at total (step - 1)
     → IsWhole total (record { step = step; from = Some (demand_at total step); to = Some (demand_at total (step - 1) -ℤ pos 1) })
 middle_break total step falls after inside lower =
     let greatest = greatest_is_below total step falls after (omega arith) (λ h. omega (arith, ints, lower)) in
@@ -187,7 +191,8 @@ found_joins : (total : List ℤ) (step : ℕ) (breaks more : List Break) (found 
 found_joins total step breaks more (Some break) found joined are = break_pushed total step breaks more break joined found.0 found.1 are
 found_joins total step breaks more None none joined are = rw (joined, append-nil breaks) (break_left_out total step breaks none are)
 
-are_before : (total : List ℤ) (step : ℕ) → NeverRises total → 1 < length total → step ≤ length total → AreBreaksBefore total step (breaks_before total step)
+are_before : (total : List ℤ) (step : ℕ) → NeverRises total → 1 < length total → step ≤ length total →
+    AreBreaksBefore total step (breaks_before total step)
 are_before total zero falls more inside = no_breaks total
 are_before total (suc step) falls more inside =
     let found = found_at total step falls more (omega arith) in
@@ -213,6 +218,7 @@ steps_of_breaks total breaks are step = (
 )
 
 -- each of them is one of the steps of the total
-pub breaks_are_inside : (total : List ℤ) (breaks : List Break) → 1 ≤ length total → AreBreaks total breaks → All (λ break. break.step < length total) breaks
+pub breaks_are_inside : (total : List ℤ) (breaks : List Break) → 1 ≤ length total → AreBreaks total breaks →
+    All (λ break. break.step < length total) breaks
 breaks_are_inside total breaks some are = λ k d inside.
     let has = are.some k d inside in omega (arith, has.1, (asked_step_meets has.0 total some).inside)

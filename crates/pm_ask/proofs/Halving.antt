@@ -28,7 +28,8 @@ between_lower total target low high middle between from to met = record {
   met = λ h. met;
 }
 
-pub between_upper : (total : List ℤ) (target : ℤ) (low high middle : ℕ) → NeverRises total → IsBetween total target low high → low ≤ middle → middle < high
+pub between_upper : (total : List ℤ) (target : ℤ) (low high middle : ℕ) → NeverRises total → IsBetween total target low high →
+    low ≤ middle → middle < high
     → target <ℤ demand_at total middle → IsBetween total target (middle + 1) high
 between_upper total target low high middle falls between from to above = record {
   order = omega arith;

@@ -1,5 +1,6 @@
 -- A total has one list of breaks.
-use Rattle.std.proofs.Common.{◌≡◌, ◌∙◌, sym, ap, refl, ℕ, zero, suc, ◌+◌, ◌<◌, ◌≤◌, ℤ, List, [], ◌∷◌, Option, Some, None, arith, inl, inr}
+use Rattle.std.proofs.Common.{◌≡◌, ◌∙◌, sym, ap, refl, ℕ, zero, suc, ◌+◌, ◌<◌, ◌≤◌, ℤ, List, [], ◌∷◌, Option, Some, None}
+use Rattle.std.proofs.Common.{arith, inl, inr}
 use Rattle.std.specs.Prelude.{◌⊎◌, All}
 use Rattle.std.specs.List.{AllPairs, Any}
 use Rattle.std.proofs.lemmas.Int.{ints}
@@ -88,7 +89,8 @@ after_first total first break breaks are = record {
       ];
 }
 
-same_from : (total : List ℤ) (first : ℕ) (breaks others : List Break) → AreBreaksFrom total first breaks → AreBreaksFrom total first others → breaks ≡ others
+same_from : (total : List ℤ) (first : ℕ) (breaks others : List Break) → AreBreaksFrom total first breaks →
+    AreBreaksFrom total first others → breaks ≡ others
 same_from total first [] [] are also = refl
 same_from total first [] (other ∷ others) are also =
     let later = All-head (λ b. first ≤ b.step) other others also.later in

@@ -1,5 +1,6 @@
 -- The line of a target.
-use Rattle.std.proofs.Common.{◌≡◌, ◌≢◌, ◌∙◌, sym, ap, ℕ, suc, ◌^◌, ◌<◌, ◌≤◌, ℤ, pos, negsuc, List, [], ◌∷◌, ◌++◌, get_or, append_assoc, arith}
+use Rattle.std.proofs.Common.{◌≡◌, ◌≢◌, ◌∙◌, sym, ap, ℕ, suc, ◌^◌, ◌<◌, ◌≤◌, ℤ, pos, negsuc, List, [], ◌∷◌, ◌++◌}
+use Rattle.std.proofs.Common.{get_or, append_assoc, arith}
 use Rattle.std.specs.Prelude.{decimal}
 use Rattle.std.specs.Fmt.{signed_decimal}
 use Rattle.std.proofs.lemmas.Fmt.{decimal_is_IsNumeral, signed_decimal_injective}
@@ -48,7 +49,8 @@ pub record IsNegated (digits : List ℕ) (number : ℕ) : Type 0 where
   pub small : number ≤ demand_limit
   pub written : digits ≡ decimal number
 
-pub negated : (digits : List ℕ) (target : ℤ) → IsWithin demand_limit target → 45 ∷ digits ≡ signed_decimal target → (number : ℕ) × IsNegated digits number
+pub negated : (digits : List ℕ) (target : ℤ) → IsWithin demand_limit target → 45 ∷ digits ≡ signed_decimal target →
+    (number : ℕ) × IsNegated digits number
 negated digits (pos n) within is =
     let numeral = (decimal_is_IsNumeral n (omega (arith, ints, within.high))).0 in
     let digit = digit_at (decimal n) 0 numeral.1 numeral.0 in

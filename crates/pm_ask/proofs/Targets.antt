@@ -1,5 +1,6 @@
 -- The targets of a step, over a total that never rises.
-use Rattle.std.proofs.Common.{◌≡◌, ℕ, zero, suc, ◌+◌, ◌-◌, ◌<◌, ◌≤◌, ℤ, pos, ◌+ℤ◌, ◌-ℤ◌, ◌≤ℤ◌, List, length, Some, None, arith, inl, inr}
+use Rattle.std.proofs.Common.{◌≡◌, ℕ, zero, suc, ◌+◌, ◌-◌, ◌<◌, ◌≤◌, ℤ, pos, ◌+ℤ◌, ◌-ℤ◌, ◌≤ℤ◌, List, length}
+use Rattle.std.proofs.Common.{Some, None, arith, inl, inr}
 use Rattle.std.specs.Prelude.{◌<ℤ◌}
 use Rattle.std.proofs.lemmas.Bool.{cases_lt}
 use Rattle.std.proofs.lemmas.Int.{ints}
@@ -81,7 +82,8 @@ pub record IsIn (total : List ℤ) (target : ℤ) (step : ℕ) : Type 0 where
   pub below : 0 < step → target <ℤ demand_at total (step - 1)
   pub met : step + 1 < length total → demand_at total step ≤ℤ target
 
-pub is_target : (total : List ℤ) (target : ℤ) (step : ℕ) → NeverRises total → step < length total → IsIn total target step → IsTargetOf total step target
+pub is_target : (total : List ℤ) (target : ℤ) (step : ℕ) → NeverRises total → step < length total → IsIn total target step →
+    IsTargetOf total step target
 is_target total target step falls inside within = meets_is_asked target total step (record {
   inside = inside;
   before = λ earlier h. above_before total target (step - 1) earlier falls (omega arith) (omega arith) (within.below (omega arith));
@@ -118,7 +120,8 @@ last_has_no_least total step falls last = λ target is.
     )
 
 pub greatest_is_below : (total : List ℤ) (step : ℕ) → NeverRises total → 0 < step → step < length total
-    → (step + 1 < length total → demand_at total step <ℤ demand_at total (step - 1)) → IsGreatestTarget total step (Some (demand_at total (step - 1) -ℤ pos 1))
+    → (step + 1 < length total → demand_at total step <ℤ demand_at total (step - 1)) →
+    IsGreatestTarget total step (Some (demand_at total (step - 1) -ℤ pos 1))
 greatest_is_below total step falls after inside some = (
   is_target total (demand_at total (step - 1) -ℤ pos 1) step falls inside (record {
     below = λ h. omega (arith, ints);
@@ -141,7 +144,8 @@ first_has_no_greatest total falls some = λ target is.
     )
 
 -- a step whose total is that of the step before has no target, unless it is the last
-pub level_has_none : (total : List ℤ) (target : ℤ) (step : ℕ) → 0 < step → step + 1 < length total → demand_at total (step - 1) ≤ℤ demand_at total step
+pub level_has_none : (total : List ℤ) (target : ℤ) (step : ℕ) → 0 < step → step + 1 < length total →
+    demand_at total (step - 1) ≤ℤ demand_at total step
     → ¬ (IsTargetOf total step target)
 level_has_none total target step after inside level = λ is.
     let within = target_is_in total target step (omega arith) is in

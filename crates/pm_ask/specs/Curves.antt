@@ -1,5 +1,6 @@
 -- The breaks of a total as a list, read off its demands.
-use Rattle.std.specs.Prelude.{◌≡◌, ℕ, ◌+◌, ◌-◌, ℤ, pos, ◌-ℤ◌, int_lt, nat_lt, Bool, false, if◌then◌else◌, List, length, Option, Some, None}
+use Rattle.std.specs.Prelude.{◌≡◌, ℕ, ◌+◌, ◌-◌, ℤ, pos, ◌-ℤ◌, int_lt, nat_lt, Bool, false, if◌then◌else◌, List, length, Option}
+use Rattle.std.specs.Prelude.{Some, None}
 use Rattle.std.specs.List.{filter_map, range_with_len}
 use Rattle.pm_base.specs.Limits.{AreSteps}
 use Rattle.pm_bid.specs.Bids.{demand_at, NeverRises}

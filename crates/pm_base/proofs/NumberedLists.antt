@@ -1,5 +1,6 @@
 -- Steps over a list whose elements are numbered, up to the first refusal.
-use Rattle.std.proofs.Common.{◌≡◌, ◌∙◌, sym, ap, ℕ, suc, ◌+◌, ◌<◌, List, [], ◌∷◌, ◌++◌, length, map, get_or, take, drop, refl, arith, subst, Result, Ok, Err, Option, Some, None, add-one}
+use Rattle.std.proofs.Common.{◌≡◌, ◌∙◌, sym, ap, ℕ, suc, ◌+◌, ◌<◌, List, [], ◌∷◌, ◌++◌, length, map, get_or, take, drop, refl}
+use Rattle.std.proofs.Common.{arith, subst, Result, Ok, Err, Option, Some, None, add-one}
 use Rattle.std.proofs.Math.Seq.{take-suc, drop-cons}
 use Rattle.std.proofs.lemmas.List.{take-append-drop, length-take-le}
 use Rattle.pm_base.specs.Outcomes.{◌>>=◌, fold_from, each_from, Refuses}
@@ -21,7 +22,8 @@ pub fold_from-map : {S A B E : Type 0} (n : ℕ) (f : ℕ → S → B → Result
     fold_from n (λ m t x. f m t (g x)) s xs ≡ fold_from n f s (map g xs)
 fold_from-map n f g s [] = refl
 fold_from-map n f g s (x ∷ xs) =
-    bind_same (f n s (g x)) (λ t. fold_from (n + 1) (λ m u y. f m u (g y)) t xs) (λ t. fold_from (n + 1) f t (map g xs)) (λ t. fold_from-map (n + 1) f g t xs)
+    bind_same (f n s (g x)) (λ t. fold_from (n + 1) (λ m u y. f m u (g y)) t xs) (λ t. fold_from (n + 1) f t (map g xs))
+    (λ t. fold_from-map (n + 1) f g t xs)
 
 -- one more element was taken
 pub fold_from_more : {S A E : Type 0} (n : ℕ) (f : ℕ → S → A → Result S E) (s : S) (xs : List A) (i : ℕ) (d : A) (t u : S) →
@@ -53,7 +55,8 @@ same_again : {A E : Type 0} (r : Result (List A) E) → r ≡ (r >>= λ b. Ok b)
 same_again (Ok x) = refl
 same_again (Err e) = refl
 
-regroup : {B E : Type 0} (y : B) (r s : Result (List B) E) → ((r >>= λ a. s >>= λ b. Ok (a ++ b)) >>= λ zs. Ok (y ∷ zs)) ≡ ((r >>= λ zs. Ok (y ∷ zs)) >>= λ a. s >>= λ b. Ok (a ++ b))
+regroup : {B E : Type 0} (y : B) (r s : Result (List B) E) → ((r >>= λ a. s >>= λ b. Ok (a ++ b)) >>= λ zs. Ok (y ∷ zs))
+    ≡ ((r >>= λ zs. Ok (y ∷ zs)) >>= λ a. s >>= λ b. Ok (a ++ b))
 regroup y (Err e) s = refl
 regroup y (Ok a) (Err e) = refl
 regroup y (Ok a) (Ok b) = refl
@@ -69,7 +72,8 @@ pub each_from-append : {A B E : Type 0} (n : ℕ) (f : ℕ → A → Result B E)
 each_from-append n f [] ys = ap (λ m. each_from m f ys) (omega arith) ∙ same_again (each_from (n + 0) f ys)
 each_from-append n f (x ∷ xs) ys =
     onto (f n x) (each_from (n + 1) f xs) (each_from (n + length (x ∷ xs)) f ys) (each_from (n + 1) f (xs ++ ys))
-    (subst (λ (m : ℕ). each_from (n + 1) f (xs ++ ys) ≡ (each_from (n + 1) f xs >>= λ a. each_from m f ys >>= λ b. Ok (a ++ b))) (omega arith) (each_from-append (n + 1) f xs ys))
+    (subst (λ (m : ℕ). each_from (n + 1) f (xs ++ ys) ≡ (each_from (n + 1) f xs >>= λ a. each_from m f ys >>= λ b. Ok (a ++ b)))
+    (omega arith) (each_from-append (n + 1) f xs ys))
 
 -- one more element was read
 pub each_from_more : {A B E : Type 0} (n : ℕ) (f : ℕ → A → Result B E) (xs : List A) (i : ℕ) (d : A) (ys : List B) (y : B) →
@@ -86,11 +90,13 @@ pub each_from_fails : {A B E : Type 0} (n : ℕ) (f : ℕ → A → Result B E) 
 each_from_fails n f xs i d ys e within before here =
     ap (each_from n f) (sym (take-append-drop i xs) ∙ ap (λ l. take i xs ++ l) (drop-cons xs i d within))
     ∙ each_from-append n f (take i xs) (get_or xs i d ∷ drop (suc i) xs)
-    ∙ ap (λ m. each_from n f (take i xs) >>= λ a. each_from (n + m) f (get_or xs i d ∷ drop (suc i) xs) >>= λ b. Ok (a ++ b)) (length-take-le i xs (omega arith))
+    ∙ ap (λ m. each_from n f (take i xs) >>= λ a. each_from (n + m) f (get_or xs i d ∷ drop (suc i) xs) >>= λ b. Ok (a ++ b))
+    (length-take-le i xs (omega arith))
     ∙ rw (before, here)
 
 -- elements seen by g
-pub each_from-map : {A B C E : Type 0} (n : ℕ) (f : ℕ → B → Result C E) (g : A → B) (xs : List A) → each_from n (λ m x. f m (g x)) xs ≡ each_from n f (map g xs)
+pub each_from-map : {A B C E : Type 0} (n : ℕ) (f : ℕ → B → Result C E) (g : A → B) (xs : List A) →
+    each_from n (λ m x. f m (g x)) xs ≡ each_from n f (map g xs)
 each_from-map n f g [] = refl
 each_from-map n f g (x ∷ xs) = ap (λ r. f n (g x) >>= λ y. r >>= λ ys. Ok (y ∷ ys)) (each_from-map (n + 1) f g xs)
 

@@ -14,7 +14,8 @@ bind_same (Ok x) f g h = h x
 bind_same (Err e) f g h = refl
 
 -- a refusal is the refusal of all that comes after it
-pub Refuses-first : {X Y E : Type 0} (refusal : Option E) (read : Result X E) (next : X → Result Y E) → Refuses refusal read → Refuses refusal (read >>= next)
+pub Refuses-first : {X Y E : Type 0} (refusal : Option E) (read : Result X E) (next : X → Result Y E) → Refuses refusal read →
+    Refuses refusal (read >>= next)
 Refuses-first None read next fails = tt
 Refuses-first (Some r) read next fails = ap (λ z. z >>= next) fails
 

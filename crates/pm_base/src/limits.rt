@@ -1,5 +1,6 @@
 ghost use Rattle.std.specs.Prelude.{◌≡◌, pos};
-ghost use Rattle.pm_base.specs.Limits.{least_steps, most_steps, most_nodes, most_depth, window_size, price_limit, demand_limit, sum_limit, most_phases, most_events, most_changes};
+ghost use Rattle.pm_base.specs.Limits.{least_steps, most_steps, most_nodes, most_depth, window_size, price_limit, demand_limit, sum_limit, most_phases};
+ghost use Rattle.pm_base.specs.Limits.{most_events, most_changes};
 
 /// The least number of steps of a market basis.
 pub const LEAST_STEPS: usize = 2;

@@ -14,7 +14,8 @@ rise_from (pos step) (pos last) (negsuc range) l s r = absurd (omega (arith, int
 rise_from (pos step) (negsuc last) range l s r = absurd (omega (arith, ints))
 rise_from (negsuc step) last range l s r = absurd (omega (arith, ints))
 
-pub rise_to : (step last range : ℤ) → pos 0 ≤ℤ last → pos 0 ≤ℤ step → step ≤ℤ last → pos 0 ≤ℤ range → int_div (step *ℤ range) last ≤ℤ range
+pub rise_to : (step last range : ℤ) → pos 0 ≤ℤ last → pos 0 ≤ℤ step → step ≤ℤ last → pos 0 ≤ℤ range →
+    int_div (step *ℤ range) last ≤ℤ range
 rise_to (pos step) (pos last) (pos range) l s within r =
     let below : step ≤ last = omega (arith, ints) in
     omega (arith, ints, rise_of step last range below)
@@ -23,7 +24,8 @@ rise_to (pos step) (negsuc last) range l s within r = absurd (omega (arith, ints
 rise_to (negsuc step) last range l s within r = absurd (omega (arith, ints))
 
 -- the same rise, by the numbers that the code computed
-pub rise_is : (rise s r l step range last : ℤ) → rise ≡ int_div (s *ℤ r) l → s ≡ step → r ≡ range → l ≡ last → rise ≡ int_div (step *ℤ range) last
+pub rise_is : (rise s r l step range last : ℤ) → rise ≡ int_div (s *ℤ r) l → s ≡ step → r ≡ range → l ≡ last →
+    rise ≡ int_div (step *ℤ range) last
 rise_is rise s r l step range last is same_step same_range same_last = cc
 
 int_eq_is : (z : ℤ) → not (int_eq z (pos 0)) ≡ false → z ≡ pos 0

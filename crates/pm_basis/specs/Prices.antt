@@ -1,5 +1,6 @@
 -- The prices of a market basis.
-use Rattle.std.specs.Prelude.{◌≡◌, ℕ, ◌≤◌, ℤ, pos, ◌+ℤ◌, ◌-ℤ◌, ◌*ℤ◌, neg_ℤ, ◌≤ℤ◌, ◌<ℤ◌, int_lt, int_div, int_rem, unsigned_abs, Bool, ◌||◌, not, if◌then◌else◌, Result, Ok, Err}
+use Rattle.std.specs.Prelude.{◌≡◌, ℕ, ◌≤◌, ℤ, pos, ◌+ℤ◌, ◌-ℤ◌, ◌*ℤ◌, neg_ℤ, ◌≤ℤ◌, ◌<ℤ◌, int_lt, int_div}
+use Rattle.std.specs.Prelude.{int_rem, unsigned_abs, Bool, ◌||◌, not, if◌then◌else◌, Result, Ok, Err}
 use Rattle.std.specs.Ordering.{int_eq}
 use Rattle.pm_base.specs.Limits.{least_steps, most_steps, AreSteps, price_limit}
 use Rattle.pm_basis.specs.declared.fault.BasisFault.{BasisFault}

@@ -1,5 +1,6 @@
 -- When a list of demands is a bid, and else its first fault.
-use Rattle.std.specs.Prelude.{ℕ, ◌+◌, ℤ, pos, neg_ℤ, int_lt, Bool, ◌||◌, if◌then◌else◌, ◌==◌, nat_lt, List, length, drop, Result, Ok, Err}
+use Rattle.std.specs.Prelude.{ℕ, ◌+◌, ℤ, pos, neg_ℤ, int_lt, Bool, ◌||◌, if◌then◌else◌, ◌==◌, nat_lt, List, length, drop, Result, Ok}
+use Rattle.std.specs.Prelude.{Err}
 use Rattle.std.specs.List.{position_or_len}
 use Rattle.std.specs.Simd.Lanes.{zip2}
 use Rattle.pm_base.specs.Limits.{demand_limit}

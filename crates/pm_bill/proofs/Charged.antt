@@ -1,5 +1,6 @@
 -- The shares of the members of a cut, and the sums of its groups, charge all devices and the grid as the cut does.
-use Rattle.std.proofs.Common.{◌≡◌, ◌≢◌, ◌∙◌, sym, ap, ℕ, zero, suc, ◌+◌, ◌*◌, ◌≤◌, ◌<◌, ℤ, pos, ◌-ℤ◌, ◌*ℤ◌, Bool, true, false, cond, eqb, List}
+use Rattle.std.proofs.Common.{◌≡◌, ◌≢◌, ◌∙◌, sym, ap, ℕ, zero, suc, ◌+◌, ◌*◌, ◌≤◌, ◌<◌, ℤ, pos, ◌-ℤ◌, ◌*ℤ◌}
+use Rattle.std.proofs.Common.{Bool, true, false, cond, eqb, List}
 use Rattle.std.proofs.Common.{[], ◌∷◌, ◌++◌, length, map, get_or, refl, arith, inl, inr}
 use Rattle.std.specs.Prelude.{All, filter, ◌==◌, ◌&&◌, not}
 use Rattle.std.specs.List.{AllPairs, range_with_len}
@@ -191,7 +192,8 @@ group_power_within plan cut is planned g =
 
 -- ---- charges
 
-pairs-map : {X Y : Type 0} (R : Y → Y → Type 0) (f : X → Y) (xs : List X) (d : X) → AllPairs (λ one other. R (f one) (f other)) xs → AllPairs R (map f xs)
+pairs-map : {X Y : Type 0} (R : Y → Y → Type 0) (f : X → Y) (xs : List X) (d : X) → AllPairs (λ one other. R (f one) (f other)) xs →
+    AllPairs R (map f xs)
 pairs-map R f xs d pairs = λ i j e before inside.
     let long = length-map xs f in
     let one = get_or-map f xs i d e (omega arith) in

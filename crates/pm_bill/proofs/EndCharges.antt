@@ -1,5 +1,6 @@
 -- The shares and the sums of groups at an end are those of the plain auction of its cut, and it may be charged.
-use Rattle.std.proofs.Common.{◌≡◌, ◌∙◌, sym, ap, ℕ, ◌≤◌, ◌<◌, Bool, true, false, cond, List, [], ◌∷◌, length, map, get_or, refl, arith}
+use Rattle.std.proofs.Common.{◌≡◌, ◌∙◌, sym, ap, ℕ, ◌≤◌, ◌<◌, Bool, true, false, cond, List, [], ◌∷◌, length, map, get_or, refl}
+use Rattle.std.proofs.Common.{arith}
 use Rattle.std.specs.Prelude.{All, filter, ◌==◌, ◌&&◌, not}
 use Rattle.std.proofs.lemmas.Bool.{cond-true, cond-false}
 use Rattle.std.proofs.lemmas.Simd.{map-map}
@@ -114,7 +115,8 @@ free_power_is plan cut is =
     ∙ sym (watts-sum_each (power plan (state plan) cut) _)
     ∙ powers_group plan 0 cut is
 
-line_groups : (plan : PlanData) (cut : Cut) (gs : List ℕ) → map (limited_group plan) (map (limited_line plan (state plan) cut) gs) ≡ map (group_sum plan cut) gs
+line_groups : (plan : PlanData) (cut : Cut) (gs : List ℕ) → map (limited_group plan) (map (limited_line plan (state plan) cut) gs)
+    ≡ map (group_sum plan cut) gs
 unfolding limited_line
 line_groups plan cut gs = map-map (limited_group plan) (limited_line plan (state plan) cut) gs
 

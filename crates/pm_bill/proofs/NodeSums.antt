@@ -1,5 +1,6 @@
 -- Sums over lists of nodes, as sums over the nodes from 1 to n.
-use Rattle.std.proofs.Common.{◌≡◌, ◌∙◌, ap, ℕ, zero, suc, ◌+◌, ◌<◌, ℤ, pos, ◌+ℤ◌, ◌*ℤ◌, Bool, true, false, cond, List, [], ◌∷◌, ◌++◌, length}
+use Rattle.std.proofs.Common.{◌≡◌, ◌∙◌, ap, ℕ, zero, suc, ◌+◌, ◌<◌, ℤ, pos, ◌+ℤ◌, ◌*ℤ◌, Bool, true, false, cond, List, []}
+use Rattle.std.proofs.Common.{◌∷◌, ◌++◌, length}
 use Rattle.std.proofs.Common.{take, get_or, map, refl, arith}
 use Rattle.std.specs.Prelude.{filter}
 use Rattle.std.specs.List.{range_with_len}
@@ -40,7 +41,8 @@ sum_each-one f p x = where_it_is (p x)
     where_it_is false = refl
 
 -- the nodes that pass a test
-pub sum_each-nodes : (f : ℕ → ℤ) (p : ℕ → Bool) (n : ℕ) → sum_each f (filter p (range_with_len 1 n)) ≡ int_sum_to n (λ x. cond (p x) (f x) (pos 0))
+pub sum_each-nodes : (f : ℕ → ℤ) (p : ℕ → Bool) (n : ℕ) → sum_each f (filter p (range_with_len 1 n))
+    ≡ int_sum_to n (λ x. cond (p x) (f x) (pos 0))
 unfolding int_sum_to
 sum_each-nodes f p zero = refl
 sum_each-nodes f p (suc n) =

@@ -1,5 +1,6 @@
 -- The bill of tick phases, to which one more is added.
-use Rattle.std.proofs.Common.{◌≡◌, ◌∙◌, sym, ap, subst, ℕ, zero, suc, ◌+◌, ◌-◌, ◌≤◌, ◌<◌, ℤ, ◌+ℤ◌, Bool, true, false, cond, List, [], ◌∷◌, ◌++◌}
+use Rattle.std.proofs.Common.{◌≡◌, ◌∙◌, sym, ap, subst, ℕ, zero, suc, ◌+◌, ◌-◌, ◌≤◌, ◌<◌, ℤ, ◌+ℤ◌, Bool, true, false}
+use Rattle.std.proofs.Common.{cond, List, [], ◌∷◌, ◌++◌}
 use Rattle.std.proofs.Common.{length, map, get_or, refl, arith, length-append, neg_ℤ}
 use Rattle.std.specs.Prelude.{filter, is_some, unwrap_or, not, Some, pos}
 use Rattle.std.specs.List.{range_with_len}
@@ -66,13 +67,15 @@ few_ticks plan k =
 -- ---- one more tick phase
 
 -- the sum of accounts and one account more
-pub account_total-push : (accounts : List Account) (account : Account) → account_total (accounts ++ account ∷ []) ≡ account_sum (account_total accounts) account
+pub account_total-push : (accounts : List Account) (account : Account) →
+    account_total (accounts ++ account ∷ []) ≡ account_sum (account_total accounts) account
 account_total-push [] account = account_sum-none account ∙ sym (none-account_sum account)
 account_total-push (first ∷ accounts) account =
     ap (account_sum first) (account_total-push accounts account) ∙ sym (account_sum_assoc first (account_total accounts) account)
 
 -- the sum of what each phase gives, and what one phase more gives
-total_more : (gain : ℕ → Account) (ticks : List ℕ) (p : ℕ) → account_total (map gain (ticks ++ p ∷ [])) ≡ account_sum (account_total (map gain ticks)) (gain p)
+total_more : (gain : ℕ → Account) (ticks : List ℕ) (p : ℕ) → account_total (map gain (ticks ++ p ∷ []))
+    ≡ account_sum (account_total (map gain ticks)) (gain p)
 total_more gain ticks p = ap account_total (map-append gain ticks (p ∷ [])) ∙ account_total-push (map gain ticks) (gain p)
 
 minutes_are : (plan : PlanData) (p : ℕ) (minutes : ℤ) → minutes_of plan p ≡ Some minutes → tick_minutes plan p ≡ minutes
@@ -94,16 +97,19 @@ node_gains plan ticks p x minutes some =
     ∙ ap (λ m. cond (is_leaf plan x) (account_sum total (gain m)) no_account) (sym (minutes_are plan p minutes some))
     ∙ ap (λ account. cond (is_leaf plan x) account no_account) (sym (total_more (device_gain plan x) ticks p))
 
-grid_gains : (plan : PlanData) (ticks : List ℕ) (p : ℕ) (minutes : ℤ) (shares : List Share) (groups : List GroupSum) → minutes_of plan p ≡ Some minutes →
+grid_gains : (plan : PlanData) (ticks : List ℕ) (p : ℕ) (minutes : ℤ) (shares : List Share) (groups : List GroupSum) →
+    minutes_of plan p ≡ Some minutes →
     AreCharges plan (cut_before plan p) shares groups →
-    account_sum (account_total (map (grid_gain plan) ticks)) (account_of_grid minutes shares groups) ≡ account_total (map (grid_gain plan) (ticks ++ p ∷ []))
+    account_sum (account_total (map (grid_gain plan) ticks)) (account_of_grid minutes shares groups)
+    ≡ account_total (map (grid_gain plan) (ticks ++ p ∷ []))
 unfolding grid_gain account_of_grid
 grid_gains plan ticks p minutes shares groups some are =
     let total = account_total (map (grid_gain plan) ticks) in
     let power = sum_each (λ (share : Share). share.power) in
     ap (λ m. account_sum total (account_of m (neg_ℤ (sum_each group_cost groups)) (neg_ℤ (power shares)))) (sym (minutes_are plan p minutes some))
     ∙ ap (λ z. account_sum total (account_of (tick_minutes plan p) (neg_ℤ z) (neg_ℤ (power shares)))) are.cost
-    ∙ ap (λ z. account_sum total (account_of (tick_minutes plan p) (neg_ℤ (sum_each group_cost (group_sums plan (cut_before plan p)))) (neg_ℤ z))) are.power
+    ∙ ap (λ z. account_sum total (account_of (tick_minutes plan p) (neg_ℤ (sum_each group_cost (group_sums plan (cut_before plan p))))
+    (neg_ℤ z))) are.power
     ∙ sym (total_more (grid_gain plan) ticks p)
 
 -- the number of a node stands at its place
@@ -134,7 +140,8 @@ same_bill one other leaves accounts grid ticks minutes =
     ∙ ap (λ it. made other.leaves other.accounts other.grid other.ticks it) minutes
 
 accounts_after : (plan : PlanData) (ticks : List ℕ) (p : ℕ) (minutes : ℤ) (shares : List Share) (groups : List GroupSum) (new : BillData) →
-    minutes_of plan p ≡ Some minutes → AreCharges plan (cut_before plan p) shares groups → IsTicked (tick_of shares groups minutes) (bill_over plan ticks) new →
+    minutes_of plan p ≡ Some minutes → AreCharges plan (cut_before plan p) shares groups →
+    IsTicked (tick_of shares groups minutes) (bill_over plan ticks) new →
     new.accounts ≡ map (node_account plan (ticks ++ p ∷ [])) (0 ∷ node_numbers plan)
 unfolding bill_over
 accounts_after plan ticks p minutes shares groups new some are ticked =

@@ -1,5 +1,6 @@
 -- Sums over shares, and accounts to which shares are added one by one.
-use Rattle.std.proofs.Common.{◌≡◌, ◌≢◌, ◌∙◌, sym, ap, subst, ℕ, zero, suc, ◌+◌, ◌<◌, ◌≤◌, ◌==◌, true, false, ℤ, pos, ◌+ℤ◌, ◌-ℤ◌, ◌*ℤ◌, List, [], ◌∷◌}
+use Rattle.std.proofs.Common.{◌≡◌, ◌≢◌, ◌∙◌, sym, ap, subst, ℕ, zero, suc, ◌+◌, ◌<◌, ◌≤◌, ◌==◌, true, false, ℤ, pos}
+use Rattle.std.proofs.Common.{◌+ℤ◌, ◌-ℤ◌, ◌*ℤ◌, List, [], ◌∷◌}
 use Rattle.std.proofs.Common.{◌++◌, length, get_or, take, replicate, refl, arith, inl, inr, get_or-set_same, get_or-set_other}
 use Rattle.std.specs.Prelude.{All}
 use Rattle.std.specs.List.{AllPairs}
@@ -54,12 +55,14 @@ unfolding account_of_shares
 account_of_shares-none minutes = refl
 
 -- one more share is one of its own node, and of no other
-own_share : (node : ℕ) (shares : List Share) (share : Share) → share.node ≡ node → shares_of node (shares ++ share ∷ []) ≡ shares_of node shares ++ share ∷ []
+own_share : (node : ℕ) (shares : List Share) (share : Share) → share.node ≡ node →
+    shares_of node (shares ++ share ∷ []) ≡ shares_of node shares ++ share ∷ []
 own_share node shares share same =
     let test : (share.node == node) ≡ true = eq-eqb share.node node same in
     filter-append (λ s. s.node == node) shares (share ∷ []) ∙ ap (λ more. shares_of node shares ++ more) (rw test refl)
 
-other_share : (node : ℕ) (shares : List Share) (share : Share) → (share.node ≡ node → ⊥) → shares_of node (shares ++ share ∷ []) ≡ shares_of node shares
+other_share : (node : ℕ) (shares : List Share) (share : Share) → (share.node ≡ node → ⊥) →
+    shares_of node (shares ++ share ∷ []) ≡ shares_of node shares
 other_share node shares share different =
     let test : (share.node == node) ≡ false = ne_eqb share.node node different in
     let none : shares_of node (share ∷ []) ≡ [] = rw test refl in

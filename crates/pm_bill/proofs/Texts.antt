@@ -1,5 +1,6 @@
 -- The lines of accounts, device by device.
-use Rattle.std.proofs.Common.{◌≡◌, ◌∙◌, ap, ℕ, ◌+◌, true, false, List, [], ◌∷◌, ◌++◌, get_or, refl, arith, append_assoc, add-one, Bool}
+use Rattle.std.proofs.Common.{◌≡◌, ◌∙◌, ap, ℕ, ◌+◌, true, false, List, [], ◌∷◌, ◌++◌, get_or, refl, arith, append_assoc, add-one}
+use Rattle.std.proofs.Common.{Bool}
 use Rattle.std.specs.Prelude.{filter, flat_map}
 use Rattle.std.specs.List.{range_with_len}
 use Rattle.std.proofs.lemmas.List.{append-nil}

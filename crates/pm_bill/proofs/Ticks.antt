@@ -1,5 +1,6 @@
 -- A bill keeps its facts over a tick.
-use Rattle.std.proofs.Common.{◌≡◌, ◌∙◌, sym, ap, subst, ℕ, ◌+◌, ◌*◌, ◌<◌, true, false, ℤ, pos, neg_ℤ, ◌+ℤ◌, ◌*ℤ◌, List, ◌∷◌, ◌++◌, length, take, drop}
+use Rattle.std.proofs.Common.{◌≡◌, ◌∙◌, sym, ap, subst, ℕ, ◌+◌, ◌*◌, ◌<◌, true, false, ℤ, pos, neg_ℤ, ◌+ℤ◌, ◌*ℤ◌}
+use Rattle.std.proofs.Common.{List, ◌∷◌, ◌++◌, length, take, drop}
 use Rattle.std.proofs.Common.{refl, replicate, arith, Bool, inl, inr}
 use Rattle.std.specs.Prelude.{All, IsTrue}
 use Rattle.std.proofs.Math.IntN.{zero-*ℤ}
@@ -127,5 +128,6 @@ pub opens_bill : (leaves : List Bool) (accounts : List Account) (grid : Account)
 opens_bill leaves accounts grid accounts_are grid_is = rw (accounts_are, grid_is) (new_bill_is leaves)
 
 -- what a list that was lent as a slice has after it is written back
-pub written_back : {A : Type 0} (old new : List A) (n : ℕ) → n ≡ length old → length new ≡ length old → take n (new ++ drop (length new) old) ≡ new
+pub written_back : {A : Type 0} (old new : List A) (n : ℕ) → n ≡ length old → length new ≡ length old →
+    take n (new ++ drop (length new) old) ≡ new
 written_back old new n is same = take_at new (drop (length new) old) n (same ∙ sym is)

@@ -1,5 +1,6 @@
 -- A tick's shares: what each device pays for its power, and what each group's power comes to.
-use Rattle.std.specs.Prelude.{◌≡◌, ◌≢◌, ℕ, ◌+◌, ◌≤◌, ◌==◌, ℤ, pos, neg_ℤ, ◌+ℤ◌, ◌*ℤ◌, Bool, true, List, [], ◌∷◌, length, filter, map, All}
+use Rattle.std.specs.Prelude.{◌≡◌, ◌≢◌, ℕ, ◌+◌, ◌≤◌, ◌==◌, ℤ, pos, neg_ℤ, ◌+ℤ◌, ◌*ℤ◌, Bool, true, List, []}
+use Rattle.std.specs.Prelude.{◌∷◌, length, filter, map, All}
 use Rattle.std.specs.List.{AllPairs}
 use Rattle.pm_base.specs.Limits.{IsWithin, price_limit, demand_limit, sum_limit, most_nodes}
 use Rattle.pm_tree.specs.Shape.{leaf_at}

@@ -1,5 +1,6 @@
 -- A board whose open phase was closed.
-use Rattle.std.proofs.Common.{◌≡◌, ◌∙◌, sym, ap, subst, refl, ℕ, ◌+◌, ◌-◌, ◌<◌, ◌≤◌, List, [], ◌∷◌, ◌++◌, length, map, take, slice_index_or, arith, None}
+use Rattle.std.proofs.Common.{◌≡◌, ◌∙◌, sym, ap, subst, refl, ℕ, ◌+◌, ◌-◌, ◌<◌, ◌≤◌, List, [], ◌∷◌, ◌++◌, length, map}
+use Rattle.std.proofs.Common.{take, slice_index_or, arith, None}
 use Rattle.std.specs.List.{range_with_len}
 use Rattle.std.proofs.Math.ListN.{set, length-set}
 use Rattle.std.proofs.lemmas.List.{map-append, take_more_set}
@@ -36,7 +37,8 @@ ends_more plan k =
     ∙ map-append (λ q. end_of plan (end_cut plan q)) (range_with_len 1 k) ((1 + k) ∷ [])
     ∙ ap (λ (n : ℕ). ends_to plan k ++ end_of plan (end_cut plan n) ∷ []) (omega arith)
 
-kept_more : (ends : List EndValue) (k : ℕ) (e : EndValue) → k < length ends → kept_ends (take (k + 1) (set ends k e)) ≡ kept_ends (take k ends) ++ e.end ∷ []
+kept_more : (ends : List EndValue) (k : ℕ) (e : EndValue) → k < length ends →
+    kept_ends (take (k + 1) (set ends k e)) ≡ kept_ends (take k ends) ++ e.end ∷ []
 kept_more ends k e inside = ap kept_ends (take_more_set ends k e inside) ∙ map-append (λ (e : EndValue). e.end) (take k ends) (e ∷ [])
 
 module _ (plan : PlanData) (c new : Core) (j : JournalData) (ends : List EndValue) (is : IsBoard plan c j ends)
@@ -70,7 +72,8 @@ module _ (plan : PlanData) (c new : Core) (j : JournalData) (ends : List EndValu
         kept_more ends c.closed e has_end ∙ ap (λ (x : EndData). kept_ends (take c.closed ends) ++ x ∷ []) its_end
         ∙ ap (λ (xs : List EndData). xs ++ end_of plan (end_cut plan (c.closed + 1)) ∷ []) is.ended ∙ sym (ends_more plan c.closed)
 
-    pub board_closed : (j' : JournalData) → j'.lines ≡ j.lines ++ closing_line (s.closed + 1) ∷ [] → j'.spare ≡ j.spare - 1 → IsBoard plan new j' (set ends c.closed e)
+    pub board_closed : (j' : JournalData) → j'.lines ≡ j.lines ++ closing_line (s.closed + 1) ∷ [] → j'.spare ≡ j.spare - 1 →
+        IsBoard plan new j' (set ends c.closed e)
     board_closed j' added spared = record {
       is_plan = is.is_plan;
       run = run_on plan c new j ends (closing_line (s.closed + 1)) is made j'.lines added;
@@ -81,10 +84,12 @@ module _ (plan : PlanData) (c new : Core) (j : JournalData) (ends : List EndValu
     }
 
     pub phase_closed : (plan' : PlanData) (lines : List Line) → plan' ≡ plan → lines ≡ j.lines ++ closing_line (s.closed + 1) ∷ [] →
-        ClosesPhase (record { plan = plan; lines = j.lines; ends = take c.closed ends }) (record { plan = plan'; lines = lines; ends = take new.closed (set ends c.closed e) })
+        ClosesPhase (record { plan = plan; lines = j.lines; ends = take c.closed ends })
+        (record { plan = plan'; lines = lines; ends = take new.closed (set ends c.closed e) })
     phase_closed plan' lines same added = record {
       adds = adds_line plan c new j ends (closing_line (s.closed + 1)) is made plan' _ _ lines same added;
       ends =
           ap (λ (k : ℕ). kept_ends (take k (set ends c.closed e))) one_more ∙ kept_more ends c.closed e has_end
-          ∙ ap (λ (x : EndData). kept_ends (take c.closed ends) ++ x ∷ []) (its_end ∙ ap (λ (k : ℕ). end_of plan (end_cut plan (k + 1))) is.run.stands.closed);
+          ∙ ap (λ (x : EndData). kept_ends (take c.closed ends) ++ x ∷ [])
+          (its_end ∙ ap (λ (k : ℕ). end_of plan (end_cut plan (k + 1))) is.run.stands.closed);
     }

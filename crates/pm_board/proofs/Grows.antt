@@ -1,5 +1,6 @@
 -- How a board grows by a line.
-use Rattle.std.proofs.Common.{◌≡◌, ◌∙◌, sym, ap, subst, refl, ℕ, ◌+◌, ◌-◌, ◌≤◌, List, [], ◌∷◌, ◌++◌, length, map, arith, length-append}
+use Rattle.std.proofs.Common.{◌≡◌, ◌∙◌, sym, ap, subst, refl, ℕ, ◌+◌, ◌-◌, ◌≤◌, List, [], ◌∷◌, ◌++◌, length, map, arith}
+use Rattle.std.proofs.Common.{length-append}
 use Rattle.std.specs.Prelude.{Result, Ok, Err, IsOk, OnOk}
 use Rattle.std.proofs.lemmas.Bool.{false≢true}
 use Rattle.std.proofs.lemmas.List.{map-append}
@@ -48,7 +49,13 @@ module _ (plan : PlanData) (c new : Core) (j : JournalData) (ends : List EndValu
 
   -- with the line the journal is within the bound, so that there is room for it
   pub has_spare : 1 ≤ j.spare
-  has_spare = omega (arith, run_bounded plan is.is_plan (map act_of (moves_of j.lines) ++ act_of l.what ∷ []) new (j.lines ++ l ∷ []) run_longer, length-append j.lines (l ∷ []), is.room)
+  has_spare = omega (
+    arith,
+    run_bounded plan is.is_plan (map act_of (moves_of j.lines) ++ act_of l.what ∷ []) new
+        (j.lines ++ l ∷ []) run_longer,
+    length-append j.lines (l ∷ []),
+    is.room,
+  )
 
   pub run_on : (lines : List Line) → lines ≡ j.lines ++ l ∷ [] → IsRunOf plan (map act_of (moves_of lines)) new lines
   run_on lines added =
@@ -76,5 +83,6 @@ module _ (plan : PlanData) (c new : Core) (j : JournalData) (ends : List EndValu
 -- the cluster's count of closed phases after a node's move
 pub closed_on : (plan : PlanData) (c new : Core) (j : JournalData) (ends : List EndValue) (l : Line) → IsBoard plan c j ends →
     IsMadeLine plan new (after (plan_lists plan) (moves_of j.lines)) l →
-    (step (plan_lists plan) (after (plan_lists plan) (moves_of j.lines)) l.what).closed ≡ (after (plan_lists plan) (moves_of j.lines)).closed → new.closed ≡ c.closed
+    (step (plan_lists plan) (after (plan_lists plan) (moves_of j.lines)) l.what).closed
+    ≡ (after (plan_lists plan) (moves_of j.lines)).closed → new.closed ≡ c.closed
 closed_on plan c new j ends l is made same = made.makes.stands.closed ∙ same ∙ sym is.run.stands.closed

@@ -6,7 +6,8 @@ use Rattle.pm_plan.specs.Ends.{EndValue}
 use Rattle.pm_board.specs.Kept.{HasRoomForAll}
 
 -- an end with room for all entries of a plan
-pub vacant_has_room : (plan : PlanData) (e : EndValue) → length plan.entries ≤ e.member_room → length plan.entries ≤ e.limited_room → HasRoomForAll plan e
+pub vacant_has_room : (plan : PlanData) (e : EndValue) → length plan.entries ≤ e.member_room → length plan.entries ≤ e.limited_room →
+    HasRoomForAll plan e
 vacant_has_room plan e members limited = record {
   members = omega (arith, members, length-parents_of plan.entries);
   limited = omega (arith, limited, length-parents_of plan.entries);

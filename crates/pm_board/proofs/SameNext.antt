@@ -13,7 +13,8 @@ use Rattle.pm_cluster.specs.Acts.{IsNextOrNone, NotChanged}
 use Rattle.pm_cluster.specs.declared.fault.ChangeFault.{ChangeFault}
 use Rattle.pm_cluster.specs.declared.fault.ChangeFault.TheVariants as change_faults
 
-next_alike : (plan : PlanData) (closed closed' : ℕ) (counts counts' : Cut) (d : ℕ) (next : Option Next) → closed ≡ closed' → counts d ≡ counts' d →
+next_alike : (plan : PlanData) (closed closed' : ℕ) (counts counts' : Cut) (d : ℕ) (next : Option Next) → closed ≡ closed' →
+    counts d ≡ counts' d →
     IsNextOrNone plan closed counts d next → IsNextOrNone plan closed' counts' d next
 next_alike plan closed closed' counts counts' d None same count (inl all) = inl (omega (arith, all, same))
 next_alike plan closed closed' counts counts' d None same count (inr made) = inr (sym count ∙ made ∙ ap (λ (p : ℕ). end_cut plan (p + 1) d) same)

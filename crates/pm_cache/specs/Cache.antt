@@ -1,5 +1,6 @@
 -- The newest bid of each child of a node, and the sum of these bids.
-use Rattle.std.specs.Prelude.{◌≡◌, ℕ, ◌<◌, ◌≤◌, ℤ, true, false, if◌then◌else◌, nat_le, List, [], length, replicate, slice_set, slice_index_or, Result, Ok, Err}
+use Rattle.std.specs.Prelude.{◌≡◌, ℕ, ◌<◌, ◌≤◌, ℤ, true, false, if◌then◌else◌, nat_le, List, [], length, replicate, slice_set}
+use Rattle.std.specs.Prelude.{slice_index_or, Result, Ok, Err}
 use Rattle.pm_bid.specs.Heads.{nothing_sent}
 use Rattle.pm_base.specs.Limits.{AreSteps, most_nodes}
 use Rattle.pm_bid.specs.Bids.{zeros, sum_of, HaveSteps}
@@ -68,4 +69,5 @@ pub record IsCache (cache : Cache) : Type 0 where
   pub few_children : length cache.heads ≤ most_nodes
   pub same_children : length cache.demands ≡ length cache.heads
   pub same_steps : HaveSteps cache.steps cache.demands
-  pub zeros_where_gone : (child : ℕ) → child < length cache.heads → (child_head cache child).gone ≡ true → child_demand cache child ≡ zeros cache.steps
+  pub zeros_where_gone : (child : ℕ) → child < length cache.heads → (child_head cache child).gone ≡ true →
+      child_demand cache child ≡ zeros cache.steps

@@ -1,18 +1,21 @@
 -- The four kinds of step on the cell of the bids keep the rule.
-use Rattle.std.proofs.Common.{◌≡◌, ℕ, ◌*◌, ◌/◌, ◌%◌, ◌<◌, ◌≤◌, List, [], ◌∷◌, ◌++◌, Some, None, bit_or, refl, sym, ap, ◌∙◌, subst, arith}
+use Rattle.std.proofs.Common.{◌≡◌, ℕ, ◌*◌, ◌/◌, ◌%◌, ◌<◌, ◌≤◌, List, [], ◌∷◌, ◌++◌, Some, None, bit_or, refl, sym, ap}
+use Rattle.std.proofs.Common.{◌∙◌, subst, arith}
 use mathlib.Core.Logic.{dite}
 use mathlib.Core.Option as opt
 use native.Mathlib.Decide.{dec_le}
 use Rattle.atomic_table.specs.Table.{step, keeps, takes, gives, rest, put_back}
 use Rattle.pm_cells.specs.Numbers.{newest_number}
 use Rattle.pm_cells.specs.Cells.{CellSlot, IsCell, IsBidWith, IsPriceOf, KeepsCells}
-use Rattle.pm_cells.specs.Steps.{Seated, taking, putting, having_lost, having_put, having_taken, having_found_none, with_up, claims_to_put_bid, releases_put_bid, claims_to_take_bid, releases_taken_bid}
+use Rattle.pm_cells.specs.Steps.{Seated, taking, putting, having_lost, having_put, having_taken, having_found_none, with_up, claims_to_put_bid}
+use Rattle.pm_cells.specs.Steps.{releases_put_bid, claims_to_take_bid, releases_taken_bid}
 use Rattle.pm_cells.specs.declared.view.EndView.{EndView}
 use Rattle.pm_cells.specs.declared.view.CellView.{CellView}
 use Rattle.pm_cells.specs.declared.view.Role.TheVariants.{Child, Parent}
 use Rattle.pm_cells.specs.declared.message.Message.{Message}
 use Rattle.pm_cells.proofs.Words.{either_bit}
-use Rattle.pm_cells.proofs.OneCell.{number_is, taken_at_most, claimed_to_put, claimed_to_take, lost_to_put, lost_to_take, found_in_slot, released_put, released_taken, released_none, weakened, IsPriceOf-more}
+use Rattle.pm_cells.proofs.OneCell.{number_is, taken_at_most, claimed_to_put, claimed_to_take, lost_to_put, lost_to_take, found_in_slot, released_put}
+use Rattle.pm_cells.proofs.OneCell.{released_taken, released_none, weakened, IsPriceOf-more}
 use Rattle.pm_cells.proofs.Seats.{MayClaim, MayStore, child_may, parent_may, keeps_cut, child_steps_up, parent_steps_up}
 
 -- the child's end may claim the slot of the bids
@@ -65,7 +68,11 @@ may_release_put_bid slots id m n x is holds carries above fits =
     let v = with_up m.0 (having_put m.0.up n) in
     let half : n ≡ n * 2 / 2 = omega arith in
     let more = m.0.up.puts ++ n ∷ [] in
-    let After = λ (l : List (ℕ × CellSlot)). KeepsCells record { words = n * 2 ∷ w₁ ∷ []; homes = put_back (h₀ ∷ h₁ ∷ []) l; views = v ∷ p ∷ [] } in (
+    let After = λ (l : List (ℕ × CellSlot)). KeepsCells record {
+      words = n * 2 ∷ w₁ ∷ [];
+      homes = put_back (h₀ ∷ h₁ ∷ []) l;
+      views = v ∷ p ∷ [];
+    } in (
       v,
       gives,
       tt,

@@ -1,18 +1,21 @@
 -- The four kinds of step on the cell of the prices keep the rule.
-use Rattle.std.proofs.Common.{◌≡◌, ℕ, ◌*◌, ◌/◌, ◌%◌, ◌<◌, ◌≤◌, List, [], ◌∷◌, Some, None, bit_or, refl, sym, ap, ◌∙◌, subst, arith}
+use Rattle.std.proofs.Common.{◌≡◌, ℕ, ◌*◌, ◌/◌, ◌%◌, ◌<◌, ◌≤◌, List, [], ◌∷◌, Some, None, bit_or, refl, sym, ap, ◌∙◌}
+use Rattle.std.proofs.Common.{subst, arith}
 use mathlib.Core.Logic.{dite}
 use mathlib.Core.Option as opt
 use native.Mathlib.Decide.{dec_le}
 use Rattle.atomic_table.specs.Table.{step, keeps, takes, gives, rest, put_back}
 use Rattle.pm_cells.specs.Numbers.{newest_number}
 use Rattle.pm_cells.specs.Cells.{CellSlot, IsCell, IsPriceOf, KeepsCells}
-use Rattle.pm_cells.specs.Steps.{Seated, taking, putting, having_lost, having_put, having_taken, having_found_none, with_down, claims_to_put_price, releases_put_price, claims_to_take_price, releases_taken_price}
+use Rattle.pm_cells.specs.Steps.{Seated, taking, putting, having_lost, having_put, having_taken, having_found_none, with_down, claims_to_put_price}
+use Rattle.pm_cells.specs.Steps.{releases_put_price, claims_to_take_price, releases_taken_price}
 use Rattle.pm_cells.specs.declared.view.EndView.{EndView}
 use Rattle.pm_cells.specs.declared.view.CellView.{CellView}
 use Rattle.pm_cells.specs.declared.view.Role.TheVariants.{Child, Parent}
 use Rattle.pm_cells.specs.declared.message.Message.{Message}
 use Rattle.pm_cells.proofs.Words.{either_bit}
-use Rattle.pm_cells.proofs.OneCell.{number_is, taken_at_most, claimed_to_put, claimed_to_take, lost_to_put, lost_to_take, found_in_slot, released_put, released_taken, released_none}
+use Rattle.pm_cells.proofs.OneCell.{number_is, taken_at_most, claimed_to_put, claimed_to_take, lost_to_put, lost_to_take, found_in_slot, released_put}
+use Rattle.pm_cells.proofs.OneCell.{released_taken, released_none}
 use Rattle.pm_cells.proofs.Seats.{MayClaim, MayStore, child_may, parent_may, child_steps_down, parent_steps_down}
 
 -- the parent's end may claim the slot of the prices
@@ -68,7 +71,11 @@ may_release_put_price slots id m n x is holds carries above (price, same, index,
     let half : n ≡ n * 2 / 2 = omega arith in
     let fits : IsPriceOf c.up.puts n x = (price, same, index, r.up.takes_were_put price.number among) in
     let cell = released_put (IsPriceOf c.up.puts) w₁ h₁ m.0.down c.down r.down n x holds above fits in
-    let After = λ (l : List (ℕ × CellSlot)). KeepsCells record { words = w₀ ∷ n * 2 ∷ []; homes = put_back (h₀ ∷ h₁ ∷ []) l; views = c ∷ v ∷ [] } in (
+    let After = λ (l : List (ℕ × CellSlot)). KeepsCells record {
+      words = w₀ ∷ n * 2 ∷ [];
+      homes = put_back (h₀ ∷ h₁ ∷ []) l;
+      views = c ∷ v ∷ [];
+    } in (
       v,
       gives,
       tt,

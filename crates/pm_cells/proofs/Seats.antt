@@ -93,7 +93,8 @@ Goes s id m i f then = (v : EndView) × (a : Act CellSlot) × Valid s.homes m.1 
 
 -- the child's end may make a step that goes from every table of a cut link
 pub child_may : (slots id : ℕ) (m : Seated) (i : ℕ) (f : ℕ → ℕ) (then : ℕ → Seated → Type 0) → m.0.role ≡ Child
-    → ((w₀ w₁ : ℕ) (h₀ h₁ : opt.Option CellSlot) (p : EndView) → AreCells w₀ w₁ h₀ h₁ m.0 p → Goes (two_cells w₀ w₁ h₀ h₁ m.0 p) 0 m i f then)
+    → ((w₀ w₁ : ℕ) (h₀ h₁ : opt.Option CellSlot) (p : EndView) → AreCells w₀ w₁ h₀ h₁ m.0 p →
+    Goes (two_cells w₀ w₁ h₀ h₁ m.0 p) 0 m i f then)
     → Allows KeepsCells slots id m i f then
 child_may slots id m i f then is go s k _ at _ =
     let (w₀, w₁, h₀, h₁, p, n, e, r) = as_child s id m.0 k at is in
@@ -101,17 +102,20 @@ child_may slots id m i f then is go s k _ at _ =
 
 -- and so may the parent's
 pub parent_may : (slots id : ℕ) (m : Seated) (i : ℕ) (f : ℕ → ℕ) (then : ℕ → Seated → Type 0) → m.0.role ≡ Parent
-    → ((w₀ w₁ : ℕ) (h₀ h₁ : opt.Option CellSlot) (c : EndView) → AreCells w₀ w₁ h₀ h₁ c m.0 → Goes (two_cells w₀ w₁ h₀ h₁ c m.0) 1 m i f then)
+    → ((w₀ w₁ : ℕ) (h₀ h₁ : opt.Option CellSlot) (c : EndView) → AreCells w₀ w₁ h₀ h₁ c m.0 →
+    Goes (two_cells w₀ w₁ h₀ h₁ c m.0) 1 m i f then)
     → Allows KeepsCells slots id m i f then
 parent_may slots id m i f then is go s k _ at _ =
     let (w₀, w₁, h₀, h₁, c, n, e, r) = as_parent s id m.0 k at is in
     subst (λ (x : LinkTable × ℕ). Goes x.0 x.1 m i f then) (λ j. (sym e j, sym n j)) (go w₀ w₁ h₀ h₁ c r)
 
 -- the table of a cut link keeps the rule
-pub keeps_cut : (w₀ w₁ : ℕ) (h₀ h₁ : opt.Option CellSlot) (c p : EndView) → AreCells w₀ w₁ h₀ h₁ c p → KeepsCells (two_cells w₀ w₁ h₀ h₁ c p)
+pub keeps_cut : (w₀ w₁ : ℕ) (h₀ h₁ : opt.Option CellSlot) (c p : EndView) → AreCells w₀ w₁ h₀ h₁ c p →
+    KeepsCells (two_cells w₀ w₁ h₀ h₁ c p)
 keeps_cut w₀ w₁ h₀ h₁ c p r = inr (inl (w₀, w₁, h₀, h₁, c, p, refl, r))
 
-module _ (w₀ w₁ : ℕ) (h₀ h₁ : opt.Option CellSlot) (c p : EndView) (r : AreCells w₀ w₁ h₀ h₁ c p) (w : ℕ) (h : opt.Option CellSlot) (a : CellView) where
+module _ (w₀ w₁ : ℕ) (h₀ h₁ : opt.Option CellSlot) (c p : EndView) (r : AreCells w₀ w₁ h₀ h₁ c p) (w : ℕ) (h : opt.Option CellSlot)
+    (a : CellView) where
   -- the cell of the bids changes, and what the child knows of it, but not what it put
   pub child_steps_up : a.puts ≡ c.up.puts → IsCell IsBidWith w h a p.up → KeepsCells (two_cells w w₁ h h₁ (with_up c a) p)
   child_steps_up same up = keeps_cut w w₁ h h₁ (with_up c a) p record {

@@ -36,25 +36,29 @@ held_first [] = None
 held_first (y ∷ ys) = y.1
 
 -- what the claim gave is what the exchange brought out
-pub found_slot : (m : Seated) (v : EndView) (k : ℕ) (more others : List (ℕ × CellSlot)) (x y : CellSlot) → m ≡ (v, (k, x) ∷ more) → m.1 ≡ (k, y) ∷ others → x ≡ y
+pub found_slot : (m : Seated) (v : EndView) (k : ℕ) (more others : List (ℕ × CellSlot)) (x y : CellSlot) → m ≡ (v, (k, x) ∷ more) →
+    m.1 ≡ (k, y) ∷ others → x ≡ y
 found_slot m v k more others x y e f = sym (ap (λ (u : Seated). held_first u.1) e) ∙ ap held_first f
 
 -- the slot of the bids has no price, and that of the prices no bid
 pub not_price : (a : CellView) (n : ℕ) (x : CellSlot) → ShowsNewest IsBidWith a n x → (p : PriceUpdate) → x ≡ Some (Price p) → ⊥
 not_price a n x s p e = let (u, is, _) = (some_is_new IsBidWith a n x s (Price p) e).1 in absurd (cc)
 
-pub not_bid : (bids : List ℕ) (a : CellView) (n : ℕ) (x : CellSlot) → ShowsNewest (IsPriceOf bids) a n x → (u : UpMessage) → x ≡ Some (Bid u) → ⊥
+pub not_bid : (bids : List ℕ) (a : CellView) (n : ℕ) (x : CellSlot) → ShowsNewest (IsPriceOf bids) a n x → (u : UpMessage) →
+    x ≡ Some (Bid u) → ⊥
 not_bid bids a n x s u e = let (p, is, _, _) = (some_is_new (IsPriceOf bids) a n x s (Bid u) e).1 in absurd (cc)
 
 -- a bid in the slot has a number above all that were taken
-pub bid_above : (a : CellView) (n : ℕ) (x : CellSlot) → ShowsNewest IsBidWith a n x → (u : UpMessage) → x ≡ Some (Bid u) → All (λ k. k < u.number) a.takes
+pub bid_above : (a : CellView) (n : ℕ) (x : CellSlot) → ShowsNewest IsBidWith a n x → (u : UpMessage) → x ≡ Some (Bid u) →
+    All (λ k. k < u.number) a.takes
 bid_above a n x s u e =
     let (new, (w, is, number)) = some_is_new IsBidWith a n x s (Bid u) e in
     let same : n ≡ u.number = cc in
     subst (λ j. All (λ k. k < j) a.takes) same (all_below IsBidWith a n x s new)
 
 -- a price in the slot has an index above all that were taken
-pub price_above : (bids : List ℕ) (a : CellView) (n : ℕ) (x : CellSlot) → ShowsNewest (IsPriceOf bids) a n x → (u : PriceUpdate) → x ≡ Some (Price u)
+pub price_above : (bids : List ℕ) (a : CellView) (n : ℕ) (x : CellSlot) → ShowsNewest (IsPriceOf bids) a n x → (u : PriceUpdate) →
+    x ≡ Some (Price u)
     → All (λ k. k < u.index) a.takes
 price_above bids a n x s u e =
     let (new, (w, is, number, _)) = some_is_new (IsPriceOf bids) a n x s (Price u) e in

@@ -32,7 +32,8 @@ impl Model for ChildEnd {
 
     ghost view = { λ e. record { link = e.seat.table_id; known = e.seat.me.0; room = e.room } };
 
-    ghost invariant = { λ e. RestsBetweenCalls Child e.seat.me e.seat.me.0.up e.seat.me.0.down e.puts.items e.takes.items e.room (vec_capacity e.puts) (vec_capacity e.takes) };
+    ghost invariant = { λ e. RestsBetweenCalls Child e.seat.me e.seat.me.0.up e.seat.me.0.down e.puts.items e.takes.items e.room
+        (vec_capacity e.puts) (vec_capacity e.takes) };
 }
 
 /// The end of a link that takes bids and puts prices.
@@ -55,7 +56,8 @@ impl Model for ParentEnd {
 
     ghost view = { λ e. record { link = e.seat.table_id; known = e.seat.me.0; room = e.room } };
 
-    ghost invariant = { λ e. RestsBetweenCalls Parent e.seat.me e.seat.me.0.down e.seat.me.0.up e.puts.items e.takes.items e.room (vec_capacity e.puts) (vec_capacity e.takes) };
+    ghost invariant = { λ e. RestsBetweenCalls Parent e.seat.me e.seat.me.0.down e.seat.me.0.up e.puts.items e.takes.items e.room
+        (vec_capacity e.puts) (vec_capacity e.takes) };
 }
 
 impl ChildEnd {

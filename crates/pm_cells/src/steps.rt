@@ -1,7 +1,8 @@
 //! The rule of a link's table, how it is cut into two ends and joined again, and the eight kinds of step.
 
 ghost use Rattle.pm_cells.specs.Cells.{KeepsCells, whole_view};
-ghost use Rattle.pm_cells.specs.Steps.{child_view, parent_view, joined_view, spent_view, claims_to_put_bid, releases_put_bid, claims_to_take_bid, releases_taken_bid, claims_to_put_price, releases_put_price, claims_to_take_price, releases_taken_price};
+ghost use Rattle.pm_cells.specs.Steps.{child_view, parent_view, joined_view, spent_view, claims_to_put_bid, releases_put_bid, claims_to_take_bid};
+ghost use Rattle.pm_cells.specs.Steps.{releases_taken_bid, claims_to_put_price, releases_put_price, claims_to_take_price, releases_taken_price};
 
 use crate::message::Message;
 use crate::view::EndView;

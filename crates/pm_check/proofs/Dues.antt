@@ -1,5 +1,6 @@
 -- Which line is due after the lines of a legal journal, and after its count.
-use Rattle.std.proofs.Common.{◌≡◌, ◌≢◌, ◌∙◌, sym, ap, subst, refl, ℕ, suc, ◌+◌, ◌<◌, ◌≤◌, ◌⊎◌, List, [], ◌∷◌, ◌++◌, length, map, append_assoc, arith, inl, inr}
+use Rattle.std.proofs.Common.{◌≡◌, ◌≢◌, ◌∙◌, sym, ap, subst, refl, ℕ, suc, ◌+◌, ◌<◌, ◌≤◌, ◌⊎◌, List, [], ◌∷◌}
+use Rattle.std.proofs.Common.{◌++◌, length, map, append_assoc, arith, inl, inr}
 use Rattle.std.proofs.lemmas.List.{append-nil, append_cancel_left, length-append}
 use Rattle.std.specs.Prelude.{All}
 use Rattle.pm_market.specs.Lists.{Lists, phases, Lawful}
@@ -69,7 +70,8 @@ pub due_push : (plan : PlanData) (report trace : List (List ℕ)) (line : List �
 due_push plan report trace line due next before more other same =
     elim (split_push trace before more line other same) [
       | inl last ↦
-          subst (λ (l : List ℕ). IsLineDue plan report before l) (sym last.1) (subst (λ (ls : List (List ℕ)). IsLineDue plan report ls line) (sym last.0) next)
+          subst (λ (l : List ℕ). IsLineDue plan report before l) (sym last.1)
+          (subst (λ (ls : List (List ℕ)). IsLineDue plan report ls line) (sym last.0) next)
       | inr inside ↦ due before inside.0 other inside.1
     ]
 
@@ -122,7 +124,8 @@ module _ (plan : PlanData) (is_plan : IsPlan plan) where
       (journal_due_from report (front ++ m ∷ []) back (subst (LegalJournal lists) again legal) (subst (AreLinesDue plan report) more next))
 
   -- the lines of the report and of a legal journal are due
-  pub journal_due : (report : List (List ℕ)) (journal : List Move) → LegalJournal lists journal → AreLinesDue plan report (report ++ journal_lines plan journal)
+  pub journal_due : (report : List (List ℕ)) (journal : List Move) → LegalJournal lists journal →
+      AreLinesDue plan report (report ++ journal_lines plan journal)
   journal_due report journal legal =
       journal_due_from report [] journal legal
       (subst (AreLinesDue plan report) (sym (append-nil report)) (report_due plan report report [] (sym (append-nil report))))
@@ -138,7 +141,8 @@ module _ (plan : PlanData) (is_plan : IsPlan plan) where
 
   -- behind a legal journal that is not complete: what tells no move that is legal after it
   pub no_move_due : (report : List (List ℕ)) (journal : List Move) (line : List ℕ) → LegalJournal lists journal → ¬ (IsComplete lists journal) →
-      ((m : Move) → Legal lists (after lists journal) m → line ≢ next_line plan journal m) → IsLineDue plan report (report ++ journal_lines plan journal) line → ⊥
+      ((m : Move) → Legal lists (after lists journal) m → line ≢ next_line plan journal m) →
+      IsLineDue plan report (report ++ journal_lines plan journal) line → ⊥
   no_move_due report journal line legal going none (in_report more parts) = longer report (journal_lines plan journal) more line parts
   no_move_due report journal line legal going none (next_move other m parts other_legal other_goes next tells) =
       let same = same_moves plan is_plan other journal other_legal legal

@@ -1,5 +1,6 @@
 -- What is said of a trace at the end of its reading.
-use Rattle.std.proofs.Common.{◌≡◌, ◌≢◌, ◌∙◌, sym, ap, subst, refl, ℕ, suc, ◌+◌, ◌<◌, ◌≤◌, List, [], ◌∷◌, ◌++◌, length, map, append_assoc, arith, inl, inr}
+use Rattle.std.proofs.Common.{◌≡◌, ◌≢◌, ◌∙◌, sym, ap, subst, refl, ℕ, suc, ◌+◌, ◌<◌, ◌≤◌, List, [], ◌∷◌, ◌++◌}
+use Rattle.std.proofs.Common.{length, map, append_assoc, arith, inl, inr}
 use Rattle.std.specs.Prelude.{All}
 use Rattle.std.proofs.lemmas.List.{append-nil, append_cancel_left, length-append, length-map}
 use Rattle.std.proofs.lemmas.List.Elements.{All-append, All-cons, All-nil, All-head, All-tail}
@@ -20,7 +21,8 @@ use Rattle.pm_offer.specs.Offers.{local_at}
 use Rattle.pm_report.specs.Trace.{move_line}
 use Rattle.pm_envelope.specs.Lines.{HasNoLineFeed}
 use Rattle.pm_check.specs.Lines.{IsWholeLine, joined, AreLinesOf}
-use Rattle.pm_check.specs.Traces.{journal_lines, next_line, count_line, IsLineDue, in_report, next_move, count, AreLinesDue, IsValidTrace, IsBadAmong, not_due, no_end, missing, IsBadLine}
+use Rattle.pm_check.specs.Traces.{journal_lines, next_line, count_line, IsLineDue, in_report, next_move, count, AreLinesDue, IsValidTrace, IsBadAmong, not_due}
+use Rattle.pm_check.specs.Traces.{no_end, missing, IsBadLine}
 use Rattle.pm_check.specs.Reading.{IsReported, HasReadTo}
 use Rattle.pm_check.proofs.TextLines.{joined-append, joined-push, lines_within, one_list, same_lines, lines_before, line_before, no_lines, lines_exist}
 use Rattle.pm_check.proofs.RunLines.{whole_from, whole_count, count_lines, bound_small}
@@ -38,7 +40,8 @@ pub record AreRead (plan : PlanData) (report : List (List ℕ)) (trace : List �
   pub due : AreLinesDue plan report done
   pub parts : trace ≡ joined done ++ rest
 
-module _ (plan : PlanData) (report : List (List ℕ)) (trace : List ℕ) (done : List (List ℕ)) (rest : List ℕ) (read : AreRead plan report trace done rest) where
+module _ (plan : PlanData) (report : List (List ℕ)) (trace : List ℕ) (done : List (List ℕ)) (rest : List ℕ)
+    (read : AreRead plan report trace done rest) where
   -- the lines of the trace are those read, and those of the rest
   lines_of_all : (lines : List (List ℕ)) (end : List ℕ) → AreLinesOf rest lines end → AreLinesOf trace (done ++ lines) end
   lines_of_all lines end are = subst (λ (t : List ℕ). AreLinesOf t (done ++ lines) end) (sym read.parts) (lines_before done rest lines end read.whole are)
@@ -72,7 +75,8 @@ module _ (plan : PlanData) (report : List (List ℕ)) (trace : List ℕ) (done :
   ]
 
   -- nothing is due, and something stands there
-  bad_behind : (lines : List (List ℕ)) (end : List ℕ) → rest ≢ [] → ((line : List ℕ) → IsLineDue plan report done line → ⊥) → AreLinesOf rest lines end →
+  bad_behind : (lines : List (List ℕ)) (end : List ℕ) → rest ≢ [] → ((line : List ℕ) → IsLineDue plan report done line → ⊥) →
+      AreLinesOf rest lines end →
       IsBadAmong plan report trace (length done + 1)
   bad_behind [] end some none_due are = bad_end (subst HasNoLineFeed (sym are.parts) are.no_end) some
   bad_behind (line ∷ lines) end some none_due are =
@@ -102,7 +106,8 @@ module _ (report trace : List ℕ) (lines : ℕ) (done : List (List ℕ)) (later
   read_of plan more parts = record { whole = matched.whole; due = report_due plan report_lines done more parts; parts = matched.trace_is }
 
   -- a line of the report is due after those before it
-  expected_due : (plan : PlanData) (line : List ℕ) (more : List (List ℕ)) → report_lines ≡ done ++ line ∷ more → IsLineDue plan report_lines done line
+  expected_due : (plan : PlanData) (line : List ℕ) (more : List (List ℕ)) → report_lines ≡ done ++ line ∷ more →
+      IsLineDue plan report_lines done line
   expected_due plan line more parts = in_report more parts
 
   -- and no other line
@@ -324,7 +329,8 @@ module _ (plan : PlanData) (is_plan : IsPlan plan) where
   not_both report trace moves number valid bad = not_bad_among report trace moves number bad.report_lines bad.lines_are valid bad.bad
 
   -- and one number of moves
-  pub one_count : (report trace : List ℕ) (moves other : ℕ) → IsValidTrace plan report trace moves → IsValidTrace plan report trace other → moves ≡ other
+  pub one_count : (report trace : List ℕ) (moves other : ℕ) → IsValidTrace plan report trace moves →
+      IsValidTrace plan report trace other → moves ≡ other
   one_count report trace moves other valid also =
       let lines_of = λ (v : List Move). journal_lines plan v ++ count_line plan v ∷ [] in
       let whole = λ (v : List Move) (legal : LegalJournal lists v).

@@ -1,5 +1,6 @@
 -- What a judge says of a line, and of the whole trace.
-use Rattle.std.proofs.Common.{◌≡◌, ◌≢◌, ◌∙◌, sym, ap, subst, refl, ℕ, ◌+◌, ◌≤◌, Bool, true, false, List, [], ◌∷◌, ◌++◌, length, append_assoc, arith}
+use Rattle.std.proofs.Common.{◌≡◌, ◌≢◌, ◌∙◌, sym, ap, subst, refl, ℕ, ◌+◌, ◌≤◌, Bool, true, false, List, [], ◌∷◌, ◌++◌}
+use Rattle.std.proofs.Common.{length, append_assoc, arith}
 use Rattle.std.specs.Prelude.{Option, Some, None, decimal, codes}
 use Rattle.std.proofs.lemmas.Bool.{false≢true}
 use Rattle.std.proofs.lemmas.List.{length-append}
@@ -124,7 +125,8 @@ module _ (plan : PlanData) (report trace : List ℕ) (above : ℕ) (judge : Judg
       let many : moves ≡ length (lines (plan_lists plan) (local_at plan) judging.journal) = judging.many ∙ sym (count_lines plan is_plan judging.journal) in
       ap (λ (n : ℕ). text_line (codes "moves" ∷ decimal n ∷ [])) many
 
-  at_line : (n : ℕ) → IsBadLine plan report trace (length judging.report_lines + length judging.journal + n) → IsBadLine plan report trace (above + moves + n)
+  at_line : (n : ℕ) → IsBadLine plan report trace (length judging.report_lines + length judging.journal + n) →
+      IsBadLine plan report trace (above + moves + n)
   at_line n bad = subst (λ (k : ℕ). IsBadLine plan report trace (k + n)) number_is bad
 
   -- the trace has no whole line more
@@ -142,7 +144,8 @@ module _ (plan : PlanData) (report trace : List ℕ) (above : ℕ) (judge : Judg
         (same ∙ ap (λ (t : State). move_line plan (line_of (plan_lists plan) (local_at plan) t m)) (sym judging.made))))
 
     -- a line that tells another number of moves
-    pub not_the_count : (market_state judge.market).closed ≡ phases (market_lists judge.market) → line ≢ text_line (codes "moves" ∷ decimal moves ∷ []) →
+    pub not_the_count : (market_state judge.market).closed ≡ phases (market_lists judge.market) →
+        line ≢ text_line (codes "moves" ∷ decimal moves ∷ []) →
         IsBadLine plan report trace (above + moves + 1)
     not_the_count closed other =
         at_line 1 (bad_count plan is_plan report trace judging.report_lines judging.lines_are judging.journal rest judging.read line more whole parts
@@ -181,7 +184,8 @@ module _ (plan : PlanData) (report trace : List ℕ) (above : ℕ) (judge : Judg
             legal = legal_push plan is_plan judging.journal m judging.read.legal legal;
             parts =
                 judging.read.parts
-                ∙ ap (λ t. joined judging.report_lines ++ (joined (journal_lines plan judging.journal) ++ t)) (parts ∙ ap (λ (l : List ℕ). l ++ more) told)
+                ∙ ap (λ t. joined judging.report_lines ++ (joined (journal_lines plan judging.journal) ++ t))
+                (parts ∙ ap (λ (l : List ℕ). l ++ more) told)
                 ∙ ap (λ t. joined judging.report_lines ++ t)
                 (sym (append_assoc (joined (journal_lines plan judging.journal)) (next_line plan judging.journal m) more)
                 ∙ ap (λ t. t ++ more)

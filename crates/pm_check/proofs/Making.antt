@@ -1,5 +1,6 @@
 -- A judge makes a move, and says what is then held.
-use Rattle.std.proofs.Common.{◌≡◌, ◌≢◌, ◌∙◌, sym, ap, subst, refl, ℕ, ◌+◌, ◌-◌, ◌<◌, ◌≤◌, Bool, true, false, cond, List, [], length, get_or, arith}
+use Rattle.std.proofs.Common.{◌≡◌, ◌≢◌, ◌∙◌, sym, ap, subst, refl, ℕ, ◌+◌, ◌-◌, ◌<◌, ◌≤◌, Bool, true, false, cond, List}
+use Rattle.std.proofs.Common.{[], length, get_or, arith}
 use Rattle.std.specs.Prelude.{Option, Some, None, Result, Ok, Err, OnOk, nat_lt, nat_le, ◌&&◌}
 use Rattle.std.proofs.lemmas.Bool.{and_parts, ltb-true, cond-true}
 use Rattle.pm_base.specs.Cuts.{Cut, cut_of}
@@ -28,7 +29,8 @@ use Rattle.pm_walk.specs.Auctions.{IsAuction, auction_cut}
 use Rattle.pm_check.specs.declared.judge.Judge.{Judge}
 use Rattle.pm_check.specs.declared.steps.ClearedSteps.{ClearedSteps}
 use Rattle.pm_check.specs.Judges.{rows_of, HasRow, AreCleared, IsJudge, HasMade, held_at, held_in}
-use Rattle.pm_check.proofs.Cleared.{change_keeps, learn_keeps, pass_keeps, publish_keeps, phase_open, clearings_are, cut_rises, cut_planned, clear_adds, ends_closed, close_keeps, cleared_start}
+use Rattle.pm_check.proofs.Cleared.{change_keeps, learn_keeps, pass_keeps, publish_keeps, phase_open, clearings_are, cut_rises, cut_planned, clear_adds}
+use Rattle.pm_check.proofs.Cleared.{ends_closed, close_keeps, cleared_start}
 
 -- what follows from one fact on success follows from another
 pub on_ok : {A E : Type 0} (P Q : Type 0) → (P → Q) → (r : Result A E) → OnOk r P → OnOk r Q
@@ -127,7 +129,8 @@ module _ (plan : PlanData) (old : Judge) (judge : IsJudge plan old) (m : Move)
           (close_keeps plan is_plan s judge.sound p legal_close old.steps steps judge.cleared closed auction cut rows))
 
     -- a move that neither clears nor closes leaves what is kept of the clearings
-    other_keeps : (k : Move) → Legal lists s k → ((j : ℕ) → k ≡ Clear j → ⊥) → ((p : ℕ) → k ≡ Close p → ⊥) → AreCleared plan (step lists s k) old.steps
+    other_keeps : (k : Move) → Legal lists s k → ((j : ℕ) → k ≡ Clear j → ⊥) → ((p : ℕ) → k ≡ Close p → ⊥) →
+        AreCleared plan (step lists s k) old.steps
     other_keeps (Change d n) legal no_clear no_close = change_keeps plan s old.steps d n judge.cleared
     other_keeps (Learn x n) legal no_clear no_close = learn_keeps plan s old.steps x n judge.cleared
     other_keeps (Publish c n) legal no_clear no_close = publish_keeps plan s old.steps c n legal.0.0 judge.cleared
@@ -135,7 +138,8 @@ module _ (plan : PlanData) (old : Judge) (judge : IsJudge plan old) (m : Move)
     other_keeps (Pass x j) legal no_clear no_close = pass_keeps plan s old.steps x j judge.cleared
     other_keeps (Close p) legal no_clear no_close = absurd (no_close p refl)
 
-    pub other_made : ((j : ℕ) → m ≡ Clear j → ⊥) → ((p : ℕ) → m ≡ Close p → ⊥) → HasMade plan old (record { market = market; steps = old.steps }) m
+    pub other_made : ((j : ℕ) → m ≡ Clear j → ⊥) → ((p : ℕ) → m ≡ Close p → ⊥) →
+        HasMade plan old (record { market = market; steps = old.steps }) m
     other_made no_clear no_close = makes old.steps (other_keeps m legal_is no_clear no_close)
 
 -- ---- what is held

@@ -1,5 +1,6 @@
 -- The lists of a plan, as far as they are made.
-use Rattle.std.proofs.Common.{◌≡◌, ◌∙◌, sym, ap, refl, ℕ, zero, suc, ◌+◌, ◌-◌, ◌<◌, ◌≤◌, Bool, true, false, List, [], ◌∷◌, ◌++◌, length, map, take, get_or, arith, add-one}
+use Rattle.std.proofs.Common.{◌≡◌, ◌∙◌, sym, ap, refl, ℕ, zero, suc, ◌+◌, ◌-◌, ◌<◌, ◌≤◌, Bool, true, false, List, [], ◌∷◌}
+use Rattle.std.proofs.Common.{◌++◌, length, map, take, get_or, arith, add-one}
 use Rattle.std.specs.Prelude.{replicate}
 use Rattle.std.specs.List.{range_with_len}
 use Rattle.std.proofs.Math.Path.{fun_ext}
@@ -26,7 +27,8 @@ next_mapped f xs at x so_far here =
     ap (λ l. l ++ x ∷ []) so_far ∙ ap (λ y. map f (range_with_len 1 at) ++ y ∷ []) here ∙ sym (map-range_with_len_more f 1 at (at + 1) (omega arith))
 
 -- one more parent
-pub next_parent : (entries : List Entry) (xs : List ℕ) (at x : ℕ) → at < length entries → xs ≡ take at (parents_of entries) → x ≡ parent_of entries (at + 1) →
+pub next_parent : (entries : List Entry) (xs : List ℕ) (at x : ℕ) → at < length entries → xs ≡ take at (parents_of entries) →
+    x ≡ parent_of entries (at + 1) →
     xs ++ x ∷ [] ≡ take (at + 1) (parents_of entries)
 next_parent entries xs at x inside so_far here =
     let read : parent_of entries (at + 1) ≡ get_or (parents_of entries) at 0 = ap (parent_of entries) (add-one at) in
@@ -58,4 +60,5 @@ next_member plan d n before inside so_far = member_more (changes_of (node plan d
 -- before the first phase no node has made a change
 pub no_ends : (plan : PlanData) (xs : List ℕ) → IsPlan plan → xs ≡ replicate (length plan.nodes) 0 → xs ≡ map (end_cut plan 0) (node_numbers plan)
 no_ends plan xs is none =
-    none ∙ replicate_as_map (length plan.nodes) 1 ∙ ap (λ (f : ℕ → ℕ). map f (node_numbers plan)) (fun_ext (λ x. sym (end-none plan x is.in_phases)))
+    none ∙ replicate_as_map (length plan.nodes) 1
+    ∙ ap (λ (f : ℕ → ℕ). map f (node_numbers plan)) (fun_ext (λ x. sym (end-none plan x is.in_phases)))

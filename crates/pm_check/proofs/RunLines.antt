@@ -1,5 +1,6 @@
 -- The lines that tell legal moves: they are of the plan, they are whole lines, and they tell the moves.
-use Rattle.std.proofs.Common.{◌≡◌, ◌≢◌, ◌∙◌, sym, ap, subst, refl, ℕ, suc, ◌+◌, ◌<◌, ◌≤◌, ◌^◌, Bool, true, false, List, [], ◌∷◌, ◌++◌, length, map, cond, get_or, append_assoc, arith, mul-le-mul, inl, inr}
+use Rattle.std.proofs.Common.{◌≡◌, ◌≢◌, ◌∙◌, sym, ap, subst, refl, ℕ, suc, ◌+◌, ◌<◌, ◌≤◌, ◌^◌, Bool, true, false, List}
+use Rattle.std.proofs.Common.{[], ◌∷◌, ◌++◌, length, map, cond, get_or, append_assoc, arith, mul-le-mul, inl, inr}
 use Rattle.std.specs.Prelude.{All, Option, Some, None, IfSome, nat_lt, ◌&&◌, decimal, codes}
 use Rattle.std.specs.List.{list_all}
 use Rattle.std.proofs.lemmas.Bool.{cases_Bool, cond-true, cond-false, ltb-true}

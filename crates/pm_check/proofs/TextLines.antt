@@ -1,5 +1,6 @@
 -- A text has one list of lines.
-use Rattle.std.proofs.Common.{◌≡◌, ◌≢◌, ◌∙◌, sym, ap, subst, refl, ℕ, suc, ◌+◌, ◌≤◌, Bool, true, false, List, [], ◌∷◌, ◌++◌, length, append_assoc, arith, inl, inr}
+use Rattle.std.proofs.Common.{◌≡◌, ◌≢◌, ◌∙◌, sym, ap, subst, refl, ℕ, suc, ◌+◌, ◌≤◌, Bool, true, false, List, [], ◌∷◌}
+use Rattle.std.proofs.Common.{◌++◌, length, append_assoc, arith, inl, inr}
 use Rattle.std.specs.Prelude.{All}
 use Rattle.std.proofs.lemmas.Bool.{cases_eq}
 use Rattle.std.proofs.lemmas.Grind.{flat_map-append}
@@ -60,7 +61,8 @@ pub one_list : (text : List ℕ) (a b : List (List ℕ)) (r s : List ℕ) → Ar
 one_list text a b r s is also = same_lines a b r s is.whole also.whole is.no_end also.no_end (sym is.parts ∙ also.parts)
 
 -- lines in front of a text stand in front of its lines
-pub lines_before : (front : List (List ℕ)) (text : List ℕ) (lines : List (List ℕ)) (rest : List ℕ) → All IsWholeLine front → AreLinesOf text lines rest →
+pub lines_before : (front : List (List ℕ)) (text : List ℕ) (lines : List (List ℕ)) (rest : List ℕ) → All IsWholeLine front →
+    AreLinesOf text lines rest →
     AreLinesOf (joined front ++ text) (front ++ lines) rest
 lines_before front text lines rest whole are = record {
   whole = All-append IsWholeLine front lines whole are.whole;

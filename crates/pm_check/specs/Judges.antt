@@ -1,5 +1,6 @@
 -- What a judge of traces keeps of a run, and what it says of a line.
-use Rattle.std.specs.Prelude.{◌≡◌, ◌≢◌, ℕ, ◌+◌, ◌-◌, ◌≤◌, List, [], ◌∷◌, ◌++◌, length, map, cond, slice_index_or, All, Option, None}
+use Rattle.std.specs.Prelude.{◌≡◌, ◌≢◌, ℕ, ◌+◌, ◌-◌, ◌≤◌, List, [], ◌∷◌, ◌++◌, length, map, cond, slice_index_or, All}
+use Rattle.std.specs.Prelude.{Option, None}
 use Rattle.pm_market.specs.Lists.{IsNode, IsLeaf, is_leaf}
 use Rattle.pm_market.specs.State.{State, clearings, cleared}
 use Rattle.pm_market.specs.Moves.{Legal, step}

@@ -53,7 +53,8 @@ pub data IsBadAmong (plan : PlanData) (report : List (List ℕ)) (trace : List �
       ¬ (IsLineDue plan report before line) → number ≡ length before + 1 → IsBadAmong plan report trace number
   no_end : (before : List (List ℕ)) (rest : List ℕ) → AreLinesOf trace before rest → AreLinesDue plan report before → rest ≢ [] →
       number ≡ length before + 1 → IsBadAmong plan report trace number
-  missing : (before : List (List ℕ)) (line : List ℕ) → AreLinesOf trace before [] → AreLinesDue plan report before → IsLineDue plan report before line →
+  missing : (before : List (List ℕ)) (line : List ℕ) → AreLinesOf trace before [] → AreLinesDue plan report before →
+      IsLineDue plan report before line →
       number ≡ length before + 1 → IsBadAmong plan report trace number
 
 -- the bad line of a trace, by a report of whole lines

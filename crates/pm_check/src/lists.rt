@@ -113,7 +113,8 @@ fn change_count(plan: &Plan, device: NodeId) -> u32
 
 /// For each phase the number of changes of each node at its end.
 fn ends_of(alloc: Global, plan: &Plan) -> Result<Vec<Vec<u32>>, AllocError>
-    ensures { IfOk result (λ rows. map (λ row. row.items) rows.items ≡ map (λ p. map (end_cut plan.now p) (node_numbers plan.now)) (range_with_len 1 (phases plan.now))) }
+    ensures { IfOk result (λ rows. map (λ row. row.items) rows.items ≡ map (λ p. map (end_cut plan.now p) (node_numbers plan.now))
+        (range_with_len 1 (phases plan.now))) }
 {
     let mut rows = Vec::new(alloc);
     let mut before = no_changes(alloc, plan.tree().len() as usize)?;

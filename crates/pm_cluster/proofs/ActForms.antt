@@ -37,7 +37,8 @@ use Rattle.pm_cluster.proofs.NextChanges.{end_of_market}
 
 -- ---- no move of a form
 
-pub no_change : (lists : Lists) (s : State) (x : ℕ) → ((n : ℕ) → Legal lists s (Change x n) → ⊥) → (m : Move) → act_of m ≡ act.Change x → Legal lists s m → ⊥
+pub no_change : (lists : Lists) (s : State) (x : ℕ) → ((n : ℕ) → Legal lists s (Change x n) → ⊥) → (m : Move) →
+    act_of m ≡ act.Change x → Legal lists s m → ⊥
 no_change lists s x none (Change y n) e legal = let same : y ≡ x = cc e in none n (subst (λ (z : ℕ). Legal lists s (Change z n)) same legal)
 no_change lists s x none (Learn y n) e legal = cc e
 no_change lists s x none (Publish y n) e legal = cc e
@@ -45,7 +46,8 @@ no_change lists s x none (Clear n) e legal = cc e
 no_change lists s x none (Pass y n) e legal = cc e
 no_change lists s x none (Close n) e legal = cc e
 
-pub no_learn : (lists : Lists) (s : State) (x : ℕ) → ((n : ℕ) → Legal lists s (Learn x n) → ⊥) → (m : Move) → act_of m ≡ act.Learn x → Legal lists s m → ⊥
+pub no_learn : (lists : Lists) (s : State) (x : ℕ) → ((n : ℕ) → Legal lists s (Learn x n) → ⊥) → (m : Move) → act_of m ≡ act.Learn x →
+    Legal lists s m → ⊥
 no_learn lists s x none (Learn y n) e legal = let same : y ≡ x = cc e in none n (subst (λ (z : ℕ). Legal lists s (Learn z n)) same legal)
 no_learn lists s x none (Change y n) e legal = cc e
 no_learn lists s x none (Publish y n) e legal = cc e
@@ -53,7 +55,8 @@ no_learn lists s x none (Clear n) e legal = cc e
 no_learn lists s x none (Pass y n) e legal = cc e
 no_learn lists s x none (Close n) e legal = cc e
 
-pub no_publish : (lists : Lists) (s : State) (x : ℕ) → ((n : ℕ) → Legal lists s (Publish x n) → ⊥) → (m : Move) → act_of m ≡ act.Publish x → Legal lists s m → ⊥
+pub no_publish : (lists : Lists) (s : State) (x : ℕ) → ((n : ℕ) → Legal lists s (Publish x n) → ⊥) → (m : Move) →
+    act_of m ≡ act.Publish x → Legal lists s m → ⊥
 no_publish lists s x none (Publish y n) e legal = let same : y ≡ x = cc e in none n (subst (λ (z : ℕ). Legal lists s (Publish z n)) same legal)
 no_publish lists s x none (Change y n) e legal = cc e
 no_publish lists s x none (Learn y n) e legal = cc e
@@ -61,7 +64,8 @@ no_publish lists s x none (Clear n) e legal = cc e
 no_publish lists s x none (Pass y n) e legal = cc e
 no_publish lists s x none (Close n) e legal = cc e
 
-pub no_clear : (lists : Lists) (s : State) → ((n : ℕ) → Legal lists s (Clear n) → ⊥) → (m : Move) → act_of m ≡ act.Clear → Legal lists s m → ⊥
+pub no_clear : (lists : Lists) (s : State) → ((n : ℕ) → Legal lists s (Clear n) → ⊥) → (m : Move) → act_of m ≡ act.Clear →
+    Legal lists s m → ⊥
 no_clear lists s none (Clear n) e legal = none n legal
 no_clear lists s none (Change y n) e legal = cc e
 no_clear lists s none (Learn y n) e legal = cc e
@@ -69,7 +73,8 @@ no_clear lists s none (Publish y n) e legal = cc e
 no_clear lists s none (Pass y n) e legal = cc e
 no_clear lists s none (Close n) e legal = cc e
 
-pub no_pass : (lists : Lists) (s : State) (x : ℕ) → ((n : ℕ) → Legal lists s (Pass x n) → ⊥) → (m : Move) → act_of m ≡ act.Pass x → Legal lists s m → ⊥
+pub no_pass : (lists : Lists) (s : State) (x : ℕ) → ((n : ℕ) → Legal lists s (Pass x n) → ⊥) → (m : Move) → act_of m ≡ act.Pass x →
+    Legal lists s m → ⊥
 no_pass lists s x none (Pass y n) e legal = let same : y ≡ x = cc e in none n (subst (λ (z : ℕ). Legal lists s (Pass z n)) same legal)
 no_pass lists s x none (Change y n) e legal = cc e
 no_pass lists s x none (Learn y n) e legal = cc e
@@ -77,7 +82,8 @@ no_pass lists s x none (Publish y n) e legal = cc e
 no_pass lists s x none (Clear n) e legal = cc e
 no_pass lists s x none (Close n) e legal = cc e
 
-pub no_close : (lists : Lists) (s : State) → ((n : ℕ) → Legal lists s (Close n) → ⊥) → (m : Move) → act_of m ≡ act.Close → Legal lists s m → ⊥
+pub no_close : (lists : Lists) (s : State) → ((n : ℕ) → Legal lists s (Close n) → ⊥) → (m : Move) → act_of m ≡ act.Close →
+    Legal lists s m → ⊥
 no_close lists s none (Close n) e legal = none n legal
 no_close lists s none (Change y n) e legal = cc e
 no_close lists s none (Learn y n) e legal = cc e
@@ -102,7 +108,8 @@ no_leaf plan s x none n legal = both_ways (is_leaf (plan_lists plan) x) none leg
 -- ---- the next change
 
 -- where a device has no next change none is legal
-pub none_legal : (plan : PlanData) → IsPlan plan → (c : Core) (s : State) → StandsFor plan c s → (d : ℕ) → HasNoNext plan c.closed (count_of c) d → (n : ℕ) →
+pub none_legal : (plan : PlanData) → IsPlan plan → (c : Core) (s : State) → StandsFor plan c s → (d : ℕ) →
+    HasNoNext plan c.closed (count_of c) d → (n : ℕ) →
     Legal (plan_lists plan) s (Change d n) → ⊥
 none_legal plan is_plan c s stands d none n legal =
     elim none [
@@ -126,14 +133,16 @@ one_next a b e f g h =
     ∙ ap (λ (x : Bool). record { device = b.device; number = b.number; member = x; state = a.state }) g
     ∙ ap (λ (x : DeviceState). record { device = b.device; number = b.number; member = b.member; state = x }) states
 
-pub same_next : (plan : PlanData) (c : Core) (d : ℕ) (a b : Next) → IsNext plan c.closed (count_of c) d a → IsNext plan c.closed (count_of c) d b → a ≡ b
+pub same_next : (plan : PlanData) (c : Core) (d : ℕ) (a b : Next) → IsNext plan c.closed (count_of c) d a →
+    IsNext plan c.closed (count_of c) d b → a ≡ b
 same_next plan c d a b at_a at_b =
     let numbers : a.number ≡ b.number = omega (arith, at_a.number, at_b.number) in
     one_next a b (at_a.device ∙ sym at_b.device) numbers
     (at_a.member ∙ ap (Rattle.pm_plan.specs.Plans.is_member plan d) numbers ∙ sym at_b.member)
     (at_a.state ∙ ap (Rattle.pm_plan.specs.States.state plan d) numbers ∙ sym at_b.state)
 
-pub found_next : (plan : PlanData) (c : Core) (d : ℕ) (found : Option Next) (b : Next) → IsNextOrNone plan c.closed (count_of c) d found → IsNext plan c.closed (count_of c) d b → found ≡ Some b
+pub found_next : (plan : PlanData) (c : Core) (d : ℕ) (found : Option Next) (b : Next) →
+    IsNextOrNone plan c.closed (count_of c) d found → IsNext plan c.closed (count_of c) d b → found ≡ Some b
 found_next plan c d (Some a) b at_a at_b = ap Some (same_next plan c d a b at_a at_b)
 found_next plan c d None b none at_b = absurd (elim none [
   | inl all ↦ omega (arith, all, at_b.open_phase)

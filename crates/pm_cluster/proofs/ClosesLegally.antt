@@ -1,5 +1,6 @@
 -- A phase may be closed exactly where its close is legal.
-use Rattle.std.proofs.Common.{◌≡◌, ◌∙◌, sym, ap, refl, subst, ℕ, ℤ, pos, ◌+◌, ◌<◌, ◌≤◌, List, length, slice_index_or, arith, inl, inr, get_or-set_same, get_or-set_other}
+use Rattle.std.proofs.Common.{◌≡◌, ◌∙◌, sym, ap, refl, subst, ℕ, ℤ, pos, ◌+◌, ◌<◌, ◌≤◌, List, length, slice_index_or, arith, inl}
+use Rattle.std.proofs.Common.{inr, get_or-set_same, get_or-set_other}
 use Rattle.std.proofs.Math.ListN.{set, length-set}
 use Rattle.std.proofs.lemmas.Bool.{cases_eq}
 use Rattle.pm_market.specs.Lists.{IsLeaf, end_count}
@@ -32,22 +33,26 @@ use Rattle.pm_cluster.specs.Ends.{MayClose}
 use Rattle.pm_cluster.proofs.Parents.{leaf_inside}
 
 -- the ends of the plan and of its lists
-pub ends_agree : (plan : PlanData) (p d : ℕ) → IsPlan plan → IsLeaf (plan_lists plan) d → p ≤ phases plan → end_count (plan_lists plan) p d ≡ end_cut plan p d
+pub ends_agree : (plan : PlanData) (p d : ℕ) → IsPlan plan → IsLeaf (plan_lists plan) d → p ≤ phases plan →
+    end_count (plan_lists plan) p d ≡ end_cut plan p d
 ends_agree plan p d is_plan leaf within =
     let here = leaf_inside plan is_plan d leaf in
     end-is plan p d here.0 (omega (arith, here.1, group_nodes.nodes_are plan is_plan)) within is_plan.in_phases
 
-pub close_legal : (plan : PlanData) (c : Core) (s : State) → IsPlan plan → StandsFor plan c s → MayClose plan c → Legal (plan_lists plan) s (Close (s.closed + 1))
+pub close_legal : (plan : PlanData) (c : Core) (s : State) → IsPlan plan → StandsFor plan c s → MayClose plan c →
+    Legal (plan_lists plan) s (Close (s.closed + 1))
 close_legal plan c s is_plan stands may =
     let same : c.closed + 1 ≡ s.closed + 1 = ap (λ (k : ℕ). k + 1) stands.closed in
     let open_phase : s.closed + 1 ≤ phases plan = omega (arith, may.open_phase, stands.closed) in (
       refl,
       omega (arith, open_phase, phases-is plan),
-      λ d leaf. sym (stands.counts d leaf) ∙ may.made d leaf ∙ ap (λ (p : ℕ). end_cut plan p d) same ∙ sym (ends_agree plan (s.closed + 1) d is_plan leaf open_phase),
+      λ d leaf. sym (stands.counts d leaf) ∙ may.made d leaf ∙ ap (λ (p : ℕ). end_cut plan p d) same
+          ∙ sym (ends_agree plan (s.closed + 1) d is_plan leaf open_phase),
       (quiet_is_idle plan c s is_plan stands).0 may.quiet,
     )
 
-pub may_close_from : (plan : PlanData) (c : Core) (s : State) (phase : ℕ) → IsPlan plan → StandsFor plan c s → Legal (plan_lists plan) s (Close phase) → MayClose plan c
+pub may_close_from : (plan : PlanData) (c : Core) (s : State) (phase : ℕ) → IsPlan plan → StandsFor plan c s →
+    Legal (plan_lists plan) s (Close phase) → MayClose plan c
 may_close_from plan c s phase is_plan stands legal =
     let open_phase : c.closed < phases plan = omega (arith, legal.0, legal.1, phases-is plan, stands.closed) in
     let same : phase ≡ c.closed + 1 = omega (arith, legal.0, stands.closed) in
@@ -63,7 +68,8 @@ pub record AreFoundTo (plan : PlanData) (value : ℕ → ℤ) (number' : ℕ) (o
   pub same_length : length new ≡ length old
   pub found : (d : ℕ) → IsLeaf (plan_lists plan) d → d < number' → slice_index_or new d (pos 0) ≡ value d
 
-pub found_set : (plan : PlanData) (value : ℕ → ℤ) (n : ℕ) (old now : List ℤ) (z : ℤ) → AreFoundTo plan value n old now → n < length now → z ≡ value n →
+pub found_set : (plan : PlanData) (value : ℕ → ℤ) (n : ℕ) (old now : List ℤ) (z : ℤ) → AreFoundTo plan value n old now →
+    n < length now → z ≡ value n →
     AreFoundTo plan value (n + 1) old (set now n z)
 found_set plan value n old now z is inside z_is = record {
   same_length = length-set now n z ∙ is.same_length;
@@ -73,7 +79,8 @@ found_set plan value n old now z is inside z_is = record {
   ];
 }
 
-pub found_skip : (plan : PlanData) (value : ℕ → ℤ) (n : ℕ) (old now : List ℤ) → AreFoundTo plan value n old now → (IsLeaf (plan_lists plan) n → ⊥) →
+pub found_skip : (plan : PlanData) (value : ℕ → ℤ) (n : ℕ) (old now : List ℤ) → AreFoundTo plan value n old now →
+    (IsLeaf (plan_lists plan) n → ⊥) →
     AreFoundTo plan value (n + 1) old now
 found_skip plan value n old now is no_leaf = record {
   same_length = is.same_length;
@@ -92,7 +99,8 @@ power_alike plan a b d is_plan leaf same here =
     ∙ ap (demand_at (demand_in_cut plan (state plan) b d)) (local_alike plan is_plan a b same d (leaf_inside plan is_plan d leaf))
 
 -- the powers that are kept are those at the end of the phase
-pub did_close : (plan : PlanData) (c : Core) (s : State) (powers : List ℤ) → IsPlan plan → StandsFor plan c s → MayClose plan c → length powers ≡ length c.powers →
+pub did_close : (plan : PlanData) (c : Core) (s : State) (powers : List ℤ) → IsPlan plan → StandsFor plan c s → MayClose plan c →
+    length powers ≡ length c.powers →
     ((d : ℕ) → IsLeaf (plan_lists plan) d → slice_index_or powers d (pos 0) ≡ kept_power plan c d) → DidClose plan c powers (s.closed + 1)
 did_close plan c s powers is_plan stands may same_length kept = record {
   same_powers = same_length;
@@ -101,12 +109,15 @@ did_close plan c s powers is_plan stands may same_length kept = record {
       let at_end : (e : ℕ) → IsLeaf (plan_lists plan) e → s.counts e ≡ end_cut plan (s.closed + 1) e = λ e e_leaf.
       sym (stands.counts e e_leaf) ∙ may.made e e_leaf ∙ ap (λ (p : ℕ). end_cut plan (p + 1) e) stands.closed in
       kept d leaf ∙ power_current plan c s d is_plan stands idle leaf
-      ∙ power_alike plan s.counts (end_cut plan (s.closed + 1)) d is_plan leaf (λ e below. at_end e (leaf_of_parts (plan_lists plan) 0 e below).0) (at_end d leaf);
+      ∙ power_alike plan s.counts (end_cut plan (s.closed + 1)) d is_plan leaf
+      (λ e below. at_end e (leaf_of_parts (plan_lists plan) 0 e below).0) (at_end d leaf);
 }
 
-pub close_did : (plan : PlanData) (c : Core) (s : State) (powers : List ℤ) → IsPlan plan → StandsFor plan c s → MayClose plan c → length powers ≡ length c.powers →
+pub close_did : (plan : PlanData) (c : Core) (s : State) (powers : List ℤ) → IsPlan plan → StandsFor plan c s → MayClose plan c →
+    length powers ≡ length c.powers →
     ((d : ℕ) → IsLeaf (plan_lists plan) d → slice_index_or powers d (pos 0) ≡ kept_power plan c d) →
     MakesMove plan (closed_core c powers (c.closed + 1)) s (Close (s.closed + 1))
 close_did plan c s powers is_plan stands may same_length kept =
     subst (λ (p : ℕ). MakesMove plan (closed_core c powers (p + 1)) s (Close (s.closed + 1))) (sym stands.closed)
-    (close_made plan c s (s.closed + 1) powers is_plan stands (close_legal plan c s is_plan stands may) (did_close plan c s powers is_plan stands may same_length kept))
+    (close_made plan c s (s.closed + 1) powers is_plan stands (close_legal plan c s is_plan stands may)
+    (did_close plan c s powers is_plan stands may same_length kept))

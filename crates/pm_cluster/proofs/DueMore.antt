@@ -1,5 +1,6 @@
 -- How many changes are due, with those of one more phase.
-use Rattle.std.proofs.Common.{◌≡◌, ◌∙◌, sym, ap, ℕ, ◌+◌, ◌-◌, ◌<◌, ◌≤◌, ◌^◌, List, length, slice_index_or, arith, inl, inr, get_or-set_same, get_or-set_other}
+use Rattle.std.proofs.Common.{◌≡◌, ◌∙◌, sym, ap, ℕ, ◌+◌, ◌-◌, ◌<◌, ◌≤◌, ◌^◌, List, length, slice_index_or, arith, inl, inr}
+use Rattle.std.proofs.Common.{get_or-set_same, get_or-set_other}
 use Rattle.std.proofs.Math.ListN.{set, length-set}
 use Rattle.std.proofs.lemmas.Bool.{cases_eq}
 use Rattle.pm_base.specs.Limits.{most_changes}
@@ -11,7 +12,8 @@ use Rattle.pm_plan.proofs.Ends.{end-rises, end-within}
 use Rattle.pm_walk.proofs.Devices.{few_changes}
 
 -- the changes of the next phase come on top of those of the phases before it
-pub one_phase_more : (plan : PlanData) (closed d count more : ℕ) → count ≡ end_cut plan closed d → more ≡ phase_changes plan (closed + 1) d → count + more ≡ end_cut plan (closed + 1) d
+pub one_phase_more : (plan : PlanData) (closed d count more : ℕ) → count ≡ end_cut plan closed d →
+    more ≡ phase_changes plan (closed + 1) d → count + more ≡ end_cut plan (closed + 1) d
 one_phase_more plan closed d count more counted added =
     let same : closed + 1 - 1 ≡ closed = omega arith in
     let before : end_cut plan (closed + 1 - 1) d ≡ end_cut plan closed d = ap (λ (p : ℕ). end_cut plan p d) same in
@@ -26,18 +28,21 @@ pub record IsDueTo (plan : PlanData) (closed number : ℕ) (old new : List ℕ) 
   pub after : (d : ℕ) → IsLeaf (plan_lists plan) d → d < number → slice_index_or new d 0 ≡ end_cut plan (closed + 1) d
   pub before : (d : ℕ) → IsLeaf (plan_lists plan) d → number ≤ d → slice_index_or new d 0 ≡ end_cut plan closed d
 
-pub due_set : (plan : PlanData) (closed n : ℕ) (old now : List ℕ) (value : ℕ) → IsDueTo plan closed n old now → n < length now → value ≡ end_cut plan (closed + 1) n →
+pub due_set : (plan : PlanData) (closed n : ℕ) (old now : List ℕ) (value : ℕ) → IsDueTo plan closed n old now → n < length now →
+    value ≡ end_cut plan (closed + 1) n →
     IsDueTo plan closed (n + 1) old (set now n value)
 due_set plan closed n old now value due inside is = record {
   same_length = length-set now n value ∙ due.same_length;
   after = λ d leaf low. elim (cases_eq d n) [
-    | inl here ↦ ap (λ (i : ℕ). slice_index_or (set now n value) i 0) here ∙ get_or-set_same now n value 0 inside ∙ is ∙ ap (end_cut plan (closed + 1)) (sym here)
+    | inl here ↦ ap (λ (i : ℕ). slice_index_or (set now n value) i 0) here ∙ get_or-set_same now n value 0 inside ∙ is
+        ∙ ap (end_cut plan (closed + 1)) (sym here)
     | inr other ↦ get_or-set_other now n d value 0 other ∙ due.after d leaf (omega arith)
   ];
   before = λ d leaf low. get_or-set_other now n d value 0 (λ e. omega arith) ∙ due.before d leaf (omega arith);
 }
 
-pub due_skip : (plan : PlanData) (closed n : ℕ) (old now : List ℕ) → IsDueTo plan closed n old now → (IsLeaf (plan_lists plan) n → ⊥) → IsDueTo plan closed (n + 1) old now
+pub due_skip : (plan : PlanData) (closed n : ℕ) (old now : List ℕ) → IsDueTo plan closed n old now →
+    (IsLeaf (plan_lists plan) n → ⊥) → IsDueTo plan closed (n + 1) old now
 due_skip plan closed n old now due no_leaf = record {
   same_length = due.same_length;
   after = λ d leaf low. elim (cases_eq d n) [

@@ -28,7 +28,8 @@ use Rattle.pm_stands.specs.Stands.{StandsFor}
 use Rattle.pm_cluster.proofs.ClosesLegally.{power_alike}
 
 -- the values of those numbers of a list that pass, by two tests that agree and by values that agree on those
-listed_alike : {X : Type 0} (f g : ℕ → X) (p q : ℕ → Bool) → ((n : ℕ) → p n ≡ q n) → ((n : ℕ) → p n ≡ true → f n ≡ g n) → (ns : List ℕ) →
+listed_alike : {X : Type 0} (f g : ℕ → X) (p q : ℕ → Bool) → ((n : ℕ) → p n ≡ q n) → ((n : ℕ) → p n ≡ true → f n ≡ g n) →
+    (ns : List ℕ) →
     map f (filter p ns) ≡ map g (filter q ns)
 listed_alike f g p q tests values [] = refl
 listed_alike f g p q tests values (n ∷ ns) =
@@ -52,7 +53,8 @@ module _ (plan : PlanData) (is_plan : IsPlan plan) (a b : Cut) (same : (d : ℕ)
   same_line : (x : ℕ) → is_member plan x (a x) ≡ true → member_line plan (state plan) a x ≡ member_line plan (state plan) b x
   unfolding member_line
   same_line x member = elim (cases_Bool (is_leaf (plan_lists plan) x)) [
-    | inl leaf ↦ member_line_is plan (state plan) b x (a x) (power plan (state plan) a x) (power_alike plan a b x is_plan leaf (same_below 0) (same x leaf)) (same x leaf)
+    | inl leaf ↦ member_line_is plan (state plan) b x (a x) (power plan (state plan) a x)
+        (power_alike plan a b x is_plan leaf (same_below 0) (same x leaf)) (same x leaf)
     | inr inner ↦ absurd (false≢true (sym (no_member plan is_plan x (a x) inner) ∙ member))
   ]
 

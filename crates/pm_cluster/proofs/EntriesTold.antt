@@ -1,5 +1,6 @@
 -- What the code needs in order to tell the power of a device.
-use Rattle.std.proofs.Common.{◌≡◌, ◌∙◌, sym, ap, subst, List, ℕ, ℤ, pos, ◌<◌, ◌≤◌, length, Option, Some, None, is_some, slice_index_or, arith}
+use Rattle.std.proofs.Common.{◌≡◌, ◌∙◌, sym, ap, subst, List, ℕ, ℤ, pos, ◌<◌, ◌≤◌, length, Option, Some, None, is_some}
+use Rattle.std.proofs.Common.{slice_index_or, arith}
 use Rattle.std.proofs.Math.Logic.{∥∥₁_elim}
 use Rattle.std.proofs.Props.{props}
 use Rattle.std.proofs.lemmas.List.{get_or_read}
@@ -53,14 +54,17 @@ told_of inside v view_is kept d leaf =
     entry_told inside.plan.now kept.is_plan (core_of inside) kept.stands d (subst (λ (w : ClusterValue). IsLeaf (plan_lists w.plan) d) (sym view_is) leaf)
 
 -- the power of a device by the entry that was read
-pub power_told : (plan : PlanData) (auctioneer : Auction) (concentrators : List (Option Gathered)) (ports : List Seat) (d y k : ℕ) (price : Held) (cache : Cache) (value : ℤ) →
-    held_by (seat_at ports d) ≡ Some price → y ≡ parent (plan_lists plan) d → k ≡ place_of plan.entries d → cache ≡ cache_in auctioneer concentrators y →
+pub power_told : (plan : PlanData) (auctioneer : Auction) (concentrators : List (Option Gathered)) (ports : List Seat) (d y k : ℕ)
+    (price : Held) (cache : Cache) (value : ℤ) →
+    held_by (seat_at ports d) ≡ Some price → y ≡ parent (plan_lists plan) d → k ≡ place_of plan.entries d →
+    cache ≡ cache_in auctioneer concentrators y →
     value ≡ demand_at (child_demand cache k) price.step → value ≡ power_by_entry plan auctioneer concentrators ports d
 power_told plan auctioneer concentrators ports d y k price cache value holds above place is value_is =
     value_is ∙ ap (λ (q : Cache). demand_at (child_demand q k) price.step) is
     ∙ ap (λ (i : ℕ). demand_at (child_demand (cache_in auctioneer concentrators y) i) price.step) place
     ∙ ap (λ (i : ℕ). demand_at (child_demand (cache_in auctioneer concentrators i) (place_of plan.entries d)) price.step) above
-    ∙ sym (ap (λ (h : Option Held). power_by h (child_demand (cache_in auctioneer concentrators (parent (plan_lists plan) d)) (place_of plan.entries d))) holds)
+    ∙ sym (ap (λ (h : Option Held). power_by h (child_demand (cache_in auctioneer concentrators (parent (plan_lists plan) d))
+    (place_of plan.entries d))) holds)
 
 -- a device that holds no price has no power
 pub no_power_told : (plan : PlanData) (auctioneer : Auction) (concentrators : List (Option Gathered)) (ports : List Seat) (d : ℕ) →
@@ -69,12 +73,15 @@ no_power_told plan auctioneer concentrators ports d none =
     sym (ap (λ (h : Option Held). power_by h (child_demand (cache_in auctioneer concentrators (parent (plan_lists plan) d)) (place_of plan.entries d))) none)
 
 -- the concentrator that was read
-pub concentrator_read : (concentrators : List (Option Gathered)) (y : ℕ) (here : Option Gathered) → y < length concentrators → here ≡ slice_index_or concentrators y here →
+pub concentrator_read : (concentrators : List (Option Gathered)) (y : ℕ) (here : Option Gathered) → y < length concentrators →
+    here ≡ slice_index_or concentrators y here →
     slice_index_or concentrators y None ≡ here
 concentrator_read concentrators y here inside is = sym (get_or_read concentrators y here inside is None)
 
-pub cache_read : (auctioneer : Auction) (concentrators : List (Option Gathered)) (y : ℕ) (here : Option Gathered) (g : Gathered) (cache : Cache) → y < length concentrators →
-    here ≡ slice_index_or concentrators y here → here ≡ Some g → (y ≡ 0 → ⊥) → cache ≡ g.cache → cache ≡ cache_in auctioneer concentrators y
+pub cache_read : (auctioneer : Auction) (concentrators : List (Option Gathered)) (y : ℕ) (here : Option Gathered) (g : Gathered)
+    (cache : Cache) → y < length concentrators →
+    here ≡ slice_index_or concentrators y here → here ≡ Some g → (y ≡ 0 → ⊥) → cache ≡ g.cache →
+    cache ≡ cache_in auctioneer concentrators y
 cache_read auctioneer concentrators y here g cache inside is some inner cache_is =
     cache_is ∙ ap (λ (q : Gathered). q.cache) (sym (gathered_known concentrators y g (concentrator_read concentrators y here inside is ∙ some)))
     ∙ sym (cache_inner auctioneer concentrators y inner)

@@ -60,7 +60,8 @@ leaf_is_node inside v is is_plan d leaf =
     leaf_node (plan_lists inside.plan.now) (lawful inside.plan.now is_plan) d (of_fields inside v is (λ plan. IsLeaf (plan_lists plan) d) leaf)
 
 -- a device of the value is one of the fields' plan
-pub leaf_in : (inside : Inside) (v : ClusterValue) (d : ℕ) → cluster_of inside ≡ v → IsLeaf (plan_lists v.plan) d → IsLeaf (plan_lists inside.plan.now) d
+pub leaf_in : (inside : Inside) (v : ClusterValue) (d : ℕ) → cluster_of inside ≡ v → IsLeaf (plan_lists v.plan) d →
+    IsLeaf (plan_lists inside.plan.now) d
 leaf_in inside v d e leaf = subst (λ (w : ClusterValue). IsLeaf (plan_lists w.plan) d) (sym e) leaf
 
 -- a device has its place in each list

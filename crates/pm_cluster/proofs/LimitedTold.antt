@@ -1,5 +1,6 @@
 -- What the code needs in order to tell the line of a limited concentrator.
-use Rattle.std.proofs.Common.{◌≡◌, ◌∙◌, sym, ap, subst, ℕ, ℤ, ◌<◌, ◌≤◌, true, false, length, List, Option, Some, None, is_some, slice_index_or, arith, refl}
+use Rattle.std.proofs.Common.{◌≡◌, ◌∙◌, sym, ap, subst, ℕ, ℤ, ◌<◌, ◌≤◌, true, false, length, List, Option, Some, None, is_some}
+use Rattle.std.proofs.Common.{slice_index_or, arith, refl}
 use Rattle.std.proofs.Math.Logic.{∥∥₁_elim}
 use Rattle.std.proofs.Props.{props}
 use Rattle.std.proofs.lemmas.Bool.{false≢true}
@@ -31,7 +32,8 @@ limited_no_device (Limited limits) some = refl
 limited_no_device (Device planned) some = absurd (false≢true some)
 
 -- a limited node is a concentrator
-pub limited_concentrator : (plan : PlanData) (g : ℕ) → IsPlan plan → g ≤ nodes (plan_lists plan) → is_limited plan g ≡ true → IsConcentrator (plan_lists plan) g
+pub limited_concentrator : (plan : PlanData) (g : ℕ) → IsPlan plan → g ≤ nodes (plan_lists plan) → is_limited plan g ≡ true →
+    IsConcentrator (plan_lists plan) g
 limited_concentrator plan g is_plan inside limited =
     (limited_is_no_root plan g limited, inside, is_leaf-is plan g ∙ sym (is_plan.nodes.devices g) ∙ limited_no_device (node plan g) limited)
 
@@ -42,15 +44,19 @@ pub record LimitedTold (plan : PlanData) (c : Core) (g : ℕ) : Type 0 where
   pub steps : (concentrator_of c g).cache.steps ≡ plan.basis.steps
   pub root_steps : c.auctioneer.cache.steps ≡ plan.basis.steps
 
-pub limited_told : (plan : PlanData) → IsPlan plan → (c : Core) → ∥ Stands plan c ∥₁ → (g : ℕ) → IsConcentrator (plan_lists plan) g → LimitedTold plan c g
+pub limited_told : (plan : PlanData) → IsPlan plan → (c : Core) → ∥ Stands plan c ∥₁ → (g : ℕ) → IsConcentrator (plan_lists plan) g →
+    LimitedTold plan c g
 limited_told plan is_plan c stands g conc = ∥∥₁_elim stands (Prim.hlevel props) (λ st. record {
   here = omega (arith, st.is.shaped.all_concentrators, conc.1);
   there = ap is_some (st.is.shaped.there g conc);
-  steps = ap (λ (q : Cache). q.steps) (sym (cache_inner c.auctioneer c.concentrators g (λ e. omega (arith, conc.0, e)))) ∙ st.is.shaped.cache_steps g conc.1 conc.2;
-  root_steps = ap (λ (q : Cache). q.steps) (sym (cache_root c.auctioneer c.concentrators 0 refl)) ∙ st.is.shaped.cache_steps 0 (omega arith) (leaf_zero (plan_lists plan));
+  steps = ap (λ (q : Cache). q.steps) (sym (cache_inner c.auctioneer c.concentrators g (λ e. omega (arith, conc.0, e))))
+      ∙ st.is.shaped.cache_steps g conc.1 conc.2;
+  root_steps = ap (λ (q : Cache). q.steps) (sym (cache_root c.auctioneer c.concentrators 0 refl))
+      ∙ st.is.shaped.cache_steps 0 (omega arith) (leaf_zero (plan_lists plan));
 })
 
-pub limited_of : (inside : Inside) (v : ClusterValue) → cluster_of inside ≡ v → AreClusterFields inside → (g : ℕ) → g ≤ nodes (plan_lists v.plan) →
+pub limited_of : (inside : Inside) (v : ClusterValue) → cluster_of inside ≡ v → AreClusterFields inside → (g : ℕ) →
+    g ≤ nodes (plan_lists v.plan) →
     is_limited v.plan g ≡ true → LimitedTold inside.plan.now (core_of inside) g
 limited_of inside v view_is kept g le limited =
     let plan = inside.plan.now in
@@ -59,8 +65,10 @@ limited_of inside v view_is kept g le limited =
     (subst (λ (w : ClusterValue). is_limited w.plan g ≡ true) (sym view_is) limited))
 
 -- the line by the sum and the step that were read
-pub line_told : (plan : PlanData) (c : Core) (g : ℕ) (limits : Limits) (gathered : Gathered) (step : ℕ) (total : ℤ) (sum : List ℤ) → limits_at plan g ≡ Some limits →
-    concentrator_of c g ≡ gathered → sum ≡ aggregate_of gathered.cache → step ≡ step_within limits c.auctioneer.step sum → total ≡ demand_at sum step →
+pub line_told : (plan : PlanData) (c : Core) (g : ℕ) (limits : Limits) (gathered : Gathered) (step : ℕ) (total : ℤ) (sum : List ℤ) →
+    limits_at plan g ≡ Some limits →
+    concentrator_of c g ≡ gathered → sum ≡ aggregate_of gathered.cache → step ≡ step_within limits c.auctioneer.step sum →
+    total ≡ demand_at sum step →
     (let line : LimitedLine = record { node = g; step = step; total = total } in line) ≡ kept_line plan c g
 line_told plan c g limits gathered step total sum limits_are gathered_is sum_is step_is total_is =
     ap (λ (t : ℤ). record { node = g; step = step; total = t }) total_is

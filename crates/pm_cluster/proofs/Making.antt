@@ -48,7 +48,8 @@ pub within_changes : (plan : PlanData) (c : Core) (next : Next) (kind : Kind) �
 within_changes plan c next kind follows = omega (arith, follows.its_next.of_phase, end-within plan (c.closed + 1) next.device)
 
 -- it is legal
-pub legal_next : (plan : PlanData) → IsPlan plan → (c : Core) (s : State) → StandsFor plan c s → (next : Next) (kind : Kind) → IsFollowed plan c next kind →
+pub legal_next : (plan : PlanData) → IsPlan plan → (c : Core) (s : State) → StandsFor plan c s → (next : Next) (kind : Kind) →
+    IsFollowed plan c next kind →
     Legal (plan_lists plan) s (Change next.device next.number)
 legal_next plan is_plan c s stands next kind follows =
     let open_phase : s.closed < market.phases (plan_lists plan) = omega (arith, follows.its_next.open_phase, stands.closed, phases-is plan) in (
@@ -73,7 +74,8 @@ made_demand plan c next kind demand steps on kind_is is same made =
     ∙ sym (demand_of_member plan next.device next.number kind kind_is (sym is.member ∙ on))
 
 -- its number is new on the device's link
-pub new_number : (plan : PlanData) → IsPlan plan → (c : Core) → ∥ Stands plan c ∥₁ → (next : Next) (kind : Kind) → IsFollowed plan c next kind → (y k : ℕ) →
+pub new_number : (plan : PlanData) → IsPlan plan → (c : Core) → ∥ Stands plan c ∥₁ → (next : Next) (kind : Kind) →
+    IsFollowed plan c next kind → (y k : ℕ) →
     y ≡ parent (plan_lists plan) next.device → k ≡ place_of plan.entries next.device → (link_at c.links y k).up.offered < next.number
 new_number plan is_plan c stands next kind follows y k e f =
     ∥∥₁_elim stands (Prim.hlevel props) (λ st.
@@ -93,19 +95,22 @@ pub read_steps : (plan : PlanData) (links : List (List Session)) (x y k : ℕ) �
 read_steps plan links x y k e f same = from_node plan x y k (λ (i j : ℕ). (link_at links i j).steps ≡ plan.basis.steps) e f same
 
 -- what was offered on the link that was read is the demand of a member
-pub offered_demand : (plan : PlanData) (old new : List (List Session)) (x n y k : ℕ) (member : Bool) (demand : List ℤ) → y ≡ parent (plan_lists plan) x →
+pub offered_demand : (plan : PlanData) (old new : List (List Session)) (x n y k : ℕ) (member : Bool) (demand : List ℤ) →
+    y ≡ parent (plan_lists plan) x →
     k ≡ place_of plan.entries x → member ≡ true → demand ≡ device_demand plan x n →
     BidOffered (link_at old y k) (link_at new y k) (bid_offered (link_at old y k).steps n (Some demand)) →
     BidOffered (link_at old (parent (plan_lists plan) x) (place_of plan.entries x)) (link_at new (parent (plan_lists plan) x) (place_of plan.entries x))
     (bid_offered (link_at old (parent (plan_lists plan) x) (place_of plan.entries x)).steps n (bid_demand (not member) (device_demand plan x n)))
 offered_demand plan old new x n y k member demand e f on is offered =
     let bid : List ℤ = device_demand plan x n in
-    at_node plan x y k (λ (i j : ℕ). BidOffered (link_at old i j) (link_at new i j) (bid_offered (link_at old i j).steps n (bid_demand (not member) bid))) e f
+    at_node plan x y k (λ (i j : ℕ). BidOffered (link_at old i j) (link_at new i j)
+    (bid_offered (link_at old i j).steps n (bid_demand (not member) bid))) e f
     (subst (λ (d : Option (List ℤ)). BidOffered (link_at old y k) (link_at new y k) (bid_offered (link_at old y k).steps n d))
     (ap Some is ∙ ap (λ (m : Bool). bid_demand (not m) bid) (sym on)) offered)
 
 -- the bid that was offered is the device's
-bid_is : (plan : PlanData) → IsPlan plan → (x n steps : ℕ) (kind : Kind) (member : Bool) → IsLeaf (plan_lists plan) x → kind_of (node plan x) ≡ Some kind →
+bid_is : (plan : PlanData) → IsPlan plan → (x n steps : ℕ) (kind : Kind) (member : Bool) → IsLeaf (plan_lists plan) x →
+    kind_of (node plan x) ≡ Some kind →
     n ≤ change_count plan x → member ≡ is_member plan x n → steps ≡ plan.basis.steps →
     bid_offered steps n (bid_demand (not member) (device_demand plan x n))
     ≡ record { number = n; gone = is_gone (plan_lists plan) x n; demand = device_demand plan x n }
@@ -120,7 +125,8 @@ bid_is plan is_plan x n steps kind member leaf kind_is le member_is steps_are =
     go true none = refl
     go false none = ap (λ (d : List ℤ). record { number = n; gone = true; demand = d }) (ap zeros steps_are ∙ sym (none refl))
 
-set_updated : {A : Type 0} (xs : List A) (x : ℕ) (v d : A) → x < length xs → (e : ℕ) → get_or (set xs x v) e d ≡ updated (λ (i : ℕ). get_or xs i d) x v e
+set_updated : {A : Type 0} (xs : List A) (x : ℕ) (v d : A) → x < length xs → (e : ℕ) →
+    get_or (set xs x v) e d ≡ updated (λ (i : ℕ). get_or xs i d) x v e
 set_updated xs x v d lt e = elim (cases_eq e x) [
   | inl is ↦
       ap (λ (i : ℕ). get_or (set xs x v) i d) is ∙ get_or-set_same xs x v d lt
@@ -179,7 +185,8 @@ did_change plan is_plan c next kind follows before y k links seat written =
     }
 
 -- so the move was made
-pub change_makes : (plan : PlanData) → IsPlan plan → (c : Core) (s : State) → StandsFor plan c s → (next : Next) (kind : Kind) → IsFollowed plan c next kind →
+pub change_makes : (plan : PlanData) → IsPlan plan → (c : Core) (s : State) → StandsFor plan c s → (next : Next) (kind : Kind) →
+    IsFollowed plan c next kind →
     (before : Bool) (y k : ℕ) → y ≡ parent (plan_lists plan) next.device → k ≡ place_of plan.entries next.device →
     (links : List (List Session)) (seat : Seat) → Written plan c next before y k links seat →
     MakesMove plan (changed_core c links (set c.counts next.device next.number) (set c.states next.device next.state.0) (set c.ports next.device seat)) s
@@ -189,7 +196,8 @@ change_makes plan is_plan c s stands next kind follows before y k e f links seat
     (set c.counts next.device next.number) (set c.states next.device next.state.0) (set c.ports next.device seat)
     (did_change plan is_plan c next kind follows before y k links seat written)
 
-pub change_stands : (plan : PlanData) → IsPlan plan → (c : Core) → ∥ Stands plan c ∥₁ → (next : Next) (kind : Kind) → IsFollowed plan c next kind →
+pub change_stands : (plan : PlanData) → IsPlan plan → (c : Core) → ∥ Stands plan c ∥₁ → (next : Next) (kind : Kind) →
+    IsFollowed plan c next kind →
     (before : Bool) (y k : ℕ) → y ≡ parent (plan_lists plan) next.device → k ≡ place_of plan.entries next.device →
     (links : List (List Session)) (seat : Seat) → Written plan c next before y k links seat →
     ∥ Stands plan (changed_core c links (set c.counts next.device next.number) (set c.states next.device next.state.0) (set c.ports next.device seat)) ∥₁

@@ -65,7 +65,8 @@ pub member_of_market : (plan : PlanData) → IsPlan plan → (d n : ℕ) → IsL
     market.is_member (plan_lists plan) d n ≡ is_member plan d n
 member_of_market plan is_plan d n leaf le = let at = few_nodes plan is_plan d leaf in is_member-is plan d n at.0 at.1 le
 
-keeps_in : (plan : PlanData) → IsPlan plan → (c : Core) (s : State) → StandsFor plan c s → (d : ℕ) → IsLeaf (plan_lists plan) d → KeepsDevice plan c d
+keeps_in : (plan : PlanData) → IsPlan plan → (c : Core) (s : State) → StandsFor plan c s → (d : ℕ) → IsLeaf (plan_lists plan) d →
+    KeepsDevice plan c d
 keeps_in plan is_plan c s stands d leaf =
     let at = few_nodes plan is_plan d leaf in
     let closed_le : s.closed ≤ phases plan = omega (arith, stands.sound.closed_within, phases-is plan) in
@@ -93,7 +94,8 @@ keeps_in plan is_plan c s stands d leaf =
           ∙ ap (λ (p : ℕ). power plan (state plan) (end_cut plan p) d) (sym stands.closed);
     }
 
-pub keeps_device : (plan : PlanData) → IsPlan plan → (c : Core) → ∥ Stands plan c ∥₁ → (d : ℕ) → IsLeaf (plan_lists plan) d → KeepsDevice plan c d
+pub keeps_device : (plan : PlanData) → IsPlan plan → (c : Core) → ∥ Stands plan c ∥₁ → (d : ℕ) → IsLeaf (plan_lists plan) d →
+    KeepsDevice plan c d
 keeps_device plan is_plan c stands d leaf = ∥∥₁_elim stands (Prim.hlevel props) (λ st. keeps_in plan is_plan c st.state st.is d leaf)
 
 -- before the first change no device has power
@@ -106,7 +108,8 @@ power_first plan is_plan d =
     ∙ zeros-at plan.basis.steps (local plan (state plan) (end_cut plan 0) d)
 
 -- whether it makes the device a member
-pub member_next : (plan : PlanData) (d n : ℕ) → n < change_count plan d → member_after (is_member plan d n) (change_at plan d n).what ≡ is_member plan d (n + 1)
+pub member_next : (plan : PlanData) (d n : ℕ) → n < change_count plan d → member_after (is_member plan d n) (change_at plan d n).what
+    ≡ is_member plan d (n + 1)
 unfolding is_member
 member_next plan d n inside =
     let changes = changes_of (node plan d) in
@@ -144,7 +147,8 @@ kind_valid plan is_plan d kind kind_is =
     let has = kind_of-tells (node plan d) kind kind_is in
     subst (λ (k : Kind). IsTrue (is_valid k)) has.kind_is (is_plan.within.devices d has.planned has.is).kind
 
-pub state_valid : (plan : PlanData) → IsPlan plan → (d n : ℕ) (kind : Kind) (z : ℤ) → kind_of (node plan d) ≡ Some kind → n ≤ change_count plan d →
+pub state_valid : (plan : PlanData) → IsPlan plan → (d n : ℕ) (kind : Kind) (z : ℤ) → kind_of (node plan d) ≡ Some kind →
+    n ≤ change_count plan d →
     z ≡ state plan d n → IsTrue (state_fits kind z)
 state_valid plan is_plan d n kind z kind_is le e =
     let has = kind_of-tells (node plan d) kind kind_is in
@@ -193,7 +197,8 @@ pub record FoundNext (plan : PlanData) (c : Core) (d count : ℕ) (what : Planne
   pub found : what ≡ (change_at plan d count).what
 
 -- the next change, where what it makes of the device is what that change makes of it
-pub is_next : (plan : PlanData) → IsPlan plan → (c : Core) → ∥ Stands plan c ∥₁ → (d count : ℕ) (what : Planned) → IsLeaf (plan_lists plan) d →
+pub is_next : (plan : PlanData) → IsPlan plan → (c : Core) → ∥ Stands plan c ∥₁ → (d count : ℕ) (what : Planned) →
+    IsLeaf (plan_lists plan) d →
     FoundNext plan c d count what → (member : Bool) (made : DeviceState) → member ≡ member_after (is_member plan d count) what →
     ((kind : Kind) → kind_of (node plan d) ≡ Some kind →
     made.0 ≡ changed_state kind (slice_index_or c.states d (pos 0)) (power plan (state plan) (end_cut plan c.closed) d) what) →

@@ -1,5 +1,6 @@
 -- A cluster whose lists are those of an opening was just opened.
-use Rattle.std.proofs.Common.{◌≡◌, ◌∙◌, sym, ap, ℕ, ◌+◌, ◌≤◌, pos, List, [], length, get_or, replicate, Option, Some, None, is_some, refl, arith, inl, inr}
+use Rattle.std.proofs.Common.{◌≡◌, ◌∙◌, sym, ap, ℕ, ◌+◌, ◌≤◌, pos, List, [], length, get_or, replicate, Option, Some, None, is_some}
+use Rattle.std.proofs.Common.{refl, arith, inl, inr}
 use Rattle.std.proofs.lemmas.Bool.{cases_eq}
 use Rattle.std.proofs.lemmas.List.{length-replicate, get_or-replicate}
 use Rattle.pm_bid.specs.Bids.{zeros}

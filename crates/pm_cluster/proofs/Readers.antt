@@ -16,10 +16,12 @@ use Rattle.pm_stands.proofs.Caches.{cache_root}
 -- the auctioneer's cache has the steps of the basis
 pub auction_steps : (plan : PlanData) (c : Core) → ∥ Stands plan c ∥₁ → c.auctioneer.cache.steps ≡ plan.basis.steps
 auction_steps plan c stands = ∥∥₁_elim stands (Prim.hlevel props) (λ st.
-    sym (ap (λ (q : Cache). q.steps) (cache_root c.auctioneer c.concentrators 0 refl)) ∙ st.is.shaped.cache_steps 0 (omega arith) (leaf_zero (plan_lists plan)))
+    sym (ap (λ (q : Cache). q.steps) (cache_root c.auctioneer c.concentrators 0 refl))
+    ∙ st.is.shaped.cache_steps 0 (omega arith) (leaf_zero (plan_lists plan)))
 
 -- a price between the least and the greatest of a basis is read back as it is
-pub price_read : (basis : BasisValue) (price : ℤ) → IsBasis basis → basis.min ≤ℤ price → price ≤ℤ basis.max → to_z w64 (of_z w64 price) ≡ price
+pub price_read : (basis : BasisValue) (price : ℤ) → IsBasis basis → basis.min ≤ℤ price → price ≤ℤ basis.max →
+    to_z w64 (of_z w64 price) ≡ price
 price_read basis price is low high =
     let fits : FitsSigned w64 price = omega (arith, ints, is.low, is.high) in
     to_z-of_z w64 price fits

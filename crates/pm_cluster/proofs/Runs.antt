@@ -33,7 +33,8 @@ pub run_start : (plan : PlanData) (c : Core) → StandsFor plan c start → IsRu
 run_start plan c stands = record { legal = tt; forms = refl; lines = refl; stands = stands }
 
 pub run_more : (plan : PlanData) (acts : List Act) (a : Act) (old new : Core) (journal : List Line) (line : Line) → IsRunOf plan acts old journal →
-    act_of line.what ≡ a → IsMadeLine plan new (after (plan_lists plan) (moves_of journal)) line → IsRunOf plan (acts ++ a ∷ []) new (journal ++ line ∷ [])
+    act_of line.what ≡ a → IsMadeLine plan new (after (plan_lists plan) (moves_of journal)) line →
+    IsRunOf plan (acts ++ a ∷ []) new (journal ++ line ∷ [])
 run_more plan acts a old new journal line run form made =
     let lists : Lists = plan_lists plan in
     let ms : List Move = moves_of journal in

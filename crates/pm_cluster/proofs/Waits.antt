@@ -16,17 +16,20 @@ use Rattle.pm_stands.proofs.Places.{placed, child_node, at_node, from_node}
 use Rattle.pm_cluster.specs.Waiting.{NoBids, NothingToSend, NoPrice, IsTaken, NothingBelow, IsAtRest}
 
 -- no bid waits exactly where the bid that was offered last was taken
-pub bid_waits_is : (z : Session) (waits : Bool) → IsSession z → (waits ≡ false) ↔ (z.up.waiting ≡ None) → (waits ≡ false) ↔ (z.up.offered ≡ z.up.taken)
+pub bid_waits_is : (z : Session) (waits : Bool) → IsSession z → (waits ≡ false) ↔ (z.up.waiting ≡ None) → (waits ≡ false)
+    ↔ (z.up.offered ≡ z.up.taken)
 bid_waits_is z waits sound is = (λ e. sound.up.none.0 (is.0 e), λ e. is.1 (sound.up.none.1 e))
 
 -- the same of prices
-pub price_waits_is : (z : Session) (waits : Bool) → IsSession z → (waits ≡ false) ↔ (z.down.waiting ≡ None) → (waits ≡ false) ↔ (z.down.offered ≡ z.down.taken)
+pub price_waits_is : (z : Session) (waits : Bool) → IsSession z → (waits ≡ false) ↔ (z.down.waiting ≡ None) → (waits ≡ false)
+    ↔ (z.down.offered ≡ z.down.taken)
 price_waits_is z waits sound is = (λ e. sound.down.none.0 (is.0 e), λ e. is.1 (sound.down.none.1 e))
 
 -- no bid waits in the row of a node exactly where no bid of a child does
 pub no_bids_is : (plan : PlanData) (c : Core) (x : ℕ) (row : List Session) (waits : Bool) →
     row_at c.links x ≡ row → length row ≡ length (children_of plan.entries x) →
-    (waits ≡ false) ↔ ((k : ℕ) → k < length row → (session_at row k).up.offered ≡ (session_at row k).up.taken) → (waits ≡ false) ↔ NoBids plan c x
+    (waits ≡ false) ↔ ((k : ℕ) → k < length row → (session_at row k).up.offered ≡ (session_at row k).up.taken) → (waits ≡ false)
+    ↔ NoBids plan c x
 unfolding link_at
 no_bids_is plan c x row waits is same iff = (
   λ e k lt. subst (λ (r : List Session). (session_at r k).up.offered ≡ (session_at r k).up.taken) (sym is) (iff.0 e k (omega arith)),
@@ -79,7 +82,8 @@ no_price_is plan c x y k z waits node e f read iff =
     )
 
 -- a concentrator that was read can publish nothing
-pub nothing_is : (plan : PlanData) (c : Core) (x : ℕ) (g : Gathered) (can : Bool) → (x ≡ 0 → ⊥) → IsConcentrator (plan_lists plan) x → concentrator_of c x ≡ g →
+pub nothing_is : (plan : PlanData) (c : Core) (x : ℕ) (g : Gathered) (can : Bool) → (x ≡ 0 → ⊥) → IsConcentrator (plan_lists plan) x →
+    concentrator_of c x ≡ g →
     (can ≡ false) ↔ CannotPublish g → (can ≡ false) ↔ NothingToSend plan c x
 nothing_is plan c x g can some conc read iff = (
   λ e. record { concentrator = λ at. subst CannotPublish (sym read) (iff.0 e); auctioneer = λ z. absurd (some z) },

@@ -1,5 +1,6 @@
 -- Acts, the changes that are refused, and runs of acts.
-use Rattle.std.specs.Prelude.{◌≡◌, ℕ, ◌<◌, ◌≤◌, ◌⊎◌, false, List, ◌∷◌, ◌++◌, length, map, take, slice_get, Option, Some, None, MatchOption, ⊤}
+use Rattle.std.specs.Prelude.{◌≡◌, ℕ, ◌<◌, ◌≤◌, ◌⊎◌, false, List, ◌∷◌, ◌++◌, length, map, take, slice_get, Option, Some, None}
+use Rattle.std.specs.Prelude.{MatchOption, ⊤}
 use Rattle.pm_base.specs.Cuts.{Cut}
 use Rattle.pm_agent.specs.MadeBids.{MadeBid}
 use Rattle.pm_device.specs.declared.state.Next.{Next}

@@ -43,7 +43,8 @@ pub record AreClusterFields (inside : Inside) : Type 0 where
   pub is_plan : IsPlan inside.plan.now
   pub places : HasPlaces inside.plan.now (core_of inside)
   pub same_members : length inside.members.items ≡ nodes (plan_lists inside.plan.now) + 1
-  pub members : (d : ℕ) → IsLeaf (plan_lists inside.plan.now) d → slice_index_or inside.members.items d false ≡ is_member inside.plan.now d (slice_index_or inside.counts.items d 0)
+  pub members : (d : ℕ) → IsLeaf (plan_lists inside.plan.now) d → slice_index_or inside.members.items d false
+      ≡ is_member inside.plan.now d (slice_index_or inside.counts.items d 0)
   pub same_due : length inside.due.items ≡ nodes (plan_lists inside.plan.now) + 1
   pub due : inside.closed < phases inside.plan.now → (d : ℕ) → IsLeaf (plan_lists inside.plan.now) d →
       slice_index_or inside.due.items d 0 ≡ end_cut inside.plan.now (inside.closed + 1) d

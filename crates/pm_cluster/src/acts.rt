@@ -1,4 +1,5 @@
-ghost use Rattle.std.specs.Prelude.{◌≡◌, ℕ, ◌+◌, ◌<◌, ◌≤◌, if◌then◌else◌, length, map, Ok, Some, None, IfOk, IfErr, IfSome, MatchOption};
+ghost use Rattle.std.specs.Prelude.{◌≡◌, ℕ, ◌+◌, ◌<◌, ◌≤◌, if◌then◌else◌, length, map, Ok, Some, None, IfOk, IfErr, IfSome};
+ghost use Rattle.std.specs.Prelude.{MatchOption};
 ghost use Rattle.pm_market.specs.Lists.{nodes, is_leaf, IsLeaf};
 ghost use Rattle.pm_market.specs.State.{State};
 ghost use Rattle.pm_market.specs.Moves.{act_of};

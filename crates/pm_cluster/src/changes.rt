@@ -1,4 +1,5 @@
-ghost use Rattle.std.specs.Prelude.{◌≡◌, ℕ, ℤ, ◌+◌, ◌<◌, ◌≤◌, List, length, map, not, true, false, IfOk, IfErr, IfSome, MatchOption, Some};
+ghost use Rattle.std.specs.Prelude.{◌≡◌, ℕ, ℤ, ◌+◌, ◌<◌, ◌≤◌, List, length, map, not, true, false, IfOk, IfErr, IfSome, MatchOption};
+ghost use Rattle.std.specs.Prelude.{Some};
 ghost use Rattle.std.specs.Option.{option_copied};
 ghost use Rattle.pm_tree.specs.Entries.{place_of};
 ghost use Rattle.pm_strategy.specs.Strategies.{bid_of};
@@ -187,7 +188,8 @@ fn offer_demand(
     ensures room { length spare.new ≡ plan.now.basis.steps }
     ensures one { OneLink (map (λ row. row.items) links.old.items) (map (λ row. row.items) links.new.items)
         (parent (plan_lists plan.now) next.device) (place_of plan.now.entries next.device) }
-    ensures offered { let old = link_at (map (λ row. row.items) links.old.items) (parent (plan_lists plan.now) next.device) (place_of plan.now.entries next.device) in
+    ensures offered { let old = link_at (map (λ row. row.items) links.old.items) (parent (plan_lists plan.now) next.device)
+        (place_of plan.now.entries next.device) in
         let new = link_at (map (λ row. row.items) links.new.items) (parent (plan_lists plan.now) next.device) (place_of plan.now.entries next.device) in
         BidOffered old new (bid_offered old.steps next.number (bid_demand (not next.member) (device_demand plan.now next.device next.number))) }
 {

@@ -1,4 +1,5 @@
-ghost use Rattle.std.specs.Prelude.{◌≡◌, ℕ, ℤ, ◌+◌, ◌<◌, ◌≤◌, ◌++◌, pos, length, slice_index_or, true, false, is_some, Some, None, IfOk, IsTrue, IsFalse, ◌↔◌, if◌then◌else◌};
+ghost use Rattle.std.specs.Prelude.{◌≡◌, ℕ, ℤ, ◌+◌, ◌<◌, ◌≤◌, ◌++◌, pos, length, slice_index_or, true, false, is_some, Some, None};
+ghost use Rattle.std.specs.Prelude.{IfOk, IsTrue, IsFalse, ◌↔◌, if◌then◌else◌};
 ghost use Rattle.pm_market.specs.Lists.{nodes, parent, IsLeaf, IsConcentrator};
 ghost use Rattle.pm_market.specs.State.{State};
 ghost use Rattle.pm_market.specs.Moves.{Legal};

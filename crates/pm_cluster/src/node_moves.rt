@@ -152,7 +152,8 @@ impl<'p> Cluster<'p> {
         ensures mine { IfSome result (λ what. IsMoveOf (plan_lists self.old.plan) node.0 what) }
         ensures none { result ≡ None → self.new ≡ self.old }
         ensures made { (s : State) → StandsFor self.old.plan self.old.core s → MatchOption result
-            ((child number : ℕ) → parent (plan_lists self.old.plan) child ≡ node.0 → Legal (plan_lists self.old.plan) s (Move.Learn child number) → ⊥)
+            ((child number : ℕ) → parent (plan_lists self.old.plan) child ≡ node.0 →
+            Legal (plan_lists self.old.plan) s (Move.Learn child number) → ⊥)
             (λ what. MakesMove self.old.plan self.new.core s what) }
     {
         let plan = self.plan;

@@ -1,6 +1,7 @@
 //! The moves of concentrators and of the auctioneer on the lists that a cluster keeps.
 
-ghost use Rattle.std.specs.Prelude.{◌≡◌, ℕ, ◌+◌, ◌<◌, ◌≤◌, ◌^◌, length, map, None, MatchOption, slice_index_or, is_some, true, false, IsSome};
+ghost use Rattle.std.specs.Prelude.{◌≡◌, ℕ, ◌+◌, ◌<◌, ◌≤◌, ◌^◌, length, map, None, MatchOption, slice_index_or, is_some, true, false};
+ghost use Rattle.std.specs.Prelude.{IsSome};
 ghost use Rattle.std.specs.Option.{option_copied};
 ghost use Rattle.pm_cache.specs.Cache.{kept_number};
 ghost use Rattle.pm_cache.specs.Learning.{CanLearn};
@@ -110,7 +111,8 @@ pub(crate) fn clear(auctioneer: &mut Auctioneer, links: &mut Vec<Vec<Link>>) -> 
     ensures cleared { MatchOption result (auctioneer.old.changed ≡ false) (λ cleared. ClearedAt auctioneer.old auctioneer.new
         (row_at (map (λ row. row.items) links.old.items) 0) (row_at (map (λ row. row.items) links.new.items) 0) cleared.index cleared.step) }
     ensures row { IsSome result → OneRow (map (λ row. row.items) links.old.items) (map (λ row. row.items) links.new.items) 0 }
-    ensures none { result ≡ None → (auctioneer.new ≡ auctioneer.old) × (map (λ row. row.items) links.new.items ≡ map (λ row. row.items) links.old.items) }
+    ensures none { result ≡ None → (auctioneer.new ≡ auctioneer.old)
+        × (map (λ row. row.items) links.new.items ≡ map (λ row. row.items) links.old.items) }
 {
     let row = &mut links[0];
     match auctioneer.clear(row) {

@@ -146,7 +146,8 @@ impl<'p> Cluster<'p> {
     /// that it knows. Where the cluster is idle it is the total over all current bids.
     pub fn aggregate(&self) -> &ArrayBid
         ensures sum { result.now ≡ aggregate_of self.now.core.auctioneer.cache }
-        ensures known { (s : State) → StandsFor self.now.plan self.now.core s → result.now ≡ children_sum self.now.plan 0 (known (plan_lists self.now.plan) s 0) }
+        ensures known { (s : State) → StandsFor self.now.plan self.now.core s →
+            result.now ≡ children_sum self.now.plan 0 (known (plan_lists self.now.plan) s 0) }
         ensures current { (s : State) → StandsFor self.now.plan self.now.core s → Idle (plan_lists self.now.plan) s →
             result.now ≡ total self.now.plan (state self.now.plan) s.counts }
     {

@@ -29,5 +29,6 @@ head_path a b p q = λ i. record { number = p i; gone = q i }
 pub same_head : (a b : BidHead) → Decides (eqb a.number b.number && beq a.gone b.gone) (a ≡ b)
 same_head a b = (
   λ e. head_path a b ((Decides-eqb a.number b.number).0 (and-left _ _ e)) (beq-same a.gone b.gone (and-right (eqb a.number b.number) _ e)),
-  λ e. subst (λ (h : BidHead). (eqb a.number h.number && beq a.gone h.gone) ≡ true) e (ap (λ (x : Bool). x && beq a.gone a.gone) ((Decides-eqb a.number a.number).1 refl) ∙ beq-refl a.gone),
+  λ e. subst (λ (h : BidHead). (eqb a.number h.number && beq a.gone h.gone) ≡ true) e
+      (ap (λ (x : Bool). x && beq a.gone a.gone) ((Decides-eqb a.number a.number).1 refl) ∙ beq-refl a.gone),
 )

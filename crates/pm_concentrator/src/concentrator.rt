@@ -1,4 +1,5 @@
-ghost use Rattle.std.specs.Prelude.{◌≡◌, ◌+◌, ◌-◌, ◌<◌, ◌≤◌, ◌^◌, false, length, option_map, Some, None, IfOk, IfErr, IsTrue, IsFalse, ◌↔◌};
+ghost use Rattle.std.specs.Prelude.{◌≡◌, ◌+◌, ◌-◌, ◌<◌, ◌≤◌, ◌^◌, false, length, option_map, Some, None, IfOk, IfErr, IsTrue};
+ghost use Rattle.std.specs.Prelude.{IsFalse, ◌↔◌};
 ghost use Rattle.std.specs.Option.{option_copied};
 ghost use Rattle.pm_base.specs.Limits.{AreSteps, AreLimits, most_nodes, window_size};
 ghost use Rattle.pm_bid.specs.Limited.{within_limits};
@@ -201,8 +202,10 @@ fn send(
     requires offered { up.old.up.offered < number }
     requires children { window.old.children ≡ length cache.now.heads }
     requires sum_steps { window.old.steps ≡ sum_steps (option_map (λ l. l.limits) limited.old) cache.now.steps }
-    ensures bid { BidOffered up.old up.new (record { number = number; gone = false; demand = within_limits (option_map (λ l. l.limits) limited.old) (aggregate_of cache.now) }) }
-    ensures sent { RecordSent window.old window.new (record { number = number; heads = cache.now.heads; sum = sum_kept (option_map (λ l. l.limits) limited.old) (aggregate_of cache.now) }) }
+    ensures bid { BidOffered up.old up.new
+        (record { number = number; gone = false; demand = within_limits (option_map (λ l. l.limits) limited.old) (aggregate_of cache.now) }) }
+    ensures sent { RecordSent window.old window.new
+        (record { number = number; heads = cache.now.heads; sum = sum_kept (option_map (λ l. l.limits) limited.old) (aggregate_of cache.now) }) }
     ensures limits { limited.new ≡ limited.old }
 {
     let sum = cache.aggregate();

@@ -46,7 +46,8 @@ impl Limited {
         requires number { up.old.up.offered < number }
         requires steps { length sum.now ≡ self.old.steps }
         requires up_steps { up.old.steps ≡ self.old.steps }
-        ensures bid { BidOffered up.old up.new (record { number = number; gone = false; demand = clamped self.old.limits.floor self.old.limits.ceiling sum.now }) }
+        ensures bid { BidOffered up.old up.new
+            (record { number = number; gone = false; demand = clamped self.old.limits.floor self.old.limits.ceiling sum.now }) }
         ensures same { self.new ≡ self.old }
     {
         let mut counter = Steps::<Brand>::start();

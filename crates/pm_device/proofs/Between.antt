@@ -1,7 +1,8 @@
 -- What the tests of limits say, as facts that arithmetic reads.
 use Rattle.std.proofs.Common.{arith, ℤ, pos, neg_ℤ, ◌≤ℤ◌, ◌<ℤ◌, int_lt, IsTrue, Bool, true, false, ◌&&◌, ◌≡◌}
 use Rattle.std.proofs.lemmas.Int.{ints}
-use Rattle.pm_device.specs.Kinds.{temperature_limit, change_limit, power_limit, capacity_limit, spread_limit, is_between, is_temperature, is_band, is_change, are_changes, is_power, is_thermal, is_battery}
+use Rattle.pm_device.specs.Kinds.{temperature_limit, change_limit, power_limit, capacity_limit, spread_limit, is_between, is_temperature, is_band, is_change}
+use Rattle.pm_device.specs.Kinds.{are_changes, is_power, is_thermal, is_battery}
 
 -- a number in low..=high
 pub record Between (low high number : ℤ) : Type 0 where
@@ -67,7 +68,8 @@ pub record Battery (capacity charge discharge spread : ℤ) : Type 0 where
   pub discharge_within : Between (pos 0) (pos power_limit) discharge
   pub spread_within : Between (pos 0) (pos spread_limit) spread
 
-pub is_battery-tells : (capacity charge discharge spread : ℤ) → IsTrue (is_battery capacity charge discharge spread) → Battery capacity charge discharge spread
+pub is_battery-tells : (capacity charge discharge spread : ℤ) → IsTrue (is_battery capacity charge discharge spread) →
+    Battery capacity charge discharge spread
 is_battery-tells capacity charge discharge spread h =
     let first = is_between (pos 1) (pos capacity_limit) capacity in
     let all = both_true (first && is_power charge && is_power discharge) (is_between (pos 0) (pos spread_limit) spread) h in

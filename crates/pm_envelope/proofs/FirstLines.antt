@@ -20,7 +20,8 @@ same_parts (x ∷ line) rest (y ∷ other) others lone other_lone same =
     ((λ i. first i ∷ more.0 i), more.1)
 
 -- two first lines of a text are one
-pub same_first_line : (text line rest other others : List ℕ) → IsFirstLine text line rest → IsFirstLine text other others → (line ≡ other) × (rest ≡ others)
+pub same_first_line : (text line rest other others : List ℕ) → IsFirstLine text line rest → IsFirstLine text other others →
+    (line ≡ other) × (rest ≡ others)
 same_first_line text line rest other others is also =
     let same : line ++ (10 ∷ rest) ≡ other ++ (10 ∷ others) = cc (is.parts, also.parts) in
     same_parts line rest other others is.no_line_feed also.no_line_feed same

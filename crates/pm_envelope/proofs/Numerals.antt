@@ -48,7 +48,8 @@ decimal_on_a_line number fits =
 
 -- what the value of digits says where no zero leads them: it is the number that the text writes, and where there is none
 -- the text writes no number up to the greatest
-pub value_is_number : (most : ℕ) (text : List ℕ) (value : Option ℕ) → most < 2 ^ 64 → 0 < length text → (get_or text 0 0 ≡ 48 → length text ≡ 1)
+pub value_is_number : (most : ℕ) (text : List ℕ) (value : Option ℕ) → most < 2 ^ 64 → 0 < length text →
+    (get_or text 0 0 ≡ 48 → length text ≡ 1)
     → SomeIff value (AllDigits 10 text × (digits_value 10 text ≤ most)) (digits_value 10 text)
     → IfSome value (λ number. text ≡ decimal number) × IfNone value ((number : ℕ) → number ≤ most → text ≢ decimal number)
 value_is_number most text (Some number) fits some lone is = (

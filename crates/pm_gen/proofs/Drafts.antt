@@ -1,5 +1,6 @@
 -- The draft of the demo cluster's plan under one more change of a device, and under a tick.
-use Rattle.std.proofs.Common.{◌≡◌, ◌≢◌, ℕ, zero, suc, ◌+◌, ◌-◌, ◌≤◌, ◌==◌, ℤ, Bool, true, false, not, if◌then◌else◌, List, [], ◌∷◌, ◌++◌, length, map, get_or, set, refl, sym, ap, ◌∙◌, arith, length-append, ◌⊎◌, inl, inr}
+use Rattle.std.proofs.Common.{◌≡◌, ◌≢◌, ℕ, zero, suc, ◌+◌, ◌-◌, ◌≤◌, ◌==◌, ℤ, Bool, true, false, not, if◌then◌else◌}
+use Rattle.std.proofs.Common.{List, [], ◌∷◌, ◌++◌, length, map, get_or, set, refl, sym, ap, ◌∙◌, arith, length-append, ◌⊎◌, inl, inr}
 use Rattle.std.proofs.lemmas.List.{length-map, length-set, get_or-set_same, get_or-set_other, get_or-map}
 use Rattle.std.proofs.lemmas.List.Sums.{fold_push, sum_by-set, sum_by-cons}
 use Rattle.std.proofs.lemmas.Bool.{cases_eq}
@@ -33,7 +34,8 @@ node_at-below nodes (suc d) low = let same : d ≡ suc d - 1 = omega arith in ap
 node_at-same : (nodes : List NodeData) (d : ℕ) (new : NodeData) → 1 ≤ d → d ≤ length nodes → node_at (set nodes (d - 1) new) d ≡ new
 node_at-same nodes d new low high = node_at-below (set nodes (d - 1) new) d low ∙ get_or-set_same nodes (d - 1) new Concentrator (omega arith)
 
-node_at-other : (nodes : List NodeData) (d e : ℕ) (new : NodeData) → 1 ≤ d → 1 ≤ e → d ≢ e → node_at (set nodes (d - 1) new) e ≡ node_at nodes e
+node_at-other : (nodes : List NodeData) (d e : ℕ) (new : NodeData) → 1 ≤ d → 1 ≤ e → d ≢ e →
+    node_at (set nodes (d - 1) new) e ≡ node_at nodes e
 node_at-other nodes d e new low positive differ =
     let apart : e - 1 ≢ d - 1 = λ same. differ (omega arith) in
     node_at-below (set nodes (d - 1) new) e positive
@@ -78,7 +80,8 @@ changes-with p what (Device planned) = omega (arith, length-append planned.chang
 changes-with p what Concentrator = omega arith
 changes-with p what (Limited limits) = omega arith
 
-module _ (size : ℕ) (earlier : List ℕ) (most : ℕ) (plan : PlanData) (stands : Stands size earlier most plan) (i : ℕ) (low : 1 ≤ i) (high : i ≤ size) (p : ℕ) where
+module _ (size : ℕ) (earlier : List ℕ) (most : ℕ) (plan : PlanData) (stands : Stands size earlier most plan) (i : ℕ) (low : 1 ≤ i)
+    (high : i ≤ size) (p : ℕ) where
   abbrev d : ℕ
   d = concentrator_count size + i
 
@@ -101,11 +104,13 @@ module _ (size : ℕ) (earlier : List ℕ) (most : ℕ) (plan : PlanData) (stand
       ∙ ap (is_joined (earlier ++ i ∷ [])) same
   joined-by j positive inside (inr differ) =
       let apart : d ≢ concentrator_count size + j = λ same. differ (omega arith) in
-      ap (λ (n : NodeData). is_member_after (changes_of n)) (node_at-other plan.nodes d (concentrator_count size + j) changed (omega arith) (omega arith) apart)
+      ap (λ (n : NodeData). is_member_after (changes_of n))
+      (node_at-other plan.nodes d (concentrator_count size + j) changed (omega arith) (omega arith) apart)
       ∙ stands.joined j positive inside
       ∙ sym (is_joined-other earlier i j differ)
 
-  devices-by : (j : ℕ) → 1 ≤ j → j ≤ size → (i ≡ j) ⊎ (i ≡ j → ⊥) → is_device (node_at (set plan.nodes (d - 1) changed) (concentrator_count size + j)) ≡ true
+  devices-by : (j : ℕ) → 1 ≤ j → j ≤ size → (i ≡ j) ⊎ (i ≡ j → ⊥) →
+      is_device (node_at (set plan.nodes (d - 1) changed) (concentrator_count size + j)) ≡ true
   devices-by j positive inside (inl same) =
       ap (λ e. is_device (node_at (set plan.nodes (d - 1) changed) (concentrator_count size + e))) (sym same)
       ∙ ap is_device (node_at-same plan.nodes d changed (omega arith) (omega (arith, stands.one_each)))
@@ -156,7 +161,8 @@ changes_at-tick p minutes (Device planned) = changes_at-chosen p minutes planned
 changes_at-tick p minutes Concentrator = omega arith
 changes_at-tick p minutes (Limited limits) = omega arith
 
-all_changes-tick : (p : ℕ) (minutes : ℤ) (nodes : List NodeData) → all_changes (map (map_device (ticked p minutes)) nodes) ≤ all_changes nodes + length nodes
+all_changes-tick : (p : ℕ) (minutes : ℤ) (nodes : List NodeData) → all_changes (map (map_device (ticked p minutes)) nodes)
+    ≤ all_changes nodes + length nodes
 all_changes-tick p minutes [] = omega arith
 all_changes-tick p minutes (n ∷ nodes) =
     let rest = all_changes-tick p minutes nodes in
@@ -173,7 +179,8 @@ ticked-at nodes p d minutes low high =
     ∙ get_or-map (map_device (ticked p minutes)) nodes (d - 1) Concentrator Concentrator (omega arith)
     ∙ ap (map_device (ticked p minutes)) (sym (node_at-below nodes d low))
 
-pub stands-ticked : (size : ℕ) (earlier : List ℕ) (most : ℕ) (plan : PlanData) (p : ℕ) (minutes : ℤ) → Stands size earlier most plan → Stands size earlier (most + (concentrator_count size + size)) (with_tick p minutes plan)
+pub stands-ticked : (size : ℕ) (earlier : List ℕ) (most : ℕ) (plan : PlanData) (p : ℕ) (minutes : ℤ) → Stands size earlier most plan →
+    Stands size earlier (most + (concentrator_count size + size)) (with_tick p minutes plan)
 stands-ticked size earlier most plan p minutes stands = record {
   entries_are = stands.entries_are;
   one_each = length-map plan.nodes (map_device (ticked p minutes)) ∙ stands.one_each;

@@ -23,6 +23,7 @@ unfolding next device_of drawn_device drawn_devices
 first_device = refl
 
 -- the device joins, and each round turns it round
-first_rounds : take 5 (demo_phases 1 44999) ≡ events (join (device_name 1) ∷ []) ∷ tick (pos 15) ∷ events (leave (device_name 1) ∷ []) ∷ tick (pos 15) ∷ events (join (device_name 1) ∷ []) ∷ []
+first_rounds : take 5 (demo_phases 1 44999) ≡ events (join (device_name 1) ∷ []) ∷ tick (pos 15) ∷ events
+    (leave (device_name 1) ∷ []) ∷ tick (pos 15) ∷ events (join (device_name 1) ∷ []) ∷ []
 unfolding next picks seed_after is_joined turns rounds demo_phases
 first_rounds = refl

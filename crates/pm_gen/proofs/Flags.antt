@@ -1,5 +1,7 @@
 -- The flags of the devices, and the events of a round one after another.
-use Rattle.std.proofs.Common.{◌≡◌, ◌≢◌, ℕ, zero, suc, ◌+◌, ◌-◌, ◌<◌, ◌≤◌, ◌==◌, Bool, true, false, not, if◌then◌else◌, List, [], ◌∷◌, ◌++◌, get_or, set, replicate, refl, sym, ap, subst, pos, ◌∙◌, arith, append_assoc, append-nil, ◌⊎◌, inl, inr}
+use Rattle.std.proofs.Common.{◌≡◌, ◌≢◌, ℕ, zero, suc, ◌+◌, ◌-◌, ◌<◌, ◌≤◌, ◌==◌, Bool, true, false, not, if◌then◌else◌}
+use Rattle.std.proofs.Common.{List, [], ◌∷◌, ◌++◌, get_or, set, replicate, refl, sym, ap, subst, pos, ◌∙◌, arith, append_assoc, append-nil}
+use Rattle.std.proofs.Common.{◌⊎◌, inl, inr}
 use Rattle.std.specs.List.{range_with_len, fold}
 use Rattle.std.proofs.lemmas.List.{length-set, length-replicate, get_or-set_same, get_or-set_other, get_or-replicate, ext_get_or}
 use Rattle.std.proofs.lemmas.List.FromFn.{get_or-map-range_with_len, length-map-range_with_len}
@@ -44,7 +46,8 @@ flag-turned : (size : ℕ) (earlier : List ℕ) (k j : ℕ) → k < size → j <
     → get_or (set (joined_flags size earlier) k (not (get_or (joined_flags size earlier) k false))) j false ≡ is_joined (earlier ++ (1 + k) ∷ []) (1 + j)
 flag-turned size earlier k j low high (inl same) =
     ap (λ m. get_or (set (joined_flags size earlier) k (not (get_or (joined_flags size earlier) k false))) m false) (sym same)
-    ∙ get_or-set_same (joined_flags size earlier) k (not (get_or (joined_flags size earlier) k false)) false (omega (arith, length-map-range_with_len (is_joined earlier) 1 size))
+    ∙ get_or-set_same (joined_flags size earlier) k (not (get_or (joined_flags size earlier) k false)) false
+    (omega (arith, length-map-range_with_len (is_joined earlier) 1 size))
     ∙ ap not (flag-at size earlier k low)
     ∙ sym (is_joined-same earlier (1 + k))
     ∙ ap (λ m. is_joined (earlier ++ (1 + k) ∷ []) (1 + m)) same
@@ -56,7 +59,8 @@ flag-turned size earlier k j low high (inr differ) =
     ∙ sym (is_joined-other earlier (1 + k) (1 + j) named)
 
 -- a device that is turned round
-flags-turned : (size : ℕ) (earlier : List ℕ) (k : ℕ) → k < size → set (joined_flags size earlier) k (not (get_or (joined_flags size earlier) k false)) ≡ joined_flags size (earlier ++ (1 + k) ∷ [])
+flags-turned : (size : ℕ) (earlier : List ℕ) (k : ℕ) → k < size →
+    set (joined_flags size earlier) k (not (get_or (joined_flags size earlier) k false)) ≡ joined_flags size (earlier ++ (1 + k) ∷ [])
 flags-turned size earlier k low =
     let old = length-map-range_with_len (is_joined earlier) 1 size in
     let new = length-map-range_with_len (is_joined (earlier ++ (1 + k) ∷ [])) 1 size in
@@ -72,7 +76,8 @@ pub record Turned (size : ℕ) (earlier : List ℕ) (first : ℕ) (count : ℕ) 
   pub flags : members ≡ joined_flags size (earlier ++ picks count size first)
   pub turned : made ≡ turns earlier (picks count size first)
 
-pub turned-none : (size : ℕ) (earlier : List ℕ) (first : ℕ) (members : List Bool) (made : List EventPart) → members ≡ joined_flags size earlier → made ≡ [] → Turned size earlier first 0 members made
+pub turned-none : (size : ℕ) (earlier : List ℕ) (first : ℕ) (members : List Bool) (made : List EventPart) →
+    members ≡ joined_flags size earlier → made ≡ [] → Turned size earlier first 0 members made
 unfolding picks turns
 turned-none size earlier first members made flags nothing = record { flags = flags ∙ ap (joined_flags size) (sym (append-nil earlier)); turned = nothing }
 
@@ -80,21 +85,25 @@ pub after-none : (seed : ℕ) → seed_after 0 seed ≡ seed
 unfolding seed_after
 after-none seed = refl
 
-pub turned-more : (size : ℕ) (earlier : List ℕ) (first count k : ℕ) (members new : List Bool) (made more : List EventPart) (event : EventPart) → k < size → k ≡ drawn size (seed_after count first)
+pub turned-more : (size : ℕ) (earlier : List ℕ) (first count k : ℕ) (members new : List Bool) (made more : List EventPart)
+    (event : EventPart) → k < size → k ≡ drawn size (seed_after count first)
     → Turned size earlier first count members made
-    → new ≡ set members k (not (get_or members k false)) → event ≡ (if get_or members k false then leave (device_name (1 + k)) else join (device_name (1 + k))) → more ≡ made ++ event ∷ []
+    → new ≡ set members k (not (get_or members k false)) →
+    event ≡ (if get_or members k false then leave (device_name (1 + k)) else join (device_name (1 + k))) → more ≡ made ++ event ∷ []
     → Turned size earlier first (count + 1) new more
 turned-more size earlier first count k members new made more event low pick before set_is event_is pushed =
     let devices : List ℕ = picks count size first in
     let longer : picks (count + 1) size first ≡ devices ++ (1 + k) ∷ [] = picks-more count size first ∙ ap (λ m. devices ++ (1 + m) ∷ []) (sym pick) in
-    let flag : get_or members k false ≡ is_joined (earlier ++ devices) (1 + k) = ap (λ ms. get_or ms k false) before.flags ∙ flag-at size (earlier ++ devices) k low in
+    let flag : get_or members k false ≡ is_joined (earlier ++ devices) (1 + k) = ap (λ ms. get_or ms k false) before.flags
+    ∙ flag-at size (earlier ++ devices) k low in
     record {
       flags = set_is
           ∙ ap (λ ms. set ms k (not (get_or ms k false))) before.flags
           ∙ flags-turned size (earlier ++ devices) k low
           ∙ ap (joined_flags size) (append_assoc earlier devices ((1 + k) ∷ []) ∙ ap (λ ds. earlier ++ ds) (sym longer));
       turned = pushed
-          ∙ (let old = before.turned in let last = event_is ∙ ap (λ b. if b then leave (device_name (1 + k)) else join (device_name (1 + k))) flag in (λ i. old i ++ last i ∷ []))
+          ∙ (let old = before.turned in let last = event_is
+          ∙ ap (λ b. if b then leave (device_name (1 + k)) else join (device_name (1 + k))) flag in (λ i. old i ++ last i ∷ []))
           ∙ sym (turns-more earlier devices (1 + k))
           ∙ ap (turns earlier) (sym longer);
     }
@@ -117,7 +126,8 @@ turned_on n i low high =
     ap (λ m. fold (λ b named. if named == i then not b else b) false (range_with_len 1 m)) parts
     ∙ ap (fold (λ b named. if named == i then not b else b) false) (range_with_len-append 1 (i - 1) (suc (n - i)))
     ∙ fold-append (λ b named. if named == i then not b else b) false (range_with_len 1 (i - 1)) (range_with_len (1 + (i - 1)) (suc (n - i)))
-    ∙ ap (λ b. fold (λ b named. if named == i then not b else b) b (range_with_len (1 + (i - 1)) (suc (n - i)))) (not_turned 1 (i - 1) i false (omega arith))
+    ∙ ap (λ b. fold (λ b named. if named == i then not b else b) b (range_with_len (1 + (i - 1)) (suc (n - i))))
+    (not_turned 1 (i - 1) i false (omega arith))
     ∙ ap (λ a. fold (λ b named. if named == i then not b else b) false (range_with_len a (suc (n - i)))) here
     ∙ ap (λ b. fold (λ b named. if named == i then not b else b) (if b then true else false) (range_with_len (i + 1) (n - i))) same
     ∙ not_turned_yet (i + 1) (n - i) i true (omega arith)
@@ -137,22 +147,29 @@ pub record Rounded (size first : ℕ) (front : List PhasePart) (count seed : ℕ
   pub flags : members ≡ joined_flags size earlier
   pub left : made ++ rounds (10 - count) size earlier seed ≡ front ++ rounds 10 size (range_with_len 1 size) first
 
-rounds-suc : (n size : ℕ) (earlier : List ℕ) (seed : ℕ) → rounds (suc n) size earlier seed ≡ tick (pos 15) ∷ events (turns earlier (round_picks size seed)) ∷ rounds n size (earlier ++ round_picks size seed) (seed_after (round_len size) seed)
+rounds-suc : (n size : ℕ) (earlier : List ℕ) (seed : ℕ) →
+    rounds (suc n) size earlier seed ≡ tick (pos 15) ∷ events (turns earlier (round_picks size seed)) ∷ rounds n size
+    (earlier ++ round_picks size seed) (seed_after (round_len size) seed)
 unfolding rounds
 rounds-suc n size earlier seed = refl
 
-rounds-step : (count size : ℕ) (earlier : List ℕ) (seed : ℕ) → count < 10 → rounds (10 - count) size earlier seed ≡ tick (pos 15) ∷ events (turns earlier (round_picks size seed)) ∷ rounds (10 - (count + 1)) size (earlier ++ round_picks size seed) (seed_after (round_len size) seed)
+rounds-step : (count size : ℕ) (earlier : List ℕ) (seed : ℕ) → count < 10 →
+    rounds (10 - count) size earlier seed ≡ tick (pos 15) ∷ events (turns earlier (round_picks size seed)) ∷ rounds
+    (10 - (count + 1)) size (earlier ++ round_picks size seed) (seed_after (round_len size) seed)
 rounds-step count size earlier seed low =
     let one : 10 - count ≡ suc (10 - (count + 1)) = omega arith in
     ap (λ n. rounds n size earlier seed) one ∙ rounds-suc (10 - (count + 1)) size earlier seed
 
 -- what a round makes of the flags and of the phases
 pub record Round (size seed : ℕ) (members new : List Bool) (made more : List PhasePart) : Type 0 where
-  pub phases : (earlier : List ℕ) → members ≡ joined_flags size earlier → more ≡ made ++ tick (pos 15) ∷ events (turns earlier (round_picks size seed)) ∷ []
+  pub phases : (earlier : List ℕ) → members ≡ joined_flags size earlier →
+      more ≡ made ++ tick (pos 15) ∷ events (turns earlier (round_picks size seed)) ∷ []
   pub flags : (earlier : List ℕ) → members ≡ joined_flags size earlier → new ≡ joined_flags size (earlier ++ round_picks size seed)
 
-pub rounded-more : (size have first : ℕ) (front : List PhasePart) (count seed left : ℕ) (members new : List Bool) (made more : List PhasePart) → count < 10 → have ≡ size
-    → Rounded size first front count seed members made → Round have seed members new made more → left ≡ seed_after (round_len have) seed → Rounded size first front (count + 1) left new more
+pub rounded-more : (size have first : ℕ) (front : List PhasePart) (count seed left : ℕ) (members new : List Bool)
+    (made more : List PhasePart) → count < 10 → have ≡ size
+    → Rounded size first front count seed members made → Round have seed members new made more →
+    left ≡ seed_after (round_len have) seed → Rounded size first front (count + 1) left new more
 rounded-more size have first front count seed left members new made more low same before here left_is =
     let round : Round size seed members new made more = subst (λ n. Round n seed members new made more) same here in
     let earlier : List ℕ = before.earlier in
@@ -162,13 +179,15 @@ rounded-more size have first front count seed left members new made more low sam
       flags = round.flags earlier before.flags;
       left =
           ap (λ s. more ++ rounds (10 - (count + 1)) size (earlier ++ round_picks size seed) s) (left_is ∙ ap (λ n. seed_after (round_len n) seed) same)
-          ∙ ap (λ phases. phases ++ rounds (10 - (count + 1)) size (earlier ++ round_picks size seed) (seed_after (round_len size) seed)) (round.phases earlier before.flags)
+          ∙ ap (λ phases. phases ++ rounds (10 - (count + 1)) size (earlier ++ round_picks size seed)
+          (seed_after (round_len size) seed)) (round.phases earlier before.flags)
           ∙ append_assoc made pair (rounds (10 - (count + 1)) size (earlier ++ round_picks size seed) (seed_after (round_len size) seed))
           ∙ ap (λ rest. made ++ rest) (sym (rounds-step count size earlier seed low))
           ∙ before.left;
     }
 
-pub rounded-all : (size first : ℕ) (front : List PhasePart) (count seed : ℕ) (members : List Bool) (made : List PhasePart) → 10 ≤ count → Rounded size first front count seed members made → made ≡ front ++ rounds 10 size (range_with_len 1 size) first
+pub rounded-all : (size first : ℕ) (front : List PhasePart) (count seed : ℕ) (members : List Bool) (made : List PhasePart) →
+    10 ≤ count → Rounded size first front count seed members made → made ≡ front ++ rounds 10 size (range_with_len 1 size) first
 unfolding rounds
 rounded-all size first front count seed members made high after_all =
     let none : 10 - count ≡ 0 = omega arith in

@@ -1,5 +1,6 @@
 -- The names of the demo cluster: which nodes have them.
-use Rattle.std.proofs.Common.{◌≡◌, ◌≢◌, ℕ, zero, suc, ◌+◌, ◌^◌, ◌<◌, ◌≤◌, Bool, true, false, ◌||◌, List, ◌∷◌, ◌++◌, length, map, Some, None, refl, ap, ◌∙◌, arith}
+use Rattle.std.proofs.Common.{◌≡◌, ◌≢◌, ℕ, zero, suc, ◌+◌, ◌^◌, ◌<◌, ◌≤◌, Bool, true, false, ◌||◌, List, ◌∷◌}
+use Rattle.std.proofs.Common.{◌++◌, length, map, Some, None, refl, ap, ◌∙◌, arith}
 use Rattle.std.specs.Fmt.{decimal, digits}
 use Rattle.std.specs.List.{list_any, list_all, range_with_len, position}
 use Rattle.std.specs.Str.{bytes_eq}
@@ -27,7 +28,8 @@ false_by : (b : Bool) → (b ≡ true → ⊥) → b ≡ false
 false_by b never = grind arith
 
 pub device_name-differs : (i j : ℕ) → i < 2 ^ 64 → j < 2 ^ 64 → i ≢ j → bytes_eq (device_name i) (device_name j) ≡ false
-device_name-differs i j low high differ = false_by (bytes_eq (decimal i) (decimal j)) (λ same. differ (decimal_injective i j low high ((bytes_eq-Decides (decimal i) (decimal j)).0 same)))
+device_name-differs i j low high differ =
+    false_by (bytes_eq (decimal i) (decimal j)) (λ same. differ (decimal_injective i j low high ((bytes_eq-Decides (decimal i) (decimal j)).0 same)))
 
 pub device_name-same : (i : ℕ) → bytes_eq (device_name i) (device_name i) ≡ true
 device_name-same i = (bytes_eq-Decides (device_name i) (device_name i)).1 refl
@@ -60,7 +62,8 @@ front_entries count k = concentrator_entries count ++ map (device_entry count) (
 pub is_free : (count k i : ℕ) → i < 2 ^ 64 → k < i → is_taken (front_entries count k) (device_name i) ≡ false
 is_free count k i few later =
     ap (list_any (bytes_eq (device_name i))) (names_of-append (concentrator_entries count) (map (device_entry count) (range_with_len 1 k)))
-    ∙ list_any-append (bytes_eq (device_name i)) (map (λ (e : Entry). e.name) (concentrator_entries count)) (map (λ (e : Entry). e.name) (map (device_entry count) (range_with_len 1 k)))
+    ∙ list_any-append (bytes_eq (device_name i)) (map (λ (e : Entry). e.name) (concentrator_entries count))
+    (map (λ (e : Entry). e.name) (map (device_entry count) (range_with_len 1 k)))
     ∙ (let first = no_concentrator_has i 1 count in
     let rest = no_earlier_has count i 1 k few (omega arith) in
     (λ t. first t || rest t))
@@ -70,9 +73,11 @@ unfolding node_named
 not_named count k i few later = position-none (bytes_eq (device_name i)) (names_of (front_entries count k)) (is_free count k i few later)
 
 -- a device is found behind the entries before it
-pub named_after : (count k i : ℕ) (rest : List Entry) → i < 2 ^ 64 → k < i → node_named (front_entries count k ++ device_entry count i ∷ rest) (device_name i) ≡ Some (length (front_entries count k) + 1)
+pub named_after : (count k i : ℕ) (rest : List Entry) → i < 2 ^ 64 → k < i →
+    node_named (front_entries count k ++ device_entry count i ∷ rest) (device_name i) ≡ Some (length (front_entries count k) + 1)
 unfolding node_named
 named_after count k i rest few later =
     ap (position (bytes_eq (device_name i))) (names_of-append (front_entries count k) (device_entry count i ∷ rest))
-    ∙ position-first (bytes_eq (device_name i)) (names_of (front_entries count k)) (device_name i) (map (λ (e : Entry). e.name) rest) (is_free count k i few later) (device_name-same i)
+    ∙ position-first (bytes_eq (device_name i)) (names_of (front_entries count k)) (device_name i) (map (λ (e : Entry). e.name) rest)
+    (is_free count k i few later) (device_name-same i)
     ∙ ap (λ n. Some n) (omega (arith, length-map (front_entries count k) (λ (e : Entry). e.name)))

@@ -1,5 +1,7 @@
 -- The nodes of the demo cluster are accepted.
-use Rattle.std.proofs.Common.{◌≡◌, ℕ, zero, suc, ◌+◌, ◌==◌, ℤ, pos, neg_ℤ, ◌+ℤ◌, ◌≤ℤ◌, Bool, true, false, ◌&&◌, if◌then◌else◌, IsTrue, List, [], ◌∷◌, ◌++◌, length, map, get_or, replicate, Ok, refl, sym, ap, ◌∙◌, arith, append_assoc, append-nil, length-append}
+use Rattle.std.proofs.Common.{◌≡◌, ℕ, zero, suc, ◌+◌, ◌==◌, ℤ, pos, neg_ℤ, ◌+ℤ◌, ◌≤ℤ◌, Bool, true, false, ◌&&◌}
+use Rattle.std.proofs.Common.{if◌then◌else◌, IsTrue, List, [], ◌∷◌, ◌++◌, length, map, get_or, replicate, Ok, refl, sym, ap, ◌∙◌, arith}
+use Rattle.std.proofs.Common.{append_assoc, append-nil, length-append}
 use Rattle.std.specs.Prelude.{⊤}
 use Rattle.std.specs.List.{AllByRecursion, range_with_len}
 use Rattle.std.proofs.lemmas.List.{length-replicate, map-append}
@@ -16,7 +18,8 @@ use Rattle.pm_plan.specs.Plans as plans
 use Rattle.pm_plan.specs.Building.{add_node, with_node, state_of, is_manual}
 use Rattle.pm_base.specs.Outcomes.{◌>>=◌, fold_from}
 use Rattle.pm_gen.specs.Draws.{next, drawn}
-use Rattle.pm_gen.specs.Nodes.{with_start, at_power, device_of, drawn_power, drawn_device, drawn_devices, demo_nodes, demo_entries, concentrator_entry, device_entry, concentrator_entries, device_entries, concentrator_count}
+use Rattle.pm_gen.specs.Nodes.{with_start, at_power, device_of, drawn_power, drawn_device, drawn_devices, demo_nodes, demo_entries, concentrator_entry}
+use Rattle.pm_gen.specs.Nodes.{device_entry, concentrator_entries, device_entries, concentrator_count}
 
 -- ---- parts that are accepted
 
@@ -67,7 +70,8 @@ add_plain n plan (device kind (points pairs)) plain = absurd plain
 abbrev pub with_nodes : PlanData → List NodeData → PlanData
 with_nodes plan more = record plan { nodes = plan.nodes ++ more }
 
-pub add_plain_nodes : (n : ℕ) (plan : PlanData) (parts : List NodePart) → AllByRecursion IsPlain parts → fold_from n add_node plan parts ≡ Ok (with_nodes plan (map planned_for parts))
+pub add_plain_nodes : (n : ℕ) (plan : PlanData) (parts : List NodePart) → AllByRecursion IsPlain parts →
+    fold_from n add_node plan parts ≡ Ok (with_nodes plan (map planned_for parts))
 add_plain_nodes n plan [] plain = ap (λ nodes. Ok (record plan { nodes = nodes })) (sym (append-nil plan.nodes))
 add_plain_nodes n plan (part ∷ parts) plain =
     let here = add_plain n plan part plain.0 in
@@ -95,7 +99,8 @@ module _ (power : ℤ) (seed : ℕ) (rated : is_power power ≡ true) where
   freezer = record {
     valid = ap (λ b. b && true) rated;
     no_bid = refl;
-    fits = between (neg_ℤ (pos temperature_limit)) (pos temperature_limit) (neg_ℤ (pos 2200) +ℤ pos (drawn 401 seed)) (omega (arith, ints)) (omega (arith, ints));
+    fits = between (neg_ℤ (pos temperature_limit)) (pos temperature_limit) (neg_ℤ (pos 2200) +ℤ pos (drawn 401 seed))
+        (omega (arith, ints)) (omega (arith, ints));
   }
 
   heat_pump : IsPlain (with_start (HeatPump (pos 1900) (pos 2200) power (pos 10) (pos 30)) (pos 1900) 301 seed).0
@@ -127,7 +132,8 @@ module _ (power : ℤ) (seed : ℕ) (rated : is_power power ≡ true) where
 
   device_of-plain : (kind : ℕ) → IsPlain (device_of kind power seed).0
   unfolding device_of
-  device_of-plain kind = plain_by (kind == 0) _ _ freezer (plain_by (kind == 1) _ _ heat_pump (plain_by (kind == 2) _ _ cogeneration (plain_by (kind == 3) _ _ battery (plain_by (kind == 4) _ _ solar load))))
+  device_of-plain kind = plain_by (kind == 0) _ _ freezer
+      (plain_by (kind == 1) _ _ heat_pump (plain_by (kind == 2) _ _ cogeneration (plain_by (kind == 3) _ _ battery (plain_by (kind == 4) _ _ solar load))))
 
 drawn_power-rated : (seed : ℕ) → is_power (drawn_power seed) ≡ true
 drawn_power-rated seed = between (pos 0) (pos power_limit) (drawn_power seed) (omega (arith, ints)) (omega (arith, ints))
@@ -165,7 +171,8 @@ length-demo_nodes size seed =
 
 device_of-is_device : (kind : ℕ) (power : ℤ) (seed : ℕ) → is_device (device_of kind power seed).0 ≡ true
 unfolding device_of
-device_of-is_device kind power seed = device_by (kind == 0) _ _ refl (device_by (kind == 1) _ _ refl (device_by (kind == 2) _ _ refl (device_by (kind == 3) _ _ refl (device_by (kind == 4) _ _ refl refl))))
+device_of-is_device kind power seed = device_by (kind == 0) _ _ refl
+    (device_by (kind == 1) _ _ refl (device_by (kind == 2) _ _ refl (device_by (kind == 3) _ _ refl (device_by (kind == 4) _ _ refl refl))))
   where
     device_by : (b : Bool) (x y : NodePart × ℕ) → is_device x.0 ≡ true → is_device y.0 ≡ true → is_device (if b then x else y).0 ≡ true
     device_by true x y first second = first
@@ -183,7 +190,8 @@ map-replicate : {A B : Type 0} (f : A → B) (n : ℕ) (x : A) → map f (replic
 map-replicate f zero x = refl
 map-replicate f (suc n) x = ap (λ ys. f x ∷ ys) (map-replicate f n x)
 
-constant_entries : (f : ℕ → Entry) (leaf : Bool) → ((i : ℕ) → (f i).leaf ≡ leaf) → (a n : ℕ) → map (λ (e : Entry). e.leaf) (map f (range_with_len a n)) ≡ replicate n leaf
+constant_entries : (f : ℕ → Entry) (leaf : Bool) → ((i : ℕ) → (f i).leaf ≡ leaf) → (a n : ℕ) →
+    map (λ (e : Entry). e.leaf) (map f (range_with_len a n)) ≡ replicate n leaf
 constant_entries f leaf same a zero = refl
 constant_entries f leaf same a (suc n) = let first = same a in let rest = constant_entries f leaf same (a + 1) n in (λ i. first i ∷ rest i)
 

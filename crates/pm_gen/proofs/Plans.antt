@@ -1,5 +1,6 @@
 -- The parts of the demo cluster make a plan.
-use Rattle.std.proofs.Common.{◌≡◌, ℕ, zero, suc, ◌+◌, ◌-◌, ◌*◌, ◌<◌, ◌≤◌, pos, true, false, nat_le, List, [], ◌∷◌, ◌++◌, length, map, get_or, None, Result, Ok, refl, sym, ap, ◌∙◌, arith}
+use Rattle.std.proofs.Common.{◌≡◌, ℕ, zero, suc, ◌+◌, ◌-◌, ◌*◌, ◌<◌, ◌≤◌, pos, true, false, nat_le, List, [], ◌∷◌, ◌++◌}
+use Rattle.std.proofs.Common.{length, map, get_or, None, Result, Ok, refl, sym, ap, ◌∙◌, arith}
 use Rattle.std.specs.Result.{IsOk, is_ok}
 use Rattle.std.specs.List.{range_with_len}
 use Rattle.std.proofs.lemmas.List.{length-map}
@@ -58,7 +59,8 @@ no_changes (part ∷ parts) =
     omega arith)
 
 -- the devices are those of the tree
-devices_of : (size seed i : ℕ) → 1 ≤ i → i ≤ size → plans.is_device (node_at (map planned_for (demo_nodes size seed)) (concentrator_count size + i)) ≡ true
+devices_of : (size seed i : ℕ) → 1 ≤ i → i ≤ size →
+    plans.is_device (node_at (map planned_for (demo_nodes size seed)) (concentrator_count size + i)) ≡ true
 unfolding leaves_of
 devices_of size seed i low high =
     let place : concentrator_count size + i ≡ suc (concentrator_count size + i - 1) = omega arith in
@@ -106,7 +108,8 @@ module _ (size : ℕ) (some : 1 ≤ size) (few : size ≤ 200) where
         },
       )
 
-  events-accepted : (p most : ℕ) (earlier devices : List ℕ) (plan : PlanData) → Stands size earlier most plan → AreDevices size few devices → length devices ≤ 200 → most + length devices ≤ most_changes
+  events-accepted : (p most : ℕ) (earlier devices : List ℕ) (plan : PlanData) → Stands size earlier most plan →
+      AreDevices size few devices → length devices ≤ 200 → most + length devices ≤ most_changes
       → IsDraft size few (earlier ++ devices) (most + length devices) (add_phase p plan (events (turns earlier devices)))
   unfolding add_phase phase_of
   events-accepted p most earlier devices plan stands all short small =
@@ -114,10 +117,18 @@ module _ (size : ℕ) (some : 1 ≤ size) (few : size ≤ 200) where
       let listed = few_enough most_events (length (turns earlier devices)) (omega (arith, length-turns earlier devices)) in
       let fits = few_enough most_changes (all_changes demo_plan.0.nodes) (omega (arith, demo_plan.2.few)) in (
         with_phase demo_plan.0 None,
-        ap (λ b. (check cause.RunTooLarge (Phase p) b >> (fold_from 1 (add_event p) plan (turns earlier devices) >>= λ draft. Ok (with_phase draft None))) >>= λ draft. check cause.RunTooLarge (Phase p) (nat_le (all_changes draft.nodes) most_changes) >> Ok draft) listed
-            ∙ ap (λ draft. (draft >>= λ d. Ok (with_phase d None)) >>= λ d. check cause.RunTooLarge (Phase p) (nat_le (all_changes d.nodes) most_changes) >> Ok d) demo_plan.1
+        ap (λ b. (check cause.RunTooLarge (Phase p) b >> (fold_from 1 (add_event p) plan (turns earlier devices) >>= λ draft.
+            Ok (with_phase draft None))) >>= λ draft. check cause.RunTooLarge (Phase p) (nat_le (all_changes draft.nodes) most_changes) >> Ok draft) listed
+            ∙ ap (λ draft. (draft >>= λ d. Ok (with_phase d None)) >>= λ d. check cause.RunTooLarge (Phase p)
+            (nat_le (all_changes d.nodes) most_changes) >> Ok d) demo_plan.1
             ∙ ap (λ b. check cause.RunTooLarge (Phase p) b >> Ok (with_phase demo_plan.0 None)) fits,
-        record { entries_are = demo_plan.2.entries_are; one_each = demo_plan.2.one_each; devices = demo_plan.2.devices; joined = demo_plan.2.joined; few = demo_plan.2.few },
+        record {
+          entries_are = demo_plan.2.entries_are;
+          one_each = demo_plan.2.one_each;
+          devices = demo_plan.2.devices;
+          joined = demo_plan.2.joined;
+          few = demo_plan.2.few;
+        },
       )
 
   -- ---- the rounds
@@ -130,19 +141,25 @@ module _ (size : ℕ) (some : 1 ≤ size) (few : size ≤ 200) where
   rounds-accepted (suc n) p most seed earlier plan stands small =
       let count = length-picks (round_len size) size seed in
       let ticked = tick-accepted p most earlier plan stands (omega arith) in
-      let turned = events-accepted (p + 1) (most + 210) earlier (round_picks size seed) ticked.0 ticked.2 (picks-are_devices size few (round_len size) seed some) (omega arith) (omega arith) in
-      let rest = rounds-accepted n (p + 1 + 1) (most + 210 + length (round_picks size seed)) (seed_after (round_len size) seed) (earlier ++ round_picks size seed) turned.0 turned.2 (omega arith) in (
+      let turned = events-accepted (p + 1) (most + 210) earlier (round_picks size seed) ticked.0 ticked.2
+      (picks-are_devices size few (round_len size) seed some) (omega arith) (omega arith) in
+      let rest = rounds-accepted n (p + 1 + 1) (most + 210 + length (round_picks size seed)) (seed_after (round_len size) seed)
+      (earlier ++ round_picks size seed) turned.0 turned.2 (omega arith) in (
         rest.0,
-        ap (λ first. first >>= λ draft. fold_from (p + 1) add_phase draft (events (turns earlier (round_picks size seed)) ∷ rounds n size (earlier ++ round_picks size seed) (seed_after (round_len size) seed))) ticked.1
-            ∙ ap (λ first. first >>= λ draft. fold_from (p + 1 + 1) add_phase draft (rounds n size (earlier ++ round_picks size seed) (seed_after (round_len size) seed))) turned.1
+        ap (λ first. first >>= λ draft. fold_from (p + 1) add_phase draft
+            (events (turns earlier (round_picks size seed)) ∷ rounds n size (earlier ++ round_picks size seed) (seed_after (round_len size) seed))) ticked.1
+            ∙ ap (λ first. first >>= λ draft. fold_from (p + 1 + 1) add_phase draft
+            (rounds n size (earlier ++ round_picks size seed) (seed_after (round_len size) seed))) turned.1
             ∙ rest.1,
       )
 
-  phases-accepted : (seed : ℕ) (plan : PlanData) → Stands size [] 0 plan → (seed_after : PlanData) × (fold_from 1 add_phase plan (demo_phases size seed) ≡ Ok seed_after)
+  phases-accepted : (seed : ℕ) (plan : PlanData) → Stands size [] 0 plan → (seed_after : PlanData)
+      × (fold_from 1 add_phase plan (demo_phases size seed) ≡ Ok seed_after)
   unfolding demo_phases
   phases-accepted seed plan stands =
       let count = length-range_with_len 1 size in
-      let first = events-accepted 1 0 [] (range_with_len 1 size) plan stands (range-are_devices size few 1 size (omega arith) (omega arith)) (omega arith) (omega arith) in
+      let first = events-accepted 1 0 [] (range_with_len 1 size) plan stands
+      (range-are_devices size few 1 size (omega arith) (omega arith)) (omega arith) (omega arith) in
       let rest = rounds-accepted 10 2 (0 + length (range_with_len 1 size)) seed (range_with_len 1 size) first.0 first.2 (omega arith) in (
         rest.0,
         ap (λ joins. fold_from 1 add_phase plan (events joins ∷ rounds 10 size (range_with_len 1 size) seed)) (joins-are_turns size)
@@ -169,7 +186,9 @@ module _ (size : ℕ) (some : 1 ≤ size) (few : size ≤ 200) where
       let nodes = add_plain_nodes 1 (empty_plan demo_basis (demo_entries size)) (demo_nodes size seed) (demo_nodes-plain size seed) in
       let phases = phases-accepted later (nodes_alone seed) (stands-first seed) in (
         phases.0,
-        ap (λ b. check cause.RunTooLarge Document b >> (fold_from 1 add_node (empty_plan demo_basis (demo_entries size)) (demo_nodes size seed) >>= λ draft. fold_from 1 add_phase draft (demo_phases size later))) short
+        ap (λ b. check cause.RunTooLarge Document b >>
+            (fold_from 1 add_node (empty_plan demo_basis (demo_entries size)) (demo_nodes size seed) >>= λ draft.
+            fold_from 1 add_phase draft (demo_phases size later))) short
             ∙ ap (λ result. result >>= λ draft. fold_from 1 add_phase draft (demo_phases size later)) nodes
             ∙ phases.1,
       )
@@ -189,12 +208,15 @@ size_has_plan size given within =
 
 -- what the parts give, by where they come from
 pub read_is_made : (size seed : ℕ) (basis : BasisValue) (entries : List Entry) (nodes : List NodePart) (phases : List PhasePart)
-    → basis ≡ demo_basis → entries ≡ demo_entries size → nodes ≡ demo_nodes size seed → phases ≡ demo_phases size (seed_after_devices size seed) → checked_plan basis entries nodes phases ≡ demo_plan_from size seed
+    → basis ≡ demo_basis → entries ≡ demo_entries size → nodes ≡ demo_nodes size seed →
+    phases ≡ demo_phases size (seed_after_devices size seed) → checked_plan basis entries nodes phases ≡ demo_plan_from size seed
 unfolding demo_plan_from
-read_is_made size seed basis entries nodes phases basis_is entries_are nodes_are phases_are = (λ i. checked_plan (basis_is i) (entries_are i) (nodes_are i) (phases_are i))
+read_is_made size seed basis entries nodes phases basis_is entries_are nodes_are phases_are =
+    (λ i. checked_plan (basis_is i) (entries_are i) (nodes_are i) (phases_are i))
 
 -- only an allocation failure keeps the plan from being made
-pub plan_fault_is_memory : (size seed : ℕ) (fault : PlanFault) (read : Result PlanData Refusal) → 0 < size → size ≤ 200 → read ≡ demo_plan_from size seed → Refuses (refusal_in fault) read → fault ≡ faults.NoMemory
+pub plan_fault_is_memory : (size seed : ℕ) (fault : PlanFault) (read : Result PlanData Refusal) → 0 < size → size ≤ 200 →
+    read ≡ demo_plan_from size seed → Refuses (refusal_in fault) read → fault ≡ faults.NoMemory
 plan_fault_is_memory size seed faults.NoMemory read some few same fails = refl
 plan_fault_is_memory size seed (faults.Refused refusal) read some few same fails =
     let demo_plan = made_from-is_plan size some few seed in
@@ -202,5 +224,7 @@ plan_fault_is_memory size seed (faults.Refused refusal) read some few same fails
     cc
 
 -- the nodes that are made are those of the tree that is made
-pub nodes_of_tree : (size seed : ℕ) (entries : List Entry) (nodes : List NodePart) → entries ≡ demo_entries size → nodes ≡ demo_nodes size seed → AreNodesOf entries nodes
-nodes_of_tree size seed entries nodes entries_are nodes_are = ap (map is_device) nodes_are ∙ demo_nodes-of_entries size seed ∙ ap leaves_of (sym entries_are)
+pub nodes_of_tree : (size seed : ℕ) (entries : List Entry) (nodes : List NodePart) → entries ≡ demo_entries size →
+    nodes ≡ demo_nodes size seed → AreNodesOf entries nodes
+nodes_of_tree size seed entries nodes entries_are nodes_are = ap (map is_device) nodes_are ∙ demo_nodes-of_entries size seed
+    ∙ ap leaves_of (sym entries_are)

@@ -1,5 +1,6 @@
 -- Ranges of numbers, and tests that are computed over them.
-use Rattle.std.proofs.Common.{◌≡◌, ℕ, zero, suc, ◌+◌, ◌<◌, ◌≤◌, Bool, true, List, [], ◌∷◌, ◌++◌, sym, ap, ◌∙◌, arith, ◌⊎◌, inl, inr, map, append_assoc}
+use Rattle.std.proofs.Common.{◌≡◌, ℕ, zero, suc, ◌+◌, ◌<◌, ◌≤◌, Bool, true, List, [], ◌∷◌, ◌++◌, sym, ap, ◌∙◌, arith}
+use Rattle.std.proofs.Common.{◌⊎◌, inl, inr, map, append_assoc}
 use Rattle.std.specs.List.{list_all, range_with_len}
 use Rattle.std.proofs.lemmas.Bool.{cases_lt}
 use Rattle.std.proofs.lemmas.List.{map-append}
@@ -29,7 +30,8 @@ range_with_len-append a (suc m) n =
     ap (range_with_len a) count ∙ ap (λ xs. a ∷ xs) (range_with_len-append (a + 1) m n ∙ ap (λ b. range_with_len (a + 1) m ++ range_with_len b n) seam)
 
 -- a list that is made from a range, with one element more
-pub map-pushed : {X Y : Type 0} (g : X → Y) (f : ℕ → Y) (front : List Y) (old new : List X) (x : X) (k : ℕ) → new ≡ old ++ x ∷ [] → g x ≡ f (k + 1) → map g old ≡ front ++ map f (range_with_len 1 k) → map g new ≡ front ++ map f (range_with_len 1 (k + 1))
+pub map-pushed : {X Y : Type 0} (g : X → Y) (f : ℕ → Y) (front : List Y) (old new : List X) (x : X) (k : ℕ) → new ≡ old ++ x ∷ [] →
+    g x ≡ f (k + 1) → map g old ≡ front ++ map f (range_with_len 1 k) → map g new ≡ front ++ map f (range_with_len 1 (k + 1))
 map-pushed g f front old new x k pushed last before =
     ap (map g) pushed
     ∙ map-append g old (x ∷ [])

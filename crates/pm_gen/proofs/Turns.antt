@@ -1,5 +1,6 @@
 -- The events of the demo cluster are accepted: each joins a device that is out, or takes one out that is in.
-use Rattle.std.proofs.Common.{◌≡◌, ℕ, zero, suc, ◌+◌, ◌≤◌, ◌==◌, Bool, true, false, not, if◌then◌else◌, List, [], ◌∷◌, ◌++◌, length, map, Some, Result, Ok, refl, sym, ap, ◌∙◌, arith, append_assoc, append-nil}
+use Rattle.std.proofs.Common.{◌≡◌, ℕ, zero, suc, ◌+◌, ◌≤◌, ◌==◌, Bool, true, false, not, if◌then◌else◌, List, [], ◌∷◌}
+use Rattle.std.proofs.Common.{◌++◌, length, map, Some, Result, Ok, refl, sym, ap, ◌∙◌, arith, append_assoc, append-nil}
 use Rattle.std.specs.List.{AllByRecursion, fold, range_with_len}
 use Rattle.std.proofs.lemmas.Bool.Decides.{nat_tests}
 use Rattle.pm_plan.specs.declared.refusal.Cause.TheVariants as cause
@@ -21,27 +22,33 @@ use Rattle.pm_gen.proofs.Drafts.{Stands, turning, stands-turned}
 
 -- ---- one event
 
-leave-accepted : (place : Place) (p : ℕ) (plan : PlanData) (name : List ℕ) (d : ℕ) → device_named plan.entries name ≡ Some d → is_member_now plan d ≡ true → event_of place p plan (leave name) ≡ Ok (with_change_of plan d p Leave)
+leave-accepted : (place : Place) (p : ℕ) (plan : PlanData) (name : List ℕ) (d : ℕ) → device_named plan.entries name ≡ Some d →
+    is_member_now plan d ≡ true → event_of place p plan (leave name) ≡ Ok (with_change_of plan d p Leave)
 unfolding event_of member_named
 leave-accepted place p plan name d named member =
-    ap (λ found. (need cause.UnknownDevice place found >>= λ e. check cause.NotJoined place (is_member_now plan e) >> Ok e) >>= λ e. Ok (with_change_of plan e p Leave)) named
+    ap (λ found. (need cause.UnknownDevice place found >>= λ e. check cause.NotJoined place (is_member_now plan e) >> Ok e) >>= λ e.
+    Ok (with_change_of plan e p Leave)) named
     ∙ ap (λ b. (check cause.NotJoined place b >> Ok d) >>= λ e. Ok (with_change_of plan e p Leave)) member
 
-join-accepted : (place : Place) (p : ℕ) (plan : PlanData) (name : List ℕ) (d : ℕ) → device_named plan.entries name ≡ Some d → is_member_now plan d ≡ false → event_of place p plan (join name) ≡ Ok (with_change_of plan d p Join)
+join-accepted : (place : Place) (p : ℕ) (plan : PlanData) (name : List ℕ) (d : ℕ) → device_named plan.entries name ≡ Some d →
+    is_member_now plan d ≡ false → event_of place p plan (join name) ≡ Ok (with_change_of plan d p Join)
 unfolding event_of stranger_named
 join-accepted place p plan name d named stranger =
-    ap (λ found. (need cause.UnknownDevice place found >>= λ e. check cause.JoinedAlready place (not (is_member_now plan e)) >> Ok e) >>= λ e. Ok (with_change_of plan e p Join)) named
+    ap (λ found. (need cause.UnknownDevice place found >>= λ e. check cause.JoinedAlready place (not (is_member_now plan e)) >> Ok e)
+    >>= λ e. Ok (with_change_of plan e p Join)) named
     ∙ ap (λ b. (check cause.JoinedAlready place (not b) >> Ok d) >>= λ e. Ok (with_change_of plan e p Join)) stranger
 
 module _ (size : ℕ) (few : size ≤ 200) where
-  turn-accepted : (earlier : List ℕ) (most : ℕ) (plan : PlanData) (i : ℕ) (place : Place) (p : ℕ) → Stands size earlier most plan → 1 ≤ i → i ≤ size
+  turn-accepted : (earlier : List ℕ) (most : ℕ) (plan : PlanData) (i : ℕ) (place : Place) (p : ℕ) → Stands size earlier most plan →
+      1 ≤ i → i ≤ size
       → event_of place p plan (turn earlier i) ≡ Ok (with_change_of plan (concentrator_count size + i) p (turning (is_joined earlier i)))
   turn-accepted earlier most plan i place p stands low high = by (is_joined earlier i) refl
     where
       named : device_named plan.entries (device_name i) ≡ Some (concentrator_count size + i)
       named = ap (λ entries. device_named entries (device_name i)) stands.entries_are ∙ device_named-demo size i low high few
 
-      by : (b : Bool) → is_joined earlier i ≡ b → event_of place p plan (turn earlier i) ≡ Ok (with_change_of plan (concentrator_count size + i) p (turning (is_joined earlier i)))
+      by : (b : Bool) → is_joined earlier i ≡ b →
+          event_of place p plan (turn earlier i) ≡ Ok (with_change_of plan (concentrator_count size + i) p (turning (is_joined earlier i)))
       by true is =
           ap (λ b. event_of place p plan (if b then leave (device_name i) else join (device_name i))) is
           ∙ leave-accepted place p plan (device_name i) (concentrator_count size + i) named (stands.joined i low high ∙ is)
@@ -78,7 +85,8 @@ module _ (size : ℕ) (few : size ≤ 200) where
   turns-accepted n p earlier (i ∷ devices) most plan all stands =
       let new : PlanData = with_change_of plan (concentrator_count size + i) p (turning (is_joined earlier i)) in
       let here = turn-accepted earlier most plan i (Event p n) p stands all.0.0 all.0.1 in
-      let rest = turns-accepted (n + 1) p (earlier ++ i ∷ []) devices (most + 1) new all.1 (stands-turned size earlier most plan stands i all.0.0 all.0.1 p) in
+      let rest = turns-accepted (n + 1) p (earlier ++ i ∷ []) devices (most + 1) new all.1
+      (stands-turned size earlier most plan stands i all.0.0 all.0.1 p) in
       let longer : most + 1 + length devices ≡ most + length (i ∷ devices) = omega arith in (
         rest.0,
         ap (λ first. first >>= λ draft. fold_from (n + 1) (add_event p) draft (turns (earlier ++ i ∷ []) devices)) here ∙ rest.1,

@@ -1,4 +1,5 @@
-ghost use Rattle.std.specs.Prelude.{◌≡◌, ℕ, ◌<◌, ◌≤◌, ◌+◌, ◌-◌, ◌++◌, [], ◌∷◌, List, pos, false, true, not, if◌then◌else◌, length, map, replicate, slice_index_or, slice_set, IfOk, OnOk};
+ghost use Rattle.std.specs.Prelude.{◌≡◌, ℕ, ◌<◌, ◌≤◌, ◌+◌, ◌-◌, ◌++◌, [], ◌∷◌, List, pos, false, true, not};
+ghost use Rattle.std.specs.Prelude.{if◌then◌else◌, length, map, replicate, slice_index_or, slice_set, IfOk, OnOk};
 ghost use Rattle.std.specs.List.{range_with_len};
 ghost use Rattle.pm_plan.specs.Parts.{event_part, phase_part, join as join_part, leave as leave_part, events as events_part, tick as tick_part};
 ghost use Rattle.pm_gen.specs.Nodes.{device_name};

@@ -1,9 +1,11 @@
 -- A legal journal has at most so many moves.
-use Rattle.std.proofs.Common.{◌≡◌, ℕ, zero, suc, ◌+◌, ◌-◌, ◌*◌, ◌<◌, ◌≤◌, Bool, true, false, cond, eqb, ◌&&◌, ◌||◌, inl, inr, List, [], ◌∷◌, length, get_or, refl, sym, ◌∙◌, ap, arith}
+use Rattle.std.proofs.Common.{◌≡◌, ℕ, zero, suc, ◌+◌, ◌-◌, ◌*◌, ◌<◌, ◌≤◌, Bool, true, false, cond, eqb, ◌&&◌, ◌||◌, inl}
+use Rattle.std.proofs.Common.{inr, List, [], ◌∷◌, length, get_or, refl, sym, ◌∙◌, ap, arith}
 use Rattle.std.proofs.Math.Nat.{mul-le-mul_left, mul-le-mul_right}
 use Rattle.std.proofs.lemmas.List.{get_or_default}
 use Rattle.std.proofs.lemmas.Bool.{cases_eq, cases_lt, cases_Bool, eq-eqb, ne_eqb, cond-true, cond-false, both_ways}
-use Rattle.pm_market.specs.Lists.{Lists, nodes, parent, is_leaf, changes, IsNode, IsLeaf, IsInner, IsLeafOf, is_leaf_of, is_below_in, is_below, Lawful, path_depth_in, path_depth}
+use Rattle.pm_market.specs.Lists.{Lists, nodes, parent, is_leaf, changes, IsNode, IsLeaf, IsInner, IsLeafOf, is_leaf_of, is_below_in, is_below, Lawful}
+use Rattle.pm_market.specs.Lists.{path_depth_in, path_depth}
 use Rattle.pm_market.specs.State.{State, start, is_same_on, sum_to, AtMostOn, RisesOn, cut_at, newest_of, newest, part, known, clearings}
 use Rattle.pm_base.specs.Cuts.{Cut}
 use Rattle.pm_market.specs.Moves.{Legal, step, after_from, LegalFrom, after, LegalJournal}
@@ -12,15 +14,18 @@ use Rattle.pm_market.specs.Bound.{bound, change_total}
 use Rattle.pm_laws.specs.Potential.{counted_at, counted}
 use Rattle.pm_market.specs.declared.moves.Move.{Move}
 use Rattle.pm_market.specs.declared.moves.Move.TheVariants.{Change, Learn, Publish, Clear, Pass, Close}
-use Rattle.pm_market.proofs.Tree.{leaf_node, leaf_zero, parent_smaller, leaf_of_parts, leaf_of_itself, leaf_of_leaf, child_of, up_from_below, up_from_below_in, up_at_zero, up_le}
-use Rattle.pm_market.proofs.Cuts.{all_to_fails, updated_same, updated_other, newest_leaf, newest_inner, part_leaf, part_inner, known_at, pushed_length_same, pushed_length_other}
+use Rattle.pm_market.proofs.Tree.{leaf_node, leaf_zero, parent_smaller, leaf_of_parts, leaf_of_itself, leaf_of_leaf, child_of, up_from_below, up_from_below_in}
+use Rattle.pm_market.proofs.Tree.{up_at_zero, up_le}
+use Rattle.pm_market.proofs.Cuts.{all_to_fails, updated_same, updated_other, newest_leaf, newest_inner, part_leaf, part_inner, known_at, pushed_length_same}
+use Rattle.pm_market.proofs.Cuts.{pushed_length_other}
 use Rattle.pm_laws.proofs.Facts.{updated_at}
 use Rattle.pm_laws.proofs.Kept.{sound_start, sound_after_from}
 use Rattle.pm_laws.proofs.Sums.{sum_le, sum_lt, sum_at, sum_add, sum_same, sum_swap, sum_times, sum_scaled}
 
 -- each legal move raises this
 counted_more : (lists : Lists) (s t : State) → clearings s ≤ clearings t → s.closed ≤ t.closed →
-    ((x : ℕ) → 1 ≤ x → x ≤ nodes lists → counted_at lists s x ≤ counted_at lists t x) → (k : ℕ) → 1 ≤ k → k ≤ nodes lists → counted_at lists s k < counted_at lists t k → counted lists s < counted lists t
+    ((x : ℕ) → 1 ≤ x → x ≤ nodes lists → counted_at lists s x ≤ counted_at lists t x) → (k : ℕ) → 1 ≤ k → k ≤ nodes lists →
+    counted_at lists s k < counted_at lists t k → counted lists s < counted lists t
 unfolding counted
 counted_more lists s t c p le k one k_le lt = omega (arith, sum_lt (nodes lists) (counted_at lists s) (counted_at lists t) le k one k_le lt)
 
@@ -34,11 +39,22 @@ unfolding counted_at
 counted_step lists law s (Change d n) legal =
     let node = leaf_node lists law d legal.0 in
     let t : State = step lists s (Change d n) in
-    let newest_d : newest lists s d < newest lists t d = omega (arith, newest_leaf lists s.counts s.published d legal.0, newest_leaf lists t.counts s.published d legal.0, updated_same s.counts d n, legal.2) in
+    let newest_d : newest lists s d < newest lists t d = omega (
+      arith,
+      newest_leaf lists s.counts s.published d legal.0,
+      newest_leaf lists t.counts s.published d legal.0,
+      updated_same s.counts d n,
+      legal.2,
+    ) in
     counted_more lists s t (omega arith) (omega arith) (λ x one le.
     elim (cases_eq x d) [
       | inl e ↦ omega (arith, ap (newest lists s) e, ap (newest lists t) e, newest_d)
-      | inr ne ↦ omega (arith, ap (λ (k : ℕ). newest_of lists (λ z. k) s.published x) (updated_other s.counts d n x ne), newest_at lists s.counts s.published x, newest_at lists t.counts s.published x)
+      | inr ne ↦ omega (
+        arith,
+        ap (λ (k : ℕ). newest_of lists (λ z. k) s.published x) (updated_other s.counts d n x ne),
+        newest_at lists s.counts s.published x,
+        newest_at lists t.counts s.published x,
+      )
     ]) d node.0 node.1 (omega arith)
   where
     newest_at : (lists : Lists) (counts : Cut) (p : ℕ → List Cut) (x : ℕ) → newest_of lists counts p x ≡ newest_of lists (λ z. counts x) p x
@@ -57,7 +73,8 @@ counted_step lists law s (Publish c n) legal =
     let t : State = step lists s (Publish c n) in
     let p : ℕ → List Cut = s.published in
     let cut : Cut = known lists s c in
-    let newest_c : newest lists s c < newest lists t c = omega (arith, newest_inner lists s.counts p c legal.0.2, newest_inner lists s.counts t.published c legal.0.2, pushed_length_same p c cut) in
+    let newest_c : newest lists s c < newest lists t c =
+    omega (arith, newest_inner lists s.counts p c legal.0.2, newest_inner lists s.counts t.published c legal.0.2, pushed_length_same p c cut) in
     counted_more lists s t (omega (arith, pushed_length_other p c cut 0 (λ e. omega (arith, legal.0.0)))) (omega arith) (λ x one le.
     elim (cases_eq x c) [
       | inl e ↦ omega (arith, ap (newest lists s) e, ap (newest lists t) e, newest_c)
@@ -73,7 +90,12 @@ counted_step lists law s (Clear j) legal =
     counted_same lists s t (omega (arith, pushed_length_same p 0 cut)) (λ x one le.
     elim (cases_Bool (is_leaf lists x)) [
       | inl leaf ↦ omega (arith, newest_leaf lists s.counts p x leaf, newest_leaf lists s.counts t.published x leaf)
-      | inr inner ↦ omega (arith, newest_inner lists s.counts p x inner, newest_inner lists s.counts t.published x inner, pushed_length_other p 0 cut x (λ e. omega arith))
+      | inr inner ↦ omega (
+        arith,
+        newest_inner lists s.counts p x inner,
+        newest_inner lists s.counts t.published x inner,
+        pushed_length_other p 0 cut x (λ e. omega arith),
+      )
     ])
 counted_step lists law s (Pass c j) legal =
     let t : State = step lists s (Pass c j) in
@@ -85,7 +107,8 @@ counted_step lists law s (Pass c j) legal =
     ]) c legal.0.0 legal.0.1 (omega (arith, longer))
 counted_step lists law s (Close p) legal = counted_same lists s (step lists s (Close p)) (omega (arith, legal.0)) (λ x one le. omega arith)
 
-counted_journal : (lists : Lists) → Lawful lists → (journal : List Move) (s : State) → LegalFrom lists s journal → length journal + counted lists s ≤ counted lists (after_from lists s journal)
+counted_journal : (lists : Lists) → Lawful lists → (journal : List Move) (s : State) → LegalFrom lists s journal →
+    length journal + counted lists s ≤ counted lists (after_from lists s journal)
 counted_journal lists law [] s legal = omega arith
 counted_journal lists law (m ∷ ms) s legal = omega (arith, counted_step lists law s m legal.0, counted_journal lists law ms (step lists s m) legal.1)
 
@@ -93,11 +116,13 @@ below_le : (lists : Lists) → Lawful lists → (x d : ℕ) → IsLeafOf lists x
 below_le lists law x d leaf = let r = up_from_below lists x d (leaf_of_parts lists x d leaf).1 in omega (arith, r.1, up_le lists law r.0 d)
 
 -- what a part says of a device is no more than the device's count
-part_counts_leaf : (lists : Lists) → Lawful lists → (s : State) (x d i : ℕ) → IsLeaf lists x → IsLeafOf lists x d → i ≤ newest lists s x → part lists s x i d ≤ s.counts d
+part_counts_leaf : (lists : Lists) → Lawful lists → (s : State) (x d i : ℕ) → IsLeaf lists x → IsLeafOf lists x d →
+    i ≤ newest lists s x → part lists s x i d ≤ s.counts d
 part_counts_leaf lists law s x d i e leaf le =
     omega (arith, part_leaf lists s.published x i d e, newest_leaf lists s.counts s.published x e, ap s.counts (leaf_of_leaf lists law x d e leaf))
 
-part_counts_in : (lists : Lists) → Lawful lists → (s : State) → Sound lists s → (far x d i : ℕ) → d ≤ x + far → IsNode lists x → IsLeafOf lists x d → i ≤ newest lists s x → part lists s x i d ≤ s.counts d
+part_counts_in : (lists : Lists) → Lawful lists → (s : State) → Sound lists s → (far x d i : ℕ) → d ≤ x + far → IsNode lists x →
+    IsLeafOf lists x d → i ≤ newest lists s x → part lists s x i d ≤ s.counts d
 part_counts_in lists law s sound zero x d i h node leaf le =
     elim (cases_Bool (is_leaf lists x)) [
       | inl e ↦ part_counts_leaf lists law s x d i e leaf le
@@ -108,22 +133,31 @@ part_counts_in lists law s sound (suc far) x d i h node leaf le =
       | inl e ↦ part_counts_leaf lists law s x d i e leaf le
       | inr e ↦
           let y = child_of lists law x d e leaf in
-          let i_le : i ≤ length (s.published (parent lists y.0)) = omega (arith, newest_inner lists s.counts s.published x e, ap (λ (z : ℕ). length (s.published z)) y.2) in
+          let i_le : i ≤ length (s.published (parent lists y.0)) =
+          omega (arith, newest_inner lists s.counts s.published x e, ap (λ (z : ℕ). length (s.published z)) y.2) in
           let r = sound.published_parts y.0 i y.1 i_le in
           omega (
             arith,
             ap (λ (a : Cut). a d) (part_inner lists s.published x i e),
             ap (λ (z : ℕ). cut_at (s.published z) i d) y.2,
             r.2 d y.3,
-            part_counts_in lists law s sound far y.0 d r.0 (omega (arith, parent_smaller lists law y.0 y.1.0, y.2)) y.1 y.3 (omega (arith, r.1, sound.learnt_within y.0 y.1)),
+            part_counts_in lists law s sound far y.0 d r.0 (omega (arith, parent_smaller lists law y.0 y.1.0, y.2)) y.1 y.3
+                (omega (arith, r.1, sound.learnt_within y.0 y.1)),
           )
     ]
 
-known_counts : (lists : Lists) → Lawful lists → (s : State) → Sound lists s → (y d : ℕ) → IsInner lists y → IsLeafOf lists y d → known lists s y d ≤ s.counts d
+known_counts : (lists : Lists) → Lawful lists → (s : State) → Sound lists s → (y d : ℕ) → IsInner lists y → IsLeafOf lists y d →
+    known lists s y d ≤ s.counts d
 known_counts lists law s sound y d inner leaf =
     let x = child_of lists law y d inner leaf in
     let at : known lists s (parent lists x.0) d ≡ part lists s x.0 (s.learnt x.0) d = known_at lists law s.published s.learnt x.0 d x.1.0 x.3 in
-    omega (arith, at, ap (λ (z : ℕ). known lists s z d) x.2, part_counts_in lists law s sound d x.0 d (s.learnt x.0) (omega arith) x.1 x.3 (sound.learnt_within x.0 x.1))
+    omega (
+      arith,
+      at,
+      ap (λ (z : ℕ). known lists s z d) x.2,
+      part_counts_in lists law s sound d x.0 d (s.learnt x.0)
+          (omega arith) x.1 x.3 (sound.learnt_within x.0 x.1),
+    )
 
 -- the changes of the leaves of a node
 unfoldable pub weight : Lists → ℕ → ℕ
@@ -141,7 +175,9 @@ rises_at lists x a b r =
         leaf,
         elim (cases_lt (a at.0) (b at.0)) [
           | inl lt ↦ lt
-          | inr ge ↦ absurd (both_ways (eqb (a at.0) (b at.0)) (sym (cond-true (is_leaf_of lists x at.0) (eqb (a at.0) (b at.0)) true leaf) ∙ at.3) (eq-eqb (a at.0) (b at.0) (omega (arith, ge, r.within at.0 leaf))))
+          | inr ge ↦ absurd (both_ways (eqb (a at.0) (b at.0))
+              (sym (cond-true (is_leaf_of lists x at.0) (eqb (a at.0) (b at.0)) true leaf) ∙ at.3)
+              (eq-eqb (a at.0) (b at.0) (omega (arith, ge, r.within at.0 leaf))))
         ],
       )
       | inr none ↦ absurd (both_ways true (sym (cond-false (is_leaf_of lists x at.0) (eqb (a at.0) (b at.0)) true none) ∙ at.3) refl)
@@ -150,7 +186,8 @@ rises_at lists x a b r =
 part_sum : Lists → ℕ → Cut → ℕ
 part_sum lists x a = sum_to (nodes lists) (λ d. cond (is_leaf_of lists x d) (a d) 0)
 
-part_sum_at : (lists : Lists) (x : ℕ) (a b : Cut) (d : ℕ) → AtMostOn lists x a b → cond (is_leaf_of lists x d) (a d) 0 ≤ cond (is_leaf_of lists x d) (b d) 0
+part_sum_at : (lists : Lists) (x : ℕ) (a b : Cut) (d : ℕ) → AtMostOn lists x a b →
+    cond (is_leaf_of lists x d) (a d) 0 ≤ cond (is_leaf_of lists x d) (b d) 0
 part_sum_at lists x a b d w =
     elim (cases_Bool (is_leaf_of lists x d)) [
       | inl e ↦ omega (arith, cond-true (is_leaf_of lists x d) (a d) 0 e, cond-true (is_leaf_of lists x d) (b d) 0 e, w d e)
@@ -161,16 +198,23 @@ part_sum_rises : (lists : Lists) (x : ℕ) (a b : Cut) → RisesOn lists x a b �
 unfolding part_sum
 part_sum_rises lists x a b r =
     let at = rises_at lists x a b r in
-    sum_lt (nodes lists) (λ d. cond (is_leaf_of lists x d) (a d) 0) (λ d. cond (is_leaf_of lists x d) (b d) 0) (λ d one le. part_sum_at lists x a b d r.within)
+    sum_lt (nodes lists) (λ d. cond (is_leaf_of lists x d) (a d) 0) (λ d. cond (is_leaf_of lists x d) (b d) 0)
+    (λ d one le. part_sum_at lists x a b d r.within)
     at.0 at.1 at.2 (omega (arith, cond-true (is_leaf_of lists x at.0) (a at.0) 0 at.3, cond-true (is_leaf_of lists x at.0) (b at.0) 0 at.3, at.4))
 
-number_sum : (lists : Lists) (s : State) → Sound lists s → (c : ℕ) → IsInner lists c → (i : ℕ) → i ≤ length (s.published c) → i ≤ part_sum lists c (cut_at (s.published c) i)
+number_sum : (lists : Lists) (s : State) → Sound lists s → (c : ℕ) → IsInner lists c → (i : ℕ) → i ≤ length (s.published c) →
+    i ≤ part_sum lists c (cut_at (s.published c) i)
 number_sum lists s sound c inner zero le = omega arith
 number_sum lists s sound c inner (suc i) le =
-    omega (arith, number_sum lists s sound c inner i (omega arith), part_sum_rises lists c (cut_at (s.published c) i) (cut_at (s.published c) (suc i)) (sound.published_rise c i (suc i) inner (omega arith) le))
+    omega (
+      arith,
+      number_sum lists s sound c inner i (omega arith),
+      part_sum_rises lists c (cut_at (s.published c) i) (cut_at (s.published c) (suc i)) (sound.published_rise c i (suc i) inner (omega arith) le),
+    )
 
 -- what an inner node published or cleared is no more than the changes of its leaves
-pub list_weight : (lists : Lists) → Lawful lists → (s : State) → Sound lists s → (c : ℕ) → IsInner lists c → length (s.published c) ≤ weight lists c
+pub list_weight : (lists : Lists) → Lawful lists → (s : State) → Sound lists s → (c : ℕ) → IsInner lists c →
+    length (s.published c) ≤ weight lists c
 unfolding weight part_sum
 list_weight lists law s sound c inner =
     let len : ℕ = length (s.published c) in
@@ -180,7 +224,12 @@ list_weight lists law s sound c inner =
       number_sum lists s sound c inner len (omega arith),
       sum_le (nodes lists) (λ d. cond (is_leaf_of lists c d) (top d) 0) (λ d. cond (is_leaf_of lists c d) (changes lists d) 0) (λ d one le.
           part_sum_at lists c top (changes lists) d (λ e leaf.
-          omega (arith, sound.published_known c inner e leaf, known_counts lists law s sound c e inner leaf, sound.counts_within e (leaf_of_parts lists c e leaf).0))),
+          omega (
+            arith,
+            sound.published_known c inner e leaf,
+            known_counts lists law s sound c e inner leaf,
+            sound.counts_within e (leaf_of_parts lists c e leaf).0,
+          ))),
     )
 
 pub newest_weight : (lists : Lists) → Lawful lists → (s : State) → Sound lists s → (x : ℕ) → IsNode lists x → newest lists s x ≤ weight lists x
@@ -200,15 +249,21 @@ newest_weight lists law s sound x node =
 -- a weight is at most the number of all changes
 pub weight_small : (lists : Lists) (x : ℕ) → weight lists x ≤ change_total lists
 unfolding weight
-weight_small lists x = sum_le (nodes lists) (λ d. cond (is_leaf_of lists x d) (changes lists d) 0) (λ d. cond (is_leaf lists d) (changes lists d) 0) (λ d one le.
+weight_small lists x =
+    sum_le (nodes lists) (λ d. cond (is_leaf_of lists x d) (changes lists d) 0) (λ d. cond (is_leaf lists d) (changes lists d) 0) (λ d one le.
     elim (cases_Bool (is_leaf_of lists x d)) [
-      | inl e ↦ omega (arith, cond-true (is_leaf_of lists x d) (changes lists d) 0 e, cond-true (is_leaf lists d) (changes lists d) 0 (leaf_of_parts lists x d e).0)
+      | inl e ↦ omega (
+        arith,
+        cond-true (is_leaf_of lists x d) (changes lists d) 0 e,
+        cond-true (is_leaf lists d) (changes lists d) 0 (leaf_of_parts lists x d e).0,
+      )
       | inr e ↦ omega (arith, cond-false (is_leaf_of lists x d) (changes lists d) 0 e)
     ])
 
 -- indices that rise from 1 are no more than the last
 passed_count : (lists : Lists) (s : State) → Sound lists s → (x i : ℕ) → i < length (s.passed x) → i < get_or (s.passed x) i 0
-passed_count lists s sound x zero lt = omega (arith, (sound.passed_within x (get_or (s.passed x) 0 0) (0, lt, get_or_default (s.passed x) 0 (get_or (s.passed x) 0 0) 0 lt)).0)
+passed_count lists s sound x zero lt =
+    omega (arith, (sound.passed_within x (get_or (s.passed x) 0 0) (0, lt, get_or_default (s.passed x) 0 (get_or (s.passed x) 0 0) 0 lt)).0)
 passed_count lists s sound x (suc i) lt = omega (arith, passed_count lists s sound x i (omega arith), sound.passed_rise x i (suc i) (omega arith) lt)
 
 passed_length : (lists : Lists) (s : State) → Sound lists s → (x : ℕ) → length (s.passed x) ≤ clearings s
@@ -244,7 +299,8 @@ sum_one (suc n) k =
     sum_none zero j lt = refl
     sum_none (suc m) j lt = omega (arith, cond-false {A = ℕ} (eqb (suc m) j) 1 0 (ne_eqb (suc m) j (λ e. omega arith)), sum_none m j (omega arith))
 
-split_below : (lists : Lists) (f x e : ℕ) → cond (is_below_in lists (suc f) x e) 1 0 ≤ cond (eqb x e) 1 0 + cond (is_below_in lists f x (parent lists e)) 1 0
+split_below : (lists : Lists) (f x e : ℕ) → cond (is_below_in lists (suc f) x e) 1 0
+    ≤ cond (eqb x e) 1 0 + cond (is_below_in lists f x (parent lists e)) 1 0
 unfolding is_below_in
 split_below lists f x e =
     elim (cases_Bool (eqb x e)) [
@@ -256,13 +312,24 @@ split_below lists f x e =
     cond_le true = omega arith
     cond_le false = omega arith
 
-path_more : (lists : Lists) (f e : ℕ) → (e ≡ 0 → ⊥) → cond (is_leaf lists e) 1 0 + path_depth_in lists (suc f) e ≡ 1 + path_depth_in lists f (parent lists e)
+path_more : (lists : Lists) (f e : ℕ) → (e ≡ 0 → ⊥) → cond (is_leaf lists e) 1 0 + path_depth_in lists (suc f) e
+    ≡ 1 + path_depth_in lists f (parent lists e)
 unfolding path_depth_in
 path_more lists f e ne =
     let rest : ℕ = path_depth_in lists f (parent lists e) in
     elim (cases_Bool (is_leaf lists e)) [
-      | inl at ↦ omega (arith, cond-false {A = ℕ} (eqb e 0) 0 (cond (is_leaf lists e) 0 1 + rest) (ne_eqb e 0 ne), cond-true {A = ℕ} (is_leaf lists e) 1 0 at, cond-true {A = ℕ} (is_leaf lists e) 0 1 at)
-      | inr at ↦ omega (arith, cond-false {A = ℕ} (eqb e 0) 0 (cond (is_leaf lists e) 0 1 + rest) (ne_eqb e 0 ne), cond-false {A = ℕ} (is_leaf lists e) 1 0 at, cond-false {A = ℕ} (is_leaf lists e) 0 1 at)
+      | inl at ↦ omega (
+        arith,
+        cond-false {A = ℕ} (eqb e 0) 0 (cond (is_leaf lists e) 0 1 + rest) (ne_eqb e 0 ne),
+        cond-true {A = ℕ} (is_leaf lists e) 1 0 at,
+        cond-true {A = ℕ} (is_leaf lists e) 0 1 at,
+      )
+      | inr at ↦ omega (
+        arith,
+        cond-false {A = ℕ} (eqb e 0) 0 (cond (is_leaf lists e) 0 1 + rest) (ne_eqb e 0 ne),
+        cond-false {A = ℕ} (is_leaf lists e) 1 0 at,
+        cond-false {A = ℕ} (is_leaf lists e) 0 1 at,
+      )
     ]
 
 above_count : (lists : Lists) → Lawful lists → (fuel d : ℕ) → d ≤ fuel → d ≤ nodes lists →
@@ -271,7 +338,11 @@ above_count lists law zero d h le = omega (
   arith,
   sum_le (nodes lists) (λ x. cond (is_below_in lists zero x d) 1 0) (λ x. 0) (λ x one x_le.
       let e : d ≡ 0 = omega arith in
-      omega (arith, ap {B = ℕ} (λ (z : ℕ). cond (is_below_in lists zero x z) 1 0) e, cond-false {A = ℕ} (is_below_in lists zero x 0) 1 0 (none_above lists zero x one))),
+      omega (
+        arith,
+        ap {B = ℕ} (λ (z : ℕ). cond (is_below_in lists zero x z) 1 0) e,
+        cond-false {A = ℕ} (is_below_in lists zero x 0) 1 0 (none_above lists zero x one),
+      )),
   sum_same (nodes lists) 0,
 )
 above_count lists law (suc fuel) d h le =
@@ -279,7 +350,11 @@ above_count lists law (suc fuel) d h le =
       | inl e ↦ omega (
         arith,
         sum_le (nodes lists) (λ x. cond (is_below_in lists (suc fuel) x d) 1 0) (λ x. 0) (λ x one x_le.
-            omega (arith, ap {B = ℕ} (λ (z : ℕ). cond (is_below_in lists (suc fuel) x z) 1 0) e, cond-false {A = ℕ} (is_below_in lists (suc fuel) x 0) 1 0 (none_above lists (suc fuel) x one))),
+            omega (
+              arith,
+              ap {B = ℕ} (λ (z : ℕ). cond (is_below_in lists (suc fuel) x z) 1 0) e,
+              cond-false {A = ℕ} (is_below_in lists (suc fuel) x 0) 1 0 (none_above lists (suc fuel) x one),
+            )),
         sum_same (nodes lists) 0,
       )
       | inr n ↦
@@ -287,7 +362,8 @@ above_count lists law (suc fuel) d h le =
           let small : parent lists d < d = law.earlier d node in
           omega (
             arith,
-            sum_le (nodes lists) (λ x. cond (is_below_in lists (suc fuel) x d) 1 0) (λ x. cond (eqb x d) 1 0 + cond (is_below_in lists fuel x (parent lists d)) 1 0) (λ x one x_le. split_below lists fuel x d),
+            sum_le (nodes lists) (λ x. cond (is_below_in lists (suc fuel) x d) 1 0)
+                (λ x. cond (eqb x d) 1 0 + cond (is_below_in lists fuel x (parent lists d)) 1 0) (λ x one x_le. split_below lists fuel x d),
             sum_add (nodes lists) (λ x. cond (eqb x d) 1 0) (λ x. cond (is_below_in lists fuel x (parent lists d)) 1 0),
             sum_one (nodes lists) d,
             above_count lists law fuel (parent lists d) (omega arith) (omega arith),
@@ -303,13 +379,15 @@ nodes_above lists law d leaf =
     let node = leaf_node lists law d leaf in
     omega (
       arith,
-      sum_le (nodes lists) (λ x. cond (is_leaf_of lists x d) 1 0) (λ x. cond (is_below_in lists d x d) 1 0) (λ x one le. omega (arith, ap {B = ℕ} (λ (b : Bool). cond (b && is_below_in lists d x d) 1 0) leaf)),
+      sum_le (nodes lists) (λ x. cond (is_leaf_of lists x d) 1 0) (λ x. cond (is_below_in lists d x d) 1 0)
+          (λ x one le. omega (arith, ap {B = ℕ} (λ (b : Bool). cond (b && is_below_in lists d x d) 1 0) leaf)),
       above_count lists law d d (omega arith) node.1,
       cond-true {A = ℕ} (is_leaf lists d) 1 0 leaf,
       law.depth d node,
     )
 
-leaf_weights : (lists : Lists) → Lawful lists → (d : ℕ) → sum_to (nodes lists) (λ x. cond (is_leaf_of lists x d) (changes lists d) 0) ≤ 7 * cond (is_leaf lists d) (changes lists d) 0
+leaf_weights : (lists : Lists) → Lawful lists → (d : ℕ) → sum_to (nodes lists) (λ x. cond (is_leaf_of lists x d) (changes lists d) 0)
+    ≤ 7 * cond (is_leaf lists d) (changes lists d) 0
 leaf_weights lists law d =
     elim (cases_Bool (is_leaf lists d)) [
       | inl leaf ↦ omega (
@@ -336,7 +414,8 @@ all_weights lists law =
     omega (
       arith,
       sum_swap (nodes lists) (nodes lists) (λ x d. cond (is_leaf_of lists x d) (changes lists d) 0),
-      sum_le (nodes lists) (λ d. sum_to (nodes lists) (λ x. cond (is_leaf_of lists x d) (changes lists d) 0)) (λ d. 7 * cond (is_leaf lists d) (changes lists d) 0) (λ d one le. leaf_weights lists law d),
+      sum_le (nodes lists) (λ d. sum_to (nodes lists) (λ x. cond (is_leaf_of lists x d) (changes lists d) 0))
+          (λ d. 7 * cond (is_leaf lists d) (changes lists d) 0) (λ d one le. leaf_weights lists law d),
       sum_scaled (nodes lists) 7 (λ d. cond (is_leaf lists d) (changes lists d) 0),
     )
 
@@ -351,15 +430,22 @@ counted_bound lists law s sound =
     sum_le n (counted_at lists s) (λ x. (weight lists x + weight lists x) + j) (λ x one le.
     omega (arith, newest_weight lists law s sound x (one, le), sound.learnt_within x (one, le), passed_length lists s sound x)) in
     let parted : sum_to n (λ x. (weight lists x + weight lists x) + j) ≡ (sum_to n (weight lists) + sum_to n (weight lists)) + n * j =
-    sum_add n (λ x. weight lists x + weight lists x) (λ x. j) ∙ ap (λ (k : ℕ). k + sum_to n (λ x. j)) (sum_add n (weight lists) (weight lists)) ∙ ap (λ (k : ℕ). (sum_to n (weight lists) + sum_to n (weight lists)) + k) (sum_same n j) in
+    sum_add n (λ x. weight lists x + weight lists x) (λ x. j)
+    ∙ ap (λ (k : ℕ). k + sum_to n (λ x. j)) (sum_add n (weight lists) (weight lists))
+    ∙ ap (λ (k : ℕ). (sum_to n (weight lists) + sum_to n (weight lists)) + k) (sum_same n j) in
     omega (arith, each, parted, all_weights lists law, mul-le-mul_left n j_le, j_le, sound.closed_within)
 
 pub journal_bound : (lists : Lists) → Lawful lists → (journal : List Move) → LegalJournal lists journal → length journal ≤ bound lists
 journal_bound lists law journal legal =
-    omega (arith, counted_journal lists law journal start legal, counted_bound lists law (after lists journal) (sound_after_from lists law journal start (sound_start lists law) legal))
+    omega (
+      arith,
+      counted_journal lists law journal start legal,
+      counted_bound lists law (after lists journal) (sound_after_from lists law journal start (sound_start lists law) legal),
+    )
 
 -- so is every number of a node
-pub newest_small : (lists : Lists) → Lawful lists → (s : State) → Sound lists s → (x : ℕ) → IsNode lists x → newest lists s x ≤ change_total lists
+pub newest_small : (lists : Lists) → Lawful lists → (s : State) → Sound lists s → (x : ℕ) → IsNode lists x →
+    newest lists s x ≤ change_total lists
 newest_small lists law s sound x node = omega (arith, newest_weight lists law s sound x node, weight_small lists x)
 
 pub move_counts : (lists : Lists) (s : State) (m : Move) → Lawful lists → Legal lists s m → counted lists s < counted lists (step lists s m)

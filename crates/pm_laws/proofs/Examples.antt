@@ -1,17 +1,21 @@
 -- Small markets, worked out.
-use Rattle.std.proofs.Common.{◌≡◌, ℕ, zero, suc, ◌+◌, ◌<◌, ◌≤◌, true, false, List, [], ◌∷◌, ◌++◌, refl, sym, ◌∙◌, ap, arith}
+use Rattle.std.proofs.Common.{◌≡◌, ℕ, zero, suc, ◌+◌, ◌<◌, ◌≤◌, true, false, List, [], ◌∷◌, ◌++◌, refl, sym, ◌∙◌, ap}
+use Rattle.std.proofs.Common.{arith}
 use Rattle.std.specs.List.{flat_map}
 use Rattle.pm_base.specs.Limits.{most_depth}
-use Rattle.pm_market.specs.Lists.{Lists, IsNode, IsLeaf, IsInner, Lawful, parent, is_leaf, is_member, changes, is_below_in, is_below, is_leaf_of, path_depth_in, path_depth, end_count}
+use Rattle.pm_market.specs.Lists.{Lists, IsNode, IsLeaf, IsInner, Lawful, parent, is_leaf, is_member, changes, is_below_in, is_below, is_leaf_of, path_depth_in}
+use Rattle.pm_market.specs.Lists.{path_depth, end_count}
 use Rattle.pm_market.specs.Lists.{way_up, child_at_or_above}
-use Rattle.pm_market.specs.State.{start, updated, all_to, sum_to, is_same_on, cut_at, newest_of, part_of, known_of, greatest_number, number_of, last_of, addresses_of, last, clearings, cleared}
+use Rattle.pm_market.specs.State.{start, updated, all_to, sum_to, is_same_on, cut_at, newest_of, part_of, known_of, greatest_number, number_of, last_of}
+use Rattle.pm_market.specs.State.{addresses_of, last, clearings, cleared}
 use Rattle.pm_market.specs.Moves.{after, LegalJournal}
 use Rattle.pm_market.specs.Held.{last_join, holds_price}
 use Rattle.pm_laws.proofs.Facts.{end_zero}
 use Rattle.pm_laws.proofs.Kept.{sound_start}
 use Rattle.pm_laws.proofs.Legality.{journal_from}
 use Rattle.pm_market.specs.Bound.{bound}
-use Rattle.pm_market.specs.Legality.{is_one_of, learn_is_legal, publish_is_legal, clear_is_legal, pass_is_legal, is_idle_at, is_idle, change_is_legal, are_made, close_is_legal, is_legal, first_illegal}
+use Rattle.pm_market.specs.Legality.{is_one_of, learn_is_legal, publish_is_legal, clear_is_legal, pass_is_legal, is_idle_at, is_idle, change_is_legal, are_made}
+use Rattle.pm_market.specs.Legality.{close_is_legal, is_legal, first_illegal}
 use Rattle.pm_market.specs.declared.moves.Move.{Move}
 use Rattle.pm_market.specs.declared.moves.Move.TheVariants.{Change, Learn, Publish, Clear, Pass, Close}
 
@@ -84,7 +88,8 @@ abbrev two_levels : Lists
 two_levels = record {
   parents = 0 ∷ 1 ∷ 2 ∷ 2 ∷ 2 ∷ 2 ∷ 2 ∷ 2 ∷ 2 ∷ 2 ∷ 2 ∷ 1 ∷ [];
   leaves = false ∷ false ∷ true ∷ true ∷ true ∷ true ∷ true ∷ true ∷ true ∷ true ∷ true ∷ true ∷ [];
-  members = [] ∷ [] ∷ (true ∷ []) ∷ (true ∷ []) ∷ (true ∷ []) ∷ (true ∷ []) ∷ (true ∷ []) ∷ (true ∷ []) ∷ (true ∷ []) ∷ (true ∷ []) ∷ (true ∷ []) ∷ (true ∷ []) ∷ [];
+  members = [] ∷ [] ∷ (true ∷ []) ∷ (true ∷ []) ∷ (true ∷ []) ∷ (true ∷ []) ∷ (true ∷ []) ∷ (true ∷ []) ∷ (true ∷ []) ∷
+      (true ∷ []) ∷ (true ∷ []) ∷ (true ∷ []) ∷ [];
   ends = (0 ∷ 0 ∷ 1 ∷ 1 ∷ 1 ∷ 1 ∷ 1 ∷ 1 ∷ 1 ∷ 1 ∷ 1 ∷ 1 ∷ []) ∷ [];
 }
 
@@ -120,7 +125,8 @@ all_devices = 3 ∷ 4 ∷ 5 ∷ 6 ∷ 7 ∷ 8 ∷ 9 ∷ 10 ∷ 11 ∷ []
 
 -- the auctioneer alone can move, and then the windows open one after the other
 abbrev unwound : List Move
-unwound = both_full ++ Learn 1 8 ∷ Clear 1 ∷ Pass 1 1 ∷ Pass 2 1 ∷ Publish 2 9 ∷ Learn 2 9 ∷ Publish 1 9 ∷ Learn 1 9 ∷ Clear 2 ∷ Pass 1 2 ∷ Pass 2 2 ∷ pass_all 2 all_devices ++ Pass 12 2 ∷ []
+unwound = both_full ++ Learn 1 8 ∷ Clear 1 ∷ Pass 1 1 ∷ Pass 2 1 ∷ Publish 2 9 ∷ Learn 2 9 ∷ Publish 1 9 ∷ Learn 1 9 ∷ Clear 2 ∷ Pass
+    1 2 ∷ Pass 2 2 ∷ pass_all 2 all_devices ++ Pass 12 2 ∷ []
 
 unwound_closes : first_illegal two_levels start (unwound ++ Close 1 ∷ []) ≡ 66
 unfolding parent is_leaf is_member changes end_count is_below_in
@@ -129,13 +135,15 @@ unfolding parent is_leaf is_member changes end_count is_below_in
 unwound_closes = refl
 
 -- every device was passed the last clearing, with its number 1
-unwound_last : (last (after two_levels unwound) 3 ≡ 2) × (last (after two_levels unwound) 12 ≡ 2) × (cleared (after two_levels unwound) 2 12 ≡ 1) × (clearings (after two_levels unwound) ≡ 2)
+unwound_last : (last (after two_levels unwound) 3 ≡ 2) × (last (after two_levels unwound) 12 ≡ 2)
+    × (cleared (after two_levels unwound) 2 12 ≡ 1) × (clearings (after two_levels unwound) ≡ 2)
 unfolding parent is_leaf is_member changes end_count is_below_in
     is_below is_leaf_of way_up child_at_or_above updated all_to is_same_on cut_at newest_of part_of known_of greatest_number number_of last_of addresses_of
     is_one_of learn_is_legal publish_is_legal clear_is_legal pass_is_legal is_idle_at is_idle change_is_legal are_made close_is_legal is_legal first_illegal
 unwound_last = (refl, refl, refl, refl)
 
-only_the_auctioneer : (is_legal two_levels (after two_levels both_full) (Learn 1 8) ≡ true) × (is_legal two_levels (after two_levels both_full) (Clear 1) ≡ false)
+only_the_auctioneer : (is_legal two_levels (after two_levels both_full) (Learn 1 8) ≡ true)
+    × (is_legal two_levels (after two_levels both_full) (Clear 1) ≡ false)
 unfolding parent is_leaf is_member changes end_count is_below_in
     is_below is_leaf_of way_up child_at_or_above updated all_to is_same_on cut_at newest_of part_of known_of greatest_number number_of last_of addresses_of
     is_one_of learn_is_legal publish_is_legal clear_is_legal pass_is_legal is_idle_at is_idle change_is_legal are_made close_is_legal is_legal first_illegal
@@ -177,10 +185,12 @@ one_device_lawful = record {
     last_end d leaf = ap (end_count one_device 1) (leaf_one d leaf) ∙ ap (changes one_device) (sym (leaf_one d leaf))
 
 one_device_journal : LegalJournal one_device (rejoins ++ Learn 1 3 ∷ Clear 2 ∷ Pass 1 2 ∷ Close 1 ∷ [])
-one_device_journal = journal_from one_device one_device_lawful (rejoins ++ Learn 1 3 ∷ Clear 2 ∷ Pass 1 2 ∷ Close 1 ∷ []) start (sound_start one_device one_device_lawful) rejoins_to_the_end
+one_device_journal = journal_from one_device one_device_lawful (rejoins ++ Learn 1 3 ∷ Clear 2 ∷ Pass 1 2 ∷ Close 1 ∷ []) start
+    (sound_start one_device one_device_lawful) rejoins_to_the_end
 
 -- after the pass of the old clearing it holds_price none, at the end it holds_price one
-rejoins_holds : (holds_price one_device (after one_device rejoins) 1 ≡ false) × (holds_price one_device (after one_device (rejoins ++ Learn 1 3 ∷ Clear 2 ∷ Pass 1 2 ∷ [])) 1 ≡ true)
+rejoins_holds : (holds_price one_device (after one_device rejoins) 1 ≡ false)
+    × (holds_price one_device (after one_device (rejoins ++ Learn 1 3 ∷ Clear 2 ∷ Pass 1 2 ∷ [])) 1 ≡ true)
 unfolding parent is_leaf is_member changes end_count is_below_in
     is_below is_leaf_of way_up child_at_or_above updated all_to is_same_on cut_at newest_of part_of known_of greatest_number number_of last_of addresses_of
     is_one_of learn_is_legal publish_is_legal clear_is_legal pass_is_legal is_idle_at is_idle change_is_legal are_made close_is_legal is_legal first_illegal

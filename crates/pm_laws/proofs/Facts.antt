@@ -1,5 +1,6 @@
 -- What follows from soundness, and facts on lists of indices.
-use Rattle.std.proofs.Common.{◌≡◌, ℕ, zero, suc, ◌+◌, ◌-◌, ◌<◌, ◌≤◌, ◌⊎◌, inl, inr, List, [], ◌∷◌, ◌++◌, length, get_or, refl, sym, ◌∙◌, ap, subst, arith}
+use Rattle.std.proofs.Common.{◌≡◌, ℕ, zero, suc, ◌+◌, ◌-◌, ◌<◌, ◌≤◌, ◌⊎◌, inl, inr, List, [], ◌∷◌, ◌++◌, length}
+use Rattle.std.proofs.Common.{get_or, refl, sym, ◌∙◌, ap, subst, arith}
 use Rattle.std.proofs.lemmas.Bool.{cases_eq, cases_lt, cases_Bool}
 use Rattle.std.proofs.lemmas.List.{get_or_append_left, get_or_push, length_push, get_or_default}
 use Rattle.std.specs.List.{Contains}
@@ -9,14 +10,16 @@ use Rattle.pm_base.specs.Cuts.{Cut}
 use Rattle.pm_market.specs.Moves.{Reached}
 use Rattle.pm_market.specs.Sound.{Sound}
 use Rattle.pm_market.proofs.Tree.{leaf_of_parts, leaf_of_parent, leaf_of_auctioneer, leaf_zero}
-use Rattle.pm_market.proofs.Cuts.{updated_same, updated_other, not_same, pushed, newest_inner, part_leaf, part_inner, greatest_le, greatest_from, greatest_same, number_inner}
+use Rattle.pm_market.proofs.Cuts.{updated_same, updated_other, not_same, pushed, newest_inner, part_leaf, part_inner, greatest_le, greatest_from, greatest_same}
+use Rattle.pm_market.proofs.Cuts.{number_inner}
 
 pub end_zero : (lists : Lists) (d : ℕ) → end_count lists 0 d ≡ 0
 unfolding end_count
 end_zero lists zero = refl
 end_zero lists (suc d) = refl
 
-end_up : (lists : Lists) → Lawful lists → (k p d : ℕ) → IsLeaf lists d → k + p ≡ phases lists → end_count lists p d ≤ end_count lists (phases lists) d
+end_up : (lists : Lists) → Lawful lists → (k p d : ℕ) → IsLeaf lists d → k + p ≡ phases lists →
+    end_count lists p d ≤ end_count lists (phases lists) d
 end_up lists law zero p d leaf e = let same : p ≡ phases lists = omega arith in omega (arith, ap (λ (q : ℕ). end_count lists q d) same)
 end_up lists law (suc k) p d leaf e = let more : k + (p + 1) ≡ phases lists = omega arith in let below : p < phases lists = omega arith in
     omega (arith, law.ends_rise p d leaf below, end_up lists law k (p + 1) d leaf more)
@@ -24,7 +27,8 @@ end_up lists law (suc k) p d leaf e = let more : k + (p + 1) ≡ phases lists = 
 pub end_within : (lists : Lists) → Lawful lists → (p d : ℕ) → IsLeaf lists d → p ≤ phases lists → end_count lists p d ≤ changes lists d
 end_within lists law p d leaf h = omega (arith, end_up lists law (phases lists - p) p d leaf (omega arith), law.ends_last d leaf)
 
-pub updated_at : {A : Type 0} → (f : ℕ → A) (x : ℕ) (v : A) (y : ℕ) → ((y ≡ x) × (updated f x v y ≡ v)) ⊎ ((y ≡ x → ⊥) × (updated f x v y ≡ f y))
+pub updated_at : {A : Type 0} → (f : ℕ → A) (x : ℕ) (v : A) (y : ℕ) → ((y ≡ x) × (updated f x v y ≡ v))
+    ⊎ ((y ≡ x → ⊥) × (updated f x v y ≡ f y))
 updated_at f x v y =
     elim (cases_eq y x) [
       | inl e ↦ inl (e, ap (λ z. updated f x v z) e ∙ updated_same f x v)
@@ -83,7 +87,8 @@ last_cases l =
           inr (m, lt, get_or_default l m (last_of l) 0 lt ∙ sym (last_at l m e))
     ]
 
-pub last_most : (l : List ℕ) → ((i j : ℕ) → i < j → j < length l → get_or l i 0 < get_or l j 0) → (i : ℕ) → i < length l → get_or l i 0 ≤ last_of l
+pub last_most : (l : List ℕ) → ((i j : ℕ) → i < j → j < length l → get_or l i 0 < get_or l j 0) → (i : ℕ) → i < length l →
+    get_or l i 0 ≤ last_of l
 last_most l rise i lt =
     let m : ℕ = length l - 1 in let e : length l ≡ suc m = omega arith in
     elim (cases_eq i m) [
@@ -108,17 +113,20 @@ last_within lists s sound x =
 
 -- cuts
 
-pub rise_within : (lists : Lists) (s : State) → Sound lists s → (c i j : ℕ) → IsInner lists c → i ≤ j → j ≤ length (s.published c) → AtMostOn lists c (cut_at (s.published c) i) (cut_at (s.published c) j)
+pub rise_within : (lists : Lists) (s : State) → Sound lists s → (c i j : ℕ) → IsInner lists c → i ≤ j → j ≤ length (s.published c) →
+    AtMostOn lists c (cut_at (s.published c) i) (cut_at (s.published c) j)
 rise_within lists s sound c i j inner h le d leaf =
     elim (cases_eq i j) [
       | inl e ↦ omega (arith, ap (λ (k : ℕ). cut_at (s.published c) k d) e)
       | inr n ↦ (sound.published_rise c i j inner (omega arith) le).within d leaf
     ]
 
-pub learnt_of_inner : (lists : Lists) (s : State) → Sound lists s → (x : ℕ) → IsNode lists x → IsInner lists x → s.learnt x ≤ length (s.published x)
+pub learnt_of_inner : (lists : Lists) (s : State) → Sound lists s → (x : ℕ) → IsNode lists x → IsInner lists x →
+    s.learnt x ≤ length (s.published x)
 learnt_of_inner lists s sound x node inner = omega (arith, sound.learnt_within x node, newest_inner lists s.counts s.published x inner)
 
-pub part_within : (lists : Lists) (s : State) → Sound lists s → (x i j : ℕ) → i ≤ j → j ≤ newest lists s x → AtMostOn lists x (part lists s x i) (part lists s x j)
+pub part_within : (lists : Lists) (s : State) → Sound lists s → (x i j : ℕ) → i ≤ j → j ≤ newest lists s x →
+    AtMostOn lists x (part lists s x i) (part lists s x j)
 part_within lists s sound x i j h le d leaf =
     elim (cases_Bool (is_leaf lists x)) [
       | inl e ↦ omega (arith, part_leaf lists s.published x i d e, part_leaf lists s.published x j d e)
@@ -131,7 +139,8 @@ part_within lists s sound x i j h le d leaf =
     ]
 
 -- on the leaves of a node each clearing is one of the node's parts
-clearing_part_in : (lists : Lists) → Lawful lists → (s : State) → Sound lists s → (bound x j : ℕ) → x ≤ bound → IsNode lists x → j ≤ clearings s →
+clearing_part_in : (lists : Lists) → Lawful lists → (s : State) → Sound lists s → (bound x j : ℕ) → x ≤ bound → IsNode lists x →
+    j ≤ clearings s →
     (n : ℕ) × (n ≤ s.learnt x) × SameOn lists x (cleared s j) (part lists s x n)
 clearing_part_in lists law s sound zero x j h node le = absurd (omega arith)
 clearing_part_in lists law s sound (suc bound) x j h node le =
@@ -143,8 +152,12 @@ clearing_part_in lists law s sound (suc bound) x j h node le =
           let c_node : IsNode lists c = (omega arith, omega (arith, law.earlier x node, node.1)) in
           let c_inner : IsInner lists c = law.inner x node in
           let up = clearing_part_in lists law s sound bound c j (omega (arith, law.earlier x node)) c_node le in
-          let r = sound.published_parts x up.0 node (omega (arith, up.1, learnt_of_inner lists s sound c c_node c_inner)) in
-          (r.0, r.1, λ d leaf. up.2 d (leaf_of_parent lists law x d leaf) ∙ ap (λ (a : Cut). a d) (part_inner lists s.published c up.0 c_inner) ∙ r.2 d leaf)
+          let r = sound.published_parts x up.0 node (omega (arith, up.1, learnt_of_inner lists s sound c c_node c_inner)) in (
+            r.0,
+            r.1,
+            λ d leaf. up.2 d (leaf_of_parent lists law x d leaf)
+                ∙ ap (λ (a : Cut). a d) (part_inner lists s.published c up.0 c_inner) ∙ r.2 d leaf,
+          )
     ]
 
 pub clearing_part : (lists : Lists) → Lawful lists → (s : State) → Sound lists s → (x j : ℕ) → IsNode lists x → j ≤ clearings s →
@@ -152,11 +165,14 @@ pub clearing_part : (lists : Lists) → Lawful lists → (s : State) → Sound l
 clearing_part lists law s sound x j node le = clearing_part_in lists law s sound x x j (omega arith) node le
 
 -- of two clearings the cut of the earlier is within that of the later, and so is its number at a concentrator
-pub cleared_within : (lists : Lists) → Lawful lists → (s : State) → Sound lists s → (i j : ℕ) → i ≤ j → j ≤ clearings s → (d : ℕ) → IsLeaf lists d → cleared s i d ≤ cleared s j d
+pub cleared_within : (lists : Lists) → Lawful lists → (s : State) → Sound lists s → (i j : ℕ) → i ≤ j → j ≤ clearings s → (d : ℕ) →
+    IsLeaf lists d → cleared s i d ≤ cleared s j d
 cleared_within lists law s sound i j h le d leaf = rise_within lists s sound 0 i j (leaf_zero lists) h le d (leaf_of_auctioneer lists law d leaf)
 
-pub number_rises : (lists : Lists) → Lawful lists → (s : State) → Sound lists s → (c i j : ℕ) → IsNode lists c → IsInner lists c → i ≤ j → j ≤ clearings s →
-    greatest_number lists (s.published c) c (cleared s i) (length (s.published c)) ≤ greatest_number lists (s.published c) c (cleared s j) (length (s.published c))
+pub number_rises : (lists : Lists) → Lawful lists → (s : State) → Sound lists s → (c i j : ℕ) → IsNode lists c → IsInner lists c →
+    i ≤ j → j ≤ clearings s →
+    greatest_number lists (s.published c) c (cleared s i) (length (s.published c)) ≤ greatest_number lists (s.published c) c
+    (cleared s j) (length (s.published c))
 number_rises lists law s sound c i j node inner h le =
     let m : ℕ = greatest_number lists (s.published c) c (cleared s i) (length (s.published c)) in
     elim (greatest_same lists law (s.published c) c (cleared s i) (length (s.published c))) [
@@ -165,7 +181,8 @@ number_rises lists law s sound c i j node inner h le =
           let r = clearing_part lists law s sound c j node le in
           let n : ℕ = r.0 in
           let n_le : n ≤ length (s.published c) = omega (arith, r.1, learnt_of_inner lists s sound c node inner) in
-          let at : SameOn lists c (cut_at (s.published c) n) (cleared s j) = λ d leaf. sym (r.2 d leaf ∙ ap (λ (a : Cut). a d) (part_inner lists s.published c n inner)) in
+          let at : SameOn lists c (cut_at (s.published c) n) (cleared s j) =
+          λ d leaf. sym (r.2 d leaf ∙ ap (λ (a : Cut). a d) (part_inner lists s.published c n inner)) in
           elim (cases_lt n m) [
             | inl lt ↦
                 let rise = sound.published_rise c n m inner lt (greatest_le lists (s.published c) c (cleared s i) (length (s.published c))) in
@@ -176,5 +193,6 @@ number_rises lists law s sound c i j node inner h le =
     ]
 
 -- the window by the list alone
-pub window_of : (lists : Lists) (s : State) (c : ℕ) (cut : Cut) → IsInner lists c → newest lists s c - number lists s c cut ≡ length (s.published c) - greatest_number lists (s.published c) c cut (length (s.published c))
+pub window_of : (lists : Lists) (s : State) (c : ℕ) (cut : Cut) → IsInner lists c →
+    newest lists s c - number lists s c cut ≡ length (s.published c) - greatest_number lists (s.published c) c cut (length (s.published c))
 window_of lists s c cut inner = omega (arith, newest_inner lists s.counts s.published c inner, number_inner lists s.published c cut inner)

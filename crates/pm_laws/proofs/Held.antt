@@ -19,7 +19,8 @@ last_join_le lists d (suc n) =
     ]
 
 -- in an idle state each device that is in holds_price a price of the current cut
-pub quiet_holds : (lists : Lists) → Lawful lists → (s : State) → Sound lists s → Idle lists s → (d : ℕ) → IsLeaf lists d → is_member lists d (s.counts d) ≡ true → holds_price lists s d ≡ true
+pub quiet_holds : (lists : Lists) → Lawful lists → (s : State) → Sound lists s → Idle lists s → (d : ℕ) → IsLeaf lists d →
+    is_member lists d (s.counts d) ≡ true → holds_price lists s d ≡ true
 unfolding holds_price
 quiet_holds lists law s sound idle d leaf at =
     let passed = quiet_passed lists law s sound idle d leaf at in
@@ -28,7 +29,8 @@ quiet_holds lists law s sound idle d leaf at =
     (le-leb (last_join lists d (s.counts d)) (cleared s (last s d) d) (omega (arith, number_is, last_join_le lists d (s.counts d))))
 
 -- the device is a member of the cut whose price it holds_price
-pub holder_included : (lists : Lists) → (s : State) → Sound lists s → (d : ℕ) → IsLeaf lists d → holds_price lists s d ≡ true → is_member lists d (cleared s (last s d) d) ≡ true
+pub holder_included : (lists : Lists) → (s : State) → Sound lists s → (d : ℕ) → IsLeaf lists d → holds_price lists s d ≡ true →
+    is_member lists d (cleared s (last s d) d) ≡ true
 unfolding holds_price
 holder_included lists s sound d leaf h =
     let parts = and_parts _ _ (and_parts _ _ h).0 in

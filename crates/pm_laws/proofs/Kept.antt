@@ -1,19 +1,24 @@
 -- The start is sound, and each legal move keeps soundness.
-use Rattle.std.proofs.Common.{◌≡◌, ℕ, suc, ◌+◌, ◌-◌, ◌<◌, ◌≤◌, false, inl, inr, List, [], ◌∷◌, ◌++◌, length, get_or, refl, sym, ◌∙◌, ap, subst, arith}
+use Rattle.std.proofs.Common.{◌≡◌, ℕ, suc, ◌+◌, ◌-◌, ◌<◌, ◌≤◌, false, inl, inr, List, [], ◌∷◌, ◌++◌, length, get_or, refl}
+use Rattle.std.proofs.Common.{sym, ◌∙◌, ap, subst, arith}
 use Rattle.std.proofs.lemmas.Bool.{cases_eq, cases_lt, cases_Bool}
 use Rattle.std.proofs.lemmas.List.{get_or_append_left, get_or_push, length_push}
 use Rattle.std.specs.List.{Contains}
 use Rattle.pm_base.specs.Limits.{window_size}
 use Rattle.pm_market.specs.Lists.{Lists, phases, child_at_or_above, parent, is_leaf, changes, IsInner, IsConcentrator, IsLeafOf, Lawful, end_count}
-use Rattle.pm_market.specs.State.{State, start, updated, is_same_on, RisesOn, cut_at, part_of, known_of, greatest_number, last_of, newest, part, known, number, last, clearings, cleared, addresses, addresses_of}
+use Rattle.pm_market.specs.State.{State, start, updated, is_same_on, RisesOn, cut_at, part_of, known_of, greatest_number, last_of, newest, part, known, number}
+use Rattle.pm_market.specs.State.{last, clearings, cleared, addresses, addresses_of}
 use Rattle.pm_base.specs.Cuts.{Cut}
 use Rattle.pm_market.specs.Moves.{Idle, Legal, step, after_from, LegalFrom, after, LegalJournal}
 use Rattle.pm_market.specs.Sound.{Sound}
 use Rattle.pm_market.specs.declared.moves.Move.{Move}
 use Rattle.pm_market.specs.declared.moves.Move.TheVariants.{Change, Learn, Publish, Clear, Pass, Close}
 use Rattle.pm_market.proofs.Tree.{leaf_zero, child_of}
-use Rattle.pm_market.proofs.Cuts.{not_same, not_same_from, rises_then, entry_zero, cut_at_new, pushed, pushed_same, pushed_other, pushed_cut_at_kept, pushed_length_same, pushed_length_other, pushed_length_le, newest_leaf, newest_inner, part_inner, part_zero, part_kept, known_at, greatest_kept, greatest_more}
-use Rattle.pm_laws.proofs.Facts.{end_zero, end_within, updated_at, pushed_contains, pushed_contains_cases, last_push, last_most, reached_within, last_within, learnt_of_inner, part_within, number_rises, window_of}
+use Rattle.pm_market.proofs.Cuts.{not_same, not_same_from, rises_then, entry_zero, cut_at_new, pushed, pushed_same, pushed_other, pushed_cut_at_kept}
+use Rattle.pm_market.proofs.Cuts.{pushed_length_same, pushed_length_other, pushed_length_le, newest_leaf, newest_inner, part_inner, part_zero, part_kept}
+use Rattle.pm_market.proofs.Cuts.{known_at, greatest_kept, greatest_more}
+use Rattle.pm_laws.proofs.Facts.{end_zero, end_within, updated_at, pushed_contains, pushed_contains_cases, last_push, last_most, reached_within, last_within}
+use Rattle.pm_laws.proofs.Facts.{learnt_of_inner, part_within, number_rises, window_of}
 
 -- at the start no node move is legal
 start_idle : (lists : Lists) → Idle lists start
@@ -62,7 +67,8 @@ sound_start lists law = record {
     0,
     omega arith,
     λ d leaf.
-        let e : i ≡ 0 = omega arith in ap (λ (k : ℕ). cut_at [] k d) e ∙ ap (λ (a : Cut). a d) (entry_zero []) ∙ sym (part_zero lists start.published x d),
+        let e : i ≡ 0 = omega arith in ap (λ (k : ℕ). cut_at [] k d) e ∙ ap (λ (a : Cut). a d) (entry_zero [])
+        ∙ sym (part_zero lists start.published x d),
   );
   passed_rise = λ x i j lt le. absurd (omega arith);
   passed_within = λ x j c. absurd (omega (arith, c.1));
@@ -71,7 +77,8 @@ sound_start lists law = record {
   window = λ c conc. omega (arith, newest_inner lists start.counts start.published c conc.2);
 }
 
-sound_change : (lists : Lists) → Lawful lists → (s : State) → Sound lists s → (d n : ℕ) → Legal lists s (Change d n) → Sound lists (step lists s (Change d n))
+sound_change : (lists : Lists) → Lawful lists → (s : State) → Sound lists s → (d n : ℕ) → Legal lists s (Change d n) →
+    Sound lists (step lists s (Change d n))
 sound_change lists law s sound d n legal = record {
   counts_within = λ e leaf. elim (updated_at s.counts d n e) [
     | inl w ↦ omega (arith, w.1, w.0, legal.3, ap (changes lists) w.0, end_within lists law (s.closed + 1) d legal.0 (omega (arith, legal.1)))
@@ -90,10 +97,29 @@ sound_change lists law s sound d n legal = record {
   ended_idle = λ e. absurd (omega (arith, e, legal.1));
   learnt_within = λ x node. elim (cases_Bool (is_leaf lists x)) [
     | inl e ↦ elim (updated_at s.counts d n x) [
-      | inl w ↦ omega (arith, w.1, legal.2, ap s.counts w.0, sound.learnt_within x node, newest_leaf lists s.counts s.published x e, newest_leaf lists (updated s.counts d n) s.published x e)
-      | inr w ↦ omega (arith, w.1, sound.learnt_within x node, newest_leaf lists s.counts s.published x e, newest_leaf lists (updated s.counts d n) s.published x e)
+      | inl w ↦ omega (
+        arith,
+        w.1,
+        legal.2,
+        ap s.counts w.0,
+        sound.learnt_within x node,
+        newest_leaf lists s.counts s.published x e,
+        newest_leaf lists (updated s.counts d n) s.published x e,
+      )
+      | inr w ↦ omega (
+        arith,
+        w.1,
+        sound.learnt_within x node,
+        newest_leaf lists s.counts s.published x e,
+        newest_leaf lists (updated s.counts d n) s.published x e,
+      )
     ]
-    | inr e ↦ omega (arith, sound.learnt_within x node, newest_inner lists s.counts s.published x e, newest_inner lists (updated s.counts d n) s.published x e)
+    | inr e ↦ omega (
+      arith,
+      sound.learnt_within x node,
+      newest_inner lists s.counts s.published x e,
+      newest_inner lists (updated s.counts d n) s.published x e,
+    )
   ];
   published_rise = sound.published_rise;
   published_known = sound.published_known;
@@ -102,10 +128,16 @@ sound_change lists law s sound d n legal = record {
   passed_within = sound.passed_within;
   passed_addressed = sound.passed_addressed;
   passed_reached = sound.passed_reached;
-  window = λ c conc. omega (arith, sound.window c conc, window_of lists s c (cleared s (last s c)) conc.2, window_of lists (step lists s (Change d n)) c (cleared s (last s c)) conc.2);
+  window = λ c conc. omega (
+    arith,
+    sound.window c conc,
+    window_of lists s c (cleared s (last s c)) conc.2,
+    window_of lists (step lists s (Change d n)) c (cleared s (last s c)) conc.2,
+  );
 }
 
-sound_learn : (lists : Lists) → Lawful lists → (s : State) → Sound lists s → (x n : ℕ) → Legal lists s (Learn x n) → Sound lists (step lists s (Learn x n))
+sound_learn : (lists : Lists) → Lawful lists → (s : State) → Sound lists s → (x n : ℕ) → Legal lists s (Learn x n) →
+    Sound lists (step lists s (Learn x n))
 sound_learn lists law s sound x n legal = record {
   counts_within = sound.counts_within;
   counts_from = sound.counts_from;
@@ -121,7 +153,8 @@ sound_learn lists law s sound x n legal = record {
   published_known = λ c inner d leaf.
       let y = child_of lists law c d inner leaf in
       let old : known lists s (parent lists y.0) d ≡ part lists s y.0 (s.learnt y.0) d = known_at lists law s.published s.learnt y.0 d y.1.0 y.3 in
-      let new : known_of lists s.published (updated s.learnt x n) (parent lists y.0) d ≡ part lists s y.0 (updated s.learnt x n y.0) d = known_at lists law s.published (updated s.learnt x n) y.0 d y.1.0 y.3 in
+      let new : known_of lists s.published (updated s.learnt x n) (parent lists y.0) d
+      ≡ part lists s y.0 (updated s.learnt x n y.0) d = known_at lists law s.published (updated s.learnt x n) y.0 d y.1.0 y.3 in
       let more : (s.learnt y.0 ≤ updated s.learnt x n y.0) × (updated s.learnt x n y.0 ≤ newest lists s y.0) = elim (updated_at s.learnt x n y.0) [
         | inl w ↦ (omega (arith, w.1, legal.1, ap s.learnt w.0), omega (arith, w.1, legal.2, ap (newest lists s) w.0))
         | inr w ↦ (omega (arith, w.1), omega (arith, w.1, sound.learnt_within y.0 y.1))
@@ -152,15 +185,19 @@ sound_learn lists law s sound x n legal = record {
 }
 
 -- on the leaves of an inner node it knows the same after something is published
-known_kept : (lists : Lists) → Lawful lists → (s : State) → Sound lists s → (c : ℕ) (cut : Cut) (y d : ℕ) → IsInner lists c → IsInner lists y → IsLeafOf lists y d →
+known_kept : (lists : Lists) → Lawful lists → (s : State) → Sound lists s → (c : ℕ) (cut : Cut) (y d : ℕ) → IsInner lists c →
+    IsInner lists y → IsLeafOf lists y d →
     known_of lists (pushed s.published c cut) s.learnt y d ≡ known lists s y d
 known_kept lists law s sound c cut y d c_inner inner leaf =
     let x = child_of lists law y d inner leaf in
     let old : known lists s (parent lists x.0) d ≡ part lists s x.0 (s.learnt x.0) d = known_at lists law s.published s.learnt x.0 d x.1.0 x.3 in
-    let new : known_of lists (pushed s.published c cut) s.learnt (parent lists x.0) d ≡ part_of lists (pushed s.published c cut) x.0 (s.learnt x.0) d = known_at lists law (pushed s.published c cut) s.learnt x.0 d x.1.0 x.3 in
+    let new : known_of lists (pushed s.published c cut) s.learnt (parent lists x.0) d ≡ part_of lists (pushed s.published c cut) x.0
+    (s.learnt x.0) d = known_at lists law (pushed s.published c cut) s.learnt x.0 d x.1.0 x.3 in
     let kept : part_of lists (pushed s.published c cut) x.0 (s.learnt x.0) ≡ part lists s x.0 (s.learnt x.0) =
-    part_kept lists s.published c cut x.0 (s.learnt x.0) (λ e. omega (arith, learnt_of_inner lists s sound x.0 x.1 (ap (is_leaf lists) e ∙ c_inner), ap (λ (z : ℕ). length (s.published z)) e)) in
-    ap (λ (z : ℕ). known_of lists (pushed s.published c cut) s.learnt z d) (sym x.2) ∙ new ∙ ap (λ (a : Cut). a d) kept ∙ sym old ∙ ap (λ (z : ℕ). known lists s z d) x.2
+    part_kept lists s.published c cut x.0 (s.learnt x.0)
+    (λ e. omega (arith, learnt_of_inner lists s sound x.0 x.1 (ap (is_leaf lists) e ∙ c_inner), ap (λ (z : ℕ). length (s.published z)) e)) in
+    ap (λ (z : ℕ). known_of lists (pushed s.published c cut) s.learnt z d) (sym x.2) ∙ new ∙ ap (λ (a : Cut). a d) kept ∙ sym old
+    ∙ ap (λ (z : ℕ). known lists s z d) x.2
 
 -- what c knows joins its list
 sound_push : (lists : Lists) → Lawful lists → (s : State) → Sound lists s → (c : ℕ) → IsInner lists c →
@@ -188,16 +225,19 @@ sound_push lists law s sound c c_inner differs room not_ended =
           let j_new : cut_at (q c) j ≡ cut = ap (cut_at (q c)) e ∙ new_entry in
           let old : RisesOn lists c (cut_at (p c) i) cut = elim (cases_eq i len) [
             | inl at ↦ subst (λ (k : ℕ). RisesOn lists c (cut_at (p c) k) cut) (sym at) rise_top
-            | inr n ↦ rises_then lists law c (cut_at (p c) i) (cut_at (p c) len) cut (sound.published_rise c i len c_inner (omega arith) (omega arith)) rise_top.within
+            | inr n ↦ rises_then lists law c (cut_at (p c) i) (cut_at (p c) len) cut
+                (sound.published_rise c i len c_inner (omega arith) (omega arith)) rise_top.within
           ] in
           subst (λ (a : Cut). RisesOn lists c (cut_at (q c) i) a) (sym j_new) (subst (λ (a : Cut). RisesOn lists c a cut) (sym i_old) old)
       | inr n ↦
           let i_old : cut_at (q c) i ≡ cut_at (p c) i = kept c i (λ same. omega arith) in
           let j_old : cut_at (q c) j ≡ cut_at (p c) j = kept c j (λ same. omega arith) in
-          subst (λ (a : Cut). RisesOn lists c (cut_at (q c) i) a) (sym j_old) (subst (λ (a : Cut). RisesOn lists c a (cut_at (p c) j)) (sym i_old) (sound.published_rise c i j c_inner lt (omega arith)))
+          subst (λ (a : Cut). RisesOn lists c (cut_at (q c) i) a) (sym j_old)
+          (subst (λ (a : Cut). RisesOn lists c a (cut_at (p c) j)) (sym i_old) (sound.published_rise c i j c_inner lt (omega arith)))
     ] in
     let more_clearings : clearings s ≤ clearings new_s = pushed_length_le p c cut 0 in
-    let cleared_kept : (j : ℕ) → j ≤ clearings s → cleared new_s j ≡ cleared s j = λ j le. kept 0 j (λ e. omega (arith, ap (λ (z : ℕ). length (p z)) e)) in
+    let cleared_kept : (j : ℕ) → j ≤ clearings s → cleared new_s j ≡ cleared s j =
+    λ j le. kept 0 j (λ e. omega (arith, ap (λ (z : ℕ). length (p z)) e)) in
     record {
       counts_within = sound.counts_within;
       counts_from = sound.counts_from;
@@ -210,11 +250,14 @@ sound_push lists law s sound c c_inner differs room not_ended =
         | inr e ↦ omega (arith, sound.learnt_within x node, newest_inner lists s.counts p x e, newest_inner lists s.counts q x e, pushed_length_le p c cut x)
       ];
       published_rise = λ y i j inner lt le. elim (cases_eq y c) [
-        | inl e ↦ subst (λ (z : ℕ). RisesOn lists z (cut_at (q z) i) (cut_at (q z) j)) (sym e) (rise_at_c i j lt (omega (arith, le, ap (λ (z : ℕ). length (q z)) e, same_len)))
+        | inl e ↦ subst (λ (z : ℕ). RisesOn lists z (cut_at (q z) i) (cut_at (q z) j)) (sym e)
+            (rise_at_c i j lt (omega (arith, le, ap (λ (z : ℕ). length (q z)) e, same_len)))
         | inr n ↦
             let i_old : cut_at (q y) i ≡ cut_at (p y) i = kept y i (λ e. absurd (n e)) in
             let j_old : cut_at (q y) j ≡ cut_at (p y) j = kept y j (λ e. absurd (n e)) in
-            subst (λ (a : Cut). RisesOn lists y (cut_at (q y) i) a) (sym j_old) (subst (λ (a : Cut). RisesOn lists y a (cut_at (p y) j)) (sym i_old) (sound.published_rise y i j inner lt (omega (arith, le, pushed_length_other p c cut y n))))
+            subst (λ (a : Cut). RisesOn lists y (cut_at (q y) i) a) (sym j_old)
+            (subst (λ (a : Cut). RisesOn lists y a (cut_at (p y) j)) (sym i_old)
+            (sound.published_rise y i j inner lt (omega (arith, le, pushed_length_other p c cut y n))))
       ];
       published_known = λ y inner d leaf. elim (cases_eq y c) [
         | inl e ↦ omega (
@@ -234,7 +277,12 @@ sound_push lists law s sound c c_inner differs room not_ended =
       ];
       published_parts = λ x i node le.
           let x_kept : (n : ℕ) → n ≤ s.learnt x → part lists new_s x n ≡ part lists s x n = λ n n_le.
-          part_kept lists p c cut x n (λ e. omega (arith, n_le, learnt_of_inner lists s sound x node (ap (is_leaf lists) e ∙ c_inner), ap (λ (z : ℕ). length (p z)) e)) in
+          part_kept lists p c cut x n (λ e. omega (
+            arith,
+            n_le,
+            learnt_of_inner lists s sound x node (ap (is_leaf lists) e ∙ c_inner),
+            ap (λ (z : ℕ). length (p z)) e,
+          )) in
           elim (cases_lt (length (p (parent lists x))) i) [
             | inl above ↦ elim (cases_eq (parent lists x) c) [
               | inl e ↦ (
@@ -243,13 +291,15 @@ sound_push lists law s sound c c_inner differs room not_ended =
                 λ d leaf.
                     let at : i ≡ len + 1 = omega (arith, above, le, ap (λ (z : ℕ). length (p z)) e, ap (λ (z : ℕ). length (q z)) e, same_len) in
                     ap (λ (z : ℕ). cut_at (q z) i d) e ∙ ap (λ (k : ℕ). cut_at (q c) k d) at ∙ ap (λ (a : Cut). a d) new_entry
-                    ∙ ap (λ (z : ℕ). known lists s z d) (sym e) ∙ known_at lists law p s.learnt x d node.0 leaf ∙ ap (λ (a : Cut). a d) (sym (x_kept (s.learnt x) (omega arith))),
+                    ∙ ap (λ (z : ℕ). known lists s z d) (sym e) ∙ known_at lists law p s.learnt x d node.0 leaf
+                    ∙ ap (λ (a : Cut). a d) (sym (x_kept (s.learnt x) (omega arith))),
               )
               | inr n ↦ absurd (omega (arith, above, le, pushed_length_other p c cut (parent lists x) n))
             ]
             | inr below ↦
                 let r = sound.published_parts x i node below in
-                let old : cut_at (q (parent lists x)) i ≡ cut_at (p (parent lists x)) i = kept (parent lists x) i (λ e. omega (arith, below, ap (λ (z : ℕ). length (p z)) e)) in
+                let old : cut_at (q (parent lists x)) i ≡ cut_at (p (parent lists x)) i =
+                kept (parent lists x) i (λ e. omega (arith, below, ap (λ (z : ℕ). length (p z)) e)) in
                 (r.0, r.1, λ d leaf. ap (λ (a : Cut). a d) old ∙ r.2 d leaf ∙ ap (λ (a : Cut). a d) (sym (x_kept r.0 r.1)))
           ];
       passed_rise = sound.passed_rise;
@@ -265,15 +315,20 @@ sound_push lists law s sound c c_inner differs room not_ended =
       window = λ y conc.
           let same_cut : cleared new_s (last s y) ≡ cleared s (last s y) = cleared_kept (last s y) (last_within lists s sound y) in
           let old_cut : Cut = cleared s (last s y) in
-          let new_window : newest lists new_s y - number lists new_s y (cleared new_s (last s y)) ≡ length (q y) - greatest_number lists (q y) y old_cut (length (q y)) =
-          window_of lists new_s y (cleared new_s (last s y)) conc.2 ∙ ap (λ (a : Cut). length (q y) - greatest_number lists (q y) y a (length (q y))) same_cut in
+          let new_window : newest lists new_s y - number lists new_s y (cleared new_s (last s y))
+          ≡ length (q y) - greatest_number lists (q y) y old_cut (length (q y)) =
+          window_of lists new_s y (cleared new_s (last s y)) conc.2
+          ∙ ap (λ (a : Cut). length (q y) - greatest_number lists (q y) y a (length (q y))) same_cut in
           elim (cases_eq y c) [
             | inl e ↦
                 let c_conc : IsConcentrator lists c = subst (IsConcentrator lists) e conc in
-                let at_c : length (q y) - greatest_number lists (q y) y old_cut (length (q y)) ≡ length (q c) - greatest_number lists (q c) c (cleared s (last s c)) (length (q c)) =
+                let at_c : length (q y) - greatest_number lists (q y) y old_cut (length (q y)) ≡ length (q c) - greatest_number lists
+                (q c) c (cleared s (last s c)) (length (q c)) =
                 ap (λ (z : ℕ). length (q z) - greatest_number lists (q z) z (cleared s (last s z)) (length (q z))) e in
-                let more : greatest_number lists (q c) c (cleared s (last s c)) len ≤ greatest_number lists (q c) c (cleared s (last s c)) (suc len) = greatest_more lists (q c) c (cleared s (last s c)) len in
-                let old : greatest_number lists (q c) c (cleared s (last s c)) len ≡ greatest_number lists (p c) c (cleared s (last s c)) len = greatest_kept lists (p c) (q c) c (cleared s (last s c)) len (λ i le. kept c i (λ w. le)) in
+                let more : greatest_number lists (q c) c (cleared s (last s c)) len ≤ greatest_number lists (q c) c
+                (cleared s (last s c)) (suc len) = greatest_more lists (q c) c (cleared s (last s c)) len in
+                let old : greatest_number lists (q c) c (cleared s (last s c)) len ≡ greatest_number lists (p c) c
+                (cleared s (last s c)) len = greatest_kept lists (p c) (q c) c (cleared s (last s c)) len (λ i le. kept c i (λ w. le)) in
                 let suc_len : length (q c) ≡ suc len = omega (arith, same_len) in
                 omega (
                   arith,
@@ -296,7 +351,8 @@ sound_push lists law s sound c c_inner differs room not_ended =
           ];
     }
 
-sound_pass : (lists : Lists) → Lawful lists → (s : State) → Sound lists s → (x j : ℕ) → Legal lists s (Pass x j) → Sound lists (step lists s (Pass x j))
+sound_pass : (lists : Lists) → Lawful lists → (s : State) → Sound lists s → (x j : ℕ) → Legal lists s (Pass x j) →
+    Sound lists (step lists s (Pass x j))
 sound_pass lists law s sound x j legal =
     let q : ℕ → List ℕ = pushed s.passed x j in
     let came = reached_within lists s sound (parent lists x) j legal.1 in
@@ -317,11 +373,27 @@ sound_pass lists law s sound x j legal =
             let b_le : b < length l + 1 = omega (arith, le, ap length w.1, length_push l j) in
             let a_old : get_or (q y) a 0 ≡ get_or l a 0 = ap (λ (k : List ℕ). get_or k a 0) w.1 ∙ get_or_append_left l (j ∷ []) 0 a (omega arith) in
             elim (cases_lt b (length l)) [
-              | inl b_lt ↦ omega (arith, a_old, ap (λ (k : List ℕ). get_or k b 0) w.1 ∙ get_or_append_left l (j ∷ []) 0 b b_lt, sound.passed_rise x a b lt b_lt)
+              | inl b_lt ↦ omega (
+                arith,
+                a_old,
+                ap (λ (k : List ℕ). get_or k b 0) w.1 ∙ get_or_append_left l (j ∷ []) 0 b b_lt,
+                sound.passed_rise x a b lt b_lt,
+              )
               | inr b_ge ↦ let at : length l ≡ b = omega arith in
-                  omega (arith, a_old, ap (λ (k : List ℕ). get_or k b 0) w.1 ∙ get_or_push l j 0 b at, last_most l (sound.passed_rise x) a (omega arith), legal.2)
+                  omega (
+                    arith,
+                    a_old,
+                    ap (λ (k : List ℕ). get_or k b 0) w.1 ∙ get_or_push l j 0 b at,
+                    last_most l (sound.passed_rise x) a (omega arith),
+                    legal.2,
+                  )
             ]
-        | inr w ↦ omega (arith, ap (λ (k : List ℕ). get_or k a 0) w.1, ap (λ (k : List ℕ). get_or k b 0) w.1, sound.passed_rise y a b lt (omega (arith, le, ap length w.1)))
+        | inr w ↦ omega (
+          arith,
+          ap (λ (k : List ℕ). get_or k a 0) w.1,
+          ap (λ (k : List ℕ). get_or k b 0) w.1,
+          sound.passed_rise y a b lt (omega (arith, le, ap length w.1)),
+        )
       ];
       passed_within = λ y k at. elim (pushed_contains_cases s.passed x j y k at) [
         | inl old ↦ sound.passed_within y k old
@@ -338,7 +410,9 @@ sound_pass lists law s sound x j legal =
         ]
         | inr e ↦ elim legal.1 [
           | inl w ↦ inl (ap (parent lists) e.0 ∙ w.0, omega (arith, e.1, w.1), omega (arith, e.1, w.2))
-          | inr w ↦ inr (pushed_contains s.passed x j (parent lists y) k (subst (λ (i : ℕ). Contains (s.passed (parent lists y)) i) (sym e.1) (subst (λ (z : ℕ). Contains (s.passed (parent lists z)) j) (sym e.0) w)))
+          | inr w ↦ inr (pushed_contains s.passed x j (parent lists y) k
+              (subst (λ (i : ℕ). Contains (s.passed (parent lists y)) i) (sym e.1)
+              (subst (λ (z : ℕ). Contains (s.passed (parent lists z)) j) (sym e.0) w)))
         ]
       ];
       window = λ c conc. elim (updated_at s.passed x (s.passed x ++ j ∷ []) c) [
@@ -363,7 +437,8 @@ sound_pass lists law s sound x j legal =
       ];
     }
 
-sound_close : (lists : Lists) → Lawful lists → (s : State) → Sound lists s → (p : ℕ) → Legal lists s (Close p) → Sound lists (step lists s (Close p))
+sound_close : (lists : Lists) → Lawful lists → (s : State) → Sound lists s → (p : ℕ) → Legal lists s (Close p) →
+    Sound lists (step lists s (Close p))
 sound_close lists law s sound p legal = record {
   counts_within = sound.counts_within;
   counts_from = λ d leaf. omega (arith, legal.2 d leaf);
@@ -387,13 +462,17 @@ sound_step lists law s sound (Change d n) legal = sound_change lists law s sound
 sound_step lists law s sound (Learn x n) legal = sound_learn lists law s sound x n legal
 sound_step lists law s sound (Publish c n) legal =
     let e : newest lists s c ≡ length (s.published c) = newest_inner lists s.counts s.published c legal.0.2 in
-    let same : part lists s c (newest lists s c) ≡ cut_at (s.published c) (length (s.published c)) = part_inner lists s.published c (newest lists s c) legal.0.2 ∙ ap (cut_at (s.published c)) e in
-    sound_push lists law s sound c legal.0.2 (subst (λ (a : Cut). is_same_on lists c (known lists s c) a ≡ false) same legal.1) (λ conc. legal.2) (λ e. sound.ended_idle e (Publish c n) legal)
-sound_step lists law s sound (Clear j) legal = sound_push lists law s sound 0 (leaf_zero lists) legal.0 (λ conc. absurd (omega (arith, conc.0))) (λ e. sound.ended_idle e (Clear j) legal)
+    let same : part lists s c (newest lists s c) ≡ cut_at (s.published c) (length (s.published c)) =
+    part_inner lists s.published c (newest lists s c) legal.0.2 ∙ ap (cut_at (s.published c)) e in
+    sound_push lists law s sound c legal.0.2 (subst (λ (a : Cut). is_same_on lists c (known lists s c) a ≡ false) same legal.1)
+    (λ conc. legal.2) (λ e. sound.ended_idle e (Publish c n) legal)
+sound_step lists law s sound (Clear j) legal =
+    sound_push lists law s sound 0 (leaf_zero lists) legal.0 (λ conc. absurd (omega (arith, conc.0))) (λ e. sound.ended_idle e (Clear j) legal)
 sound_step lists law s sound (Pass x j) legal = sound_pass lists law s sound x j legal
 sound_step lists law s sound (Close p) legal = sound_close lists law s sound p legal
 
-pub sound_after_from : (lists : Lists) → Lawful lists → (journal : List Move) (s : State) → Sound lists s → LegalFrom lists s journal → Sound lists (after_from lists s journal)
+pub sound_after_from : (lists : Lists) → Lawful lists → (journal : List Move) (s : State) → Sound lists s →
+    LegalFrom lists s journal → Sound lists (after_from lists s journal)
 sound_after_from lists law [] s sound legal = sound
 sound_after_from lists law (m ∷ ms) s sound legal = sound_after_from lists law ms (step lists s m) (sound_step lists law s sound m legal.0) legal.1
 

@@ -17,21 +17,25 @@ pub is_same_alike : (lists : Lists) → Lawful lists → (x : ℕ) (a a' b : Cut
 is_same_alike lists law x a a' b alike =
     elim (cases_Bool (is_same_on lists x a b)) [
       | inl e ↦ let h = same_from lists law x a b e in e ∙ sym (is_same_from lists x a' b (λ d leaf. sym (alike d leaf) ∙ h d leaf))
-      | inr e ↦ e ∙ sym (not_same_from lists law x a' b (λ h. both_ways (is_same_on lists x a b) e (is_same_from lists x a b (λ d leaf. alike d leaf ∙ h d leaf))))
+      | inr e ↦ e ∙ sym (not_same_from lists law x a' b
+          (λ h. both_ways (is_same_on lists x a b) e (is_same_from lists x a b (λ d leaf. alike d leaf ∙ h d leaf))))
     ]
 
 -- what y knows after x was learnt, where x is no child of y
-pub known_elsewhere : (lists : Lists) → Lawful lists → (s : State) (x n y : ℕ) → IsInner lists y → (parent lists x ≡ y → ⊥) → SameOn lists y (known lists s y) (known lists (step lists s (Learn x n)) y)
+pub known_elsewhere : (lists : Lists) → Lawful lists → (s : State) (x n y : ℕ) → IsInner lists y → (parent lists x ≡ y → ⊥) →
+    SameOn lists y (known lists s y) (known lists (step lists s (Learn x n)) y)
 known_elsewhere lists law s x n y inner ne d leaf =
     let w = child_of lists law y d inner leaf in
     let other : w.0 ≡ x → ⊥ = λ e. ne (sym (ap (parent lists) e) ∙ w.2) in
     ap (λ (z : ℕ). known lists s z d) (sym w.2) ∙ known_at lists law s.published s.learnt w.0 d w.1.0 w.3
     ∙ ap (λ (k : ℕ). part lists s w.0 k d) (sym (updated_other s.learnt x n w.0 other))
-    ∙ sym (ap (λ (z : ℕ). known_of lists s.published (updated s.learnt x n) z d) (sym w.2) ∙ known_at lists law s.published (updated s.learnt x n) w.0 d w.1.0 w.3)
+    ∙ sym (ap (λ (z : ℕ). known_of lists s.published (updated s.learnt x n) z d) (sym w.2)
+    ∙ known_at lists law s.published (updated s.learnt x n) w.0 d w.1.0 w.3)
 
 -- what a node knows after it learnt something is not what it published or cleared last
 pub learnt_differs : (lists : Lists) → Lawful lists → (s : State) → Sound lists s → (x n : ℕ) → Legal lists s (Learn x n) →
-    is_same_on lists (parent lists x) (known lists (step lists s (Learn x n)) (parent lists x)) (cut_at (s.published (parent lists x)) (length (s.published (parent lists x)))) ≡ false
+    is_same_on lists (parent lists x) (known lists (step lists s (Learn x n)) (parent lists x))
+    (cut_at (s.published (parent lists x)) (length (s.published (parent lists x)))) ≡ false
 learnt_differs lists law s sound x n legal =
     let y : ℕ = parent lists x in
     let s' : State = step lists s (Learn x n) in

@@ -1,11 +1,14 @@
 -- The test of legality agrees with the definition.
-use Rattle.std.proofs.Common.{◌++◌, ◌↔◌, ◌≡◌, ℕ, suc, ◌+◌, Bool, true, false, cond, not, eqb, ltb, leb, ◌&&◌, inl, inr, List, [], ◌∷◌, length, refl, sym, ◌∙◌, arith}
-use Rattle.std.proofs.lemmas.Bool.{cases_Bool, eqb-true, eq-eqb, ltb-true, leb-true, lt-ltb, le-leb, and_parts, and_from, not-false, and_cases, not_from_false, both_ways, cond-true, cond-false, false_from_ne_true}
+use Rattle.std.proofs.Common.{◌++◌, ◌↔◌, ◌≡◌, ℕ, suc, ◌+◌, Bool, true, false, cond, not, eqb, ltb, leb, ◌&&◌, inl, inr, List, []}
+use Rattle.std.proofs.Common.{◌∷◌, length, refl, sym, ◌∙◌, arith}
+use Rattle.std.proofs.lemmas.Bool.{cases_Bool, eqb-true, eq-eqb, ltb-true, leb-true, lt-ltb, le-leb, and_parts, and_from, not-false, and_cases, not_from_false}
+use Rattle.std.proofs.lemmas.Bool.{both_ways, cond-true, cond-false, false_from_ne_true}
 use Rattle.pm_market.specs.Lists.{Lists, nodes, phases, parent, is_leaf, Lawful, end_count}
 use Rattle.pm_market.specs.State.{start, State, all_to, newest, clearings}
 use Rattle.pm_market.specs.Moves.{after_from, after, LegalJournal, NodeLegal, Idle, Legal, step, LegalFrom}
 use Rattle.pm_market.specs.Sound.{Sound}
-use Rattle.pm_market.specs.Legality.{learn_is_legal, publish_is_legal, clear_is_legal, pass_is_legal, is_idle_at, is_idle, change_is_legal, are_made, close_is_legal, is_legal, are_legal, first_illegal}
+use Rattle.pm_market.specs.Legality.{learn_is_legal, publish_is_legal, clear_is_legal, pass_is_legal, is_idle_at, is_idle, change_is_legal, are_made}
+use Rattle.pm_market.specs.Legality.{close_is_legal, is_legal, are_legal, first_illegal}
 use Rattle.pm_market.specs.declared.moves.Move.{Move}
 use Rattle.pm_market.specs.declared.moves.Move.TheVariants.{Change, Learn, Publish, Clear, Pass, Close}
 use Rattle.pm_market.proofs.Tree.{leaf_node}
@@ -60,13 +63,15 @@ legal_from lists law s sound (Close p) h =
     let c = and_parts (eqb p (s.closed + 1)) (leb p (phases lists)) b.0 in (
       eqb-true p (s.closed + 1) c.0,
       leb-true p (phases lists) c.1,
-      λ d leaf. let node = leaf_node lists law d leaf in eqb-true (s.counts d) (end_count lists p d) (sym (cond-true (is_leaf lists d) (eqb (s.counts d) (end_count lists p d)) true leaf) ∙ all_to_at (nodes lists) same b.1 d node.0 node.1),
+      λ d leaf. let node = leaf_node lists law d leaf in eqb-true (s.counts d) (end_count lists p d)
+          (sym (cond-true (is_leaf lists d) (eqb (s.counts d) (end_count lists p d)) true leaf) ∙ all_to_at (nodes lists) same b.1 d node.0 node.1),
       idle_from lists s sound a.1,
     )
 
 pub legal_to : (lists : Lists) → (s : State) → (m : Move) → Legal lists s m → is_legal lists s m ≡ true
 unfolding is_legal change_is_legal close_is_legal are_made
-legal_to lists s (Change d n) h = and_from _ _ (and_from _ _ (and_from _ _ h.0 (lt-ltb s.closed (phases lists) h.1)) (eq-eqb n (s.counts d + 1) h.2)) (le-leb n (end_count lists (s.closed + 1) d) h.3)
+legal_to lists s (Change d n) h = and_from _ _
+    (and_from _ _ (and_from _ _ h.0 (lt-ltb s.closed (phases lists) h.1)) (eq-eqb n (s.counts d + 1) h.2)) (le-leb n (end_count lists (s.closed + 1) d) h.3)
 legal_to lists s (Learn x n) h = learn_at lists s x n h
 legal_to lists s (Publish c n) h = publish_at lists s c n h
 legal_to lists s (Clear j) h = clear_at lists s j h
@@ -78,14 +83,16 @@ legal_to lists s (Close p) h =
       | inr e ↦ cond-false (is_leaf lists d) (eqb (s.counts d) (end_count lists p d)) true e
     ]))) (idle_to lists s h.3)
 
-pub journal_from : (lists : Lists) → Lawful lists → (ms : List Move) (s : State) → Sound lists s → first_illegal lists s ms ≡ length ms → LegalFrom lists s ms
+pub journal_from : (lists : Lists) → Lawful lists → (ms : List Move) (s : State) → Sound lists s →
+    first_illegal lists s ms ≡ length ms → LegalFrom lists s ms
 unfolding first_illegal
 journal_from lists law [] s sound h = tt
 journal_from lists law (m ∷ ms) s sound h =
     elim (cases_Bool (is_legal lists s m)) [
       | inl e ↦
           let legal = legal_from lists law s sound m e in
-          let rest : first_illegal lists (step lists s m) ms ≡ length ms = omega (arith, h, cond-true (is_legal lists s m) (suc (first_illegal lists (step lists s m) ms)) 0 e) in
+          let rest : first_illegal lists (step lists s m) ms ≡ length ms =
+          omega (arith, h, cond-true (is_legal lists s m) (suc (first_illegal lists (step lists s m) ms)) 0 e) in
           (legal, journal_from lists law ms (step lists s m) (sound_step lists law s sound m legal) rest)
       | inr e ↦ absurd (omega (arith, h, cond-false (is_legal lists s m) (suc (first_illegal lists (step lists s m) ms)) 0 e))
     ]
@@ -95,10 +102,14 @@ journal_from lists law (m ∷ ms) s sound h =
 node_move_at : (lists : Lists) (s : State) (x : ℕ) → is_idle_at lists s x ≡ false → (m : Move) × NodeLegal lists s m
 unfolding is_idle_at
 node_move_at lists s x h =
-    elim (and_cases (not (learn_is_legal lists s x (newest lists s x)) && not (publish_is_legal lists s x (newest lists s x + 1))) (all_to (clearings s) (λ j. not (pass_is_legal lists s x j))) h) [
+    elim (and_cases (not (learn_is_legal lists s x (newest lists s x)) && not (publish_is_legal lists s x (newest lists s x + 1)))
+    (all_to (clearings s) (λ j. not (pass_is_legal lists s x j))) h) [
       | inl a ↦ elim (and_cases (not (learn_is_legal lists s x (newest lists s x))) (not (publish_is_legal lists s x (newest lists s x + 1))) a) [
         | inl e ↦ (Learn x (newest lists s x), learn_from lists s x (newest lists s x) (not-false (learn_is_legal lists s x (newest lists s x)) e))
-        | inr e ↦ (Publish x (newest lists s x + 1), publish_from lists s x (newest lists s x + 1) (not-false (publish_is_legal lists s x (newest lists s x + 1)) e))
+        | inr e ↦ (
+          Publish x (newest lists s x + 1),
+          publish_from lists s x (newest lists s x + 1) (not-false (publish_is_legal lists s x (newest lists s x + 1)) e),
+        )
       ]
       | inr a ↦ let r = all_to_fails (clearings s) (λ j. not (pass_is_legal lists s x j)) a in
           (Pass x r.0, pass_from lists s x r.0 (not-false (pass_is_legal lists s x r.0) r.3))
@@ -136,21 +147,29 @@ are_legal_to lists (m ∷ ms) s h = and_from _ _ (legal_to lists s m h.0) (are_l
 pub journal_tested : (lists : Lists) (journal : List Move) → Lawful lists → (are_legal lists start journal ≡ true) ↔ LegalJournal lists journal
 journal_tested lists journal law = (are_legal_from lists law journal start (sound_start lists law), are_legal_to lists journal start)
 
-are_legal_push_from : (lists : Lists) (ms : List Move) (s : State) (m : Move) → are_legal lists s ms ≡ true → is_legal lists (after_from lists s ms) m ≡ true → are_legal lists s (ms ++ m ∷ []) ≡ true
+are_legal_push_from : (lists : Lists) (ms : List Move) (s : State) (m : Move) → are_legal lists s ms ≡ true →
+    is_legal lists (after_from lists s ms) m ≡ true → are_legal lists s (ms ++ m ∷ []) ≡ true
 unfolding are_legal
 are_legal_push_from lists [] s m h e = and_from _ _ e refl
-are_legal_push_from lists (k ∷ ms) s m h e = let p = and_parts (is_legal lists s k) (are_legal lists (step lists s k) ms) h in and_from _ _ p.0 (are_legal_push_from lists ms (step lists s k) m p.1 e)
+are_legal_push_from lists (k ∷ ms) s m h e = let p =
+    and_parts (is_legal lists s k) (are_legal lists (step lists s k) ms) h in and_from _ _ p.0 (are_legal_push_from lists ms (step lists s k) m p.1 e)
 
 -- a legal move joins a legal journal
-pub are_legal_push : (lists : Lists) (journal : List Move) (m : Move) → are_legal lists start journal ≡ true → Legal lists (after lists journal) m → are_legal lists start (journal ++ m ∷ []) ≡ true
+pub are_legal_push : (lists : Lists) (journal : List Move) (m : Move) → are_legal lists start journal ≡ true →
+    Legal lists (after lists journal) m → are_legal lists start (journal ++ m ∷ []) ≡ true
 are_legal_push lists journal m h legal = are_legal_push_from lists journal start m h (legal_to lists (after lists journal) m legal)
 
 first_illegal_to : (lists : Lists) (ms : List Move) (s : State) → LegalFrom lists s ms → first_illegal lists s ms ≡ length ms
 unfolding first_illegal
 first_illegal_to lists [] s h = refl
 first_illegal_to lists (m ∷ ms) s h =
-    omega (arith, cond-true (is_legal lists s m) (suc (first_illegal lists (step lists s m) ms)) 0 (legal_to lists s m h.0), first_illegal_to lists ms (step lists s m) h.1)
+    omega (
+      arith,
+      cond-true (is_legal lists s m) (suc (first_illegal lists (step lists s m) ms)) 0 (legal_to lists s m h.0),
+      first_illegal_to lists ms (step lists s m) h.1,
+    )
 
 -- a journal is legal where the first place of an illegal move is past its end
-pub first_tested : (lists : Lists) (journal : List Move) → Lawful lists → (first_illegal lists start journal ≡ length journal) ↔ LegalJournal lists journal
+pub first_tested : (lists : Lists) (journal : List Move) → Lawful lists → (first_illegal lists start journal ≡ length journal)
+    ↔ LegalJournal lists journal
 first_tested lists journal law = (journal_from lists law journal start (sound_start lists law), first_illegal_to lists journal start)

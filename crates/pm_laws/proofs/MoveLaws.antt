@@ -1,5 +1,6 @@
 -- What each move leaves and makes, in the order of the clauses.
-use Rattle.std.proofs.Common.{◌≡◌, ◌∙◌, sym, ap, subst, ℕ, ◌+◌, ◌≤◌, ◌≢◌, ◌⊎◌, inl, inr, ◌↔◌, true, ◌++◌, ◌∷◌, [], length, refl, arith}
+use Rattle.std.proofs.Common.{◌≡◌, ◌∙◌, sym, ap, subst, ℕ, ◌+◌, ◌≤◌, ◌≢◌, ◌⊎◌, inl, inr, ◌↔◌, true, ◌++◌}
+use Rattle.std.proofs.Common.{◌∷◌, [], length, refl, arith}
 use Rattle.std.specs.List.{Contains}
 use Rattle.std.proofs.lemmas.Bool.{cases_lt, and_parts, and_from}
 use Rattle.pm_base.specs.Cuts.{Cut}
@@ -36,10 +37,12 @@ has_added lists law s sound y inner after = record {
   number_cleared = published.number_cleared lists law s sound y inner after;
 }
 
-pub publishing : (lists : Lists) (s : State) (c n : ℕ) → Lawful lists → Sound lists s → Legal lists s (Publish c n) → HasAdded lists s (step lists s (Publish c n)) c
+pub publishing : (lists : Lists) (s : State) (c n : ℕ) → Lawful lists → Sound lists s → Legal lists s (Publish c n) →
+    HasAdded lists s (step lists s (Publish c n)) c
 publishing lists s c n law sound legal = has_added lists law s sound c legal.0.2 (sound_step lists law s sound (Publish c n) legal)
 
-pub clearing : (lists : Lists) (s : State) (j : ℕ) → Lawful lists → Sound lists s → Legal lists s (Clear j) → HasAdded lists s (step lists s (Clear j)) 0
+pub clearing : (lists : Lists) (s : State) (j : ℕ) → Lawful lists → Sound lists s → Legal lists s (Clear j) →
+    HasAdded lists s (step lists s (Clear j)) 0
 clearing lists s j law sound legal = has_added lists law s sound 0 (leaf_zero lists) (sound_step lists law s sound (Clear j) legal)
 
 -- learning
@@ -60,7 +63,8 @@ pub learning_elsewhere : (lists : Lists) (s : State) (x n y : ℕ) → Lawful li
 learning_elsewhere lists s x n y law inner other = known_elsewhere lists law s x n y inner other
 
 pub learning_differs : (lists : Lists) (s : State) (x n : ℕ) → Lawful lists → Sound lists s → Legal lists s (Learn x n) →
-    DifferOn lists (parent lists x) (known lists (step lists s (Learn x n)) (parent lists x)) (cut_at (s.published (parent lists x)) (length (s.published (parent lists x))))
+    DifferOn lists (parent lists x) (known lists (step lists s (Learn x n)) (parent lists x))
+    (cut_at (s.published (parent lists x)) (length (s.published (parent lists x))))
 learning_differs lists s x n law sound legal = learnt_differs lists law s sound x n legal
 
 -- which clearings are due
@@ -77,11 +81,13 @@ due_from lists s x j reached addressed = and_from _ _ (reached_at s (parent list
 pub due_within : (lists : Lists) (s : State) (x j : ℕ) → Sound lists s → is_due lists s x j ≡ true → (1 ≤ j) × (j ≤ clearings s)
 due_within lists s x j sound due = published.due_within lists s sound x j due
 
-pub due_published : (lists : Lists) (s : State) (c n x j : ℕ) → IsConcentrator lists c → is_due lists (step lists s (Publish c n)) x j ≡ is_due lists s x j
+pub due_published : (lists : Lists) (s : State) (c n x j : ℕ) → IsConcentrator lists c → is_due lists (step lists s (Publish c n)) x j
+    ≡ is_due lists s x j
 due_published lists s c n x j concentrator = published.due_kept lists s c concentrator.0 x j
 
 module _ (lists : Lists) (s : State) (y i x j : ℕ) where
-  passed_from : is_due lists (step lists s (Pass y i)) x j ≡ true → (is_due lists s x j ≡ true) ⊎ ((parent lists x ≡ y) × (j ≡ i) × (addresses lists s j x ≡ true))
+  passed_from : is_due lists (step lists s (Pass y i)) x j ≡ true → (is_due lists s x j ≡ true)
+      ⊎ ((parent lists x ≡ y) × (j ≡ i) × (addresses lists s j x ≡ true))
   passed_from due =
       let parts = due_parts lists (step lists s (Pass y i)) x j due in
       elim parts.0 [
@@ -92,7 +98,8 @@ module _ (lists : Lists) (s : State) (y i x j : ℕ) where
         ]
       ]
 
-  passed_to : (is_due lists s x j ≡ true) ⊎ ((parent lists x ≡ y) × (j ≡ i) × (addresses lists s j x ≡ true)) → is_due lists (step lists s (Pass y i)) x j ≡ true
+  passed_to : (is_due lists s x j ≡ true) ⊎ ((parent lists x ≡ y) × (j ≡ i) × (addresses lists s j x ≡ true)) →
+      is_due lists (step lists s (Pass y i)) x j ≡ true
   passed_to (inl due) =
       let parts = due_parts lists s x j due in
       due_from lists (step lists s (Pass y i)) x j (elim parts.0 [
@@ -105,7 +112,8 @@ module _ (lists : Lists) (s : State) (y i x j : ℕ) where
       due_from lists (step lists s (Pass y i)) x j (inr (subst (λ (z : ℕ). Contains ((step lists s (Pass y i)).passed z) j) (sym new.0) at)) new.2
 
 pub due_passed : (lists : Lists) (s : State) (y i x j : ℕ) →
-    (is_due lists (step lists s (Pass y i)) x j ≡ true) ↔ ((is_due lists s x j ≡ true) ⊎ ((parent lists x ≡ y) × (j ≡ i) × (addresses lists s j x ≡ true)))
+    (is_due lists (step lists s (Pass y i)) x j ≡ true)
+    ↔ ((is_due lists s x j ≡ true) ⊎ ((parent lists x ≡ y) × (j ≡ i) × (addresses lists s j x ≡ true)))
 due_passed lists s y i x j = (passed_from lists s y i x j, passed_to lists s y i x j)
 
 module _ (lists : Lists) (law : Lawful lists) (s : State) (sound : Sound lists s) (k : ℕ) (legal : Legal lists s (Clear k)) (x j : ℕ) where
@@ -125,7 +133,8 @@ module _ (lists : Lists) (law : Lawful lists) (s : State) (sound : Sound lists s
   newly : j ≡ clearings s + 1 → addresses lists next j x ≡ addresses_of lists (known lists s 0) x
   newly here = ap (λ (i : ℕ). addresses lists next i x) here ∙ ap (λ (cut : Cut). addresses_of lists cut x) has.added
 
-  cleared_from : is_due lists next x j ≡ true → (is_due lists s x j ≡ true) ⊎ ((parent lists x ≡ 0) × (j ≡ clearings s + 1) × (addresses_of lists (known lists s 0) x ≡ true))
+  cleared_from : is_due lists next x j ≡ true → (is_due lists s x j ≡ true)
+      ⊎ ((parent lists x ≡ 0) × (j ≡ clearings s + 1) × (addresses_of lists (known lists s 0) x ≡ true))
   cleared_from due =
       let parts = due_parts lists next x j due in
       elim parts.0 [
@@ -136,7 +145,8 @@ module _ (lists : Lists) (law : Lawful lists) (s : State) (sound : Sound lists s
         | inr among ↦ inl (due_from lists s x j (inr among) (sym (same (reached_within lists s sound (parent lists x) j (inr among)).1) ∙ parts.1))
       ]
 
-  cleared_to : (is_due lists s x j ≡ true) ⊎ ((parent lists x ≡ 0) × (j ≡ clearings s + 1) × (addresses_of lists (known lists s 0) x ≡ true)) → is_due lists next x j ≡ true
+  cleared_to : (is_due lists s x j ≡ true) ⊎ ((parent lists x ≡ 0) × (j ≡ clearings s + 1)
+      × (addresses_of lists (known lists s 0) x ≡ true)) → is_due lists next x j ≡ true
   cleared_to (inl due) =
       let parts = due_parts lists s x j due in
       let within = (reached_within lists s sound (parent lists x) j parts.0).1 in
@@ -147,5 +157,6 @@ module _ (lists : Lists) (law : Lawful lists) (s : State) (sound : Sound lists s
   cleared_to (inr new) = due_from lists next x j (inl (new.0, omega (arith, new.1), omega (arith, new.1, more))) (newly new.1 ∙ new.2)
 
 pub due_cleared : (lists : Lists) (s : State) (k x j : ℕ) → Lawful lists → Sound lists s → Legal lists s (Clear k) →
-    (is_due lists (step lists s (Clear k)) x j ≡ true) ↔ ((is_due lists s x j ≡ true) ⊎ ((parent lists x ≡ 0) × (j ≡ clearings s + 1) × (addresses_of lists (known lists s 0) x ≡ true)))
+    (is_due lists (step lists s (Clear k)) x j ≡ true)
+    ↔ ((is_due lists s x j ≡ true) ⊎ ((parent lists x ≡ 0) × (j ≡ clearings s + 1) × (addresses_of lists (known lists s 0) x ≡ true)))
 due_cleared lists s k x j law sound legal = (cleared_from lists law s sound k legal x j, cleared_to lists law s sound k legal x j)

@@ -9,7 +9,8 @@ use Rattle.pm_market.proofs.Tree.{leaf_node, leaf_of_itself, leaf_of_leaf, leaf_
 pub int_sum_same : (n : ℕ) (f g : ℕ → ℤ) → ((x : ℕ) → 1 ≤ x → x ≤ n → f x ≡ g x) → int_sum_to n f ≡ int_sum_to n g
 unfolding int_sum_to
 int_sum_same zero f g h = refl
-int_sum_same (suc n) f g h = ap (λ (z : ℤ). z +ℤ int_sum_to n f) (h (suc n) (omega arith) (omega arith)) ∙ ap (λ (z : ℤ). g (suc n) +ℤ z) (int_sum_same n f g (λ x one le. h x one (omega arith)))
+int_sum_same (suc n) f g h = ap (λ (z : ℤ). z +ℤ int_sum_to n f) (h (suc n) (omega arith) (omega arith))
+    ∙ ap (λ (z : ℤ). g (suc n) +ℤ z) (int_sum_same n f g (λ x one le. h x one (omega arith)))
 
 pub int_sum_none : (n : ℕ) → int_sum_to n (λ x. pos 0) ≡ pos 0
 unfolding int_sum_to
@@ -24,20 +25,24 @@ int_sum_add (suc n) f g = omega (arith, ints, int_sum_add n f g)
 pub int_sum_swap : (m n : ℕ) (f : ℕ → ℕ → ℤ) → int_sum_to m (λ x. int_sum_to n (λ d. f x d)) ≡ int_sum_to n (λ d. int_sum_to m (λ x. f x d))
 unfolding int_sum_to
 int_sum_swap zero n f = sym (int_sum_none n)
-int_sum_swap (suc m) n f = ap (λ (z : ℤ). int_sum_to n (λ d. f (suc m) d) +ℤ z) (int_sum_swap m n f) ∙ sym (int_sum_add n (λ d. f (suc m) d) (λ d. int_sum_to m (λ x. f x d)))
+int_sum_swap (suc m) n f = ap (λ (z : ℤ). int_sum_to n (λ d. f (suc m) d) +ℤ z) (int_sum_swap m n f)
+    ∙ sym (int_sum_add n (λ d. f (suc m) d) (λ d. int_sum_to m (λ x. f x d)))
 
 -- one term alone
-pub int_sum_only : (n : ℕ) (f : ℕ → ℤ) (k : ℕ) → 1 ≤ k → k ≤ n → ((x : ℕ) → (x ≡ k → ⊥) → 1 ≤ x → x ≤ n → f x ≡ pos 0) → int_sum_to n f ≡ f k
+pub int_sum_only : (n : ℕ) (f : ℕ → ℤ) (k : ℕ) → 1 ≤ k → k ≤ n →
+    ((x : ℕ) → (x ≡ k → ⊥) → 1 ≤ x → x ≤ n → f x ≡ pos 0) → int_sum_to n f ≡ f k
 unfolding int_sum_to
 int_sum_only zero f k one le h = absurd (omega arith)
 int_sum_only (suc n) f k one le h =
     elim (cases_eq k (suc n)) [
       | inl e ↦
-          let rest : int_sum_to n f ≡ pos 0 = int_sum_same n f (λ x. pos 0) (λ x x_one x_le. h x (λ same. omega arith) x_one (omega arith)) ∙ int_sum_none n in
+          let rest : int_sum_to n f ≡ pos 0 =
+          int_sum_same n f (λ x. pos 0) (λ x x_one x_le. h x (λ same. omega arith) x_one (omega arith)) ∙ int_sum_none n in
           ap (λ (z : ℤ). f (suc n) +ℤ z) rest ∙ ints_right (f (suc n)) ∙ ap f (sym e)
       | inr ne ↦
           let here : f (suc n) ≡ pos 0 = h (suc n) (λ same. ne (sym same)) (omega arith) (omega arith) in
-          ap (λ (z : ℤ). z +ℤ int_sum_to n f) here ∙ ints_left (int_sum_to n f) ∙ int_sum_only n f k one (omega arith) (λ x x_ne x_one x_le. h x x_ne x_one (omega arith))
+          ap (λ (z : ℤ). z +ℤ int_sum_to n f) here ∙ ints_left (int_sum_to n f)
+          ∙ int_sum_only n f k one (omega arith) (λ x x_ne x_one x_le. h x x_ne x_one (omega arith))
     ]
   where
     ints_right : (a : ℤ) → a +ℤ pos 0 ≡ a
@@ -85,24 +90,31 @@ at_one_child lists law y d v inner =
     ]
 
 -- the sum over the leaves of an inner node is the sum of its children's
-pub sum_on_inner : (lists : Lists) → Lawful lists → (y : ℕ) (f : ℕ → ℤ) → IsInner lists y → sum_on lists y f ≡ sum_children lists y (λ x. sum_on lists x f)
+pub sum_on_inner : (lists : Lists) → Lawful lists → (y : ℕ) (f : ℕ → ℤ) → IsInner lists y →
+    sum_on lists y f ≡ sum_children lists y (λ x. sum_on lists x f)
 unfolding sum_on sum_children
 sum_on_inner lists law y f inner =
     let n : ℕ = nodes lists in
-    sym (int_sum_same n (λ x. cond (eqb (parent lists x) y) (int_sum_to n (λ d. cond (is_leaf_of lists x d) (f d) (pos 0))) (pos 0)) (λ x. int_sum_to n (λ d. cond (eqb (parent lists x) y) (cond (is_leaf_of lists x d) (f d) (pos 0)) (pos 0))) (λ x one le.
+    sym (int_sum_same n (λ x. cond (eqb (parent lists x) y) (int_sum_to n (λ d. cond (is_leaf_of lists x d) (f d) (pos 0))) (pos 0))
+    (λ x. int_sum_to n (λ d. cond (eqb (parent lists x) y) (cond (is_leaf_of lists x d) (f d) (pos 0)) (pos 0))) (λ x one le.
     elim (cases_Bool (eqb (parent lists x) y)) [
       | inl e ↦ cond-true (eqb (parent lists x) y) (int_sum_to n (λ d. cond (is_leaf_of lists x d) (f d) (pos 0))) (pos 0) e
-          ∙ int_sum_same n (λ d. cond (is_leaf_of lists x d) (f d) (pos 0)) (λ d. cond (eqb (parent lists x) y) (cond (is_leaf_of lists x d) (f d) (pos 0)) (pos 0)) (λ d d_one d_le. sym (cond-true (eqb (parent lists x) y) (cond (is_leaf_of lists x d) (f d) (pos 0)) (pos 0) e))
+          ∙ int_sum_same n (λ d. cond (is_leaf_of lists x d) (f d) (pos 0))
+          (λ d. cond (eqb (parent lists x) y) (cond (is_leaf_of lists x d) (f d) (pos 0)) (pos 0))
+          (λ d d_one d_le. sym (cond-true (eqb (parent lists x) y) (cond (is_leaf_of lists x d) (f d) (pos 0)) (pos 0) e))
       | inr e ↦ cond-false (eqb (parent lists x) y) (int_sum_to n (λ d. cond (is_leaf_of lists x d) (f d) (pos 0))) (pos 0) e
-          ∙ sym (int_sum_same n (λ d. cond (eqb (parent lists x) y) (cond (is_leaf_of lists x d) (f d) (pos 0)) (pos 0)) (λ d. pos 0) (λ d d_one d_le. cond-false (eqb (parent lists x) y) (cond (is_leaf_of lists x d) (f d) (pos 0)) (pos 0) e) ∙ int_sum_none n)
+          ∙ sym (int_sum_same n (λ d. cond (eqb (parent lists x) y) (cond (is_leaf_of lists x d) (f d) (pos 0)) (pos 0)) (λ d. pos 0)
+          (λ d d_one d_le. cond-false (eqb (parent lists x) y) (cond (is_leaf_of lists x d) (f d) (pos 0)) (pos 0) e) ∙ int_sum_none n)
     ])
     ∙ int_sum_swap n n (λ x d. cond (eqb (parent lists x) y) (cond (is_leaf_of lists x d) (f d) (pos 0)) (pos 0))
-    ∙ int_sum_same n (λ d. int_sum_to n (λ x. cond (eqb (parent lists x) y) (cond (is_leaf_of lists x d) (f d) (pos 0)) (pos 0))) (λ d. cond (is_leaf_of lists y d) (f d) (pos 0)) (λ d one le. at_one_child lists law y d (f d) inner))
+    ∙ int_sum_same n (λ d. int_sum_to n (λ x. cond (eqb (parent lists x) y) (cond (is_leaf_of lists x d) (f d) (pos 0)) (pos 0)))
+    (λ d. cond (is_leaf_of lists y d) (f d) (pos 0)) (λ d one le. at_one_child lists law y d (f d) inner))
 
 -- it depends on the leaves alone
 pub sum_on_same : (lists : Lists) (x : ℕ) (f g : ℕ → ℤ) → ((d : ℕ) → IsLeafOf lists x d → f d ≡ g d) → sum_on lists x f ≡ sum_on lists x g
 unfolding sum_on
-sum_on_same lists x f g h = int_sum_same (nodes lists) (λ d. cond (is_leaf_of lists x d) (f d) (pos 0)) (λ d. cond (is_leaf_of lists x d) (g d) (pos 0)) (λ d one le.
+sum_on_same lists x f g h =
+    int_sum_same (nodes lists) (λ d. cond (is_leaf_of lists x d) (f d) (pos 0)) (λ d. cond (is_leaf_of lists x d) (g d) (pos 0)) (λ d one le.
     elim (cases_Bool (is_leaf_of lists x d)) [
       | inl e ↦ cond-true (is_leaf_of lists x d) (f d) (pos 0) e ∙ h d e ∙ sym (cond-true (is_leaf_of lists x d) (g d) (pos 0) e)
       | inr e ↦ cond-false (is_leaf_of lists x d) (f d) (pos 0) e ∙ sym (cond-false (is_leaf_of lists x d) (g d) (pos 0) e)

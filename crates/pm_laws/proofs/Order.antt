@@ -12,15 +12,18 @@ use Rattle.pm_market.proofs.Cuts.{pushed_same, pushed_length_le, pushed_cut_at_k
 use Rattle.pm_laws.proofs.Facts.{pushed_contains, contains_last, last_most, cleared_within}
 use Rattle.pm_laws.proofs.Kept.{sound_start, sound_step, sound_after_from}
 
-pub after_append : (lists : Lists) (front rest : List Move) (s : State) → after_from lists s (front ++ rest) ≡ after_from lists (after_from lists s front) rest
+pub after_append : (lists : Lists) (front rest : List Move) (s : State) →
+    after_from lists s (front ++ rest) ≡ after_from lists (after_from lists s front) rest
 after_append lists [] rest s = refl
 after_append lists (m ∷ ms) rest s = after_append lists ms rest (step lists s m)
 
-pub legal_parts : (lists : Lists) (front rest : List Move) (s : State) → LegalFrom lists s (front ++ rest) → LegalFrom lists s front × LegalFrom lists (after_from lists s front) rest
+pub legal_parts : (lists : Lists) (front rest : List Move) (s : State) → LegalFrom lists s (front ++ rest) → LegalFrom lists s front
+    × LegalFrom lists (after_from lists s front) rest
 legal_parts lists [] rest s legal = (tt, legal)
 legal_parts lists (m ∷ ms) rest s legal = let r = legal_parts lists ms rest (step lists s m) legal.1 in ((legal.0, r.0), r.1)
 
-pub legal_append : (lists : Lists) (front rest : List Move) (s : State) → LegalFrom lists s front → LegalFrom lists (after_from lists s front) rest → LegalFrom lists s (front ++ rest)
+pub legal_append : (lists : Lists) (front rest : List Move) (s : State) → LegalFrom lists s front →
+    LegalFrom lists (after_from lists s front) rest → LegalFrom lists s (front ++ rest)
 legal_append lists [] rest s legal more = more
 legal_append lists (m ∷ ms) rest s legal more = (legal.0, legal_append lists ms rest (step lists s m) legal.1 more)
 
@@ -38,7 +41,8 @@ passed_stays lists [] s x j h = h
 passed_stays lists (m ∷ ms) s x j h = passed_stays lists ms (step lists s m) x j (passed_step lists s m x j h)
 
 -- a clearing keeps its cut
-cleared_step : (lists : Lists) (s : State) (m : Move) (j : ℕ) → j ≤ clearings s → (j ≤ clearings (step lists s m)) × (cleared (step lists s m) j ≡ cleared s j)
+cleared_step : (lists : Lists) (s : State) (m : Move) (j : ℕ) → j ≤ clearings s → (j ≤ clearings (step lists s m))
+    × (cleared (step lists s m) j ≡ cleared s j)
 cleared_step lists s (Change d n) j h = (h, refl)
 cleared_step lists s (Learn c n) j h = (h, refl)
 cleared_step lists s (Publish c n) j h = (
@@ -52,7 +56,8 @@ cleared_step lists s (Clear k) j h = (
 cleared_step lists s (Pass y k) j h = (h, refl)
 cleared_step lists s (Close p) j h = (h, refl)
 
-pub cleared_stays : (lists : Lists) (journal : List Move) (s : State) (j : ℕ) → j ≤ clearings s → (j ≤ clearings (after_from lists s journal)) × (cleared (after_from lists s journal) j ≡ cleared s j)
+pub cleared_stays : (lists : Lists) (journal : List Move) (s : State) (j : ℕ) → j ≤ clearings s →
+    (j ≤ clearings (after_from lists s journal)) × (cleared (after_from lists s journal) j ≡ cleared s j)
 cleared_stays lists [] s j h = (h, refl)
 cleared_stays lists (m ∷ ms) s j h =
     let one = cleared_step lists s m j h in
@@ -60,10 +65,12 @@ cleared_stays lists (m ∷ ms) s j h =
     (rest.0, rest.1 ∙ one.1)
 
 contains_at_most : (s : State) (lists : Lists) → Sound lists s → (x j : ℕ) → Contains (s.passed x) j → j ≤ last s x
-contains_at_most s lists sound x j c = omega (arith, sym (get_or_default (s.passed x) c.0 j 0 c.1) ∙ c.2, last_most (s.passed x) (sound.passed_rise x) c.0 c.1)
+contains_at_most s lists sound x j c =
+    omega (arith, sym (get_or_default (s.passed x) c.0 j 0 c.1) ∙ c.2, last_most (s.passed x) (sound.passed_rise x) c.0 c.1)
 
 -- of two indices passed to a node the cut of the lower is within that of the greater
-pub passed_cuts : (lists : Lists) → Lawful lists → (s : State) → Sound lists s → (x i j : ℕ) → Contains (s.passed x) i → Contains (s.passed x) j → i ≤ j →
+pub passed_cuts : (lists : Lists) → Lawful lists → (s : State) → Sound lists s → (x i j : ℕ) → Contains (s.passed x) i →
+    Contains (s.passed x) j → i ≤ j →
     (d : ℕ) → IsLeaf lists d → cleared s i d ≤ cleared s j d
 passed_cuts lists law s sound x i j at_i at_j le d leaf = cleared_within lists law s sound i j le (sound.passed_within x j at_j).1 d leaf
 
@@ -82,14 +89,18 @@ two_passes lists law mid rest s sound x i j legal =
     let at_two : Contains (two.passed x) i = passed_stays lists mid one x i at_one in
     let three : State = step lists two (Pass x j) in
     let sound_three : Sound lists three = sound_step lists law two sound_two (Pass x j) parts.1.0 in
-    let j_at_three : Contains (three.passed x) j = subst (λ (l : List ℕ). Contains l j) (sym (pushed_same two.passed x j)) (contains_last (two.passed x) j) in
+    let j_at_three : Contains (three.passed x) j =
+    subst (λ (l : List ℕ). Contains l j) (sym (pushed_same two.passed x j)) (contains_last (two.passed x) j) in
     let final : State = after_from lists three rest in
     let sound_final : Sound lists final = sound_after_from lists law rest three sound_three parts.1.1 in
     let lt : i < j = omega (arith, contains_at_most two lists sound_two x i at_two, parts.1.0.2) in
     let same : after_from lists s (Pass x i ∷ (mid ++ Pass x j ∷ rest)) ≡ final = after_append lists mid (Pass x j ∷ rest) one in
     let i_final : Contains (final.passed x) i = passed_stays lists rest three x i (passed_step lists two (Pass x j) x i at_two) in
-    let j_final : Contains (final.passed x) j = passed_stays lists rest three x j j_at_three in
-    (lt, λ d leaf. subst (λ (t : State). cleared t i d ≤ cleared t j d) (sym same) (passed_cuts lists law final sound_final x i j i_final j_final (omega arith) d leaf))
+    let j_final : Contains (final.passed x) j = passed_stays lists rest three x j j_at_three in (
+      lt,
+      λ d leaf. subst (λ (t : State). cleared t i d ≤ cleared t j d) (sym same)
+          (passed_cuts lists law final sound_final x i j i_final j_final (omega arith) d leaf),
+    )
 
 pub never_back : (lists : Lists) → Lawful lists → (front mid rest : List Move) (x i j : ℕ) →
     LegalJournal lists (front ++ Pass x i ∷ (mid ++ Pass x j ∷ rest)) →
@@ -99,5 +110,8 @@ never_back lists law front mid rest x i j legal =
     let parts = legal_parts lists front (Pass x i ∷ (mid ++ Pass x j ∷ rest)) start legal in
     let s : State = after_from lists start front in
     let sound : Sound lists s = sound_after_from lists law front start (sound_start lists law) parts.0 in
-    let r = two_passes lists law mid rest s sound x i j parts.1 in
-    (r.0, λ d leaf. subst (λ (t : State). cleared t i d ≤ cleared t j d) (sym (after_append lists front (Pass x i ∷ (mid ++ Pass x j ∷ rest)) start)) (r.1 d leaf))
+    let r = two_passes lists law mid rest s sound x i j parts.1 in (
+      r.0,
+      λ d leaf. subst (λ (t : State). cleared t i d ≤ cleared t j d)
+          (sym (after_append lists front (Pass x i ∷ (mid ++ Pass x j ∷ rest)) start)) (r.1 d leaf),
+    )

@@ -32,7 +32,9 @@ progress lists law s sound open_now =
           (
             refl,
             omega arith,
-            λ d leaf. let node = leaf_node lists law d leaf in eqb-true (s.counts d) (end_count lists (s.closed + 1) d) (sym (cond-true (is_leaf lists d) (eqb (s.counts d) (end_count lists (s.closed + 1) d)) true leaf) ∙ all_to_at (nodes lists) made all d node.0 node.1),
+            λ d leaf. let node = leaf_node lists law d leaf in eqb-true (s.counts d) (end_count lists (s.closed + 1) d)
+                (sym (cond-true (is_leaf lists d) (eqb (s.counts d) (end_count lists (s.closed + 1) d)) true leaf)
+                ∙ all_to_at (nodes lists) made all d node.0 node.1),
             idle_from lists s sound idle,
           ),
         )
@@ -40,10 +42,12 @@ progress lists law s sound open_now =
             let r = all_to_fails (nodes lists) made some in
             elim (cases_Bool (is_leaf lists r.0)) [
               | inl leaf ↦
-                  let differs = eqb-false (s.counts r.0) (end_count lists (s.closed + 1) r.0) (sym (cond-true (is_leaf lists r.0) (eqb (s.counts r.0) (end_count lists (s.closed + 1) r.0)) true leaf) ∙ r.3) in
+                  let differs = eqb-false (s.counts r.0) (end_count lists (s.closed + 1) r.0)
+                  (sym (cond-true (is_leaf lists r.0) (eqb (s.counts r.0) (end_count lists (s.closed + 1) r.0)) true leaf) ∙ r.3) in
                   let most = sound.counts_to open_now r.0 leaf in
                   (Change r.0 (s.counts r.0 + 1), (leaf, open_now, refl, omega arith))
-              | inr none ↦ absurd (both_ways true (sym (cond-false (is_leaf lists r.0) (eqb (s.counts r.0) (end_count lists (s.closed + 1) r.0)) true none) ∙ r.3) refl)
+              | inr none ↦ absurd
+                  (both_ways true (sym (cond-false (is_leaf lists r.0) (eqb (s.counts r.0) (end_count lists (s.closed + 1) r.0)) true none) ∙ r.3) refl)
             ]
       ]
       | inr busy ↦ let r = not_idle_move lists s busy in (r.0, node_legal lists s r.0 r.1)

@@ -7,7 +7,8 @@ use Rattle.pm_base.specs.Cuts.{Cut}
 use Rattle.pm_market.specs.Legality.{has_reached, is_one_of}
 use Rattle.pm_market.specs.Sound.{Sound}
 use Rattle.pm_market.proofs.Tree.{child_of}
-use Rattle.pm_market.proofs.Cuts.{pushed, pushed_same, pushed_other, pushed_cut_at_kept, pushed_length_same, cut_at_new, newest_leaf, newest_inner, part_inner, part_kept, known_at}
+use Rattle.pm_market.proofs.Cuts.{pushed, pushed_same, pushed_other, pushed_cut_at_kept, pushed_length_same, cut_at_new, newest_leaf, newest_inner, part_inner}
+use Rattle.pm_market.proofs.Cuts.{part_kept, known_at}
 use Rattle.pm_laws.proofs.Facts.{reached_within}
 use Rattle.pm_market.proofs.Legality.{reached_from}
 use Rattle.pm_laws.proofs.Numbers.{number_of_part, cleared_is_part, published_is_part}
@@ -15,12 +16,14 @@ use Rattle.pm_laws.specs.Due.{is_due}
 
 -- a due index is one of the clearings
 pub due_within : (lists : Lists) (s : State) → Sound lists s → (x j : ℕ) → is_due lists s x j ≡ true → (1 ≤ j) × (j ≤ clearings s)
-due_within lists s sound x j h = reached_within lists s sound (parent lists x) j (reached_from s (parent lists x) j (and_parts (has_reached s (parent lists x) j) (addresses lists s j x) h).0)
+due_within lists s sound x j h = reached_within lists s sound (parent lists x) j
+    (reached_from s (parent lists x) j (and_parts (has_reached s (parent lists x) j) (addresses lists s j x) h).0)
 
 abbrev pub more : Lists → State → ℕ → State
 more lists s y = record s { published = pushed s.published y (known lists s y) }
 
-module _ (lists : Lists) (law : Lawful lists) (s : State) (sound : Sound lists s) (y : ℕ) (inner : IsInner lists y) (sound' : Sound lists (more lists s y)) where
+module _ (lists : Lists) (law : Lawful lists) (s : State) (sound : Sound lists s) (y : ℕ) (inner : IsInner lists y)
+    (sound' : Sound lists (more lists s y)) where
   abbrev s' : State
   s' = more lists s y
 
@@ -53,7 +56,8 @@ module _ (lists : Lists) (law : Lawful lists) (s : State) (sound : Sound lists s
 
   pub part_old : (z i : ℕ) → i ≤ newest lists s z → part lists s' z i ≡ part lists s z i
   part_old z i le = part_kept lists s.published y (known lists s y) z i (λ e.
-      let inner_z : IsInner lists z = ap (is_leaf lists) e ∙ inner in omega (arith, newest_inner lists s.counts s.published z inner_z, ap (λ (k : ℕ). length (s.published k)) e))
+      let inner_z : IsInner lists z = ap (is_leaf lists) e
+      ∙ inner in omega (arith, newest_inner lists s.counts s.published z inner_z, ap (λ (k : ℕ). length (s.published k)) e))
 
   pub part_last : (i : ℕ) → i ≡ newest lists s y + 1 → part lists s' y i ≡ known lists s y
   part_last i e = part_inner lists s'.published y i inner ∙ cut_at_last i (omega (arith, newest_inner lists s.counts s.published y inner))
@@ -66,23 +70,28 @@ module _ (lists : Lists) (law : Lawful lists) (s : State) (sound : Sound lists s
       ∙ sym (ap (λ (i : ℕ). known lists s' i d) (sym w.2) ∙ known_at lists law s'.published s.learnt w.0 d w.1.0 w.3)
 
   -- a cut that is a part keeps its number
-  pub number_kept : (z i : ℕ) (cut : Cut) → IsNode lists z → i ≤ newest lists s z → SameOn lists z cut (part lists s z i) → number lists s' z cut ≡ number lists s z cut
+  pub number_kept : (z i : ℕ) (cut : Cut) → IsNode lists z → i ≤ newest lists s z → SameOn lists z cut (part lists s z i) →
+      number lists s' z cut ≡ number lists s z cut
   number_kept z i cut node le same =
       number_of_part lists law s' sound' z i cut node (omega (arith, newest_le z)) (λ d leaf. same d leaf ∙ ap (λ (a : Cut). a d) (sym (part_old z i le)))
       ∙ sym (number_of_part lists law s sound z i cut node le same)
 
-  pub number_published : (z i : ℕ) → IsNode lists z → i ≤ length (s.published (parent lists z)) → number lists s' z (cut_at (s'.published (parent lists z)) i) ≡ number lists s z (cut_at (s.published (parent lists z)) i)
+  pub number_published : (z i : ℕ) → IsNode lists z → i ≤ length (s.published (parent lists z)) →
+      number lists s' z (cut_at (s'.published (parent lists z)) i) ≡ number lists s z (cut_at (s.published (parent lists z)) i)
   number_published z i node le =
       let at = published_is_part lists law s sound z i node le in
       ap (number lists s' z) (cut_at_old (parent lists z) i le)
-      ∙ number_kept z (number lists s z (cut_at (s.published (parent lists z)) i)) (cut_at (s.published (parent lists z)) i) node (omega (arith, at.1, sound.learnt_within z node)) at.0
+      ∙ number_kept z (number lists s z (cut_at (s.published (parent lists z)) i)) (cut_at (s.published (parent lists z)) i) node
+      (omega (arith, at.1, sound.learnt_within z node)) at.0
 
   -- what was published now has at each child the number learnt
-  pub number_last : (z i : ℕ) → IsNode lists z → parent lists z ≡ y → i ≡ length (s.published y) + 1 → number lists s' z (cut_at (s'.published y) i) ≡ s.learnt z
+  pub number_last : (z i : ℕ) → IsNode lists z → parent lists z ≡ y → i ≡ length (s.published y) + 1 →
+      number lists s' z (cut_at (s'.published y) i) ≡ s.learnt z
   number_last z i node e is =
       ap (number lists s' z) (cut_at_last i is)
       ∙ number_of_part lists law s' sound' z (s.learnt z) (known lists s y) node (omega (arith, sound.learnt_within z node, newest_le z)) (λ d leaf.
-      ap (λ (k : ℕ). known lists s k d) (sym e) ∙ known_at lists law s.published s.learnt z d node.0 leaf ∙ ap (λ (a : Cut). a d) (sym (part_old z (s.learnt z) (sound.learnt_within z node))))
+      ap (λ (k : ℕ). known lists s k d) (sym e) ∙ known_at lists law s.published s.learnt z d node.0 leaf
+      ∙ ap (λ (a : Cut). a d) (sym (part_old z (s.learnt z) (sound.learnt_within z node))))
 
   pub number_cleared_old : (z j : ℕ) → IsNode lists z → j ≤ clearings s → number lists s' z (cleared s j) ≡ number lists s z (cleared s j)
   number_cleared_old z j node le =
@@ -101,4 +110,5 @@ module _ (lists : Lists) (s : State) (y : ℕ) (some_node : 1 ≤ y) where
   clearings_kept = sym (pushed_other s.published y (known lists s y) 0 (λ e. omega arith))
 
   pub due_kept : (x j : ℕ) → is_due lists (more lists s y) x j ≡ is_due lists s x j
-  due_kept x j = ap (λ (l : List Cut). ((eqb (parent lists x) 0 && leb 1 j && leb j (length l)) || is_one_of (s.passed (parent lists x)) j) && addresses_of lists (cut_at l j) x) (sym clearings_kept)
+  due_kept x j = ap (λ (l : List Cut). ((eqb (parent lists x) 0 && leb 1 j && leb j (length l))
+      || is_one_of (s.passed (parent lists x)) j) && addresses_of lists (cut_at l j) x) (sym clearings_kept)

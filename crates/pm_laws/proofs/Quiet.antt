@@ -1,10 +1,12 @@
 -- In an idle state the last clearing is current.
-use Rattle.std.proofs.Common.{◌≡◌, ℕ, zero, suc, ◌+◌, ◌-◌, ◌<◌, ◌≤◌, true, false, not, inl, inr, length, refl, sym, ◌∙◌, ap, subst, arith}
+use Rattle.std.proofs.Common.{◌≡◌, ℕ, zero, suc, ◌+◌, ◌-◌, ◌<◌, ◌≤◌, true, false, not, inl, inr, length, refl, sym, ◌∙◌, ap}
+use Rattle.std.proofs.Common.{subst, arith}
 use Rattle.std.proofs.lemmas.Bool.{cases_eq, cases_lt, cases_Bool, cond-true, cond-false, both_ways}
 use Rattle.std.specs.List.{Contains}
 use Rattle.pm_base.specs.Limits.{window_size}
 use Rattle.pm_market.specs.Lists.{Lists, parent, is_leaf, is_member, IsNode, IsLeaf, IsInner, IsConcentrator, IsLeafOf, Lawful}
-use Rattle.pm_market.specs.State.{State, is_same_on, SameOn, cut_at, greatest_number, newest, part, known, number, last, clearings, cleared, addresses, addresses_of, no_changes}
+use Rattle.pm_market.specs.State.{State, is_same_on, SameOn, cut_at, greatest_number, newest, part, known, number, last, clearings, cleared, addresses}
+use Rattle.pm_market.specs.State.{addresses_of, no_changes}
 use Rattle.pm_base.specs.Cuts.{Cut}
 use Rattle.pm_market.specs.Moves.{Reached, Idle}
 use Rattle.pm_market.specs.Sound.{Sound}
@@ -26,22 +28,27 @@ unfolding addresses_of
 addresses_inner lists cut x inner = cond-false (is_leaf lists x) (is_member lists x (cut x)) (not (is_same_on lists x cut no_changes)) inner
 
 -- a cut that is all zeros on the leaves of a node does not address it
-pub zeros_address_none : (lists : Lists) → Lawful lists → (cut : Cut) (x : ℕ) → SameOn lists x cut no_changes → addresses_of lists cut x ≡ true → ⊥
+pub zeros_address_none : (lists : Lists) → Lawful lists → (cut : Cut) (x : ℕ) → SameOn lists x cut no_changes →
+    addresses_of lists cut x ≡ true → ⊥
 zeros_address_none lists law cut x same h =
     elim (cases_Bool (is_leaf lists x)) [
-      | inl e ↦ both_ways (is_member lists x (cut x)) (ap (is_member lists x) (same x (leaf_of_itself lists law x e)) ∙ in_zero lists x) (sym (addresses_leaf lists cut x e) ∙ h)
-      | inr e ↦ both_ways (not (is_same_on lists x cut no_changes)) (ap not (is_same_from lists x cut no_changes same)) (sym (addresses_inner lists cut x e) ∙ h)
+      | inl e ↦ both_ways (is_member lists x (cut x)) (ap (is_member lists x) (same x (leaf_of_itself lists law x e))
+          ∙ in_zero lists x) (sym (addresses_leaf lists cut x e) ∙ h)
+      | inr e ↦ both_ways (not (is_same_on lists x cut no_changes)) (ap not (is_same_from lists x cut no_changes same))
+          (sym (addresses_inner lists cut x e) ∙ h)
     ]
 
 -- a concentrator that it does not address has all zeros
-not_addressed : (lists : Lists) → Lawful lists → (cut : Cut) (x : ℕ) → IsInner lists x → addresses_of lists cut x ≡ false → SameOn lists x cut no_changes
+not_addressed : (lists : Lists) → Lawful lists → (cut : Cut) (x : ℕ) → IsInner lists x → addresses_of lists cut x ≡ false →
+    SameOn lists x cut no_changes
 not_addressed lists law cut x inner h =
     elim (cases_Bool (is_same_on lists x cut no_changes)) [
       | inl e ↦ same_from lists law x cut no_changes e
       | inr e ↦ absurd (both_ways (addresses_of lists cut x) h (addresses_inner lists cut x inner ∙ ap not e))
     ]
 
-addresses_up : (lists : Lists) → Lawful lists → (cut : Cut) (x : ℕ) → IsNode lists x → addresses_of lists cut x ≡ true → addresses_of lists cut (parent lists x) ≡ true
+addresses_up : (lists : Lists) → Lawful lists → (cut : Cut) (x : ℕ) → IsNode lists x → addresses_of lists cut x ≡ true →
+    addresses_of lists cut (parent lists x) ≡ true
 addresses_up lists law cut x node h =
     elim (cases_Bool (addresses_of lists cut (parent lists x))) [
       | inl e ↦ e
@@ -53,7 +60,8 @@ addresses_up lists law cut x node h =
 pub addressed_index : (lists : Lists) → Lawful lists → (s : State) (j x : ℕ) → addresses lists s j x ≡ true → 1 ≤ j
 addressed_index lists law s j x h =
     elim (cases_eq j 0) [
-      | inl e ↦ absurd (zeros_address_none lists law (cleared s j) x (λ d leaf. ap (λ (k : ℕ). cleared s k d) e ∙ ap (λ (a : Cut). a d) (entry_zero (s.published 0))) h)
+      | inl e ↦ absurd (zeros_address_none lists law (cleared s j) x (λ d leaf. ap (λ (k : ℕ). cleared s k d) e
+          ∙ ap (λ (a : Cut). a d) (entry_zero (s.published 0))) h)
       | inr n ↦ omega arith
     ]
 
@@ -81,7 +89,8 @@ idle_cleared lists law s idle =
       | inr e ↦ absurd (idle (Clear (clearings s + 1)) (e, refl))
     ]
 
-idle_passed : (lists : Lists) (s : State) → Sound lists s → Idle lists s → (x : ℕ) → IsNode lists x → Reached s (parent lists x) (clearings s) → addresses lists s (clearings s) x ≡ true → last s x ≡ clearings s
+idle_passed : (lists : Lists) (s : State) → Sound lists s → Idle lists s → (x : ℕ) → IsNode lists x →
+    Reached s (parent lists x) (clearings s) → addresses lists s (clearings s) x ≡ true → last s x ≡ clearings s
 idle_passed lists s sound idle x node came addressed =
     elim (cases_lt (last s x) (clearings s)) [
       | inl lt ↦ absurd (idle (Pass x (clearings s)) (node, came, lt, addressed))
@@ -94,16 +103,25 @@ record Current (lists : Lists) (s : State) (x : ℕ) : Type 0 where
   passed : addresses lists s (clearings s) x ≡ true → last s x ≡ clearings s
 
 -- nothing of a concentrator is unanswered then
-current_answered : (lists : Lists) → Lawful lists → (s : State) → Sound lists s → (c : ℕ) → IsConcentrator lists c → Current lists s c → newest lists s c - number lists s c (cleared s (last s c)) ≡ 0
+current_answered : (lists : Lists) → Lawful lists → (s : State) → Sound lists s → (c : ℕ) → IsConcentrator lists c →
+    Current lists s c → newest lists s c - number lists s c (cleared s (last s c)) ≡ 0
 current_answered lists law s sound c conc current =
     let len : ℕ = length (s.published c) in
-    let top : part lists s c (newest lists s c) ≡ cut_at (s.published c) len = part_inner lists s.published c (newest lists s c) conc.2 ∙ ap (cut_at (s.published c)) (newest_inner lists s.counts s.published c conc.2) in
+    let top : part lists s c (newest lists s c) ≡ cut_at (s.published c) len =
+    part_inner lists s.published c (newest lists s c) conc.2 ∙ ap (cut_at (s.published c)) (newest_inner lists s.counts s.published c conc.2) in
     elim (cases_Bool (addresses lists s (clearings s) c)) [
       | inl e ↦
           let at : last s c ≡ clearings s = current.passed e in
-          let same : SameOn lists c (cut_at (s.published c) len) (cleared s (clearings s)) = λ d leaf. sym (current.newest d leaf ∙ ap (λ (a : Cut). a d) top) in
-          let most : len ≤ greatest_number lists (s.published c) c (cleared s (clearings s)) len = greatest_from lists (s.published c) c (cleared s (clearings s)) len len (omega arith) same in
-          omega (arith, window_of lists s c (cleared s (last s c)) conc.2, most, ap (λ (j : ℕ). greatest_number lists (s.published c) c (cleared s j) len) at)
+          let same : SameOn lists c (cut_at (s.published c) len) (cleared s (clearings s)) =
+          λ d leaf. sym (current.newest d leaf ∙ ap (λ (a : Cut). a d) top) in
+          let most : len ≤ greatest_number lists (s.published c) c (cleared s (clearings s)) len =
+          greatest_from lists (s.published c) c (cleared s (clearings s)) len len (omega arith) same in
+          omega (
+            arith,
+            window_of lists s c (cleared s (last s c)) conc.2,
+            most,
+            ap (λ (j : ℕ). greatest_number lists (s.published c) c (cleared s j) len) at,
+          )
       | inr e ↦
           let none = not_addressed lists law (cleared s (clearings s)) c conc.2 e in
           elim (cases_eq len 0) [
@@ -115,7 +133,8 @@ current_answered lists law s sound c conc current =
           ]
     ]
 
-current_in : (lists : Lists) → Lawful lists → (s : State) → Sound lists s → Idle lists s → (bound x : ℕ) → x ≤ bound → IsNode lists x → Current lists s x
+current_in : (lists : Lists) → Lawful lists → (s : State) → Sound lists s → Idle lists s → (bound x : ℕ) → x ≤ bound →
+    IsNode lists x → Current lists s x
 current_in lists law s sound idle zero x h node = absurd (omega arith)
 current_in lists law s sound idle (suc bound) x h node =
     let learnt_is : s.learnt x ≡ newest lists s x = idle_learnt lists s sound idle x node in
@@ -152,14 +171,16 @@ current : (lists : Lists) → Lawful lists → (s : State) → Sound lists s →
 current lists law s sound idle x node = current_in lists law s sound idle x x (omega arith) node
 
 -- the last cleared cut is the counts
-pub quiet_counts : (lists : Lists) → Lawful lists → (s : State) → Sound lists s → Idle lists s → (d : ℕ) → IsLeaf lists d → cleared s (clearings s) d ≡ s.counts d
+pub quiet_counts : (lists : Lists) → Lawful lists → (s : State) → Sound lists s → Idle lists s → (d : ℕ) → IsLeaf lists d →
+    cleared s (clearings s) d ≡ s.counts d
 quiet_counts lists law s sound idle d leaf =
     (current lists law s sound idle d (leaf_node lists law d leaf)).newest d (leaf_of_itself lists law d leaf)
     ∙ part_leaf lists s.published d (newest lists s d) d leaf
     ∙ newest_leaf lists s.counts s.published d leaf
 
 -- each device that is in was passed the last clearing
-pub quiet_passed : (lists : Lists) → Lawful lists → (s : State) → Sound lists s → Idle lists s → (d : ℕ) → IsLeaf lists d → is_member lists d (s.counts d) ≡ true →
+pub quiet_passed : (lists : Lists) → Lawful lists → (s : State) → Sound lists s → Idle lists s → (d : ℕ) → IsLeaf lists d →
+    is_member lists d (s.counts d) ≡ true →
     (1 ≤ clearings s) × (last s d ≡ clearings s)
 quiet_passed lists law s sound idle d leaf at =
     let addressed : addresses lists s (clearings s) d ≡ true =
@@ -167,5 +188,6 @@ quiet_passed lists law s sound idle d leaf at =
     (addressed_index lists law s (clearings s) d addressed, (current lists law s sound idle d (leaf_node lists law d leaf)).passed addressed)
 
 -- and no number of a concentrator is unanswered
-pub quiet_window : (lists : Lists) → Lawful lists → (s : State) → Sound lists s → Idle lists s → (c : ℕ) → IsConcentrator lists c → newest lists s c - number lists s c (cleared s (last s c)) ≡ 0
+pub quiet_window : (lists : Lists) → Lawful lists → (s : State) → Sound lists s → Idle lists s → (c : ℕ) → IsConcentrator lists c →
+    newest lists s c - number lists s c (cleared s (last s c)) ≡ 0
 quiet_window lists law s sound idle c conc = current_answered lists law s sound c conc (current lists law s sound idle c (conc.0, conc.1))

@@ -8,7 +8,8 @@ unfolding sum_to
 sum_le zero f g h = omega arith
 sum_le (suc n) f g h = omega (arith, h (suc n) (omega arith) (omega arith), sum_le n f g (λ x one le. h x one (omega arith)))
 
-pub sum_lt : (n : ℕ) (f g : ℕ → ℕ) → ((x : ℕ) → 1 ≤ x → x ≤ n → f x ≤ g x) → (k : ℕ) → 1 ≤ k → k ≤ n → f k < g k → sum_to n f < sum_to n g
+pub sum_lt : (n : ℕ) (f g : ℕ → ℕ) → ((x : ℕ) → 1 ≤ x → x ≤ n → f x ≤ g x) → (k : ℕ) → 1 ≤ k → k ≤ n → f k < g k →
+    sum_to n f < sum_to n g
 unfolding sum_to
 sum_lt zero f g h k one le lt = absurd (omega arith)
 sum_lt (suc n) f g h k one le lt =
@@ -40,7 +41,8 @@ sum_same (suc n) v = omega (arith, sum_same n v)
 pub sum_swap : (m n : ℕ) (f : ℕ → ℕ → ℕ) → sum_to m (λ x. sum_to n (λ d. f x d)) ≡ sum_to n (λ d. sum_to m (λ x. f x d))
 unfolding sum_to
 sum_swap zero n f = sym (sum_same n 0 ∙ omega arith)
-sum_swap (suc m) n f = ap (λ (k : ℕ). sum_to n (λ d. f (suc m) d) + k) (sum_swap m n f) ∙ sym (sum_add n (λ d. f (suc m) d) (λ d. sum_to m (λ x. f x d)))
+sum_swap (suc m) n f = ap (λ (k : ℕ). sum_to n (λ d. f (suc m) d) + k) (sum_swap m n f)
+    ∙ sym (sum_add n (λ d. f (suc m) d) (λ d. sum_to m (λ x. f x d)))
 
 times_step : (x y k r v : ℕ) → ((x ≡ v) × (y ≡ 1)) ⊎ ((x ≡ 0) × (y ≡ 0)) → r ≡ k * v → x + r ≡ (y + k) * v
 times_step x y k r v (inl w) e = omega (arith, ap (λ (z : ℕ). (z + k) * v) w.1, w.0, e)

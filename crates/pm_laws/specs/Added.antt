@@ -17,7 +17,8 @@ pub record HasAdded (lists : Lists) (old new : State) (y : ℕ) : Type 0 where
   -- what nodes know
   pub known_kept : (z : ℕ) → IsInner lists z → SameOn lists z (known lists old z) (known lists new z)
   -- the numbers of a child that cuts contain: what was added has the number learnt
-  pub number_added : (z : ℕ) → IsNode lists z → parent lists z ≡ y → number lists new z (cut_at (new.published y) (length (old.published y) + 1)) ≡ old.learnt z
+  pub number_added : (z : ℕ) → IsNode lists z → parent lists z ≡ y →
+      number lists new z (cut_at (new.published y) (length (old.published y) + 1)) ≡ old.learnt z
   pub number_kept : (z i : ℕ) → IsNode lists z → i ≤ length (old.published (parent lists z)) →
       number lists new z (cut_at (new.published (parent lists z)) i) ≡ number lists old z (cut_at (old.published (parent lists z)) i)
   -- the numbers of any node that clearings contain

@@ -54,7 +54,8 @@ pub fn quiet_is_current()
 
 /// A complete journal ends idle, with every change made.
 pub fn complete_journals_end_quiet()
-    ensures idle { (lists : Lists) (journal : List Move) → Lawful lists → LegalJournal lists journal → IsComplete lists journal → Idle lists (after lists journal) }
+    ensures idle { (lists : Lists) (journal : List Move) → Lawful lists → LegalJournal lists journal → IsComplete lists journal →
+        Idle lists (after lists journal) }
     ensures made { (lists : Lists) (journal : List Move) → Lawful lists → LegalJournal lists journal → IsComplete lists journal →
         (d : ℕ) → IsLeaf lists d → (after lists journal).counts d ≡ changes lists d }
 {}
@@ -80,8 +81,10 @@ pub fn legality_is_decided()
     ensures legal { (lists : Lists) (s : State) (m : Move) → Lawful lists → Sound lists s → (is_legal lists s m ≡ true) ↔ Legal lists s m }
     ensures idle { (lists : Lists) (s : State) → Sound lists s → (is_idle lists s ≡ true) ↔ Idle lists s }
     ensures journal { (lists : Lists) (journal : List Move) → Lawful lists → (are_legal lists start journal ≡ true) ↔ LegalJournal lists journal }
-    ensures first { (lists : Lists) (journal : List Move) → Lawful lists → (first_illegal lists start journal ≡ length journal) ↔ LegalJournal lists journal }
-    ensures pushed { (lists : Lists) (journal : List Move) (m : Move) → are_legal lists start journal ≡ true → Legal lists (after lists journal) m → are_legal lists start (journal ++ m ∷ []) ≡ true }
+    ensures first { (lists : Lists) (journal : List Move) → Lawful lists → (first_illegal lists start journal ≡ length journal)
+        ↔ LegalJournal lists journal }
+    ensures pushed { (lists : Lists) (journal : List Move) (m : Move) → are_legal lists start journal ≡ true →
+        Legal lists (after lists journal) m → are_legal lists start (journal ++ m ∷ []) ≡ true }
     ensures busy { (lists : Lists) (s : State) → is_idle lists s ≡ false → (m : Move) × NodeLegal lists s m }
 {}
 
@@ -95,13 +98,15 @@ pub fn some_move_is_legal()
 #[tactic(auto, using(crate::proofs::Numbers::number_of_known, crate::proofs::Numbers::number_down, crate::proofs::Numbers::addressed_number, crate::proofs::Numbers::known_heads, crate::proofs::Numbers::cleared_number_rises))]
 pub fn numbers_stand_for_cuts()
     // What a node knows contains of each child the number that was learnt of it.
-    ensures known { (lists : Lists) (s : State) → Lawful lists → Sound lists s → (x : ℕ) → IsNode lists x → number lists s x (known lists s (parent lists x)) ≡ s.learnt x }
+    ensures known { (lists : Lists) (s : State) → Lawful lists → Sound lists s → (x : ℕ) → IsNode lists x →
+        number lists s x (known lists s (parent lists x)) ≡ s.learnt x }
     // It is what the node published or cleared last exactly where that contains of each child the number learnt.
     ensures heads { (lists : Lists) (s : State) → Lawful lists → Sound lists s → (c : ℕ) → IsInner lists c →
         (is_same_on lists c (known lists s c) (cut_at (s.published c) (length (s.published c))) ≡ true)
         ↔ ((x : ℕ) → IsNode lists x → parent lists x ≡ c → number lists s x (cut_at (s.published c) (length (s.published c))) ≡ s.learnt x) }
     // A clearing contains of a child of c the number that c published under the number that the clearing contains of c.
-    ensures down { (lists : Lists) (s : State) → Lawful lists → Sound lists s → (x j : ℕ) → IsNode lists x → IsNode lists (parent lists x) → j ≤ clearings s →
+    ensures down { (lists : Lists) (s : State) → Lawful lists → Sound lists s → (x j : ℕ) → IsNode lists x →
+        IsNode lists (parent lists x) → j ≤ clearings s →
         number lists s x (cleared s j) ≡ number lists s x (cut_at (s.published (parent lists x)) (number lists s (parent lists x) (cleared s j))) }
     // Of two clearings the later contains no smaller number of a node.
     ensures rises { (lists : Lists) (s : State) → Lawful lists → Sound lists s → (x i j : ℕ) → IsNode lists x → i ≤ j → j ≤ clearings s →
@@ -114,14 +119,18 @@ pub fn numbers_stand_for_cuts()
 /// A device that holds a price is a member at the number that the price names; in an idle state every member holds one.
 #[tactic(auto, using(crate::proofs::Held::quiet_holds, crate::proofs::Held::holder_included))]
 pub fn holders_are_members()
-    ensures included { (lists : Lists) (s : State) → Sound lists s → (d : ℕ) → IsLeaf lists d → holds_price lists s d ≡ true → is_member lists d (cleared s (last s d) d) ≡ true }
-    ensures quiet { (lists : Lists) (s : State) → Lawful lists → Sound lists s → Idle lists s → (d : ℕ) → IsLeaf lists d → is_member lists d (s.counts d) ≡ true → holds_price lists s d ≡ true }
+    ensures included { (lists : Lists) (s : State) → Sound lists s → (d : ℕ) → IsLeaf lists d → holds_price lists s d ≡ true →
+        is_member lists d (cleared s (last s d) d) ≡ true }
+    ensures quiet { (lists : Lists) (s : State) → Lawful lists → Sound lists s → Idle lists s → (d : ℕ) → IsLeaf lists d →
+        is_member lists d (s.counts d) ≡ true → holds_price lists s d ≡ true }
 {}
 
 /// The sum of whole numbers over the leaves of a node is that of its children's sums, and depends on the leaves alone.
 #[tactic(auto, using(crate::proofs::Offers::sum_on_leaf, crate::proofs::Offers::sum_on_inner, crate::proofs::Offers::sum_on_same))]
 pub fn sums_go_up()
     ensures leaf { (lists : Lists) (x : ℕ) (f : ℕ → ℤ) → Lawful lists → IsLeaf lists x → sum_on lists x f ≡ f x }
-    ensures inner { (lists : Lists) (y : ℕ) (f : ℕ → ℤ) → Lawful lists → IsInner lists y → sum_on lists y f ≡ sum_children lists y (λ x. sum_on lists x f) }
-    ensures leaves_alone { (lists : Lists) (x : ℕ) (f g : ℕ → ℤ) → ((d : ℕ) → IsLeafOf lists x d → f d ≡ g d) → sum_on lists x f ≡ sum_on lists x g }
+    ensures inner { (lists : Lists) (y : ℕ) (f : ℕ → ℤ) → Lawful lists → IsInner lists y →
+        sum_on lists y f ≡ sum_children lists y (λ x. sum_on lists x f) }
+    ensures leaves_alone { (lists : Lists) (x : ℕ) (f g : ℕ → ℤ) → ((d : ℕ) → IsLeafOf lists x d → f d ≡ g d) →
+        sum_on lists x f ≡ sum_on lists x g }
 {}

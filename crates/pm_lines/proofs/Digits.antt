@@ -1,5 +1,6 @@
 -- A number and its digits.
-use Rattle.std.proofs.Common.{◌≡◌, ◌≢◌, ◌∙◌, sym, ap, subst, refl, ℕ, zero, suc, ◌⊎◌, ◌<◌, ◌≤◌, ◌^◌, eqb, List, [], ◌∷◌, length, take, drop, get_or, ◌-◌, arith, inl, inr, ℤ, pos, negsuc, neg_ℤ, Option, Some, None}
+use Rattle.std.proofs.Common.{◌≡◌, ◌≢◌, ◌∙◌, sym, ap, subst, refl, ℕ, zero, suc, ◌⊎◌, ◌<◌, ◌≤◌, ◌^◌, eqb, List, []}
+use Rattle.std.proofs.Common.{◌∷◌, length, take, drop, get_or, ◌-◌, arith, inl, inr, ℤ, pos, negsuc, neg_ℤ, Option, Some, None}
 use Rattle.std.specs.Prelude.{Result, Ok, Err, decimal, option_map}
 use Rattle.std.specs.Fmt.{signed_decimal}
 use Rattle.pm_lines.specs.Reading.{Reads, size_of}
@@ -23,7 +24,8 @@ no_plus_same : (bytes : List ℕ) → get_or bytes 0 0 ≢ 43 → without_leadin
 no_plus_same bytes other = ap (λ (n : ℕ). drop n bytes) (cond-false (eqb (get_or bytes 0 0) 43) 1 0 (ne_eqb (get_or bytes 0 0) 43 other))
 
 -- what is parsed of such digits is the number that is written so
-pub number_told : {E : Type 0} (bytes : List ℕ) (n : ℕ) (parsed : Result ℕ E) → IsPlain bytes → ParsesUnsigned 32 10 bytes parsed → parsed ≡ Ok n → (n < 2 ^ 32) × (decimal n ≡ bytes)
+pub number_told : {E : Type 0} (bytes : List ℕ) (n : ℕ) (parsed : Result ℕ E) → IsPlain bytes → ParsesUnsigned 32 10 bytes parsed →
+    parsed ≡ Ok n → (n < 2 ^ 32) × (decimal n ≡ bytes)
 number_told bytes n (Err e) plain parses is = absurd cc
 number_told bytes n (Ok m) plain parses is =
     let bare = no_plus_same bytes plain.no_plus in
@@ -34,7 +36,8 @@ number_told bytes n (Ok m) plain parses is =
     (omega (arith, same, value, small), ap decimal (same ∙ value) ∙ decimal-digits_value digits bytes all plain.some plain.no_zero (omega (arith, small)))
 
 -- of a number that is written so the parsing succeeds
-pub number_parsed : {E : Type 0} (bytes : List ℕ) (n : ℕ) (parsed : Result ℕ E) → n < 2 ^ 32 → decimal n ≡ bytes → ParsesUnsigned 32 10 bytes parsed → parsed ≡ Ok n
+pub number_parsed : {E : Type 0} (bytes : List ℕ) (n : ℕ) (parsed : Result ℕ E) → n < 2 ^ 32 → decimal n ≡ bytes →
+    ParsesUnsigned 32 10 bytes parsed → parsed ≡ Ok n
 number_parsed bytes n parsed small same parses = parse-decimal 32 n bytes parsed small (omega arith) (sym same) parses
 
 -- a number is written plainly
@@ -63,7 +66,8 @@ first_digit n small = by (cases_eq n 0)
     by (inr more) = omega (arith, first_decimal n (omega arith) (omega arith))
 
 -- a word without a minus
-pub reads_plain : (word : List ℕ) (answer : Option ℕ) (signed : Option ℤ) → (0 < length word → get_or word 0 0 ≢ 45) → signed ≡ option_map pos answer →
+pub reads_plain : (word : List ℕ) (answer : Option ℕ) (signed : Option ℤ) → (0 < length word → get_or word 0 0 ≢ 45) →
+    signed ≡ option_map pos answer →
     Reads (λ n. n < 2 ^ 32) decimal word answer → Reads (λ z. size_of z < 2 ^ 32) signed_decimal word signed
 reads_plain word None signed bare is read = reads_none _ _ word signed is (λ z small same. none z small same)
   where

@@ -1,5 +1,6 @@
 -- The line of a move by what follows its first word.
-use Rattle.std.proofs.Common.{◌≡◌, ◌≢◌, sym, ap, refl, ℕ, ◌+◌, ◌≤◌, ◌<◌, ◌^◌, List, [], ◌∷◌, ◌++◌, length, get_or, arith, Option, Some, None, true}
+use Rattle.std.proofs.Common.{◌≡◌, ◌≢◌, sym, ap, refl, ℕ, ◌+◌, ◌≤◌, ◌<◌, ◌^◌, List, [], ◌∷◌, ◌++◌, length, get_or}
+use Rattle.std.proofs.Common.{arith, Option, Some, None, true}
 use Rattle.std.specs.Prelude.{decimal, codes, option_map}
 use Rattle.pm_market.specs.declared.moves.Move.{Move}
 use Rattle.pm_market.specs.declared.moves.Move.TheVariants.{Change, Learn, Publish, Clear, Pass, Close}
@@ -28,12 +29,15 @@ module _ (plan : PlanData) (rest : List ℕ) (answer : Option Line) where
       (ap (λ (bytes : List ℕ). codes "change" ++ 32 ∷ bytes) told.1)
   reads_change None is reads = reads_none _ _ _ answer is (λ one fits same. go one.what one.held fits same)
     where
-      go : (what : Move) (held : Option (ℕ × ℕ)) → IsLineOfRun plan (line what held) → move_line plan (line what held) ≢ codes "change" ++ 32 ∷ rest
-      go (Change d n) held fits same = reads.none refl (d, n) (fits.of_plan.nodes, fits.number_fits) (first_same (codes "change") (codes "change") _ rest refl refl same).rest
+      go : (what : Move) (held : Option (ℕ × ℕ)) → IsLineOfRun plan (line what held) →
+          move_line plan (line what held) ≢ codes "change" ++ 32 ∷ rest
+      go (Change d n) held fits same =
+          reads.none refl (d, n) (fits.of_plan.nodes, fits.number_fits) (first_same (codes "change") (codes "change") _ rest refl refl same).rest
       go what held fits same = let keys = ap key same in absurd (omega (arith, keys))
 
   pub reads_learn : (read : Option (ℕ × ℕ)) → answer ≡ option_map (λ read. line (Learn read.0 read.1) None) read →
-      Reads (λ read. (1 ≤ read.0) × (read.0 ≤ length plan.nodes) × (read.1 < 2 ^ 32)) (λ read. text_line (name plan (parent plan read.0) ∷ name plan read.0 ∷ decimal read.1 ∷ [])) rest read →
+      Reads (λ read. (1 ≤ read.0) × (read.0 ≤ length plan.nodes) × (read.1 < 2 ^ 32))
+      (λ read. text_line (name plan (parent plan read.0) ∷ name plan read.0 ∷ decimal read.1 ∷ [])) rest read →
       Reads (IsLineOfRun plan) (move_line plan) (codes "learn" ++ 32 ∷ rest) answer
   reads_learn (Some read) is reads =
       let told = reads.told in
@@ -43,7 +47,8 @@ module _ (plan : PlanData) (rest : List ℕ) (answer : Option Line) where
   reads_learn None is reads = reads_none _ _ _ answer is (λ one fits same. go one.what one.held fits same)
     where
       go : (what : Move) (held : Option (ℕ × ℕ)) → IsLineOfRun plan (line what held) → move_line plan (line what held) ≢ codes "learn" ++ 32 ∷ rest
-      go (Learn d n) held fits same = reads.none refl (d, n) (fits.of_plan.nodes.0, fits.of_plan.nodes.1, fits.number_fits) (first_same (codes "learn") (codes "learn") _ rest refl refl same).rest
+      go (Learn d n) held fits same = reads.none refl (d, n) (fits.of_plan.nodes.0, fits.of_plan.nodes.1, fits.number_fits)
+          (first_same (codes "learn") (codes "learn") _ rest refl refl same).rest
       go what held fits same = let keys = ap key same in absurd (omega (arith, keys))
 
   pub reads_publish : (read : Option (ℕ × ℕ)) → answer ≡ option_map (λ read. line (Publish read.0 read.1) None) read →
@@ -56,8 +61,10 @@ module _ (plan : PlanData) (rest : List ℕ) (answer : Option Line) where
       (ap (λ (bytes : List ℕ). codes "publish" ++ 32 ∷ bytes) told.1)
   reads_publish None is reads = reads_none _ _ _ answer is (λ one fits same. go one.what one.held fits same)
     where
-      go : (what : Move) (held : Option (ℕ × ℕ)) → IsLineOfRun plan (line what held) → move_line plan (line what held) ≢ codes "publish" ++ 32 ∷ rest
-      go (Publish d n) held fits same = reads.none refl (d, n) (fits.of_plan.nodes, fits.number_fits) (first_same (codes "publish") (codes "publish") _ rest refl refl same).rest
+      go : (what : Move) (held : Option (ℕ × ℕ)) → IsLineOfRun plan (line what held) →
+          move_line plan (line what held) ≢ codes "publish" ++ 32 ∷ rest
+      go (Publish d n) held fits same =
+          reads.none refl (d, n) (fits.of_plan.nodes, fits.number_fits) (first_same (codes "publish") (codes "publish") _ rest refl refl same).rest
       go what held fits same = let keys = ap key same in absurd (omega (arith, keys))
 
   pub reads_clear : (read : Option ℕ) → answer ≡ option_map (λ read. line (Clear read) None) read →
@@ -95,20 +102,33 @@ module _ (plan : PlanData) (rest : List ℕ) (answer : Option Line) where
       let told = reads.told in
       let passing = told.0 in
       reads_some _ _ _ answer (line (Pass read.0 read.1) read.2) is
-      (record { of_plan = record { nodes = (passing.first, passing.last); step = passing.held.step }; holder = passing.holder; number_fits = passing.index; held_fits = passing.held.number })
+      (record {
+        of_plan = record { nodes = (passing.first, passing.last); step = passing.held.step };
+        holder = passing.holder;
+        number_fits = passing.index;
+        held_fits = passing.held.number;
+      })
       (ap (λ (bytes : List ℕ). codes "pass" ++ 32 ∷ bytes) told.1)
   reads_pass None is reads = reads_none _ _ _ answer is (λ one fits same. go one.what one.held fits same)
     where
       go : (what : Move) (held : Option (ℕ × ℕ)) → IsLineOfRun plan (line what held) → move_line plan (line what held) ≢ codes "pass" ++ 32 ∷ rest
       go (Pass x j) held fits same =
           reads.none refl (x, j, held)
-          (record { first = fits.of_plan.nodes.0; last = fits.of_plan.nodes.1; index = fits.number_fits; held = record { step = fits.of_plan.step; number = fits.held_fits }; holder = fits.holder })
+          (record {
+            first = fits.of_plan.nodes.0;
+            last = fits.of_plan.nodes.1;
+            index = fits.number_fits;
+            held = record { step = fits.of_plan.step; number = fits.held_fits };
+            holder = fits.holder;
+          })
           (first_same (codes "pass") (codes "pass") _ rest refl refl same).rest
       go what held fits same = let keys = ap key same in absurd (omega (arith, keys))
 
 -- a line begins with one of the six words and a blank
-pub no_kind : (plan : PlanData) (word rest : List ℕ) → is_word word ≡ true → word ≢ codes "change" → word ≢ codes "learn" → word ≢ codes "publish" →
-    word ≢ codes "clear" → word ≢ codes "pass" → word ≢ codes "close" → (one : Line) → IsLineOfRun plan one → move_line plan one ≢ word ++ 32 ∷ rest
+pub no_kind : (plan : PlanData) (word rest : List ℕ) → is_word word ≡ true → word ≢ codes "change" → word ≢ codes "learn" →
+    word ≢ codes "publish" →
+    word ≢ codes "clear" → word ≢ codes "pass" → word ≢ codes "close" → (one : Line) → IsLineOfRun plan one →
+    move_line plan one ≢ word ++ 32 ∷ rest
 no_kind plan word rest is change learn publish clear pass close one fits same = go one.what one.held same
   where
     go : (what : Move) (held : Option (ℕ × ℕ)) → move_line plan (line what held) ≢ word ++ 32 ∷ rest

@@ -1,5 +1,6 @@
 -- The nodes of a plan by their names.
-use Rattle.std.proofs.Common.{◌≡◌, ◌≢◌, ◌∙◌, sym, subst, refl, ℕ, zero, suc, ◌+◌, ◌<◌, ◌≤◌, Bool, true, false, ◌&&◌, not, nat_lt, List, [], ◌∷◌, ◌++◌, length, get_or, arith, Some, None, Ok, slice_get}
+use Rattle.std.proofs.Common.{◌≡◌, ◌≢◌, ◌∙◌, sym, subst, refl, ℕ, zero, suc, ◌+◌, ◌<◌, ◌≤◌, Bool, true, false, ◌&&◌, not}
+use Rattle.std.proofs.Common.{nat_lt, List, [], ◌∷◌, ◌++◌, length, get_or, arith, Some, None, Ok, slice_get}
 use Rattle.std.specs.Char.{is_ascii_alphabetic}
 use Rattle.std.specs.List.{list_all, list_any}
 use Rattle.std.specs.Str.{bytes_eq, IsAscii, IsUtf8}
@@ -61,7 +62,8 @@ lawful_name before entry accepted = by (is_name entry.name) refl
     by true lawful = lawful
     by false lawful = let refused = sym accepted ∙ refused_name before entry lawful in absurd cc
 
-lawful_after : (seen more : List Entry) → slice_get (refusals_after seen more) 0 ≡ None → (k : ℕ) → k < length more → is_name (entry_at more k).name ≡ true
+lawful_after : (seen more : List Entry) → slice_get (refusals_after seen more) 0 ≡ None → (k : ℕ) → k < length more →
+    is_name (entry_at more k).name ≡ true
 lawful_after seen [] accepted k inside = absurd (omega arith)
 lawful_after seen (entry ∷ more) accepted zero inside =
     lawful_name seen entry (split_none (entry_refusal seen entry) (refusals_after (seen ++ entry ∷ []) more) accepted).0
@@ -74,7 +76,8 @@ each_lawful entries accepted = lawful_after [] entries (none_refused entries (ac
 abbrev no_entry : Entry
 no_entry = record { name = []; parent = []; leaf = false }
 
-found_any : (names : List (List ℕ)) (word : List ℕ) (k : ℕ) → k < length names → get_or names k [] ≡ word → list_any (bytes_eq word) names ≡ false → ⊥
+found_any : (names : List (List ℕ)) (word : List ℕ) (k : ℕ) → k < length names → get_or names k [] ≡ word →
+    list_any (bytes_eq word) names ≡ false → ⊥
 found_any [] word k inside same none = absurd (omega arith)
 found_any (first ∷ names) word zero inside same none =
     let fails = (or_false (bytes_eq word first) (list_any (bytes_eq word) names) none).0 in
@@ -92,7 +95,8 @@ module _ (plan : PlanData) (is : IsPlan plan) where
   node_text zero inside = IsUtf8-from_ascii auctioneer (ascii auctioneer refl)
   node_text (suc k) inside =
       let low : k < length plan.entries = omega (arith, counted, length-map plan.entries (λ (e : Entry). e.name)) in
-      subst IsUtf8 (sym (get_or-map (λ (e : Entry). e.name) plan.entries k no_entry [] low)) (name_text (entry_at plan.entries k).name (each_lawful plan.entries is.accepted k low))
+      subst IsUtf8 (sym (get_or-map (λ (e : Entry). e.name) plan.entries k no_entry [] low))
+      (name_text (entry_at plan.entries k).name (each_lawful plan.entries is.accepted k low))
 
   -- a name that is found is that of the node
   pub node_found : (word : List ℕ) (x : ℕ) → node_named plan.entries word ≡ Some x → (x ≤ length plan.nodes) × (name plan x ≡ word)

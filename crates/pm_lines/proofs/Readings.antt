@@ -1,5 +1,6 @@
 -- Answers of readers, and readers one behind another.
-use Rattle.std.proofs.Common.{◌≡◌, ◌≢◌, ◌∙◌, sym, ap, subst, refl, ℕ, ◌<◌, ◌^◌, true, List, [], ◌∷◌, ◌++◌, arith, Option, Some, None}
+use Rattle.std.proofs.Common.{◌≡◌, ◌≢◌, ◌∙◌, sym, ap, subst, refl, ℕ, ◌<◌, ◌^◌, true, List, [], ◌∷◌, ◌++◌, arith, Option}
+use Rattle.std.proofs.Common.{Some, None}
 use Rattle.std.specs.Prelude.{decimal}
 use Rattle.pm_report.proofs.LineWords.{same_word, SameWord, decimal_word}
 use Rattle.pm_lines.specs.Reading.{Reads, is_word}
@@ -31,7 +32,8 @@ pub last_same : (v w : List ℕ) → is_word v ≡ true → is_word w ≡ true �
 last_same v w v_is w_is same = (same_word v w 10 10 [] [] v_is w_is (omega arith) (omega arith) same).word
 
 -- what the last word of a line is
-pub reads_last : (word rest : List ℕ) (answer : Option ℕ) → is_word word ≡ true → rest ≡ word ++ 10 ∷ [] → Reads (λ n. n < 2 ^ 32) decimal word answer →
+pub reads_last : (word rest : List ℕ) (answer : Option ℕ) → is_word word ≡ true → rest ≡ word ++ 10 ∷ [] →
+    Reads (λ n. n < 2 ^ 32) decimal word answer →
     Reads (λ n. n < 2 ^ 32) (λ n. decimal n ++ 10 ∷ []) rest answer
 reads_last word rest None is parts read = record {
   told = tt;
@@ -43,6 +45,7 @@ reads_last word rest (Some n) is parts read = record {
 }
 
 -- what is held stands behind a blank
-pub held_line : (basis : BasisValue) (word : List ℕ) (held : Option (ℕ × ℕ)) → text_line (word ∷ held_words basis held) ≡ word ++ 32 ∷ text_line (held_words basis held)
+pub held_line : (basis : BasisValue) (word : List ℕ) (held : Option (ℕ × ℕ)) → text_line (word ∷ held_words basis held) ≡ word
+    ++ 32 ∷ text_line (held_words basis held)
 held_line basis word None = refl
 held_line basis word (Some held) = refl

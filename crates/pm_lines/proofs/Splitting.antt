@@ -1,5 +1,6 @@
 -- The first word of some bytes.
-use Rattle.std.proofs.Common.{◌≡◌, ◌≢◌, ◌∙◌, sym, ap, subst, refl, ℕ, zero, suc, ◌+◌, ◌<◌, ◌≤◌, true, ◌&&◌, nat_lt, List, [], ◌∷◌, ◌++◌, length, take, drop, get_or, arith, inl, inr}
+use Rattle.std.proofs.Common.{◌≡◌, ◌≢◌, ◌∙◌, sym, ap, subst, refl, ℕ, zero, suc, ◌+◌, ◌<◌, ◌≤◌, true, ◌&&◌, nat_lt, List}
+use Rattle.std.proofs.Common.{[], ◌∷◌, ◌++◌, length, take, drop, get_or, arith, inl, inr}
 use Rattle.std.specs.List.{list_all}
 use Rattle.std.proofs.lemmas.Bool.{cases_lt, lt-ltb, ltb-true}
 use Rattle.std.proofs.lemmas.List.{length-drop}
@@ -9,7 +10,8 @@ use Rattle.pm_report.proofs.LineWords.{same_word, SameWord}
 use Rattle.pm_lines.specs.Reading.{is_word}
 
 -- one byte more of a word
-pub word_more : (bytes : List ℕ) (at : ℕ) → at < length bytes → is_word (take at bytes) ≡ true → 32 < get_or bytes at 0 → is_word (take (at + 1) bytes) ≡ true
+pub word_more : (bytes : List ℕ) (at : ℕ) → at < length bytes → is_word (take at bytes) ≡ true → 32 < get_or bytes at 0 →
+    is_word (take (at + 1) bytes) ≡ true
 word_more bytes at inside word above =
     let here = lt-ltb 32 (get_or bytes at 0) above in
     list_all_more (nat_lt 32) bytes at 0 inside ∙ (λ i. word i && here i)
@@ -44,11 +46,16 @@ pub record EndsAt (bytes : List ℕ) (end : ℕ) : Type 0 where
   pub low : end < length bytes → get_or bytes end 0 ≤ 32
 
 -- a word with a mark behind it is the first word
-pub first_word : (bytes : List ℕ) (end : ℕ) → EndsAt bytes end → (word : List ℕ) (mark : ℕ) (rest : List ℕ) → mark ≤ 32 → is_word word ≡ true → bytes ≡ word ++ mark ∷ rest →
+pub first_word : (bytes : List ℕ) (end : ℕ) → EndsAt bytes end → (word : List ℕ) (mark : ℕ) (rest : List ℕ) → mark ≤ 32 →
+    is_word word ≡ true → bytes ≡ word ++ mark ∷ rest →
     (end < length bytes) × SameWord (take end bytes) word (get_or bytes end 0) mark (drop (end + 1) bytes) rest
 first_word bytes end ends word mark rest low is same =
     elim (cases_lt end (length bytes)) [
-      | inl inside ↦ (inside, same_word (take end bytes) word (get_or bytes end 0) mark (drop (end + 1) bytes) rest ends.word is (ends.low inside) low (sym (parted bytes end inside) ∙ same))
+      | inl inside ↦ (
+        inside,
+        same_word (take end bytes) word (get_or bytes end 0) mark (drop (end + 1) bytes) rest ends.word is
+            (ends.low inside) low (sym (parted bytes end inside) ∙ same),
+      )
       | inr past ↦
           let all : take end bytes ≡ bytes = take_all bytes end past in
           absurd (no_word word mark rest low (subst (λ l. is_word l ≡ true) (all ∙ same) ends.word))

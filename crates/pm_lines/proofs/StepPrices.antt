@@ -1,5 +1,6 @@
 -- Prices and their steps.
-use Rattle.std.proofs.Common.{◌≡◌, ◌∙◌, sym, ap, refl, ℕ, zero, suc, ◌+◌, ◌*◌, ◌-◌, ◌/◌, ◌%◌, ◌<◌, ◌≤◌, ◌^◌, ℤ, pos, negsuc, ◌≤ℤ◌, neg_ℤ, List, arith, Option, Some, None, true}
+use Rattle.std.proofs.Common.{◌≡◌, ◌∙◌, sym, ap, refl, ℕ, zero, suc, ◌+◌, ◌*◌, ◌-◌, ◌/◌, ◌%◌, ◌<◌, ◌≤◌, ◌^◌}
+use Rattle.std.proofs.Common.{ℤ, pos, negsuc, ◌≤ℤ◌, neg_ℤ, List, arith, Option, Some, None, true}
 use Rattle.std.specs.Prelude.{◌-ℤ◌, ◌*ℤ◌, ◌+ℤ◌, int_div, int_rem}
 use Rattle.std.proofs.Math.Nat.{div-add-mod, mul-div_cancel, mul-mod_left, mul_assoc, mul_comm, div-le_of_le-mul, mul-le-mul_right}
 use Rattle.std.proofs.lemmas.Int.{ints}
@@ -55,12 +56,14 @@ pub record IsRange (basis : BasisValue) (range last : ℕ) : Type 0 where
 pub price_is : (basis : BasisValue) (range last k : ℕ) → IsRange basis range last → price_at basis k ≡ basis.min +ℤ pos (k * range / last)
 price_is basis range last k is =
     let steps : pos basis.steps -ℤ pos 1 ≡ pos last = omega (arith, ints, is.steps) in
-    ap (λ z. basis.min +ℤ int_div (pos k *ℤ (basis.max -ℤ basis.min)) z) steps ∙ ap (λ z. basis.min +ℤ int_div (pos k *ℤ z) (pos last)) (sym is.whole)
+    ap (λ z. basis.min +ℤ int_div (pos k *ℤ (basis.max -ℤ basis.min)) z) steps
+    ∙ ap (λ z. basis.min +ℤ int_div (pos k *ℤ z) (pos last)) (sym is.whole)
 
 pub even_range : (basis : BasisValue) → IsBasis basis → (range last : ℕ) → IsRange basis range last → range % last ≡ 0
 even_range basis sound range last is =
     let steps : pos basis.steps -ℤ pos 1 ≡ pos last = omega (arith, ints, is.steps) in
-    let rest : int_rem (pos range) (pos last) ≡ pos 0 = ap (λ z. int_rem z (pos last)) is.whole ∙ ap (λ z. int_rem (basis.max -ℤ basis.min) z) (sym steps) ∙ sound.even in
+    let rest : int_rem (pos range) (pos last) ≡ pos 0 = ap (λ z. int_rem z (pos last)) is.whole
+    ∙ ap (λ z. int_rem (basis.max -ℤ basis.min) z) (sym steps) ∙ sound.even in
     omega (arith, ints, rest)
 
 -- no price is below the least or above the greatest
@@ -72,7 +75,8 @@ price_within basis sound range last k is some inside =
     (omega (arith, ints, price), omega (arith, ints, price, below, is.whole))
 
 -- the step of a price by its rise
-pub reads_price : (basis : BasisValue) → (range last rise : ℕ) (price : ℤ) (answer : Option ℕ) → IsRange basis range last → pos rise ≡ price -ℤ basis.min →
+pub reads_price : (basis : BasisValue) → (range last rise : ℕ) (price : ℤ) (answer : Option ℕ) → IsRange basis range last →
+    pos rise ≡ price -ℤ basis.min →
     Reads (λ k. k ≤ last) (λ k. k * range / last) rise answer → Reads (λ k. k < basis.steps) (price_at basis) price answer
 reads_price basis range last rise price None is at read = record {
   told = tt;
@@ -84,7 +88,8 @@ reads_price basis range last rise price (Some k) is at read = record {
 }
 
 -- the same without the numbers
-pub price_between : (basis : BasisValue) → IsBasis basis → (k : ℕ) → k < basis.steps → (basis.min ≤ℤ price_at basis k) × (price_at basis k ≤ℤ basis.max)
+pub price_between : (basis : BasisValue) → IsBasis basis → (k : ℕ) → k < basis.steps → (basis.min ≤ℤ price_at basis k)
+    × (price_at basis k ≤ℤ basis.max)
 price_between basis sound k inside = by (basis.max -ℤ basis.min) refl
   where
     by : (z : ℤ) → z ≡ basis.max -ℤ basis.min → (basis.min ≤ℤ price_at basis k) × (price_at basis k ≤ℤ basis.max)
@@ -93,7 +98,8 @@ price_between basis sound k inside = by (basis.max -ℤ basis.min) refl
         price_within basis sound range (basis.steps - 1) k whole (omega (arith, sound.steps.least)) inside
     by (negsuc range) is = absurd (omega (arith, ints, is, sound.order))
 
-price_bound : (basis : BasisValue) → IsBasis basis → (k : ℕ) → k < basis.steps → (neg_ℤ (pos price_limit) ≤ℤ price_at basis k) × (price_at basis k ≤ℤ pos price_limit)
+price_bound : (basis : BasisValue) → IsBasis basis → (k : ℕ) → k < basis.steps → (neg_ℤ (pos price_limit) ≤ℤ price_at basis k)
+    × (price_at basis k ≤ℤ pos price_limit)
 price_bound basis sound k inside =
     let within = price_between basis sound k inside in
     (omega (arith, ints, within.0, sound.low), omega (arith, ints, within.1, sound.high))
@@ -106,17 +112,21 @@ price_size basis sound k inside = sized (price_at basis k) refl
     sized (negsuc n) is = let fits = price_bound basis sound k inside in omega (arith, ints, is, fits)
 
 -- the step of a price that is written
-pub reads_written : (basis : BasisValue) → IsBasis basis → (price : ℤ) (word : List ℕ) (answer : Option ℕ) → size_of price < 2 ^ 32 → signed_decimal price ≡ word →
+pub reads_written : (basis : BasisValue) → IsBasis basis → (price : ℤ) (word : List ℕ) (answer : Option ℕ) → size_of price < 2 ^ 32 →
+    signed_decimal price ≡ word →
     Reads (λ k. k < basis.steps) (price_at basis) price answer → Reads (λ k. k < basis.steps) (λ k. signed_decimal (price_at basis k)) word answer
 reads_written basis sound price word None small written read = record {
   told = tt;
-  none = λ e k inside same. read.none e k inside (signed_decimal_injective (price_at basis k) price (mag_small (price_at basis k) (price_size basis sound k inside)) (mag_small price small) (same ∙ sym written));
+  none = λ e k inside same. read.none e k inside
+      (signed_decimal_injective (price_at basis k) price (mag_small (price_at basis k) (price_size basis sound k inside))
+      (mag_small price small) (same ∙ sym written));
 }
   where
     mag_small : (z : ℤ) → size_of z < 2 ^ 32 → mag z < 2 ^ 63
     mag_small (pos n) small = omega (arith, ints)
     mag_small (negsuc n) small = omega (arith, ints)
-reads_written basis sound price word (Some k) small written read = record { told = (read.told.0, ap signed_decimal read.told.1 ∙ written); none = λ e. absurd cc }
+reads_written basis sound price word (Some k) small written read =
+    record { told = (read.told.0, ap signed_decimal read.told.1 ∙ written); none = λ e. absurd cc }
 
 -- the price of a step is a word
 pub step_word : (basis : BasisValue) → IsBasis basis → (k : ℕ) → k < basis.steps → is_word (signed_decimal (price_at basis k)) ≡ true

@@ -1,5 +1,6 @@
 -- Reading, as the inverse of writing.
-use Rattle.std.specs.Prelude.{◌≡◌, ◌≢◌, ℕ, suc, ◌<◌, ◌≤◌, ◌^◌, ℤ, pos, negsuc, Bool, false, nat_lt, List, length, Option, None, IfSome, IsNone}
+use Rattle.std.specs.Prelude.{◌≡◌, ◌≢◌, ℕ, suc, ◌<◌, ◌≤◌, ◌^◌, ℤ, pos, negsuc, Bool, false, nat_lt, List, length, Option, None}
+use Rattle.std.specs.Prelude.{IfSome, IsNone}
 use Rattle.std.specs.List.{list_all}
 use Rattle.pm_basis.specs.Prices.{BasisValue}
 use Rattle.pm_plan.specs.Plans.{PlanData, is_leaf}

@@ -17,7 +17,8 @@ use pm_tree::NodeId;
 /// A node and a number.
 pub(crate) fn read_node_number(plan: &Plan, rest: &[u8]) -> Option<(u32, u32)>
     requires { IsPlan plan.now }
-    ensures { Reads (λ read. (read.0 ≤ length plan.now.nodes) × (read.1 < 2 ^ 32)) (λ read. text_line (name plan.now read.0 ∷ decimal read.1 ∷ [])) rest.now result }
+    ensures { Reads (λ read. (read.0 ≤ length plan.now.nodes) × (read.1 < 2 ^ 32))
+        (λ read. text_line (name plan.now read.0 ∷ decimal read.1 ∷ [])) rest.now result }
 {
     let (word, rest) = split_word(rest)?;
     let node = read_node(plan, word)?;
@@ -28,7 +29,8 @@ pub(crate) fn read_node_number(plan: &Plan, rest: &[u8]) -> Option<(u32, u32)>
 /// A child, behind the name of its parent, and a number.
 pub(crate) fn read_learning(plan: &Plan, rest: &[u8]) -> Option<(u32, u32)>
     requires { IsPlan plan.now }
-    ensures { Reads (λ read. (1 ≤ read.0) × (read.0 ≤ length plan.now.nodes) × (read.1 < 2 ^ 32)) (λ read. text_line (name plan.now (parent plan.now read.0) ∷ name plan.now read.0 ∷ decimal read.1 ∷ [])) rest.now result }
+    ensures { Reads (λ read. (1 ≤ read.0) × (read.0 ≤ length plan.now.nodes) × (read.1 < 2 ^ 32))
+        (λ read. text_line (name plan.now (parent plan.now read.0) ∷ name plan.now read.0 ∷ decimal read.1 ∷ [])) rest.now result }
 {
     let (above, rest) = split_word(rest)?;
     let (child, number) = read_node_number(plan, rest)?;
@@ -76,7 +78,8 @@ fn read_held(basis: &Basis, rest: &[u8]) -> Option<Option<(u32, u32)>>
 /// The index of a clearing, and what a device then holds.
 fn read_device_pass(basis: &Basis, rest: &[u8]) -> Option<(u32, Option<(u32, u32)>)>
     requires { IsBasis basis.now }
-    ensures { Reads (λ read. (read.0 < 2 ^ 32) × IsHolding basis.now read.1) (λ read. text_line (decimal read.0 ∷ held_words basis.now read.1)) rest.now result }
+    ensures { Reads (λ read. (read.0 < 2 ^ 32) × IsHolding basis.now read.1)
+        (λ read. text_line (decimal read.0 ∷ held_words basis.now read.1)) rest.now result }
 {
     let (word, rest) = split_word(rest)?;
     let index = read_number(word)?;
@@ -92,7 +95,8 @@ pub(crate) fn read_passing(
 ) -> Option<(u32, u32, Option<(u32, u32)>)>
     requires plan { IsPlan plan.now }
     requires basis { basis.now ≡ plan.now.basis }
-    ensures { Reads (IsPassing plan.now) (λ read. text_line (name plan.now read.0 ∷ decimal read.1 ∷ device_words (is_leaf plan.now read.0) plan.now.basis read.2)) rest.now result }
+    ensures { Reads (IsPassing plan.now) (λ read.
+        text_line (name plan.now read.0 ∷ decimal read.1 ∷ device_words (is_leaf plan.now read.0) plan.now.basis read.2)) rest.now result }
 {
     let (word, rest) = split_word(rest)?;
     let node = read_node(plan, word)?;

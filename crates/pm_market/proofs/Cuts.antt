@@ -1,9 +1,12 @@
 -- Cuts on the leaves of a node, lists of cuts, and what is read of a state.
-use Rattle.std.proofs.Common.{◌≡◌, ℕ, zero, suc, ◌+◌, ◌≤◌, Bool, true, false, cond, eqb, ◌⊎◌, inl, inr, List, [], ◌∷◌, ◌++◌, length, refl, sym, ◌∙◌, ap, subst, arith}
-use Rattle.std.proofs.lemmas.Bool.{cases_eq, cases_Bool, eqb-true, eq-eqb, ne_eqb, and_parts, and_from, and_cases, cond-true, cond-false, both_ways, false_from_ne_true}
+use Rattle.std.proofs.Common.{◌≡◌, ℕ, zero, suc, ◌+◌, ◌≤◌, Bool, true, false, cond, eqb, ◌⊎◌, inl, inr, List, [], ◌∷◌, ◌++◌}
+use Rattle.std.proofs.Common.{length, refl, sym, ◌∙◌, ap, subst, arith}
+use Rattle.std.proofs.lemmas.Bool.{cases_eq, cases_Bool, eqb-true, eq-eqb, ne_eqb, and_parts, and_from, and_cases, cond-true, cond-false, both_ways}
+use Rattle.std.proofs.lemmas.Bool.{false_from_ne_true}
 use Rattle.std.proofs.lemmas.List.{get_or_append_left, get_or_push, length_push}
 use Rattle.pm_market.specs.Lists.{Lists, nodes, parent, is_leaf, IsLeaf, IsInner, IsLeafOf, is_leaf_of, Lawful}
-use Rattle.pm_market.specs.State.{updated, all_to, is_same_on, SameOn, AtMostOn, RisesOn, cut_at, newest_of, part_of, known_of, greatest_number, number_of, no_changes}
+use Rattle.pm_market.specs.State.{updated, all_to, is_same_on, SameOn, AtMostOn, RisesOn, cut_at, newest_of, part_of, known_of, greatest_number, number_of}
+use Rattle.pm_market.specs.State.{no_changes}
 use Rattle.pm_base.specs.Cuts.{Cut}
 use Rattle.pm_market.proofs.Tree.{leaf_node, leaf_of_parts, child_at_or_above_is}
 
@@ -97,17 +100,20 @@ pushed_same p c cut = updated_same p c (p c ++ cut ∷ [])
 pub pushed_other : {A : Type 0} → (p : ℕ → List A) (c : ℕ) (cut : A) (y : ℕ) → (y ≡ c → ⊥) → pushed p c cut y ≡ p y
 pushed_other p c cut y n = updated_other p c (p c ++ cut ∷ []) y n
 
-pub pushed_cut_at_kept : (p : ℕ → List Cut) (c : ℕ) (cut : Cut) (y i : ℕ) → (y ≡ c → i ≤ length (p c)) → cut_at (pushed p c cut y) i ≡ cut_at (p y) i
+pub pushed_cut_at_kept : (p : ℕ → List Cut) (c : ℕ) (cut : Cut) (y i : ℕ) → (y ≡ c → i ≤ length (p c)) →
+    cut_at (pushed p c cut y) i ≡ cut_at (p y) i
 pushed_cut_at_kept p c cut y i h =
     elim (cases_eq y c) [
-      | inl e ↦ ap (λ (z : ℕ). cut_at (pushed p c cut z) i) e ∙ ap (λ (l : List Cut). cut_at l i) (pushed_same p c cut) ∙ entry_kept (p c) cut i (h e) ∙ ap (λ (z : ℕ). cut_at (p z) i) (sym e)
+      | inl e ↦ ap (λ (z : ℕ). cut_at (pushed p c cut z) i) e ∙ ap (λ (l : List Cut). cut_at l i) (pushed_same p c cut)
+          ∙ entry_kept (p c) cut i (h e) ∙ ap (λ (z : ℕ). cut_at (p z) i) (sym e)
       | inr n ↦ ap (λ (l : List Cut). cut_at l i) (pushed_other p c cut y n)
     ]
 
 pub pushed_length_same : {A : Type 0} → (p : ℕ → List A) (c : ℕ) (cut : A) → length (pushed p c cut c) ≡ length (p c) + 1
 pushed_length_same p c cut = ap length (pushed_same p c cut) ∙ length_push (p c) cut
 
-pub pushed_length_other : {A : Type 0} → (p : ℕ → List A) (c : ℕ) (cut : A) (y : ℕ) → (y ≡ c → ⊥) → length (pushed p c cut y) ≡ length (p y)
+pub pushed_length_other : {A : Type 0} → (p : ℕ → List A) (c : ℕ) (cut : A) (y : ℕ) → (y ≡ c → ⊥) →
+    length (pushed p c cut y) ≡ length (p y)
 pushed_length_other p c cut y n = ap length (pushed_other p c cut y n)
 
 pub pushed_length_le : {A : Type 0} → (p : ℕ → List A) (c : ℕ) (cut : A) (y : ℕ) → length (p y) ≤ length (pushed p c cut y)
@@ -142,11 +148,13 @@ part_zero lists p x d =
       | inr e ↦ ap (λ (a : Cut). a d) (part_inner lists p x 0 e ∙ entry_zero (p x))
     ]
 
-pub part_kept : (lists : Lists) (p : ℕ → List Cut) (c : ℕ) (cut : Cut) (x i : ℕ) → (x ≡ c → i ≤ length (p c)) → part_of lists (pushed p c cut) x i ≡ part_of lists p x i
+pub part_kept : (lists : Lists) (p : ℕ → List Cut) (c : ℕ) (cut : Cut) (x i : ℕ) → (x ≡ c → i ≤ length (p c)) →
+    part_of lists (pushed p c cut) x i ≡ part_of lists p x i
 unfolding part_of
 part_kept lists p c cut x i h = ap (λ (a : Cut). cond (is_leaf lists x) (λ (k : ℕ). i) a) (pushed_cut_at_kept p c cut x i h)
 
-pub known_at : (lists : Lists) → Lawful lists → (p : ℕ → List Cut) (l : ℕ → ℕ) (x d : ℕ) → 1 ≤ x → IsLeafOf lists x d → known_of lists p l (parent lists x) d ≡ part_of lists p x (l x) d
+pub known_at : (lists : Lists) → Lawful lists → (p : ℕ → List Cut) (l : ℕ → ℕ) (x d : ℕ) → 1 ≤ x → IsLeafOf lists x d →
+    known_of lists p l (parent lists x) d ≡ part_of lists p x (l x) d
 unfolding known_of
 known_at lists law p l x d one leaf = ap (λ (y : ℕ). part_of lists p y (l y) d) (child_at_or_above_is lists law x d one leaf)
 
@@ -158,11 +166,17 @@ greatest_le lists cuts x cut zero = omega arith
 greatest_le lists cuts x cut (suc n) =
     elim (cases_Bool (is_same_on lists x (cut_at cuts (suc n)) cut)) [
       | inl e ↦ omega (arith, cond-true (is_same_on lists x (cut_at cuts (suc n)) cut) (suc n) (greatest_number lists cuts x cut n) e)
-      | inr e ↦ omega (arith, cond-false (is_same_on lists x (cut_at cuts (suc n)) cut) (suc n) (greatest_number lists cuts x cut n) e, greatest_le lists cuts x cut n)
+      | inr e ↦ omega (
+        arith,
+        cond-false (is_same_on lists x (cut_at cuts (suc n)) cut) (suc n)
+            (greatest_number lists cuts x cut n) e,
+        greatest_le lists cuts x cut n,
+      )
     ]
 
 -- it is at least each number with the cut
-pub greatest_from : (lists : Lists) (cuts : List Cut) (x : ℕ) (cut : Cut) (n i : ℕ) → i ≤ n → SameOn lists x (cut_at cuts i) cut → i ≤ greatest_number lists cuts x cut n
+pub greatest_from : (lists : Lists) (cuts : List Cut) (x : ℕ) (cut : Cut) (n i : ℕ) → i ≤ n → SameOn lists x (cut_at cuts i) cut →
+    i ≤ greatest_number lists cuts x cut n
 unfolding greatest_number
 greatest_from lists cuts x cut zero i h same = h
 greatest_from lists cuts x cut (suc n) i h same =
@@ -170,37 +184,55 @@ greatest_from lists cuts x cut (suc n) i h same =
       | inl e ↦ omega (arith, cond-true (is_same_on lists x (cut_at cuts (suc n)) cut) (suc n) (greatest_number lists cuts x cut n) e)
       | inr e ↦ elim (cases_eq i (suc n)) [
         | inl ei ↦ absurd (not_same lists x (cut_at cuts (suc n)) cut e (subst (λ (k : ℕ). SameOn lists x (cut_at cuts k) cut) ei same))
-        | inr ne ↦ omega (arith, cond-false (is_same_on lists x (cut_at cuts (suc n)) cut) (suc n) (greatest_number lists cuts x cut n) e, greatest_from lists cuts x cut n i (omega arith) same)
+        | inr ne ↦ omega (
+          arith,
+          cond-false (is_same_on lists x (cut_at cuts (suc n)) cut) (suc n)
+              (greatest_number lists cuts x cut n) e,
+          greatest_from lists cuts x cut n i (omega arith) same,
+        )
       ]
     ]
 
 -- it is 0, or has the cut
-pub greatest_same : (lists : Lists) → Lawful lists → (cuts : List Cut) (x : ℕ) (cut : Cut) (n : ℕ) → (greatest_number lists cuts x cut n ≡ 0) ⊎ SameOn lists x (cut_at cuts (greatest_number lists cuts x cut n)) cut
+pub greatest_same : (lists : Lists) → Lawful lists → (cuts : List Cut) (x : ℕ) (cut : Cut) (n : ℕ) →
+    (greatest_number lists cuts x cut n ≡ 0) ⊎ SameOn lists x (cut_at cuts (greatest_number lists cuts x cut n)) cut
 unfolding greatest_number
 greatest_same lists law cuts x cut zero = inl refl
 greatest_same lists law cuts x cut (suc n) =
     elim (cases_Bool (is_same_on lists x (cut_at cuts (suc n)) cut)) [
-      | inl e ↦ inr (subst (λ (k : ℕ). SameOn lists x (cut_at cuts k) cut) (sym (cond-true (is_same_on lists x (cut_at cuts (suc n)) cut) (suc n) (greatest_number lists cuts x cut n) e)) (same_from lists law x (cut_at cuts (suc n)) cut e))
-      | inr e ↦ subst (λ (k : ℕ). (k ≡ 0) ⊎ SameOn lists x (cut_at cuts k) cut) (sym (cond-false (is_same_on lists x (cut_at cuts (suc n)) cut) (suc n) (greatest_number lists cuts x cut n) e)) (greatest_same lists law cuts x cut n)
+      | inl e ↦ inr (subst (λ (k : ℕ). SameOn lists x (cut_at cuts k) cut)
+          (sym (cond-true (is_same_on lists x (cut_at cuts (suc n)) cut) (suc n) (greatest_number lists cuts x cut n) e))
+          (same_from lists law x (cut_at cuts (suc n)) cut e))
+      | inr e ↦ subst (λ (k : ℕ). (k ≡ 0) ⊎ SameOn lists x (cut_at cuts k) cut)
+          (sym (cond-false (is_same_on lists x (cut_at cuts (suc n)) cut) (suc n) (greatest_number lists cuts x cut n) e))
+          (greatest_same lists law cuts x cut n)
     ]
 
 -- what stands up to n alone decides
-pub greatest_kept : (lists : Lists) (cuts more : List Cut) (x : ℕ) (cut : Cut) (n : ℕ) → ((i : ℕ) → i ≤ n → cut_at more i ≡ cut_at cuts i) → greatest_number lists more x cut n ≡ greatest_number lists cuts x cut n
+pub greatest_kept : (lists : Lists) (cuts more : List Cut) (x : ℕ) (cut : Cut) (n : ℕ) →
+    ((i : ℕ) → i ≤ n → cut_at more i ≡ cut_at cuts i) → greatest_number lists more x cut n ≡ greatest_number lists cuts x cut n
 unfolding greatest_number
 greatest_kept lists cuts more x cut zero h = refl
 greatest_kept lists cuts more x cut (suc n) h =
-    let below : greatest_number lists more x cut n ≡ greatest_number lists cuts x cut n = greatest_kept lists cuts more x cut n (λ i le. h i (omega arith)) in
+    let below : greatest_number lists more x cut n ≡ greatest_number lists cuts x cut n =
+    greatest_kept lists cuts more x cut n (λ i le. h i (omega arith)) in
     ap (λ (a : Cut). cond (is_same_on lists x a cut) (suc n) (greatest_number lists more x cut n)) (h (suc n) (omega arith))
     ∙ ap (λ (k : ℕ). cond (is_same_on lists x (cut_at cuts (suc n)) cut) (suc n) k) below
 
-pub greatest_more : (lists : Lists) (cuts : List Cut) (x : ℕ) (cut : Cut) (n : ℕ) → greatest_number lists cuts x cut n ≤ greatest_number lists cuts x cut (suc n)
+pub greatest_more : (lists : Lists) (cuts : List Cut) (x : ℕ) (cut : Cut) (n : ℕ) →
+    greatest_number lists cuts x cut n ≤ greatest_number lists cuts x cut (suc n)
 unfolding greatest_number
 greatest_more lists cuts x cut n =
     elim (cases_Bool (is_same_on lists x (cut_at cuts (suc n)) cut)) [
-      | inl e ↦ omega (arith, cond-true (is_same_on lists x (cut_at cuts (suc n)) cut) (suc n) (greatest_number lists cuts x cut n) e, greatest_le lists cuts x cut n)
+      | inl e ↦ omega (
+        arith,
+        cond-true (is_same_on lists x (cut_at cuts (suc n)) cut) (suc n) (greatest_number lists cuts x cut n) e,
+        greatest_le lists cuts x cut n,
+      )
       | inr e ↦ omega (arith, cond-false (is_same_on lists x (cut_at cuts (suc n)) cut) (suc n) (greatest_number lists cuts x cut n) e)
     ]
 
-pub number_inner : (lists : Lists) (p : ℕ → List Cut) (x : ℕ) (cut : Cut) → IsInner lists x → number_of lists p x cut ≡ greatest_number lists (p x) x cut (length (p x))
+pub number_inner : (lists : Lists) (p : ℕ → List Cut) (x : ℕ) (cut : Cut) → IsInner lists x →
+    number_of lists p x cut ≡ greatest_number lists (p x) x cut (length (p x))
 unfolding number_of
 number_inner lists p x cut inner = cond-false (is_leaf lists x) (cut x) (greatest_number lists (p x) x cut (length (p x))) inner

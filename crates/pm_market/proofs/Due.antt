@@ -1,6 +1,8 @@
 -- What is due to each node, before and after a move.
-use Rattle.std.proofs.Common.{◌≡◌, ◌≢◌, ℕ, zero, suc, ◌+◌, ◌<◌, ◌≤◌, Bool, true, false, not, eqb, leb, ltb, ◌&&◌, ◌||◌, ◌⊎◌, inl, inr, List, [], ◌∷◌, ◌++◌, length, get_or, refl, sym, ◌∙◌, ap, subst, arith}
-use Rattle.std.proofs.lemmas.Bool.{cases_eq, cases_lt, cases_Bool, cond-true, cond-false, eqb-true, eq-eqb, ltb-true, lt-ltb, and_parts, and_from, or_cases, or_left, or_right, leb-true, le-leb, not-true, not_from_false, both_ways, false_from_ne_true}
+use Rattle.std.proofs.Common.{◌≡◌, ◌≢◌, ℕ, zero, suc, ◌+◌, ◌<◌, ◌≤◌, Bool, true, false, not, eqb, leb, ltb, ◌&&◌, ◌||◌}
+use Rattle.std.proofs.Common.{◌⊎◌, inl, inr, List, [], ◌∷◌, ◌++◌, length, get_or, refl, sym, ◌∙◌, ap, subst, arith}
+use Rattle.std.proofs.lemmas.Bool.{cases_eq, cases_lt, cases_Bool, cond-true, cond-false, eqb-true, eq-eqb, ltb-true, lt-ltb, and_parts, and_from, or_cases}
+use Rattle.std.proofs.lemmas.Bool.{or_left, or_right, leb-true, le-leb, not-true, not_from_false, both_ways, false_from_ne_true}
 use Rattle.pm_base.specs.Cuts.{Cut}
 use Rattle.pm_market.specs.Lists.{Lists, nodes, parent, IsNode}
 use Rattle.pm_market.specs.State.{State, updated, all_to, cut_at, last, clearings, cleared, addresses, addresses_of}
@@ -69,7 +71,8 @@ after_le lists due y j cut x =
       | inr e ↦ omega (arith, cond-false _ j (due x) e)
     ]
 
-after_at : (lists : Lists) (due : ℕ → ℕ) (y j : ℕ) (cut : Cut) (x : ℕ) → parent lists x ≡ y → addresses_of lists cut x ≡ true → j ≤ due_after lists due y j cut x
+after_at : (lists : Lists) (due : ℕ → ℕ) (y j : ℕ) (cut : Cut) (x : ℕ) → parent lists x ≡ y → addresses_of lists cut x ≡ true →
+    j ≤ due_after lists due y j cut x
 after_at lists due y j cut x child addressed =
     elim (cases_lt (due x) j) [
       | inl lt ↦ omega (arith, cond-true _ j (due x) (and_from _ _ (and_from _ _ (lt-ltb (due x) j lt) (eq-eqb (parent lists x) y child)) addressed))
@@ -77,11 +80,14 @@ after_at lists due y j cut x child addressed =
     ]
 
 -- of the nodes alone is it said
-pub knows_same : (lists : Lists) (s : State) (due due' : ℕ → ℕ) → ((x : ℕ) → x ≤ nodes lists → due' x ≡ due x) → KnowsDue lists s due → KnowsDue lists s due'
+pub knows_same : (lists : Lists) (s : State) (due due' : ℕ → ℕ) → ((x : ℕ) → x ≤ nodes lists → due' x ≡ due x) →
+    KnowsDue lists s due → KnowsDue lists s due'
 knows_same lists s due due' same knows = record {
   passed_made = knows.passed_made;
-  reached = λ x node one. subst (λ (j : ℕ). has_reached s (parent lists x) j ≡ true) (sym (same x node.1)) (knows.reached x node (omega (arith, one, same x node.1)));
-  addressed = λ x node one. subst (λ (j : ℕ). addresses lists s j x ≡ true) (sym (same x node.1)) (knows.addressed x node (omega (arith, one, same x node.1)));
+  reached = λ x node one. subst (λ (j : ℕ). has_reached s (parent lists x) j ≡ true) (sym (same x node.1))
+      (knows.reached x node (omega (arith, one, same x node.1)));
+  addressed = λ x node one. subst (λ (j : ℕ). addresses lists s j x ≡ true) (sym (same x node.1))
+      (knows.addressed x node (omega (arith, one, same x node.1)));
   greatest = λ x j node reached addressed. omega (arith, knows.greatest x j node reached addressed, same x node.1);
 }
 
@@ -102,7 +108,8 @@ knows_published lists s due c cut one knows =
     let made : clearings t ≡ clearings s = ap length top in
     let reaches : (y j : ℕ) → has_reached t y j ≡ has_reached s y j =
     λ y j. ap (λ (l : List Cut). (eqb y 0 && leb 1 j && leb j (length l)) || is_one_of (s.passed y) j) top in
-    let addressed : (x j : ℕ) → addresses lists t j x ≡ addresses lists s j x = λ x j. ap (λ (l : List Cut). addresses_of lists (cut_at l j) x) top in record {
+    let addressed : (x j : ℕ) → addresses lists t j x ≡ addresses lists s j x =
+    λ x j. ap (λ (l : List Cut). addresses_of lists (cut_at l j) x) top in record {
       passed_made = λ x j among. omega (arith, knows.passed_made x j among, made);
       reached = λ x node one. reaches (parent lists x) (due x) ∙ knows.reached x node one;
       addressed = λ x node one. addressed x (due x) ∙ knows.addressed x node one;
@@ -134,11 +141,13 @@ module _ (lists : Lists) (s : State) (due : ℕ → ℕ) (cut : Cut) (knows : Kn
         | inr among ↦ inr among
       ])
 
-  old_within : (x j : ℕ) → IsNode lists x → j ≤ clearings s → has_reached s (parent lists x) j ≡ true → addresses lists cleared_next j x ≡ true → j ≤ due_after lists due 0 next_index cut x
+  old_within : (x j : ℕ) → IsNode lists x → j ≤ clearings s → has_reached s (parent lists x) j ≡ true →
+      addresses lists cleared_next j x ≡ true → j ≤ due_after lists due 0 next_index cut x
   old_within x j node old reached addressed =
       omega (arith, knows.greatest x j node reached (sym (address_kept x j old) ∙ addressed), after_le lists due 0 next_index cut x)
 
-  greatest_cleared : (x j : ℕ) → IsNode lists x → has_reached cleared_next (parent lists x) j ≡ true → addresses lists cleared_next j x ≡ true → j ≤ due_after lists due 0 next_index cut x
+  greatest_cleared : (x j : ℕ) → IsNode lists x → has_reached cleared_next (parent lists x) j ≡ true →
+      addresses lists cleared_next j x ≡ true → j ≤ due_after lists due 0 next_index cut x
   greatest_cleared x j node reached addressed =
       elim (reached_from cleared_next (parent lists x) j reached) [
         | inl top ↦ elim (cases_lt (clearings s) j) [
@@ -148,15 +157,19 @@ module _ (lists : Lists) (s : State) (due : ℕ → ℕ) (cut : Cut) (knows : Kn
           | inr old ↦ old_within x j node old (reached_at s (parent lists x) j (inl (top.0, top.1, old))) addressed
         ]
         | inr among ↦
-            old_within x j node (knows.passed_made (parent lists x) j (is_one_of_at (s.passed (parent lists x)) j among.0 among.1 among.2)) (reached_at s (parent lists x) j (inr among)) addressed
+            old_within x j node (knows.passed_made (parent lists x) j
+            (is_one_of_at (s.passed (parent lists x)) j among.0 among.1 among.2)) (reached_at s (parent lists x) j (inr among)) addressed
       ]
 
-  pub knows_cleared : KnowsDue lists (record s { published = updated s.published 0 (s.published 0 ++ cut ∷ []) }) (due_after lists due 0 (clearings s + 1) cut)
+  pub knows_cleared : KnowsDue lists (record s { published = updated s.published 0 (s.published 0 ++ cut ∷ []) })
+      (due_after lists due 0 (clearings s + 1) cut)
   knows_cleared = record {
     passed_made = λ x j among. omega (arith, knows.passed_made x j among, one_more);
     reached = λ x node one. elim (after_cases lists due 0 next_index cut x) [
-      | inl new ↦ subst (λ (j : ℕ). has_reached cleared_next (parent lists x) j ≡ true) (sym new.0) (reached_at cleared_next (parent lists x) next_index (inl (new.1, omega arith, omega (arith, one_more))))
-      | inr old ↦ subst (λ (j : ℕ). has_reached cleared_next (parent lists x) j ≡ true) (sym old) (reach_kept (parent lists x) (due x) (knows.reached x node (omega (arith, one, old))))
+      | inl new ↦ subst (λ (j : ℕ). has_reached cleared_next (parent lists x) j ≡ true) (sym new.0)
+          (reached_at cleared_next (parent lists x) next_index (inl (new.1, omega arith, omega (arith, one_more))))
+      | inr old ↦ subst (λ (j : ℕ). has_reached cleared_next (parent lists x) j ≡ true) (sym old)
+          (reach_kept (parent lists x) (due x) (knows.reached x node (omega (arith, one, old))))
     ];
     addressed = λ x node one. elim (after_cases lists due 0 next_index cut x) [
       | inl new ↦ subst (λ (j : ℕ). addresses lists cleared_next j x ≡ true) (sym new.0) (address_new x next_index refl ∙ new.2)
@@ -176,10 +189,11 @@ module _ (lists : Lists) (s : State) (due : ℕ → ℕ) (y i : ℕ) (made : i �
   one_of_cases : (z j : ℕ) → is_one_of (passed_next.passed z) j ≡ true → (is_one_of (s.passed z) j ≡ true) ⊎ ((z ≡ y) × (j ≡ i))
   one_of_cases z j h =
       elim (cases_eq z y) [
-        | inl same ↦ elim (one_of_push (s.passed y) i j (sym (ap (λ (l : List ℕ). is_one_of l j) (ap passed_next.passed same ∙ pushed_same s.passed y i)) ∙ h)) [
-          | inl old ↦ inl (ap (λ (w : ℕ). is_one_of (s.passed w) j) same ∙ old)
-          | inr new ↦ inr (same, sym new)
-        ]
+        | inl same ↦ elim (one_of_push (s.passed y) i j
+            (sym (ap (λ (l : List ℕ). is_one_of l j) (ap passed_next.passed same ∙ pushed_same s.passed y i)) ∙ h)) [
+              | inl old ↦ inl (ap (λ (w : ℕ). is_one_of (s.passed w) j) same ∙ old)
+              | inr new ↦ inr (same, sym new)
+            ]
         | inr other ↦ inl (sym (ap (λ (l : List ℕ). is_one_of l j) (pushed_other s.passed y i z other)) ∙ h)
       ]
 
@@ -196,7 +210,8 @@ module _ (lists : Lists) (s : State) (due : ℕ → ℕ) (y i : ℕ) (made : i �
   one_of_still : (z j : ℕ) → is_one_of (s.passed z) j ≡ true → is_one_of (passed_next.passed z) j ≡ true
   one_of_still z j h =
       elim (cases_eq z y) [
-        | inl same ↦ ap (λ (l : List ℕ). is_one_of l j) (ap passed_next.passed same ∙ pushed_same s.passed y i) ∙ one_of_old (s.passed y) i j (sym (ap (λ (w : ℕ). is_one_of (s.passed w) j) same) ∙ h)
+        | inl same ↦ ap (λ (l : List ℕ). is_one_of l j) (ap passed_next.passed same ∙ pushed_same s.passed y i)
+            ∙ one_of_old (s.passed y) i j (sym (ap (λ (w : ℕ). is_one_of (s.passed w) j) same) ∙ h)
         | inr other ↦ ap (λ (l : List ℕ). is_one_of l j) (pushed_other s.passed y i z other) ∙ h
       ]
 
@@ -209,7 +224,8 @@ module _ (lists : Lists) (s : State) (due : ℕ → ℕ) (y i : ℕ) (made : i �
 
   reach_here : (z j : ℕ) → z ≡ y → j ≡ i → has_reached passed_next z j ≡ true
   reach_here z j same here =
-      or_right _ _ (ap (is_one_of (passed_next.passed z)) here ∙ ap (λ (l : List ℕ). is_one_of l i) (ap passed_next.passed same ∙ pushed_same s.passed y i) ∙ one_of_last (s.passed y) i)
+      or_right _ _ (ap (is_one_of (passed_next.passed z)) here
+      ∙ ap (λ (l : List ℕ). is_one_of l i) (ap passed_next.passed same ∙ pushed_same s.passed y i) ∙ one_of_last (s.passed y) i)
 
   made_next : (x j : ℕ) → is_one_of (passed_next.passed x) j ≡ true → j ≤ clearings s
   made_next x j among =
@@ -223,7 +239,8 @@ module _ (lists : Lists) (s : State) (due : ℕ → ℕ) (y i : ℕ) (made : i �
     passed_made = made_next;
     reached = λ x node one. elim (after_cases lists due y i (cleared s i) x) [
       | inl new ↦ reach_here (parent lists x) (due_after lists due y i (cleared s i) x) new.1 new.0
-      | inr old ↦ subst (λ (j : ℕ). has_reached passed_next (parent lists x) j ≡ true) (sym old) (reach_still (parent lists x) (due x) (knows.reached x node (omega (arith, one, old))))
+      | inr old ↦ subst (λ (j : ℕ). has_reached passed_next (parent lists x) j ≡ true) (sym old)
+          (reach_still (parent lists x) (due x) (knows.reached x node (omega (arith, one, old))))
     ];
     addressed = λ x node one. elim (after_cases lists due y i (cleared s i) x) [
       | inl new ↦ subst (λ (j : ℕ). addresses lists s j x ≡ true) (sym new.0) new.2
@@ -237,7 +254,8 @@ module _ (lists : Lists) (s : State) (due : ℕ → ℕ) (y i : ℕ) (made : i �
   }
 
   -- nothing is due by a pass to a node without children
-  pub knows_passed_last : ((x : ℕ) → IsNode lists x → parent lists x ≢ y) → KnowsDue lists (record s { passed = updated s.passed y (s.passed y ++ i ∷ []) }) due
+  pub knows_passed_last : ((x : ℕ) → IsNode lists x → parent lists x ≢ y) →
+      KnowsDue lists (record s { passed = updated s.passed y (s.passed y ++ i ∷ []) }) due
   knows_passed_last childless = record {
     passed_made = made_next;
     reached = λ x node one. reach_still (parent lists x) (due x) (knows.reached x node one);
@@ -249,7 +267,8 @@ module _ (lists : Lists) (s : State) (due : ℕ → ℕ) (y i : ℕ) (made : i �
   }
 
 -- where nothing later than the last price is due, no pass is legal
-pub none_passes : (lists : Lists) (s : State) (due : ℕ → ℕ) → KnowsDue lists s due → (x j : ℕ) → due x ≤ last s x → pass_is_legal lists s x j ≡ false
+pub none_passes : (lists : Lists) (s : State) (due : ℕ → ℕ) → KnowsDue lists s due → (x j : ℕ) → due x ≤ last s x →
+    pass_is_legal lists s x j ≡ false
 none_passes lists s due knows x j old =
     false_from_ne_true (pass_is_legal lists s x j) (λ e.
     let legal = pass_from lists s x j e in
@@ -266,7 +285,8 @@ due_passes lists s due knows x node later =
     )
 
 -- no pass is legal to what is no node
-pub no_pass_outside : (lists : Lists) (s : State) (x : ℕ) → is_node lists x ≡ false → all_to (clearings s) (λ j. not (pass_is_legal lists s x j)) ≡ true
+pub no_pass_outside : (lists : Lists) (s : State) (x : ℕ) → is_node lists x ≡ false →
+    all_to (clearings s) (λ j. not (pass_is_legal lists s x j)) ≡ true
 no_pass_outside lists s x none =
     all_to_from (clearings s) (λ j. not (pass_is_legal lists s x j)) (λ j one le. ap not (false_from_ne_true (pass_is_legal lists s x j) (λ legal.
     both_ways (is_node lists x) none (is_node_at lists x (pass_from lists s x j legal).0))))
@@ -286,7 +306,8 @@ no_pass_is lists s due knows x node =
     ])
 
 -- the start, where nothing is due
-pub knows_start : (lists : Lists) (s : State) (due : ℕ → ℕ) → s.published 0 ≡ [] → ((x : ℕ) → s.passed x ≡ []) → ((x : ℕ) → due x ≡ 0) → KnowsDue lists s due
+pub knows_start : (lists : Lists) (s : State) (due : ℕ → ℕ) → s.published 0 ≡ [] → ((x : ℕ) → s.passed x ≡ []) →
+    ((x : ℕ) → due x ≡ 0) → KnowsDue lists s due
 knows_start lists s due none_cleared none_passed none_due =
     let none_among : (x j : ℕ) → is_one_of (s.passed x) j ≡ true → ⊥ =
     λ x j among. not_one_of j (sym (ap (λ (l : List ℕ). is_one_of l j) (none_passed x)) ∙ among) in
@@ -301,7 +322,8 @@ knows_start lists s due none_cleared none_passed none_due =
     }
 
 -- what is not marked is no parent
-pub childless_from : (lists : Lists) (marks : List Bool) (y : ℕ) → AreParents lists.parents marks → get_or marks y true ≡ false → (x : ℕ) → IsNode lists x → parent lists x ≢ y
+pub childless_from : (lists : Lists) (marks : List Bool) (y : ℕ) → AreParents lists.parents marks → get_or marks y true ≡ false →
+    (x : ℕ) → IsNode lists x → parent lists x ≢ y
 unfolding parent
 childless_from lists marks y marked none zero node e = absurd (omega (arith, node.0))
 childless_from lists marks y marked none (suc at) node e =

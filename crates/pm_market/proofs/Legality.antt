@@ -1,12 +1,15 @@
 -- The tests of the moves agree with what is legal.
-use Rattle.std.proofs.Common.{◌≡◌, ℕ, zero, suc, ◌+◌, ◌-◌, ◌<◌, ◌≤◌, true, false, not, eqb, ltb, leb, ◌&&◌, inl, inr, List, [], ◌∷◌, length, get_or, sym, ◌∙◌, ap, arith}
+use Rattle.std.proofs.Common.{◌≡◌, ℕ, zero, suc, ◌+◌, ◌-◌, ◌<◌, ◌≤◌, true, false, not, eqb, ltb, leb, ◌&&◌, inl, inr, List, []}
+use Rattle.std.proofs.Common.{◌∷◌, length, get_or, sym, ◌∙◌, ap, arith}
 use Rattle.std.specs.List.{Contains}
-use Rattle.std.proofs.lemmas.Bool.{cases_lt, eqb-true, eq-eqb, ltb-true, leb-true, lt-ltb, le-leb, and_parts, and_from, or_cases, or_left, or_right, not-true, not_from_false, both_ways}
+use Rattle.std.proofs.lemmas.Bool.{cases_lt, eqb-true, eq-eqb, ltb-true, leb-true, lt-ltb, le-leb, and_parts, and_from, or_cases, or_left, or_right, not-true}
+use Rattle.std.proofs.lemmas.Bool.{not_from_false, both_ways}
 use Rattle.pm_base.specs.Limits.{window_size}
 use Rattle.pm_market.specs.Lists.{Lists, nodes, phases, parent, is_leaf, IsNode, end_count}
 use Rattle.pm_market.specs.State.{State, all_to, is_same_on, known, newest, part, number, last, clearings, cleared, addresses}
 use Rattle.pm_market.specs.Moves.{Reached, NodeLegal}
-use Rattle.pm_market.specs.Legality.{is_one_of, is_node, has_reached, learn_is_legal, publish_is_legal, clear_is_legal, pass_is_legal, is_idle_at, is_idle, change_is_legal, is_legal}
+use Rattle.pm_market.specs.Legality.{is_one_of, is_node, has_reached, learn_is_legal, publish_is_legal, clear_is_legal, pass_is_legal, is_idle_at, is_idle}
+use Rattle.pm_market.specs.Legality.{change_is_legal, is_legal}
 use Rattle.pm_market.specs.declared.moves.Move.{Move}
 use Rattle.pm_market.specs.declared.moves.Move.TheVariants.{Change, Learn, Publish, Clear, Pass}
 use Rattle.pm_market.proofs.Tree.{leaf_past}
@@ -106,7 +109,8 @@ pub pass_at : (lists : Lists) (s : State) (x j : ℕ) → NodeLegal lists s (Pas
 unfolding pass_is_legal
 pass_at lists s x j h = and_from _ _ (and_from _ _ (and_from _ _ (is_node_at lists x h.0) (reached_at s (parent lists x) j h.1)) (lt-ltb (last s x) j h.2)) h.3
 
-pub idle_parts : (lists : Lists) (s : State) → is_idle lists s ≡ true → ((x : ℕ) → IsNode lists x → is_idle_at lists s x ≡ true) × (clear_is_legal lists s (clearings s + 1) ≡ false)
+pub idle_parts : (lists : Lists) (s : State) → is_idle lists s ≡ true → ((x : ℕ) → IsNode lists x → is_idle_at lists s x ≡ true)
+    × (clear_is_legal lists s (clearings s + 1) ≡ false)
 unfolding is_idle
 idle_parts lists s h =
     let p = and_parts (all_to (nodes lists) (is_idle_at lists s)) (not (clear_is_legal lists s (clearings s + 1))) h in (
@@ -115,17 +119,20 @@ idle_parts lists s h =
     )
 
 pub at_parts : (lists : Lists) (s : State) (x : ℕ) → is_idle_at lists s x ≡ true →
-    (learn_is_legal lists s x (newest lists s x) ≡ false) × (publish_is_legal lists s x (newest lists s x + 1) ≡ false) × ((j : ℕ) → 1 ≤ j → j ≤ clearings s → pass_is_legal lists s x j ≡ false)
+    (learn_is_legal lists s x (newest lists s x) ≡ false) × (publish_is_legal lists s x (newest lists s x + 1) ≡ false)
+    × ((j : ℕ) → 1 ≤ j → j ≤ clearings s → pass_is_legal lists s x j ≡ false)
 unfolding is_idle_at
 at_parts lists s x h =
-    let a = and_parts (not (learn_is_legal lists s x (newest lists s x)) && not (publish_is_legal lists s x (newest lists s x + 1))) (all_to (clearings s) (λ j. not (pass_is_legal lists s x j))) h in
+    let a = and_parts (not (learn_is_legal lists s x (newest lists s x)) && not (publish_is_legal lists s x (newest lists s x + 1)))
+    (all_to (clearings s) (λ j. not (pass_is_legal lists s x j))) h in
     let b = and_parts (not (learn_is_legal lists s x (newest lists s x))) (not (publish_is_legal lists s x (newest lists s x + 1))) a.0 in (
       not-true (learn_is_legal lists s x (newest lists s x)) b.0,
       not-true (publish_is_legal lists s x (newest lists s x + 1)) b.1,
       λ j one le. not-true (pass_is_legal lists s x j) (all_to_at (clearings s) (λ j. not (pass_is_legal lists s x j)) a.1 j one le),
     )
 
-pub change_from : (lists : Lists) (s : State) (d n : ℕ) → change_is_legal lists s d n ≡ true → (is_leaf lists d ≡ true) × (s.closed < phases lists) × (n ≡ s.counts d + 1) × (n ≤ end_count lists (s.closed + 1) d)
+pub change_from : (lists : Lists) (s : State) (d n : ℕ) → change_is_legal lists s d n ≡ true → (is_leaf lists d ≡ true)
+    × (s.closed < phases lists) × (n ≡ s.counts d + 1) × (n ≤ end_count lists (s.closed + 1) d)
 unfolding change_is_legal
 change_from lists s d n h =
     let a = and_parts (is_leaf lists d && ltb s.closed (phases lists) && eqb n (s.counts d + 1)) (leb n (end_count lists (s.closed + 1) d)) h in
@@ -134,7 +141,8 @@ change_from lists s d n h =
     (c.0, ltb-true s.closed (phases lists) c.1, eqb-true n (s.counts d + 1) b.1, leb-true n (end_count lists (s.closed + 1) d) a.1)
 
 -- a legal move of each kind
-pub legal_change : (lists : Lists) (s : State) (m : Move) (d n : ℕ) → m ≡ Change d n → is_legal lists s m ≡ true → change_is_legal lists s d n ≡ true
+pub legal_change : (lists : Lists) (s : State) (m : Move) (d n : ℕ) → m ≡ Change d n → is_legal lists s m ≡ true →
+    change_is_legal lists s d n ≡ true
 unfolding is_legal
 legal_change lists s m d n e h = sym (ap (is_legal lists s) e) ∙ h
 
@@ -142,7 +150,8 @@ pub legal_learn : (lists : Lists) (s : State) (m : Move) (x n : ℕ) → m ≡ L
 unfolding is_legal
 legal_learn lists s m x n e h = sym (ap (is_legal lists s) e) ∙ h
 
-pub legal_publish : (lists : Lists) (s : State) (m : Move) (c n : ℕ) → m ≡ Publish c n → is_legal lists s m ≡ true → publish_is_legal lists s c n ≡ true
+pub legal_publish : (lists : Lists) (s : State) (m : Move) (c n : ℕ) → m ≡ Publish c n → is_legal lists s m ≡ true →
+    publish_is_legal lists s c n ≡ true
 unfolding is_legal
 legal_publish lists s m c n e h = sym (ap (is_legal lists s) e) ∙ h
 

@@ -1,5 +1,6 @@
 -- Turns of the loops over a market's tables.
-use Rattle.std.proofs.Common.{◌≡◌, ℕ, zero, suc, ◌+◌, ◌-◌, ◌≤◌, Bool, true, false, cond, eqb, not, ◌&&◌, ◌||◌, ◌⊎◌, inl, inr, List, [], ◌∷◌, map, length, get_or, refl, sym, ◌∙◌, ap, arith}
+use Rattle.std.proofs.Common.{◌≡◌, ℕ, zero, suc, ◌+◌, ◌-◌, ◌≤◌, Bool, true, false, cond, eqb, not, ◌&&◌, ◌||◌, ◌⊎◌, inl}
+use Rattle.std.proofs.Common.{inr, List, [], ◌∷◌, map, length, get_or, refl, sym, ◌∙◌, ap, arith}
 use Rattle.std.proofs.lemmas.Bool.{cases_eq, cases_Bool, cond-true, cond-false, and_from, both_ways, false_from_ne_true, eq-eqb, ne_eqb}
 use Rattle.std.proofs.Math.ListN.{get_or-map}
 use Rattle.pm_market.specs.Lists.{Lists, parent, is_leaf, is_leaf_of, is_member, is_below, is_below_in, IsInner}
@@ -23,19 +24,22 @@ all_to_false n d p one le h = false_from_ne_true (all_to n p) (λ e. both_ways (
 pub below_zero : (lists : Lists) (levels x : ℕ) → (x ≡ 0 → ⊥) → is_below_in lists levels x 0 ≡ false
 unfolding is_below_in
 below_zero lists zero x ne = ne_eqb x 0 ne
-below_zero lists (suc levels) x ne = ap (λ (b : Bool). b || is_below_in lists levels x (parent lists 0)) (ne_eqb x 0 ne) ∙ ap (is_below_in lists levels x) (parent_zero lists) ∙ below_zero lists levels x ne
+below_zero lists (suc levels) x ne = ap (λ (b : Bool). b || is_below_in lists levels x (parent lists 0)) (ne_eqb x 0 ne)
+    ∙ ap (is_below_in lists levels x) (parent_zero lists) ∙ below_zero lists levels x ne
 
 pub below_here : (lists : Lists) (levels x d : ℕ) → d ≡ x → is_below_in lists levels x d ≡ true
 unfolding is_below_in
 below_here lists zero x d e = eq-eqb x d (sym e)
 below_here lists (suc levels) x d e = ap (λ (b : Bool). b || is_below_in lists levels x (parent lists d)) (eq-eqb x d (sym e))
 
-pub below_step : (lists : Lists) (levels more x d : ℕ) → more ≡ levels + 1 → (d ≡ x → ⊥) → is_below_in lists more x d ≡ is_below_in lists levels x (parent lists d)
+pub below_step : (lists : Lists) (levels more x d : ℕ) → more ≡ levels + 1 → (d ≡ x → ⊥) →
+    is_below_in lists more x d ≡ is_below_in lists levels x (parent lists d)
 unfolding is_below_in
 below_step lists levels zero x d e ne = absurd (omega arith)
 below_step lists levels (suc more) x d e ne =
     let same : more ≡ levels = omega arith in
-    ap (λ (b : Bool). b || is_below_in lists more x (parent lists d)) (ne_eqb x d (λ w. ne (sym w))) ∙ ap (λ (k : ℕ). is_below_in lists k x (parent lists d)) same
+    ap (λ (b : Bool). b || is_below_in lists more x (parent lists d)) (ne_eqb x d (λ w. ne (sym w)))
+    ∙ ap (λ (k : ℕ). is_below_in lists k x (parent lists d)) same
 
 pub toward_zero : (lists : Lists) (count y : ℕ) → toward lists count y 0 ≡ 0
 toward_zero lists zero y = toward-none lists y 0
@@ -66,12 +70,14 @@ pub cut_at_row : (rows : List (List ℕ)) (i : ℕ) → cut_of (get_or ([] ∷ r
 unfolding cut_at
 cut_at_row rows i = sym (get_or-map cut_of ([] ∷ rows) i [])
 
-pub greatest_here : (lists : Lists) (cuts : List Cut) (x : ℕ) (cut : Cut) (n : ℕ) → 1 ≤ n → is_same_on lists x (cut_at cuts n) cut ≡ true → greatest_number lists cuts x cut n ≡ n
+pub greatest_here : (lists : Lists) (cuts : List Cut) (x : ℕ) (cut : Cut) (n : ℕ) → 1 ≤ n →
+    is_same_on lists x (cut_at cuts n) cut ≡ true → greatest_number lists cuts x cut n ≡ n
 unfolding greatest_number
 greatest_here lists cuts x cut zero one same = absurd (omega arith)
 greatest_here lists cuts x cut (suc n) one same = cond-true (is_same_on lists x (cut_at cuts (suc n)) cut) (suc n) (greatest_number lists cuts x cut n) same
 
-pub greatest_below : (lists : Lists) (cuts : List Cut) (x : ℕ) (cut : Cut) (n k : ℕ) → n ≡ k + 1 → is_same_on lists x (cut_at cuts n) cut ≡ false → greatest_number lists cuts x cut n ≡ greatest_number lists cuts x cut k
+pub greatest_below : (lists : Lists) (cuts : List Cut) (x : ℕ) (cut : Cut) (n k : ℕ) → n ≡ k + 1 →
+    is_same_on lists x (cut_at cuts n) cut ≡ false → greatest_number lists cuts x cut n ≡ greatest_number lists cuts x cut k
 unfolding greatest_number
 greatest_below lists cuts x cut zero k e same = absurd (omega arith)
 greatest_below lists cuts x cut (suc n) k e same =
@@ -91,8 +97,10 @@ same_tests a b h k =
     ]
 
 -- what a concentrator published last
-pub newest_part : (lists : Lists) (s : State) (c : ℕ) → IsInner lists c → part lists s c (newest lists s c) ≡ cut_at (s.published c) (length (s.published c))
-newest_part lists s c inner = part_inner lists s.published c (newest lists s c) inner ∙ ap (cut_at (s.published c)) (newest_inner lists s.counts s.published c inner)
+pub newest_part : (lists : Lists) (s : State) (c : ℕ) → IsInner lists c →
+    part lists s c (newest lists s c) ≡ cut_at (s.published c) (length (s.published c))
+newest_part lists s c inner = part_inner lists s.published c (newest lists s c) inner
+    ∙ ap (cut_at (s.published c)) (newest_inner lists s.counts s.published c inner)
 
 -- a node without a parent below the auctioneer leads nowhere else
 toward_past : (lists : Lists) (count y d : ℕ) → parent lists d ≡ 0 → (toward lists count y d ≡ d) ⊎ (toward lists count y d ≡ 0)
@@ -110,14 +118,16 @@ cut_at_none zero d = refl
 cut_at_none (suc i) d = refl
 
 -- past the last node nothing is known
-pub known_past : (lists : Lists) (published : ℕ → List Cut) (learnt : ℕ → ℕ) (y d : ℕ) → parent lists d ≡ 0 → is_leaf lists d ≡ false → published d ≡ [] → learnt 0 ≡ 0 → known_of lists published learnt y d ≡ 0
+pub known_past : (lists : Lists) (published : ℕ → List Cut) (learnt : ℕ → ℕ) (y d : ℕ) → parent lists d ≡ 0 →
+    is_leaf lists d ≡ false → published d ≡ [] → learnt 0 ≡ 0 → known_of lists published learnt y d ≡ 0
 unfolding known_of
 known_past lists published learnt y d top inner empty none =
     elim (toward_past lists d y d top) [
       | inl e ↦ ap (λ (x : ℕ). part_of lists published x (learnt x) d) (sym (toward_all lists y d) ∙ e) ∙
           ap (λ (a : Cut). a d) (part_inner lists published d (learnt d) inner)
           ∙ ap (λ (l : List Cut). cut_at l (learnt d) d) empty ∙ cut_at_none (learnt d) d
-      | inr e ↦ ap (λ (x : ℕ). part_of lists published x (learnt x) d) (sym (toward_all lists y d) ∙ e) ∙ ap (λ (k : ℕ). part_of lists published 0 k d) none ∙
+      | inr e ↦ ap (λ (x : ℕ). part_of lists published x (learnt x) d) (sym (toward_all lists y d) ∙ e)
+          ∙ ap (λ (k : ℕ). part_of lists published 0 k d) none ∙
           part_zero lists published 0 d
     ]
 
@@ -126,15 +136,18 @@ unfolding last_join
 join_here lists d zero one h = absurd (omega arith)
 join_here lists d (suc n) one h =
     let same : suc n - 1 ≡ n = omega arith in
-    cond-true (is_member lists d (suc n) && not (is_member lists d n)) (suc n) (last_join lists d n) (ap (λ (k : ℕ). is_member lists d (suc n) && not (is_member lists d k)) (sym same) ∙ h)
+    cond-true (is_member lists d (suc n) && not (is_member lists d n)) (suc n) (last_join lists d n)
+    (ap (λ (k : ℕ). is_member lists d (suc n) && not (is_member lists d k)) (sym same) ∙ h)
 
-pub join_below : (lists : Lists) (d n k : ℕ) → n ≡ k + 1 → is_member lists d n && not (is_member lists d (n - 1)) ≡ false → last_join lists d n ≡ last_join lists d k
+pub join_below : (lists : Lists) (d n k : ℕ) → n ≡ k + 1 → is_member lists d n && not (is_member lists d (n - 1)) ≡ false →
+    last_join lists d n ≡ last_join lists d k
 unfolding last_join
 join_below lists d zero k e h = absurd (omega arith)
 join_below lists d (suc n) k e h =
     let same : suc n - 1 ≡ n = omega arith in
     let at : n ≡ k = omega arith in
-    cond-false (is_member lists d (suc n) && not (is_member lists d n)) (suc n) (last_join lists d n) (ap (λ (j : ℕ). is_member lists d (suc n) && not (is_member lists d j)) (sym same) ∙ h) ∙ ap (last_join lists d) at
+    cond-false (is_member lists d (suc n) && not (is_member lists d n)) (suc n) (last_join lists d n)
+    (ap (λ (j : ℕ). is_member lists d (suc n) && not (is_member lists d j)) (sym same) ∙ h) ∙ ap (last_join lists d) at
 
 or_turned : (a b c : Bool) → a || b || c ≡ a || (b || c)
 or_turned true b c = refl
@@ -175,19 +188,22 @@ or_none true = refl
 or_none false = refl
 
 -- a mark says that some number so far does not pass
-pub marked_more : (n k : ℕ) (p : ℕ → Bool) (old new : Bool) → k ≡ n + 1 → old ≡ not (all_to n p) → new ≡ old || not (p k) → new ≡ not (all_to k p)
+pub marked_more : (n k : ℕ) (p : ℕ → Bool) (old new : Bool) → k ≡ n + 1 → old ≡ not (all_to n p) → new ≡ old || not (p k) →
+    new ≡ not (all_to k p)
 unfolding all_to
 marked_more n zero p old new e before here = absurd (omega arith)
 marked_more n (suc k) p old new e before here =
     let same : n ≡ k = omega arith in
     here ∙ ap (λ (b : Bool). b || not (p (suc k))) (before ∙ ap (λ (m : ℕ). not (all_to m p)) same) ∙ not_and (all_to k p) (p (suc k))
 
-pub marked_same : (n k : ℕ) (p : ℕ → Bool) (old new : Bool) → k ≡ n + 1 → old ≡ not (all_to n p) → new ≡ old → p k ≡ true → new ≡ not (all_to k p)
+pub marked_same : (n k : ℕ) (p : ℕ → Bool) (old new : Bool) → k ≡ n + 1 → old ≡ not (all_to n p) → new ≡ old → p k ≡ true →
+    new ≡ not (all_to k p)
 marked_same n k p old new e before here passes =
     marked_more n k p old new e before (here ∙ sym (or_none old) ∙ ap (λ (b : Bool). old || not b) (sym passes))
 
 -- a number above 0 is one of the leaves of each node above the device
-pub number_marks : (lists : Lists) (x d : ℕ) (cut : Cut) → is_leaf lists d ≡ true → 1 ≤ cut d → not (cond (is_leaf_of lists x d) (eqb (cut d) 0) true) ≡ is_below lists x d
+pub number_marks : (lists : Lists) (x d : ℕ) (cut : Cut) → is_leaf lists d ≡ true → 1 ≤ cut d →
+    not (cond (is_leaf_of lists x d) (eqb (cut d) 0) true) ≡ is_below lists x d
 unfolding is_leaf_of
 number_marks lists x d cut leaf some =
     ap (λ (b : Bool). not (cond (b && is_below lists x d) (eqb (cut d) 0) true)) leaf

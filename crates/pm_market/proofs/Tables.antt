@@ -19,13 +19,15 @@ on_either (Ok x) P Q X p q f g = f p
 on_either (Err e) P Q X p q f g = g q
 
 -- states with the same parts
-pub state_same : (counts counts' : Cut) (closed : ℕ) (published published' : ℕ → List Cut) (learnt learnt' : ℕ → ℕ) (passed passed' : ℕ → List ℕ) →
+pub state_same : (counts counts' : Cut) (closed : ℕ) (published published' : ℕ → List Cut) (learnt learnt' : ℕ → ℕ)
+    (passed passed' : ℕ → List ℕ) →
     counts ≡ counts' → published ≡ published' → learnt ≡ learnt' → passed ≡ passed' →
     let old : State = record { counts = counts; closed = closed; published = published; learnt = learnt; passed = passed } in
     let new : State = record { counts = counts'; closed = closed; published = published'; learnt = learnt'; passed = passed' } in
     old ≡ new
 state_same counts counts' closed published published' learnt learnt' passed passed' c p l u =
-    let at : Cut → (ℕ → List Cut) → (ℕ → ℕ) → (ℕ → List ℕ) → State = λ c p l u. record { counts = c; closed = closed; published = p; learnt = l; passed = u } in
+    let at : Cut → (ℕ → List Cut) → (ℕ → ℕ) → (ℕ → List ℕ) → State =
+    λ c p l u. record { counts = c; closed = closed; published = p; learnt = l; passed = u } in
     ap (λ (x : Cut). at x published learnt passed) c ∙ ap (λ (x : ℕ → List Cut). at counts' x learnt passed) p
     ∙ ap (λ (x : ℕ → ℕ). at counts' published' x passed) l ∙ ap (λ (x : ℕ → List ℕ). at counts' published' learnt' x) u
 
@@ -36,7 +38,8 @@ on_success (Err e) P Q f p = tt
 -- a number is written
 pub number_set : (xs : List ℕ) (at v : ℕ) → at < length xs → (λ (k : ℕ). get_or (set xs at v) k 0) ≡ updated (λ (k : ℕ). get_or xs k 0) at v
 number_set xs at v lt = fun_ext (λ (k : ℕ). elim (cases_eq k at) [
-  | inl e ↦ ap (λ (j : ℕ). get_or (set xs at v) j 0) e ∙ get_or-set_same xs at v 0 lt ∙ sym (ap (updated (λ (j : ℕ). get_or xs j 0) at v) e ∙ updated_same (λ (j : ℕ). get_or xs j 0) at v)
+  | inl e ↦ ap (λ (j : ℕ). get_or (set xs at v) j 0) e ∙ get_or-set_same xs at v 0 lt
+      ∙ sym (ap (updated (λ (j : ℕ). get_or xs j 0) at v) e ∙ updated_same (λ (j : ℕ). get_or xs j 0) at v)
   | inr ne ↦ get_or-set_other xs at k v 0 ne ∙ sym (updated_other (λ (j : ℕ). get_or xs j 0) at v k ne)
 ])
 
@@ -55,7 +58,8 @@ row_pushed {X} {Y} h old new at item y e lt more = fun_ext (λ (k : ℕ).
 
 -- an item joins a row of a table that was lent
 pub lent_row_pushed : {X Y : Type 0} (h : List X → List Y) (old lent new : List (List X)) (at : ℕ) (item : X) (y : Y) →
-    lent ≡ old → new ≡ set lent at (get_or lent at [] ++ item ∷ []) → at < length old → ((rows : List X) → h (rows ++ item ∷ []) ≡ h rows ++ y ∷ []) →
+    lent ≡ old → new ≡ set lent at (get_or lent at [] ++ item ∷ []) → at < length old →
+    ((rows : List X) → h (rows ++ item ∷ []) ≡ h rows ++ y ∷ []) →
     (λ (k : ℕ). h (get_or new k [])) ≡ updated (λ (k : ℕ). h (get_or old k [])) at (h (get_or old at []) ++ y ∷ [])
 lent_row_pushed {X} {Y} h old lent new at item y same e lt more =
     row_pushed h old new at item y (e ∙ ap (λ (rows : List (List X)). set rows at (get_or rows at [] ++ item ∷ [])) same) lt more

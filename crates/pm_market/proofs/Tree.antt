@@ -1,9 +1,11 @@
 -- The tree of lawful lists: who stands above whom.
-use Rattle.std.proofs.Common.{◌≡◌, ℕ, zero, suc, ◌-◌, ◌<◌, ◌≤◌, Bool, true, false, cond, eqb, inl, inr, [], ◌∷◌, length, refl, sym, ◌∙◌, ap, subst, arith}
+use Rattle.std.proofs.Common.{◌≡◌, ℕ, zero, suc, ◌-◌, ◌<◌, ◌≤◌, Bool, true, false, cond, eqb, inl, inr, [], ◌∷◌, length, refl, sym}
+use Rattle.std.proofs.Common.{◌∙◌, ap, subst, arith}
 use Rattle.std.proofs.Common.{Option, Some, ◌==◌}
 use Rattle.std.specs.Prelude.{unwrap_or}
 use Rattle.std.specs.List.{find}
-use Rattle.std.proofs.lemmas.Bool.{cases_eq, cases_Bool, eqb-true, eq-eqb, ne_eqb, or_cases, or_left, or_right, and_parts, and_from, cond-true, cond-false, both_ways}
+use Rattle.std.proofs.lemmas.Bool.{cases_eq, cases_Bool, eqb-true, eq-eqb, ne_eqb, or_cases, or_left, or_right, and_parts, and_from, cond-true, cond-false}
+use Rattle.std.proofs.lemmas.Bool.{both_ways}
 use Rattle.std.proofs.lemmas.List.{get_or_past}
 use Rattle.pm_market.specs.Lists.{Lists, nodes, parent, is_leaf, IsNode, IsLeaf, IsInner, IsLeafOf, is_below_in, is_below, is_leaf_of, way_up}
 use Rattle.pm_market.specs.Lists.{child_at_or_above, Lawful}
@@ -32,7 +34,8 @@ leaf_node lists law d leaf = (
   ],
   elim (cases_Bool (Rattle.std.proofs.Common.leb d (nodes lists))) [
     | inl e ↦ Rattle.std.proofs.lemmas.Bool.leb-true d (nodes lists) e
-    | inr e ↦ let far : length lists.leaves < d = omega (arith, law.leaves, Rattle.std.proofs.lemmas.Bool.leb-false d (nodes lists) e) in absurd (both_ways (is_leaf lists d) (leaf_past lists d far) leaf)
+    | inr e ↦ let far : length lists.leaves < d = omega
+        (arith, law.leaves, Rattle.std.proofs.lemmas.Bool.leb-false d (nodes lists) e) in absurd (both_ways (is_leaf lists d) (leaf_past lists d far) leaf)
   ],
 )
 
@@ -73,7 +76,8 @@ up_all lists law zero d h = omega arith
 up_all lists law (suc k) d h =
     elim (cases_eq d 0) [
       | inl e ↦ ap (up lists (suc k)) e ∙ up_at_zero lists (suc k)
-      | inr n ↦ let one : 1 ≤ d = omega arith in let small : parent lists d ≤ k = omega (arith, parent_smaller lists law d one) in up_all lists law k (parent lists d) small
+      | inr n ↦ let one : 1 ≤ d = omega arith in let small : parent lists d ≤ k =
+          omega (arith, parent_smaller lists law d one) in up_all lists law k (parent lists d) small
     ]
 
 below_in_from_up : (lists : Lists) → Lawful lists → (fuel k d : ℕ) → d ≤ fuel → is_below_in lists fuel (up lists k d) d ≡ true
@@ -85,7 +89,8 @@ below_in_from_up lists law (suc fuel) zero d h = or_left _ _ (eq-eqb d d refl)
 below_in_from_up lists law (suc fuel) (suc k) d h =
     elim (cases_eq d 0) [
       | inl e ↦ or_left _ _ (eq-eqb (up lists (suc k) d) d (ap (up lists (suc k)) e ∙ up_at_zero lists (suc k) ∙ sym e))
-      | inr n ↦ let one : 1 ≤ d = omega arith in let small : parent lists d ≤ fuel = omega (arith, parent_smaller lists law d one) in or_right _ _ (below_in_from_up lists law fuel k (parent lists d) small)
+      | inr n ↦ let one : 1 ≤ d = omega arith in let small : parent lists d ≤ fuel =
+          omega (arith, parent_smaller lists law d one) in or_right _ _ (below_in_from_up lists law fuel k (parent lists d) small)
     ]
 
 pub up_from_below_in : (lists : Lists) (fuel x d : ℕ) → is_below_in lists fuel x d ≡ true → (k : ℕ) × (up lists k d ≡ x)
@@ -127,7 +132,8 @@ leaf_of_parent lists law x d h =
     leaf_of lists (parent lists x) d parts.0 (subst (λ (y : ℕ). is_below lists y d ≡ true) e (below_from_up lists law (suc r.0) d))
 
 pub leaf_of_auctioneer : (lists : Lists) → Lawful lists → (d : ℕ) → IsLeaf lists d → IsLeafOf lists 0 d
-leaf_of_auctioneer lists law d leaf = leaf_of lists 0 d leaf (subst (λ (y : ℕ). is_below lists y d ≡ true) (up_all lists law d d (omega arith)) (below_from_up lists law d d))
+leaf_of_auctioneer lists law d leaf =
+    leaf_of lists 0 d leaf (subst (λ (y : ℕ). is_below lists y d ≡ true) (up_all lists law d d (omega arith)) (below_from_up lists law d d))
 
 -- a leaf has no leaf but itself
 leaf_above : (lists : Lists) → Lawful lists → (k x d : ℕ) → IsLeaf lists x → IsLeaf lists d → up lists k d ≡ x → d ≡ x
@@ -169,7 +175,8 @@ pub toward-suc : (lists : Lists) (count y d : ℕ) →
 unfolding toward way_up
 toward-suc lists count y d = unwrap_or-cond (eqb (parent lists d) y) d 0 (find (λ x. parent lists x == y) (way_up lists count (parent lists d)))
 
-toward_is : (lists : Lists) → Lawful lists → (fuel k d y x : ℕ) → d ≤ fuel → 1 ≤ x → up lists k d ≡ x → parent lists x ≡ y → toward lists fuel y d ≡ x
+toward_is : (lists : Lists) → Lawful lists → (fuel k d y x : ℕ) → d ≤ fuel → 1 ≤ x → up lists k d ≡ x → parent lists x ≡ y →
+    toward lists fuel y d ≡ x
 unfolding up
 toward_is lists law zero k d y x h one e ep =
     let e0 : d ≡ 0 = omega arith in
@@ -191,7 +198,8 @@ toward_is lists law (suc fuel) (suc k) d y x h one e ep =
       ]
     ]
 
-pub child_at_or_above_is : (lists : Lists) → Lawful lists → (x d : ℕ) → 1 ≤ x → IsLeafOf lists x d → child_at_or_above lists (parent lists x) d ≡ x
+pub child_at_or_above_is : (lists : Lists) → Lawful lists → (x d : ℕ) → 1 ≤ x → IsLeafOf lists x d →
+    child_at_or_above lists (parent lists x) d ≡ x
 child_at_or_above_is lists law x d one h =
     let r = up_from_below lists x d (leaf_of_parts lists x d h).1 in
     sym (toward_all lists (parent lists x) d) ∙ toward_is lists law d r.0 d (parent lists x) x (omega arith) one r.1 refl
@@ -206,7 +214,8 @@ child_on lists (suc k) d y one e =
       | inr n ↦ let r = child_on lists k (parent lists d) y (omega arith) e in (suc r.0, r.1, r.2)
     ]
 
-pub child_of : (lists : Lists) → Lawful lists → (y d : ℕ) → IsInner lists y → IsLeafOf lists y d → (x : ℕ) × IsNode lists x × (parent lists x ≡ y) × IsLeafOf lists x d
+pub child_of : (lists : Lists) → Lawful lists → (y d : ℕ) → IsInner lists y → IsLeafOf lists y d → (x : ℕ) × IsNode lists x
+    × (parent lists x ≡ y) × IsLeafOf lists x d
 unfolding up
 child_of lists law y d inner h =
     let parts = leaf_of_parts lists y d h in

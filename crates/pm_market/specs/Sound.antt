@@ -19,7 +19,8 @@ pub record Sound (lists : Lists) (s : State) : Type 0 where
   -- a parent learnt no number that its child has not reached
   pub learnt_within : (x : ℕ) → IsNode lists x → s.learnt x ≤ newest lists s x
   -- the cuts that a node published or cleared rise strictly; number 0, all zeros, is below all of them
-  pub published_rise : (c i j : ℕ) → IsInner lists c → i < j → j ≤ length (s.published c) → RisesOn lists c (cut_at (s.published c) i) (cut_at (s.published c) j)
+  pub published_rise : (c i j : ℕ) → IsInner lists c → i < j → j ≤ length (s.published c) →
+      RisesOn lists c (cut_at (s.published c) i) (cut_at (s.published c) j)
   -- the last of them is at most what the node knows
   pub published_known : (c : ℕ) → IsInner lists c → AtMostOn lists c (cut_at (s.published c) (length (s.published c))) (known lists s c)
   -- on the leaves of each child each of them is the child's part under some number that was learnt

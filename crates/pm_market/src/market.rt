@@ -227,7 +227,9 @@ impl Market {
 
     /// Whether a node knows of a device what it published or cleared last, or the device is no leaf of it.
     fn knows_same_at(&self, node: usize, device: usize) -> bool
-        ensures { result ≡ (if is_leaf_of (market_lists self.now) node device then known (market_lists self.now) (market_state self.now) node device == cut_at ((market_state self.now).published node) (length ((market_state self.now).published node)) device else true) }
+        ensures { result ≡ (if is_leaf_of (market_lists self.now) node device then known (market_lists self.now)
+            (market_state self.now) node device == cut_at ((market_state self.now).published node)
+            (length ((market_state self.now).published node)) device else true) }
     {
         let newest = self.cut_row(node, self.published_by(node));
         self.known_number(node, device) == item_at(newest, device, 0)
@@ -236,7 +238,8 @@ impl Market {
 
     /// Whether a node knows just what it published or cleared last.
     fn knows_same(&self, node: usize) -> bool
-        ensures { result ≡ is_same_on (market_lists self.now) node (known (market_lists self.now) (market_state self.now) node) (cut_at ((market_state self.now).published node) (length ((market_state self.now).published node))) }
+        ensures { result ≡ is_same_on (market_lists self.now) node (known (market_lists self.now) (market_state self.now) node)
+            (cut_at ((market_state self.now).published node) (length ((market_state self.now).published node))) }
     {
         for before in 0..self.parents.len() {
             if !self.knows_same_at(node, before + 1) {
@@ -248,7 +251,8 @@ impl Market {
 
     /// The greatest number under which a node published a cut, 0 where there is none.
     fn greatest_number(&self, node: usize, cut: &[u32]) -> usize
-        ensures { result ≡ greatest_number (market_lists self.now) ((market_state self.now).published node) node (cut_of cut.now) (length ((market_state self.now).published node)) }
+        ensures { result ≡ greatest_number (market_lists self.now) ((market_state self.now).published node) node (cut_of cut.now)
+            (length ((market_state self.now).published node)) }
     {
         let newest = self.published_by(node);
         for back in 0..newest {
@@ -274,7 +278,8 @@ impl Market {
 
     /// How many numbers of a node lie above the one that the last price passed to it names.
     fn unanswered(&self, node: usize) -> usize
-        ensures { result ≡ newest (market_lists self.now) (market_state self.now) node - number (market_lists self.now) (market_state self.now) node (cleared (market_state self.now) (last (market_state self.now) node)) }
+        ensures { result ≡ newest (market_lists self.now) (market_state self.now) node - number (market_lists self.now)
+            (market_state self.now) node (cleared (market_state self.now) (last (market_state self.now) node)) }
     {
         let cut = self.cut_row(0, self.last(node));
         self.newest(node).saturating_sub(self.number(node, cut))

@@ -1,4 +1,5 @@
-ghost use Rattle.std.specs.Prelude.{◌≡◌, ◌==◌, ◌<◌, ◌||◌, ◌∷◌, ◌++◌, ℕ, false, [], length, map, replicate, slice_index_or, slice_set, IfOk, OnErr, OnOk};
+ghost use Rattle.std.specs.Prelude.{◌≡◌, ◌==◌, ◌<◌, ◌||◌, ◌∷◌, ◌++◌, ℕ, false, [], length, map, replicate, slice_index_or};
+ghost use Rattle.std.specs.Prelude.{slice_set, IfOk, OnErr, OnOk};
 ghost use Rattle.pm_market.specs.Due.{AreParents};
 ghost use Rattle.pm_market.specs.Legality.{is_one_of};
 
@@ -52,7 +53,8 @@ pub(crate) fn push_at<T: Drop>(
     item: T,
 ) -> Result<(), AllocError>
     requires { place < length table.old }
-    ensures ok { OnOk result (map (λ row. row.items) table.new ≡ slice_set (map (λ row. row.items) table.old) place (slice_index_or (map (λ row. row.items) table.old) place [] ++ item ∷ [])) }
+    ensures ok { OnOk result (map (λ row. row.items) table.new ≡ slice_set (map (λ row. row.items) table.old) place
+        (slice_index_or (map (λ row. row.items) table.old) place [] ++ item ∷ [])) }
     ensures err { OnErr result (map (λ row. row.items) table.new ≡ map (λ row. row.items) table.old) }
 {
     let row = &mut table[place];

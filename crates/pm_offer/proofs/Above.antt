@@ -1,5 +1,6 @@
 -- Who stands above whom, one level at a time, and that each node below y stands at or below one child of y.
-use Rattle.std.proofs.Common.{◌≡◌, ◌∙◌, sym, ap, subst, ℕ, zero, suc, ◌<◌, ◌≤◌, ℤ, pos, ◌+ℤ◌, Bool, true, false, cond, eqb, inl, inr, refl, arith}
+use Rattle.std.proofs.Common.{◌≡◌, ◌∙◌, sym, ap, subst, ℕ, zero, suc, ◌<◌, ◌≤◌, ℤ, pos, ◌+ℤ◌, Bool, true, false, cond, eqb, inl}
+use Rattle.std.proofs.Common.{inr, refl, arith}
 use Rattle.std.specs.Prelude.{◌&&◌, ◌||◌, not, ◌≢◌}
 use Rattle.std.proofs.lemmas.Bool.{cases_eq, eqb-true, eq-eqb, ne_eqb, or_cases, or_left, or_right, and_parts, and_from, cond-false, both_ways}
 use Rattle.std.proofs.lemmas.Int.{ints}
@@ -33,7 +34,8 @@ below_in_zero lists (suc levels) x =
     ∙ ap (λ b. eqb x 0 || b) (below_in_zero lists levels x) ∙ same_twice (eqb x 0)
 
 -- more levels than the node's number find the same
-below_in_same : (lists : Lists) → Lawful lists → (n levels x z : ℕ) → levels ≤ n → z ≤ levels → is_below_in lists levels x z ≡ is_below_in lists z x z
+below_in_same : (lists : Lists) → Lawful lists → (n levels x z : ℕ) → levels ≤ n → z ≤ levels →
+    is_below_in lists levels x z ≡ is_below_in lists z x z
 unfolding is_below_in
 below_in_same lists law n levels x zero h l = below_in_zero lists levels x
 below_in_same lists law n zero x (suc z) h l = absurd (omega arith)
@@ -90,7 +92,8 @@ pub below_auctioneer : (lists : Lists) → Lawful lists → (z : ℕ) → is_bel
 below_auctioneer lists law z = climb lists law (λ (d : ℕ). is_below lists 0 d ≡ true) (below_self lists law 0) (λ d one h. below_parent lists law 0 d h) z
 
 -- two levels of standing below are one
-pub below_below : (lists : Lists) → Lawful lists → (x g z : ℕ) → is_below lists x g ≡ true → is_below lists g z ≡ true → is_below lists x z ≡ true
+pub below_below : (lists : Lists) → Lawful lists → (x g z : ℕ) → is_below lists x g ≡ true → is_below lists g z ≡ true →
+    is_below lists x z ≡ true
 below_below lists law x g z at =
     climb lists law (λ (d : ℕ). is_below lists g d ≡ true → is_below lists x d ≡ true)
     (λ h. subst (λ (e : ℕ). is_below lists x e ≡ true) (let low : g ≤ 0 = below_least lists law g 0 h in let none : g ≡ 0 = omega arith in none) at)
@@ -113,7 +116,8 @@ below_both lists law x z =
     at_itself d same = subst (λ (e : ℕ). is_below lists (parent lists x) (parent lists e) ≡ true) same (below_self lists law (parent lists x))
 
 -- below a device stands no node but itself
-pub below_leaf : (lists : Lists) → Lawful lists → (x : ℕ) → IsLeaf lists x → (z : ℕ) → z ≤ nodes lists → is_below lists x z ≡ true → z ≡ x
+pub below_leaf : (lists : Lists) → Lawful lists → (x : ℕ) → IsLeaf lists x → (z : ℕ) → z ≤ nodes lists →
+    is_below lists x z ≡ true → z ≡ x
 below_leaf lists law x leaf z =
     climb lists law (λ (d : ℕ). d ≤ nodes lists → is_below lists x d ≡ true → d ≡ x)
     (λ inside h. let low : x ≤ 0 = below_least lists law x 0 h in omega arith)
@@ -135,7 +139,8 @@ strict lists law y z one = same_tests (is_below lists y z && not (eqb y z)) (is_
     (ap not (ne_eqb y z (λ same. not_below_parent lists law z one (subst (λ (d : ℕ). is_below lists d (parent lists z) ≡ true) same h)))))
 
 -- a node counts at its parent, or further up
-counted_up : (a b below : Bool) (v : ℤ) → a ≡ b → (b ≡ true → below ≡ true) → cond a v (pos 0) +ℤ cond (below && not b) v (pos 0) ≡ cond below v (pos 0)
+counted_up : (a b below : Bool) (v : ℤ) → a ≡ b → (b ≡ true → below ≡ true) → cond a v (pos 0) +ℤ cond (below && not b) v (pos 0)
+    ≡ cond below v (pos 0)
 counted_up true true true v e h = omega (arith, ints)
 counted_up true true false v e h = absurd (cc (h refl))
 counted_up true false below v e h = absurd (cc e)
@@ -166,7 +171,8 @@ no_term false v = refl
 -- the auctioneer stands below no child
 no_child : (lists : Lists) (y x : ℕ) (v : ℤ) → 1 ≤ x → child_term lists y v 0 x ≡ pos 0
 no_child lists y x v one =
-    ap (λ b. cond (eqb (parent lists x) y) (cond b v (pos 0)) (pos 0)) (below_zero lists x ∙ ne_eqb x 0 (λ e. omega arith)) ∙ no_term (eqb (parent lists x) y) v
+    ap (λ b. cond (eqb (parent lists x) y) (cond b v (pos 0)) (pos 0)) (below_zero lists x ∙ ne_eqb x 0 (λ e. omega arith))
+    ∙ no_term (eqb (parent lists x) y) v
 
 not_itself : (b : Bool) → (b && not b) ≡ false
 not_itself true = refl
@@ -175,7 +181,8 @@ not_itself false = refl
 at_children : (lists : Lists) → Lawful lists → (y : ℕ) (v : ℤ) (z : ℕ) → z ≤ nodes lists →
     int_sum_to (nodes lists) (child_term lists y v z) ≡ cond (is_below lists y z && not (eqb y z)) v (pos 0)
 at_children lists law y v z =
-    climb lists law (λ (d : ℕ). d ≤ nodes lists → int_sum_to (nodes lists) (child_term lists y v d) ≡ cond (is_below lists y d && not (eqb y d)) v (pos 0))
+    climb lists law (λ (d : ℕ). d ≤ nodes lists → int_sum_to (nodes lists) (child_term lists y v d)
+    ≡ cond (is_below lists y d && not (eqb y d)) v (pos 0))
     (λ inside. sum_zeros (nodes lists) (child_term lists y v 0) (λ x one le. no_child lists y x v one)
     ∙ sym (cond-false (is_below lists y 0 && not (eqb y 0)) v (pos 0) (ap (λ b. b && not (eqb y 0)) (below_zero lists y) ∙ not_itself (eqb y 0))))
     (λ d one before inside.

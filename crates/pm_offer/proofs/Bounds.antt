@@ -1,5 +1,6 @@
 -- The sum of the children of a node lies within the limit of a sum, in every cut.
-use Rattle.std.proofs.Common.{Option, Some, None, ◌≡◌, ◌∙◌, sym, ap, subst, ℕ, ◌<◌, ◌≤◌, ℤ, pos, ◌+ℤ◌, ◌≤ℤ◌, Bool, true, false, cond, eqb, inl, inr}
+use Rattle.std.proofs.Common.{Option, Some, None, ◌≡◌, ◌∙◌, sym, ap, subst, ℕ, ◌<◌, ◌≤◌, ℤ, pos, ◌+ℤ◌, ◌≤ℤ◌, Bool, true}
+use Rattle.std.proofs.Common.{false, cond, eqb, inl, inr}
 use Rattle.std.proofs.Common.{List, length, refl, arith}
 use Rattle.std.specs.Prelude.{◌&&◌, not}
 use Rattle.std.proofs.lemmas.Int.{ints, clamps}
@@ -35,7 +36,8 @@ use Rattle.pm_offer.proofs.Offers.{group_inside}
 
 -- ---- after more changes than are planned a device is as after all of them
 
-node_state-all : (n : NodeData) (powers : ℕ → ℤ) (k : ℕ) → length (changes_of n) ≤ k → node_state n powers k ≡ node_state n powers (length (changes_of n))
+node_state-all : (n : NodeData) (powers : ℕ → ℤ) (k : ℕ) → length (changes_of n) ≤ k →
+    node_state n powers k ≡ node_state n powers (length (changes_of n))
 node_state-all Concentrator powers k h = refl
 node_state-all (Limited limits) powers k h = refl
 node_state-all (Device planned) powers k h =
@@ -138,7 +140,8 @@ one_group plan is y d inside =
     ]
 
 groups_once : (plan : PlanData) → IsPlan plan → (y : ℕ) →
-    int_sum_to (length plan.nodes) (λ g. cond (is_limited_below plan y g) (group_limit plan g) (pos 0)) ≡ int_sum_to (length plan.nodes) (groups_limit plan y)
+    int_sum_to (length plan.nodes) (λ g. cond (is_limited_below plan y g) (group_limit plan g) (pos 0))
+    ≡ int_sum_to (length plan.nodes) (groups_limit plan y)
 groups_once plan is y =
     let n : ℕ = length plan.nodes in
     let term : ℕ → ℕ → ℤ = λ g d. cond (eqb (group plan d) g) (pos demand_limit) (pos 0) in
@@ -199,6 +202,7 @@ children_near plan is y cut step inside =
     subst (IsWithin sum_limit) (sym (children_is plan is y cut step inside))
     (within_from_near _ _ (near_more _ _ _ _ own lim) (all_once plan is y))
 
-pub children_within : (plan : PlanData) (y : ℕ) (cut : Cut) → IsPlan plan → IsInner (plan_lists plan) y → AllWithinLimit sum_limit (children_sum plan y cut)
+pub children_within : (plan : PlanData) (y : ℕ) (cut : Cut) → IsPlan plan → IsInner (plan_lists plan) y →
+    AllWithinLimit sum_limit (children_sum plan y cut)
 children_within plan y cut is inner step inside =
     children_near plan is y cut step (subst (λ (n : ℕ). step < n) (children_length plan is y cut) inside)

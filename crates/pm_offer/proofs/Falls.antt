@@ -1,6 +1,7 @@
 -- The sum of a group never rises with the step, and no more does the total; limits that some step keeps are kept at the
 -- group's step.
-use Rattle.std.proofs.Common.{◌≡◌, ◌∙◌, sym, ap, subst, ℕ, zero, suc, ◌+◌, ◌-◌, ◌<◌, ◌≤◌, ℤ, pos, ◌≤ℤ◌, Bool, true, false, cond, eqb, inl, inr}
+use Rattle.std.proofs.Common.{◌≡◌, ◌∙◌, sym, ap, subst, ℕ, zero, suc, ◌+◌, ◌-◌, ◌<◌, ◌≤◌, ℤ, pos, ◌≤ℤ◌, Bool, true}
+use Rattle.std.proofs.Common.{false, cond, eqb, inl, inr}
 use Rattle.std.proofs.Common.{List, length, arith}
 use Rattle.std.specs.Prelude.{int_lt, Option, Some, None}
 use Rattle.std.proofs.lemmas.Int.{ints, clamps}
@@ -28,7 +29,8 @@ use Rattle.pm_offer.proofs.Steps.{watts, no_watts, sum_steps, sum_in_at, announc
 
 -- ---- no demand rises
 
-bid_falls : (plan : PlanData) → IsPlan plan → (d n : ℕ) → is_leaf (plan_lists plan) d ≡ true → NeverRises (node_bid plan (node plan d) (state plan d n))
+bid_falls : (plan : PlanData) → IsPlan plan → (d n : ℕ) → is_leaf (plan_lists plan) d ≡ true →
+    NeverRises (node_bid plan (node plan d) (state plan d n))
 bid_falls plan is d n leaf =
     let device = device-is (node plan d) (is.nodes.devices d ∙ sym (is_leaf-is plan d) ∙ leaf) in
     subst (λ (m : NodeData). NeverRises (node_bid plan m (state plan d n))) (sym device.1) (bid-falls plan d n device.0 is device.1)
@@ -43,7 +45,8 @@ falls_where : (b : Bool) (y z : ℤ) → y ≤ℤ z → cond b y (pos 0) ≤ℤ 
 falls_where true y z h = h
 falls_where false y z h = omega (arith, ints)
 
-watts_fall : (plan : PlanData) → IsPlan plan → (cut : Cut) (step d : ℕ) → step + 1 < plan.basis.steps → watts plan cut (step + 1) d ≤ℤ watts plan cut step d
+watts_fall : (plan : PlanData) → IsPlan plan → (cut : Cut) (step d : ℕ) → step + 1 < plan.basis.steps →
+    watts plan cut (step + 1) d ≤ℤ watts plan cut step d
 watts_fall plan is cut step d inside = elim (cases_Bool (is_leaf (plan_lists plan) d)) [
   | inr other ↦ omega (arith, ints, no_watts plan is cut (step + 1) d other, no_watts plan is cut step d other)
   | inl leaf ↦
@@ -107,7 +110,8 @@ falls_by bid falls step (suc n) inside =
     let next : step + suc n ≡ (step + n) + 1 = omega arith in
     omega (arith, ints, ap (demand_at bid) next, falls (step + n) (omega arith), falls_by bid falls step n (omega arith))
 
-falls_to : (bid : List ℤ) → NeverRises bid → (step later : ℕ) → step ≤ later → later < length bid → demand_at bid later ≤ℤ demand_at bid step
+falls_to : (bid : List ℤ) → NeverRises bid → (step later : ℕ) → step ≤ later → later < length bid →
+    demand_at bid later ≤ℤ demand_at bid step
 falls_to bid falls step later order inside =
     let gap : step + (later - step) ≡ later = omega arith in
     omega (arith, ints, ap (demand_at bid) gap, falls_by bid falls step (later - step) (omega arith))

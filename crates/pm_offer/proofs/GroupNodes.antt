@@ -25,11 +25,13 @@ parent_inside plan is z inside = elim (cases_eq z 0) [
   | inr some ↦ let one : 1 ≤ z = omega arith in omega (arith, parent_smaller (plan_lists plan) (lawful plan is) z one)
 ]
 
-pub group_here : (plan : PlanData) (z : ℕ) → 1 ≤ z → is_limited plan (parent (plan_lists plan) z) ≡ true → group plan z ≡ parent (plan_lists plan) z
+pub group_here : (plan : PlanData) (z : ℕ) → 1 ≤ z → is_limited plan (parent (plan_lists plan) z) ≡ true →
+    group plan z ≡ parent (plan_lists plan) z
 unfolding parent
 group_here plan z one h = group_is_parent plan z one h
 
-pub group_on : (plan : PlanData) → IsPlan plan → (z : ℕ) → 1 ≤ z → z ≤ length plan.nodes → is_limited plan (parent (plan_lists plan) z) ≡ false →
+pub group_on : (plan : PlanData) → IsPlan plan → (z : ℕ) → 1 ≤ z → z ≤ length plan.nodes →
+    is_limited plan (parent (plan_lists plan) z) ≡ false →
     group plan z ≡ group plan (parent (plan_lists plan) z)
 unfolding parent
 group_on plan is z one inside h = sym (group_of_parent plan z is.tree one (omega (arith, is.nodes.one_each)) h)
@@ -39,7 +41,8 @@ no_root : (plan : PlanData) {A : Type 0} → is_limited plan (group plan 0) ≡ 
 no_root plan h = absurd (let one : 1 ≤ group plan 0 = limited_is_no_root plan (group plan 0) h in omega (arith, group-zero plan))
 
 -- a group is 0, or a limited concentrator
-pub group_kind : (plan : PlanData) → IsPlan plan → (z : ℕ) → z ≤ length plan.nodes → (group plan z ≡ 0) ⊎ (is_limited plan (group plan z) ≡ true)
+pub group_kind : (plan : PlanData) → IsPlan plan → (z : ℕ) → z ≤ length plan.nodes → (group plan z ≡ 0)
+    ⊎ (is_limited plan (group plan z) ≡ true)
 group_kind plan is z =
     climb (plan_lists plan) (lawful plan is) (λ (d : ℕ). d ≤ length plan.nodes → (group plan d ≡ 0) ⊎ (is_limited plan (group plan d) ≡ true))
     (λ inside. inl (group-zero plan))
@@ -73,7 +76,8 @@ pub group_above : (plan : PlanData) → IsPlan plan → (z : ℕ) → z ≤ leng
     is_below (plan_lists plan) (group plan z) (parent (plan_lists plan) z) ≡ true
 group_above plan is z =
     climb (plan_lists plan) (lawful plan is)
-    (λ (d : ℕ). d ≤ length plan.nodes → is_limited plan (group plan d) ≡ true → is_below (plan_lists plan) (group plan d) (parent (plan_lists plan) d) ≡ true)
+    (λ (d : ℕ). d ≤ length plan.nodes → is_limited plan (group plan d) ≡ true →
+    is_below (plan_lists plan) (group plan d) (parent (plan_lists plan) d) ≡ true)
     (λ inside h. no_root plan h)
     (λ d one before inside h.
     let law = lawful plan is in
@@ -139,13 +143,15 @@ at_is_below plan is y g free = same_tests (is_limited_at plan y g) (is_limited_b
     and_from (is_limited plan g) (is_below (plan_lists plan) y g) parts.0 (below_parent (plan_lists plan) (lawful plan is) y g parts.1))
 
 -- where y is limited, there is none
-pub limited_has_none : (plan : PlanData) → IsPlan plan → (y g : ℕ) → g ≤ length plan.nodes → is_limited plan y ≡ true → is_limited_below plan y g ≡ false
+pub limited_has_none : (plan : PlanData) → IsPlan plan → (y g : ℕ) → g ≤ length plan.nodes → is_limited plan y ≡ true →
+    is_limited_below plan y g ≡ false
 limited_has_none plan is y g inside limited = false_from_ne_true (is_limited_below plan y g)
     (λ h. let parts = and_parts (is_limited plan g) (is_below (plan_lists plan) y (parent (plan_lists plan) g)) h in
     none_below plan is y g inside limited parts.0 parts.1)
 
 -- the group of a node at or below x stands at or below x, where it stands below the parent of x
-above_child : (plan : PlanData) → IsPlan plan → (x : ℕ) → 1 ≤ x → (z : ℕ) → z ≤ length plan.nodes → is_below (plan_lists plan) x z ≡ true →
+above_child : (plan : PlanData) → IsPlan plan → (x : ℕ) → 1 ≤ x → (z : ℕ) → z ≤ length plan.nodes →
+    is_below (plan_lists plan) x z ≡ true →
     is_limited plan (group plan z) ≡ true → is_below (plan_lists plan) (parent (plan_lists plan) x) (parent (plan_lists plan) (group plan z)) ≡ true →
     is_below (plan_lists plan) x (group plan z) ≡ true
 above_child plan is x x_one z =
@@ -194,7 +200,8 @@ pub group_of_limited : (plan : PlanData) → IsPlan plan → (y z : ℕ) → z �
     eqb (group plan z) y ≡ is_below (plan_lists plan) y (parent (plan_lists plan) z)
 group_of_limited plan is y z inside limited = same_tests (eqb (group plan z) y) (is_below (plan_lists plan) y (parent (plan_lists plan) z))
     (λ h. let e : group plan z ≡ y = eqb-true (group plan z) y h in
-    subst (λ (g : ℕ). is_below (plan_lists plan) g (parent (plan_lists plan) z) ≡ true) e (group_above plan is z inside (ap (is_limited plan) e ∙ limited)))
+    subst (λ (g : ℕ). is_below (plan_lists plan) g (parent (plan_lists plan) z) ≡ true) e
+    (group_above plan is z inside (ap (is_limited plan) e ∙ limited)))
     (λ h. let found = group_found plan is y limited z inside h in
     let g : ℕ = group plan z in
     elim (cases_eq g y) [

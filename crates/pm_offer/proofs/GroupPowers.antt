@@ -1,5 +1,6 @@
 -- The powers of a group's members add up to the demand of the group at its step.
-use Rattle.std.proofs.Common.{◌≡◌, ◌∙◌, sym, ap, subst, ℕ, ◌<◌, ℤ, pos, ◌+ℤ◌, Bool, true, false, cond, eqb, List, [], ◌∷◌, length, map, refl, Option, Some}
+use Rattle.std.proofs.Common.{◌≡◌, ◌∙◌, sym, ap, subst, ℕ, ◌<◌, ℤ, pos, ◌+ℤ◌, Bool, true, false, cond, eqb, List, [], ◌∷◌}
+use Rattle.std.proofs.Common.{length, map, refl, Option, Some}
 use Rattle.std.specs.Prelude.{◌&&◌}
 use Rattle.std.proofs.lemmas.Bool.{cond-false, eqb-true}
 use Rattle.pm_base.specs.declared.limits.Limits.{Limits}
@@ -75,7 +76,8 @@ unfolding group_step
 limited_step plan cut g l here =
     sym (ap (λ (own : Option Limits). local_step own (plain plan (state plan) cut) (sum_in plan (state plan) cut g)) here)
 
-pub powers_within : (plan : PlanData) (g : ℕ) (cut : Cut) (l : Limits) (k : ℕ) → IsPlan plan → limits_of (node plan g) ≡ Some l → k < plan.basis.steps →
+pub powers_within : (plan : PlanData) (g : ℕ) (cut : Cut) (l : Limits) (k : ℕ) → IsPlan plan → limits_of (node plan g) ≡ Some l →
+    k < plan.basis.steps →
     KeepsLimits l (demand_at (sum_in plan (state plan) cut g) k) → KeepsLimits l (group_power plan cut g)
 powers_within plan g cut l k is here inside keeps =
     subst (KeepsLimits l) (ap (demand_at (sum_in plan (state plan) cut g)) (limited_step plan cut g l here) ∙ sym (powers_group plan g cut is))

@@ -75,12 +75,14 @@ total_alike plan a b is same =
 pub offer_steps : (plan : PlanData) (x : ℕ) (cut : Cut) → IsPlan plan → length (offer plan x cut) ≡ plan.basis.steps
 offer_steps plan x cut is = offer_length plan is x cut
 
-pub children_within : (plan : PlanData) (y : ℕ) (cut : Cut) → IsPlan plan → IsInner (plan_lists plan) y → AllWithinLimit sum_limit (children_sum plan y cut)
+pub children_within : (plan : PlanData) (y : ℕ) (cut : Cut) → IsPlan plan → IsInner (plan_lists plan) y →
+    AllWithinLimit sum_limit (children_sum plan y cut)
 children_within plan y cut is inner = bounds.children_within plan y cut is inner
 
 -- ---- changes are of their phase
 
-pub phase_between : (plan : PlanData) (p d n : ℕ) → IsPlan plan → end_cut plan p d ≤ n → n < end_cut plan (p + 1) d → (change_at plan d n).phase ≡ p + 1
+pub phase_between : (plan : PlanData) (p d n : ℕ) → IsPlan plan → end_cut plan p d ≤ n → n < end_cut plan (p + 1) d →
+    (change_at plan d n).phase ≡ p + 1
 phase_between plan p d n is from to = phases.phase_between plan p d n is from to
 
 -- ---- powers add up

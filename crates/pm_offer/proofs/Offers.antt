@@ -1,6 +1,7 @@
 -- Offers go up the tree: the offer of a device is its demand, that of a concentrator the sum of its children's offers within
 -- its limits, and the total is the sum of the offers of the auctioneer's children.
-use Rattle.std.proofs.Common.{map, ◌≡◌, ◌∙◌, sym, ap, subst, ℕ, ◌<◌, ◌≤◌, ℤ, pos, Bool, true, false, cond, eqb, inl, inr, List, length, refl, arith}
+use Rattle.std.proofs.Common.{map, ◌≡◌, ◌∙◌, sym, ap, subst, ℕ, ◌<◌, ◌≤◌, ℤ, pos, Bool, true, false, cond, eqb, inl, inr, List}
+use Rattle.std.proofs.Common.{length, refl, arith}
 use Rattle.std.specs.Prelude.{is_some, ◌&&◌, not}
 use Rattle.std.proofs.lemmas.Int.{ints}
 use Rattle.std.proofs.lemmas.Bool.{cases_Bool, cond-true, cond-false, and_parts, and_from, both_ways, false_from_ne_true, eq-eqb, ne_eqb, eqb-true}
@@ -181,7 +182,8 @@ limited_is_below plan is y cut step g free =
     ap (λ b. cond b (announced_watts plan cut step g) (pos 0)) (at_is_below plan is y g free)
     ∙ limited_split (is_limited plan g) (is_below (plan_lists plan) y (parent (plan_lists plan) g)) (announced_watts plan cut step g)
 
-free_at : (plan : PlanData) → IsPlan plan → (y : ℕ) (cut : Cut) (step : ℕ) → IsInner (plan_lists plan) y → is_limited plan y ≡ false → step < plan.basis.steps →
+free_at : (plan : PlanData) → IsPlan plan → (y : ℕ) (cut : Cut) (step : ℕ) → IsInner (plan_lists plan) y → is_limited plan y ≡ false →
+    step < plan.basis.steps →
     demand_at (offer plan y cut) step ≡ demand_at (children_sum plan y cut) step
 free_at plan is y cut step inner free inside =
     let n : ℕ = length plan.nodes in
@@ -216,7 +218,8 @@ own_at_limited plan is y cut step d inside inner limited =
     and_from (is_limited plan (group plan d)) (is_below lists y (group plan d)) found.limited found.below)
 
 -- and it alone announces
-alone_at_limited : (plan : PlanData) → IsPlan plan → (y : ℕ) (cut : Cut) (step : ℕ) → 1 ≤ y → y ≤ length plan.nodes → is_limited plan y ≡ true →
+alone_at_limited : (plan : PlanData) → IsPlan plan → (y : ℕ) (cut : Cut) (step : ℕ) → 1 ≤ y → y ≤ length plan.nodes →
+    is_limited plan y ≡ true →
     int_sum_to (length plan.nodes) (limited_at plan y cut step) ≡ announced_watts plan cut step y
 alone_at_limited plan is y cut step one inside limited =
     let lists = plan_lists plan in
@@ -228,7 +231,8 @@ alone_at_limited plan is y cut step one inside limited =
     ∙ cond-true (is_limited_at plan y y) (announced_watts plan cut step y) (pos 0)
     (and_from (is_limited plan y) (is_below lists y y) limited (below_self lists (lawful plan is) y))
 
-offer_limited : (plan : PlanData) → IsPlan plan → (y : ℕ) (cut : Cut) → 1 ≤ y → y ≤ length plan.nodes → IsInner (plan_lists plan) y → is_limited plan y ≡ true →
+offer_limited : (plan : PlanData) → IsPlan plan → (y : ℕ) (cut : Cut) → 1 ≤ y → y ≤ length plan.nodes → IsInner (plan_lists plan) y →
+    is_limited plan y ≡ true →
     offer plan y cut ≡ announced plan (state plan) cut y
 offer_limited plan is y cut one inside inner limited =
     let long = offer_length plan is y cut in
@@ -245,7 +249,8 @@ in_group true grouped below true v none e h = absurd (cc h)
 in_group true grouped below false v none e h = ap (λ b. cond b v (pos 0)) e
 in_group false grouped below seen v none e h = ap (λ w. cond grouped w (pos 0)) (none refl) ∙ none_where grouped ∙ sym (none_where below)
 
-pub limited_sum : (plan : PlanData) → IsPlan plan → (y : ℕ) (cut : Cut) → is_limited plan y ≡ true → sum_in plan (state plan) cut y ≡ children_sum plan y cut
+pub limited_sum : (plan : PlanData) → IsPlan plan → (y : ℕ) (cut : Cut) → is_limited plan y ≡ true →
+    sum_in plan (state plan) cut y ≡ children_sum plan y cut
 limited_sum plan is y cut limited =
     let lists = plan_lists plan in
     let n : ℕ = length plan.nodes in

@@ -12,7 +12,8 @@ first_after : (plan : PlanData) (p d : ℕ) → end_cut plan p d < change_count 
 unfolding end_cut
 first_after plan p d some = leb-false _ p (prefix_len_stops (is_up_to p) (changes_of (node plan d)) no_change some)
 
-pub phase_between : (plan : PlanData) (p d n : ℕ) → IsPlan plan → end_cut plan p d ≤ n → n < end_cut plan (p + 1) d → (change_at plan d n).phase ≡ p + 1
+pub phase_between : (plan : PlanData) (p d n : ℕ) → IsPlan plan → end_cut plan p d ≤ n → n < end_cut plan (p + 1) d →
+    (change_at plan d n).phase ≡ p + 1
 phase_between plan p d n is from to =
     let inside : n < change_count plan d = omega (arith, end-within plan (p + 1) d) in
     let upper = phase_up_to plan d (p + 1) n to in

@@ -1,5 +1,6 @@
 -- The demands, the groups' sums and the offers at one step, as sums over the nodes.
-use Rattle.std.proofs.Common.{Option, Some, None, ◌≡◌, ◌∙◌, sym, ap, subst, ℕ, ◌<◌, ◌≤◌, ℤ, pos, ◌+ℤ◌, Bool, true, false, cond, eqb, inl, inr, List}
+use Rattle.std.proofs.Common.{Option, Some, None, ◌≡◌, ◌∙◌, sym, ap, subst, ℕ, ◌<◌, ◌≤◌, ℤ, pos, ◌+ℤ◌, Bool, true, false, cond}
+use Rattle.std.proofs.Common.{eqb, inl, inr, List}
 use Rattle.std.proofs.Common.{◌∷◌, length, map, take, refl, arith}
 use Rattle.std.specs.Prelude.{◌&&◌, not}
 use Rattle.std.proofs.Math.Seq.{take-nil}
@@ -51,7 +52,8 @@ no_member plan is d n other =
     ∙ ap is_member_after (take-nil n)
 
 -- a node that is no device has none
-pub no_demand : (plan : PlanData) → IsPlan plan → (d n : ℕ) → is_leaf (plan_lists plan) d ≡ false → device_demand plan d n ≡ zeros plan.basis.steps
+pub no_demand : (plan : PlanData) → IsPlan plan → (d n : ℕ) → is_leaf (plan_lists plan) d ≡ false →
+    device_demand plan d n ≡ zeros plan.basis.steps
 unfolding demand_in_cut
 no_demand plan is d n other = cond-false {A = List ℤ} (is_member plan d n) _ (zeros plan.basis.steps) (no_member plan is d n other)
 
@@ -173,7 +175,8 @@ unfolding limited_part
 limited_part_at plan x cut step g = demand_where (is_limited_at plan x g) (announced plan (state plan) cut g) plan.basis.steps step
 
 pub offer_at : (plan : PlanData) → IsPlan plan → (x : ℕ) (cut : Cut) (step : ℕ) → step < plan.basis.steps →
-    demand_at (offer plan x cut) step ≡ int_sum_to (length plan.nodes) (own_at plan x cut step) +ℤ int_sum_to (length plan.nodes) (limited_at plan x cut step)
+    demand_at (offer plan x cut) step ≡ int_sum_to (length plan.nodes) (own_at plan x cut step) +ℤ int_sum_to (length plan.nodes)
+    (limited_at plan x cut step)
 unfolding offer
 offer_at plan is x cut step inside =
     let own = sum_of plan.basis.steps (map (own_part plan x cut) (node_numbers plan)) in
@@ -201,7 +204,8 @@ children_each : (plan : PlanData) → IsPlan plan → (y : ℕ) (cut : Cut) (ste
     ≡ int_sum_to (nodes (plan_lists plan)) (λ x. cond (eqb (parent (plan_lists plan) x) y) (demand_at (offer plan x cut) step) (pos 0))
 unfolding children_at parent
 children_each plan is y cut step inside =
-    sum_of-at plan.basis.steps _ step (all_steps plan.basis.steps (λ x. offer plan x cut) (children_of plan.entries y) (λ x. offer_length plan is x cut)) inside
+    sum_of-at plan.basis.steps _ step (all_steps plan.basis.steps (λ x. offer plan x cut) (children_of plan.entries y)
+    (λ x. offer_length plan is x cut)) inside
     ∙ total_of_some (λ x. offer plan x cut) (λ x. eqb (parent_at (parents_of plan.entries) x) y) (length (parents_of plan.entries)) step
 
 -- what a device, and a limited concentrator, below y adds at a step to the offers of the children of y
@@ -234,7 +238,8 @@ at_child x y u v h = elim (cases_eq x y) [
   | inr other ↦ cond-false (eqb x y) u (pos 0) (ne_eqb x y other) ∙ sym (cond-false (eqb x y) v (pos 0) (ne_eqb x y other))
 ]
 
-own_of_child : (plan : PlanData) → IsPlan plan → (y : ℕ) (cut : Cut) (step x d : ℕ) → 1 ≤ x → d ≤ length plan.nodes → parent (plan_lists plan) x ≡ y →
+own_of_child : (plan : PlanData) → IsPlan plan → (y : ℕ) (cut : Cut) (step x d : ℕ) → 1 ≤ x → d ≤ length plan.nodes →
+    parent (plan_lists plan) x ≡ y →
     own_at plan x cut step d
     ≡ cond (is_below (plan_lists plan) x d)
     (cond (is_leaf (plan_lists plan) d && not (is_limited_below plan y (group plan d))) (watts plan cut step d) (pos 0)) (pos 0)

@@ -1,5 +1,6 @@
 -- Sums of whole numbers over the nodes from 1 to n, and sums of bids at a step as such sums.
-use Rattle.std.proofs.Common.{◌≡◌, ◌∙◌, sym, ap, ℕ, zero, suc, ◌+◌, ◌*◌, ◌≤◌, ℤ, pos, ◌+ℤ◌, neg_ℤ, ◌≤ℤ◌, Bool, true, false, cond, eqb, List}
+use Rattle.std.proofs.Common.{◌≡◌, ◌∙◌, sym, ap, ℕ, zero, suc, ◌+◌, ◌*◌, ◌≤◌, ℤ, pos, ◌+ℤ◌, neg_ℤ, ◌≤ℤ◌, Bool}
+use Rattle.std.proofs.Common.{true, false, cond, eqb, List}
 use Rattle.std.proofs.Common.{[], ◌∷◌, ◌++◌, length, map, refl, arith}
 use Rattle.std.specs.Prelude.{filter}
 use Rattle.std.specs.List.{range_with_len}
@@ -57,7 +58,8 @@ pub record IsNear (limit number : ℤ) : Type 0 where
 pub near_more : (m n a b : ℤ) → IsNear m a → IsNear n b → IsNear (m +ℤ n) (a +ℤ b)
 near_more m n a b h k = record { low = omega (arith, ints, h.low, k.low); high = omega (arith, ints, h.high, k.high) }
 
-pub near_sum : (n : ℕ) (limit f : ℕ → ℤ) → ((x : ℕ) → 1 ≤ x → x ≤ n → IsNear (limit x) (f x)) → IsNear (int_sum_to n limit) (int_sum_to n f)
+pub near_sum : (n : ℕ) (limit f : ℕ → ℤ) → ((x : ℕ) → 1 ≤ x → x ≤ n → IsNear (limit x) (f x)) →
+    IsNear (int_sum_to n limit) (int_sum_to n f)
 unfolding int_sum_to
 near_sum zero limit f h = record { low = omega (arith, ints); high = omega (arith, ints) }
 near_sum (suc n) limit f h =
@@ -101,7 +103,8 @@ total_of_some f p (suc n) step =
     let one : suc n ≡ n + 1 = omega arith in
     let last : 1 + n ≡ suc n = omega arith in
     let front = filter p (range_with_len 1 n) in
-    let here : total_at (map f (filter p (range_with_len 1 (suc n)))) step ≡ total_at (map f front) step +ℤ total_at (map f (filter p ((1 + n) ∷ []))) step =
+    let here : total_at (map f (filter p (range_with_len 1 (suc n)))) step ≡ total_at (map f front) step +ℤ total_at
+    (map f (filter p ((1 + n) ∷ []))) step =
     ap (λ m. total_at (map f (filter p (range_with_len 1 m))) step) one
     ∙ ap (λ xs. total_at (map f (filter p xs)) step) (range_with_len-more 1 n)
     ∙ ap (λ xs. total_at (map f xs) step) (filter-append p (range_with_len 1 n) ((1 + n) ∷ []))

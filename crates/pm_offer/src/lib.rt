@@ -30,7 +30,8 @@ ghost use Rattle.pm_offer.specs.Powers.{group_power, announced_power, KeepsLimit
 /// depends on the changes of the node's own leaves alone.
 #[tactic(auto, using(crate::proofs::Laws::offer_device, crate::proofs::Laws::offer_alike, crate::proofs::Laws::offer_inner, crate::proofs::Laws::offer_total))]
 pub fn offers_go_up()
-    ensures device { (plan : PlanData) (d : ℕ) (cut : Cut) → IsPlan plan → IsLeaf (plan_lists plan) d → offer plan d cut ≡ device_demand plan d (cut d) }
+    ensures device { (plan : PlanData) (d : ℕ) (cut : Cut) → IsPlan plan → IsLeaf (plan_lists plan) d →
+        offer plan d cut ≡ device_demand plan d (cut d) }
     ensures leaves_alone { (plan : PlanData) (x : ℕ) (a b : Cut) → IsPlan plan → SameOn (plan_lists plan) x a b → offer plan x a ≡ offer plan x b }
     ensures concentrator { (plan : PlanData) (c : ℕ) (cut : Cut) → IsPlan plan → IsConcentrator (plan_lists plan) c →
         offer plan c cut ≡ within_limits (limits_of (node plan c)) (children_sum plan c cut) }
@@ -58,7 +59,8 @@ pub fn steps_go_down()
 #[tactic(auto, using(crate::proofs::Laws::offer_steps, crate::proofs::Laws::children_within))]
 pub fn offers_are_bounded()
     ensures steps { (plan : PlanData) (x : ℕ) (cut : Cut) → IsPlan plan → length (offer plan x cut) ≡ plan.basis.steps }
-    ensures within { (plan : PlanData) (y : ℕ) (cut : Cut) → IsPlan plan → IsInner (plan_lists plan) y → AllWithinLimit sum_limit (children_sum plan y cut) }
+    ensures within { (plan : PlanData) (y : ℕ) (cut : Cut) → IsPlan plan → IsInner (plan_lists plan) y →
+        AllWithinLimit sum_limit (children_sum plan y cut) }
 {}
 
 /// A law: the total of the plain auction never rises with the step, since no bid does and limits keep that; it depends on
@@ -87,5 +89,6 @@ pub fn powers_add_up()
 /// A law: the changes of a device between the ends of two phases are of the later one.
 #[tactic(auto, using(crate::proofs::Laws::phase_between))]
 pub fn changes_are_of_their_phase()
-    ensures { (plan : PlanData) (p d n : ℕ) → IsPlan plan → end_cut plan p d ≤ n → n < end_cut plan (p + 1) d → (change_at plan d n).phase ≡ p + 1 }
+    ensures { (plan : PlanData) (p d n : ℕ) → IsPlan plan → end_cut plan p d ≤ n → n < end_cut plan (p + 1) d →
+        (change_at plan d n).phase ≡ p + 1 }
 {}

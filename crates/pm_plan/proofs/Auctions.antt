@@ -11,7 +11,8 @@ use Rattle.pm_plan.specs.Plans.{PlanData, NodeData, node, limits_of, is_member, 
 use Rattle.pm_plan.specs.Auction.{States, node_bid, part_in, sum_in, announced, total, plain, group_step, local, power, limited, demand_in_cut}
 use Rattle.pm_base.specs.Cuts.{Cut}
 
-pub map_range_same : {X : Type 0} (f g : ℕ → X) (a n : ℕ) → ((k : ℕ) → a ≤ k → k < a + n → f k ≡ g k) → map f (range_with_len a n) ≡ map g (range_with_len a n)
+pub map_range_same : {X : Type 0} (f g : ℕ → X) (a n : ℕ) → ((k : ℕ) → a ≤ k → k < a + n → f k ≡ g k) →
+    map f (range_with_len a n) ≡ map g (range_with_len a n)
 map_range_same f g a zero same = refl
 map_range_same f g a (suc n) same =
     ap (λ x. x ∷ map f (range_with_len (a + 1) n)) (same a (omega arith) (omega arith))
@@ -25,7 +26,8 @@ map_same f g (x ∷ xs) same = ap (λ y. y ∷ map f xs) (same x) ∙ ap (λ ys.
 abbrev pub Agree : PlanData → Cut → States → States → Type 0
 Agree plan cut s t = (d : ℕ) (planned : DeviceData) → node plan d ≡ Device planned → s d (cut d) ≡ t d (cut d)
 
-bid_same : (plan : PlanData) (n : NodeData) (y z : ℤ) → ((planned : DeviceData) → n ≡ Device planned → y ≡ z) → node_bid plan n y ≡ node_bid plan n z
+bid_same : (plan : PlanData) (n : NodeData) (y z : ℤ) → ((planned : DeviceData) → n ≡ Device planned → y ≡ z) →
+    node_bid plan n y ≡ node_bid plan n z
 bid_same plan (Device planned) y z same = ap (node_bid plan (Device planned)) (same planned refl)
 bid_same plan Concentrator y z same = refl
 bid_same plan (Limited limits) y z same = refl

@@ -1,5 +1,6 @@
 -- What holds of one node and its changes, and stays where a change is added.
-use Rattle.std.proofs.Common.{◌≡◌, ◌∙◌, sym, ap, ℕ, ◌+◌, ◌<◌, ◌≤◌, List, [], ◌∷◌, ◌++◌, length, get_or, refl, arith, subst, inl, inr, IsTrue}
+use Rattle.std.proofs.Common.{◌≡◌, ◌∙◌, sym, ap, ℕ, ◌+◌, ◌<◌, ◌≤◌, List, [], ◌∷◌, ◌++◌, length, get_or, refl, arith}
+use Rattle.std.proofs.Common.{subst, inl, inr, IsTrue}
 use Rattle.std.proofs.Math.ListN.{get_or-append}
 use Rattle.std.proofs.Math.Seq.{get_or-append_seam}
 use Rattle.std.proofs.lemmas.Bool.{cases_lt}
@@ -53,13 +54,16 @@ at_end : (changes : List Change) (new : Change) (n : ℕ) → n ≡ length chang
 at_end changes new n h = ap (λ m. get_or (changes ++ new ∷ []) m no_change) h ∙ get_or-append_seam changes new [] no_change
 
 -- what holds of each old element and of the new one holds of each element
-each_of_more : (P : Change → Type 0) (changes : List Change) (new : Change) → ((n : ℕ) → n < length changes → P (get_or changes n no_change)) → P new → (n : ℕ) → n < length (changes ++ new ∷ []) → P (get_or (changes ++ new ∷ []) n no_change)
+each_of_more : (P : Change → Type 0) (changes : List Change) (new : Change) →
+    ((n : ℕ) → n < length changes → P (get_or changes n no_change)) → P new → (n : ℕ) → n < length (changes ++ new ∷ []) →
+    P (get_or (changes ++ new ∷ []) n no_change)
 each_of_more P changes new all one n h = elim (cases_lt n (length changes)) [
   | inl below ↦ subst P (sym (before changes new n below)) (all n below)
   | inr above ↦ subst P (sym (at_end changes new n (let long = length-append changes (new ∷ []) in omega arith))) one
 ]
 
-rises_with : (kind : Kind) (p : ℕ) (changes : List Change) (new : Change) → ChangesHold kind p changes → new.phase ≡ p → (m n : ℕ) → m ≤ n → n < length (changes ++ new ∷ []) → (get_or (changes ++ new ∷ []) m no_change).phase ≤ (get_or (changes ++ new ∷ []) n no_change).phase
+rises_with : (kind : Kind) (p : ℕ) (changes : List Change) (new : Change) → ChangesHold kind p changes → new.phase ≡ p → (m n : ℕ) →
+    m ≤ n → n < length (changes ++ new ∷ []) → (get_or (changes ++ new ∷ []) m no_change).phase ≤ (get_or (changes ++ new ∷ []) n no_change).phase
 rises_with kind p changes new hold is m n le h =
     let long = length-append changes (new ∷ []) in
     elim (cases_lt n (length changes)) [
@@ -79,7 +83,8 @@ rises_with kind p changes new hold is m n le h =
           ]
     ]
 
-pub one_more_change : (kind : Kind) (p : ℕ) (changes : List Change) (new : Change) → ChangesHold kind p changes → new.phase ≡ p → 1 ≤ p → IsTrue (change_fits kind new.what) → ChangesHold kind p (changes ++ new ∷ [])
+pub one_more_change : (kind : Kind) (p : ℕ) (changes : List Change) (new : Change) → ChangesHold kind p changes → new.phase ≡ p →
+    1 ≤ p → IsTrue (change_fits kind new.what) → ChangesHold kind p (changes ++ new ∷ [])
 one_more_change kind p changes new hold is low fits = record {
   fit = each_of_more (λ c. IsTrue (change_fits kind c.what)) changes new hold.fit fits;
   first = each_of_more (λ c. 1 ≤ c.phase) changes new hold.first (omega arith);

@@ -1,5 +1,6 @@
 -- One more change of a device, the group of a node, and names of devices.
-use Rattle.std.proofs.Common.{◌≡◌, ◌∙◌, sym, ap, ℕ, zero, suc, ◌+◌, ◌-◌, ◌<◌, ◌≤◌, true, false, List, [], ◌++◌, length, get_or, map, take, drop, arith}
+use Rattle.std.proofs.Common.{◌≡◌, ◌∙◌, sym, ap, ℕ, zero, suc, ◌+◌, ◌-◌, ◌<◌, ◌≤◌, true, false, List, [], ◌++◌, length}
+use Rattle.std.proofs.Common.{get_or, map, take, drop, arith}
 use Rattle.std.proofs.Math.ListN.{set}
 use Rattle.std.proofs.lemmas.Bool.{cond-true, cond-false}
 use Rattle.std.proofs.lemmas.List.{get_or_read, get_or_default}
@@ -17,13 +18,16 @@ use Rattle.pm_plan.specs.Building.{with_change, map_device, with_change_of}
 pub group_is_parent : (plan : PlanData) (x : ℕ) → 1 ≤ x → is_limited plan (parent plan x) ≡ true → group plan x ≡ parent plan x
 unfolding group group_in
 group_is_parent plan zero low limited = absurd (omega arith)
-group_is_parent plan (suc x) low limited = cond-true {A = ℕ} (is_limited plan (parent plan (suc x))) (parent plan (suc x)) (group_in plan x (parent plan (suc x))) limited
+group_is_parent plan (suc x) low limited =
+    cond-true {A = ℕ} (is_limited plan (parent plan (suc x))) (parent plan (suc x)) (group_in plan x (parent plan (suc x))) limited
 
 -- else the parent's group is the group
-pub group_of_parent : (plan : PlanData) (x : ℕ) → IsTree (parents_of plan.entries) (leaves_of plan.entries) → 1 ≤ x → x ≤ length plan.entries → is_limited plan (parent plan x) ≡ false → group plan (parent plan x) ≡ group plan x
+pub group_of_parent : (plan : PlanData) (x : ℕ) → IsTree (parents_of plan.entries) (leaves_of plan.entries) → 1 ≤ x →
+    x ≤ length plan.entries → is_limited plan (parent plan x) ≡ false → group plan (parent plan x) ≡ group plan x
 group_of_parent plan x tree low inside limited =
     let earlier : Earlier plan (length plan.entries) = λ y first last. tree.earlier y first (omega (arith, length-parents_of plan.entries)) in
-    sym (group-up plan (length plan.entries) x earlier low inside ∙ cond-false {A = ℕ} (is_limited plan (parent plan x)) (parent plan x) (group plan (parent plan x)) limited)
+    sym (group-up plan (length plan.entries) x earlier low inside
+    ∙ cond-false {A = ℕ} (is_limited plan (parent plan x)) (parent plan x) (group plan (parent plan x)) limited)
 
 pub limited_is_no_root : (plan : PlanData) (x : ℕ) → is_limited plan x ≡ true → 1 ≤ x
 limited_is_no_root plan zero limited = absurd (let h : false ≡ true = limited in cc)

@@ -53,7 +53,9 @@ same_keys x y =
     Decides-like _
     (λ p. λ i. (p.0.0.0.0.0 i, p.0.0.0.0.1 i, p.0.0.0.1 i, p.0.0.1 i, p.0.1 i, p.1 i))
     (λ p. (((((λ i. (p i).0, λ i. (p i).1), λ i. (p i).2), λ i. (p i).3), λ i. (p i).4), λ i. (p i).5))
-    (Decides-and _ _ (Decides-and _ _ (Decides-and _ _ (Decides-and _ _ (Decides-and _ _ (Decides-eqb x.0 y.0) (Decides-int_eq x.1 y.1)) (Decides-int_eq x.2 y.2)) (Decides-int_eq x.3 y.3)) (Decides-int_eq x.4 y.4)) (Decides-int_eq x.5 y.5))
+    (Decides-and _ _ (Decides-and _ _ (Decides-and _ _
+    (Decides-and _ _ (Decides-and _ _ (Decides-eqb x.0 y.0) (Decides-int_eq x.1 y.1)) (Decides-int_eq x.2 y.2))
+    (Decides-int_eq x.3 y.3)) (Decides-int_eq x.4 y.4)) (Decides-int_eq x.5 y.5))
 
 same_planned : (x y : Planned) → IsTrue (planned.eq-value.it x y) ↔ (x ≡ y)
 same_planned Join Join = (λ _. refl, λ _. refl)
@@ -75,4 +77,5 @@ same_planned (Tick m) (Set t) = fails (λ e. absurd (cc e))
 same_planned (Tick m) (Tick n) = Decides-like _ (ap Tick) (λ e. cc e) (Decides-int_eq m n)
 
 pub same_change : (x y : Change) → IsTrue (eqb x.phase y.phase && planned.eq-value.it x.what y.what) ↔ (x ≡ y)
-same_change x y = Decides-like _ (λ e. λ i. record { phase = e.0 i; what = e.1 i }) (λ e. (ap (λ (c : Change). c.phase) e, ap (λ (c : Change). c.what) e)) (Decides-and _ _ (Decides-eqb x.phase y.phase) (same_planned x.what y.what))
+same_change x y = Decides-like _ (λ e. λ i. record { phase = e.0 i; what = e.1 i })
+    (λ e. (ap (λ (c : Change). c.phase) e, ap (λ (c : Change). c.what) e)) (Decides-and _ _ (Decides-eqb x.phase y.phase) (same_planned x.what y.what))

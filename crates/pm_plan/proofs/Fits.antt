@@ -1,5 +1,6 @@
 -- The state of each device fits its kind, and so its bid lies within the limits.
-use Rattle.std.proofs.Common.{◌≡◌, ◌∙◌, sym, ap, ℕ, zero, suc, ◌-◌, ◌<◌, ◌≤◌, ℤ, pos, ◌≤ℤ◌, ◌+ℤ◌, ◌-ℤ◌, ◌*ℤ◌, neg_ℤ, List, length, get_or, refl, arith, subst, add-one, IsTrue, inl, inr}
+use Rattle.std.proofs.Common.{◌≡◌, ◌∙◌, sym, ap, ℕ, zero, suc, ◌-◌, ◌<◌, ◌≤◌, ℤ, pos, ◌≤ℤ◌, ◌+ℤ◌, ◌-ℤ◌}
+use Rattle.std.proofs.Common.{◌*ℤ◌, neg_ℤ, List, length, get_or, refl, arith, subst, add-one, IsTrue, inl, inr}
 use Rattle.std.proofs.Math.ListN.{get_or-eq_default}
 use Rattle.std.proofs.lemmas.Bool.{cases_lt}
 use Rattle.std.proofs.lemmas.Int.{ints, clamps}
@@ -27,13 +28,15 @@ use Rattle.pm_plan.specs.Kept.{IsPlan, no_change, change_fits, change_at}
 use Rattle.pm_plan.proofs.StateLaws.{state-start, state-next}
 
 nearest-fits : (low high x : ℤ) → low ≤ℤ high → IsTrue (is_between low high (nearest_between low high x))
-nearest-fits low high x order = is_between-holds low high (nearest_between low high x) (record { from = omega (arith, ints, clamps); to = omega (arith, ints, clamps) })
+nearest-fits low high x order =
+    is_between-holds low high (nearest_between low high x) (record { from = omega (arith, ints, clamps); to = omega (arith, ints, clamps) })
 
 temperature-fits : (x : ℤ) → IsTrue (is_temperature (nearest_temperature x))
 temperature-fits x = nearest-fits (neg_ℤ (pos temperature_limit)) (pos temperature_limit) x (omega (arith, ints))
 
 -- what a tick makes of a state that fits, fits
-pub tick-fits : (kind : Kind) (state power minutes : ℤ) → IsTrue (is_valid kind) → IsTrue (state_fits kind state) → IsTrue (state_fits kind (tick kind state power minutes))
+pub tick-fits : (kind : Kind) (state power minutes : ℤ) → IsTrue (is_valid kind) → IsTrue (state_fits kind state) →
+    IsTrue (state_fits kind (tick kind state power minutes))
 unfolding tick
 tick-fits (Freezer low high rated warm cool) state power minutes valid fits = temperature-fits ((state +ℤ warm) -ℤ change_if (took power) cool)
 tick-fits (HeatPump low high rated loss gain) state power minutes valid fits = temperature-fits ((state -ℤ loss) +ℤ change_if (took power) gain)
@@ -46,7 +49,8 @@ tick-fits Load state power minutes valid fits = fits
 tick-fits Objective state power minutes valid fits = fits
 tick-fits Manual state power minutes valid fits = fits
 
-changed-fits : (kind : Kind) (state power : ℤ) (what : Planned) → IsTrue (is_valid kind) → IsTrue (state_fits kind state) → IsTrue (change_fits kind what) → IsTrue (state_fits kind (changed_state kind state power what))
+changed-fits : (kind : Kind) (state power : ℤ) (what : Planned) → IsTrue (is_valid kind) → IsTrue (state_fits kind state) →
+    IsTrue (change_fits kind what) → IsTrue (state_fits kind (changed_state kind state power what))
 changed-fits kind state power Join valid fits change = fits
 changed-fits kind state power Leave valid fits change = fits
 changed-fits kind state power (Set value) valid fits change = change
@@ -111,7 +115,8 @@ element-within limit bid k all = elim (cases_lt k (length bid)) [
   | inr beyond ↦ subst (IsWithin limit) (sym (get_or-eq_default bid (pos 0) {n = k} beyond)) (none-within limit)
 ]
 
-pub power-within : (plan : PlanData) (cut : Cut) (d : ℕ) → IsPlan plan → cut d ≤ change_count plan d → IsWithin demand_limit (power plan (state plan) cut d)
+pub power-within : (plan : PlanData) (cut : Cut) (d : ℕ) → IsPlan plan → cut d ≤ change_count plan d →
+    IsWithin demand_limit (power plan (state plan) cut d)
 unfolding power
 power-within plan cut d is within =
     element-within demand_limit (demand_in_cut plan (state plan) cut d) (local plan (state plan) cut d) (demand-within plan cut d is within)

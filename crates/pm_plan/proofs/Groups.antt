@@ -14,7 +14,8 @@ group_in-zero plan zero = refl
 group_in-zero plan (suc levels) = group_in-zero plan levels
 
 -- more levels than the node's number find the same
-same_within : (plan : PlanData) (many n levels x : ℕ) → Earlier plan many → x ≤ many → levels ≤ n → x ≤ levels → group_in plan levels x ≡ group_in plan x x
+same_within : (plan : PlanData) (many n levels x : ℕ) → Earlier plan many → x ≤ many → levels ≤ n → x ≤ levels →
+    group_in plan levels x ≡ group_in plan x x
 unfolding group_in
 same_within plan many n levels zero earlier within low high = group_in-zero plan levels
 same_within plan many n zero (suc x) earlier within low high = absurd (omega arith)
@@ -27,7 +28,8 @@ same_within plan many (suc n) (suc levels) (suc x) earlier within low high =
     ap (cond (is_limited plan y) y) (long ∙ sym short)
 
 -- from a node to its parent: the parent, where it is limited, and else what is found from the parent on
-pub group_in-up : (plan : PlanData) (many x : ℕ) → Earlier plan many → 1 ≤ x → x ≤ many → group_in plan x x ≡ cond (is_limited plan (parent plan x)) (parent plan x) (group_in plan (parent plan x) (parent plan x))
+pub group_in-up : (plan : PlanData) (many x : ℕ) → Earlier plan many → 1 ≤ x → x ≤ many →
+    group_in plan x x ≡ cond (is_limited plan (parent plan x)) (parent plan x) (group_in plan (parent plan x) (parent plan x))
 unfolding group_in
 group_in-up plan many zero earlier low high = absurd (omega arith)
 group_in-up plan many (suc x) earlier low high =
@@ -35,7 +37,8 @@ group_in-up plan many (suc x) earlier low high =
     let below : y < suc x = earlier (suc x) low high in
     ap (cond (is_limited plan y) y) (same_within plan many x x y earlier (omega arith) (omega arith) (omega arith))
 
-pub group-up : (plan : PlanData) (many x : ℕ) → Earlier plan many → 1 ≤ x → x ≤ many → group plan x ≡ cond (is_limited plan (parent plan x)) (parent plan x) (group plan (parent plan x))
+pub group-up : (plan : PlanData) (many x : ℕ) → Earlier plan many → 1 ≤ x → x ≤ many →
+    group plan x ≡ cond (is_limited plan (parent plan x)) (parent plan x) (group plan (parent plan x))
 unfolding group
 group-up plan many x earlier low high = group_in-up plan many x earlier low high
 
@@ -66,14 +69,18 @@ positive : (plan : PlanData) (y : ℕ) → is_limited plan y ≡ true → 1 ≤ 
 positive plan zero limited = absurd (cc limited)
 positive plan (suc y) limited = omega arith
 
-pub found_above : (plan : PlanData) (x here y : ℕ) → IsPlan plan → HasCome plan x here → y ≡ parent plan here → is_limited plan y ≡ true → group_above plan x ≡ Some y
+pub found_above : (plan : PlanData) (x here y : ℕ) → IsPlan plan → HasCome plan x here → y ≡ parent plan here →
+    is_limited plan y ≡ true → group_above plan x ≡ Some y
 found_above plan x here y is come up limited =
     let all = group-up plan (length plan.nodes) here (earlier_in plan is) come.low come.inside in
-    let here_is = chosen (is_limited plan (parent plan here)) true (parent plan here) (group plan (parent plan here)) (ap (is_limited plan) (sym up) ∙ limited) in
+    let here_is = chosen (is_limited plan (parent plan here)) true (parent plan here) (group plan (parent plan here))
+    (ap (is_limited plan) (sym up) ∙ limited) in
     group_above-some plan x y (come.same ∙ all ∙ here_is ∙ sym up) (positive plan y limited)
 
-pub go_on : (plan : PlanData) (x here y : ℕ) → IsPlan plan → HasCome plan x here → y ≡ parent plan here → is_limited plan y ≡ false → group plan x ≡ group plan y
+pub go_on : (plan : PlanData) (x here y : ℕ) → IsPlan plan → HasCome plan x here → y ≡ parent plan here → is_limited plan y ≡ false →
+    group plan x ≡ group plan y
 go_on plan x here y is come up free =
     let all = group-up plan (length plan.nodes) here (earlier_in plan is) come.low come.inside in
-    let here_is = chosen (is_limited plan (parent plan here)) false (parent plan here) (group plan (parent plan here)) (ap (is_limited plan) (sym up) ∙ free) in
+    let here_is = chosen (is_limited plan (parent plan here)) false (parent plan here) (group plan (parent plan here))
+    (ap (is_limited plan) (sym up) ∙ free) in
     come.same ∙ all ∙ here_is ∙ ap (group plan) (sym up)

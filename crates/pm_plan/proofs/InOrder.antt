@@ -29,15 +29,19 @@ pub nodes_then_phases : (basis : BasisValue) (entries : List Entry) (nodes : Lis
     (fold_from 1 add_node (empty_plan basis entries) nodes >>= λ plan. fold_from 1 add_phase plan phases) ≡ checked_plan basis entries nodes phases
 unfolding checked_plan
 nodes_then_phases basis entries nodes phases few =
-    ap (λ b. check cause.RunTooLarge Document b >> (fold_from 1 add_node (empty_plan basis entries) nodes >>= λ plan. fold_from 1 add_phase plan phases)) (sym (le-leb (length phases) most_phases few))
+    ap (λ b. check cause.RunTooLarge Document b >>
+    (fold_from 1 add_node (empty_plan basis entries) nodes >>= λ plan. fold_from 1 add_phase plan phases)) (sym (le-leb (length phases) most_phases few))
 
-pub nodes_refused : (basis : BasisValue) (entries : List Entry) (nodes : List NodePart) (phases : List PhasePart) (refusal : Option Refusal) → length phases ≤ most_phases →
+pub nodes_refused : (basis : BasisValue) (entries : List Entry) (nodes : List NodePart) (phases : List PhasePart)
+    (refusal : Option Refusal) → length phases ≤ most_phases →
     Refuses refusal (fold_from 1 add_node (empty_plan basis entries) nodes) → Refuses refusal (checked_plan basis entries nodes phases)
 nodes_refused basis entries nodes phases refusal few fails =
     subst (Refuses refusal) (nodes_then_phases basis entries nodes phases few)
     (Refuses-first refusal (fold_from 1 add_node (empty_plan basis entries) nodes) (λ plan. fold_from 1 add_phase plan phases) fails)
 
-pub phases_refused : (basis : BasisValue) (entries : List Entry) (nodes : List NodePart) (phases : List PhasePart) (plan : PlanData) (refusal : Option Refusal) → length phases ≤ most_phases →
-    fold_from 1 add_node (empty_plan basis entries) nodes ≡ Ok plan → Refuses refusal (fold_from 1 add_phase plan phases) → Refuses refusal (checked_plan basis entries nodes phases)
+pub phases_refused : (basis : BasisValue) (entries : List Entry) (nodes : List NodePart) (phases : List PhasePart) (plan : PlanData)
+    (refusal : Option Refusal) → length phases ≤ most_phases →
+    fold_from 1 add_node (empty_plan basis entries) nodes ≡ Ok plan → Refuses refusal (fold_from 1 add_phase plan phases) →
+    Refuses refusal (checked_plan basis entries nodes phases)
 phases_refused basis entries nodes phases plan refusal few made fails =
     subst (Refuses refusal) (ap (λ r. r >>= λ p. fold_from 1 add_phase p phases) (sym made) ∙ nodes_then_phases basis entries nodes phases few) fails

@@ -20,7 +20,8 @@ pub record CheckOk {B : Type 0} (test : Bool) (next : Result B Refusal) (y : B) 
   pub holds : test ≡ true
   pub rest : next ≡ Ok y
 
-pub check-ok : {B : Type 0} (why : Cause) (place : Place) (test : Bool) (next : Result B Refusal) (y : B) → (check why place test >> next) ≡ Ok y → CheckOk test next y
+pub check-ok : {B : Type 0} (why : Cause) (place : Place) (test : Bool) (next : Result B Refusal) (y : B) →
+    (check why place test >> next) ≡ Ok y → CheckOk test next y
 check-ok why place true next y h = record { holds = refl; rest = h }
 check-ok why place false next y h = absurd (cc h)
 

@@ -1,5 +1,6 @@
 -- The lists of the market of cuts that a plan stands for are lawful, and say the same of the plan.
-use Rattle.std.proofs.Common.{◌≡◌, ◌∙◌, sym, ap, ℕ, zero, suc, ◌+◌, ◌*◌, ◌<◌, ◌≤◌, Bool, true, false, List, [], length, map, take, get_or, cond, refl, arith, add-one}
+use Rattle.std.proofs.Common.{◌≡◌, ◌∙◌, sym, ap, ℕ, zero, suc, ◌+◌, ◌*◌, ◌<◌, ◌≤◌, Bool, true, false, List, [], length, map}
+use Rattle.std.proofs.Common.{take, get_or, cond, refl, arith, add-one}
 use Rattle.std.specs.Prelude.{◌&&◌, not, nat_lt}
 use Rattle.std.specs.List.{count_by, sum_by}
 use Rattle.std.proofs.lemmas.Bool.Decides.{nat_tests}
@@ -38,7 +39,8 @@ changes-is plan (suc d) low high =
     ap (λ l. length l) (get_or-map-range_with_len (members_of plan) 1 (length plan.nodes) d (suc d) [] (omega arith) (omega arith))
     ∙ length-map-range_with_len (plans.is_member plan (suc d)) 1 (change_count plan (suc d))
 
-pub is_member-is : (plan : PlanData) (d n : ℕ) → 1 ≤ d → d ≤ length plan.nodes → n ≤ change_count plan d → is_member (plan_lists plan) d n ≡ plans.is_member plan d n
+pub is_member-is : (plan : PlanData) (d n : ℕ) → 1 ≤ d → d ≤ length plan.nodes → n ≤ change_count plan d →
+    is_member (plan_lists plan) d n ≡ plans.is_member plan d n
 unfolding is_member plans.is_member
 is_member-is plan zero n low high within = absurd (omega arith)
 is_member-is plan (suc d) zero low high within = refl
@@ -49,12 +51,14 @@ is_member-is plan (suc d) (suc n) low high within =
 pub phases-is : (plan : PlanData) → market.phases (plan_lists plan) ≡ phases plan
 phases-is plan = length-map-range_with_len _ 1 (phases plan)
 
-pub end-is : (plan : PlanData) (p d : ℕ) → 1 ≤ d → d ≤ length plan.nodes → p ≤ phases plan → InPhases plan → market.end_count (plan_lists plan) p d ≡ end_cut plan p d
+pub end-is : (plan : PlanData) (p d : ℕ) → 1 ≤ d → d ≤ length plan.nodes → p ≤ phases plan → InPhases plan →
+    market.end_count (plan_lists plan) p d ≡ end_cut plan p d
 unfolding market.end_count
 end-is plan p zero low high within fits = absurd (omega arith)
 end-is plan zero (suc d) low high within fits = sym (end-none plan (suc d) fits)
 end-is plan (suc p) (suc d) low high within fits =
-    ap (λ l. get_or l d 0) (get_or-map-range_with_len (λ q. map (end_cut plan q) (node_numbers plan)) 1 (phases plan) p (suc p) [] (omega arith) (omega arith))
+    ap (λ l. get_or l d 0) (get_or-map-range_with_len (λ q. map (end_cut plan q) (node_numbers plan)) 1 (phases plan) p (suc p) []
+    (omega arith) (omega arith))
     ∙ get_or-map-range_with_len (end_cut plan (suc p)) 1 (length plan.nodes) d (suc d) 0 (omega arith) (omega arith)
 
 -- a device of the lists is a planned node
@@ -64,7 +68,8 @@ leaf_first plan d is leaf = first_of plan d is (sym (is_leaf-is plan d) ∙ leaf
 leaf_last : (plan : PlanData) (d : ℕ) → IsPlan plan → IsLeaf (plan_lists plan) d → d ≤ length plan.nodes
 leaf_last plan d is leaf = last_of plan d is (sym (is_leaf-is plan d) ∙ leaf)
 
-rises_at : (plan : PlanData) (p d : ℕ) → IsPlan plan → IsLeaf (plan_lists plan) d → p < phases plan → market.end_count (plan_lists plan) p d ≤ market.end_count (plan_lists plan) (p + 1) d
+rises_at : (plan : PlanData) (p d : ℕ) → IsPlan plan → IsLeaf (plan_lists plan) d → p < phases plan →
+    market.end_count (plan_lists plan) p d ≤ market.end_count (plan_lists plan) (p + 1) d
 rises_at plan p d is leaf below =
     let low = leaf_first plan d is leaf in
     let high = leaf_last plan d is leaf in
@@ -72,7 +77,8 @@ rises_at plan p d is leaf below =
     let next = end-is plan (p + 1) d low high (omega arith) is.in_phases in
     omega (arith, here, next, end-rises plan p (p + 1) d (omega arith))
 
-last_at : (plan : PlanData) (d : ℕ) → IsPlan plan → IsLeaf (plan_lists plan) d → market.end_count (plan_lists plan) (market.phases (plan_lists plan)) d ≡ changes (plan_lists plan) d
+last_at : (plan : PlanData) (d : ℕ) → IsPlan plan → IsLeaf (plan_lists plan) d →
+    market.end_count (plan_lists plan) (market.phases (plan_lists plan)) d ≡ changes (plan_lists plan) d
 last_at plan d is leaf =
     let low = leaf_first plan d is leaf in
     let high = leaf_last plan d is leaf in
@@ -87,7 +93,8 @@ counted_one true true n h = refl
 counted_one true false n h = refl
 counted_one false leaf n h = absurd (cc h)
 
-path_depth_in-is : (plan : PlanData) (levels x : ℕ) → path_depth_in (plan_lists plan) levels x ≡ count_by (concentrator_at (leaves_of plan.entries)) (path_within levels (parents_of plan.entries) x)
+path_depth_in-is : (plan : PlanData) (levels x : ℕ) →
+    path_depth_in (plan_lists plan) levels x ≡ count_by (concentrator_at (leaves_of plan.entries)) (path_within levels (parents_of plan.entries) x)
 unfolding path_depth_in is_leaf parent
 path_depth_in-is plan zero x = refl
 path_depth_in-is plan (suc levels) zero = refl
@@ -118,17 +125,21 @@ lawful plan is = record {
   earlier = λ x h. earlier_at plan x is h;
   inner = λ x h. inner_at plan x is h;
   depth = λ x h. omega (arith, depth-is plan x, is.tree.shallow x h.1);
-  ends_rise = λ p d leaf below. rises_at plan p d is leaf (omega (arith, length-map-range_with_len (λ q. map (end_cut plan q) (node_numbers plan)) 1 (phases plan)));
+  ends_rise = λ p d leaf below. rises_at plan p d is leaf
+      (omega (arith, length-map-range_with_len (λ q. map (end_cut plan q) (node_numbers plan)) 1 (phases plan)));
   ends_last = λ d leaf. last_at plan d is leaf;
 }
 
 -- the changes of one node, which has none where it is no leaf
-changes_of_node : (plan : PlanData) (d : ℕ) (leaf : Bool) → IsPlan plan → 1 ≤ d → d ≤ length plan.nodes → is_leaf (plan_lists plan) d ≡ leaf → cond leaf (changes (plan_lists plan) d) 0 ≡ change_count plan d
+changes_of_node : (plan : PlanData) (d : ℕ) (leaf : Bool) → IsPlan plan → 1 ≤ d → d ≤ length plan.nodes →
+    is_leaf (plan_lists plan) d ≡ leaf → cond leaf (changes (plan_lists plan) d) 0 ≡ change_count plan d
 changes_of_node plan d true is low high here = changes-is plan d low high
-changes_of_node plan d false is low high here = sym (ap (λ l. length l) (changes_of-none (node plan d) (is.nodes.devices d ∙ sym (is_leaf-is plan d) ∙ here)))
+changes_of_node plan d false is low high here =
+    sym (ap (λ l. length l) (changes_of-none (node plan d) (is.nodes.devices d ∙ sym (is_leaf-is plan d) ∙ here)))
 
 changes_to : (plan : PlanData) (k : ℕ) → IsPlan plan → k ≤ length plan.nodes →
-    sum_to k (λ d. cond (is_leaf (plan_lists plan) d) (changes (plan_lists plan) d) 0) ≡ sum_by (λ (n : NodeData). length (changes_of n)) (take k plan.nodes)
+    sum_to k (λ d. cond (is_leaf (plan_lists plan) d) (changes (plan_lists plan) d) 0)
+    ≡ sum_by (λ (n : NodeData). length (changes_of n)) (take k plan.nodes)
 unfolding sum_to
 changes_to plan zero is within = refl
 changes_to plan (suc k) is within =

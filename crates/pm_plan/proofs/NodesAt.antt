@@ -1,5 +1,6 @@
 -- The nodes of a plan after one was added or changed.
-use Rattle.std.proofs.Common.{◌≡◌, ◌∙◌, sym, ap, ℕ, zero, suc, ◌+◌, ◌-◌, ◌<◌, ◌≤◌, ◌≢◌, ℤ, Bool, List, [], ◌∷◌, ◌++◌, length, map, get_or, cond, refl, arith, subst, inl, inr}
+use Rattle.std.proofs.Common.{◌≡◌, ◌∙◌, sym, ap, ℕ, zero, suc, ◌+◌, ◌-◌, ◌<◌, ◌≤◌, ◌≢◌, ℤ, Bool, List, [], ◌∷◌}
+use Rattle.std.proofs.Common.{◌++◌, length, map, get_or, cond, refl, arith, subst, inl, inr}
 use Rattle.std.proofs.Math.ListN.{set, get_or-append}
 use Rattle.std.proofs.Math.Seq.{get_or-append_seam}
 use Rattle.std.proofs.lemmas.Bool.{cases_lt, cases_eq}
@@ -25,12 +26,15 @@ node-new plan new =
     ∙ get_or-append_seam (Concentrator ∷ plan.nodes) new [] Concentrator
 
 -- what holds of each node and of the new one holds of each
-pub each_with_node : (P : NodeData → Type 0) (plan : PlanData) (new : NodeData) → ((x : ℕ) → P (node plan x)) → P new → (x : ℕ) → P (node (with_node plan new) x)
+pub each_with_node : (P : NodeData → Type 0) (plan : PlanData) (new : NodeData) → ((x : ℕ) → P (node plan x)) → P new → (x : ℕ) →
+    P (node (with_node plan new) x)
 each_with_node P plan new all one x = elim (cases_lt (length plan.nodes) x) [
   | inr old ↦ subst P (sym (node-old plan new x (omega arith))) (all x)
   | inl late ↦ elim (cases_lt (length plan.nodes + 1) x) [
-    | inl far ↦ subst P (sym (node-beyond (plan.nodes ++ new ∷ []) x (let long = length-append plan.nodes (new ∷ []) in omega arith))) (subst P (node-beyond plan.nodes x late) (all x))
-    | inr here ↦ subst (λ (y : ℕ). P (node (with_node plan new) y)) (let e : length plan.nodes + 1 ≡ x = omega arith in e) (subst P (sym (node-new plan new)) one)
+    | inl far ↦ subst P (sym (node-beyond (plan.nodes ++ new ∷ []) x (let long = length-append plan.nodes (new ∷ []) in omega arith)))
+        (subst P (node-beyond plan.nodes x late) (all x))
+    | inr here ↦ subst (λ (y : ℕ). P (node (with_node plan new) y)) (let e : length plan.nodes + 1 ≡ x = omega arith in e)
+        (subst P (sym (node-new plan new)) one)
   ]
 ]
 
@@ -82,10 +86,12 @@ node-ticked plan p minutes x = get_or-map_at (map_device (ticked p minutes)) (Co
 -- ---- groups
 
 -- the limited concentrators above a node are the same where the same nodes below it are limited
-pub group_in-same : (plan other : PlanData) (many bound levels x : ℕ) → other.entries ≡ plan.entries → Earlier plan many → ((y : ℕ) → y < bound → is_limited other y ≡ is_limited plan y) → x ≤ many → x ≤ bound → group_in other levels x ≡ group_in plan levels x
+pub group_in-same : (plan other : PlanData) (many bound levels x : ℕ) → other.entries ≡ plan.entries → Earlier plan many →
+    ((y : ℕ) → y < bound → is_limited other y ≡ is_limited plan y) → x ≤ many → x ≤ bound → group_in other levels x ≡ group_in plan levels x
 unfolding group_in
 group_in-same plan other many bound zero x entries earlier same inside low = refl
-group_in-same plan other many bound (suc levels) zero entries earlier same inside low = group_in-zero other (suc levels) ∙ sym (group_in-zero plan (suc levels))
+group_in-same plan other many bound (suc levels) zero entries earlier same inside low = group_in-zero other (suc levels)
+    ∙ sym (group_in-zero plan (suc levels))
 group_in-same plan other many bound (suc levels) (suc x) entries earlier same inside low =
     let y = parent plan (suc x) in
     let below : y < suc x = earlier (suc x) (omega arith) inside in
@@ -94,12 +100,14 @@ group_in-same plan other many bound (suc levels) (suc x) entries earlier same in
     ∙ ap (λ (b : Bool). cond b y (group_in other levels y)) (same y (omega arith))
     ∙ ap (cond (is_limited plan y) y) (group_in-same plan other many bound levels y entries earlier same (omega arith) (omega arith))
 
-pub group-same : (plan other : PlanData) (many bound x : ℕ) → other.entries ≡ plan.entries → Earlier plan many → ((y : ℕ) → y < bound → is_limited other y ≡ is_limited plan y) → x ≤ many → x ≤ bound → group other x ≡ group plan x
+pub group-same : (plan other : PlanData) (many bound x : ℕ) → other.entries ≡ plan.entries → Earlier plan many →
+    ((y : ℕ) → y < bound → is_limited other y ≡ is_limited plan y) → x ≤ many → x ≤ bound → group other x ≡ group plan x
 unfolding group
 group-same plan other many bound x entries earlier same inside low = group_in-same plan other many bound x x entries earlier same inside low
 
 -- the same for all nodes
-group_in-same_all : (plan other : PlanData) (levels x : ℕ) → other.entries ≡ plan.entries → ((y : ℕ) → is_limited other y ≡ is_limited plan y) → group_in other levels x ≡ group_in plan levels x
+group_in-same_all : (plan other : PlanData) (levels x : ℕ) → other.entries ≡ plan.entries →
+    ((y : ℕ) → is_limited other y ≡ is_limited plan y) → group_in other levels x ≡ group_in plan levels x
 unfolding group_in
 group_in-same_all plan other zero x entries same = refl
 group_in-same_all plan other (suc levels) x entries same =
@@ -109,6 +117,7 @@ group_in-same_all plan other (suc levels) x entries same =
     ∙ ap (λ (b : Bool). cond b y (group_in other levels y)) (same y)
     ∙ ap (cond (is_limited plan y) y) (group_in-same_all plan other levels y entries same)
 
-pub group-same_all : (plan other : PlanData) (x : ℕ) → other.entries ≡ plan.entries → ((y : ℕ) → is_limited other y ≡ is_limited plan y) → group other x ≡ group plan x
+pub group-same_all : (plan other : PlanData) (x : ℕ) → other.entries ≡ plan.entries →
+    ((y : ℕ) → is_limited other y ≡ is_limited plan y) → group other x ≡ group plan x
 unfolding group
 group-same_all plan other x entries same = group_in-same_all plan other x x entries same

@@ -1,5 +1,6 @@
 -- What holds of a plan while its nodes are taken.
-use Rattle.std.proofs.Common.{◌≡◌, ◌∙◌, sym, ap, ℕ, zero, suc, ◌+◌, ◌<◌, ◌≤◌, ℤ, pos, neg_ℤ, true, List, [], ◌∷◌, ◌++◌, length, get_or, refl, arith, subst, inl, inr, Ok}
+use Rattle.std.proofs.Common.{◌≡◌, ◌∙◌, sym, ap, ℕ, zero, suc, ◌+◌, ◌<◌, ◌≤◌, ℤ, pos, neg_ℤ, true, List, [], ◌∷◌}
+use Rattle.std.proofs.Common.{◌++◌, length, get_or, refl, arith, subst, inl, inr, Ok}
 use Rattle.std.specs.Prelude.{◌==◌, is_some, All}
 use Rattle.std.proofs.lemmas.Int.{ints}
 use Rattle.std.proofs.lemmas.Bool.{cases_lt}
@@ -57,9 +58,11 @@ nothing_at : (x : ℕ) → node_at [] x ≡ Concentrator
 nothing_at zero = refl
 nothing_at (suc x) = refl
 
-pub earlier_of : (entries : List Entry) (plan : PlanData) → IsTree (parents_of entries) (leaves_of entries) → plan.entries ≡ entries → Earlier plan (length plan.entries)
+pub earlier_of : (entries : List Entry) (plan : PlanData) → IsTree (parents_of entries) (leaves_of entries) → plan.entries ≡ entries →
+    Earlier plan (length plan.entries)
 earlier_of entries plan tree same x low high =
-    subst (λ (l : List Entry). parent_of l x < x) (sym same) (tree.earlier x low (let long = length-parents_of entries in let e = ap (λ (l : List Entry). length l) same in omega arith))
+    subst (λ (l : List Entry). parent_of l x < x) (sym same)
+    (tree.earlier x low (let long = length-parents_of entries in let e = ap (λ (l : List Entry). length l) same in omega arith))
 
 no_elements : (P : List ℤ → Type 0) → All P []
 no_elements P = λ k d inside. absurd (omega arith)
@@ -83,7 +86,8 @@ nothing_taken basis entries sound =
     }
 
 -- a node part of a list with one more is an old one or the new one
-part_before : (done : List NodePart) (part : NodePart) (x : ℕ) → x < length done → get_or (done ++ part ∷ []) x concentrator ≡ get_or done x concentrator
+part_before : (done : List NodePart) (part : NodePart) (x : ℕ) → x < length done →
+    get_or (done ++ part ∷ []) x concentrator ≡ get_or done x concentrator
 part_before done part x inside = get_or-append done (part ∷ []) concentrator x inside
 
 part_here : (done : List NodePart) (part : NodePart) (x : ℕ) → x ≡ length done → get_or (done ++ part ∷ []) x concentrator ≡ part
@@ -91,7 +95,8 @@ part_here done part x is = ap (λ m. get_or (done ++ part ∷ []) m concentrator
 
 devices_with : (entries : List Entry) (done : List NodePart) (plan : PlanData) (part : NodePart) (new : NodeData) → NodesTaken entries done plan →
     plans.is_device new ≡ is_device part →
-    (x : ℕ) → x < length (done ++ part ∷ []) → plans.is_device (node (with_node plan new) (x + 1)) ≡ is_device (get_or (done ++ part ∷ []) x concentrator)
+    (x : ℕ) → x < length (done ++ part ∷ []) → plans.is_device (node (with_node plan new) (x + 1))
+    ≡ is_device (get_or (done ++ part ∷ []) x concentrator)
 devices_with entries done plan part new before one x inside =
     let long = length-append done (part ∷ []) in
     let many = before.many in
@@ -154,7 +159,8 @@ node_taken entries done plan part new earlier before hold none kind one =
     }
 
 -- other arrays change nothing else
-arrays_taken : (entries : List Entry) (done : List NodePart) (plan : PlanData) (arrays : List (List ℤ)) → NodesTaken entries done plan → AreArrays (record plan { arrays = arrays }) → NodesTaken entries done (record plan { arrays = arrays })
+arrays_taken : (entries : List Entry) (done : List NodePart) (plan : PlanData) (arrays : List (List ℤ)) →
+    NodesTaken entries done plan → AreArrays (record plan { arrays = arrays }) → NodesTaken entries done (record plan { arrays = arrays })
 arrays_taken entries done plan arrays before all = record {
   same_entries = before.same_entries;
   many = before.many;
@@ -188,7 +194,9 @@ abbrev new_device : Kind → ℤ → DeviceData
 new_device kind start = record { kind = kind; start = start; changes = [] }
 
 -- a node part that is not refused
-add_taken : (entries : List Entry) → IsTree (parents_of entries) (leaves_of entries) → (done : List NodePart) (plan made : PlanData) (part : NodePart) → NodesTaken entries done plan → add_node (length done + 1) plan part ≡ Ok made → NodesTaken entries (done ++ part ∷ []) made
+add_taken : (entries : List Entry) → IsTree (parents_of entries) (leaves_of entries) →
+    (done : List NodePart) (plan made : PlanData) (part : NodePart) → NodesTaken entries done plan →
+    add_node (length done + 1) plan part ≡ Ok made → NodesTaken entries (done ++ part ∷ []) made
 unfolding add_node
 add_taken entries tree done plan made concentrator before h =
     subst (NodesTaken entries (done ++ concentrator ∷ [])) (ok-is (with_node plan Concentrator) made h)
@@ -212,6 +220,8 @@ add_taken entries tree done plan made (device kind start) before h =
     (node_taken entries done state.value.1 (device kind start) new (earlier_of entries state.value.1 tree middle.same_entries) middle hold refl refl
     (λ has. absurd (cc has)))
 
-pub nodes_taken : (basis : BasisValue) (entries : List Entry) (parts : List NodePart) (plan : PlanData) → IsBasis basis → IsTree (parents_of entries) (leaves_of entries) → fold_from 1 add_node (empty_plan basis entries) parts ≡ Ok plan → NodesTaken entries parts plan
+pub nodes_taken : (basis : BasisValue) (entries : List Entry) (parts : List NodePart) (plan : PlanData) → IsBasis basis →
+    IsTree (parents_of entries) (leaves_of entries) → fold_from 1 add_node (empty_plan basis entries) parts ≡ Ok plan → NodesTaken entries parts plan
 nodes_taken basis entries parts plan sound tree h =
-    fold_keeps (NodesTaken entries) add_node (λ done s t x. add_taken entries tree done s t x) [] parts (empty_plan basis entries) plan (nothing_taken basis entries sound) h
+    fold_keeps (NodesTaken entries) add_node (λ done s t x. add_taken entries tree done s t x) [] parts
+    (empty_plan basis entries) plan (nothing_taken basis entries sound) h

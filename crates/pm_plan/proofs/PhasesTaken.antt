@@ -1,5 +1,6 @@
 -- What holds of a plan while its phases are taken.
-use Rattle.std.proofs.Common.{◌≡◌, ◌∙◌, sym, ap, ℕ, zero, suc, ◌+◌, ◌-◌, ◌<◌, ◌≤◌, ◌≢◌, ℤ, Bool, true, false, List, [], ◌∷◌, ◌++◌, length, map, get_or, cond, refl, arith, subst, inl, inr, IsTrue, Option, Some, None, Ok}
+use Rattle.std.proofs.Common.{◌≡◌, ◌∙◌, sym, ap, ℕ, zero, suc, ◌+◌, ◌-◌, ◌<◌, ◌≤◌, ◌≢◌, ℤ, Bool, true, false, List, []}
+use Rattle.std.proofs.Common.{◌∷◌, ◌++◌, length, map, get_or, cond, refl, arith, subst, inl, inr, IsTrue, Option, Some, None, Ok}
 use Rattle.std.specs.Prelude.{◌==◌, not, nat_le, if◌then◌else◌, option_and_then, is_some}
 use Rattle.std.specs.List.{count_by, sum_by}
 use Rattle.std.proofs.Math.ListN.{set, get_or-append, get_or-eq_default}
@@ -20,12 +21,14 @@ use Rattle.pm_plan.specs.declared.refusal.Place.TheVariants.{Phase, Event}
 use Rattle.pm_plan.specs.Parts.{EventPart, join, state, leave, PhasePart, events, tick}
 use Rattle.pm_plan.specs.Devices.{DeviceData}
 use Rattle.pm_plan.specs.declared.node.Node.TheVariants.{Concentrator, Limited, Device}
-use Rattle.pm_plan.specs.Plans.{PlanData, NodeData, node, is_device, limits_of, kind_of, changes_of, is_leaf, is_limited, phases, minutes_of, all_changes, changes_in}
+use Rattle.pm_plan.specs.Plans.{PlanData, NodeData, node, is_device, limits_of, kind_of, changes_of, is_leaf, is_limited, phases, minutes_of, all_changes}
+use Rattle.pm_plan.specs.Plans.{changes_in}
 use Rattle.pm_plan.specs.Kept.{AreArrays, no_change, change_fits, are_minutes}
 use Rattle.pm_base.specs.Limits.{most_events, most_changes}
 use Rattle.pm_plan.specs.Refusals.{need}
 use Rattle.pm_base.specs.Outcomes.{◌>>=◌, fold_from}
-use Rattle.pm_plan.specs.Building.{leaf_or_none, device_named, with_change, map_device, with_change_of, is_member_now, member_named, stranger_named, state_of, event_of, add_event, ticks_now, ticked, with_phase, with_tick, phase_of, add_phase}
+use Rattle.pm_plan.specs.Building.{leaf_or_none, device_named, with_change, map_device, with_change_of, is_member_now, member_named, stranger_named, state_of}
+use Rattle.pm_plan.specs.Building.{event_of, add_event, ticks_now, ticked, with_phase, with_tick, phase_of, add_phase}
 use Rattle.pm_plan.proofs.DeviceNodes.{device-is, is_device-map_device, limited-map_device, device_first, device_last}
 use Rattle.pm_plan.proofs.Inversions.{bind-ok, check-ok, ok-is, fold_keeps}
 use Rattle.pm_plan.proofs.Changes.{DeviceHolds, NodeHolds, with_change-holds, next_phase}
@@ -91,7 +94,8 @@ ticked_count q p minutes (Device planned) other =
     chosen_count q (ticks_now planned) (with_change p (Tick minutes) planned) planned
     (one_more_of q p planned (Tick minutes) ∙ none_more (p == q) (of_phase q (Device planned)) (other_phase p q other))
 
-sum_by-map : {A B : Type 0} (f : B → ℕ) (g : A → B) (h : A → ℕ) → ((x : A) → f (g x) ≡ h x) → (xs : List A) → sum_by f (map g xs) ≡ sum_by h xs
+sum_by-map : {A B : Type 0} (f : B → ℕ) (g : A → B) (h : A → ℕ) → ((x : A) → f (g x) ≡ h x) → (xs : List A) →
+    sum_by f (map g xs) ≡ sum_by h xs
 sum_by-map f g h same [] = refl
 sum_by-map f g h same (x ∷ xs) =
     let one = sum_by-cons f (g x) (map g xs) in
@@ -116,7 +120,8 @@ pub record OnWay (entries : List Entry) (p k : ℕ) (plan : PlanData) : Type 0 w
   pub one_limit : OneLimit plan
   pub holds : Holds p plan
 
-limited_with : (plan : PlanData) (d p x : ℕ) (what : Planned) → 1 ≤ d → d ≤ length plan.nodes → is_limited (with_change_of plan d p what) x ≡ is_limited plan x
+limited_with : (plan : PlanData) (d p x : ℕ) (what : Planned) → 1 ≤ d → d ≤ length plan.nodes →
+    is_limited (with_change_of plan d p what) x ≡ is_limited plan x
 limited_with plan d p x what low high = same_with (λ (n : NodeData). is_some (limits_of n)) limited-map_device plan d p x what low high
 
 length-with : (plan : PlanData) (d p : ℕ) (what : Planned) → length (with_change_of plan d p what).nodes ≡ length plan.nodes
@@ -159,7 +164,8 @@ change_on_way entries p k d plan planned what way is later fits =
     }
 
 -- other arrays
-arrays_on_way : (entries : List Entry) (p k : ℕ) (plan : PlanData) (arrays : List (List ℤ)) → OnWay entries p k plan → AreArrays (record plan { arrays = arrays }) → OnWay entries p k (record plan { arrays = arrays })
+arrays_on_way : (entries : List Entry) (p k : ℕ) (plan : PlanData) (arrays : List (List ℤ)) → OnWay entries p k plan →
+    AreArrays (record plan { arrays = arrays }) → OnWay entries p k (record plan { arrays = arrays })
 arrays_on_way entries p k plan arrays way all = record {
   same_entries = way.same_entries;
   many = way.many;
@@ -177,7 +183,8 @@ need-ok : {A : Type 0} (why : Cause) (place : Place) (o : Option A) (x : A) → 
 need-ok why place None x h = absurd (cc h)
 need-ok why place (Some y) x h = ap (λ z. (let o : Option _ = Some z in o)) (ok-is y x h)
 
-leaf_if : (entries : List Entry) (x d : ℕ) (b : Bool) → is_leaf_at entries x ≡ b → (if b then Some x else None) ≡ Some d → is_leaf_at entries d ≡ true
+leaf_if : (entries : List Entry) (x d : ℕ) (b : Bool) → is_leaf_at entries x ≡ b → (if b then Some x else None) ≡ Some d →
+    is_leaf_at entries d ≡ true
 leaf_if entries x d true is h = let same : x ≡ d = cc h in subst (λ y. is_leaf_at entries y ≡ true) same is
 leaf_if entries x d false is h = absurd (cc h)
 
@@ -190,14 +197,18 @@ unfolding member_named
 member-leaf place plan name d h =
     let found = bind-ok (need cause.UnknownDevice place (device_named plan.entries name)) _ d h in
     let inside = check-ok cause.NotJoined place (is_member_now plan found.value) _ d found.rest in
-    leaf_of plan.entries (node_named plan.entries name) d (need-ok cause.UnknownDevice place (device_named plan.entries name) found.value found.first ∙ ap (λ z. (let o : Option ℕ = Some z in o)) (ok-is found.value d inside.rest))
+    leaf_of plan.entries (node_named plan.entries name) d
+    (need-ok cause.UnknownDevice place (device_named plan.entries name) found.value found.first
+    ∙ ap (λ z. (let o : Option ℕ = Some z in o)) (ok-is found.value d inside.rest))
 
 stranger-leaf : (place : Place) (plan : PlanData) (name : List ℕ) (d : ℕ) → stranger_named place plan name ≡ Ok d → is_leaf plan d ≡ true
 unfolding stranger_named
 stranger-leaf place plan name d h =
     let found = bind-ok (need cause.UnknownDevice place (device_named plan.entries name)) _ d h in
     let inside = check-ok cause.JoinedAlready place (not (is_member_now plan found.value)) _ d found.rest in
-    leaf_of plan.entries (node_named plan.entries name) d (need-ok cause.UnknownDevice place (device_named plan.entries name) found.value found.first ∙ ap (λ z. (let o : Option ℕ = Some z in o)) (ok-is found.value d inside.rest))
+    leaf_of plan.entries (node_named plan.entries name) d
+    (need-ok cause.UnknownDevice place (device_named plan.entries name) found.value found.first
+    ∙ ap (λ z. (let o : Option ℕ = Some z in o)) (ok-is found.value d inside.rest))
 
 -- what holds once these events of phase p were taken
 record EventsTaken (entries : List Entry) (p k : ℕ) (done : List EventPart) (plan : PlanData) : Type 0 where
@@ -223,7 +234,8 @@ event_taken entries p k d done part plan planned what before is later fits =
 abbrev set_of : ℕ → ℕ → ℤ × PlanData → PlanData
 set_of d p made = with_change_of made.1 d p (Set (record { 0 = made.0 }))
 
-state_taken : (entries : List Entry) (p k d : ℕ) (done : List EventPart) (part : EventPart) (plan : PlanData) (planned : DeviceData) (made : ℤ × PlanData) →
+state_taken : (entries : List Entry) (p k d : ℕ) (done : List EventPart) (part : EventPart) (plan : PlanData) (planned : DeviceData)
+    (made : ℤ × PlanData) →
     EventsTaken entries p k done plan → node plan d ≡ Device planned → k < p → StateMade planned.kind plan made →
     EventsTaken entries p k (done ++ part ∷ []) (set_of d p made)
 state_taken entries p k d done part plan planned made before is later facts =
@@ -234,7 +246,8 @@ state_taken entries p k d done part plan planned made before is later facts =
     let P : PlanData → Type 0 = λ (q : PlanData). EventsTaken entries p k (done ++ part ∷ []) (with_change_of q d p (Set (record { 0 = made.0 }))) in
     subst P (sym facts.is) taken
 
-add_event_taken : (entries : List Entry) (p k n : ℕ) (done : List EventPart) (plan made : PlanData) (part : EventPart) → k < p → EventsTaken entries p k done plan → event_of (Event p n) p plan part ≡ Ok made → EventsTaken entries p k (done ++ part ∷ []) made
+add_event_taken : (entries : List Entry) (p k n : ℕ) (done : List EventPart) (plan made : PlanData) (part : EventPart) → k < p →
+    EventsTaken entries p k done plan → event_of (Event p n) p plan part ≡ Ok made → EventsTaken entries p k (done ++ part ∷ []) made
 unfolding event_of
 add_event_taken entries p k n done plan made (join name) later before h =
     let found = bind-ok (stranger_named (Event p n) plan name) (λ d. Ok (with_change_of plan d p Join)) made h in
@@ -251,7 +264,8 @@ add_event_taken entries p k n done plan made (state name value) later before h =
     let found = bind-ok (member_named place plan name)
     (λ d. need cause.UnknownDevice place (kind_of (node plan d)) >>= λ kind. state_of place kind plan value >>= λ s. Ok (set_of d p s)) made h in
     let d = found.value in
-    let kind = bind-ok (need cause.UnknownDevice place (kind_of (node plan d))) (λ kind. state_of place kind plan value >>= λ s. Ok (set_of d p s)) made found.rest in
+    let kind = bind-ok (need cause.UnknownDevice place (kind_of (node plan d)))
+    (λ kind. state_of place kind plan value >>= λ s. Ok (set_of d p s)) made found.rest in
     let set = bind-ok (state_of place kind.value plan value) (λ s. Ok (set_of d p s)) made kind.rest in
     let here = leaf_device entries p k d plan before.way (member-leaf place plan name d found.first) in
     let some = sym (ap kind_of here.1) ∙ need-ok cause.UnknownDevice place (kind_of (node plan d)) kind.value kind.first in
@@ -299,7 +313,8 @@ open_phase entries k plan way = record {
 }
 
 -- the minutes of one phase more
-minutes_before : (minutes : List (Option ℤ)) (new : Option ℤ) (q : ℕ) → q - 1 < length minutes → get_or (minutes ++ new ∷ []) (q - 1) None ≡ get_or minutes (q - 1) None
+minutes_before : (minutes : List (Option ℤ)) (new : Option ℤ) (q : ℕ) → q - 1 < length minutes →
+    get_or (minutes ++ new ∷ []) (q - 1) None ≡ get_or minutes (q - 1) None
 minutes_before minutes new q inside = get_or-append minutes (new ∷ []) None (q - 1) inside
 
 minutes_here : (minutes : List (Option ℤ)) (new : Option ℤ) (q : ℕ) → q - 1 ≡ length minutes → get_or (minutes ++ new ∷ []) (q - 1) None ≡ new
@@ -308,7 +323,9 @@ minutes_here minutes new q is = ap (λ i. get_or (minutes ++ new ∷ []) i None)
 minutes_beyond : (minutes : List (Option ℤ)) (new : Option ℤ) (q : ℕ) → length minutes < q - 1 → get_or (minutes ++ new ∷ []) (q - 1) None ≡ None
 minutes_beyond minutes new q far = get_or-eq_default (minutes ++ new ∷ []) None {n = q - 1} (let long = length-append minutes (new ∷ []) in omega arith)
 
-minutes_with : (minutes : List (Option ℤ)) (new : Option ℤ) → ((q : ℕ) (m : ℤ) → get_or minutes (q - 1) None ≡ Some m → IsTrue (are_minutes m)) → ((m : ℤ) → new ≡ Some m → IsTrue (are_minutes m)) →
+minutes_with : (minutes : List (Option ℤ)) (new : Option ℤ) →
+    ((q : ℕ) (m : ℤ) → get_or minutes (q - 1) None ≡ Some m → IsTrue (are_minutes m)) →
+    ((m : ℤ) → new ≡ Some m → IsTrue (are_minutes m)) →
     (q : ℕ) (m : ℤ) → get_or (minutes ++ new ∷ []) (q - 1) None ≡ Some m → IsTrue (are_minutes m)
 minutes_with minutes new all one q m is = elim (cases_lt (q - 1) (length minutes)) [
   | inl old ↦ all q m (sym (minutes_before minutes new q old) ∙ is)
@@ -319,7 +336,9 @@ minutes_with minutes new all one q m is = elim (cases_lt (q - 1) (length minutes
 ]
 
 -- the events of one phase more, whose number is k + 1
-events_with : (minutes : List (Option ℤ)) (new : Option ℤ) (k : ℕ) (count : ℕ → ℕ) → length minutes ≡ k → ((q : ℕ) → 1 ≤ q → q ≤ k → get_or minutes (q - 1) None ≡ None → count q ≤ most_events) → (new ≡ None → count (k + 1) ≤ most_events) →
+events_with : (minutes : List (Option ℤ)) (new : Option ℤ) (k : ℕ) (count : ℕ → ℕ) → length minutes ≡ k →
+    ((q : ℕ) → 1 ≤ q → q ≤ k → get_or minutes (q - 1) None ≡ None → count q ≤ most_events) →
+    (new ≡ None → count (k + 1) ≤ most_events) →
     (q : ℕ) → 1 ≤ q → q ≤ k + 1 → get_or (minutes ++ new ∷ []) (q - 1) None ≡ None → count q ≤ most_events
 events_with minutes new k count closed all one q first last none = elim (cases_lt (q - 1) (length minutes)) [
   | inl old ↦ all q first (omega arith) (sym (minutes_before minutes new q old) ∙ none)
@@ -329,7 +348,8 @@ events_with minutes new k count closed all one q first last none = elim (cases_l
 ]
 
 -- a phase of events is closed
-events_closed : (entries : List Entry) (k : ℕ) (plan : PlanData) → OnWay entries (k + 1) k plan → changes_in plan.nodes (k + 1) ≤ most_events → OnWay entries (k + 1) (k + 1) (with_phase plan None)
+events_closed : (entries : List Entry) (k : ℕ) (plan : PlanData) → OnWay entries (k + 1) k plan →
+    changes_in plan.nodes (k + 1) ≤ most_events → OnWay entries (k + 1) (k + 1) (with_phase plan None)
 events_closed entries k plan way few = record {
   same_entries = way.same_entries;
   many = way.many;
@@ -338,21 +358,31 @@ events_closed entries k plan way few = record {
   minutes = minutes_with plan.minutes None way.minutes (λ m is. absurd (cc is));
   few_events = events_with plan.minutes None k (changes_in plan.nodes) way.closed way.few_events (λ is. few);
   one_limit = λ x within bounded. group-same_all plan (with_phase plan None) x refl (λ y. refl) ∙ way.one_limit x within bounded;
-  holds = record { basis = way.holds.basis; arrays = record { steps = way.holds.arrays.steps; fall = way.holds.arrays.fall; within = way.holds.arrays.within }; nodes = way.holds.nodes };
+  holds = record {
+    basis = way.holds.basis;
+    arrays = record {
+      steps = way.holds.arrays.steps;
+      fall = way.holds.arrays.fall;
+      within = way.holds.arrays.within;
+    };
+    nodes = way.holds.nodes;
+  };
 }
 
 chosen_holds : (p : ℕ) (b : Bool) (x y : DeviceData) → DeviceHolds p x → DeviceHolds p y → DeviceHolds p (if b then x else y)
 chosen_holds p true x y one two = one
 chosen_holds p false x y one two = two
 
-ticked_holds : (p : ℕ) (minutes : ℤ) (n : NodeData) → NodeHolds p n → 1 ≤ p → IsTrue (are_minutes minutes) → NodeHolds p (map_device (ticked p minutes) n)
+ticked_holds : (p : ℕ) (minutes : ℤ) (n : NodeData) → NodeHolds p n → 1 ≤ p → IsTrue (are_minutes minutes) →
+    NodeHolds p (map_device (ticked p minutes) n)
 ticked_holds p minutes Concentrator hold low fits = tt
 ticked_holds p minutes (Limited limits) hold low fits = hold
 ticked_holds p minutes (Device planned) hold low fits =
     chosen_holds p (ticks_now planned) (with_change p (Tick minutes) planned) planned (with_change-holds p planned (Tick minutes) hold low fits) hold
 
 -- a tick is closed
-tick_closed : (entries : List Entry) (k : ℕ) (plan : PlanData) (minutes : ℤ) → OnWay entries (k + 1) k plan → IsTrue (are_minutes minutes) → OnWay entries (k + 1) (k + 1) (with_tick (k + 1) minutes plan)
+tick_closed : (entries : List Entry) (k : ℕ) (plan : PlanData) (minutes : ℤ) → OnWay entries (k + 1) k plan →
+    IsTrue (are_minutes minutes) → OnWay entries (k + 1) (k + 1) (with_tick (k + 1) minutes plan)
 tick_closed entries k plan minutes way fits =
     let new = with_tick (k + 1) minutes plan in
     let limited : (x : ℕ) → is_limited new x ≡ is_limited plan x =
@@ -362,17 +392,20 @@ tick_closed entries k plan minutes way fits =
       many = length-map plan.nodes (map_device (ticked (k + 1) minutes)) ∙ way.many;
       devices = λ x. ap is_device (node-ticked plan (k + 1) minutes x) ∙ is_device-map_device (ticked (k + 1) minutes) (node plan x) ∙ way.devices x;
       closed = length-append plan.minutes (Some minutes ∷ []) ∙ ap (λ n. n + 1) way.closed;
-      minutes = minutes_with plan.minutes (Some minutes) way.minutes (λ m is. subst (λ z. IsTrue (are_minutes z)) (let same : minutes ≡ m = cc is in same) fits);
+      minutes = minutes_with plan.minutes (Some minutes) way.minutes
+          (λ m is. subst (λ z. IsTrue (are_minutes z)) (let same : minutes ≡ m = cc is in same) fits);
       few_events =
           events_with plan.minutes (Some minutes) k (changes_in new.nodes) way.closed
-          (λ q first last none. (let same = changes_ticked plan (k + 1) q minutes (λ e. absurd (omega arith)) in let few = way.few_events q first last none in omega arith))
+          (λ q first last none. (let same = changes_ticked plan (k + 1) q minutes (λ e. absurd (omega arith)) in let few =
+          way.few_events q first last none in omega arith))
           (λ is. absurd (cc is));
       one_limit = λ x within bounded.
           group-same_all plan new x refl limited ∙ way.one_limit x within (sym (limited x) ∙ bounded);
       holds = record {
         basis = way.holds.basis;
         arrays = record { steps = way.holds.arrays.steps; fall = way.holds.arrays.fall; within = way.holds.arrays.within };
-        nodes = λ x. subst (NodeHolds (k + 1)) (sym (node-ticked plan (k + 1) minutes x)) (ticked_holds (k + 1) minutes (node plan x) (way.holds.nodes x) (omega arith) fits);
+        nodes = λ x. subst (NodeHolds (k + 1)) (sym (node-ticked plan (k + 1) minutes x))
+            (ticked_holds (k + 1) minutes (node plan x) (way.holds.nodes x) (omega arith) fits);
       };
     }
 
@@ -381,22 +414,28 @@ pub record PhasesTaken (entries : List Entry) (done : List PhasePart) (plan : Pl
   pub way : OnWay entries (length done) (length done) plan
   pub few_changes : all_changes plan.nodes ≤ most_changes
 
-phase_taken : (entries : List Entry) (k : ℕ) (plan made : PlanData) (part : PhasePart) → OnWay entries k k plan → phase_of (k + 1) plan part ≡ Ok made → OnWay entries (k + 1) (k + 1) made
+phase_taken : (entries : List Entry) (k : ℕ) (plan made : PlanData) (part : PhasePart) → OnWay entries k k plan →
+    phase_of (k + 1) plan part ≡ Ok made → OnWay entries (k + 1) (k + 1) made
 unfolding phase_of
 phase_taken entries k plan made (tick minutes) before h =
     let fits = check-ok cause.OutsideLimits (Phase (k + 1)) (are_minutes minutes) _ made h in
-    subst (OnWay entries (k + 1) (k + 1)) (ok-is (with_tick (k + 1) minutes plan) made fits.rest) (tick_closed entries k plan minutes (open_phase entries k plan before) fits.holds)
+    subst (OnWay entries (k + 1) (k + 1)) (ok-is (with_tick (k + 1) minutes plan) made fits.rest)
+    (tick_closed entries k plan minutes (open_phase entries k plan before) fits.holds)
 phase_taken entries k plan made (events list) before h =
     let few = check-ok cause.RunTooLarge (Phase (k + 1)) (nat_le (length list) most_events) _ made h in
     let all = bind-ok (fold_from 1 (add_event (k + 1)) plan list) (λ after. Ok (with_phase after None)) made few.rest in
-    let start : EventsTaken entries (k + 1) k [] plan = record { way = open_phase entries k plan before; count = none_later_of k (k + 1) plan before.holds (omega arith) } in
+    let start : EventsTaken entries (k + 1) k [] plan =
+    record { way = open_phase entries k plan before; count = none_later_of k (k + 1) plan before.holds (omega arith) } in
     let taken =
-    fold_keeps (EventsTaken entries (k + 1) k) (add_event (k + 1)) (λ done s t x held is. add_event_taken entries (k + 1) k (length done + 1) done s t x (omega arith) held is)
+    fold_keeps (EventsTaken entries (k + 1) k) (add_event (k + 1))
+    (λ done s t x held is. add_event_taken entries (k + 1) k (length done + 1) done s t x (omega arith) held is)
     [] list plan all.value start all.first in
     let within : length list ≤ most_events = leb-true (length list) most_events few.holds in
-    subst (OnWay entries (k + 1) (k + 1)) (ok-is (with_phase all.value None) made all.rest) (events_closed entries k all.value taken.way (let c = taken.count in omega arith))
+    subst (OnWay entries (k + 1) (k + 1)) (ok-is (with_phase all.value None) made all.rest)
+    (events_closed entries k all.value taken.way (let c = taken.count in omega arith))
 
-add_phase_taken : (entries : List Entry) (done : List PhasePart) (plan made : PlanData) (part : PhasePart) → PhasesTaken entries done plan → add_phase (length done + 1) plan part ≡ Ok made → PhasesTaken entries (done ++ part ∷ []) made
+add_phase_taken : (entries : List Entry) (done : List PhasePart) (plan made : PlanData) (part : PhasePart) →
+    PhasesTaken entries done plan → add_phase (length done + 1) plan part ≡ Ok made → PhasesTaken entries (done ++ part ∷ []) made
 unfolding add_phase
 add_phase_taken entries done plan made part before h =
     let after = bind-ok (phase_of (length done + 1) plan part) _ made h in
@@ -410,5 +449,7 @@ add_phase_taken entries done plan made part before h =
     } in
     subst (PhasesTaken entries (done ++ part ∷ [])) (ok-is after.value made few.rest) taken
 
-pub phases_taken : (entries : List Entry) (parts : List PhasePart) (plan made : PlanData) → PhasesTaken entries [] plan → fold_from 1 add_phase plan parts ≡ Ok made → PhasesTaken entries parts made
-phases_taken entries parts plan made start h = fold_keeps (PhasesTaken entries) add_phase (λ done s t x. add_phase_taken entries done s t x) [] parts plan made start h
+pub phases_taken : (entries : List Entry) (parts : List PhasePart) (plan made : PlanData) → PhasesTaken entries [] plan →
+    fold_from 1 add_phase plan parts ≡ Ok made → PhasesTaken entries parts made
+phases_taken entries parts plan made start h =
+    fold_keeps (PhasesTaken entries) add_phase (λ done s t x. add_phase_taken entries done s t x) [] parts plan made start h

@@ -60,7 +60,8 @@ parents plan x = parent-is plan x
 pub leaves : (plan : PlanData) (x : ℕ) → market.is_leaf (plan_lists plan) x ≡ is_leaf plan x
 leaves plan x = is_leaf-is plan x
 
-pub members : (plan : PlanData) (d n : ℕ) → 1 ≤ d → d ≤ length plan.nodes → n ≤ change_count plan d → market.is_member (plan_lists plan) d n ≡ is_member plan d n
+pub members : (plan : PlanData) (d n : ℕ) → 1 ≤ d → d ≤ length plan.nodes → n ≤ change_count plan d →
+    market.is_member (plan_lists plan) d n ≡ is_member plan d n
 members plan d n low high inside = is_member-is plan d n low high inside
 
 pub changes : (plan : PlanData) (d : ℕ) → 1 ≤ d → d ≤ length plan.nodes → market.changes (plan_lists plan) d ≡ change_count plan d
@@ -69,11 +70,14 @@ changes plan d low high = changes-is plan d low high
 pub phase_count : (plan : PlanData) → market.phases (plan_lists plan) ≡ phases plan
 phase_count plan = phases-is plan
 
-pub ends : (plan : PlanData) (p d : ℕ) → IsPlan plan → 1 ≤ d → d ≤ length plan.nodes → p ≤ phases plan → market.end_count (plan_lists plan) p d ≡ end_cut plan p d
+pub ends : (plan : PlanData) (p d : ℕ) → IsPlan plan → 1 ≤ d → d ≤ length plan.nodes → p ≤ phases plan →
+    market.end_count (plan_lists plan) p d ≡ end_cut plan p d
 ends plan p d is low high inside = end-is plan p d low high inside is.in_phases
 
 pub bounds : (plan : PlanData) → IsPlan plan → market_bound.bound (plan_lists plan) ≡ plan_bound plan
 bounds plan is = bound-is plan is
 
-pub plans : (basis : BasisValue) (entries : List Entry) (nodes : List NodePart) (phases : List PhasePart) (plan : PlanData) → IsBasis basis → checked_tree entries ≡ Ok entries → IsTree (parents_of entries) (leaves_of entries) → AreNodesOf entries nodes → checked_plan basis entries nodes phases ≡ Ok plan → IsPlan plan
+pub plans : (basis : BasisValue) (entries : List Entry) (nodes : List NodePart) (phases : List PhasePart) (plan : PlanData) →
+    IsBasis basis → checked_tree entries ≡ Ok entries → IsTree (parents_of entries) (leaves_of entries) → AreNodesOf entries nodes →
+    checked_plan basis entries nodes phases ≡ Ok plan → IsPlan plan
 plans basis entries nodes phases plan sound accepted tree fit h = checked_plan-keeps basis entries nodes phases plan sound accepted tree fit h

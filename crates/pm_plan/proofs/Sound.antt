@@ -1,5 +1,6 @@
 -- The plan that parts give is one that the type of a plan keeps.
-use Rattle.std.proofs.Common.{◌≡◌, ◌∙◌, sym, ap, ℕ, zero, suc, ◌+◌, ◌-◌, ◌<◌, ◌≤◌, ℤ, Bool, true, false, List, [], length, get_or, refl, arith, subst, IsTrue, Option, Some, None, Ok, inl, inr}
+use Rattle.std.proofs.Common.{◌≡◌, ◌∙◌, sym, ap, ℕ, zero, suc, ◌+◌, ◌-◌, ◌<◌, ◌≤◌, ℤ, Bool, true, false, List, [], length}
+use Rattle.std.proofs.Common.{get_or, refl, arith, subst, IsTrue, Option, Some, None, Ok, inl, inr}
 use Rattle.std.specs.Prelude.{if◌then◌else◌, is_some, nat_le, nat_lt}
 use Rattle.std.proofs.Math.ListN.{get_or-eq_default}
 use Rattle.std.proofs.lemmas.Bool.{cases_lt, leb-true}
@@ -29,7 +30,8 @@ use Rattle.pm_plan.proofs.NodesTaken.{NodesTaken, nodes_taken}
 use Rattle.pm_plan.proofs.PhasesTaken.{OnWay, PhasesTaken, phases_taken, sum_none}
 
 -- a tree has at most 256 entries
-few_if : (many : ℕ) (b : Bool) (fault : TreeFault) (rest : Option TreeFault) (entries : List Entry) → nat_lt most_nodes many ≡ b → tree_unless entries (if b then Some fault else rest) ≡ Ok entries → many ≤ most_nodes
+few_if : (many : ℕ) (b : Bool) (fault : TreeFault) (rest : Option TreeFault) (entries : List Entry) → nat_lt most_nodes many ≡ b →
+    tree_unless entries (if b then Some fault else rest) ≡ Ok entries → many ≤ most_nodes
 few_if many true fault rest entries is h = absurd (cc h)
 few_if many false fault rest entries is h = grind (arith, nat_tests)
 
@@ -44,7 +46,8 @@ part_is entries parts x fit inside =
     sym (get_or-map is_device parts x concentrator false inside) ∙ ap (λ (l : List Bool). get_or l x false) fit
 
 -- so the devices among the nodes are, and no node lies beyond the tree
-devices_taken : (entries : List Entry) (parts : List NodePart) (plan : PlanData) → AreNodesOf entries parts → NodesTaken entries parts plan → (x : ℕ) →
+devices_taken : (entries : List Entry) (parts : List NodePart) (plan : PlanData) → AreNodesOf entries parts →
+    NodesTaken entries parts plan → (x : ℕ) →
     plans.is_device (node plan x) ≡ is_leaf plan x
 devices_taken entries parts plan fit taken zero = refl
 devices_taken entries parts plan fit taken (suc x) =
@@ -72,7 +75,8 @@ no_phases : (plan : PlanData) (q : ℕ) → plan.minutes ≡ [] → minutes_of p
 no_phases plan q none = ap (λ (l : List (Option ℤ)). get_or l (q - 1) None) none
 
 -- the way begins once all nodes were taken
-begun : (entries : List Entry) (parts : List NodePart) (plan : PlanData) → AreNodesOf entries parts → NodesTaken entries parts plan → PhasesTaken entries [] plan
+begun : (entries : List Entry) (parts : List NodePart) (plan : PlanData) → AreNodesOf entries parts → NodesTaken entries parts plan →
+    PhasesTaken entries [] plan
 begun entries parts plan fit taken =
     let many = sym (length-map parts is_device) ∙ ap (λ (l : List Bool). length l) fit ∙ length-leaves_of entries in
     record {
@@ -90,7 +94,8 @@ begun entries parts plan fit taken =
     }
 
 -- a node beyond the tree is none
-one_limit_all : (entries : List Entry) (p k : ℕ) (plan : PlanData) → OnWay entries p k plan → (x : ℕ) → is_limited plan x ≡ true → group plan x ≡ 0
+one_limit_all : (entries : List Entry) (p k : ℕ) (plan : PlanData) → OnWay entries p k plan → (x : ℕ) → is_limited plan x ≡ true →
+    group plan x ≡ 0
 one_limit_all entries p k plan way x bounded = elim (cases_lt (length plan.entries) x) [
   | inr inside ↦ way.one_limit x (omega arith) bounded
   | inl far ↦
@@ -123,7 +128,8 @@ in_order p (Limited limits) hold = no_order p
 in_order p (Device planned) hold = record { first = hold.changes.first; last = hold.changes.last; rise = hold.changes.rise }
 
 -- the end of the way
-arrived : (entries : List Entry) (parts : List PhasePart) (plan : PlanData) → checked_tree entries ≡ Ok entries → IsTree (parents_of entries) (leaves_of entries) → length parts ≤ most_phases → PhasesTaken entries parts plan → IsPlan plan
+arrived : (entries : List Entry) (parts : List PhasePart) (plan : PlanData) → checked_tree entries ≡ Ok entries →
+    IsTree (parents_of entries) (leaves_of entries) → length parts ≤ most_phases → PhasesTaken entries parts plan → IsPlan plan
 arrived entries parts plan accepted tree few taken =
     let way = taken.way in
     let same = sym way.same_entries in
@@ -156,7 +162,9 @@ arrived entries parts plan accepted tree few taken =
     }
 
 -- all nodes and all phases were taken
-taken_all : (basis : BasisValue) (entries : List Entry) (nodes : List NodePart) (phases : List PhasePart) (plan : PlanData) → IsBasis basis → IsTree (parents_of entries) (leaves_of entries) → AreNodesOf entries nodes → checked_plan basis entries nodes phases ≡ Ok plan → PhasesTaken entries phases plan
+taken_all : (basis : BasisValue) (entries : List Entry) (nodes : List NodePart) (phases : List PhasePart) (plan : PlanData) →
+    IsBasis basis → IsTree (parents_of entries) (leaves_of entries) → AreNodesOf entries nodes →
+    checked_plan basis entries nodes phases ≡ Ok plan → PhasesTaken entries phases plan
 unfolding checked_plan
 taken_all basis entries nodes phases plan sound tree fit h =
     let few = check-ok cause.RunTooLarge Document (nat_le (length phases) most_phases) _ plan h in
@@ -164,16 +172,21 @@ taken_all basis entries nodes phases plan sound tree fit h =
     let start = begun entries nodes made.value fit (nodes_taken basis entries nodes made.value sound tree made.first) in
     phases_taken entries phases made.value plan start made.rest
 
-few_phases : (basis : BasisValue) (entries : List Entry) (nodes : List NodePart) (phases : List PhasePart) (plan : PlanData) → checked_plan basis entries nodes phases ≡ Ok plan → length phases ≤ most_phases
+few_phases : (basis : BasisValue) (entries : List Entry) (nodes : List NodePart) (phases : List PhasePart) (plan : PlanData) →
+    checked_plan basis entries nodes phases ≡ Ok plan → length phases ≤ most_phases
 unfolding checked_plan
 few_phases basis entries nodes phases plan h =
     let few = check-ok cause.RunTooLarge Document (nat_le (length phases) most_phases) _ plan h in
     leb-true (length phases) most_phases few.holds
 
-pub checked_plan-keeps : (basis : BasisValue) (entries : List Entry) (nodes : List NodePart) (phases : List PhasePart) (plan : PlanData) → IsBasis basis → checked_tree entries ≡ Ok entries → IsTree (parents_of entries) (leaves_of entries) → AreNodesOf entries nodes → checked_plan basis entries nodes phases ≡ Ok plan → IsPlan plan
+pub checked_plan-keeps : (basis : BasisValue) (entries : List Entry) (nodes : List NodePart) (phases : List PhasePart)
+    (plan : PlanData) → IsBasis basis → checked_tree entries ≡ Ok entries → IsTree (parents_of entries) (leaves_of entries) →
+    AreNodesOf entries nodes → checked_plan basis entries nodes phases ≡ Ok plan → IsPlan plan
 checked_plan-keeps basis entries nodes phases plan sound accepted tree fit h =
     arrived entries phases plan accepted tree (few_phases basis entries nodes phases plan h) (taken_all basis entries nodes phases plan sound tree fit h)
 
 -- the plan has as many phases as the parts
-pub checked_plan-phases : (basis : BasisValue) (entries : List Entry) (nodes : List NodePart) (parts : List PhasePart) (plan : PlanData) → IsBasis basis → IsTree (parents_of entries) (leaves_of entries) → AreNodesOf entries nodes → checked_plan basis entries nodes parts ≡ Ok plan → phases plan ≡ length parts
+pub checked_plan-phases : (basis : BasisValue) (entries : List Entry) (nodes : List NodePart) (parts : List PhasePart)
+    (plan : PlanData) → IsBasis basis → IsTree (parents_of entries) (leaves_of entries) → AreNodesOf entries nodes →
+    checked_plan basis entries nodes parts ≡ Ok plan → phases plan ≡ length parts
 checked_plan-phases basis entries nodes parts plan sound tree fit h = (taken_all basis entries nodes parts plan sound tree fit h).way.closed

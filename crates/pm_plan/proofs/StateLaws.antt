@@ -1,5 +1,6 @@
 -- The states of the devices: a change makes the next state of the one before, a tick by the power at the end of the phase before.
-use Rattle.std.proofs.Common.{◌≡◌, ◌∙◌, sym, ap, ℕ, zero, suc, ◌+◌, ◌-◌, ◌<◌, ◌≤◌, ℤ, pos, List, [], ◌∷◌, length, take, get_or, refl, arith, add-one, length-append, inl, inr, subst}
+use Rattle.std.proofs.Common.{◌≡◌, ◌∙◌, sym, ap, ℕ, zero, suc, ◌+◌, ◌-◌, ◌<◌, ◌≤◌, ℤ, pos, List, [], ◌∷◌, length, take}
+use Rattle.std.proofs.Common.{get_or, refl, arith, add-one, length-append, inl, inr, subst}
 use Rattle.std.proofs.lemmas.Bool.{cases_lt, leb-true}
 use Rattle.std.proofs.Math.ListN.{get_or-append}
 use Rattle.std.proofs.Math.Seq.{get_or-append_seam}
@@ -14,7 +15,8 @@ use Rattle.pm_plan.specs.Devices.{DeviceData}
 use Rattle.pm_plan.specs.declared.node.Node.TheVariants.{Concentrator, Limited, Device}
 use Rattle.pm_plan.specs.Plans.{PlanData, NodeData, node, changes_of, phases, is_up_to, end_cut}
 use Rattle.pm_plan.specs.Auction.{States, power}
-use Rattle.pm_plan.specs.States.{changed_state, power_before, FollowChanges, power_in_rows, node_state, state_by_rows, power_row, with_next_row, power_rows, state}
+use Rattle.pm_plan.specs.States.{changed_state, power_before, FollowChanges, power_in_rows, node_state, state_by_rows, power_row, with_next_row, power_rows}
+use Rattle.pm_plan.specs.States.{state}
 use Rattle.pm_plan.proofs.Auctions.{power_same}
 use Rattle.pm_plan.proofs.Ends.{end-none, end-rises, end-within, end-last}
 use Rattle.pm_plan.proofs.DeviceNodes.{device_first, device_last}
@@ -50,7 +52,8 @@ power_in_rows-at plan k p (suc d) h low high =
     ∙ get_or-map-range_with_len (power plan (state_by_rows plan (power_rows plan p)) (end_cut plan p)) 1 (length plan.nodes) d (suc d) (pos 0) (omega arith)
     (omega arith)
 
-fold_same : {A B : Type 0} (f g : B → A → B) (P : A → Type 0) → ((b : B) (x : A) → P x → f b x ≡ g b x) → (b : B) (xs : List A) → All P xs → fold f b xs ≡ fold g b xs
+fold_same : {A B : Type 0} (f g : B → A → B) (P : A → Type 0) → ((b : B) (x : A) → P x → f b x ≡ g b x) → (b : B) (xs : List A) →
+    All P xs → fold f b xs ≡ fold g b xs
 fold_same f g P same b [] all = refl
 fold_same f g P same b (x ∷ xs) all =
     ap (λ z. fold f z xs) (same b x (All-head P x xs all)) ∙ fold_same f g P same (g b x) xs (All-tail P x xs all)
@@ -72,7 +75,8 @@ changes_before plan p d n upto fits k c inside =
     subst (Before p) (sym (get_or-take n changes k c below ∙ get_or_default changes k c no_change (omega arith))) here
 
 -- changes of the phases up to p use the powers below p alone
-node_state-same : (n : NodeData) (some all : ℕ → ℤ) (p k : ℕ) → All (Before p) (take k (changes_of n)) → ((q : ℕ) → q < p → some q ≡ all q) →
+node_state-same : (n : NodeData) (some all : ℕ → ℤ) (p k : ℕ) → All (Before p) (take k (changes_of n)) →
+    ((q : ℕ) → q < p → some q ≡ all q) →
     node_state n some k ≡ node_state n all k
 node_state-same Concentrator some all p k early same = refl
 node_state-same (Limited limits) some all p k early same = refl
@@ -89,7 +93,8 @@ state_by_rows-same plan some all p d n upto fits same =
     node_state-same (node plan d) (λ q. power_in_rows some q d) (λ q. power_in_rows all q d) p n (changes_before plan p d n upto fits) same
 
 -- the rows of fewer phases are the same
-power_in_rows-fewer : (plan : PlanData) (j k q d : ℕ) → q < j → j ≤ k → power_in_rows (power_rows plan j) q d ≡ power_in_rows (power_rows plan k) q d
+power_in_rows-fewer : (plan : PlanData) (j k q d : ℕ) → q < j → j ≤ k →
+    power_in_rows (power_rows plan j) q d ≡ power_in_rows (power_rows plan k) q d
 power_in_rows-fewer plan j k q d below within =
     ap (λ r. get_or r d (pos 0)) (power_rows-at plan j q below ∙ sym (power_rows-at plan k q (omega arith)))
 
@@ -165,7 +170,8 @@ SameUpTo plan states p = (d n : ℕ) (planned : DeviceData) → node plan d ≡ 
 power_before-same : (plan : PlanData) (states : States) (p q d : ℕ) → SameUpTo plan states p → q ≤ p + 1 →
     power_before plan states q d ≡ power_before plan (state plan) q d
 power_before-same plan states p q d same within =
-    power_same plan states (state plan) (end_cut plan (q - 1)) d (λ e planned is. same e (end_cut plan (q - 1) e) planned is (end-rises plan (q - 1) p e (omega arith)))
+    power_same plan states (state plan) (end_cut plan (q - 1)) d
+    (λ e planned is. same e (end_cut plan (q - 1) e) planned is (end-rises plan (q - 1) p e (omega arith)))
 
 -- and so are the states at the changes of that phase
 same_next : (plan : PlanData) (states : States) (p d n : ℕ) (planned : DeviceData) → InPhases plan → FollowChanges plan states →

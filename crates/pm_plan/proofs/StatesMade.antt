@@ -1,5 +1,6 @@
 -- What a state of a file makes: a number that fits, or one array more.
-use Rattle.std.proofs.Common.{◌≡◌, ℕ, ◌≤◌, ℤ, pos, Bool, true, false, List, [], ◌∷◌, ◌++◌, length, refl, arith, subst, IsTrue, Result, Ok, Err}
+use Rattle.std.proofs.Common.{◌≡◌, ℕ, ◌≤◌, ℤ, pos, Bool, true, false, List, [], ◌∷◌, ◌++◌, length, refl, arith, subst, IsTrue, Result}
+use Rattle.std.proofs.Common.{Ok, Err}
 use Rattle.std.specs.Prelude.{◌==◌, nat_lt, if◌then◌else◌}
 use Rattle.std.proofs.lemmas.Int.{ints}
 use Rattle.std.proofs.lemmas.Bool.Decides.{nat_tests}
@@ -42,7 +43,8 @@ record ElseOk {A E : Type 0} (test : Bool) (rest : Result A E) (value : A) : Typ
   fails : test ≡ false
   is : rest ≡ Ok value
 
-else-ok : {A E : Type 0} (test : Bool) (fault : E) (rest : Result A E) (value : A) → (if test then Err fault else rest) ≡ Ok value → ElseOk test rest value
+else-ok : {A E : Type 0} (test : Bool) (fault : E) (rest : Result A E) (value : A) → (if test then Err fault else rest) ≡ Ok value →
+    ElseOk test rest value
 else-ok true fault rest value h = absurd (cc h)
 else-ok false fault rest value h = record { fails = refl; is = h }
 
@@ -50,7 +52,8 @@ record ThenOk {A E : Type 0} (test : Bool) (rest : Result A E) (value : A) : Typ
   holds : test ≡ true
   is : rest ≡ Ok value
 
-then-ok : {A E : Type 0} (test : Bool) (fault : E) (rest : Result A E) (value : A) → (if test then rest else Err fault) ≡ Ok value → ThenOk test rest value
+then-ok : {A E : Type 0} (test : Bool) (fault : E) (rest : Result A E) (value : A) → (if test then rest else Err fault) ≡ Ok value →
+    ThenOk test rest value
 then-ok true fault rest value h = record { holds = refl; is = h }
 then-ok false fault rest value h = absurd (cc h)
 
@@ -82,13 +85,16 @@ checked_points-is basis given bid sound h =
     let is : given ≡ bid = cc outside.is in
     subst IsPointBid is
     (passed_all basis given sound (some_points given none.fails) (passed max_points many few.fails) (passed (first_price_fall given) many fall.fails)
-    (passed (first_rise given) many rise.fails) (passed (point_checks.first_large_demand given) many large.fails) (passed (first_outside basis given) many outside.fails))
+    (passed (first_rise given) many rise.fails) (passed (point_checks.first_large_demand given) many large.fails)
+    (passed (first_outside basis given) many outside.fails))
 
-array-of : (steps : ℕ) (place : Place) (demands bid : List ℤ) (r : Result (List ℤ) BidFault) → checked_bid steps demands ≡ r → array_or_refuse place r ≡ Ok bid → IsBid steps bid
+array-of : (steps : ℕ) (place : Place) (demands bid : List ℤ) (r : Result (List ℤ) BidFault) → checked_bid steps demands ≡ r →
+    array_or_refuse place r ≡ Ok bid → IsBid steps bid
 array-of steps place demands bid (Ok made) e h = subst (IsBid steps) (ok-is made bid h) (checked_bid-is steps demands made e)
 array-of steps place demands bid (Err fault) e h = absurd (cc h)
 
-points-of : (basis : BasisValue) (place : Place) (given : List Point) (bid : List ℤ) (r : Result (List Point) PointFault) → IsBasis basis → checked_points basis given ≡ r → points_or_refuse basis place r ≡ Ok bid → IsBid basis.steps bid
+points-of : (basis : BasisValue) (place : Place) (given : List Point) (bid : List ℤ) (r : Result (List Point) PointFault) →
+    IsBasis basis → checked_points basis given ≡ r → points_or_refuse basis place r ≡ Ok bid → IsBid basis.steps bid
 points-of basis place given bid (Ok made) sound e h =
     let holds = checked_points-is basis given made sound e in
     subst (IsBid basis.steps) (ok-is (array_of_points made basis) bid h)
@@ -112,34 +118,47 @@ pub record StateMade (kind : Kind) (plan : PlanData) (made : ℤ × PlanData) : 
 is_number : (n : ℕ) → IsTrue (state_fits Manual (pos n))
 is_number n = grind (arith, ints)
 
-array-made : (plan : PlanData) (bid : List ℤ) (made : ℤ × PlanData) → AreArrays plan → IsBid plan.basis.steps bid → with_array plan bid ≡ made → StateMade Manual plan made
+array-made : (plan : PlanData) (bid : List ℤ) (made : ℤ × PlanData) → AreArrays plan → IsBid plan.basis.steps bid →
+    with_array plan bid ≡ made → StateMade Manual plan made
 array-made plan bid made all one is =
-    subst (StateMade Manual plan) is (record { arrays = plan.arrays ++ bid ∷ []; is = refl; bids = one_more_array plan bid all one; fits = is_number (length plan.arrays) })
+    subst (StateMade Manual plan) is (record {
+      arrays = plan.arrays ++ bid ∷ [];
+      is = refl;
+      bids = one_more_array plan bid all one;
+      fits = is_number (length plan.arrays);
+    })
 
-manual-made : (place : Place) (plan : PlanData) (part : StatePart) (made : ℤ × PlanData) → IsBasis plan.basis → AreArrays plan → manual_state place plan part ≡ Ok made → StateMade Manual plan made
+manual-made : (place : Place) (plan : PlanData) (part : StatePart) (made : ℤ × PlanData) → IsBasis plan.basis → AreArrays plan →
+    manual_state place plan part ≡ Ok made → StateMade Manual plan made
 unfolding manual_state
 manual-made place plan (number z) made sound all h = absurd (cc h)
 manual-made place plan (array demands) made sound all h =
     let bid = bind-ok (array_or_refuse place (checked_bid plan.basis.steps demands)) (λ b. Ok (with_array plan b)) made h in
-    array-made plan bid.value made all (array-of plan.basis.steps place demands bid.value (checked_bid plan.basis.steps demands) refl bid.first) (ok-is (with_array plan bid.value) made bid.rest)
+    array-made plan bid.value made all (array-of plan.basis.steps place demands bid.value (checked_bid plan.basis.steps demands) refl
+    bid.first) (ok-is (with_array plan bid.value) made bid.rest)
 manual-made place plan (points pairs) made sound all h =
     let bid = bind-ok (points_or_refuse plan.basis place (checked_points plan.basis pairs)) (λ b. Ok (with_array plan b)) made h in
-    array-made plan bid.value made all (points-of plan.basis place pairs bid.value (checked_points plan.basis pairs) sound refl bid.first) (ok-is (with_array plan bid.value) made bid.rest)
+    array-made plan bid.value made all (points-of plan.basis place pairs bid.value (checked_points plan.basis pairs) sound refl
+    bid.first) (ok-is (with_array plan bid.value) made bid.rest)
 
-number-made : (place : Place) (kind : Kind) (plan : PlanData) (part : StatePart) (made : ℤ × PlanData) → AreArrays plan → number_state place kind plan part ≡ Ok made → StateMade kind plan made
+number-made : (place : Place) (kind : Kind) (plan : PlanData) (part : StatePart) (made : ℤ × PlanData) → AreArrays plan →
+    number_state place kind plan part ≡ Ok made → StateMade kind plan made
 number-made place kind plan (number z) made all h =
     let fit = then-ok (state_fits kind z) _ _ made h in
     subst (StateMade kind plan) (ok-is (z, plan) made fit.is) (record { arrays = plan.arrays; is = refl; bids = all; fits = fit.holds })
 number-made place kind plan (array demands) made all h = absurd (cc h)
 number-made place kind plan (points pairs) made all h = absurd (cc h)
 
-pub state-made : (place : Place) (kind : Kind) (plan : PlanData) (part : StatePart) (made : ℤ × PlanData) → IsBasis plan.basis → AreArrays plan → state_of place kind plan part ≡ Ok made → StateMade kind plan made
+pub state-made : (place : Place) (kind : Kind) (plan : PlanData) (part : StatePart) (made : ℤ × PlanData) → IsBasis plan.basis →
+    AreArrays plan → state_of place kind plan part ≡ Ok made → StateMade kind plan made
 unfolding state_of
 state-made place Manual plan part made sound all h = manual-made place plan part made sound all h
 state-made place (Freezer low high power warm cool) plan part made sound all h = number-made place (Freezer low high power warm cool) plan part made all h
 state-made place (HeatPump low high power loss gain) plan part made sound all h = number-made place (HeatPump low high power loss gain) plan part made all h
-state-made place (Cogeneration low high power loss gain) plan part made sound all h = number-made place (Cogeneration low high power loss gain) plan part made all h
-state-made place (Battery capacity charge discharge spread) plan part made sound all h = number-made place (Battery capacity charge discharge spread) plan part made all h
+state-made place (Cogeneration low high power loss gain) plan part made sound all h =
+    number-made place (Cogeneration low high power loss gain) plan part made all h
+state-made place (Battery capacity charge discharge spread) plan part made sound all h =
+    number-made place (Battery capacity charge discharge spread) plan part made all h
 state-made place Solar plan part made sound all h = number-made place Solar plan part made all h
 state-made place Load plan part made sound all h = number-made place Load plan part made all h
 state-made place Objective plan part made sound all h = number-made place Objective plan part made all h

@@ -1,6 +1,7 @@
 -- The plan that the parts of a cluster file give, or the first refusal: first the nodes in order, then the phases in
 -- order, each by the plan as far as it goes before.
-use Rattle.std.specs.Prelude.{ℕ, ◌-◌, ◌==◌, ℤ, pos, neg_ℤ, Bool, true, false, not, ◌&&◌, nat_le, if◌then◌else◌, List, [], ◌∷◌, ◌++◌, length, map, slice_set, Option, Some, None, option_and_then, Result, Ok, Err}
+use Rattle.std.specs.Prelude.{ℕ, ◌-◌, ◌==◌, ℤ, pos, neg_ℤ, Bool, true, false, not, ◌&&◌, nat_le, if◌then◌else◌, List, [], ◌∷◌}
+use Rattle.std.specs.Prelude.{◌++◌, length, map, slice_set, Option, Some, None, option_and_then, Result, Ok, Err}
 use Rattle.pm_base.specs.declared.limits.Limits.{Limits}
 use Rattle.pm_basis.specs.Prices.{BasisValue}
 use Rattle.pm_base.specs.Limits.{sum_limit, most_phases, most_events, most_changes}
@@ -22,7 +23,8 @@ use Rattle.pm_plan.specs.declared.planned.Planned.TheVariants.{Join, Leave, Set,
 use Rattle.pm_plan.specs.declared.refusal.Place.{Place}
 use Rattle.pm_plan.specs.declared.refusal.Place.TheVariants.{Document, Node, Phase, Event}
 use Rattle.pm_plan.specs.declared.refusal.Refusal.{Refusal}
-use Rattle.pm_plan.specs.Parts.{StatePart, number, array, points, NodePart, concentrator, limited, device, EventPart, join, state, leave, PhasePart, events, tick}
+use Rattle.pm_plan.specs.Parts.{StatePart, number, array, points, NodePart, concentrator, limited, device, EventPart, join, state, leave, PhasePart, events}
+use Rattle.pm_plan.specs.Parts.{tick}
 use Rattle.pm_plan.specs.Devices.{DeviceData, is_member_after}
 use Rattle.pm_plan.specs.Plans.{PlanData, NodeData, node, kind_of, changes_of, group, all_changes}
 use Rattle.pm_plan.specs.Kept.{are_minutes}

@@ -1,7 +1,9 @@
 -- Why a file, or an input that begins with one, is refused, and the number of each cause.
 use Rattle.std.specs.Prelude.{ℕ}
 use Rattle.pm_plan.specs.declared.refusal.Cause.{Cause}
-use Rattle.pm_plan.specs.declared.refusal.Cause.TheVariants.{Unreadable, WrongType, MissingMember, UnknownMember, UnknownVersion, BadBasis, BadName, NameTwice, UnknownParent, TooDeep, TooManyNodes, UnknownKind, OutsideLimits, UnknownDevice, JoinedAlready, NotJoined, BadArray, BadPoints, UnfitState, RunTooLarge, LimitedTwice, BadEnvelope, BadTarget}
+use Rattle.pm_plan.specs.declared.refusal.Cause.TheVariants.{Unreadable, WrongType, MissingMember, UnknownMember, UnknownVersion, BadBasis, BadName, NameTwice}
+use Rattle.pm_plan.specs.declared.refusal.Cause.TheVariants.{UnknownParent, TooDeep, TooManyNodes, UnknownKind, OutsideLimits, UnknownDevice, JoinedAlready}
+use Rattle.pm_plan.specs.declared.refusal.Cause.TheVariants.{NotJoined, BadArray, BadPoints, UnfitState, RunTooLarge, LimitedTwice, BadEnvelope, BadTarget}
 
 -- the number by which the line of a refusal names its cause
 abbrev pub cause_code : Cause → ℕ

@@ -8,7 +8,8 @@ ghost use Rattle.pm_bid.specs.Bids.{AllWithinLimit, NeverRises};
 ghost use Rattle.pm_base.specs.Limits.{demand_limit, IsWithin};
 ghost use Rattle.pm_device.specs.Kinds.{state_fits};
 ghost use Rattle.pm_strategy.specs.Strategies.{bid_of};
-ghost use Rattle.pm_market.specs.Lists.{Lawful, changes, end_count, is_leaf as market_leaf, is_member as market_member, parent as market_parent, phases as market_phases};
+ghost use Rattle.pm_market.specs.Lists.{Lawful, changes, end_count, is_leaf as market_leaf, is_member as market_member, parent as market_parent};
+ghost use Rattle.pm_market.specs.Lists.{phases as market_phases};
 ghost use Rattle.pm_market.specs.Bound.{bound as market_bound};
 ghost use Rattle.pm_plan.specs.Devices.{DeviceData};
 ghost use Rattle.pm_plan.specs.declared.node.Node.TheVariants.{Device};
@@ -40,7 +41,8 @@ pub fn states_fit()
         AllWithinLimit demand_limit (bid_of planned.kind (state plan d n) plan.arrays plan.basis.steps) }
     ensures falls { (plan : PlanData) (d n : ℕ) (planned : DeviceData) → IsPlan plan → node plan d ≡ Device planned →
         NeverRises (bid_of planned.kind (state plan d n) plan.arrays plan.basis.steps) }
-    ensures powers { (plan : PlanData) (cut : Cut) (d : ℕ) → IsPlan plan → cut d ≤ change_count plan d → IsWithin demand_limit (power plan (state plan) cut d) }
+    ensures powers { (plan : PlanData) (cut : Cut) (d : ℕ) → IsPlan plan → cut d ≤ change_count plan d →
+        IsWithin demand_limit (power plan (state plan) cut d) }
 {}
 
 /// A law: the lists that a plan stands for are lawful in the market of cuts, say what the plan does of parents, leaves,
@@ -50,7 +52,8 @@ pub fn lists_are_lawful()
     ensures lawful { (plan : PlanData) → IsPlan plan → Lawful (plan_lists plan) }
     ensures parents { (plan : PlanData) (x : ℕ) → market_parent (plan_lists plan) x ≡ parent plan x }
     ensures leaves { (plan : PlanData) (x : ℕ) → market_leaf (plan_lists plan) x ≡ is_leaf plan x }
-    ensures members { (plan : PlanData) (d n : ℕ) → 1 ≤ d → d ≤ length plan.nodes → n ≤ change_count plan d → market_member (plan_lists plan) d n ≡ is_member plan d n }
+    ensures members { (plan : PlanData) (d n : ℕ) → 1 ≤ d → d ≤ length plan.nodes → n ≤ change_count plan d →
+        market_member (plan_lists plan) d n ≡ is_member plan d n }
     ensures changes { (plan : PlanData) (d : ℕ) → 1 ≤ d → d ≤ length plan.nodes → changes (plan_lists plan) d ≡ change_count plan d }
     ensures phases { (plan : PlanData) → market_phases (plan_lists plan) ≡ phases plan }
     ensures ends { (plan : PlanData) (p d : ℕ) → IsPlan plan → 1 ≤ d → d ≤ length plan.nodes → p ≤ phases plan →

@@ -1,5 +1,6 @@
 -- The last point whose price is at most a price.
-use Rattle.std.proofs.Common.{◌≡◌, ap, ℕ, zero, suc, ◌+◌, ◌<◌, ◌≤◌, ℤ, Bool, true, false, List, [], ◌∷◌, length, Option, Some, None, refl, inl, inr, arith}
+use Rattle.std.proofs.Common.{◌≡◌, ap, ℕ, zero, suc, ◌+◌, ◌<◌, ◌≤◌, ℤ, Bool, true, false, List, [], ◌∷◌, length, Option, Some}
+use Rattle.std.proofs.Common.{None, refl, inl, inr, arith}
 use Rattle.std.proofs.Common.{add-one}
 use Rattle.std.specs.Prelude.{int_lt, ◌<ℤ◌, if◌then◌else◌, option_map}
 use Rattle.std.specs.Option.{option_or}
@@ -27,11 +28,13 @@ above_all point later price here above (suc k) after inside = above k (omega ari
 
 -- the place with one point more in front
 last_more : (point : Point) (later : List Point) (price : ℤ) (found : Option ℕ) → IsLast later price found → (before : Bool) →
-    int_lt price (price_of_point point) ≡ before → IsLast (point ∷ later) price (option_or (option_map (λ place. place + 1) found) (if before then None else Some 0))
+    int_lt price (price_of_point point) ≡ before →
+    IsLast (point ∷ later) price (option_or (option_map (λ place. place + 1) found) (if before then None else Some 0))
 last_more point later price (Some place) last before is = record {
   inside = let within = last.inside in omega arith;
   at_most = rw add-one last.at_most;
-  later_above = λ k after inside. above_behind point later price (place + 1) (λ i from within. last.later_above i (omega arith) within) k (omega arith) inside;
+  later_above =
+      λ k after inside. above_behind point later price (place + 1) (λ i from within. last.later_above i (omega arith) within) k (omega arith) inside;
 }
 last_more point later price None above true is = above_all point later price (is_below price (price_of_point point) is) above
 last_more point later price None above false is = record {

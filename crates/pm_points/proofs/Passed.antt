@@ -17,12 +17,16 @@ inside_price basis price sound inside =
     let high = sound.high in
     record { low = grind (arith, ints); high = grind (arith, ints) }
 
-pub passed_all : (basis : BasisValue) (points : List Point) → IsBasis basis → 1 ≤ length points → length points ≤ max_points → length points ≤ first_price_fall points → length points ≤ first_rise points → length points ≤ first_large_demand points → length points ≤ first_outside basis points → IsPointBid points
+pub passed_all : (basis : BasisValue) (points : List Point) → IsBasis basis → 1 ≤ length points → length points ≤ max_points →
+    length points ≤ first_price_fall points → length points ≤ first_rise points → length points ≤ first_large_demand points →
+    length points ≤ first_outside basis points → IsPointBid points
 passed_all basis points sound some few fall rise large outside = record {
   at_least_one = some;
   at_most_limit = few;
   prices_never_fall = λ k inside. is_not_below _ _ (fails_after price_falls points fall k inside);
   demands_never_rise = λ k inside. is_not_below _ _ (fails_after demand_rises points rise k inside);
-  prices_within = λ k inside. inside_price basis (price_of_point (point_at points k)) sound (fails_before_first (λ point. is_outside basis (price_of_point point)) points k (pos 0, pos 0) (omega arith));
-  demands_within = λ k inside. within_from_small (demand_of_point (point_at points k)) (fails_before_first (λ point. is_too_large (demand_of_point point)) points k (pos 0, pos 0) (omega arith));
+  prices_within = λ k inside. inside_price basis (price_of_point (point_at points k)) sound
+      (fails_before_first (λ point. is_outside basis (price_of_point point)) points k (pos 0, pos 0) (omega arith));
+  demands_within = λ k inside. within_from_small (demand_of_point (point_at points k))
+      (fails_before_first (λ point. is_too_large (demand_of_point point)) points k (pos 0, pos 0) (omega arith));
 }

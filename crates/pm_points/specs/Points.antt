@@ -1,5 +1,6 @@
 -- Point bids: a demand function of the price, drawn through a list of points.
-use Rattle.std.specs.Prelude.{ℕ, ◌+◌, ◌<◌, ◌≤◌, ◌==◌, ℤ, pos, ◌+ℤ◌, ◌-ℤ◌, ◌*ℤ◌, neg_ℤ, ◌≤ℤ◌, ◌<ℤ◌, int_lt, if◌then◌else◌, List, [], ◌∷◌, length, map}
+use Rattle.std.specs.Prelude.{ℕ, ◌+◌, ◌<◌, ◌≤◌, ◌==◌, ℤ, pos, ◌+ℤ◌, ◌-ℤ◌, ◌*ℤ◌, neg_ℤ, ◌≤ℤ◌, ◌<ℤ◌}
+use Rattle.std.specs.Prelude.{int_lt, if◌then◌else◌, List, [], ◌∷◌, length, map}
 use Rattle.std.specs.Prelude.{slice_index_or, Option, Some, None, option_map}
 use Rattle.std.specs.Int.{int_div_euclid}
 use Rattle.std.specs.List.{range_with_len}
@@ -48,7 +49,8 @@ pub record IsLastAtMost (points : List Point) (price : ℤ) (place : ℕ) : Type
 
 -- the demand at a price on the straight line from one point to the next, rounded down
 abbrev pub demand_between : Point → Point → ℤ → ℤ
-demand_between from to price = demand_of_point from +ℤ int_div_euclid ((demand_of_point to -ℤ demand_of_point from) *ℤ (price -ℤ price_of_point from)) (price_of_point to -ℤ price_of_point from)
+demand_between from to price = demand_of_point from +ℤ int_div_euclid
+    ((demand_of_point to -ℤ demand_of_point from) *ℤ (price -ℤ price_of_point from)) (price_of_point to -ℤ price_of_point from)
 
 -- the demand at a price, given the place of the last point whose price is at most it: that of the first point where
 -- there is none, that of the last point from there on, and else the one between that point and the next

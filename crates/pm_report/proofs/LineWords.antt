@@ -1,5 +1,6 @@
 -- A line tells its words.
-use Rattle.std.proofs.Common.{◌≡◌, ◌∙◌, sym, ap, refl, ℕ, suc, ◌%◌, ◌+◌, ◌<◌, ◌≤◌, ◌^◌, true, ◌&&◌, nat_lt, List, [], ◌∷◌, ◌++◌, append_assoc, arith, ℤ, pos, negsuc}
+use Rattle.std.proofs.Common.{◌≡◌, ◌∙◌, sym, ap, refl, ℕ, suc, ◌%◌, ◌+◌, ◌<◌, ◌≤◌, ◌^◌, true, ◌&&◌, nat_lt, List, []}
+use Rattle.std.proofs.Common.{◌∷◌, ◌++◌, append_assoc, arith, ℤ, pos, negsuc}
 use Rattle.std.specs.Fmt.{decimal, signed_decimal}
 use Rattle.std.specs.List.{list_all}
 use Rattle.std.proofs.lemmas.Bool.{ltb-true, lt-ltb}
@@ -38,7 +39,8 @@ same_first x y v w same = cc
 same_later : (x y : ℕ) (v w : List ℕ) → x ∷ v ≡ y ∷ w → v ≡ w
 same_later x y v w same = cc
 
-pub same_word : (v w : List ℕ) (c d : ℕ) (r s : List ℕ) → IsWord v → IsWord w → c ≤ 32 → d ≤ 32 → v ++ c ∷ r ≡ w ++ d ∷ s → SameWord v w c d r s
+pub same_word : (v w : List ℕ) (c d : ℕ) (r s : List ℕ) → IsWord v → IsWord w → c ≤ 32 → d ≤ 32 → v ++ c ∷ r ≡ w ++ d ∷ s →
+    SameWord v w c d r s
 same_word [] [] c d r s v_is w_is c_low d_low same = record { word = refl; mark = same_first c d r s same; rest = same_later c d r s same }
 same_word [] (y ∷ w) c d r s v_is w_is c_low d_low same =
     let high = above y w w_is in
@@ -62,7 +64,8 @@ pub same_line : (us ws : List (List ℕ)) (r s : List ℕ) → AreWords us → A
 same_line [] ws r s us_are ws_are same = absurd us_are
 same_line (u ∷ us) [] r s us_are ws_are same = absurd ws_are
 same_line (u ∷ []) (w ∷ []) r s us_are ws_are same =
-    let first = same_word u w 10 10 r s us_are ws_are (omega arith) (omega arith) (sym (append_assoc u (10 ∷ []) r) ∙ same ∙ append_assoc w (10 ∷ []) s) in
+    let first = same_word u w 10 10 r s us_are ws_are (omega arith) (omega arith) (sym (append_assoc u (10 ∷ []) r) ∙ same
+    ∙ append_assoc w (10 ∷ []) s) in
     record { words = ap (λ x. x ∷ []) first.word; rest = first.rest }
 same_line (u ∷ []) (w ∷ z ∷ ws) r s us_are ws_are same =
     let first = same_word u w 10 32 r (text_line (z ∷ ws) ++ s) us_are ws_are.0 (omega arith) (omega arith)

@@ -1,5 +1,6 @@
 -- The words of a move tell the move, and what is held after it.
-use Rattle.std.proofs.Common.{◌≡◌, ◌∙◌, sym, ap, refl, ℕ, ◌+◌, ◌<◌, ◌^◌, Bool, true, false, List, [], ◌∷◌, length, get_or, drop, arith, Option, Some, None}
+use Rattle.std.proofs.Common.{◌≡◌, ◌∙◌, sym, ap, refl, ℕ, ◌+◌, ◌<◌, ◌^◌, Bool, true, false, List, [], ◌∷◌, length, get_or, drop}
+use Rattle.std.proofs.Common.{arith, Option, Some, None}
 use Rattle.std.specs.Prelude.{IfSome}
 use Rattle.std.specs.Fmt.{decimal}
 use Rattle.std.proofs.lemmas.Fmt.{decimal_injective, signed_decimal_injective}
@@ -34,25 +35,29 @@ held_are_words basis is None fits = refl
 held_are_words basis is (Some held) fits =
     (refl, (signed_word (price_at basis held.0) (price_fits basis is held.0 fits.0), (refl, number_word held.1 fits.1)))
 
-same_held : (basis : BasisValue) → IsBasis basis → (one other : Option (ℕ × ℕ)) → IsHeld basis one → IsHeld basis other → held_words basis one ≡ held_words basis other → one ≡ other
+same_held : (basis : BasisValue) → IsBasis basis → (one other : Option (ℕ × ℕ)) → IsHeld basis one → IsHeld basis other →
+    held_words basis one ≡ held_words basis other → one ≡ other
 same_held basis is None None one_is other_is same = refl
 same_held basis is None (Some other) one_is other_is same = let long = ap length same in absurd (omega (arith, long))
 same_held basis is (Some one) None one_is other_is same = let long = ap length same in absurd (omega (arith, long))
 same_held basis is (Some one) (Some other) one_is other_is same =
-    let price = signed_decimal_injective (price_at basis one.0) (price_at basis other.0) (price_fits basis is one.0 one_is.0) (price_fits basis is other.0 other_is.0) (ap (word_at 1) same) in
+    let price = signed_decimal_injective (price_at basis one.0) (price_at basis other.0) (price_fits basis is one.0 one_is.0)
+    (price_fits basis is other.0 other_is.0) (ap (word_at 1) same) in
     let step = same_step basis is one.0 other.0 price in
     let number = same_number one.1 other.1 one_is.1 other_is.1 (ap (word_at 3) same) in
     (λ i. Some (step i, number i))
 
 -- after the number of a pass
-pass_are_words : (basis : BasisValue) → IsBasis basis → (index : ℕ) → index < 2 ^ 32 → (leaf : Bool) (held : Option (ℕ × ℕ)) → IsHeld basis held →
+pass_are_words : (basis : BasisValue) → IsBasis basis → (index : ℕ) → index < 2 ^ 32 → (leaf : Bool) (held : Option (ℕ × ℕ)) →
+    IsHeld basis held →
     AreWords (decimal index ∷ device_words leaf basis held)
 pass_are_words basis is index small false held fits = number_word index small
 pass_are_words basis is index small true None fits = (number_word index small, held_are_words basis is None fits)
 pass_are_words basis is index small true (Some held) fits = (number_word index small, held_are_words basis is (Some held) fits)
 
 same_device : (basis : BasisValue) → IsBasis basis → (leaf : Bool) (one other : Option (ℕ × ℕ)) → IsHeld basis one → IsHeld basis other →
-    (leaf ≡ false → one ≡ None) → (leaf ≡ false → other ≡ None) → device_words leaf basis one ≡ device_words leaf basis other → one ≡ other
+    (leaf ≡ false → one ≡ None) → (leaf ≡ false → other ≡ None) →
+    device_words leaf basis one ≡ device_words leaf basis other → one ≡ other
 same_device basis is false one other one_is other_is one_none other_none same = one_none refl ∙ sym (other_none refl)
 same_device basis is true one other one_is other_is one_none other_none same = same_held basis is one other one_is other_is same
 
@@ -63,12 +68,23 @@ line what held = record { what = what; held = held }
 module _ (plan : PlanData) (is : IsPlan plan) where
   are_words : (what : Move) (held : Option (ℕ × ℕ)) → IsLineOfRun plan (line what held) → AreWords (move_words plan what held)
   are_words (Change device number) held fits = (refl, (node_word plan is device fits.of_plan.nodes, number_word number fits.number_fits))
-  are_words (Learn child number) held fits =
-      (refl, (node_word plan is (parent plan child) (parent_inside plan is child fits.of_plan.nodes.1), (node_word plan is child fits.of_plan.nodes.1, number_word number fits.number_fits)))
+  are_words (Learn child number) held fits = (
+    refl,
+    (
+      node_word plan is (parent plan child) (parent_inside plan is child fits.of_plan.nodes.1),
+      (node_word plan is child fits.of_plan.nodes.1, number_word number fits.number_fits),
+    ),
+  )
   are_words (Publish node number) held fits = (refl, (node_word plan is node fits.of_plan.nodes, number_word number fits.number_fits))
   are_words (Clear index) held fits = (refl, number_word index fits.number_fits)
-  are_words (Pass node index) held fits =
-      (refl, (node_word plan is node fits.of_plan.nodes.1, pass_are_words plan.basis is.basis index fits.number_fits (is_leaf plan node) held (fits.of_plan.step, fits.held_fits)))
+  are_words (Pass node index) held fits = (
+    refl,
+    (
+      node_word plan is node fits.of_plan.nodes.1,
+      pass_are_words plan.basis is.basis index fits.number_fits
+          (is_leaf plan node) held (fits.of_plan.step, fits.held_fits),
+    ),
+  )
   are_words (Close phase) held fits = (refl, number_word phase fits.number_fits)
 
   pub move_are_words : (one : Line) → IsLineOfRun plan one → AreWords (move_words plan one.what one.held)
@@ -78,7 +94,8 @@ module _ (plan : PlanData) (is : IsPlan plan) where
   abbrev key : List (List ℕ) → ℕ
   key words = get_or (word_at 0 words) 1 0 + get_or (word_at 0 words) 2 0
 
-  same : (one : Move) (one_held : Option (ℕ × ℕ)) (other : Move) (other_held : Option (ℕ × ℕ)) → IsLineOfRun plan (line one one_held) → IsLineOfRun plan (line other other_held) →
+  same : (one : Move) (one_held : Option (ℕ × ℕ)) (other : Move) (other_held : Option (ℕ × ℕ)) →
+      IsLineOfRun plan (line one one_held) → IsLineOfRun plan (line other other_held) →
       move_words plan one one_held ≡ move_words plan other other_held → line one one_held ≡ line other other_held
   same (Change d n) h (Change e m) k one other words =
       let node = same_node plan is d e one.of_plan.nodes other.of_plan.nodes (ap (word_at 1) words) in
@@ -113,5 +130,6 @@ module _ (plan : PlanData) (is : IsPlan plan) where
       (λ i. line (Close (number i)) (held i))
   same a h b k one other words = let keys = ap key words in absurd (omega (arith, keys))
 
-  pub same_move : (one other : Line) → IsLineOfRun plan one → IsLineOfRun plan other → move_words plan one.what one.held ≡ move_words plan other.what other.held → one ≡ other
+  pub same_move : (one other : Line) → IsLineOfRun plan one → IsLineOfRun plan other →
+      move_words plan one.what one.held ≡ move_words plan other.what other.held → one ≡ other
   same_move one other one_is other_is words = same one.what one.held other.what other.held one_is other_is words

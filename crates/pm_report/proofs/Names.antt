@@ -1,5 +1,7 @@
 -- The names of a tree are words, and they differ.
-use Rattle.std.proofs.Common.{◌≡◌, ◌∙◌, sym, ap, subst, refl, ℕ, zero, suc, ◌+◌, ◌<◌, ◌≤◌, Bool, true, false, cond, ◌&&◌, not, nat_lt, List, [], ◌∷◌, ◌++◌, length, get_or, append_assoc, append-nil, length-append, arith, Option, Some, None, is_some, Ok, slice_get}
+use Rattle.std.proofs.Common.{◌≡◌, ◌∙◌, sym, ap, subst, refl, ℕ, zero, suc, ◌+◌, ◌<◌, ◌≤◌, Bool, true, false, cond, ◌&&◌, not}
+use Rattle.std.proofs.Common.{nat_lt, List, [], ◌∷◌, ◌++◌, length, get_or, append_assoc, append-nil, length-append, arith, Option, Some, None}
+use Rattle.std.proofs.Common.{is_some, Ok, slice_get}
 use Rattle.std.specs.Char.{is_ascii_alphabetic}
 use Rattle.std.specs.List.{list_all, list_any}
 use Rattle.std.specs.Option.{option_to_list}
@@ -85,7 +87,8 @@ stands names name k inside = by (nat_lt k (length names)) refl
         last at (ap (λ n. get_or (names ++ name ∷ []) n []) at ∙ get_or-append_seam names name [] [])
 
 -- one name more that is a word and is none of those before
-one_more : (names : List (List ℕ)) (name : List ℕ) → AreNames names → IsWord name → ((k : ℕ) → k < length names → get_or names k [] ≡ name → ⊥) → AreNames (names ++ name ∷ [])
+one_more : (names : List (List ℕ)) (name : List ℕ) → AreNames names → IsWord name →
+    ((k : ℕ) → k < length names → get_or names k [] ≡ name → ⊥) → AreNames (names ++ name ∷ [])
 one_more names name are word new = record {
   words = λ k inside. word_at k (stands names name k inside);
   differ = λ j k j_inside k_inside same. differ_at j k (stands names name j j_inside) (stands names name k k_inside) same;
@@ -95,13 +98,15 @@ one_more names name are word new = record {
     word_at k (before low read) = subst IsWord (sym read) (are.words k low)
     word_at k (last at read) = subst IsWord (sym read) word
 
-    differ_at : (j k : ℕ) → Stands names name j → Stands names name k → get_or (names ++ name ∷ []) j [] ≡ get_or (names ++ name ∷ []) k [] → j ≡ k
+    differ_at : (j k : ℕ) → Stands names name j → Stands names name k →
+        get_or (names ++ name ∷ []) j [] ≡ get_or (names ++ name ∷ []) k [] → j ≡ k
     differ_at j k (before j_low j_read) (before k_low k_read) same = are.differ j k j_low k_low (sym j_read ∙ same ∙ k_read)
     differ_at j k (before j_low j_read) (last k_at k_read) same = absurd (new j j_low (sym j_read ∙ same ∙ k_read))
     differ_at j k (last j_at j_read) (before k_low k_read) same = absurd (new k k_low (sym k_read ∙ sym same ∙ j_read))
     differ_at j k (last j_at j_read) (last k_at k_read) same = j_at ∙ sym k_at
 
-not_found : (names : List (List ℕ)) (name : List ℕ) → list_any (bytes_eq name) names ≡ false → (k : ℕ) → k < length names → get_or names k [] ≡ name → ⊥
+not_found : (names : List (List ℕ)) (name : List ℕ) → list_any (bytes_eq name) names ≡ false → (k : ℕ) → k < length names →
+    get_or names k [] ≡ name → ⊥
 not_found [] name none k inside same = absurd (omega arith)
 not_found (first ∷ names) name none zero inside same =
     let fails = (or_false (bytes_eq name first) (list_any (bytes_eq name) names) none).0 in

@@ -1,5 +1,6 @@
 -- The prices of different steps differ, and each fits 64 bits.
-use Rattle.std.proofs.Common.{◌≡◌, ap, refl, ℕ, zero, suc, ◌+◌, ◌*◌, ◌/◌, ◌%◌, ◌<◌, ◌≤◌, ◌^◌, ℤ, pos, negsuc, ◌≤ℤ◌, ◌<ℤ◌, neg_ℤ, suc-mul, arith}
+use Rattle.std.proofs.Common.{◌≡◌, ap, refl, ℕ, zero, suc, ◌+◌, ◌*◌, ◌/◌, ◌%◌, ◌<◌, ◌≤◌, ◌^◌, ℤ, pos, negsuc}
+use Rattle.std.proofs.Common.{◌≤ℤ◌, ◌<ℤ◌, neg_ℤ, suc-mul, arith}
 use Rattle.std.specs.Prelude.{◌-ℤ◌, ◌*ℤ◌, int_div, int_rem}
 use Rattle.std.proofs.Math.Nat.{mul-le-mul_right, div-mul-le_self, div-add-mod}
 use Rattle.std.proofs.lemmas.Nat.{le-div}

@@ -1,5 +1,6 @@
 -- The texts of phases, one by one.
-use Rattle.std.proofs.Common.{◌≡◌, ◌∙◌, sym, ap, subst, refl, ℕ, ◌+◌, ◌<◌, List, [], ◌∷◌, ◌++◌, length, take, get_or, append_assoc, arith, ℤ, pos}
+use Rattle.std.proofs.Common.{◌≡◌, ◌∙◌, sym, ap, subst, refl, ℕ, ◌+◌, ◌<◌, List, [], ◌∷◌, ◌++◌, length, take, get_or}
+use Rattle.std.proofs.Common.{append_assoc, arith, ℤ, pos}
 use Rattle.std.specs.Prelude.{All, ◌+ℤ◌}
 use Rattle.std.proofs.lemmas.List.{take_more, map-append, length-map, length-take, get_or-map}
 use Rattle.std.proofs.lemmas.List.Sums.{fold-append}
@@ -24,12 +25,15 @@ phase_texts-append plan first n (one ∷ ends) end count =
     ∙ sym (append_assoc (phase_text plan first one) (phase_texts plan (first + 1) ends) (phase_text plan n end))
 
 -- the ends up to one more
-pub ends_more : (ends : List EndValue) (i : ℕ) (end : EndValue) → i < length ends → end ≡ get_or ends i end → ends_of (take (i + 1) ends) ≡ ends_of (take i ends) ++ end.end ∷ []
+pub ends_more : (ends : List EndValue) (i : ℕ) (end : EndValue) → i < length ends → end ≡ get_or ends i end →
+    ends_of (take (i + 1) ends) ≡ ends_of (take i ends) ++ end.end ∷ []
 ends_more ends i end inside read =
-    ap ends_of (take_more ends i end inside ∙ ap (λ e. take i ends ++ e ∷ []) (sym read)) ∙ map-append (λ (e : EndValue). e.end) (take i ends) (end ∷ [])
+    ap ends_of (take_more ends i end inside ∙ ap (λ e. take i ends ++ e ∷ []) (sym read))
+    ∙ map-append (λ (e : EndValue). e.end) (take i ends) (end ∷ [])
 
 -- one more phase has its text
-pub next_phase : (plan : PlanData) (ends : List EndValue) (i : ℕ) (end : EndValue) (old text new : List ℕ) → i < length ends → end ≡ get_or ends i end →
+pub next_phase : (plan : PlanData) (ends : List EndValue) (i : ℕ) (end : EndValue) (old text new : List ℕ) → i < length ends →
+    end ≡ get_or ends i end →
     text ≡ old ++ phase_texts plan 1 (ends_of (take i ends)) → new ≡ text ++ phase_text plan (i + 1) end.end →
     new ≡ old ++ phase_texts plan 1 (ends_of (take (i + 1) ends))
 next_phase plan ends i end old text new inside read so_far more =
@@ -42,7 +46,8 @@ next_phase plan ends i end old text new inside read so_far more =
     ∙ ap (λ t. old ++ t) (sym (ap (phase_texts plan 1) parts ∙ phase_texts-append plan 1 (i + 1) before end.end count))
 
 -- one more end joins a sum
-pub next_sum : (number : EndData → ℤ) (ends : List EndValue) (i : ℕ) (end : EndValue) (sum new : ℤ) → i < length ends → end ≡ get_or ends i end →
+pub next_sum : (number : EndData → ℤ) (ends : List EndValue) (i : ℕ) (end : EndValue) (sum new : ℤ) → i < length ends →
+    end ≡ get_or ends i end →
     sum ≡ sum_over number (ends_of (take i ends)) → new ≡ sum +ℤ number end.end → new ≡ sum_over number (ends_of (take (i + 1) ends))
 next_sum number ends i end sum new inside read so_far more =
     more
@@ -51,7 +56,9 @@ next_sum number ends i end sum new inside read so_far more =
     ∙ fold-append (λ (z : ℤ) (e : EndData). z +ℤ number e) (pos 0) (ends_of (take i ends)) (end.end ∷ []))
 
 -- what holds of each end holds of one of them
-pub end_at : (P : EndData → Type 0) (ends : List EndValue) (i : ℕ) (end : EndValue) → All P (ends_of ends) → i < length ends → end ≡ get_or ends i end → P end.end
+pub end_at : (P : EndData → Type 0) (ends : List EndValue) (i : ℕ) (end : EndValue) → All P (ends_of ends) → i < length ends →
+    end ≡ get_or ends i end → P end.end
 end_at P ends i end all inside read =
-    let here : get_or (ends_of ends) i end.end ≡ end.end = get_or-map (λ (e : EndValue). e.end) ends i end end.end inside ∙ ap (λ (e : EndValue). e.end) (sym read) in
+    let here : get_or (ends_of ends) i end.end ≡ end.end = get_or-map (λ (e : EndValue). e.end) ends i end end.end inside
+    ∙ ap (λ (e : EndValue). e.end) (sym read) in
     subst P here (all i end.end (omega (arith, length-map ends (λ (e : EndValue). e.end))))

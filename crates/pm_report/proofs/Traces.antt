@@ -15,7 +15,8 @@ use Rattle.pm_report.proofs.LineWords.{same_line}
 use Rattle.pm_report.proofs.Moves.{move_are_words, same_move}
 
 -- no line of a move begins as the last line does
-begins : (plan : PlanData) (what : Move) (held : Option (ℕ × ℕ)) (rest : List ℕ) → get_or (text_line (move_words plan what held) ++ rest) 0 0 ≡ 109 → ⊥
+begins : (plan : PlanData) (what : Move) (held : Option (ℕ × ℕ)) (rest : List ℕ) →
+    get_or (text_line (move_words plan what held) ++ rest) 0 0 ≡ 109 → ⊥
 begins plan (Change device number) held rest same = omega arith
 begins plan (Learn child number) held rest same = omega arith
 begins plan (Publish node number) held rest same = omega arith
@@ -60,7 +61,8 @@ same_journal plan ends a b is a_are b_are same =
     (append_cancel_left (report_text plan ends) (flat_map (move_line plan) a ++ moves_line a) (flat_map (move_line plan) b ++ moves_line b) same)
 
 -- lines that are written alike are the same
-pub same_one : (plan : PlanData) (one other : Line) → IsPlan plan → IsLineOfRun plan one → IsLineOfRun plan other → move_line plan one ≡ move_line plan other → one ≡ other
+pub same_one : (plan : PlanData) (one other : Line) → IsPlan plan → IsLineOfRun plan one → IsLineOfRun plan other →
+    move_line plan one ≡ move_line plan other → one ≡ other
 same_one plan one other is one_is other_is same =
     let line = same_line (move_words plan one.what one.held) (move_words plan other.what other.held) [] []
     (move_are_words plan is one one_is) (move_are_words plan is other other_is) (ap (λ bytes. bytes ++ []) same) in

@@ -1,5 +1,6 @@
 -- The trace: the report, then the moves.
-use Rattle.std.specs.Prelude.{◌≡◌, ℕ, ◌<◌, ◌≤◌, ◌^◌, Bool, true, false, List, [], ◌∷◌, ◌++◌, codes, decimal, length, flat_map, Option, Some, None, IfSome}
+use Rattle.std.specs.Prelude.{◌≡◌, ℕ, ◌<◌, ◌≤◌, ◌^◌, Bool, true, false, List, [], ◌∷◌, ◌++◌, codes, decimal, length, flat_map}
+use Rattle.std.specs.Prelude.{Option, Some, None, IfSome}
 use Rattle.std.specs.Fmt.{signed_decimal}
 use Rattle.pm_basis.specs.Prices.{BasisValue, price_at}
 use Rattle.pm_market.specs.declared.moves.Move.{Move}

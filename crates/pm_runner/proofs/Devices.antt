@@ -1,5 +1,6 @@
 -- The devices of a plan, and their agents.
-use Rattle.std.proofs.Common.{◌≡◌, ◌∙◌, sym, ap, subst, ℕ, ℤ, ◌+◌, ◌<◌, ◌≤◌, Bool, true, false, List, [], ◌∷◌, ◌++◌, length, get_or, arith, refl, inl, inr, length-append}
+use Rattle.std.proofs.Common.{◌≡◌, ◌∙◌, sym, ap, subst, ℕ, ℤ, ◌+◌, ◌<◌, ◌≤◌, Bool, true, false, List, [], ◌∷◌, ◌++◌}
+use Rattle.std.proofs.Common.{length, get_or, arith, refl, inl, inr, length-append}
 use Rattle.std.specs.Prelude.{Option, Some, None, IfSome, MatchOption, IsTrue, slice_get}
 use Rattle.std.proofs.lemmas.Bool.{both_ways, cases_lt}
 use Rattle.std.proofs.lemmas.Option.{slice_get-get_or, slice_get_within}
@@ -35,14 +36,16 @@ pub use Rattle.pm_cluster.proofs.NextChanges.{kind_valid}
 
 -- a number behind the last node is no device
 pub far : (plan : PlanData) → IsPlan plan → (x : ℕ) → length plan.entries < x → IsLeaf (plan_lists plan) x → ⊥
-far plan is_plan x past leaf = both_ways (is_leaf (plan_lists plan) x) (leaf_past (plan_lists plan) x (omega (arith, past, (lawful plan is_plan).leaves, nodes_are plan))) leaf
+far plan is_plan x past leaf =
+    both_ways (is_leaf (plan_lists plan) x) (leaf_past (plan_lists plan) x (omega (arith, past, (lawful plan is_plan).leaves, nodes_are plan))) leaf
 
 -- the leaves of a plan's tree are its devices
 pub leaf_told : (plan : PlanData) (entries : List Entry) (x : ℕ) → entries ≡ plan.entries → is_leaf (plan_lists plan) x ≡ is_leaf_at entries x
 leaf_told plan entries x e = is_leaf-is plan x ∙ ap (λ (l : List Entry). is_leaf_at l x) (sym e)
 
 -- the state that a next change makes fits the device's kind
-pub next_fits : (plan : PlanData) → IsPlan plan → (closed : ℕ) (counts : Cut) (d : ℕ) (next : Next) (kind : Kind) → IsNext plan closed counts d next →
+pub next_fits : (plan : PlanData) → IsPlan plan → (closed : ℕ) (counts : Cut) (d : ℕ) (next : Next) (kind : Kind) →
+    IsNext plan closed counts d next →
     kind_of (node plan d) ≡ Some kind → IsTrue (state_fits kind next.state.0)
 next_fits plan is_plan closed counts d next kind is e =
     let has = kind_of-tells (node plan d) kind e in
@@ -51,12 +54,14 @@ next_fits plan is_plan closed counts d next kind is e =
     (subst (λ (z : ℤ). IsTrue (state_fits has.planned.kind z)) (sym is.state) (state-fits plan d next.number has.planned is_plan has.is within))
 
 -- the arrays of a plan have its steps
-pub arrays_fit : (plan : PlanData) → IsPlan plan → (p : PlanData) (arrays : List (List ℤ)) (steps : ℕ) → arrays ≡ p.arrays → p ≡ plan → steps ≡ plan.basis.steps →
+pub arrays_fit : (plan : PlanData) → IsPlan plan → (p : PlanData) (arrays : List (List ℤ)) (steps : ℕ) → arrays ≡ p.arrays →
+    p ≡ plan → steps ≡ plan.basis.steps →
     HaveSteps steps arrays
 arrays_fit plan is_plan p arrays steps e f g =
     subst (λ (n : ℕ). HaveSteps n arrays) (sym g) (subst (HaveSteps plan.basis.steps) (sym (e ∙ ap (λ (q : PlanData). q.arrays) f)) is_plan.arrays.steps)
 
-pub plan_arrays : (plan : PlanData) (basis : BasisValue) (steps : ℕ) → IsPlan plan → basis ≡ plan.basis → steps ≡ basis.steps → HaveSteps steps plan.arrays
+pub plan_arrays : (plan : PlanData) (basis : BasisValue) (steps : ℕ) → IsPlan plan → basis ≡ plan.basis → steps ≡ basis.steps →
+    HaveSteps steps plan.arrays
 plan_arrays plan basis steps is_plan b s = arrays_fit plan is_plan plan plan.arrays steps refl refl (s ∙ ap (λ (it : BasisValue). it.steps) b)
 
 -- what is told of a device's next change
@@ -70,7 +75,8 @@ next_told plan closed counts d (Some next) leaf is = (
 next_told plan closed counts d None leaf is = tt
 
 -- what an agent is made of
-pub agent_is : (plan : PlanData) (d steps : ℕ) (kind : Kind) (basis : BasisValue) (agent : Agent) → kind_of (node plan d) ≡ Some kind → steps ≡ basis.steps →
+pub agent_is : (plan : PlanData) (d steps : ℕ) (kind : Kind) (basis : BasisValue) (agent : Agent) →
+    kind_of (node plan d) ≡ Some kind → steps ≡ basis.steps →
     basis ≡ plan.basis → agent ≡ record { kind = kind; device = d; steps = steps } → IsAgentOf plan d agent
 agent_is plan d steps kind basis agent k s b e = record {
   kind = k ∙ ap (λ (a : Agent). Some a.kind) (sym e);
@@ -96,11 +102,13 @@ before_end xs x y d e =
     ∙ sym (slice_get-get_or xs d x inside) ∙ e
 
 one_more_at : (plan : PlanData) (agents : List (Option Agent)) (found : Option Agent) → IfSome found (IsAgentOf plan (length agents)) →
-    (found ≡ None → IsLeaf (plan_lists plan) (length agents) → ⊥) → IsLeaf (plan_lists plan) (length agents) → HasAgent plan (agents ++ found ∷ []) (length agents)
+    (found ≡ None → IsLeaf (plan_lists plan) (length agents) → ⊥) → IsLeaf (plan_lists plan) (length agents) →
+    HasAgent plan (agents ++ found ∷ []) (length agents)
 one_more_at plan agents (Some agent) its none leaf = record { agent = agent; here = at_end agents (Some agent); its = its }
 one_more_at plan agents None its none leaf = absurd (none refl leaf)
 
-pub one_more : (plan : PlanData) (agents new : List (Option Agent)) (found : Option Agent) (n : ℕ) → AreAgentsTo plan agents n → new ≡ agents ++ found ∷ [] →
+pub one_more : (plan : PlanData) (agents new : List (Option Agent)) (found : Option Agent) (n : ℕ) → AreAgentsTo plan agents n →
+    new ≡ agents ++ found ∷ [] →
     IfSome found (IsAgentOf plan n) → (found ≡ None → IsLeaf (plan_lists plan) n → ⊥) → AreAgentsTo plan new (n + 1)
 one_more plan agents new found n are pushed its none = record {
   many = ap length pushed ∙ length-append agents (found ∷ []) ∙ ap (λ (k : ℕ). k + 1) are.many;
@@ -109,14 +117,16 @@ one_more plan agents new found n are pushed its none = record {
     | inr at ↦
         let same : length agents ≡ d = omega (arith, are.many, at, low) in
         let number : n ≡ length agents = sym are.many in
-        subst (λ (k : ℕ). HasAgent plan (agents ++ found ∷ []) k) same (one_more_at plan agents found (subst (λ (k : ℕ). IfSome found (IsAgentOf plan k)) number its)
+        subst (λ (k : ℕ). HasAgent plan (agents ++ found ∷ []) k) same
+        (one_more_at plan agents found (subst (λ (k : ℕ). IfSome found (IsAgentOf plan k)) number its)
         (subst (λ (k : ℕ). found ≡ None → IsLeaf (plan_lists plan) k → ⊥) number none)
         (subst (λ (k : ℕ). IsLeaf (plan_lists plan) k) (sym same) leaf))
   ]);
 }
 
 -- what stands at the place of a device is its agent
-pub agent_here : (plan : PlanData) (agents : List (Option Agent)) (d : ℕ) (now : Agent) (none : Option Agent) → HasAgent plan agents d → Some now ≡ get_or agents d none →
+pub agent_here : (plan : PlanData) (agents : List (Option Agent)) (d : ℕ) (now : Agent) (none : Option Agent) →
+    HasAgent plan agents d → Some now ≡ get_or agents d none →
     IsAgentOf plan d now
 agent_here plan agents d now none has e =
     let inside = slice_get_within agents d (Some has.agent) has.here in
@@ -124,5 +134,6 @@ agent_here plan agents d now none has e =
     let same : has.agent ≡ now = cc both in
     subst (IsAgentOf plan d) same has.its
 
-pub all_agents : (plan : PlanData) → IsPlan plan → (agents : List (Option Agent)) (n : ℕ) → AreAgentsTo plan agents n → n ≡ length plan.entries + 1 → AreAgents plan agents
+pub all_agents : (plan : PlanData) → IsPlan plan → (agents : List (Option Agent)) (n : ℕ) → AreAgentsTo plan agents n →
+    n ≡ length plan.entries + 1 → AreAgents plan agents
 all_agents plan is_plan agents n are e d leaf = are.each d (omega (arith, e, leaf_node (plan_lists plan) (lawful plan is_plan) d leaf, nodes_are plan)) leaf

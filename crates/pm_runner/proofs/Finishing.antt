@@ -57,7 +57,8 @@ idle lists s law none (Change device number') legal = legal
 idle lists s law none (Close phase) legal = legal
 
 -- where nothing is pending and no device has a change left the open phase can be closed
-pub can_close : (b : BoardValue) → IsPlan b.plan → IsJournal b.plan b.lines → (board_state b).closed ≢ phases b.plan → Idle (plan_lists b.plan) (board_state b) →
+pub can_close : (b : BoardValue) → IsPlan b.plan → IsJournal b.plan b.lines → (board_state b).closed ≢ phases b.plan →
+    Idle (plan_lists b.plan) (board_state b) →
     ((d : ℕ) → IsLeaf (plan_lists b.plan) d → HasNoNext b.plan (board_state b).closed (board_state b).counts d) →
     Legal (plan_lists b.plan) (board_state b) (Close ((board_state b).closed + 1))
 can_close b is_plan journal left quiet none =
@@ -69,7 +70,8 @@ can_close b is_plan journal left quiet none =
         | inl all ↦ absurd (omega (arith, all, open_phase))
         | inr made ↦
             let here = leaf_node (plan_lists b.plan) (lawful b.plan is_plan) d leaf in
-            made ∙ sym (end-is b.plan ((board_state b).closed + 1) d here.0 (omega (arith, here.1, nodes_are b.plan, is_plan.nodes.one_each)) open_phase is_plan.in_phases)
+            made ∙ sym (end-is b.plan ((board_state b).closed + 1) d here.0
+            (omega (arith, here.1, nodes_are b.plan, is_plan.nodes.one_each)) open_phase is_plan.in_phases)
       ],
       quiet,
     )

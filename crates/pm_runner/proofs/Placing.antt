@@ -1,5 +1,6 @@
 -- The ends of links in their places.
-use Rattle.std.proofs.Common.{◌≡◌, ℕ, zero, suc, ◌<◌, List, [], ◌∷◌, ◌++◌, length, get_or, set, Option, Some, None, refl, sym, ap, subst, arith, All}
+use Rattle.std.proofs.Common.{◌≡◌, ℕ, zero, suc, ◌<◌, List, [], ◌∷◌, ◌++◌, length, get_or, set, Option, Some, None, refl, sym, ap, subst}
+use Rattle.std.proofs.Common.{arith, All}
 use Rattle.std.specs.Prelude.{slice_get, IfSome}
 use Rattle.pm_cells.specs.Ends.{TableId, LinkEnd}
 use Rattle.pm_runner.specs.FreeEnds.{IsUpOf, IsDownOf, AreOf, IsPlaced, ArePlaced}

@@ -13,9 +13,11 @@ use Rattle.pm_scene.specs.Values.{reading}
 pub document-read : (bytes : List ℕ) (d : Data) → IsUtf8 bytes → read bytes ≡ Some d → need cause.Unreadable Document (reading bytes) ≡ Ok d
 document-read bytes d is e = rw (is_utf8-from_IsUtf8 bytes is) (ap (need cause.Unreadable Document) e)
 
-at_test : (b : Bool) (r : Option Data) → (b ≡ true → r ≡ None) → need cause.Unreadable Document (if b then r else None) ≡ refuse cause.Unreadable Document
+at_test : (b : Bool) (r : Option Data) → (b ≡ true → r ≡ None) → need cause.Unreadable Document (if b then r else None)
+    ≡ refuse cause.Unreadable Document
 at_test true r h = ap (need cause.Unreadable Document) (h refl)
 at_test false r h = refl
 
-pub document-unread : (bytes : List ℕ) → (IsUtf8 bytes → read bytes ≡ None) → need cause.Unreadable Document (reading bytes) ≡ refuse cause.Unreadable Document
+pub document-unread : (bytes : List ℕ) → (IsUtf8 bytes → read bytes ≡ None) → need cause.Unreadable Document (reading bytes)
+    ≡ refuse cause.Unreadable Document
 document-unread bytes h = at_test (is_utf8 bytes) (read bytes) (λ e. h (IsUtf8-from_is_utf8 bytes e))

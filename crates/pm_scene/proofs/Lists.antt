@@ -14,11 +14,13 @@ pub list_all_map : {A B : Type 0} (p : B → Bool) (f : A → B) (xs : List A) �
 list_all_map p f [] = refl
 list_all_map p f (x ∷ xs) = ap (λ b. p (f x) && b) (list_all_map p f xs)
 
-list_any_names : (k : List ℕ) (ms : List Member) → list_any (λ (m : Member). bytes_eq k m.0.now) ms ≡ list_any (λ (row : Row). bytes_eq k row.0) (map row_of ms)
+list_any_names : (k : List ℕ) (ms : List Member) → list_any (λ (m : Member). bytes_eq k m.0.now) ms
+    ≡ list_any (λ (row : Row). bytes_eq k row.0) (map row_of ms)
 list_any_names k [] = refl
 list_any_names k (m ∷ ms) = rw (list_any_names k ms)
 
-pub has_only_entries : (ms : List Member) (es : List (String Global × Value)) → list_all (λ k. list_any (λ (m : Member). bytes_eq (string_bytes k) m.0.now) ms) (keys_of es) ≡ has_only (map row_of ms) (object (members_view es))
+pub has_only_entries : (ms : List Member) (es : List (String Global × Value)) →
+    list_all (λ k. list_any (λ (m : Member). bytes_eq (string_bytes k) m.0.now) ms) (keys_of es) ≡ has_only (map row_of ms) (object (members_view es))
 unfolding has_only
 has_only_entries ms [] = refl
 has_only_entries ms (e ∷ es) = rw (has_only_entries ms es, list_any_names (string_bytes e.0) ms)

@@ -1,5 +1,6 @@
 -- A ring of records: what its places are for the numbers that are kept.
-use Rattle.std.proofs.Common.{◌≡◌, ◌∙◌, sym, ap, subst, ℕ, ◌+◌, ◌-◌, ◌%◌, ◌<◌, ◌≤◌, zero, suc, ℤ, List, length, get_or, Option, Some, None, refl, arith, get_or-set_same, get_or-set_other, inl, inr}
+use Rattle.std.proofs.Common.{◌≡◌, ◌∙◌, sym, ap, subst, ℕ, ◌+◌, ◌-◌, ◌%◌, ◌<◌, ◌≤◌, zero, suc, ℤ, List, length, get_or}
+use Rattle.std.proofs.Common.{Option, Some, None, refl, arith, get_or-set_same, get_or-set_other, inl, inr}
 use Rattle.std.proofs.Math.ListN.{set, length-set}
 use Rattle.std.proofs.lemmas.Bool.{cases_eq}
 use Rattle.std.proofs.lemmas.List.{get_or_read}
@@ -18,16 +19,19 @@ window_from children steps places answered last = record {
   last = last;
 }
 
-records_from-at : (places : List Sent) (number count i : ℕ) → i < count → get_or (records_from places number count) i no_record ≡ record_in places (number + i)
+records_from-at : (places : List Sent) (number count i : ℕ) → i < count → get_or (records_from places number count) i no_record
+    ≡ record_in places (number + i)
 records_from-at places number zero i inside = absurd (let none : ⊥ = omega (arith, inside) in none)
 records_from-at places number (suc count) zero inside = ap (λ (n : ℕ). record_in places n) (omega arith)
 records_from-at places number (suc count) (suc i) inside =
     records_from-at places (number + 1) count i (omega (arith, inside)) ∙ ap (λ (n : ℕ). record_in places n) (omega arith)
 
 -- the record of a number that is kept stands in its place
-pub record_kept : (children : ℕ) (steps : Option ℕ) (places : List Sent) (answered last number : ℕ) → answered ≤ number → number ≤ last → record_of (window_from children steps places answered last) number ≡ record_in places number
+pub record_kept : (children : ℕ) (steps : Option ℕ) (places : List Sent) (answered last number : ℕ) → answered ≤ number →
+    number ≤ last → record_of (window_from children steps places answered last) number ≡ record_in places number
 record_kept children steps places answered last number from to =
-    records_from-at places answered (last - answered + 1) (number - answered) (omega (arith, from, to)) ∙ ap (λ (n : ℕ). record_in places n) (omega (arith, from))
+    records_from-at places answered (last - answered + 1) (number - answered) (omega (arith, from, to))
+    ∙ ap (λ (n : ℕ). record_in places n) (omega (arith, from))
 
 -- the places with a record more
 abbrev pub with_record : List Sent → Sent → List Sent
@@ -65,13 +69,16 @@ pub ring_of : (inside : Inside) → IsRing inside → Ring inside.children insid
 ring_of inside is = record { size = is.size; each = is.each; sound = is.sound }
 
 -- a window without sums has no sum in any place
-pub no_sum_read : (inside : Inside) (value : WindowValue) (number : ℕ) (read : Sent) → IsRing inside → window_of inside ≡ value → value.steps ≡ None →
+pub no_sum_read : (inside : Inside) (value : WindowValue) (number : ℕ) (read : Sent) → IsRing inside → window_of inside ≡ value →
+    value.steps ≡ None →
     read ≡ get_or inside.places.items (number % ring_size) read → read.sum ≡ None
 no_sum_read inside value number read ring is none at =
-    no_steps read.sum (ap (λ r. steps_of r.sum) (read_in inside.places.items number read ring.size at) ∙ (ring.each number).steps ∙ ap (λ w. w.steps) is ∙ none)
+    no_steps read.sum (ap (λ r. steps_of r.sum) (read_in inside.places.items number read ring.size at) ∙ (ring.each number).steps
+    ∙ ap (λ w. w.steps) is ∙ none)
 
 -- the newest record
-pub newest_kept : (children : ℕ) (steps : Option ℕ) (places : List Sent) (answered last : ℕ) → Ring children steps places answered last → record_in places last ≡ newest_record (window_from children steps places answered last)
+pub newest_kept : (children : ℕ) (steps : Option ℕ) (places : List Sent) (answered last : ℕ) →
+    Ring children steps places answered last → record_in places last ≡ newest_record (window_from children steps places answered last)
 newest_kept children steps places answered last ring = sym (record_kept children steps places answered last last ring.sound.order (omega arith))
 
 -- a record is sent under the next number
@@ -128,7 +135,8 @@ module _ (children : ℕ) (steps : Option ℕ) (places : List Sent) (answered la
               elim (cases_eq n sent.number) [
                 | inl e ↦ ap (λ (i : ℕ). (record_of after i).number) e ∙ ap (λ r. r.number) newest_at ∙ sym e
                 | inr ne ↦
-                    let old : Keeps (window_from children steps places answered last) n = record { one = keeps.one; from = keeps.from; to = omega (arith, keeps.to, next, ne) } in
+                    let old : Keeps (window_from children steps places answered last) n =
+                    record { one = keeps.one; from = keeps.from; to = omega (arith, keeps.to, next, ne) } in
                     ap (λ r. r.number) (older_at n old.from old.to) ∙ is.numbers n old
               ];
           opening = λ e. absurd (let none : ⊥ = omega (arith, next, e) in none);
@@ -136,7 +144,8 @@ module _ (children : ℕ) (steps : Option ℕ) (places : List Sent) (answered la
       }
 
 -- a number that is kept is answered
-module _ (children : ℕ) (steps : Option ℕ) (places : List Sent) (answered last number : ℕ) (ring : Ring children steps places answered last) (keeps : Keeps (window_from children steps places answered last) number) where
+module _ (children : ℕ) (steps : Option ℕ) (places : List Sent) (answered last number : ℕ)
+    (ring : Ring children steps places answered last) (keeps : Keeps (window_from children steps places answered last) number) where
   abbrev rest : WindowValue
   rest = window_from children steps places number last
 
@@ -167,7 +176,8 @@ module _ (children : ℕ) (steps : Option ℕ) (places : List Sent) (answered la
               let old = ring.sound.fits n (omega (arith, from, keeps.from)) to in
               subst P (sym (same_at n from to)) (record { children = old.children; steps = old.steps });
           numbers = λ n kept.
-              let old : Keeps (window_from children steps places answered last) n = record { one = kept.one; from = omega (arith, kept.from, keeps.from); to = kept.to } in
+              let old : Keeps (window_from children steps places answered last) n =
+              record { one = kept.one; from = omega (arith, kept.from, keeps.from); to = kept.to } in
               ap (λ r. r.number) (same_at n kept.from kept.to) ∙ ring.sound.numbers n old;
           opening = λ e. absurd (let none : ⊥ = omega (arith, keeps.one, keeps.to, e) in none);
         };

@@ -7,7 +7,8 @@ use Rattle.pm_session.specs.Links.{Session, UpBid, IsSession, BidTaken, bid_numb
 abbrev pub way_taken : {Message : Type 0} → Way Message → ℕ → Way Message
 way_taken way number = record { waiting = None; offered = way.offered; taken = number }
 
-pub is_way_taken : {Message : Type 0} (number : Message → ℕ) (way : Way Message) (message : Message) → IsWay number way → Waits way message → IsWay number (way_taken way (number message))
+pub is_way_taken : {Message : Type 0} (number : Message → ℕ) (way : Way Message) (message : Message) → IsWay number way →
+    Waits way message → IsWay number (way_taken way (number message))
 is_way_taken number way message is waits = record {
   order = omega (arith, is.last message waits);
   none = (λ e. sym (is.last message waits), λ e. refl);
@@ -15,7 +16,8 @@ is_way_taken number way message is waits = record {
   above = λ other e. cc;
 }
 
-pub taken_from : {Message : Type 0} (number : Message → ℕ) (way : Way Message) (message : Message) → IsWay number way → Waits way message → Taken number way (way_taken way (number message)) message
+pub taken_from : {Message : Type 0} (number : Message → ℕ) (way : Way Message) (message : Message) → IsWay number way →
+    Waits way message → Taken number way (way_taken way (number message)) message
 taken_from number way message is waits = record {
   waited = waits;
   above = is.above message waits;

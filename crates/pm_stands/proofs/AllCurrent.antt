@@ -66,7 +66,8 @@ module _ (plan : PlanData) (is_plan : IsPlan plan) (c : Core) (s : State) (stand
   pub step_current : c.auctioneer.step ≡ plain plan (state plan) s.counts
   step_current = elim (cases_eq (clearings s) 0) [
     | inl none ↦
-        let no_cut : (d : ℕ) → cleared s (clearings s) d ≡ 0 = λ d. ap (λ (i : ℕ). cleared s i d) none ∙ ap (λ (a : Cut). a d) (entry_zero (s.published 0)) in
+        let no_cut : (d : ℕ) → cleared s (clearings s) d ≡ 0 = λ d. ap (λ (i : ℕ). cleared s i d) none
+        ∙ ap (λ (a : Cut). a d) (entry_zero (s.published 0)) in
         stands.auction_step
         ∙ cond-true (eqb (clearings s) 0) 0 (clearing_step (children_sum plan 0 (cleared s (clearings s)))) (eq-eqb (clearings s) 0 none)
         ∙ sym (ap clearing_step (sum_of_none plan is_plan 0 (cleared s (clearings s)) no_cut) ∙ clears_at_zero plan.basis.steps)

@@ -1,5 +1,6 @@
 -- The parents' caches with one entry changed.
-use Rattle.std.proofs.Common.{◌≡◌, ◌∙◌, sym, ap, ℕ, ◌<◌, ℤ, Bool, true, false, not, ◌||◌, eqb, leb, List, length, get_or, Option, Some, None, refl, arith, inl, inr, get_or-set_same, get_or-set_other}
+use Rattle.std.proofs.Common.{◌≡◌, ◌∙◌, sym, ap, ℕ, ◌<◌, ℤ, Bool, true, false, not, ◌||◌, eqb, leb, List, length, get_or, Option, Some}
+use Rattle.std.proofs.Common.{None, refl, arith, inl, inr, get_or-set_same, get_or-set_other}
 use Rattle.std.proofs.Math.ListN.{set, length-set}
 use Rattle.std.proofs.lemmas.Bool.{cases_eq, cond-true, cond-false, eq-eqb, ne_eqb, lt-leb}
 use Rattle.pm_cache.specs.Cache.{Cache, kept_number}
@@ -44,7 +45,8 @@ pub learnt_root : (a a' : Auction) (cs : List (Option Gathered)) (y k n : ℕ) (
 learnt_root a a' cs y k n demand e newer is =
     let newer' : kept_number a.cache k < n = omega (arith, ap (λ c. kept_number c k) (cache_root a cs y e)) in
     record {
-      entry = cache_root a' cs y e ∙ ap (λ (x : Auction). x.cache) is ∙ learnt_newer a.cache k n demand newer' ∙ ap (λ c. entered c k n demand) (sym (cache_root a cs y e));
+      entry = cache_root a' cs y e ∙ ap (λ (x : Auction). x.cache) is ∙ learnt_newer a.cache k n demand newer'
+          ∙ ap (λ c. entered c k n demand) (sym (cache_root a cs y e));
       others = λ i ne.
           let inner : i ≡ 0 → ⊥ = λ z. ne (z ∙ sym e) in
           cache_inner a' cs i inner ∙ sym (cache_inner a cs i inner);
@@ -56,7 +58,8 @@ learnt_root a a' cs y k n demand e newer is =
       changed = ap (λ (x : Auction). x.changed) is ∙ news_after a k n newer' ∙ sym (cond-true (eqb y 0) true a.changed (eq-eqb y 0 e));
     }
 
-pub learnt_inner : (a : Auction) (cs : List (Option Gathered)) (g g' : Gathered) (y k n : ℕ) (demand : Option (List ℤ)) → (y ≡ 0 → ⊥) → y < length cs → get_or cs y None ≡ Some g
+pub learnt_inner : (a : Auction) (cs : List (Option Gathered)) (g g' : Gathered) (y k n : ℕ) (demand : Option (List ℤ)) →
+    (y ≡ 0 → ⊥) → y < length cs → get_or cs y None ≡ Some g
     → kept_number (cache_in a cs y) k < n
     → g' ≡ record g { cache = learnt g.cache k n demand }
     → EntryLearnt a a cs (set cs y (Some g')) y k n demand
@@ -65,14 +68,17 @@ learnt_inner a cs g g' y k n demand ne lt at newer is =
     let newer' : kept_number g.cache k < n = omega (arith, ap (λ c. kept_number c k) old_is) in
     let same = gathered_same cs y g' lt in
     record {
-      entry = cache_inner a (set cs y (Some g')) y ne ∙ ap (λ (x : Gathered). x.cache) same ∙ ap (λ (x : Gathered). x.cache) is ∙ learnt_newer g.cache k n demand newer' ∙ ap (λ c. entered c k n demand) (sym old_is);
+      entry = cache_inner a (set cs y (Some g')) y ne ∙ ap (λ (x : Gathered). x.cache) same ∙ ap (λ (x : Gathered). x.cache) is
+          ∙ learnt_newer g.cache k n demand newer' ∙ ap (λ c. entered c k n demand) (sym old_is);
       others = λ i differs. elim (cases_eq i 0) [
         | inl z ↦ cache_root a (set cs y (Some g')) i z ∙ sym (cache_root a cs i z)
-        | inr nz ↦ cache_inner a (set cs y (Some g')) i nz ∙ ap (λ (x : Gathered). x.cache) (gathered_other cs y i g' differs) ∙ sym (cache_inner a cs i nz)
+        | inr nz ↦ cache_inner a (set cs y (Some g')) i nz ∙ ap (λ (x : Gathered). x.cache) (gathered_other cs y i g' differs)
+            ∙ sym (cache_inner a cs i nz)
       ];
       kept = λ i. elim (cases_eq i y) [
         | inl e ↦
-            let new_is : gathered_at (set cs y (Some g')) i ≡ record g { cache = learnt g.cache k n demand } = ap (gathered_at (set cs y (Some g'))) e ∙ same ∙ is in
+            let new_is : gathered_at (set cs y (Some g')) i ≡ record g { cache = learnt g.cache k n demand } =
+            ap (gathered_at (set cs y (Some g'))) e ∙ same ∙ is in
             let was : gathered_at cs i ≡ g = ap (gathered_at cs) e ∙ gathered_known cs y g at in
             record {
               window = ap (λ (x : Gathered). x.window) new_is ∙ sym (ap (λ (x : Gathered). x.window) was);
@@ -84,7 +90,8 @@ learnt_inner a cs g g' y k n demand ne lt at newer is =
       ];
       there = λ i h. elim (cases_eq i y) [
         | inl e ↦
-            ap (λ (z : ℕ). get_or (set cs y (Some g')) z None) e ∙ get_or-set_same cs y (Some g') None lt ∙ ap Some (sym (ap (gathered_at (set cs y (Some g'))) e ∙ same))
+            ap (λ (z : ℕ). get_or (set cs y (Some g')) z None) e ∙ get_or-set_same cs y (Some g') None lt
+            ∙ ap Some (sym (ap (gathered_at (set cs y (Some g'))) e ∙ same))
         | inr differs ↦ get_or-set_other cs y i (Some g') None differs ∙ h ∙ ap Some (sym (gathered_other cs y i g' differs))
       ];
       all = length-set cs y (Some g');
@@ -98,7 +105,8 @@ one_concentrator cs y g lt = record {
   all = length-set cs y (Some g);
   others = λ i ne. gathered_other cs y i g ne;
   there = λ i h. elim (cases_eq i y) [
-    | inl e ↦ ap (λ (z : ℕ). get_or (set cs y (Some g)) z None) e ∙ get_or-set_same cs y (Some g) None lt ∙ ap Some (sym (ap (gathered_at (set cs y (Some g))) e ∙ gathered_same cs y g lt))
+    | inl e ↦ ap (λ (z : ℕ). get_or (set cs y (Some g)) z None) e ∙ get_or-set_same cs y (Some g) None lt
+        ∙ ap Some (sym (ap (gathered_at (set cs y (Some g))) e ∙ gathered_same cs y g lt))
     | inr ne ↦ get_or-set_other cs y i (Some g) None ne ∙ h ∙ ap Some (sym (gathered_other cs y i g ne))
   ];
 }

@@ -1,5 +1,6 @@
 -- A device changes: the core stands for the state after it.
-use Rattle.std.proofs.Common.{◌≡◌, ◌∙◌, sym, ap, subst, ℕ, suc, ◌+◌, ◌≤◌, ℤ, pos, Bool, true, false, not, ◌&&◌, cond, List, get_or, Option, Some}
+use Rattle.std.proofs.Common.{◌≡◌, ◌∙◌, sym, ap, subst, ℕ, suc, ◌+◌, ◌≤◌, ℤ, pos, Bool, true, false, not, ◌&&◌, cond, List}
+use Rattle.std.proofs.Common.{get_or, Option, Some}
 use Rattle.std.proofs.Common.{None, refl, arith, inl, inr}
 use Rattle.std.proofs.lemmas.Bool.{cases_eq, cases_Bool, both_ways}
 use Rattle.pm_tree.specs.Entries.{place_of}
@@ -102,7 +103,8 @@ module _ (plan : PlanData) (is_plan : IsPlan plan) (c : Core) (s : State) (stand
   kept_agrees : (y : ℕ) (b : UpBid) → BidAgrees plan s y b → BidAgrees plan after_state y b
   kept_agrees y b at = record { above = at.above; within = omega (arith, at.within, newest_le y); demand = at.demand; gone = at.gone }
 
-  new_agrees : (b : UpBid) → b ≡ record { number = n; gone = is_gone (plan_lists plan) x n; demand = device_demand plan x n } → BidAgrees plan after_state x b
+  new_agrees : (b : UpBid) → b ≡ record { number = n; gone = is_gone (plan_lists plan) x n; demand = device_demand plan x n } →
+      BidAgrees plan after_state x b
   new_agrees b is = let number_b : b.number ≡ n = ap (λ (u : UpBid). u.number) is in record {
     above = omega (arith, number_b, newest_old, stands.sound.learnt_within x node);
     within = omega (arith, number_b, newest_new);
@@ -117,7 +119,8 @@ module _ (plan : PlanData) (is_plan : IsPlan plan) (c : Core) (s : State) (stand
   the_joined : (seat_at ports x).joined ≡ joined_at (plan_lists plan) x (updated s.counts x n x)
   the_joined =
       ap (λ (q : Seat). q.joined) did.seated
-      ∙ ap (λ (m : ℕ). (seat_after (seat_at c.ports x) (is_member (plan_lists plan) x m) (is_member (plan_lists plan) x n) n).joined) (stands.counts x legal.0)
+      ∙ ap (λ (m : ℕ). (seat_after (seat_at c.ports x) (is_member (plan_lists plan) x m) (is_member (plan_lists plan) x n) n).joined)
+      (stands.counts x legal.0)
       ∙ ap (λ (i : ℕ). (seat_after (seat_at c.ports x) (is_member (plan_lists plan) x (s.counts x)) (is_member (plan_lists plan) x i) i).joined) n_is
       ∙ joined_after (plan_lists plan) x (s.counts x) (seat_at c.ports x) (stands.joined x legal.0)
       ∙ ap (joined_at (plan_lists plan) x) (sym (updated_same s.counts x n ∙ n_is))
@@ -164,7 +167,8 @@ module _ (plan : PlanData) (is_plan : IsPlan plan) (c : Core) (s : State) (stand
       closed = stands.closed;
       states = λ d leaf. did.moved d leaf ∙ elim (cases_eq d x) [
         | inl e ↦
-            ap (updated (λ (i : ℕ). get_or c.states i (pos 0)) x (state plan x n)) e ∙ updated_same (λ (i : ℕ). get_or c.states i (pos 0)) x (state plan x n)
+            ap (updated (λ (i : ℕ). get_or c.states i (pos 0)) x (state plan x n)) e
+            ∙ updated_same (λ (i : ℕ). get_or c.states i (pos 0)) x (state plan x n)
             ∙ ap (state plan x) (sym (updated_same s.counts x n)) ∙ ap (λ (i : ℕ). state plan i (updated s.counts x n i)) (sym e)
         | inr ne ↦
             updated_other (λ (i : ℕ). get_or c.states i (pos 0)) x (state plan x n) d ne ∙ stands.states d leaf
@@ -193,7 +197,8 @@ module _ (plan : PlanData) (is_plan : IsPlan plan) (c : Core) (s : State) (stand
         | inr ne ↦ kept_agrees y b (stands.bids y y_node b (sym (ap (λ (z : Session). z.up.waiting) (session_kept y y_node ne)) ∙ waits))
       ];
       price_offered = λ y y_node.
-          let at = subst (λ (k : ℕ). IsNewestDue (plan_lists plan) s y k) (sym (ap (λ d. d.offered) (down_kept y y_node))) (stands.price_offered y y_node) in
+          let at = subst (λ (k : ℕ). IsNewestDue (plan_lists plan) s y k) (sym (ap (λ d. d.offered) (down_kept y y_node)))
+          (stands.price_offered y y_node) in
           record { due = at.due; most = at.most };
       price_taken = λ y y_node. ap (λ d. d.taken) (down_kept y y_node) ∙ stands.price_taken y y_node;
       prices = λ y y_node q waits.
@@ -208,7 +213,8 @@ module _ (plan : PlanData) (is_plan : IsPlan plan) (c : Core) (s : State) (stand
       auction_step = stands.auction_step;
       changed = stands.changed;
       joined = λ d leaf. elim (cases_eq d x) [
-        | inl e ↦ ap (λ (i : ℕ). (seat_at ports i).joined) e ∙ the_joined ∙ ap (λ (i : ℕ). joined_at (plan_lists plan) i (updated s.counts x n i)) (sym e)
+        | inl e ↦ ap (λ (i : ℕ). (seat_at ports i).joined) e ∙ the_joined
+            ∙ ap (λ (i : ℕ). joined_at (plan_lists plan) i (updated s.counts x n i)) (sym e)
         | inr ne ↦
             ap (λ (q : Seat). q.joined) (did.others d ne) ∙ stands.joined d leaf
             ∙ ap (joined_at (plan_lists plan) d) (sym (updated_other s.counts x n d ne))
@@ -227,7 +233,8 @@ pub change_made : (plan : PlanData) (c : Core) (s : State) (x n : ℕ)
 change_made plan c s x n links counts states ports is_plan stands legal did = change_makes plan is_plan c s stands x n legal links counts states ports did
 
 -- the same by the numbers that were read of the device's parent and of its place there
-pub change_did : (plan : PlanData) → IsPlan plan → (c : Core) (s : State) → StandsFor plan c s → (x n y k : ℕ) → Legal (plan_lists plan) s (Change x n)
+pub change_did : (plan : PlanData) → IsPlan plan → (c : Core) (s : State) → StandsFor plan c s → (x n y k : ℕ) →
+    Legal (plan_lists plan) s (Change x n)
     → y ≡ parent (plan_lists plan) x → k ≡ place_of plan.entries x
     → (links : List (List Session)) (counts : List ℕ) (states : List ℤ) (ports : List Seat) → DidChange plan c x n links counts states ports y k
     → MakesMove plan (changed_core c links counts states ports) s (Change x n)

@@ -14,7 +14,8 @@ use Rattle.pm_plan.proofs.MarketLists.{lawful}
 
 -- where a close is legal, and the powers at the end of the phase were kept, the move was made
 pub close_made : (plan : PlanData) (c : Core) (s : State) (p : ℕ) (powers : List ℤ)
-    → IsPlan plan → StandsFor plan c s → Legal (plan_lists plan) s (Close p) → DidClose plan c powers p → MakesMove plan (closed_core c powers p) s (Close p)
+    → IsPlan plan → StandsFor plan c s → Legal (plan_lists plan) s (Close p) → DidClose plan c powers p →
+    MakesMove plan (closed_core c powers p) s (Close p)
 close_made plan c s p powers is_plan stands legal did = record {
   legal = legal;
   stands = record {

@@ -57,7 +57,8 @@ demands_are plan is_plan c s stands y le inner =
     ap (λ (i : ℕ). get_or (node_cache c i).demands (place_of plan.entries z) []) (sym e) ∙ stands.demands z node)
 
 -- A bid that agrees may be learnt: with it the sum of the entries is still that of offers.
-pub can_learn : (plan : PlanData) → IsPlan plan → (c : Core) (s : State) → StandsFor plan c s → (x : ℕ) → IsNode (plan_lists plan) x → (bid : UpBid) →
+pub can_learn : (plan : PlanData) → IsPlan plan → (c : Core) (s : State) → StandsFor plan c s → (x : ℕ) → IsNode (plan_lists plan) x →
+    (bid : UpBid) →
     BidAgrees plan s x bid
     → CanLearn (node_cache c (parent (plan_lists plan) x)) (place_of plan.entries x) (bid_demand bid.gone bid.demand)
 can_learn plan is_plan c s stands x node bid agrees =
@@ -69,7 +70,8 @@ can_learn plan is_plan c s stands x node bid agrees =
     let count : length cache.demands ≡ length (children_of plan.entries y) = stands.shaped.cache_demands y le inner in
     let is_offered : offered cache (bid_demand bid.gone bid.demand) ≡ bid.demand =
     offered_is cache bid.gone bid.demand (λ e. agrees.demand
-    ∙ gone_zeros plan is_plan s stands.sound x bid.number node (omega (arith, agrees.above)) agrees.within (sym agrees.gone ∙ e) ∙ ap zeros (sym steps)) in
+    ∙ gone_zeros plan is_plan s stands.sound x bid.number node (omega (arith, agrees.above)) agrees.within (sym agrees.gone ∙ e)
+    ∙ ap zeros (sym steps)) in
     let s' : State = step (plan_lists plan) s (Learn x bid.number) in
     let after : set cache.demands (place_of plan.entries x) bid.demand ≡ offers_of plan y (known (plan_lists plan) s' y) =
     demands_from plan is_plan s' y (set cache.demands (place_of plan.entries x) bid.demand) (length-set cache.demands (place_of plan.entries x) bid.demand
@@ -95,6 +97,7 @@ can_learn plan is_plan c s stands x node bid agrees =
       within = subst P (sym is_offered) (subst Q (sym after) (subst R (sym steps) (offer_within plan is_plan y (known (plan_lists plan) s' y) inner)));
     }
   where
-    offered_is : (cache : Cache) (gone : Bool) (demand : List ℤ) → (gone ≡ true → demand ≡ zeros cache.steps) → offered cache (bid_demand gone demand) ≡ demand
+    offered_is : (cache : Cache) (gone : Bool) (demand : List ℤ) → (gone ≡ true → demand ≡ zeros cache.steps) →
+        offered cache (bid_demand gone demand) ≡ demand
     offered_is cache true demand zeros_if = sym (zeros_if refl)
     offered_is cache false demand zeros_if = refl

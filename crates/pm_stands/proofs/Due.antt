@@ -25,10 +25,13 @@ came_last lists s sound y i one came =
     at k = Rattle.std.proofs.lemmas.List.get_or_default (s.passed y) k.0 0 i k.1 ∙ k.2
 
 -- a head is gone exactly where the clearing does not address the node
-pub gone_addresses : (lists : Lists) → Lawful lists → (s : State) → Sound lists s → (y j : ℕ) → IsNode lists y → j ≤ clearings s → is_gone lists y (number lists s y (cleared s j)) ≡ not (addresses lists s j y)
+pub gone_addresses : (lists : Lists) → Lawful lists → (s : State) → Sound lists s → (y j : ℕ) → IsNode lists y → j ≤ clearings s →
+    is_gone lists y (number lists s y (cleared s j)) ≡ not (addresses lists s j y)
 gone_addresses lists law s sound y j node le =
     elim (cases_Bool (is_leaf lists y)) [
-      | inl leaf ↦ gone_leaf lists y (number lists s y (cleared s j)) leaf ∙ ap (λ (k : ℕ). not (is_member lists y k)) (number_leaf lists s.published y (cleared s j) leaf) ∙ ap not (sym (addresses_leaf lists (cleared s j) y leaf))
+      | inl leaf ↦ gone_leaf lists y (number lists s y (cleared s j)) leaf
+          ∙ ap (λ (k : ℕ). not (is_member lists y k)) (number_leaf lists s.published y (cleared s j) leaf)
+          ∙ ap not (sym (addresses_leaf lists (cleared s j) y leaf))
       | inr inner ↦
           let n : ℕ = number lists s y (cleared s j) in
           let conc : IsConcentrator lists y = (node.0, node.1, inner) in

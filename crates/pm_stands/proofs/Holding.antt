@@ -51,7 +51,8 @@ module _ (plan : PlanData) (c : Core) (s : State) (d : ℕ) (stands : StandsFor 
     | inr some ↦
         by_given _ (stands.given d leaf (omega arith)) ∙ answer_some member join _ _ _
         ∙ ap (λ b. cond (b && member && nat_le join (cleared s (last s d) d))
-        (Some (record { step = local_at plan (cleared s (last s d)) d; number = cleared s (last s d) d; index = last s d })) None) (sym (lt-ltb 0 (last s d) (omega arith)))
+        (Some (record { step = local_at plan (cleared s (last s d)) d; number = cleared s (last s d) d; index = last s d })) None)
+        (sym (lt-ltb 0 (last s d) (omega arith)))
   ]
 
 -- a port holds the price of the clearing passed to its device last, unless that is of a former membership
@@ -70,7 +71,8 @@ unfolding step_of
 held_inside plan c s d price is_plan stands leaf holds =
     some_inside (holds_price (plan_lists plan) s d) (sym (held_agrees plan c s d is_plan stands leaf) ∙ holds)
   where
-    some_inside : (b : Bool) → cond b (Some (record { step = local_at plan (cleared s (last s d)) d; number = cleared s (last s d) d; index = last s d })) None ≡ Some price →
+    some_inside : (b : Bool) →
+        cond b (Some (record { step = local_at plan (cleared s (last s d)) d; number = cleared s (last s d) d; index = last s d })) None ≡ Some price →
         price.step < plan.basis.steps
     some_inside true is =
         let same : local_at plan (cleared s (last s d)) d ≡ price.step = ap step_of is in

@@ -27,26 +27,30 @@ module _ (plan : PlanData) (is_plan : IsPlan plan) (c : Core) (s : State) (stand
   lists = plan_lists plan
 
   -- Where no Learn of the node is legal, the bid that was offered last was taken.
-  pub no_bid : (x : ℕ) → IsNode lists x → ((n : ℕ) → Legal lists s (Learn x n) → ⊥) → (uplink_of plan c x).up.offered ≡ (uplink_of plan c x).up.taken
+  pub no_bid : (x : ℕ) → IsNode lists x → ((n : ℕ) → Legal lists s (Learn x n) → ⊥) →
+      (uplink_of plan c x).up.offered ≡ (uplink_of plan c x).up.taken
   no_bid x node none = elim (cases_eq (newest lists s x) (s.learnt x)) [
     | inl e ↦ stands.bid_offered x node ∙ e ∙ sym (stands.bid_taken x node)
     | inr ne ↦ absurd (none (newest lists s x) (node, omega (arith, stands.sound.learnt_within x node), omega arith))
   ]
 
   -- Where the price that was offered last was taken, no Pass to the node is legal.
-  pub no_pass : (x : ℕ) → IsNode lists x → (uplink_of plan c x).down.offered ≡ (uplink_of plan c x).down.taken → (j : ℕ) → Legal lists s (Pass x j) → ⊥
+  pub no_pass : (x : ℕ) → IsNode lists x → (uplink_of plan c x).down.offered ≡ (uplink_of plan c x).down.taken → (j : ℕ) →
+      Legal lists s (Pass x j) → ⊥
   no_pass x node taken j legal =
       let within = (stands.price_offered x node).most j (due_from lists s x j legal.1 legal.3) in
       omega (arith, legal.2, within, stands.price_taken x node, taken)
 
   -- Where no Pass to the node is legal, the price that was offered last was taken.
-  pub no_price : (x : ℕ) → IsNode lists x → ((j : ℕ) → Legal lists s (Pass x j) → ⊥) → (uplink_of plan c x).down.offered ≡ (uplink_of plan c x).down.taken
+  pub no_price : (x : ℕ) → IsNode lists x → ((j : ℕ) → Legal lists s (Pass x j) → ⊥) →
+      (uplink_of plan c x).down.offered ≡ (uplink_of plan c x).down.taken
   no_price x node none =
       let at = stands.price_offered x node in
       let j : ℕ = (uplink_of plan c x).down.offered in
       let least : last s x ≤ j = elim (last_cases (s.passed x)) [
         | inl w ↦ omega (arith, w.1)
-        | inr k ↦ at.most (last s x) (due_from lists s x (last s x) (stands.sound.passed_reached x (last s x) k) (stands.sound.passed_addressed x (last s x) k))
+        | inr k ↦ at.most (last s x) (due_from lists s x (last s x) (stands.sound.passed_reached x (last s x) k)
+            (stands.sound.passed_addressed x (last s x) k))
       ] in
       elim (cases_eq j (last s x)) [
         | inl e ↦ e ∙ sym (stands.price_taken x node)

@@ -123,7 +123,8 @@ module _ (plan : PlanData) (is_plan : IsPlan plan) (c : Core) (s : State) (stand
   -- the cache of the parent
   the_entry : node_cache after_core (parent lists x) ≡ with_entry (node_cache c (parent lists x)) (place x) (head_for lists x bid.number) bid.demand
   the_entry =
-      let steps : (node_cache c (parent lists x)).steps ≡ plan.basis.steps = stands.shaped.cache_steps (parent lists x) (inner_le x node) (law.inner x node) in
+      let steps : (node_cache c (parent lists x)).steps ≡ plan.basis.steps =
+      stands.shaped.cache_steps (parent lists x) (inner_le x node) (law.inner x node) in
       learnt.entry
       ∙ entered_is (node_cache c (parent lists x)) (place x) bid.number bid.gone bid.demand (λ e.
       agrees.demand ∙ gone_zeros plan is_plan s stands.sound x bid.number node (omega (arith, agrees.above)) agrees.within (sym agrees.gone ∙ e)
@@ -166,7 +167,8 @@ module _ (plan : PlanData) (is_plan : IsPlan plan) (c : Core) (s : State) (stand
   window_kept : (y : ℕ) → (concentrator_of after_core y).window ≡ (concentrator_of c y).window
   window_kept y = (learnt.kept y).window
 
-  cache_parts : (y : ℕ) → ((node_cache after_core y).steps ≡ (node_cache c y).steps) × (length (node_cache after_core y).heads ≡ length (node_cache c y).heads)
+  cache_parts : (y : ℕ) → ((node_cache after_core y).steps ≡ (node_cache c y).steps)
+      × (length (node_cache after_core y).heads ≡ length (node_cache c y).heads)
       × (length (node_cache after_core y).demands ≡ length (node_cache c y).demands)
   cache_parts y = elim (cases_eq y (parent lists x)) [
     | inl e ↦
@@ -178,7 +180,11 @@ module _ (plan : PlanData) (is_plan : IsPlan plan) (c : Core) (s : State) (stand
           ap (λ (z : Cache). length z.demands) is ∙ length-set (node_cache c y).demands (place x) bid.demand,
         )
     | inr ne ↦
-        let same = learnt.others y ne in (ap (λ (z : Cache). z.steps) same, ap (λ (z : Cache). length z.heads) same, ap (λ (z : Cache). length z.demands) same)
+        let same = learnt.others y ne in (
+          ap (λ (z : Cache). z.steps) same,
+          ap (λ (z : Cache). length z.heads) same,
+          ap (λ (z : Cache). length z.demands) same,
+        )
   ]
 
   shaped_after : IsShaped plan after_core
@@ -268,7 +274,8 @@ module _ (plan : PlanData) (is_plan : IsPlan plan) (c : Core) (s : State) (stand
     window_answered = λ y conc. ap (λ (w : WindowValue). w.answered) (window_kept y) ∙ stands.window_answered y conc;
     records = λ y n y_node conc keeps.
         let w = window_kept (parent lists y) in
-        ap (λ (z : WindowValue). head_at (record_of z n).heads (place y)) w ∙ stands.records y n y_node conc (subst (λ (z : WindowValue). Keeps z n) w keeps);
+        ap (λ (z : WindowValue). head_at (record_of z n).heads (place y)) w
+        ∙ stands.records y n y_node conc (subst (λ (z : WindowValue). Keeps z n) w keeps);
     sums = λ y n conc keeps. ap (λ (z : WindowValue). (record_of z n).sum) (window_kept y)
         ∙ stands.sums y n conc (subst (λ (z : WindowValue). Keeps z n) (window_kept y) keeps);
     newest_heads = λ y y_node conc.

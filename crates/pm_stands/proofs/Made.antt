@@ -78,7 +78,8 @@ cannot_learn plan c s stands x y k e f new nothing n legal =
     nothing_to_learn plan c s stands x n none legal
 
 -- A concentrator that published made a Publish.
-pub publish_did : (plan : PlanData) → IsPlan plan → (c : Core) (s : State) → StandsFor plan c s → (x y k : ℕ) → IsConcentrator (plan_lists plan) x →
+pub publish_did : (plan : PlanData) → IsPlan plan → (c : Core) (s : State) → StandsFor plan c s → (x y k : ℕ) →
+    IsConcentrator (plan_lists plan) x →
     y ≡ parent (plan_lists plan) x → k ≡ place_of plan.entries x →
     (links : List (List Session)) (concentrators : List (Option Gathered)) (n : ℕ) →
     DidPublish c x links concentrators n y k → MakesMove plan (published_core c links concentrators) s (Publish x n)
@@ -87,7 +88,8 @@ publish_did plan is_plan c s stands x y k conc e f links concentrators n did =
     publish_makes plan is_plan c s stands x conc links concentrators n at.made at.one at.alone
 
 -- Where a concentrator has nothing to publish, or a full window, no Publish of it is legal.
-pub cannot_publish : (plan : PlanData) → IsPlan plan → (c : Core) (s : State) → StandsFor plan c s → (x : ℕ) → IsConcentrator (plan_lists plan) x →
+pub cannot_publish : (plan : PlanData) → IsPlan plan → (c : Core) (s : State) → StandsFor plan c s → (x : ℕ) →
+    IsConcentrator (plan_lists plan) x →
     CannotPublish (concentrator_of c x) → (n : ℕ) → Legal (plan_lists plan) s (Publish x n) → ⊥
 cannot_publish plan is_plan c s stands x conc cannot n legal =
     let lists : Lists = plan_lists plan in

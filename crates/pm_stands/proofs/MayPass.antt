@@ -33,7 +33,8 @@ use Rattle.pm_stands.proofs.Due.{came_last}
 use Rattle.pm_stands.proofs.Passing.{pass_makes}
 
 -- what the code needs in order to pass on a price that it took
-pub pass_condition : (plan : PlanData) (c : Core) (s : State) (x : ℕ) (between : List (List Session)) (price : PriceUpdate) → IsPlan plan → StandsFor plan c s
+pub pass_condition : (plan : PlanData) (c : Core) (s : State) (x : ℕ) (between : List (List Session)) (price : PriceUpdate) →
+    IsPlan plan → StandsFor plan c s
     → IsConcentrator (plan_lists plan) x
     → PriceTaken (uplink_of plan c x) (link_at between (parent (plan_lists plan) x) (place_of plan.entries x)) price
     → OneLink c.links between (parent (plan_lists plan) x) (place_of plan.entries x) → MayPass c x between price
@@ -55,7 +56,8 @@ pass_condition plan c s x between price is_plan stands conc taken one =
         from = omega (arith, agrees.number, stands.window_answered x conc, rises, answered_is, number_is);
         to = omega (arith, agrees.number, part, stands.sound.learnt_within x node, stands.window_last x conc);
       };
-      row_length = one.rows x ∙ stands.shaped.rows x conc.1 ∙ sym (stands.shaped.cache_heads x conc.1 conc.2) ∙ ap (λ (q : Cache). length q.heads) cache_is;
+      row_length = one.rows x ∙ stands.shaped.rows x conc.1 ∙ sym (stands.shaped.cache_heads x conc.1 conc.2)
+          ∙ ap (λ (q : Cache). length q.heads) cache_is;
       index = λ k lt.
           let lt' : k < length (children_of plan.entries x) = omega (arith, lt, one.rows x, stands.shaped.rows x conc.1) in
           let at = child_node plan is_plan x k lt' in
@@ -110,7 +112,8 @@ may_pass plan is_plan c stands x y k conc e f between price taken one =
 -- what it then did
 pub pass_did : (plan : PlanData) → IsPlan plan → (c : Core) (s : State) → StandsFor plan c s → (x y k : ℕ) → IsConcentrator (plan_lists plan) x
     → y ≡ parent (plan_lists plan) x → k ≡ place_of plan.entries x
-    → (between links : List (List Session)) (concentrators : List (Option Gathered)) (price : PriceUpdate) → DidPass c x between links concentrators price y k
+    → (between links : List (List Session)) (concentrators : List (Option Gathered)) (price : PriceUpdate) →
+    DidPass c x between links concentrators price y k
     → MakesMove plan (passed_core c links concentrators) s (Pass x price.index)
 pass_did plan is_plan c s stands x y k conc e f between links concentrators price did =
     pass_made plan c s x between links concentrators price is_plan stands conc (

@@ -15,7 +15,8 @@ use Rattle.pm_stands.proofs.Places.{few_changes}
 use Rattle.pm_stands.proofs.Caches.{cache_inner}
 
 -- A concentrator may always publish, as far as the code is concerned.
-pub may_publish : (plan : PlanData) → IsPlan plan → (c : Core) → ∥ Stands plan c ∥₁ → (x : ℕ) → IsConcentrator (plan_lists plan) x → MayPublish plan c x
+pub may_publish : (plan : PlanData) → IsPlan plan → (c : Core) → ∥ Stands plan c ∥₁ → (x : ℕ) → IsConcentrator (plan_lists plan) x →
+    MayPublish plan c x
 may_publish plan is_plan c stands x conc = ∥∥₁_elim stands (Prim.hlevel props) (λ st.
     let node : IsNode (plan_lists plan) x = (conc.0, conc.1) in
     let small = newest_small (plan_lists plan) (lawful plan is_plan) st.state st.is.sound x node in

@@ -58,7 +58,8 @@ publishing_made plan c s x links concentrators n is_plan stands conc did =
     publish_did plan is_plan c s stands x (parent (plan_lists plan) x) (place_of plan.entries x) conc refl refl links concentrators n did
 
 -- What the code needs in order to publish holds.
-pub publishing_condition : (plan : PlanData) (c : Core) (x : ℕ) → IsPlan plan → ∥ Stands plan c ∥₁ → IsConcentrator (plan_lists plan) x → MayPublish plan c x
+pub publishing_condition : (plan : PlanData) (c : Core) (x : ℕ) → IsPlan plan → ∥ Stands plan c ∥₁ →
+    IsConcentrator (plan_lists plan) x → MayPublish plan c x
 publishing_condition plan c x is_plan stands conc = may_publish plan is_plan c stands x conc
 
 -- Where there is nothing to publish, or the window is full, no Publish of the concentrator is legal.

@@ -16,7 +16,8 @@ use Rattle.pm_offer.specs.Offers.{offer, children_sum, local_at, device_demand}
 use Rattle.pm_offer.proofs.Laws as laws
 use Rattle.pm_stands.specs.Core.{limits_at}
 
-pub offer_device : (plan : PlanData) → IsPlan plan → (d : ℕ) (cut : Cut) → IsLeaf (plan_lists plan) d → offer plan d cut ≡ device_demand plan d (cut d)
+pub offer_device : (plan : PlanData) → IsPlan plan → (d : ℕ) (cut : Cut) → IsLeaf (plan_lists plan) d →
+    offer plan d cut ≡ device_demand plan d (cut d)
 offer_device plan is_plan d cut leaf = laws.offer_device plan d cut is_plan leaf
 
 pub offer_alike : (plan : PlanData) → IsPlan plan → (x : ℕ) (a b : Cut) → SameOn (plan_lists plan) x a b → offer plan x a ≡ offer plan x b
@@ -35,7 +36,8 @@ passed_is_local : (limits : Option Limits) (k : ℕ) (sum : List ℤ) → passed
 passed_is_local None k sum = refl
 passed_is_local (Some limits) k sum = refl
 
-pub offer_below : (plan : PlanData) → IsPlan plan → (x : ℕ) (cut : Cut) → IsNode (plan_lists plan) x → IsConcentrator (plan_lists plan) (parent (plan_lists plan) x) →
+pub offer_below : (plan : PlanData) → IsPlan plan → (x : ℕ) (cut : Cut) → IsNode (plan_lists plan) x →
+    IsConcentrator (plan_lists plan) (parent (plan_lists plan) x) →
     local_at plan cut x
     ≡ passed_step (limits_at plan (parent (plan_lists plan) x)) (local_at plan cut (parent (plan_lists plan) x))
     (sum_kept (limits_at plan (parent (plan_lists plan) x)) (children_sum plan (parent (plan_lists plan) x) cut))
@@ -46,5 +48,6 @@ offer_below plan is_plan x cut here conc =
 pub offer_inside : (plan : PlanData) → IsPlan plan → (x : ℕ) (cut : Cut) → local_at plan cut x < plan.basis.steps
 offer_inside plan is_plan x cut = laws.local_inside plan x cut is_plan
 
-pub offer_within : (plan : PlanData) → IsPlan plan → (y : ℕ) (cut : Cut) → IsInner (plan_lists plan) y → AllWithinLimit sum_limit (children_sum plan y cut)
+pub offer_within : (plan : PlanData) → IsPlan plan → (y : ℕ) (cut : Cut) → IsInner (plan_lists plan) y →
+    AllWithinLimit sum_limit (children_sum plan y cut)
 offer_within plan is_plan y cut inner = laws.children_within plan y cut is_plan inner

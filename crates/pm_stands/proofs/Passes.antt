@@ -31,7 +31,8 @@ module _ (lists : Lists) (s : State) (x j : ℕ) where
   due_new y up addressed = (due_passed lists s x j y j).1 (inr (up, refl, addressed))
 
   -- and nothing else
-  pub due_cases : (y i : ℕ) → is_due lists next y i ≡ true → (is_due lists s y i ≡ true) ⊎ ((parent lists y ≡ x) × (i ≡ j) × (addresses lists s i y ≡ true))
+  pub due_cases : (y i : ℕ) → is_due lists next y i ≡ true → (is_due lists s y i ≡ true)
+      ⊎ ((parent lists y ≡ x) × (i ≡ j) × (addresses lists s i y ≡ true))
   due_cases y i due = (due_passed lists s x j y i).0 due
 
   -- to a node that is no child of it the same clearing as before is to be passed last

@@ -1,5 +1,6 @@
 -- A concentrator passes a price on: the core stands for the state after it.
-use Rattle.std.proofs.Common.{◌≡◌, ◌∙◌, sym, ap, subst, ℕ, ◌<◌, ◌≤◌, true, false, not, ◌⊎◌, List, [], length, get_or, Option, Some, arith, inl, inr}
+use Rattle.std.proofs.Common.{◌≡◌, ◌∙◌, sym, ap, subst, ℕ, ◌<◌, ◌≤◌, true, false, not, ◌⊎◌, List, [], length, get_or, Option}
+use Rattle.std.proofs.Common.{Some, arith, inl, inr}
 use Rattle.std.proofs.lemmas.Bool.{cases_eq, cases_Bool, both_ways}
 use Rattle.std.proofs.lemmas.List.{ext_get_or, get_or-map, length-map}
 use Rattle.pm_base.specs.Cuts.{Cut}
@@ -41,7 +42,8 @@ use Rattle.pm_stands.proofs.Caches.{cache_root, cache_inner}
 use Rattle.pm_stands.proofs.Offered.{offer_alike, offer_below}
 
 -- the sum of offers sees the leaves alone
-pub sum_alike : (plan : PlanData) → IsPlan plan → (y : ℕ) (a b : Cut) → SameOn (plan_lists plan) y a b → children_sum plan y a ≡ children_sum plan y b
+pub sum_alike : (plan : PlanData) → IsPlan plan → (y : ℕ) (a b : Cut) → SameOn (plan_lists plan) y a b →
+    children_sum plan y a ≡ children_sum plan y b
 sum_alike plan is_plan y a b same =
     ap (sum_of plan.basis.steps) (ext_get_or [] (offers_of plan y a) (offers_of plan y b)
     (length-map (children_of plan.entries y) (λ z. offer plan z a) ∙ sym (length-map (children_of plan.entries y) (λ z. offer plan z b))) (λ k lt.
@@ -99,7 +101,8 @@ module _ (plan : PlanData) (is_plan : IsPlan plan) (c : Core) (s : State) (stand
   session_new : (y : ℕ) → y ≡ x → uplink_of plan after_core y ≡ link_at between (parent (plan_lists plan) x) (place_of plan.entries x)
   session_new y e = ap (λ (z : ℕ). uplink_of plan after_core z) e ∙ did.row.others (parent (plan_lists plan) x) (place_of plan.entries x) parent_differs
 
-  session_kept : (y : ℕ) → IsNode (plan_lists plan) y → (y ≡ x → ⊥) → (parent (plan_lists plan) y ≡ x → ⊥) → uplink_of plan after_core y ≡ uplink_of plan c y
+  session_kept : (y : ℕ) → IsNode (plan_lists plan) y → (y ≡ x → ⊥) → (parent (plan_lists plan) y ≡ x → ⊥) →
+      uplink_of plan after_core y ≡ uplink_of plan c y
   session_kept y y_node ne elsewhere = did.row.others (parent (plan_lists plan) y) (place_of plan.entries y) elsewhere ∙ between_kept y y_node ne
 
   -- of a child of x
@@ -150,7 +153,8 @@ module _ (plan : PlanData) (is_plan : IsPlan plan) (c : Core) (s : State) (stand
         stands.sums x price.number conc keeps
         ∙ ap (sum_kept (limits_at plan x)) (sum_alike plan is_plan x (cut_at (s.published x) price.number) (cleared s j) same))
         ∙ ap (λ (k : ℕ). passed_step (limits_at plan x) k (sum_kept (limits_at plan x) (children_sum plan x (cleared s j)))) agrees.step
-        ∙ ap (λ (i : ℕ). passed_step (limits_at plan i) (local_at plan (cleared s j) i) (sum_kept (limits_at plan i) (children_sum plan i (cleared s j)))) (
+        ∙ ap (λ (i : ℕ). passed_step (limits_at plan i) (local_at plan (cleared s j) i)
+        (sum_kept (limits_at plan i) (children_sum plan i (cleared s j)))) (
         sym up)
         ∙ sym (offer_below plan is_plan y (cleared s j) y_node conc_y)
 
@@ -202,7 +206,8 @@ module _ (plan : PlanData) (is_plan : IsPlan plan) (c : Core) (s : State) (stand
             due = λ positive. ap (is_due (plan_lists plan) after_state y) is ∙ due_more y _ (at.due (omega (arith, is, positive)));
             most = λ i h. elim (passes.due_cases (plan_lists plan) s x j y i h) [
               | inl old ↦ omega (arith, is, at.most i old)
-              | inr new ↦ absurd (both_ways (addresses (plan_lists plan) s j y) w.1 (ap (λ (k : ℕ). addresses (plan_lists plan) s k y) (sym new.1) ∙ new.2))
+              | inr new ↦ absurd (both_ways (addresses (plan_lists plan) s j y) w.1
+                  (ap (λ (k : ℕ). addresses (plan_lists plan) s k y) (sym new.1) ∙ new.2))
             ];
           }
     ]
@@ -268,7 +273,8 @@ module _ (plan : PlanData) (is_plan : IsPlan plan) (c : Core) (s : State) (stand
 
   same_last : (y : ℕ) → (concentrator_of after_core y).window.last ≡ (concentrator_of c y).window.last
   same_last y = elim (cases_eq y x) [
-    | inl e ↦ ap (λ (g : Gathered). g.window.last) (gathered_new y e) ∙ did.passed.window.last ∙ ap (λ (i : ℕ). (concentrator_of c i).window.last) (sym e)
+    | inl e ↦ ap (λ (g : Gathered). g.window.last) (gathered_new y e) ∙ did.passed.window.last
+        ∙ ap (λ (i : ℕ). (concentrator_of c i).window.last) (sym e)
     | inr ne ↦ ap (λ (g : Gathered). g.window.last) (did.alone.others y ne)
   ]
 
@@ -286,7 +292,8 @@ module _ (plan : PlanData) (is_plan : IsPlan plan) (c : Core) (s : State) (stand
   ]
 
   -- the records that are kept are still as they were, the newest among them
-  record_same : (y k : ℕ) → Keeps (concentrator_of after_core y).window k → record_of (concentrator_of after_core y).window k ≡ record_of (concentrator_of c y).window k
+  record_same : (y k : ℕ) → Keeps (concentrator_of after_core y).window k → record_of (concentrator_of after_core y).window k
+      ≡ record_of (concentrator_of c y).window k
   record_same y k now = elim (cases_eq y x) [
     | inl e ↦
         ap (λ (g : Gathered). record_of g.window k) (gathered_new y e)
@@ -348,7 +355,8 @@ module _ (plan : PlanData) (is_plan : IsPlan plan) (c : Core) (s : State) (stand
     states = stands.states;
     powers = stands.powers;
     heads = λ y y_node. ap (λ (q : Cache). head_at q.heads (place_of plan.entries y)) (cache_kept (parent (plan_lists plan) y)) ∙ stands.heads y y_node;
-    demands = λ y y_node. ap (λ (q : Cache). get_or q.demands (place_of plan.entries y) []) (cache_kept (parent (plan_lists plan) y)) ∙ stands.demands y y_node;
+    demands = λ y y_node. ap (λ (q : Cache). get_or q.demands (place_of plan.entries y) []) (cache_kept (parent (plan_lists plan) y))
+        ∙ stands.demands y y_node;
     bid_offered = λ y y_node. ap (λ u. u.offered) (up_kept y y_node) ∙ stands.bid_offered y y_node;
     bid_taken = λ y y_node. ap (λ u. u.taken) (up_kept y y_node) ∙ stands.bid_taken y y_node;
     bids = λ y y_node b waits.
@@ -359,7 +367,8 @@ module _ (plan : PlanData) (is_plan : IsPlan plan) (c : Core) (s : State) (stand
       | inr elsewhere ↦ elim (cases_eq y x) [
         | inl e ↦
             let is : (uplink_of plan after_core y).down.offered ≡ (uplink_of plan c y).down.offered =
-            ap (λ (z : Session). z.down.offered) (session_new y e) ∙ did.taken.down.offered ∙ ap (λ (z : ℕ). (uplink_of plan c z).down.offered) (sym e) in
+            ap (λ (z : Session). z.down.offered) (session_new y e) ∙ did.taken.down.offered
+            ∙ ap (λ (z : ℕ). (uplink_of plan c z).down.offered) (sym e) in
             subst (λ (k : ℕ). IsNewestDue (plan_lists plan) after_state y k) (sym is) (
             passes.newest_due_kept (plan_lists plan) s x j y _ elsewhere (stands.price_offered y y_node))
         | inr ne ↦

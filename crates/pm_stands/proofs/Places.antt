@@ -1,5 +1,6 @@
 -- What every plan keeps of its tree: lawful lists, and the children of a node and their places.
-use Rattle.std.proofs.Common.{◌≡◌, ◌∙◌, sym, ap, subst, ℕ, zero, suc, ◌+◌, ◌*◌, ◌<◌, ◌≤◌, Bool, true, false, ◌⊎◌, List, [], ◌∷◌, ◌++◌, length, Some, arith, inl, inr}
+use Rattle.std.proofs.Common.{◌≡◌, ◌∙◌, sym, ap, subst, ℕ, zero, suc, ◌+◌, ◌*◌, ◌<◌, ◌≤◌, Bool, true, false, ◌⊎◌, List}
+use Rattle.std.proofs.Common.{[], ◌∷◌, ◌++◌, length, Some, arith, inl, inr}
 use Rattle.std.proofs.lemmas.Bool.{cases_lt}
 use Rattle.std.specs.Bool.{if◌then◌else◌}
 use Rattle.pm_base.specs.Limits.{AreLimits, most_changes}
@@ -57,7 +58,8 @@ few_changes plan is_plan =
     ap (λ (n : ℕ). all_changes plan.nodes * n) nodes_same in
     let products : change_total (plan_lists plan) * suc count ≡ all_changes plan.nodes * suc count =
     omega (arith, market_lists.bound-is plan is_plan, left, right, phases_same) in
-    let same : change_total (plan_lists plan) ≡ all_changes plan.nodes = equal_factors (change_total (plan_lists plan)) (all_changes plan.nodes) count products in
+    let same : change_total (plan_lists plan) ≡ all_changes plan.nodes =
+    equal_factors (change_total (plan_lists plan)) (all_changes plan.nodes) count products in
     omega (arith, same, is_plan.within.few_changes)
 
 -- a node stands in its place among the children of its parent
@@ -67,7 +69,8 @@ at_place plan x x_node =
     ap (λ (y : ℕ). slice_get (children_of plan.entries y) (place_of plan.entries x)) (market_lists.parent-is plan x)
     ∙ child_at_place plan.entries x x_node.0 (omega (arith, x_node.1, length-parents_of plan.entries))
 
-pub placed : (plan : PlanData) → IsPlan plan → (x : ℕ) → IsNode (plan_lists plan) x → place_of plan.entries x < length (children_of plan.entries (parent (plan_lists plan) x))
+pub placed : (plan : PlanData) → IsPlan plan → (x : ℕ) → IsNode (plan_lists plan) x →
+    place_of plan.entries x < length (children_of plan.entries (parent (plan_lists plan) x))
 placed plan is_plan x x_node = slice_get_inside (children_of plan.entries (parent (plan_lists plan) x)) (place_of plan.entries x) x (at_place plan x x_node)
   where
     slice_get_inside : (xs : List ℕ) (k v : ℕ) → slice_get xs k ≡ Some v → k < length xs
@@ -75,12 +78,14 @@ placed plan is_plan x x_node = slice_get_inside (children_of plan.entries (paren
     slice_get_inside (y ∷ xs) zero v here = omega arith
     slice_get_inside (y ∷ xs) (suc k) v here = omega (arith, slice_get_inside xs k v here)
 
-pub child_in_place : (plan : PlanData) → IsPlan plan → (x : ℕ) → IsNode (plan_lists plan) x → child_at plan (parent (plan_lists plan) x) (place_of plan.entries x) ≡ x
+pub child_in_place : (plan : PlanData) → IsPlan plan → (x : ℕ) → IsNode (plan_lists plan) x →
+    child_at plan (parent (plan_lists plan) x) (place_of plan.entries x) ≡ x
 child_in_place plan is_plan x x_node =
     get_or_from_slice_get (children_of plan.entries (parent (plan_lists plan) x)) (place_of plan.entries x) x 0 (at_place plan x x_node)
 
 -- of a list with at most one more, an element stands before, or is the one more
-among_more : (xs : List ℕ) (last k v : ℕ) (more : Bool) → slice_get (xs ++ (if more then last ∷ [] else [])) k ≡ Some v → (slice_get xs k ≡ Some v) ⊎ (v ≡ last)
+among_more : (xs : List ℕ) (last k v : ℕ) (more : Bool) → slice_get (xs ++ (if more then last ∷ [] else [])) k ≡ Some v →
+    (slice_get xs k ≡ Some v) ⊎ (v ≡ last)
 among_more [] last k v false here = (cc)
 among_more [] last zero v true here = inr (cc)
 among_more [] last (suc k) v true here = (cc)
@@ -88,7 +93,8 @@ among_more (x ∷ xs) last zero v more here = inl here
 among_more (x ∷ xs) last (suc k) v more here = among_more xs last k v more here
 
 -- the children of a node are among the nodes
-child_inside : (parents : List ℕ) (count y k child : ℕ) → slice_get (children_among parents count y) k ≡ Some child → (1 ≤ child) × (child ≤ count)
+child_inside : (parents : List ℕ) (count y k child : ℕ) → slice_get (children_among parents count y) k ≡ Some child →
+    (1 ≤ child) × (child ≤ count)
 child_inside parents zero y k child here = (cc)
 child_inside parents (suc count) y k child here =
     let next : suc count ≡ count + 1 = omega arith in
@@ -118,8 +124,10 @@ one_place plan is_plan x y x_node y_node e f =
     ∙ ap (child_at plan (parent (plan_lists plan) y)) f ∙ child_in_place plan is_plan y y_node
 
 -- what holds of the parent and the place of a node holds of the numbers that were read of them, and the other way round
-pub at_node : (plan : PlanData) (x y k : ℕ) (P : ℕ → ℕ → Type 0) → y ≡ parent (plan_lists plan) x → k ≡ place_of plan.entries x → P y k → P (parent (plan_lists plan) x) (place_of plan.entries x)
+pub at_node : (plan : PlanData) (x y k : ℕ) (P : ℕ → ℕ → Type 0) → y ≡ parent (plan_lists plan) x → k ≡ place_of plan.entries x →
+    P y k → P (parent (plan_lists plan) x) (place_of plan.entries x)
 at_node plan x y k P e f h = subst (λ (j : ℕ). P (parent (plan_lists plan) x) j) f (subst (λ (i : ℕ). P i k) e h)
 
-pub from_node : (plan : PlanData) (x y k : ℕ) (P : ℕ → ℕ → Type 0) → y ≡ parent (plan_lists plan) x → k ≡ place_of plan.entries x → P (parent (plan_lists plan) x) (place_of plan.entries x) → P y k
+pub from_node : (plan : PlanData) (x y k : ℕ) (P : ℕ → ℕ → Type 0) → y ≡ parent (plan_lists plan) x → k ≡ place_of plan.entries x →
+    P (parent (plan_lists plan) x) (place_of plan.entries x) → P y k
 from_node plan x y k P e f h = subst (λ (j : ℕ). P y j) (sym f) (subst (λ (i : ℕ). P i (place_of plan.entries x)) (sym e) h)

@@ -1,5 +1,6 @@
 -- A concentrator publishes: the core stands for the state after it.
-use Rattle.std.proofs.Common.{◌≡◌, ◌∙◌, sym, ap, subst, ℕ, ◌+◌, ◌<◌, ◌≤◌, true, false, not, cond, eqb, List, [], length, get_or, Option, Some, arith, inl, inr}
+use Rattle.std.proofs.Common.{◌≡◌, ◌∙◌, sym, ap, subst, ℕ, ◌+◌, ◌<◌, ◌≤◌, true, false, not, cond, eqb, List, [], length, get_or}
+use Rattle.std.proofs.Common.{Option, Some, arith, inl, inr}
 use Rattle.std.proofs.lemmas.Bool.{cases_eq, cases_Bool, ne_eqb}
 use Rattle.std.proofs.lemmas.List.{ext_get_or}
 use Rattle.pm_base.specs.Cuts.{Cut}
@@ -55,7 +56,8 @@ module _ (plan : PlanData) (is_plan : IsPlan plan) (c : Core) (s : State) (stand
       let z : ℕ = child_at plan x k in
       let conc' : IsConcentrator (plan_lists plan) (parent (plan_lists plan) z) = subst (λ (i : ℕ). IsConcentrator (plan_lists plan) i) (sym at.1) conc in (
         (at.0, at.1),
-        ap (λ (i : ℕ). head_at (node_cache c x).heads i) (sym at.2) ∙ ap (λ (i : ℕ). head_at (node_cache c i).heads (place_of plan.entries z)) (sym at.1)
+        ap (λ (i : ℕ). head_at (node_cache c x).heads i) (sym at.2)
+            ∙ ap (λ (i : ℕ). head_at (node_cache c i).heads (place_of plan.entries z)) (sym at.1)
             ∙ stands.heads z at.0,
         ap (λ (i : ℕ). head_at (published_heads (concentrator_of c x)) i) (sym at.2)
             ∙ ap (λ (i : ℕ). head_at (published_heads (concentrator_of c i)) (place_of plan.entries z)) (sym at.1) ∙ stands.newest_heads z at.0 conc'
@@ -78,7 +80,8 @@ module _ (plan : PlanData) (is_plan : IsPlan plan) (c : Core) (s : State) (stand
   known_from_same e = (known_heads (plan_lists plan) (lawful plan is_plan) s stands.sound x conc.2).1 (λ z node up.
       let conc' : IsConcentrator (plan_lists plan) (parent (plan_lists plan) z) = subst (λ (i : ℕ). IsConcentrator (plan_lists plan) i) (sym up) conc in
       let learnt = ap (λ (i : ℕ). head_at (node_cache c i).heads (place_of plan.entries z)) (sym up) ∙ stands.heads z node in
-      let newest_heads = ap (λ (i : ℕ). head_at (published_heads (concentrator_of c i)) (place_of plan.entries z)) (sym up) ∙ stands.newest_heads z node conc'
+      let newest_heads = ap (λ (i : ℕ). head_at (published_heads (concentrator_of c i)) (place_of plan.entries z)) (sym up)
+      ∙ stands.newest_heads z node conc'
       ∙ ap (λ (i : ℕ). head_for (plan_lists plan) z (number (plan_lists plan) s z (cut_at (s.published i) (length (s.published i))))) up in
       ap (λ (h : BidHead). h.number) (sym newest_heads ∙ ap (λ hs. head_at hs (place_of plan.entries z)) (sym e) ∙ learnt))
 
@@ -171,7 +174,11 @@ module _ (plan : PlanData) (is_plan : IsPlan plan) (c : Core) (s : State) (stand
       ap aggregate_of (sym the_cache) ∙ ap (λ (k : ℕ). sum_of k (node_cache c x).demands) (stands.shaped.cache_steps x conc.1 conc.2)
       ∙ ap (sum_of plan.basis.steps) (demands_are plan is_plan c s stands x conc.1 conc.2)
 
-  new_agrees : (b : UpBid) → b ≡ record { number = n; gone = false; demand = within_limits (concentrator_of c x).limits (aggregate_of (concentrator_of c x).cache) } →
+  new_agrees : (b : UpBid) → b ≡ record {
+    number = n;
+    gone = false;
+    demand = within_limits (concentrator_of c x).limits (aggregate_of (concentrator_of c x).cache);
+  } →
       BidAgrees plan after_state x b
   new_agrees b is = let number_b : b.number ≡ n = ap (λ (u : UpBid). u.number) is in record {
     above = omega (arith, number_b, number_is, stands.sound.learnt_within x node, newest_is);
@@ -194,7 +201,8 @@ module _ (plan : PlanData) (is_plan : IsPlan plan) (c : Core) (s : State) (stand
   window_kept : (y : ℕ) → (y ≡ x → ⊥) → (concentrator_of after_core y).window ≡ (concentrator_of c y).window
   window_kept y ne = ap (λ (g : Gathered). g.window) (alone.others y ne)
 
-  cleared_number : (y j : ℕ) → IsNode lists y → j ≤ clearings s → number lists after_state y (cleared after_state j) ≡ number lists s y (cleared s j)
+  cleared_number : (y j : ℕ) → IsNode lists y → j ≤ clearings s → number lists after_state y (cleared after_state j)
+      ≡ number lists s y (cleared s j)
   cleared_number y j y_node le = number_cleared lists law s stands.sound x conc.2 sound' y j y_node le
 
   cleared_is : (j : ℕ) → j ≤ clearings s → cleared after_state j ≡ cleared s j
@@ -271,7 +279,8 @@ module _ (plan : PlanData) (is_plan : IsPlan plan) (c : Core) (s : State) (stand
       cache_demands = λ y le inner. ap (λ (q : Cache). length q.demands) (cache_kept y) ∙ stands.shaped.cache_demands y le inner;
       published_count = λ y conc_y. elim (cases_eq y x) [
         | inl e ↦
-            ap (λ (g : Gathered). length (published_heads g)) (gathered_new y e) ∙ ap length new_heads ∙ ap (λ (q : Cache). length q.heads) (sym the_cache)
+            ap (λ (g : Gathered). length (published_heads g)) (gathered_new y e) ∙ ap length new_heads
+            ∙ ap (λ (q : Cache). length q.heads) (sym the_cache)
             ∙ stands.shaped.cache_heads x conc.1 conc.2 ∙ ap (λ (i : ℕ). length (children_of plan.entries i)) (sym e)
         | inr ne ↦ ap (λ (g : Gathered). length (published_heads g)) (alone.others y ne) ∙ stands.shaped.published_count y conc_y
       ];
@@ -352,7 +361,8 @@ module _ (plan : PlanData) (is_plan : IsPlan plan) (c : Core) (s : State) (stand
           ∙ elim (cases_eq k n) [
             | inl is ↦
                 ap (λ (i : ℕ). (record_of (gathered_at concentrators x).window i).sum) is ∙ ap (λ r. r.sum) made.sent.at
-                ∙ ap (λ l. sum_kept l (aggregate_of (concentrator_of c x).cache)) (stands.shaped.same_limits x conc) ∙ ap (sum_kept (limits_at plan x)) the_sum
+                ∙ ap (λ l. sum_kept l (aggregate_of (concentrator_of c x).cache)) (stands.shaped.same_limits x conc)
+                ∙ ap (sum_kept (limits_at plan x)) the_sum
                 ∙ ap (λ (a : Cut). sum_kept (limits_at plan x) (children_sum plan x a))
                 (sym (cut_at_last lists law s stands.sound x conc.2 sound' k (omega (arith, is, number_is))))
             | inr ne ↦

@@ -52,7 +52,8 @@ module _ (plan : PlanData) (is_plan : IsPlan plan) (c : Core) (s : State) (stand
       ∙ newest_leaf lists s.counts s.published d leaf)
       ∙ sym (demand_is plan s.counts d)
 
-  none_asked : (d : ℕ) → IsLeaf lists d → is_member lists d (s.counts d) ≡ false → demand_in_cut plan (state plan) s.counts d ≡ zeros plan.basis.steps
+  none_asked : (d : ℕ) → IsLeaf lists d → is_member lists d (s.counts d) ≡ false → demand_in_cut plan (state plan) s.counts d
+      ≡ zeros plan.basis.steps
   unfolding demand_in_cut
   none_asked d leaf out = cond-false (plans.is_member plan d (s.counts d)) _ (zeros plan.basis.steps) (sym (same_member plan s c d is_plan stands leaf) ∙ out)
 
@@ -60,10 +61,12 @@ module _ (plan : PlanData) (is_plan : IsPlan plan) (c : Core) (s : State) (stand
   power_of : (d : ℕ) → IsLeaf lists d → (member : Bool) → is_member lists d (s.counts d) ≡ member →
       power_by (held_price plan s d) (demand_in_cut plan (state plan) s.counts d) ≡ power plan (state plan) s.counts d
   unfolding power
-  power_of d leaf true is = ap (λ (h : Option Held). power_by h (demand_in_cut plan (state plan) s.counts d)) (held_current plan is_plan c s stands idle d leaf is)
+  power_of d leaf true is =
+      ap (λ (h : Option Held). power_by h (demand_in_cut plan (state plan) s.counts d)) (held_current plan is_plan c s stands idle d leaf is)
   power_of d leaf false is =
       ap (λ (h : Option Held). power_by h (demand_in_cut plan (state plan) s.counts d)) (none_held plan s d is)
-      ∙ sym (ap (λ (demand : List ℤ). demand_at demand (local plan (state plan) s.counts d)) (none_asked d leaf is) ∙ zeros-at plan.basis.steps (local plan (state plan) s.counts d))
+      ∙ sym (ap (λ (demand : List ℤ). demand_at demand (local plan (state plan) s.counts d)) (none_asked d leaf is)
+      ∙ zeros-at plan.basis.steps (local plan (state plan) s.counts d))
 
   power_current_at : (d : ℕ) → IsLeaf lists d → kept_power plan c d ≡ power plan (state plan) s.counts d
   power_current_at d leaf =
@@ -77,7 +80,11 @@ module _ (plan : PlanData) (is_plan : IsPlan plan) (c : Core) (s : State) (stand
       let sum_is : aggregate_of (concentrator_of c g).cache ≡ sum_in plan (state plan) s.counts g =
       ap aggregate_of (sym (cache_inner c.auctioneer c.concentrators g (λ e. omega (arith, conc.0))))
       ∙ sum_current plan is_plan c s stands idle g conc.1 conc.2 ∙ sym (limited_sum plan is_plan g s.counts limited) in
-      ap (λ (sum : List ℤ). record { node = g; step = local_step (limits_at plan g) c.auctioneer.step sum; total = demand_at sum (local_step (limits_at plan g) c.auctioneer.step sum) }) sum_is
+      ap (λ (sum : List ℤ). record {
+        node = g;
+        step = local_step (limits_at plan g) c.auctioneer.step sum;
+        total = demand_at sum (local_step (limits_at plan g) c.auctioneer.step sum);
+      }) sum_is
       ∙ ap (λ (k : ℕ). record {
         node = g;
         step = local_step (limits_at plan g) k (sum_in plan (state plan) s.counts g);
@@ -85,7 +92,8 @@ module _ (plan : PlanData) (is_plan : IsPlan plan) (c : Core) (s : State) (stand
       }) (step_current plan is_plan c s stands idle)
 
 -- the power that a device takes by its held price is that of the plain auction
-pub power_current : (plan : PlanData) (c : Core) (s : State) (d : ℕ) → IsPlan plan → StandsFor plan c s → Idle (plan_lists plan) s → IsLeaf (plan_lists plan) d →
+pub power_current : (plan : PlanData) (c : Core) (s : State) (d : ℕ) → IsPlan plan → StandsFor plan c s → Idle (plan_lists plan) s →
+    IsLeaf (plan_lists plan) d →
     kept_power plan c d ≡ power plan (state plan) s.counts d
 power_current plan c s d is_plan stands idle leaf = power_current_at plan is_plan c s stands idle d leaf
 

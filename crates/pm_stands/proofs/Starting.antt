@@ -1,5 +1,6 @@
 -- A core that was just opened stands for the start.
-use Rattle.std.proofs.Common.{◌≡◌, ◌∙◌, sym, ap, ℕ, zero, suc, ◌+◌, ◌<◌, ◌≤◌, ℤ, pos, Bool, true, not, [], ◌∷◌, length, replicate, Option, Some}
+use Rattle.std.proofs.Common.{◌≡◌, ◌∙◌, sym, ap, ℕ, zero, suc, ◌+◌, ◌<◌, ◌≤◌, ℤ, pos, Bool, true, not, [], ◌∷◌, length}
+use Rattle.std.proofs.Common.{replicate, Option, Some}
 use Rattle.std.proofs.Common.{None, refl, arith, inl, inr}
 use Rattle.std.proofs.lemmas.Bool.{cases_Bool, cond-false}
 use Rattle.std.proofs.lemmas.List.{ext_get_or, get_or-map, length-map, length-replicate, get_or-replicate}
@@ -95,7 +96,8 @@ zero_offer plan is_plan cut none (suc far) x h node = zero_from plan is_plan cut
     zero_offer plan is_plan cut none far (child_at plan x k) (omega (arith, h, at.1, (lawful plan is_plan).earlier (child_at plan x k) at.0)) at.0)
 
 -- over a cut of zeros the children of a node offer nothing together
-pub sum_of_none : (plan : PlanData) → IsPlan plan → (y : ℕ) (cut : Cut) → ((d : ℕ) → cut d ≡ 0) → children_sum plan y cut ≡ zeros plan.basis.steps
+pub sum_of_none : (plan : PlanData) → IsPlan plan → (y : ℕ) (cut : Cut) → ((d : ℕ) → cut d ≡ 0) →
+    children_sum plan y cut ≡ zeros plan.basis.steps
 sum_of_none plan is_plan y cut none = sum_zeros plan y cut (λ k lt.
     let at = child_node plan is_plan y k lt in
     zero_offer plan is_plan cut none (nodes (plan_lists plan)) (child_at plan y k) (omega arith) at.0)

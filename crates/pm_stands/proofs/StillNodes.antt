@@ -43,7 +43,8 @@ no_move_from plan c s x is_plan stands still (Close k) mine legal = mine
 
 -- what holds of the links of all nodes holds of the links of one to its children
 of_children : (plan : PlanData) (c : Core) (x k : ℕ) → IsPlan plan → k < length (children_of plan.entries x) →
-    ((z : ℕ) → IsNode (plan_lists plan) z → parent (plan_lists plan) z ≡ x → Taken c (parent (plan_lists plan) z) (place_of plan.entries z)) → Taken c x k
+    ((z : ℕ) → IsNode (plan_lists plan) z → parent (plan_lists plan) z ≡ x →
+    Taken c (parent (plan_lists plan) z) (place_of plan.entries z)) → Taken c x k
 of_children plan c x k is_plan lt each =
     let at = child_node plan is_plan x k lt in
     let z : ℕ = child_at plan x k in

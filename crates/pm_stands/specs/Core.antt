@@ -103,7 +103,10 @@ pub record IsShaped (plan : PlanData) (c : Core) : Type 0 where
   pub link_steps : (x : ℕ) → IsNode (plan_lists plan) x → (uplink_of plan c x).steps ≡ plan.basis.steps
   pub there : (y : ℕ) → IsConcentrator (plan_lists plan) y → slice_index_or c.concentrators y None ≡ Some (concentrator_of c y)
   pub cache_steps : (y : ℕ) → y ≤ nodes (plan_lists plan) → IsInner (plan_lists plan) y → (node_cache c y).steps ≡ plan.basis.steps
-  pub cache_heads : (y : ℕ) → y ≤ nodes (plan_lists plan) → IsInner (plan_lists plan) y → length (node_cache c y).heads ≡ length (children_of plan.entries y)
-  pub cache_demands : (y : ℕ) → y ≤ nodes (plan_lists plan) → IsInner (plan_lists plan) y → length (node_cache c y).demands ≡ length (children_of plan.entries y)
-  pub published_count : (y : ℕ) → IsConcentrator (plan_lists plan) y → length (published_heads (concentrator_of c y)) ≡ length (children_of plan.entries y)
+  pub cache_heads : (y : ℕ) → y ≤ nodes (plan_lists plan) → IsInner (plan_lists plan) y →
+      length (node_cache c y).heads ≡ length (children_of plan.entries y)
+  pub cache_demands : (y : ℕ) → y ≤ nodes (plan_lists plan) → IsInner (plan_lists plan) y →
+      length (node_cache c y).demands ≡ length (children_of plan.entries y)
+  pub published_count : (y : ℕ) → IsConcentrator (plan_lists plan) y → length (published_heads (concentrator_of c y))
+      ≡ length (children_of plan.entries y)
   pub same_limits : (y : ℕ) → IsConcentrator (plan_lists plan) y → (concentrator_of c y).limits ≡ limits_at plan y

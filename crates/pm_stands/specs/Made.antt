@@ -24,7 +24,8 @@ abbrev pub bid_demand : Bool → List ℤ → Option (List ℤ)
 bid_demand gone demand = if gone then None else Some demand
 
 -- y took the bid that waited on the link of its child in place k, and learnt it
-pub record DidLearn (c : Core) (links : List (List Session)) (auctioneer : Auction) (concentrators : List (Option Gathered)) (bid : UpBid) (y k : ℕ) : Type 0 where
+pub record DidLearn (c : Core) (links : List (List Session)) (auctioneer : Auction) (concentrators : List (Option Gathered))
+    (bid : UpBid) (y k : ℕ) : Type 0 where
   pub taken : BidTaken (link_at c.links y k) (link_at links y k) bid
   pub one : OneLink c.links links y k
   pub learnt : EntryLearnt c.auctioneer auctioneer c.concentrators concentrators y k bid.number (bid_demand bid.gone bid.demand)
@@ -42,13 +43,15 @@ abbrev pub published_core : Core → List (List Session) → List (Option Gather
 published_core c links concentrators = record c { links = links; concentrators = concentrators }
 
 -- concentrator x, the child of y in place k, took the price that waited on its link, and passed it to its children
-pub record DidPass (c : Core) (x : ℕ) (between links : List (List Session)) (concentrators : List (Option Gathered)) (price : PriceUpdate) (y k : ℕ) : Type 0 where
+pub record DidPass (c : Core) (x : ℕ) (between links : List (List Session)) (concentrators : List (Option Gathered))
+    (price : PriceUpdate) (y k : ℕ) : Type 0 where
   pub taken : PriceTaken (link_at c.links y k) (link_at between y k) price
   pub one : OneLink c.links between y k
   pub passed : Passed (concentrator_of c x) (gathered_at concentrators x) price.number
   pub alone : OneConcentrator c.concentrators concentrators x
   pub offered : PricesOffered (record_of (concentrator_of c x).window price.number).heads
-      (passed_step (concentrator_of c x).limits price.step (record_of (concentrator_of c x).window price.number).sum) price.index (row_at between x) (row_at links x)
+      (passed_step (concentrator_of c x).limits price.step (record_of (concentrator_of c x).window price.number).sum) price.index
+      (row_at between x) (row_at links x)
   pub row : OneRow between links x
 
 -- what the code needs in order to pass the price on: the record of its number is kept, each child has its link, the
@@ -86,15 +89,18 @@ abbrev pub seat_after : Seat → Bool → Bool → ℕ → Seat
 seat_after seat before after n = cond after (cond before seat (record seat { joined = Some n })) (record seat { joined = None })
 
 -- device x, the child of y in place k, made its change n, and offered its bid
-pub record DidChange (plan : PlanData) (c : Core) (x n : ℕ) (links : List (List Session)) (counts : List ℕ) (states : List ℤ) (ports : List Seat) (y k : ℕ) : Type 0 where
+pub record DidChange (plan : PlanData) (c : Core) (x n : ℕ) (links : List (List Session)) (counts : List ℕ) (states : List ℤ)
+    (ports : List Seat) (y k : ℕ) : Type 0 where
   pub made : BidOffered (link_at c.links y k) (link_at links y k) (record { number = n; gone = is_gone (plan_lists plan) x n; demand = device_demand plan x n })
   pub one : OneLink c.links links y k
   pub same_counts : length counts ≡ length c.counts
   pub counted : (d : ℕ) → IsLeaf (plan_lists plan) d → slice_index_or counts d 0 ≡ updated (λ (e : ℕ). slice_index_or c.counts e 0) x n d
   pub same_states : length states ≡ length c.states
-  pub moved : (d : ℕ) → IsLeaf (plan_lists plan) d → slice_index_or states d (pos 0) ≡ updated (λ (e : ℕ). slice_index_or c.states e (pos 0)) x (state plan x n) d
+  pub moved : (d : ℕ) → IsLeaf (plan_lists plan) d →
+      slice_index_or states d (pos 0) ≡ updated (λ (e : ℕ). slice_index_or c.states e (pos 0)) x (state plan x n) d
   pub same_ports : length ports ≡ length c.ports
-  pub seated : seat_at ports x ≡ seat_after (seat_at c.ports x) (is_member (plan_lists plan) x (slice_index_or c.counts x 0)) (is_member (plan_lists plan) x n) n
+  pub seated : seat_at ports x ≡ seat_after (seat_at c.ports x) (is_member (plan_lists plan) x (slice_index_or c.counts x 0))
+      (is_member (plan_lists plan) x n) n
   pub others : (d : ℕ) → (d ≡ x → ⊥) → seat_at ports d ≡ seat_at c.ports d
 
 abbrev pub changed_core : Core → List (List Session) → List ℕ → List ℤ → List Seat → Core

@@ -63,7 +63,8 @@ pub record StandsFor (plan : PlanData) (c : Core) (s : State) : Type 0 where
   pub counts : (d : ℕ) → IsLeaf (plan_lists plan) d → slice_index_or c.counts d 0 ≡ s.counts d
   pub closed : c.closed ≡ s.closed
   pub states : (d : ℕ) → IsLeaf (plan_lists plan) d → slice_index_or c.states d (pos 0) ≡ state plan d (s.counts d)
-  pub powers : (d : ℕ) → IsLeaf (plan_lists plan) d → 0 < s.closed → slice_index_or c.powers d (pos 0) ≡ power plan (state plan) (end_cut plan s.closed) d
+  pub powers : (d : ℕ) → IsLeaf (plan_lists plan) d → 0 < s.closed →
+      slice_index_or c.powers d (pos 0) ≡ power plan (state plan) (end_cut plan s.closed) d
   -- at each parent the entry of the child: the number learnt last, and what the child offers over that number's part
   pub heads : (x : ℕ) → IsNode (plan_lists plan) x → head_of_child plan c x ≡ head_for (plan_lists plan) x (s.learnt x)
   pub demands : (x : ℕ) → IsNode (plan_lists plan) x → demand_of_child plan c x ≡ offer plan x (part (plan_lists plan) s x (s.learnt x))
@@ -78,15 +79,18 @@ pub record StandsFor (plan : PlanData) (c : Core) (s : State) : Type 0 where
   -- the window of a concentrator: the numbers from the one answered last to the newest; of each record the children's
   -- numbers, and the sum where there are limits; and the newest record's numbers, at first those of the opening
   pub window_last : (y : ℕ) → IsConcentrator (plan_lists plan) y → (concentrator_of c y).window.last ≡ newest (plan_lists plan) s y
-  pub window_answered : (y : ℕ) → IsConcentrator (plan_lists plan) y → (concentrator_of c y).window.answered ≡ number (plan_lists plan) s y (cleared s (last s y))
-  pub records : (x n : ℕ) → IsNode (plan_lists plan) x → IsConcentrator (plan_lists plan) (parent (plan_lists plan) x) → Keeps (concentrator_of c (parent (plan_lists plan) x)).window n →
+  pub window_answered : (y : ℕ) → IsConcentrator (plan_lists plan) y →
+      (concentrator_of c y).window.answered ≡ number (plan_lists plan) s y (cleared s (last s y))
+  pub records : (x n : ℕ) → IsNode (plan_lists plan) x → IsConcentrator (plan_lists plan) (parent (plan_lists plan) x) →
+      Keeps (concentrator_of c (parent (plan_lists plan) x)).window n →
       head_at (record_of (concentrator_of c (parent (plan_lists plan) x)).window n).heads (place_of plan.entries x)
       ≡ head_for (plan_lists plan) x (number (plan_lists plan) s x (cut_at (s.published (parent (plan_lists plan) x)) n))
   pub sums : (y n : ℕ) → IsConcentrator (plan_lists plan) y → Keeps (concentrator_of c y).window n →
       (record_of (concentrator_of c y).window n).sum ≡ sum_kept (limits_at plan y) (children_sum plan y (cut_at (s.published y) n))
   pub newest_heads : (x : ℕ) → IsNode (plan_lists plan) x → IsConcentrator (plan_lists plan) (parent (plan_lists plan) x) →
       head_at (published_heads (concentrator_of c (parent (plan_lists plan) x))) (place_of plan.entries x)
-      ≡ head_for (plan_lists plan) x (number (plan_lists plan) s x (cut_at (s.published (parent (plan_lists plan) x)) (length (s.published (parent (plan_lists plan) x)))))
+      ≡ head_for (plan_lists plan) x (number (plan_lists plan) s x
+      (cut_at (s.published (parent (plan_lists plan) x)) (length (s.published (parent (plan_lists plan) x)))))
   -- the auctioneer: the index and the step of the last clearing, and whether something was learnt since
   pub index : c.auctioneer.index ≡ clearings s
   pub auction_step : c.auctioneer.step ≡ cond (clearings s == 0) 0 (clearing_step (children_sum plan 0 (cleared s (clearings s))))

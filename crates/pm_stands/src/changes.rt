@@ -18,7 +18,8 @@ use pm_market::Move;
 /// A device that makes a change that is legal, and offers its bid, makes the move.
 #[tactic(auto, using(crate::proofs::Changing::change_made))]
 pub fn changing_keeps_the_market()
-    ensures made { (plan : PlanData) (c : Core) (s : State) (x n : ℕ) (links : List (List Session)) (counts : List ℕ) (states : List ℤ) (ports : List Seat) →
+    ensures made { (plan : PlanData) (c : Core) (s : State) (x n : ℕ) (links : List (List Session)) (counts : List ℕ)
+        (states : List ℤ) (ports : List Seat) →
         IsPlan plan → StandsFor plan c s → Legal (plan_lists plan) s (Move.Change x n) →
         DidChange plan c x n links counts states ports (parent (plan_lists plan) x) (place_of plan.entries x) →
         MakesMove plan (changed_core c links counts states ports) s (Move.Change x n) }

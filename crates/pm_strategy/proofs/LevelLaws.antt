@@ -15,7 +15,8 @@ before-up_to power end step = rw (below_next step end)
 below_middle : (step : ℕ) (middle spread : ℤ) → int_lt (pos step) (middle -ℤ spread) ≡ int_lt (pos step +ℤ spread) middle
 below_middle step middle spread = grind (arith, ints)
 
-choose_swapped : (at_most above : Bool) (x y : ℤ) → (at_most ≡ true → above ≡ false) → (at_most ≡ false → above ≡ true) → (if at_most then x else y) ≡ (if above then y else x)
+choose_swapped : (at_most above : Bool) (x y : ℤ) → (at_most ≡ true → above ≡ false) → (at_most ≡ false → above ≡ true) →
+    (if at_most then x else y) ≡ (if above then y else x)
 choose_swapped true true x y low high = absurd (let h = low refl in cc)
 choose_swapped true false x y low high = refl
 choose_swapped false true x y low high = refl
@@ -27,7 +28,9 @@ not_above step end h = grind (arith, ints)
 is_above : (step : ℕ) (end : ℤ) → int_lt (pos step) (end +ℤ pos 1) ≡ false → int_lt end (pos step) ≡ true
 is_above step end h = grind (arith, ints)
 
-pub around-levels : (middle charge discharge spread : ℤ) (step : ℕ) → (if int_lt (pos step) (middle -ℤ spread) then charge else (if int_lt (pos step) ((middle +ℤ spread) +ℤ pos 1) then pos 0 else neg_ℤ discharge)) ≡ around middle charge discharge spread step
+pub around-levels : (middle charge discharge spread : ℤ) (step : ℕ) →
+    (if int_lt (pos step) (middle -ℤ spread) then charge else
+    (if int_lt (pos step) ((middle +ℤ spread) +ℤ pos 1) then pos 0 else neg_ℤ discharge)) ≡ around middle charge discharge spread step
 around-levels middle charge discharge spread step =
     rw (
       below_middle step middle spread,

@@ -7,7 +7,8 @@ use Rattle.pm_device.specs.Ticks.{floor_div}
 use Rattle.pm_strategy.specs.Steps.{last_limit}
 
 -- a part times the last step
-pub product_within : (part : ℤ) (last : ℕ) → pos 0 ≤ℤ part → part ≤ℤ pos demand_limit → last ≤ last_limit → IsWithin (demand_limit * last_limit) (part *ℤ pos last)
+pub product_within : (part : ℤ) (last : ℕ) → pos 0 ≤ℤ part → part ≤ℤ pos demand_limit → last ≤ last_limit →
+    IsWithin (demand_limit * last_limit) (part *ℤ pos last)
 product_within (pos n) last low high small =
     let part_small : n ≤ demand_limit = omega (arith, ints) in
     let product : n * last ≤ demand_limit * last_limit = mul-le-mul part_small small in

@@ -17,11 +17,15 @@ pub by_step-same : (steps : ℕ) (f g : ℕ → ℤ) → ((step : ℕ) → f ste
 by_step-same steps f g same = ap (by_step steps) (fun_ext same)
 
 -- a list of demands within the limit, and one of demands that never rise
-pub by_step-within : (steps : ℕ) (demand : ℕ → ℤ) → ((step : ℕ) → IsWithin demand_limit (demand step)) → AllWithinLimit demand_limit (by_step steps demand)
+pub by_step-within : (steps : ℕ) (demand : ℕ → ℤ) → ((step : ℕ) → IsWithin demand_limit (demand step)) →
+    AllWithinLimit demand_limit (by_step steps demand)
 by_step-within steps demand within = λ step inside.
     let P : ℤ → Type 0 = λ z. IsWithin demand_limit z in
     subst P (sym (by_step-at steps demand step (omega (arith, length-by_step steps demand)))) (within step)
 
 pub by_step-falls : (steps : ℕ) (demand : ℕ → ℤ) → ((step : ℕ) → demand (step + 1) ≤ℤ demand step) → NeverRises (by_step steps demand)
 by_step-falls steps demand falls = λ step inside.
-    rw (by_step-at steps demand (step + 1) (omega (arith, length-by_step steps demand)), by_step-at steps demand step (omega (arith, length-by_step steps demand))) (falls step)
+    rw (
+      by_step-at steps demand (step + 1) (omega (arith, length-by_step steps demand)),
+      by_step-at steps demand step (omega (arith, length-by_step steps demand)),
+    ) (falls step)

@@ -1,5 +1,6 @@
 -- The number that digits write grows with each digit.
-use Rattle.std.proofs.Common.{◌≡◌, ◌∙◌, sym, ap, ℕ, ◌+◌, ◌<◌, ◌≤◌, List, [], ◌∷◌, take, drop, length, get_or, refl, arith, false, None}
+use Rattle.std.proofs.Common.{◌≡◌, ◌∙◌, sym, ap, ℕ, ◌+◌, ◌<◌, ◌≤◌, List, [], ◌∷◌, take, drop, length, get_or, refl, arith}
+use Rattle.std.proofs.Common.{false, None}
 use Rattle.std.specs.Prelude.{nat_le}
 use Rattle.std.proofs.lemmas.Bool.Decides.{nat_tests}
 use Rattle.std.specs.List.{fold}
@@ -18,7 +19,8 @@ front_is_least digits n =
     let rest = grows (value_of (take n digits)) (drop n digits) in
     omega (arith, all, rest)
 
-pub one_digit_more : (digits : List ℕ) (n : ℕ) (d : ℕ) → n < length digits → value_of (take (n + 1) digits) ≡ with_digit (value_of (take n digits)) (get_or digits n d)
+pub one_digit_more : (digits : List ℕ) (n : ℕ) (d : ℕ) → n < length digits →
+    value_of (take (n + 1) digits) ≡ with_digit (value_of (take n digits)) (get_or digits n d)
 one_digit_more digits n d inside = fold_more with_digit 0 digits n d inside
 
 pub too_great : (high : ℕ) (digits : List ℕ) → high < value_of digits → value_up_to high digits ≡ None

@@ -1,5 +1,6 @@
 -- What is given for an input is due, with the status for it.
-use Rattle.std.proofs.Common.{◌≡◌, ◌≢◌, ◌∙◌, ◌⊎◌, ℕ, ◌-◌, ◌<◌, ◌≤◌, List, ◌++◌, length, Option, Some, None, IfSome, sym, ap, subst, refl, inl, inr, arith, append-nil}
+use Rattle.std.proofs.Common.{◌≡◌, ◌≢◌, ◌∙◌, ◌⊎◌, ℕ, ◌-◌, ◌<◌, ◌≤◌, List, ◌++◌, length, Option, Some, None, IfSome}
+use Rattle.std.proofs.Common.{sym, ap, subst, refl, inl, inr, arith, append-nil}
 use Rattle.std.proofs.lemmas.List.{length-take}
 use Rattle.std.specs.Io.KnownBytes.{Appends, Consumes, IsAtEnd}
 use Rattle.pm_io.specs.Taken.{TookMore}
@@ -20,7 +21,8 @@ pub summary_is_due : (old new : Option (List ℕ)) (command : Option Command) (s
 summary_is_due old new command size number status text asks done is = subst (λ (s : Status). IsDue command old new s text) (sym done)
     (summary size number text asks is)
 
-pub left_done : (status : Status) → (status ≡ Done) ⊎ (status ≡ WriteFault) ⊎ (status ≡ NoMemory) → status ≢ WriteFault → status ≢ NoMemory → status ≡ Done
+pub left_done : (status : Status) → (status ≡ Done) ⊎ (status ≡ WriteFault) ⊎ (status ≡ NoMemory) → status ≢ WriteFault →
+    status ≢ NoMemory → status ≡ Done
 left_done status (inl done) no_fault no_failure = done
 left_done status (inr (inl fault)) no_fault no_failure = absurd (no_fault fault)
 left_done status (inr (inr failure)) no_fault no_failure = absurd (no_failure failure)
@@ -35,7 +37,8 @@ given_is_due command old new before after due status text given is same (told, a
 -- where the sink failed, a prefix of what is due was written
 pub prefix_is_due : (command : Option Command) (old new before after : Option (List ℕ)) (due : Status) (text given : List ℕ) →
     IsDue command old new due text →
-    given ≡ text → WrotePrefix before after given → (due' : Status) × ((text' : List ℕ) × IsDue command old new due' text' × WrotePrefix before after text')
+    given ≡ text → WrotePrefix before after given → (due' : Status)
+    × ((text' : List ℕ) × IsDue command old new due' text' × WrotePrefix before after text')
 prefix_is_due command old new before after due text given is same wrote = (due, (text, is, subst (WrotePrefix before after) same wrote))
 
 -- what a service appended is due, unless it failed
@@ -75,7 +78,8 @@ answers_by asked result due (Some input) (inl told) same = λ status has. inl (t
 answers_by asked result due (Some input) (inr fault) same = λ status has. inr (inr (inl fault))
 
 read_status : (asked : FileCommand) (old : Option (List ℕ)) (bytes : List ℕ) (due : Status) (text : List ℕ) → IfSome old (λ input. bytes ≡ input) →
-    length bytes ≤ input_limit asked → IsAnswer asked bytes due text → IfSome old (λ input. (status : Status) → HasStatus asked input status → due ≡ status)
+    length bytes ≤ input_limit asked → IsAnswer asked bytes due text →
+    IfSome old (λ input. (status : Status) → HasStatus asked input status → due ≡ status)
 read_status asked None bytes due text same short answer = tt
 read_status asked (Some input) bytes due text same short answer = λ status has.
     one_status asked bytes status due text short (subst (λ (i : List ℕ). HasStatus asked i status) (sym same) has) answer
@@ -106,7 +110,8 @@ long_answers asked old new result more given = answers_by asked result TooLong o
 pub completes : (asked : FileCommand) (old : Option (List ℕ)) (result : Status) (read write : Type 0) → IfSome old (Answers asked result) →
     (result ≡ ReadFault → read) →
     (result ≡ WriteFault → write) →
-    IfSome old (λ input. (status : Status) → HasStatus asked input status → (read → ⊥) → (write → ⊥) → (result ≡ NoMemory) ⊎ (result ≡ status))
+    IfSome old (λ input. (status : Status) → HasStatus asked input status → (read → ⊥) → (write → ⊥) → (result ≡ NoMemory)
+    ⊎ (result ≡ status))
 completes asked None result read write answers at_read at_write = tt
 completes asked (Some input) result read write answers at_read at_write = λ status has no_read no_write. elim (answers status has) [
   | inl told ↦ inr told

@@ -27,11 +27,14 @@ first_inside limit bid steps long some = omega arith
 last_inside : (limit : ℤ) (bid : List ℤ) (steps : ℕ) → length bid ≡ steps → 1 ≤ steps → last_at_least limit bid < steps
 last_inside limit bid steps long some = omega arith
 
-local_inside : (limits : Option Limits) (k steps : ℕ) (sum : List ℤ) → length sum ≡ steps → 1 ≤ steps → k < steps → local_step limits k sum < steps
+local_inside : (limits : Option Limits) (k steps : ℕ) (sum : List ℤ) → length sum ≡ steps → 1 ≤ steps → k < steps →
+    local_step limits k sum < steps
 local_inside None k steps sum long some inside = inside
 local_inside (Some limits) k steps sum long some inside =
-    chosen (λ (j : ℕ). j < steps) (int_lt limits.ceiling (demand_at sum k)) (first_at_most limits.ceiling sum) _ (first_inside limits.ceiling sum steps long some)
-    (chosen (λ (j : ℕ). j < steps) (int_lt (demand_at sum k) limits.floor) (last_at_least limits.floor sum) k (last_inside limits.floor sum steps long some) inside)
+    chosen (λ (j : ℕ). j < steps) (int_lt limits.ceiling (demand_at sum k)) (first_at_most limits.ceiling sum) _
+    (first_inside limits.ceiling sum steps long some)
+    (chosen (λ (j : ℕ). j < steps) (int_lt (demand_at sum k) limits.floor) (last_at_least limits.floor sum) k
+    (last_inside limits.floor sum steps long some) inside)
 
 -- the numbers of nodes
 each_number : (n : ℕ) → All (λ x. x ≤ n) (range_with_len 1 n)
@@ -63,7 +66,8 @@ limited-step : (plan : PlanData) (cut : Cut) (g : ℕ) → IsPlan plan → IsCut
 unfolding limited_line group_step
 limited-step plan cut g is within =
     let fit = fits plan cut is within in
-    local_inside (limits_of (node plan g)) (plain plan (state plan) cut) plan.basis.steps (sum_in plan (state plan) cut g) (sum_fits plan (state plan) cut g fit)
+    local_inside (limits_of (node plan g)) (plain plan (state plan) cut) plan.basis.steps (sum_in plan (state plan) cut g)
+    (sum_fits plan (state plan) cut g fit)
     (let some = is.basis.steps.least in omega arith) (plain-inside plan cut is within)
 
 pub end-is : (plan : PlanData) (cut : Cut) → IsPlan plan → IsCutOf plan cut → IsEndOf plan (end_of plan cut)
@@ -75,19 +79,23 @@ end-is plan cut is within =
     record {
       members =
           All-map (λ (line : MemberLine). line.node ≤ n) (member_line plan s cut) (filter (λ d. is_member plan d (cut d)) (node_numbers plan))
-          (All-filter (λ d. is_member plan d (cut d)) (λ d. (member_line plan s cut d).node ≤ n) (node_numbers plan) (λ i d inside. member-node plan cut (get_or (node_numbers plan) i d) (node_inside i d inside)));
+          (All-filter (λ d. is_member plan d (cut d)) (λ d. (member_line plan s cut d).node ≤ n) (node_numbers plan)
+          (λ i d inside. member-node plan cut (get_or (node_numbers plan) i d) (node_inside i d inside)));
       limited =
           All-map (λ (line : LimitedLine). line.node ≤ n) (limited_line plan s cut) (filter (is_limited plan) (node_numbers plan))
-          (All-filter (is_limited plan) (λ g. (limited_line plan s cut g).node ≤ n) (node_numbers plan) (λ i d inside. limited-node plan cut (get_or (node_numbers plan) i d) (node_inside i d inside)));
+          (All-filter (is_limited plan) (λ g. (limited_line plan s cut g).node ≤ n) (node_numbers plan)
+          (λ i d inside. limited-node plan cut (get_or (node_numbers plan) i d) (node_inside i d inside)));
       steps =
           All-map (λ (line : LimitedLine). line.step < plan.basis.steps) (limited_line plan s cut) (filter (is_limited plan) (node_numbers plan))
-          (All-filter (is_limited plan) (λ g. (limited_line plan s cut g).step < plan.basis.steps) (node_numbers plan) (λ i d inside. limited-step plan cut (get_or (node_numbers plan) i d) is within));
+          (All-filter (is_limited plan) (λ g. (limited_line plan s cut g).step < plan.basis.steps) (node_numbers plan)
+          (λ i d inside. limited-step plan cut (get_or (node_numbers plan) i d) is within));
     }
 
 pub ends-are : (plan : PlanData) → IsPlan plan → All (IsEndOf plan) (all_ends plan)
 ends-are plan is =
     All-map (IsEndOf plan) (λ p. end_of plan (end_cut plan p)) (range_with_len 1 (phases plan))
-    (λ i d inside. end-is plan (end_cut plan (get_or (range_with_len 1 (phases plan)) i d)) is (λ e low. end-within plan (get_or (range_with_len 1 (phases plan)) i d) e))
+    (λ i d inside. end-is plan (end_cut plan (get_or (range_with_len 1 (phases plan)) i d)) is
+    (λ e low. end-within plan (get_or (range_with_len 1 (phases plan)) i d) e))
 
 pub length-ends : (plan : PlanData) → length (all_ends plan) ≡ phases plan
 length-ends plan = length-map-range_with_len (λ p. end_of plan (end_cut plan p)) 1 (phases plan)

@@ -1,12 +1,14 @@
 -- A refusal's line stands in the sink only where the answer is that refusal.
-use Rattle.std.proofs.Common.{◌≡◌, ◌∙◌, ℕ, ◌-◌, ◌<◌, ◌≤◌, List, [], ◌∷◌, ◌++◌, length, take, Option, Some, IfSome, sym, ap, subst, arith, length-append, append-nil, inl, inr}
+use Rattle.std.proofs.Common.{◌≡◌, ◌∙◌, ℕ, ◌-◌, ◌<◌, ◌≤◌, List, [], ◌∷◌, ◌++◌, length, take, Option, Some, IfSome, sym}
+use Rattle.std.proofs.Common.{ap, subst, arith, length-append, append-nil, inl, inr}
 use Rattle.std.specs.Prelude.{codes, decimal}
 use Rattle.std.proofs.lemmas.List.{length-take}
 use Rattle.pm_plan.specs.declared.refusal.Refusal.{Refusal}
 use Rattle.pm_report.specs.Words.{text_line}
 use Rattle.pm_report.specs.Refusal.{refusal_line, place_text, item_words}
 use Rattle.pm_top.specs.Inputs.{input_limit, IsRefusalOf, is_refused}
-use Rattle.pm_top.specs.Top.{WrotePrefix, IsAnswer, refused, planned, valid, invalid, IsDue, usage, too_long, answered, summary, served, served_fault, served_long}
+use Rattle.pm_top.specs.Top.{WrotePrefix, IsAnswer, refused, planned, valid, invalid, IsDue, usage, too_long, answered, summary, served, served_fault}
+use Rattle.pm_top.specs.Top.{served_long}
 use Rattle.pm_top.specs.declared.arguments.Command.TheVariants.{File}
 use Rattle.pm_top.specs.declared.arguments.FileCommand.{FileCommand}
 use Rattle.pm_top.specs.declared.status.Status.{Status}
@@ -24,7 +26,8 @@ not_prefix : (before line : List ℕ) → WrotePrefix (Some before) (Some (befor
 not_prefix before line h = omega (arith, h.1, ap length h.2, length-append before line, length-append before (take h.0 line), length-take h.0 line)
 
 -- the answer to an input that is refused is the line of the refusal
-refusal_due : (asked : FileCommand) (input text : List ℕ) (status : Status) (r : Refusal) → IsRefusalOf asked input r → IsAnswer asked input status text →
+refusal_due : (asked : FileCommand) (input text : List ℕ) (status : Status) (r : Refusal) → IsRefusalOf asked input r →
+    IsAnswer asked input status text →
     text ≡ refusal_line r
 refusal_due asked input text status r is_r (refused other is) = ap refusal_line (one_refusal asked input other r is is_r)
 refusal_due asked input text status r is_r (planned plan rest targets written its_plan are text_is) = absurd

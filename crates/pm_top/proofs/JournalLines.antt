@@ -27,4 +27,5 @@ of_plan plan journal are i d inside = (are i d inside).of_plan
 
 pub traces_tell : (plan : PlanData) (a b : List Line) → IsPlan plan → IsJournal plan a → IsJournal plan b →
     trace_text plan (all_ends plan) a ≡ trace_text plan (all_ends plan) b → a ≡ b
-traces_tell plan a b is_plan is_a is_b same = same_journal plan (all_ends plan) a b is_plan (journal_lines plan is_plan a is_a) (journal_lines plan is_plan b is_b) same
+traces_tell plan a b is_plan is_a is_b same =
+    same_journal plan (all_ends plan) a b is_plan (journal_lines plan is_plan a is_a) (journal_lines plan is_plan b is_b) same

@@ -16,7 +16,8 @@ use Rattle.pm_top.specs.declared.status.Status.TheVariants.{TooLong}
 use Rattle.pm_check.specs.Traces.{IsValidTrace, IsBadLine}
 use Rattle.pm_check.proofs.Judgements.{not_both as not_judged_twice}
 use Rattle.pm_plan.specs.Kept.{IsPlan}
-use Rattle.pm_top.specs.Inputs.{input_limit, HasFile, HasPlan, AreAsked, IsRefusalOf, no_file, bad_file, bad_target, refusal_at, HasStatus, is_too_long, is_refused, is_done, is_valid, is_invalid, report_of}
+use Rattle.pm_top.specs.Inputs.{input_limit, HasFile, HasPlan, AreAsked, IsRefusalOf, no_file, bad_file, bad_target, refusal_at, HasStatus, is_too_long}
+use Rattle.pm_top.specs.Inputs.{is_refused, is_done, is_valid, is_invalid, report_of}
 use Rattle.pm_top.specs.Top.{IsAnswer, refused, planned, valid, invalid}
 
 -- an input has one file, and one rest behind it
@@ -64,7 +65,8 @@ one_refusal asked input a b (bad_target plan rest line asks its_plan bad) (bad_t
     ap (λ (n : ℕ). refusal_at (cause_code BadTarget) (Line n)) (one_line asked input plan plan' rest rest' line line' its_plan its_plan' bad bad')
 
 -- what is asked of a plan is no bad line
-no_bad_line : (asked : FileCommand) (rest : List ℕ) (targets : List ℤ) (line : ℕ) → asked ≡ Ask → AreAsked asked rest targets → IsFirstBadLine line rest → ⊥
+no_bad_line : (asked : FileCommand) (rest : List ℕ) (targets : List ℤ) (line : ℕ) → asked ≡ Ask → AreAsked asked rest targets →
+    IsFirstBadLine line rest → ⊥
 no_bad_line Run rest targets line asks are bad = absurd (cc)
 no_bad_line Trace rest targets line asks are bad = absurd (cc)
 no_bad_line Check rest targets line asks are bad = absurd (cc)
@@ -85,7 +87,8 @@ not_both asked input refusal plan rest targets (bad_target plan' rest' line asks
 -- ---- traces
 
 -- an input that is refused has no trace
-not_traced : (asked : FileCommand) (input : List ℕ) (refusal : Refusal) (plan : PlanData) (rest : List ℕ) → asked ≡ Check → IsRefusalOf asked input refusal →
+not_traced : (asked : FileCommand) (input : List ℕ) (refusal : Refusal) (plan : PlanData) (rest : List ℕ) → asked ≡ Check →
+    IsRefusalOf asked input refusal →
     HasPlan asked input plan rest → ⊥
 not_traced asked input refusal plan rest asks (no_file none) its_plan = none its_plan.file rest its_plan.has
 not_traced asked input refusal plan rest asks (bad_file file rest' r has is) its_plan = no_plan asked input file rest' rest r plan has is its_plan

@@ -18,16 +18,19 @@ use Rattle.pm_board.specs.Boards.{BoardValue, board_state}
 use Rattle.pm_runner.specs.Settled.{IsSettled}
 use Rattle.pm_top.specs.Top.{IsCompleteJournal, last_total}
 
-pub settled_ends : (plan : PlanData) (b : BoardValue) (ends : List EndValue) → b.plan ≡ plan → IsSettled b → ends ≡ b.ends → ends_of ends ≡ all_ends plan
+pub settled_ends : (plan : PlanData) (b : BoardValue) (ends : List EndValue) → b.plan ≡ plan → IsSettled b → ends ≡ b.ends →
+    ends_of ends ≡ all_ends plan
 settled_ends plan b ends same settled handed = ap ends_of handed ∙ settled.ends ∙ ap all_ends same
 
-pub settled_journal : (plan : PlanData) (b : BoardValue) (lines : List Line) → b.plan ≡ plan → IsSettled b → lines ≡ b.lines → IsCompleteJournal plan lines
+pub settled_journal : (plan : PlanData) (b : BoardValue) (lines : List Line) → b.plan ≡ plan → IsSettled b → lines ≡ b.lines →
+    IsCompleteJournal plan lines
 settled_journal plan b lines same settled handed =
     subst (λ (ls : List Line). IsCompleteJournal plan ls) (sym handed)
     (subst (λ (p : PlanData). IsCompleteJournal p b.lines) same (record { legal = settled.journal; complete = settled.complete }))
 
 -- all changes made are those at the end of the last phase
-last_counts : (b : BoardValue) → IsPlan b.plan → IsSettled b → (d : ℕ) → IsLeaf (plan_lists b.plan) d → (board_state b).counts d ≡ end_cut b.plan (phases b.plan) d
+last_counts : (b : BoardValue) → IsPlan b.plan → IsSettled b → (d : ℕ) → IsLeaf (plan_lists b.plan) d →
+    (board_state b).counts d ≡ end_cut b.plan (phases b.plan) d
 last_counts b is settled d leaf =
     let law = lawful b.plan is in
     let node = leaf_node (plan_lists b.plan) law d leaf in

@@ -8,7 +8,8 @@ alike_at xs ys i x y inside read reads same =
     read ∙ ap (λ zs. get_or zs i x) same ∙ sym (get_or_read ys i y inside reads x)
 
 -- lists that have the same elements before a place and at it have the same elements up to it
-pub alike_up_to : {X : Type 0} (xs ys : List X) (i : ℕ) (x y : X) → i < length xs → i < length ys → x ≡ get_or xs i x → y ≡ get_or ys i y → x ≡ y → take i xs ≡ take i ys → take (i + 1) xs ≡ take (i + 1) ys
+pub alike_up_to : {X : Type 0} (xs ys : List X) (i : ℕ) (x y : X) → i < length xs → i < length ys → x ≡ get_or xs i x →
+    y ≡ get_or ys i y → x ≡ y → take i xs ≡ take i ys → take (i + 1) xs ≡ take (i + 1) ys
 alike_up_to xs ys i x y inside within read reads same before =
     take_more_same xs ys i x inside within before (sym read ∙ same ∙ get_or_read ys i y within reads x)
 

@@ -1,5 +1,6 @@
 -- Nodes by name.
-use Rattle.std.proofs.Common.{◌≡◌, ℕ, ◌+◌, ◌<◌, ◌≤◌, Bool, true, false, cond, ◌&&◌, not, List, [], ◌∷◌, ◌++◌, length, map, Option, Some, None, is_some, unwrap_or, refl, sym, ap, ◌∙◌, arith, length-append, ◌||◌}
+use Rattle.std.proofs.Common.{◌≡◌, ℕ, ◌+◌, ◌<◌, ◌≤◌, Bool, true, false, cond, ◌&&◌, not, List, [], ◌∷◌, ◌++◌, length, map}
+use Rattle.std.proofs.Common.{Option, Some, None, is_some, unwrap_or, refl, sym, ap, ◌∙◌, arith, length-append, ◌||◌}
 use Rattle.std.specs.List.{list_any, list_all, position, position_or_len}
 use Rattle.std.specs.Str.{bytes_eq}
 use Rattle.std.proofs.lemmas.Bool.Decides.{nat_tests}
@@ -29,7 +30,8 @@ first_fails : {A : Type 0} (p : A → Bool) (x : A) (xs : List A) → p x ≡ fa
 first_fails p x xs is = ap (λ b. cond (not b) (1 + position_or_len p xs) 0) is
 
 -- where no element passes a test, none is found
-past_cons : {A : Type 0} (p : A → Bool) (x : A) (xs : List A) (b : Bool) → p x ≡ b → length (x ∷ xs) ≤ position_or_len p (x ∷ xs) → (length xs ≤ position_or_len p xs → list_any p xs ≡ false) → list_any p (x ∷ xs) ≡ false
+past_cons : {A : Type 0} (p : A → Bool) (x : A) (xs : List A) (b : Bool) → p x ≡ b → length (x ∷ xs) ≤ position_or_len p (x ∷ xs) →
+    (length xs ≤ position_or_len p xs → list_any p xs ≡ false) → list_any p (x ∷ xs) ≡ false
 past_cons p x xs true is past rest = let found = first_passes p x xs is in absurd (omega arith)
 past_cons p x xs false is past rest =
     let next = first_fails p x xs is in
@@ -47,14 +49,18 @@ pub list_any-position : {A : Type 0} (p : A → Bool) (xs : List A) → position
 list_any-position p xs none = past_none p xs (none_past p xs none)
 
 -- an element that is found stays so where more come after it
-found_cons : {A : Type 0} (p : A → Bool) (x : A) (xs ys : List A) (b : Bool) → p x ≡ b → position_or_len p (x ∷ xs) < length (x ∷ xs) → (position_or_len p xs < length xs → position_or_len p (xs ++ ys) ≡ position_or_len p xs) → position_or_len p (x ∷ (xs ++ ys)) ≡ position_or_len p (x ∷ xs)
+found_cons : {A : Type 0} (p : A → Bool) (x : A) (xs ys : List A) (b : Bool) → p x ≡ b →
+    position_or_len p (x ∷ xs) < length (x ∷ xs) →
+    (position_or_len p xs < length xs → position_or_len p (xs ++ ys) ≡ position_or_len p xs) →
+    position_or_len p (x ∷ (xs ++ ys)) ≡ position_or_len p (x ∷ xs)
 found_cons p x xs ys true is low rest = first_passes p x (xs ++ ys) is ∙ sym (first_passes p x xs is)
 found_cons p x xs ys false is low rest =
     let next = first_fails p x xs is in
     let inside : position_or_len p xs < length xs = omega arith in
     first_fails p x (xs ++ ys) is ∙ ap (λ n. 1 + n) (rest inside) ∙ sym next
 
-position_or_len-append : {A : Type 0} (p : A → Bool) (xs ys : List A) → position_or_len p xs < length xs → position_or_len p (xs ++ ys) ≡ position_or_len p xs
+position_or_len-append : {A : Type 0} (p : A → Bool) (xs ys : List A) → position_or_len p xs < length xs →
+    position_or_len p (xs ++ ys) ≡ position_or_len p xs
 position_or_len-append p [] ys low = absurd (omega arith)
 position_or_len-append p (x ∷ xs) ys low = found_cons p x xs ys (p x) refl low (position_or_len-append p xs ys)
 
@@ -73,7 +79,8 @@ position-append p xs ys some =
 pub names_of-append : (before more : List Entry) → names_of (before ++ more) ≡ names_of before ++ map (λ (e : Entry). e.name) more
 names_of-append before more = ap (λ names. auctioneer ∷ names) (map-append (λ (e : Entry). e.name) before more)
 
-pub node_named-append : (before more : List Entry) (name : List ℕ) → is_some (node_named before name) ≡ true → node_named (before ++ more) name ≡ node_named before name
+pub node_named-append : (before more : List Entry) (name : List ℕ) → is_some (node_named before name) ≡ true →
+    node_named (before ++ more) name ≡ node_named before name
 unfolding node_named
 node_named-append before more name some =
     ap (position (bytes_eq name)) (names_of-append before more)
@@ -104,11 +111,13 @@ are_named entries some = list_all (λ entry. is_some (node_named entries entry.p
 pub and_true : (a b : Bool) → (a && b) ≡ true → (a ≡ true) × (b ≡ true)
 and_true a b both = grind arith
 
-numbers-append : (before more some : List Entry) → are_named before some ≡ true → map (λ (e : Entry). number_named (before ++ more) e.parent) some ≡ map (λ (e : Entry). number_named before e.parent) some
+numbers-append : (before more some : List Entry) → are_named before some ≡ true →
+    map (λ (e : Entry). number_named (before ++ more) e.parent) some ≡ map (λ (e : Entry). number_named before e.parent) some
 numbers-append before more [] named = refl
 numbers-append before more (e ∷ some) named =
     let both = and_true (is_some (node_named before e.parent)) (are_named before some) named in
-    let first : number_named (before ++ more) e.parent ≡ number_named before e.parent = ap (λ o. unwrap_or o 0) (node_named-append before more e.parent both.0) in
+    let first : number_named (before ++ more) e.parent ≡ number_named before e.parent =
+    ap (λ o. unwrap_or o 0) (node_named-append before more e.parent both.0) in
     let rest = numbers-append before more some both.1 in
     (λ i. first i ∷ rest i)
 
@@ -120,18 +129,22 @@ are_named-append before more (e ∷ some) named =
     let rest = are_named-append before more some both.1 in
     (λ i. first i && rest i)
 
-pub are_named-more : (before : List Entry) (e : Entry) → are_named before before ≡ true → is_some (node_named before e.parent) ≡ true → are_named (before ++ e ∷ []) (before ++ e ∷ []) ≡ true
+pub are_named-more : (before : List Entry) (e : Entry) → are_named before before ≡ true →
+    is_some (node_named before e.parent) ≡ true → are_named (before ++ e ∷ []) (before ++ e ∷ []) ≡ true
 are_named-more before e named last =
     let first = are_named-append before (e ∷ []) before named in
-    let here : are_named (before ++ e ∷ []) (e ∷ []) ≡ true = ap (λ o. is_some o && true) (node_named-append before (e ∷ []) e.parent last) ∙ ap (λ b. b && true) last in
+    let here : are_named (before ++ e ∷ []) (e ∷ []) ≡ true =
+    ap (λ o. is_some o && true) (node_named-append before (e ∷ []) e.parent last) ∙ ap (λ b. b && true) last in
     list_all-append (λ (entry : Entry). is_some (node_named (before ++ e ∷ []) entry.parent)) before (e ∷ []) ∙ (λ i. first i && here i)
 
-pub parents_of-more : (before : List Entry) (e : Entry) → are_named before before ≡ true → is_some (node_named before e.parent) ≡ true → parents_of (before ++ e ∷ []) ≡ parents_of before ++ number_named before e.parent ∷ []
+pub parents_of-more : (before : List Entry) (e : Entry) → are_named before before ≡ true →
+    is_some (node_named before e.parent) ≡ true → parents_of (before ++ e ∷ []) ≡ parents_of before ++ number_named before e.parent ∷ []
 unfolding parents_of
 parents_of-more before e named last =
     map-append (λ (entry : Entry). number_named (before ++ e ∷ []) entry.parent) before (e ∷ [])
     ∙ (let first = numbers-append before (e ∷ []) before named in
-    let here : number_named (before ++ e ∷ []) e.parent ≡ number_named before e.parent = ap (λ o. unwrap_or o 0) (node_named-append before (e ∷ []) e.parent last) in
+    let here : number_named (before ++ e ∷ []) e.parent ≡ number_named before e.parent =
+    ap (λ o. unwrap_or o 0) (node_named-append before (e ∷ []) e.parent last) in
     (λ i. first i ++ here i ∷ []))
 
 pub leaves_of-more : (before : List Entry) (e : Entry) → leaves_of (before ++ e ∷ []) ≡ leaves_of before ++ e.leaf ∷ []

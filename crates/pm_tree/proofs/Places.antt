@@ -1,5 +1,6 @@
 -- A node's place among its parent's children, and the child at a place.
-use Rattle.std.proofs.Common.{◌≡◌, ℕ, ◌+◌, ◌-◌, ◌≤◌, zero, suc, true, List, [], ◌∷◌, ◌++◌, length, Some, slice_get, if◌then◌else◌, refl, sym, ap, subst, ◌∙◌}
+use Rattle.std.proofs.Common.{◌≡◌, ℕ, ◌+◌, ◌-◌, ◌≤◌, zero, suc, true, List, [], ◌∷◌, ◌++◌, length, Some, slice_get}
+use Rattle.std.proofs.Common.{if◌then◌else◌, refl, sym, ap, subst, ◌∙◌}
 use Rattle.std.proofs.Common.{arith}
 use Rattle.std.proofs.Common.{Bool, false, ◌==◌, ◌⊎◌, inl, inr, append-nil}
 use Rattle.std.proofs.lemmas.Bool.Decides.{nat_tests}
@@ -20,7 +21,8 @@ get-last [] x = refl
 get-last (y ∷ xs) x = get-last xs x
 
 -- an element of a list with one more stands in the list, or is the one more
-get-more : (xs : List ℕ) (last k x : ℕ) → slice_get (xs ++ last ∷ []) k ≡ Some x → (slice_get xs k ≡ Some x) ⊎ ((k ≡ length xs) × (x ≡ last))
+get-more : (xs : List ℕ) (last k x : ℕ) → slice_get (xs ++ last ∷ []) k ≡ Some x → (slice_get xs k ≡ Some x)
+    ⊎ ((k ≡ length xs) × (x ≡ last))
 get-more [] last zero x here = inr (refl, (cc))
 get-more [] last (suc k) x here = (cc)
 get-more (y ∷ xs) last zero x here = inl here

@@ -1,5 +1,6 @@
 -- When an entry is refused, and the first refusal of a list.
-use Rattle.std.proofs.Common.{◌≡◌, ◌+◌, true, false, List, [], ◌∷◌, ◌++◌, length, Some, None, is_some, sym, ap, ◌∙◌, nat_le, append_assoc, append-nil}
+use Rattle.std.proofs.Common.{◌≡◌, ◌+◌, true, false, List, [], ◌∷◌, ◌++◌, length, Some, None, is_some, sym, ap, ◌∙◌, nat_le}
+use Rattle.std.proofs.Common.{append_assoc, append-nil}
 use Rattle.std.specs.Option.{option_to_list}
 use Rattle.pm_base.specs.Limits.{most_depth}
 use Rattle.pm_tree.specs.Names.{is_name}
@@ -16,26 +17,31 @@ module _ (before : List Entry) (e : Entry) where
   unfolding entry_refusal
   refused_twice good taken = rw (good, taken)
 
-  pub refused_parent : is_name e.name ≡ true → is_some (node_named before e.name) ≡ false → can_be_parent before e.parent ≡ false → entry_refusal before e ≡ Some (NoParent (length before + 1))
+  pub refused_parent : is_name e.name ≡ true → is_some (node_named before e.name) ≡ false → can_be_parent before e.parent ≡ false →
+      entry_refusal before e ≡ Some (NoParent (length before + 1))
   unfolding entry_refusal
   refused_parent good free orphan = rw (good, free, orphan)
 
-  pub refused_depth : is_name e.name ≡ true → is_some (node_named before e.name) ≡ false → can_be_parent before e.parent ≡ true → e.leaf ≡ false →
+  pub refused_depth : is_name e.name ≡ true → is_some (node_named before e.name) ≡ false → can_be_parent before e.parent ≡ true →
+      e.leaf ≡ false →
       nat_le most_depth (depth_of before (number_named before e.parent)) ≡ true → entry_refusal before e ≡ Some (TooDeep (length before + 1))
   unfolding entry_refusal
   refused_depth good free below concentrator deep = rw (good, free, below, concentrator, deep)
 
-  pub accepted_leaf : is_name e.name ≡ true → is_some (node_named before e.name) ≡ false → can_be_parent before e.parent ≡ true → e.leaf ≡ true → entry_refusal before e ≡ None
+  pub accepted_leaf : is_name e.name ≡ true → is_some (node_named before e.name) ≡ false → can_be_parent before e.parent ≡ true →
+      e.leaf ≡ true → entry_refusal before e ≡ None
   unfolding entry_refusal
   accepted_leaf good free below leaf = rw (good, free, below, leaf)
 
-  pub accepted_concentrator : is_name e.name ≡ true → is_some (node_named before e.name) ≡ false → can_be_parent before e.parent ≡ true → e.leaf ≡ false →
+  pub accepted_concentrator : is_name e.name ≡ true → is_some (node_named before e.name) ≡ false →
+      can_be_parent before e.parent ≡ true → e.leaf ≡ false →
       nat_le most_depth (depth_of before (number_named before e.parent)) ≡ false → entry_refusal before e ≡ None
   unfolding entry_refusal
   accepted_concentrator good free below concentrator shallow = rw (good, free, below, concentrator, shallow)
 
 -- the refusals of a list, and then of what comes after it
-pub refusals_after-append : (before first rest : List Entry) → refusals_after before (first ++ rest) ≡ refusals_after before first ++ refusals_after (before ++ first) rest
+pub refusals_after-append : (before first rest : List Entry) → refusals_after before (first ++ rest) ≡ refusals_after before first
+    ++ refusals_after (before ++ first) rest
 refusals_after-append before [] rest = ap (λ es. refusals_after es rest) (sym (append-nil before))
 refusals_after-append before (e ∷ first) rest =
     let later = refusals_after-append (before ++ e ∷ []) first rest in

@@ -1,5 +1,6 @@
 -- The node table, one row more at a time.
-use Rattle.std.proofs.Common.{◌≡◌, ℕ, ◌+◌, ◌<◌, ◌≤◌, Bool, true, false, if◌then◌else◌, List, [], ◌∷◌, ◌++◌, length, get_or, is_some, refl, sym, ap, subst, ◌∙◌, arith, length-append, leb, ◌⊎◌, inl, inr}
+use Rattle.std.proofs.Common.{◌≡◌, ℕ, ◌+◌, ◌<◌, ◌≤◌, Bool, true, false, if◌then◌else◌, List, [], ◌∷◌, ◌++◌, length}
+use Rattle.std.proofs.Common.{get_or, is_some, refl, sym, ap, subst, ◌∙◌, arith, length-append, leb, ◌⊎◌, inl, inr}
 use Rattle.std.proofs.lemmas.Bool.Decides.{leb_tells}
 use Rattle.std.proofs.lemmas.List.{length-map, map-append, get_or-map, get_or_append_left}
 use Rattle.std.proofs.Math.Seq.{get_or-append_seam}
@@ -40,7 +41,8 @@ up_by : (up node count : ℕ) → node ≤ count → (node ≡ 0 → up ≡ 0) �
 up_by up node count low top down = grind arith
 
 -- a bound by cases: the earlier nodes, the new one and those past it
-below_by : (new old parent node count : ℕ) → (node ≤ count → new ≡ old) → old < node → (node ≡ count + 1 → new ≡ parent) → parent ≤ count → (count + 1 < node → new ≡ 0) → new < node
+below_by : (new old parent node count : ℕ) → (node ≤ count → new ≡ old) → old < node → (node ≡ count + 1 → new ≡ parent) →
+    parent ≤ count → (count + 1 < node → new ≡ 0) → new < node
 below_by new old parent node count earlier low same inside past = grind arith
 
 -- a fact of the earlier nodes and of the new one
@@ -75,13 +77,16 @@ module _ (parents : List ℕ) (leaves : List Bool) (parent : ℕ) (leaf : Bool) 
       inside
       (λ past. parent_at-past (parents ++ parent ∷ []) node (omega (arith, length-new)))
 
-  pub depth_at-earlier : (node : ℕ) → node ≤ length parents → depth_at (parents ++ parent ∷ []) (leaves ++ leaf ∷ []) node ≡ depth_at parents leaves node
+  pub depth_at-earlier : (node : ℕ) → node ≤ length parents → depth_at (parents ++ parent ∷ []) (leaves ++ leaf ∷ []) node
+      ≡ depth_at parents leaves node
   depth_at-earlier node low = depth_at-append parents (parent ∷ []) leaves (leaf ∷ []) (falls parents leaves tree) tree.one_each node low
 
-  pub depth_at-new : depth_at (parents ++ parent ∷ []) (leaves ++ leaf ∷ []) (length parents + 1) ≡ depth_at parents leaves parent + (if leaf then 0 else 1)
+  pub depth_at-new : depth_at (parents ++ parent ∷ []) (leaves ++ leaf ∷ []) (length parents + 1) ≡ depth_at parents leaves parent +
+      (if leaf then 0 else 1)
   depth_at-new =
       depth_at-step (parents ++ parent ∷ []) (leaves ++ leaf ∷ []) earlier-more (length parents + 1) (omega arith)
-      ∙ ap (λ mark. depth_at (parents ++ parent ∷ []) (leaves ++ leaf ∷ []) (parent_at (parents ++ parent ∷ []) (length parents + 1)) + (if mark then 0 else 1)) leaf_at-new
+      ∙ ap (λ mark. depth_at (parents ++ parent ∷ []) (leaves ++ leaf ∷ []) (parent_at (parents ++ parent ∷ []) (length parents + 1))
+      + (if mark then 0 else 1)) leaf_at-new
       ∙ ap (λ n. depth_at (parents ++ parent ∷ []) (leaves ++ leaf ∷ []) n + (if leaf then 0 else 1)) parent_at-new
       ∙ ap (λ n. n + (if leaf then 0 else 1)) (depth_at-earlier parent inside)
 
@@ -91,9 +96,11 @@ module _ (parents : List ℕ) (leaves : List Bool) (parent : ℕ) (leaf : Bool) 
   IsTree-more no_leaf shallow = record {
     one_each = length-append leaves (leaf ∷ []) ∙ ap (λ n. n + 1) tree.one_each ∙ sym length-new;
     earlier = λ node positive within. earlier-more node (omega arith);
-    under_no_leaf = λ node within. each_by (λ n. leaf_at (leaves ++ leaf ∷ []) (parent_at (parents ++ parent ∷ []) n) ≡ false) (length parents) node (omega (arith, length-new))
+    under_no_leaf = λ node within. each_by (λ n. leaf_at (leaves ++ leaf ∷ []) (parent_at (parents ++ parent ∷ []) n) ≡ false)
+        (length parents) node (omega (arith, length-new))
         (λ low. let up : parent_at parents node ≤ length parents = up_inside node low in
-        ap (leaf_at (leaves ++ leaf ∷ [])) (parent_at-append parents (parent ∷ []) node low) ∙ leaf_at-append leaves (leaf ∷ []) (parent_at parents node) (omega (arith, tree.one_each)) ∙ tree.under_no_leaf node low)
+        ap (leaf_at (leaves ++ leaf ∷ [])) (parent_at-append parents (parent ∷ []) node low)
+        ∙ leaf_at-append leaves (leaf ∷ []) (parent_at parents node) (omega (arith, tree.one_each)) ∙ tree.under_no_leaf node low)
         (ap (leaf_at (leaves ++ leaf ∷ [])) parent_at-new ∙ leaf_at-append leaves (leaf ∷ []) parent (omega (arith, tree.one_each)) ∙ no_leaf);
     shallow = λ node within.
         each_by (λ n. depth_at (parents ++ parent ∷ []) (leaves ++ leaf ∷ []) n ≤ most_depth) (length parents) node (omega (arith, length-new))
@@ -105,15 +112,23 @@ module _ (parents : List ℕ) (leaves : List Bool) (parent : ℕ) (leaf : Bool) 
       up_inside node low = up_by (parent_at parents node) node (length parents) low (λ top. ap (parent_at parents) top) (falls parents leaves tree node)
 
   -- the node table with the new node's row
-  pub IsNodeTable-more : (nodes : List Node) (row : Node) → IsNodeTable parents leaves nodes → row.parent.0 ≡ parent → row.leaf ≡ leaf → row.depth ≡ depth_at parents leaves parent + (if leaf then 0 else 1) → IsNodeTable (parents ++ parent ∷ []) (leaves ++ leaf ∷ []) (nodes ++ row ∷ [])
+  pub IsNodeTable-more : (nodes : List Node) (row : Node) → IsNodeTable parents leaves nodes → row.parent.0 ≡ parent →
+      row.leaf ≡ leaf → row.depth ≡ depth_at parents leaves parent + (if leaf then 0 else 1) →
+      IsNodeTable (parents ++ parent ∷ []) (leaves ++ leaf ∷ []) (nodes ++ row ∷ [])
   IsNodeTable-more nodes row table parent_is leaf_is depth_is = record {
     parent_is = map-append (λ (r : Node). r.parent.0) nodes (row ∷ []) ∙ (λ i. table.parent_is i ++ parent_is i ∷ []);
     leaf_is = map-append (λ (r : Node). r.leaf) nodes (row ∷ []) ∙ (λ i. table.leaf_is i ++ leaf_is i ∷ []);
-    depth_is = λ node within. each_by (λ n. get_or (depth_numbers (nodes ++ row ∷ [])) n 0 ≡ depth_at (parents ++ parent ∷ []) (leaves ++ leaf ∷ []) n) (length parents) node (omega (arith, length-new))
+    depth_is = λ node within. each_by (λ n. get_or (depth_numbers (nodes ++ row ∷ [])) n 0 ≡ depth_at (parents ++ parent ∷ [])
+        (leaves ++ leaf ∷ []) n) (length parents) node (omega (arith, length-new))
         (λ low. ap (λ numbers. get_or numbers node 0) (map-append (λ (r : Node). r.depth) nodes (row ∷ []))
-        ∙ get_or_append_left (depth_numbers nodes) (row.depth ∷ []) 0 node (omega (arith, length-map nodes (λ (r : Node). r.depth), length-table parents leaves nodes table))
+        ∙ get_or_append_left (depth_numbers nodes) (row.depth ∷ []) 0 node
+        (omega (arith, length-map nodes (λ (r : Node). r.depth), length-table parents leaves nodes table))
         ∙ table.depth_is node low ∙ sym (depth_at-earlier node low))
-        (let last : length parents + 1 ≡ length (depth_numbers nodes) = omega (arith, length-map nodes (λ (r : Node). r.depth), length-table parents leaves nodes table) in
+        (let last : length parents + 1 ≡ length (depth_numbers nodes) = omega (
+          arith,
+          length-map nodes (λ (r : Node). r.depth),
+          length-table parents leaves nodes table,
+        ) in
         ap (λ numbers. get_or numbers (length parents + 1) 0) (map-append (λ (r : Node). r.depth) nodes (row ∷ []))
         ∙ ap (λ n. get_or (depth_numbers nodes ++ row.depth ∷ []) n 0) last
         ∙ get_or-append_seam (depth_numbers nodes) row.depth [] 0 ∙ depth_is ∙ sym depth_at-new);
@@ -125,7 +140,8 @@ module _ (before : List Entry) (e : Entry) (tree : IsTree (parents_of before) (l
   pub row_inside : number_named before e.parent ≤ length (parents_of before)
   row_inside = omega (arith, number_named-inside before e.parent, length-parents_of before)
 
-  pub lawful-more : is_some (node_named before e.parent) ≡ true → are_named before before ≡ true → is_leaf_at before (number_named before e.parent) ≡ false →
+  pub lawful-more : is_some (node_named before e.parent) ≡ true → are_named before before ≡ true →
+      is_leaf_at before (number_named before e.parent) ≡ false →
       depth_of before (number_named before e.parent) + (if e.leaf then 0 else 1) ≤ most_depth →
       IsTree (parents_of (before ++ e ∷ [])) (leaves_of (before ++ e ∷ []))
   lawful-more parent_named all_named no_leaf shallow =
@@ -134,11 +150,13 @@ module _ (before : List Entry) (e : Entry) (tree : IsTree (parents_of before) (l
       let more = IsTree-more (parents_of before) (leaves_of before) (number_named before e.parent) e.leaf tree row_inside no_leaf shallow in
       rw (parents, leaves) more
 
-  pub index-more : (names : List (List ℕ)) (nodes : List Node) (row : Node) → IsIndexOf before names nodes → is_some (node_named before e.parent) ≡ true → IsRowOf before e row → IsIndexOf (before ++ e ∷ []) (names ++ e.name ∷ []) (nodes ++ row ∷ [])
+  pub index-more : (names : List (List ℕ)) (nodes : List Node) (row : Node) → IsIndexOf before names nodes →
+      is_some (node_named before e.parent) ≡ true → IsRowOf before e row → IsIndexOf (before ++ e ∷ []) (names ++ e.name ∷ []) (nodes ++ row ∷ [])
   index-more names nodes row index parent_named row_is =
       let parents = parents_of-more before e index.parents_are_named parent_named in
       let leaves = leaves_of-more before e in
-      let table = IsNodeTable-more (parents_of before) (leaves_of before) (number_named before e.parent) e.leaf tree row_inside nodes row index.nodes_are row_is.parent_is row_is.leaf_is row_is.depth_is in
+      let table = IsNodeTable-more (parents_of before) (leaves_of before) (number_named before e.parent) e.leaf tree row_inside nodes
+      row index.nodes_are row_is.parent_is row_is.leaf_is row_is.depth_is in
       record {
         names_are = ap (λ ns. ns ++ e.name ∷ []) index.names_are ∙ sym (names_of-append before (e ∷ []));
         parents_are_named = are_named-more before e index.parents_are_named parent_named;

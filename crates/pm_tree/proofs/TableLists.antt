@@ -1,5 +1,7 @@
 -- Tables of lists.
-use Rattle.std.proofs.Common.{◌≡◌, ℕ, ◌+◌, ◌<◌, ◌≤◌, Bool, true, false, if◌then◌else◌, List, [], ◌∷◌, ◌++◌, length, get_or, set, refl, sym, ap, subst, ◌∙◌, arith, Vec, ◌==◌, append-nil, append_assoc, eqb, ◌⊎◌, inl, inr, ◌≢◌, ◌-◌, ◌&&◌, leb, suc, length-append}
+use Rattle.std.proofs.Common.{◌≡◌, ℕ, ◌+◌, ◌<◌, ◌≤◌, Bool, true, false, if◌then◌else◌, List, [], ◌∷◌, ◌++◌, length}
+use Rattle.std.proofs.Common.{get_or, set, refl, sym, ap, subst, ◌∙◌, arith, Vec, ◌==◌, append-nil, append_assoc, eqb, ◌⊎◌, inl, inr, ◌≢◌}
+use Rattle.std.proofs.Common.{◌-◌, ◌&&◌, leb, suc, length-append}
 use Rattle.std.specs.declared.alloc.Global.{Global}
 use Rattle.std.proofs.lemmas.Bool.Decides.{eqb_tells, leb_tells}
 use Rattle.std.proofs.lemmas.List.{length-map, map-append, get_or-map, get_or_append_left, get_or-set_same, get_or-set_other, map-set, length-set, length-drop}
@@ -12,7 +14,9 @@ use Rattle.pm_tree.proofs.Paths.{Falls, added_on_path-step, added_on_path-auctio
 use Rattle.pm_tree.specs.declared.node.NodeId.{NodeId}
 
 -- a list of the table gets a node at its end
-pub lists_of-set : (lists : List (Vec NodeId Global)) (at : ℕ) (node : NodeId) (old new : Vec NodeId Global) → at < length lists → old ≡ get_or lists at old → new.items ≡ (get_or lists at old).items ++ node ∷ [] → node_lists (set lists at new) ≡ set (node_lists lists) at (get_or (node_lists lists) at [] ++ node.0 ∷ [])
+pub lists_of-set : (lists : List (Vec NodeId Global)) (at : ℕ) (node : NodeId) (old new : Vec NodeId Global) → at < length lists →
+    old ≡ get_or lists at old → new.items ≡ (get_or lists at old).items ++ node ∷ [] →
+    node_lists (set lists at new) ≡ set (node_lists lists) at (get_or (node_lists lists) at [] ++ node.0 ∷ [])
 lists_of-set lists at node old new inside read pushed =
     map-set (λ (list : Vec NodeId Global). id_numbers list.items) lists at new
     ∙ ap (set (node_lists lists) at)
@@ -20,10 +24,12 @@ lists_of-set lists at node old new inside read pushed =
     ∙ ap (λ xs. xs ++ node.0 ∷ []) (sym (get_or-map (λ (list : Vec NodeId Global). id_numbers list.items) lists at old [] inside)))
 
 -- what a place of a table holds after a node was added to one of the lists
-pub get_or-push : (lists : List (List ℕ)) (at node x : ℕ) → at < length lists → get_or (set lists at (get_or lists at [] ++ node ∷ [])) x [] ≡ get_or lists x [] ++ (if at == x then node ∷ [] else [])
+pub get_or-push : (lists : List (List ℕ)) (at node x : ℕ) → at < length lists →
+    get_or (set lists at (get_or lists at [] ++ node ∷ [])) x [] ≡ get_or lists x [] ++ (if at == x then node ∷ [] else [])
 get_or-push lists at node x inside = by (eqb_tells at x)
   where
-    by : ((eqb at x ≡ true) × (at ≡ x)) ⊎ ((eqb at x ≡ false) × (at ≢ x)) → get_or (set lists at (get_or lists at [] ++ node ∷ [])) x [] ≡ get_or lists x [] ++ (if at == x then node ∷ [] else [])
+    by : ((eqb at x ≡ true) × (at ≡ x)) ⊎ ((eqb at x ≡ false) × (at ≢ x)) →
+        get_or (set lists at (get_or lists at [] ++ node ∷ [])) x [] ≡ get_or lists x [] ++ (if at == x then node ∷ [] else [])
     by (inl (is, same)) =
         ap (λ n. get_or (set lists at (get_or lists at [] ++ node ∷ [])) n []) (sym same)
         ∙ get_or-set_same lists at (get_or lists at [] ++ node ∷ []) [] inside
@@ -32,12 +38,15 @@ get_or-push lists at node x inside = by (eqb_tells at x)
         get_or-set_other lists at x (get_or lists at [] ++ node ∷ []) [] (λ same. other (sym same))
         ∙ sym (append-nil (get_or lists x [])) ∙ ap (λ b. get_or lists x [] ++ (if b then node ∷ [] else [])) (sym is)
 
-abbrev pub lists_same : (count : ℕ) (f g : ℕ → List ℕ) (lists : List (List ℕ)) → ((node : ℕ) → f node ≡ g node) → AreLists count f lists → AreLists count g lists
+abbrev pub lists_same : (count : ℕ) (f g : ℕ → List ℕ) (lists : List (List ℕ)) → ((node : ℕ) → f node ≡ g node) →
+    AreLists count f lists → AreLists count g lists
 lists_same count f g lists same are = record { count_is = are.count_is; list_is = λ node inside. are.list_is node inside ∙ same node }
 
 -- one node more in the children's lists
-pub children_step : (parents : List ℕ) (count number parent : ℕ) (lists : List (List ℕ)) → 1 ≤ number → parent ≡ parent_at parents number → parent < count
-    → AreLists count (children_among parents (number - 1)) lists → AreLists count (children_among parents (number + 1 - 1)) (set lists parent (get_or lists parent [] ++ number ∷ []))
+pub children_step : (parents : List ℕ) (count number parent : ℕ) (lists : List (List ℕ)) → 1 ≤ number →
+    parent ≡ parent_at parents number → parent < count
+    → AreLists count (children_among parents (number - 1)) lists →
+    AreLists count (children_among parents (number + 1 - 1)) (set lists parent (get_or lists parent [] ++ number ∷ []))
 children_step parents count number parent lists positive parent_is inside are =
     let last : number - 1 + 1 ≡ number = omega arith in
     let next : number + 1 - 1 ≡ number - 1 + 1 = omega arith in
@@ -53,7 +62,8 @@ children_step parents count number parent lists positive parent_is inside are =
     }
 
 -- the place of one node more
-pub place_is : (parents : List ℕ) (number : ℕ) → number - 1 ≤ length parents → length (children_among parents (number - 1) (parent_at parents number)) ≡ place_at parents number
+pub place_is : (parents : List ℕ) (number : ℕ) → number - 1 ≤ length parents →
+    length (children_among parents (number - 1) (parent_at parents number)) ≡ place_at parents number
 unfolding place_at
 place_is parents number inside = length-children_among parents (parent_at parents number) (number - 1) inside
 
@@ -62,7 +72,8 @@ unfolding place_at
 place-auctioneer parents = refl
 
 -- one step up a path: the list of the node gets the leaf, and then those of the rest of the path
-pub path_step : (parents : List ℕ) (lists lists' first : List (List ℕ)) (leaf at parent : ℕ) → Falls parents → 0 < at → at < length lists → parent ≡ parent_at parents at
+pub path_step : (parents : List ℕ) (lists lists' first : List (List ℕ)) (leaf at parent : ℕ) → Falls parents → 0 < at →
+    at < length lists → parent ≡ parent_at parents at
     → lists' ≡ set lists at (get_or lists at [] ++ leaf ∷ [])
     → ((node : ℕ) → get_or lists node [] ++ added_on_path parents leaf at node ≡ get_or first node [] ++ added_on_path parents leaf leaf node)
     → (node : ℕ) → get_or lists' node [] ++ added_on_path parents leaf parent node ≡ get_or first node [] ++ added_on_path parents leaf leaf node
@@ -91,7 +102,9 @@ pub length-lists_of : (lists : List (Vec NodeId Global)) → length (node_lists 
 length-lists_of lists = length-map lists (λ (list : Vec NodeId Global). id_numbers list.items)
 
 -- one node more in the lists of leaves, where it is a leaf and where it is none
-leaves_next : (parents : List ℕ) (leaves : List Bool) (number node : ℕ) → 1 ≤ number → leaves_among parents leaves (number + 1 - 1) node ≡ leaves_among parents leaves (number - 1) node ++ (if leaf_at leaves number && is_on_path parents number node then number ∷ [] else [])
+leaves_next : (parents : List ℕ) (leaves : List Bool) (number node : ℕ) → 1 ≤ number →
+    leaves_among parents leaves (number + 1 - 1) node ≡ leaves_among parents leaves (number - 1) node
+    ++ (if leaf_at leaves number && is_on_path parents number node then number ∷ [] else [])
 leaves_next parents leaves number node positive =
     let last : number - 1 + 1 ≡ number = omega arith in
     let next : number + 1 - 1 ≡ number - 1 + 1 = omega arith in
@@ -99,14 +112,16 @@ leaves_next parents leaves number node positive =
     ∙ leaves_among-more parents leaves (number - 1) node
     ∙ ap (λ n. leaves_among parents leaves (number - 1) node ++ (if leaf_at leaves n && is_on_path parents n node then n ∷ [] else [])) last
 
-pub leaves_step : (parents : List ℕ) (leaves : List Bool) (count number : ℕ) (lists lists' : List (List ℕ)) → 1 ≤ number → leaf_at leaves number ≡ true → length lists' ≡ length lists
+pub leaves_step : (parents : List ℕ) (leaves : List Bool) (count number : ℕ) (lists lists' : List (List ℕ)) → 1 ≤ number →
+    leaf_at leaves number ≡ true → length lists' ≡ length lists
     → ((node : ℕ) → get_or lists' node [] ≡ get_or lists node [] ++ added_on_path parents number number node)
     → AreLists count (leaves_among parents leaves (number - 1)) lists → AreLists count (leaves_among parents leaves (number + 1 - 1)) lists'
 leaves_step parents leaves count number lists lists' positive leaf same pushed are = record {
   count_is = same ∙ are.count_is;
   list_is = λ node low.
       pushed node ∙ ap (λ l. l ++ added_on_path parents number number node) (are.list_is node low)
-      ∙ sym (leaves_next parents leaves number node positive ∙ ap (λ b. leaves_among parents leaves (number - 1) node ++ (if b && is_on_path parents number node then number ∷ [] else [])) leaf);
+      ∙ sym (leaves_next parents leaves number node positive
+      ∙ ap (λ b. leaves_among parents leaves (number - 1) node ++ (if b && is_on_path parents number node then number ∷ [] else [])) leaf);
 }
 
 pub leaves_skip : (parents : List ℕ) (leaves : List Bool) (count number : ℕ) (lists : List (List ℕ)) → 1 ≤ number → leaf_at leaves number ≡ false
@@ -115,29 +130,37 @@ leaves_skip parents leaves count number lists positive none are = record {
   count_is = are.count_is;
   list_is = λ node low.
       are.list_is node low
-      ∙ sym (leaves_next parents leaves number node positive ∙ ap (λ b. leaves_among parents leaves (number - 1) node ++ (if b && is_on_path parents number node then number ∷ [] else [])) none ∙ append-nil (leaves_among parents leaves (number - 1) node));
+      ∙ sym (leaves_next parents leaves number node positive
+      ∙ ap (λ b. leaves_among parents leaves (number - 1) node ++ (if b && is_on_path parents number node then number ∷ [] else []))
+      none ∙ append-nil (leaves_among parents leaves (number - 1) node));
 }
 
 -- the lists of all nodes
-pub leaves_done : (parents : List ℕ) (leaves : List Bool) (count number : ℕ) (lists : List (List ℕ)) → number - 1 ≡ length parents → AreLists count (leaves_among parents leaves (number - 1)) lists → AreLists count (leaves_below_at parents leaves) lists
+pub leaves_done : (parents : List ℕ) (leaves : List Bool) (count number : ℕ) (lists : List (List ℕ)) → number - 1 ≡ length parents →
+    AreLists count (leaves_among parents leaves (number - 1)) lists → AreLists count (leaves_below_at parents leaves) lists
 unfolding leaves_below_at
-leaves_done parents leaves count number lists all are = record { count_is = are.count_is; list_is = λ node low. are.list_is node low ∙ ap (λ n. leaves_among parents leaves n node) all }
+leaves_done parents leaves count number lists all are =
+    record { count_is = are.count_is; list_is = λ node low. are.list_is node low ∙ ap (λ n. leaves_among parents leaves n node) all }
 
-pub children_done : (parents : List ℕ) (count number : ℕ) (lists : List (List ℕ)) → number - 1 ≡ length parents → AreLists count (children_among parents (number - 1)) lists → AreLists count (children_at parents) lists
+pub children_done : (parents : List ℕ) (count number : ℕ) (lists : List (List ℕ)) → number - 1 ≡ length parents →
+    AreLists count (children_among parents (number - 1)) lists → AreLists count (children_at parents) lists
 unfolding children_at
-children_done parents count number lists all are = record { count_is = are.count_is; list_is = λ node low. are.list_is node low ∙ ap (λ n. children_among parents n node) all }
+children_done parents count number lists all are =
+    record { count_is = are.count_is; list_is = λ node low. are.list_is node low ∙ ap (λ n. children_among parents n node) all }
 
 pub length-shape_parents : (nodes : List Node) → length (shape_parents nodes) ≡ length nodes - 1
 length-shape_parents nodes = length-drop 1 (parent_numbers nodes) ∙ ap (λ n. n - 1) (length-map nodes (λ (row : Node). row.parent.0))
 
 -- one place more
-pub place_step : (number : ℕ) (number_at : ℕ → ℕ) (places : List ℕ) (place : ℕ) → place ≡ number_at number → AreNumbers number number_at places → AreNumbers (number + 1) number_at (places ++ place ∷ [])
+pub place_step : (number : ℕ) (number_at : ℕ → ℕ) (places : List ℕ) (place : ℕ) → place ≡ number_at number →
+    AreNumbers number number_at places → AreNumbers (number + 1) number_at (places ++ place ∷ [])
 place_step number number_at places place is are = record {
   count_is = length-append places (place ∷ []) ∙ ap (λ n. n + 1) are.count_is;
   number_is = λ node low. by node (leb_tells (suc node) number) low;
 }
   where
-    by : (node : ℕ) → ((leb (suc node) number ≡ true) × (suc node ≤ number)) ⊎ ((leb (suc node) number ≡ false) × (number < suc node)) → node < number + 1 → get_or (places ++ place ∷ []) node 0 ≡ number_at node
+    by : (node : ℕ) → ((leb (suc node) number ≡ true) × (suc node ≤ number))
+        ⊎ ((leb (suc node) number ≡ false) × (number < suc node)) → node < number + 1 → get_or (places ++ place ∷ []) node 0 ≡ number_at node
     by node (inl (b, low)) within = get_or_append_left places (place ∷ []) 0 node (omega (arith, are.count_is)) ∙ are.number_is node (omega arith)
     by node (inr (b, high)) within =
         let last : node ≡ length places = omega (arith, are.count_is) in
@@ -147,11 +170,13 @@ place_step number number_at places place is are = record {
 pub places_first : (parents : List ℕ) → AreNumbers 1 (place_at parents) (0 ∷ [])
 places_first parents = record {
   count_is = refl;
-  number_is = λ node low. let top : 0 ≡ node = omega arith in subst (λ n. get_or (0 ∷ []) n 0 ≡ place_at parents n) top (sym (place-auctioneer parents));
+  number_is = λ node low. let top : 0 ≡ node =
+      omega arith in subst (λ n. get_or (0 ∷ []) n 0 ≡ place_at parents n) top (sym (place-auctioneer parents));
 }
 
 -- a node's place is the length of its parent's list so far
-pub place_of_list : (parents : List ℕ) (lists : List (Vec NodeId Global)) (list : Vec NodeId Global) (number parent count : ℕ) → list ≡ get_or lists parent list → parent < length lists → parent < count → parent ≡ parent_at parents number → number - 1 ≤ length parents
+pub place_of_list : (parents : List ℕ) (lists : List (Vec NodeId Global)) (list : Vec NodeId Global) (number parent count : ℕ) →
+    list ≡ get_or lists parent list → parent < length lists → parent < count → parent ≡ parent_at parents number → number - 1 ≤ length parents
     → AreLists count (children_among parents (number - 1)) (node_lists lists) → length list.items ≡ place_at parents number
 place_of_list parents lists list number parent count read inside low parent_is within are =
     sym (length-map list.items (λ (n : NodeId). n.0))

@@ -1,5 +1,6 @@
 -- The tree of a list that is accepted, and the refusals of a list.
-use Rattle.std.proofs.Common.{◌≡◌, ℕ, ◌+◌, ◌<◌, ◌≤◌, true, if◌then◌else◌, List, [], length, drop, Some, None, Result, Ok, Err, sym, ap, subst, ◌∙◌, arith, nat_lt, slice_get, ◌⊎◌, inl, inr}
+use Rattle.std.proofs.Common.{◌≡◌, ℕ, ◌+◌, ◌<◌, ◌≤◌, true, if◌then◌else◌, List, [], length, drop, Some, None, Result, Ok, Err, sym}
+use Rattle.std.proofs.Common.{ap, subst, ◌∙◌, arith, nat_lt, slice_get, ◌⊎◌, inl, inr}
 use Rattle.std.proofs.lemmas.Bool.Decides.{nat_tests}
 use Rattle.std.proofs.lemmas.Bool.{le-ltb}
 use Rattle.pm_base.specs.Limits.{most_nodes}
@@ -19,13 +20,16 @@ pub too_many : (entries : List Entry) (have : ℕ) → have ≡ length entries �
 unfolding first_refusal
 too_many entries have is high =
     ap (λ n. Err (TooMany n)) is
-    ∙ sym (ap (λ b. tree_unless entries (if b then Some (TooMany (length entries)) else slice_get (refusals_after [] entries) 0)) (above_limit (length entries) (omega arith)))
+    ∙ sym (ap (λ b. tree_unless entries (if b then Some (TooMany (length entries)) else slice_get (refusals_after [] entries) 0))
+    (above_limit (length entries) (omega arith)))
 
 pub first_refusal-few : (entries : List Entry) → length entries ≤ most_nodes → first_refusal entries ≡ slice_get (refusals_after [] entries) 0
 unfolding first_refusal
-first_refusal-few entries few = ap (λ b. if b then Some (TooMany (length entries)) else slice_get (refusals_after [] entries) 0) (le-ltb most_nodes (length entries) few)
+first_refusal-few entries few =
+    ap (λ b. if b then Some (TooMany (length entries)) else slice_get (refusals_after [] entries) 0) (le-ltb most_nodes (length entries) few)
 
-pub entry_refused : (entries : List Entry) (result : Result (List Entry) TreeFault) (fault : TreeFault) → length entries ≤ most_nodes → result ≡ Err fault
+pub entry_refused : (entries : List Entry) (result : Result (List Entry) TreeFault) (fault : TreeFault) →
+    length entries ≤ most_nodes → result ≡ Err fault
     → (slice_get (refusals_after [] entries) 0 ≡ Some fault) ⊎ (fault ≡ NoMemory) → (result ≡ checked_tree entries) ⊎ (result ≡ Err NoMemory)
 entry_refused entries result fault few is (inl first) = inl (is ∙ sym (ap (tree_unless entries) (first_refusal-few entries few ∙ first)))
 entry_refused entries result fault few is (inr memory) = inr (is ∙ ap (λ e. Err e) memory)
@@ -33,14 +37,18 @@ entry_refused entries result fault few is (inr memory) = inr (is ∙ ap (λ e. E
 pub tree_accepted : (entries : List Entry) → first_refusal entries ≡ None → Ok entries ≡ checked_tree entries
 tree_accepted entries accepted = sym (ap (tree_unless entries) accepted)
 
-pub length-index : (entries : List Entry) (names : List (List ℕ)) (nodes : List Node) → IsIndexOf entries names nodes → length nodes ≡ length entries + 1
-length-index entries names nodes index = length-table (parents_of entries) (leaves_of entries) nodes index.nodes_are ∙ ap (λ n. n + 1) (length-parents_of entries)
+pub length-index : (entries : List Entry) (names : List (List ℕ)) (nodes : List Node) → IsIndexOf entries names nodes →
+    length nodes ≡ length entries + 1
+length-index entries names nodes index = length-table (parents_of entries) (leaves_of entries) nodes index.nodes_are
+    ∙ ap (λ n. n + 1) (length-parents_of entries)
 
 -- the tables that were collected are those of the entries
-pub kept_all : (entries : List Entry) (names : List (List ℕ)) (nodes : List Node) (children : List (List ℕ)) (places : List ℕ) (leaf_lists : List (List ℕ))
+pub kept_all : (entries : List Entry) (names : List (List ℕ)) (nodes : List Node) (children : List (List ℕ)) (places : List ℕ)
+    (leaf_lists : List (List ℕ))
     → first_refusal entries ≡ None → length entries ≤ most_nodes → IsTree (parents_of entries) (leaves_of entries) → IsIndexOf entries names nodes
     → AreLists (length nodes) (children_at (shape_parents nodes)) children → AreNumbers (length nodes) (place_at (shape_parents nodes)) places
-    → AreLists (length nodes) (leaves_below_at (shape_parents nodes) (shape_leaves nodes)) leaf_lists → AreTables entries names nodes children places leaf_lists
+    → AreLists (length nodes) (leaves_below_at (shape_parents nodes) (shape_leaves nodes)) leaf_lists →
+    AreTables entries names nodes children places leaf_lists
 kept_all entries names nodes children places leaf_lists accepted few lawful index children_are places_are leaf_lists_are =
     let count = length-index entries names nodes index in
     let parents : shape_parents nodes ≡ parents_of entries = ap (drop 1) index.nodes_are.parent_is in
@@ -50,8 +58,10 @@ kept_all entries names nodes children places leaf_lists accepted few lawful inde
       few = few;
       lawful = lawful;
       index = index;
-      children_are = subst (λ ps. AreLists (length entries + 1) (children_at ps) children) parents (subst (λ n. AreLists n (children_at (shape_parents nodes)) children) count children_are);
-      places_are = subst (λ ps. AreNumbers (length entries + 1) (place_at ps) places) parents (subst (λ n. AreNumbers n (place_at (shape_parents nodes)) places) count places_are);
+      children_are = subst (λ ps. AreLists (length entries + 1) (children_at ps) children) parents
+          (subst (λ n. AreLists n (children_at (shape_parents nodes)) children) count children_are);
+      places_are = subst (λ ps. AreNumbers (length entries + 1) (place_at ps) places) parents
+          (subst (λ n. AreNumbers n (place_at (shape_parents nodes)) places) count places_are);
       leaf_lists_are = subst (λ ls. AreLists (length entries + 1) (leaves_below_at (parents_of entries) ls) leaf_lists) leaves
           (subst (λ ps. AreLists (length entries + 1) (leaves_below_at ps (shape_leaves nodes)) leaf_lists) parents
           (subst (λ n. AreLists n (leaves_below_at (shape_parents nodes) (shape_leaves nodes)) leaf_lists) count leaf_lists_are));

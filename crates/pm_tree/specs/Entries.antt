@@ -1,6 +1,7 @@
 -- A tree as the list of its entries, and the first refusal of a list.
 -- Node 0 is the auctioneer, and the entries are nodes 1, 2, .. in list order.
-use Rattle.std.specs.Prelude.{ℕ, ◌+◌, Bool, false, not, ◌&&◌, nat_lt, nat_le, if◌then◌else◌, List, [], ◌∷◌, ◌++◌, map, length, position, slice_get, slice_index_or, Option, Some, None, is_some, unwrap_or, Result, Ok, Err, string_bytes}
+use Rattle.std.specs.Prelude.{ℕ, ◌+◌, Bool, false, not, ◌&&◌, nat_lt, nat_le, if◌then◌else◌, List, [], ◌∷◌, ◌++◌, map, length}
+use Rattle.std.specs.Prelude.{position, slice_get, slice_index_or, Option, Some, None, is_some, unwrap_or, Result, Ok, Err, string_bytes}
 use Rattle.std.specs.Option.{option_to_list}
 use Rattle.std.specs.Str.{bytes_eq}
 use Rattle.pm_base.specs.Limits.{most_nodes, most_depth}

@@ -1,6 +1,7 @@
 -- The shape of a tree as two plain lists: the parent of node 1, 2, .., and whether node 1, 2, .. is a leaf.
 -- Node 0 is the auctioneer.
-use Rattle.std.specs.Prelude.{◌≡◌, ℕ, ◌-◌, ◌<◌, ◌≤◌, zero, suc, Bool, false, ◌&&◌, not, ◌==◌, nat_lt, if◌then◌else◌, List, [], ◌∷◌, length, filter, count_by, take, slice_index_or}
+use Rattle.std.specs.Prelude.{◌≡◌, ℕ, ◌-◌, ◌<◌, ◌≤◌, zero, suc, Bool, false, ◌&&◌, not, ◌==◌, nat_lt, if◌then◌else◌, List}
+use Rattle.std.specs.Prelude.{[], ◌∷◌, length, filter, count_by, take, slice_index_or}
 use Rattle.std.specs.List.{list_any, range_with_len}
 use Rattle.pm_base.specs.Limits.{most_depth}
 

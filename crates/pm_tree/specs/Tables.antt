@@ -1,10 +1,12 @@
 -- The tables that a tree keeps for its look-ups.
-use Rattle.std.specs.Prelude.{◌≡◌, ℕ, ◌+◌, ◌<◌, ◌≤◌, Bool, true, false, is_some, List, [], ◌∷◌, map, drop, length, slice_index, slice_index_or, None, Vec, if◌then◌else◌}
+use Rattle.std.specs.Prelude.{◌≡◌, ℕ, ◌+◌, ◌<◌, ◌≤◌, Bool, true, false, is_some, List, [], ◌∷◌, map, drop, length, slice_index}
+use Rattle.std.specs.Prelude.{slice_index_or, None, Vec, if◌then◌else◌}
 use Rattle.std.specs.List.{list_all}
 use Rattle.std.specs.declared.alloc.Global.{Global}
 use Rattle.pm_base.specs.Limits.{most_nodes, most_depth}
 use Rattle.pm_tree.specs.Shape.{depth_at, is_on_path, IsTree}
-use Rattle.pm_tree.specs.Entries.{Entry, names_of, parents_of, leaves_of, children_of, leaves_below_of, place_of, first_refusal, number_named, node_named, is_leaf_at, depth_of}
+use Rattle.pm_tree.specs.Entries.{Entry, names_of, parents_of, leaves_of, children_of, leaves_below_of, place_of, first_refusal, number_named, node_named}
+use Rattle.pm_tree.specs.Entries.{is_leaf_at, depth_of}
 use Rattle.pm_tree.specs.declared.node.Node.{Node}
 use Rattle.pm_tree.specs.declared.node.NodeId.{NodeId}
 
@@ -72,7 +74,8 @@ pub record IsIndexOf (entries : List Entry) (names : List (List ℕ)) (nodes : L
   pub nodes_are : IsNodeTable (parents_of entries) (leaves_of entries) nodes
 
 -- the tables of a lawful list of entries
-pub record AreTables (entries : List Entry) (names : List (List ℕ)) (nodes : List Node) (children : List (List ℕ)) (places : List ℕ) (leaf_lists : List (List ℕ)) : Type 0 where
+pub record AreTables (entries : List Entry) (names : List (List ℕ)) (nodes : List Node) (children : List (List ℕ)) (places : List ℕ)
+    (leaf_lists : List (List ℕ)) : Type 0 where
   pub accepted : first_refusal entries ≡ None
   pub few : length entries ≤ most_nodes
   pub lawful : IsTree (parents_of entries) (leaves_of entries)

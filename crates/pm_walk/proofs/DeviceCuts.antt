@@ -21,7 +21,8 @@ pub device-other : (plan : PlanData) (cut : Cut) (x : ℕ) → is_leaf plan x �
 device-other plan cut x other = cond-false (is_leaf plan x) (cut x) 0 other
 
 -- what is no device has made no change
-pub made-none : (plan : PlanData) (progress : List Progress) (x : ℕ) → IsPlan plan → HaveCome plan progress → is_leaf plan x ≡ false → cut_made progress x ≡ 0
+pub made-none : (plan : PlanData) (progress : List Progress) (x : ℕ) → IsPlan plan → HaveCome plan progress → is_leaf plan x ≡ false →
+    cut_made progress x ≡ 0
 made-none plan progress x is all other = elim (cases_lt (length plan.nodes) x) [
   | inl far ↦ made-beyond plan progress x all far
   | inr near ↦ made-other plan progress x is all near other

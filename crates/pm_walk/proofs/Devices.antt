@@ -1,5 +1,6 @@
 -- One more change of a device.
-use Rattle.std.proofs.Common.{◌≡◌, ◌∙◌, sym, ap, ℕ, zero, suc, ◌+◌, ◌-◌, ◌<◌, ◌≤◌, ℤ, Bool, true, false, List, [], ◌∷◌, length, take, get_or, arith, refl, subst}
+use Rattle.std.proofs.Common.{◌≡◌, ◌∙◌, sym, ap, ℕ, zero, suc, ◌+◌, ◌-◌, ◌<◌, ◌≤◌, ℤ, Bool, true, false, List, [], ◌∷◌}
+use Rattle.std.proofs.Common.{length, take, get_or, arith, refl, subst}
 use Rattle.std.specs.Prelude.{Option, Some, IsTrue}
 use Rattle.std.specs.List.{prefix_len}
 use Rattle.std.proofs.lemmas.Bool.Decides.{nat_tests}
@@ -11,7 +12,8 @@ use Rattle.pm_device.specs.declared.kind.Kind.{Kind}
 use Rattle.pm_plan.specs.declared.planned.Change.{Change}
 use Rattle.pm_plan.specs.declared.planned.Planned.{Planned}
 use Rattle.pm_plan.specs.Devices.{is_member_after, member_after}
-use Rattle.pm_plan.specs.Plans.{PlanData, node, kind_of, changes_of, is_leaf, is_up_to, is_member, change_count, all_changes, NodeData, node_at, planned, planned_at, end_cut}
+use Rattle.pm_plan.specs.Plans.{PlanData, node, kind_of, changes_of, is_leaf, is_up_to, is_member, change_count, all_changes, NodeData, node_at, planned}
+use Rattle.pm_plan.specs.Plans.{planned_at, end_cut}
 use Rattle.pm_plan.specs.Kept.{IsPlan, no_change, change_at, change_fits, InPhases}
 use Rattle.pm_plan.specs.Auction.{power}
 use Rattle.pm_plan.specs.States.{state, changed_state}
@@ -33,7 +35,8 @@ later plan d p n fits inside behind =
     let above : p < (change_at plan d e).phase = grind (arith, nat_tests) in
     omega arith
 
-pub used-within : (plan : PlanData) (p d : ℕ) (used : ℤ) → IsPlan plan → used ≡ power plan (state plan) (end_cut plan p) d → IsWithin demand_limit used
+pub used-within : (plan : PlanData) (p d : ℕ) (used : ℤ) → IsPlan plan → used ≡ power plan (state plan) (end_cut plan p) d →
+    IsWithin demand_limit used
 used-within plan p d used is used_is =
     subst (IsWithin demand_limit) (sym used_is) (power-within plan (end_cut plan p) d is (end-within plan p d))
 
@@ -46,7 +49,8 @@ planned_at-is (c ∷ cs) (suc n) inside = planned_at-is cs n (omega arith)
 pub planned-is : (plan : PlanData) (d n : ℕ) → n < change_count plan d → planned plan d (n + 1) ≡ Some (change_at plan d n).what
 planned-is plan d n inside = (let e : n + 1 ≡ suc n = omega arith in ap (planned plan d) e) ∙ planned_at-is (changes_of (node plan d)) n inside
 
-is_member-next : (plan : PlanData) (d n : ℕ) → n < change_count plan d → is_member plan d (n + 1) ≡ member_after (is_member plan d n) (change_at plan d n).what
+is_member-next : (plan : PlanData) (d n : ℕ) → n < change_count plan d →
+    is_member plan d (n + 1) ≡ member_after (is_member plan d n) (change_at plan d n).what
 unfolding is_member
 is_member-next plan d n inside =
     let changes = changes_of (node plan d) in
@@ -56,8 +60,10 @@ is_member-next plan d n inside =
 -- a device that makes its next change, which is of phase p
 pub reached-more : (plan : PlanData) (d p : ℕ) (before after' : Progress) (kind : Kind) (used : ℤ) (what : Planned) → IsPlan plan →
     is_leaf plan d ≡ true → HasKind (node plan d) kind → 1 ≤ p → HasCome plan d before →
-    before.count < end_cut plan p d → end_cut plan (p - 1) d ≤ before.count → used ≡ power plan (state plan) (end_cut plan (p - 1)) d → what ≡ (change_at plan d before.count).what →
-    after'.count ≡ before.count + 1 → after'.state.0 ≡ changed_state kind before.state.0 used what → after'.member ≡ member_after before.member what →
+    before.count < end_cut plan p d → end_cut plan (p - 1) d ≤ before.count →
+    used ≡ power plan (state plan) (end_cut plan (p - 1)) d → what ≡ (change_at plan d before.count).what →
+    after'.count ≡ before.count + 1 → after'.state.0 ≡ changed_state kind before.state.0 used what →
+    after'.member ≡ member_after before.member what →
     HasCome plan d after'
 reached-more plan d p before after' kind used what is leaf has first reached upto from used_is what_is count state' member =
     let n = before.count in
@@ -103,7 +109,8 @@ pub record IsNext (plan : PlanData) (d n : ℕ) (found : Option Planned) (what :
 some_is : {A : Type 0} (x y : A) → Some x ≡ Some y → x ≡ y
 some_is x y h = cc h
 
-pub next-is : (plan : PlanData) (d n : ℕ) (found : Option Planned) (what : Planned) → n < change_count plan d → IsNext plan d n found what → what ≡ (change_at plan d n).what
+pub next-is : (plan : PlanData) (d n : ℕ) (found : Option Planned) (what : Planned) → n < change_count plan d →
+    IsNext plan d n found what → what ≡ (change_at plan d n).what
 next-is plan d n found what inside next = some_is what (change_at plan d n).what (sym next.what_is ∙ next.found_is ∙ planned-is plan d n inside)
 
 pub next-fits : (plan : PlanData) (d n : ℕ) (found : Option Planned) (what : Planned) (kind : Kind) → IsPlan plan → n < change_count plan d →

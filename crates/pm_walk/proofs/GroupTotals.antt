@@ -1,5 +1,7 @@
 -- The total of all groups is within the limit of a sum, since each device is in one group and a clamped sum is nearer to 0.
-use Rattle.std.proofs.Common.{◌≡◌, ◌≢◌, ◌∙◌, sym, ap, ℕ, zero, suc, ◌+◌, ◌-◌, ◌*◌, ◌<◌, ◌≤◌, ℤ, pos, ◌+ℤ◌, ◌≤ℤ◌, Bool, true, false, cond, List, [], ◌∷◌, ◌++◌, length, map, refl, arith, subst, inl, inr, Option, Some, None}
+use Rattle.std.proofs.Common.{◌≡◌, ◌≢◌, ◌∙◌, sym, ap, ℕ, zero, suc, ◌+◌, ◌-◌, ◌*◌, ◌<◌, ◌≤◌, ℤ, pos, ◌+ℤ◌}
+use Rattle.std.proofs.Common.{◌≤ℤ◌, Bool, true, false, cond, List, [], ◌∷◌, ◌++◌, length, map, refl, arith, subst, inl, inr, Option, Some}
+use Rattle.std.proofs.Common.{None}
 use Rattle.std.specs.Prelude.{◌==◌, filter, is_some}
 use Rattle.std.specs.List.{range_with_len}
 use Rattle.std.proofs.lemmas.Bool.{cases_eq, eq-eqb, ne_eqb, cond-true, cond-false}
@@ -95,7 +97,8 @@ sizes-within f k a (suc n) p =
     omega (arith, sizes-more f gs a n, sizes-within f k (a + 1) n p, once f k a p)
 
 -- at a step the sum of a group is at most as many times the limit as it has devices
-sum-size : (plan : PlanData) (s : States) (cut : Cut) (g a n step : ℕ) → 1 ≤ a → a + n ≤ 1 + length plan.nodes → step < plan.basis.steps → Fit plan s cut →
+sum-size : (plan : PlanData) (s : States) (cut : Cut) (g a n step : ℕ) → 1 ≤ a → a + n ≤ 1 + length plan.nodes →
+    step < plan.basis.steps → Fit plan s cut →
     IsWithin (size (group plan) g a n * demand_limit) (total_at (map (part_in plan s cut g) (range_with_len a n)) step)
 unfolding size
 sum-size plan s cut g a zero step low high below fit = record { low = omega (arith, ints); high = omega (arith, ints) }
@@ -108,20 +111,24 @@ sum-size plan s cut g a (suc n) step low high below fit =
           record { low = omega (arith, ints, one, here.low, rest.low); high = omega (arith, ints, one, here.high, rest.high) }
       | inr other ↦
           let none = cond-false {A = ℕ} (group plan a == g) 1 0 (ne_eqb (group plan a) g other) in
-          let here : demand_at (part_in plan s cut g a) step ≡ pos 0 = ap (λ bid. demand_at bid step) (part_other plan s cut g a other) ∙ zeros-at plan.basis.steps step in
+          let here : demand_at (part_in plan s cut g a) step ≡ pos 0 =
+          ap (λ bid. demand_at bid step) (part_other plan s cut g a other) ∙ zeros-at plan.basis.steps step in
           record { low = omega (arith, ints, none, here, rest.low); high = omega (arith, ints, none, here, rest.high) }
     ]
 
 within_more : (m n : ℕ) (a b : ℤ) → IsWithin (m * demand_limit) a → IsWithin (n * demand_limit) b → IsWithin ((m + n) * demand_limit) (a +ℤ b)
 within_more m n a b h k = record { low = omega (arith, ints, h.low, k.low); high = omega (arith, ints, h.high, k.high) }
 
-nearest_within : (limit : ℕ) (floor ceiling z : ℤ) → floor ≤ℤ pos 0 → pos 0 ≤ℤ ceiling → IsWithin limit z → IsWithin limit (nearest floor ceiling z)
+nearest_within : (limit : ℕ) (floor ceiling z : ℤ) → floor ≤ℤ pos 0 → pos 0 ≤ℤ ceiling → IsWithin limit z →
+    IsWithin limit (nearest floor ceiling z)
 nearest_within limit floor ceiling z low high h = record { low = omega (arith, ints, clamps, h.low, h.high); high = omega (arith, ints, clamps, h.low, h.high) }
 
-group_sum : (plan : PlanData) (s : States) (cut : Cut) (g step : ℕ) → step < plan.basis.steps → Fit plan s cut → IsWithin (size (group plan) g 1 (length plan.nodes) * demand_limit) (demand_at (sum_in plan s cut g) step)
+group_sum : (plan : PlanData) (s : States) (cut : Cut) (g step : ℕ) → step < plan.basis.steps → Fit plan s cut →
+    IsWithin (size (group plan) g 1 (length plan.nodes) * demand_limit) (demand_at (sum_in plan s cut g) step)
 unfolding sum_in
 group_sum plan s cut g step below fit =
-    subst (IsWithin (size (group plan) g 1 (length plan.nodes) * demand_limit)) (sym (sum_of-at plan.basis.steps (map (part_in plan s cut g) (node_numbers plan)) step (parts_fit plan s cut g fit) below))
+    subst (IsWithin (size (group plan) g 1 (length plan.nodes) * demand_limit))
+    (sym (sum_of-at plan.basis.steps (map (part_in plan s cut g) (node_numbers plan)) step (parts_fit plan s cut g fit) below))
     (sum-size plan s cut g 1 (length plan.nodes) step (omega arith) (omega arith) below fit)
 
 limited_within : (plan : PlanData) (g limit step : ℕ) (l : Option Limits) (bid : List ℤ) → limits_of (node plan g) ≡ l → IsPlan plan →
@@ -132,7 +139,8 @@ limited_within plan g limit step (Some l) bid e is inside h =
     subst (IsWithin limit) (sym (clamped-at l.floor l.ceiling bid step inside))
     (nearest_within limit l.floor l.ceiling (demand_at bid step) limits.floor_not_positive limits.ceiling_not_negative h)
 
-announced_within : (plan : PlanData) (s : States) (cut : Cut) (g step : ℕ) → IsPlan plan → step < plan.basis.steps → Fit plan s cut → IsWithin (size (group plan) g 1 (length plan.nodes) * demand_limit) (demand_at (announced plan s cut g) step)
+announced_within : (plan : PlanData) (s : States) (cut : Cut) (g step : ℕ) → IsPlan plan → step < plan.basis.steps → Fit plan s cut →
+    IsWithin (size (group plan) g 1 (length plan.nodes) * demand_limit) (demand_at (announced plan s cut g) step)
 unfolding announced
 announced_within plan s cut g step is below fit =
     limited_within plan g _ step (limits_of (node plan g)) (sum_in plan s cut g) refl is (omega (arith, sum_fits plan s cut g fit))
@@ -148,20 +156,24 @@ announced_steps plan s cut g fit = limited_steps (limits_of (node plan g)) (sum_
 
 all_announced : (plan : PlanData) (s : States) (cut : Cut) (gs : List ℕ) → Fit plan s cut → HaveSteps plan.basis.steps (map (announced plan s cut) gs)
 all_announced plan s cut [] fit = All-nil (Has plan.basis.steps)
-all_announced plan s cut (g ∷ gs) fit = All-cons (Has plan.basis.steps) (announced plan s cut g) (map (announced plan s cut) gs) (announced_steps plan s cut g fit) (all_announced plan s cut gs fit)
+all_announced plan s cut (g ∷ gs) fit = All-cons (Has plan.basis.steps) (announced plan s cut g) (map (announced plan s cut) gs)
+    (announced_steps plan s cut g fit) (all_announced plan s cut gs fit)
 
 groups_within : (plan : PlanData) (s : States) (cut : Cut) (gs : List ℕ) (step : ℕ) → IsPlan plan → step < plan.basis.steps → Fit plan s cut →
     IsWithin (sizes (group plan) gs 1 (length plan.nodes) * demand_limit) (total_at (map (announced plan s cut) gs) step)
 unfolding sizes
 groups_within plan s cut [] step is below fit = record { low = omega (arith, ints); high = omega (arith, ints) }
 groups_within plan s cut (g ∷ gs) step is below fit =
-    within_more (size (group plan) g 1 (length plan.nodes)) (sizes (group plan) gs 1 (length plan.nodes)) _ _ (announced_within plan s cut g step is below fit) (groups_within plan s cut gs step is below fit)
+    within_more (size (group plan) g 1 (length plan.nodes)) (sizes (group plan) gs 1 (length plan.nodes)) _ _
+    (announced_within plan s cut g step is below fit) (groups_within plan s cut gs step is below fit)
 
 pub total_to-steps : (plan : PlanData) (s : States) (cut : Cut) (k : ℕ) → Fit plan s cut → length (total_to plan s cut k) ≡ plan.basis.steps
 unfolding total_to
-total_to-steps plan s cut k fit = length-sum_of plan.basis.steps (map (announced plan s cut) (groups_to plan k)) (all_announced plan s cut (groups_to plan k) fit)
+total_to-steps plan s cut k fit =
+    length-sum_of plan.basis.steps (map (announced plan s cut) (groups_to plan k)) (all_announced plan s cut (groups_to plan k) fit)
 
-pub total_to-within : (plan : PlanData) (s : States) (cut : Cut) (k : ℕ) → IsPlan plan → Fit plan s cut → AllWithinLimit sum_limit (total_to plan s cut k)
+pub total_to-within : (plan : PlanData) (s : States) (cut : Cut) (k : ℕ) → IsPlan plan → Fit plan s cut →
+    AllWithinLimit sum_limit (total_to plan s cut k)
 unfolding total_to
 total_to-within plan s cut k is fit step inside =
     let gs = groups_to plan k in
@@ -171,7 +183,8 @@ total_to-within plan s cut k is fit step inside =
     let few : sizes (group plan) gs 1 n ≤ n = sizes-within (group plan) k 1 n (is_limited plan) in
     let nodes = is.nodes.few in
     wider (sizes (group plan) gs 1 n * demand_limit) sum_limit _ (omega arith)
-    (subst (IsWithin (sizes (group plan) gs 1 n * demand_limit)) (sym (sum_of-at plan.basis.steps (map (announced plan s cut) gs) step all below)) (groups_within plan s cut gs step is below fit))
+    (subst (IsWithin (sizes (group plan) gs 1 n * demand_limit))
+    (sym (sum_of-at plan.basis.steps (map (announced plan s cut) gs) step all below)) (groups_within plan s cut gs step is below fit))
 
 pub total_to-all : (plan : PlanData) (s : States) (cut : Cut) → total_to plan s cut (length plan.nodes) ≡ total plan s cut
 unfolding total_to total announced
@@ -181,24 +194,33 @@ pub total_to-none : (plan : PlanData) (s : States) (cut : Cut) → Fit plan s cu
 unfolding total_to announced
 total_to-none plan s cut fit = added_zeros plan.basis.steps (sum_in plan s cut 0) (sum_fits plan s cut 0 fit)
 
-sum_of-push : (steps : ℕ) (xs : List (List ℤ)) (y : List ℤ) → HaveSteps steps xs → length y ≡ steps → sum_of steps (xs ++ y ∷ []) ≡ added (sum_of steps xs) y
+sum_of-push : (steps : ℕ) (xs : List (List ℤ)) (y : List ℤ) → HaveSteps steps xs → length y ≡ steps →
+    sum_of steps (xs ++ y ∷ []) ≡ added (sum_of steps xs) y
 sum_of-push steps xs y all same =
-    sum_of-append steps xs (y ∷ []) all (All-cons (Has steps) y [] same (All-nil (Has steps))) ∙ ap (λ z. added (sum_of steps xs) z) (added_zeros steps y same)
+    sum_of-append steps xs (y ∷ []) all (All-cons (Has steps) y [] same (All-nil (Has steps)))
+    ∙ ap (λ z. added (sum_of steps xs) z) (added_zeros steps y same)
 
 groups-more : (plan : PlanData) (k : ℕ) → groups_to plan (k + 1) ≡ groups_to plan k ++ cond (is_limited plan (1 + k)) ((1 + k) ∷ []) []
-groups-more plan k = ap (λ xs. 0 ∷ filter (is_limited plan) xs) (range_with_len-more 1 k) ∙ ap (λ xs. 0 ∷ xs) (filter-append (is_limited plan) (range_with_len 1 k) ((1 + k) ∷ []))
+groups-more plan k = ap (λ xs. 0 ∷ filter (is_limited plan) xs) (range_with_len-more 1 k)
+    ∙ ap (λ xs. 0 ∷ xs) (filter-append (is_limited plan) (range_with_len 1 k) ((1 + k) ∷ []))
 
-pub total_to-more : (plan : PlanData) (s : States) (cut : Cut) (k : ℕ) → is_limited plan (1 + k) ≡ true → Fit plan s cut → total_to plan s cut (k + 1) ≡ added (total_to plan s cut k) (announced plan s cut (1 + k))
+pub total_to-more : (plan : PlanData) (s : States) (cut : Cut) (k : ℕ) → is_limited plan (1 + k) ≡ true → Fit plan s cut →
+    total_to plan s cut (k + 1) ≡ added (total_to plan s cut k) (announced plan s cut (1 + k))
 unfolding total_to
 total_to-more plan s cut k limited fit =
-    ap (λ gs. sum_of plan.basis.steps (map (announced plan s cut) gs)) (groups-more plan k ∙ ap (λ gs. groups_to plan k ++ gs) (cond-true {A = List ℕ} (is_limited plan (1 + k)) ((1 + k) ∷ []) [] limited))
+    ap (λ gs. sum_of plan.basis.steps (map (announced plan s cut) gs))
+    (groups-more plan k ∙ ap (λ gs. groups_to plan k ++ gs) (cond-true {A = List ℕ} (is_limited plan (1 + k)) ((1 + k) ∷ []) [] limited))
     ∙ ap (sum_of plan.basis.steps) (map-append (announced plan s cut) (groups_to plan k) ((1 + k) ∷ []))
-    ∙ sum_of-push plan.basis.steps (map (announced plan s cut) (groups_to plan k)) (announced plan s cut (1 + k)) (all_announced plan s cut (groups_to plan k) fit) (announced_steps plan s cut (1 + k) fit)
+    ∙ sum_of-push plan.basis.steps (map (announced plan s cut) (groups_to plan k)) (announced plan s cut (1 + k))
+    (all_announced plan s cut (groups_to plan k) fit) (announced_steps plan s cut (1 + k) fit)
 
-pub total_to-same : (plan : PlanData) (s : States) (cut : Cut) (k : ℕ) → is_limited plan (1 + k) ≡ false → total_to plan s cut (k + 1) ≡ total_to plan s cut k
+pub total_to-same : (plan : PlanData) (s : States) (cut : Cut) (k : ℕ) → is_limited plan (1 + k) ≡ false →
+    total_to plan s cut (k + 1) ≡ total_to plan s cut k
 unfolding total_to
 total_to-same plan s cut k limited =
-    ap (λ gs. sum_of plan.basis.steps (map (announced plan s cut) gs)) (groups-more plan k ∙ ap (λ gs. groups_to plan k ++ gs) (cond-false {A = List ℕ} (is_limited plan (1 + k)) ((1 + k) ∷ []) [] limited) ∙ append-nil (groups_to plan k))
+    ap (λ gs. sum_of plan.basis.steps (map (announced plan s cut) gs))
+    (groups-more plan k ∙ ap (λ gs. groups_to plan k ++ gs)
+    (cond-false {A = List ℕ} (is_limited plan (1 + k)) ((1 + k) ∷ []) [] limited) ∙ append-nil (groups_to plan k))
 
 pub announced_is : (plan : PlanData) (s : States) (cut : Cut) (g : ℕ) (limits : Limits) (x y : List ℤ) → limits_of (node plan g) ≡ Some limits →
     x ≡ sum_in plan s cut g → y ≡ clamped limits.floor limits.ceiling x → y ≡ announced plan s cut g

@@ -4,7 +4,8 @@ use Rattle.std.specs.Prelude.{Some, Option, option_map}
 use Rattle.pm_tree.specs.declared.node.NodeId.{NodeId}
 use Rattle.pm_tree.proofs.Named.{length-parents_of}
 use Rattle.pm_plan.specs.declared.planned.Change.{Change}
-use Rattle.pm_plan.specs.Plans.{PlanData, NodeData, node, changes_of, parent, is_leaf, is_limited, group, group_in, unless_zero, group_above, change_count, end_cut}
+use Rattle.pm_plan.specs.Plans.{PlanData, NodeData, node, changes_of, parent, is_leaf, is_limited, group, group_in, unless_zero, group_above, change_count}
+use Rattle.pm_plan.specs.Plans.{end_cut}
 use Rattle.pm_plan.specs.Kept.{IsPlan}
 use Rattle.pm_plan.proofs.DeviceNodes.{changes_of-none, node-beyond}
 use Rattle.pm_plan.proofs.Ends.{end-within}
@@ -42,7 +43,8 @@ unfolding group_in
 group_in_inside plan zero x is inside = omega arith
 group_in_inside plan (suc levels) x is inside =
     let up = parent_inside plan x is inside in
-    cond_within (is_limited plan (parent plan x)) (parent plan x) (group_in plan levels (parent plan x)) (length plan.nodes) up (group_in_inside plan levels (parent plan x) is up)
+    cond_within (is_limited plan (parent plan x)) (parent plan x) (group_in plan levels (parent plan x)) (length plan.nodes) up
+    (group_in_inside plan levels (parent plan x) is up)
 
 pub group_inside : (plan : PlanData) (x : ℕ) → IsPlan plan → x ≤ length plan.nodes → group plan x ≤ length plan.nodes
 unfolding group
@@ -53,5 +55,7 @@ some_group zero h e = absurd (cc e)
 some_group (suc g) h e = cc e
 
 -- the group that is found above a node is its group
-pub group_found : (plan : PlanData) (x : ℕ) (found : Option NodeId) (g : NodeId) → option_map (λ (n : NodeId). n.0) found ≡ group_above plan x → found ≡ Some g → g.0 ≡ group plan x
-group_found plan x found g found_is here = some_group (group plan x) g.0 (sym (ap (λ (o : Option NodeId). option_map (λ (n : NodeId). n.0) o) here) ∙ found_is)
+pub group_found : (plan : PlanData) (x : ℕ) (found : Option NodeId) (g : NodeId) →
+    option_map (λ (n : NodeId). n.0) found ≡ group_above plan x → found ≡ Some g → g.0 ≡ group plan x
+group_found plan x found g found_is here =
+    some_group (group plan x) g.0 (sym (ap (λ (o : Option NodeId). option_map (λ (n : NodeId). n.0) o) here) ∙ found_is)

@@ -1,5 +1,6 @@
 -- A run from phase to phase.
-use Rattle.std.proofs.Common.{◌≡◌, ◌∙◌, sym, ap, ℕ, zero, suc, ◌+◌, ◌-◌, ◌≤◌, List, [], ◌∷◌, ◌++◌, length, map, arith, inl, inr}
+use Rattle.std.proofs.Common.{◌≡◌, ◌∙◌, sym, ap, ℕ, zero, suc, ◌+◌, ◌-◌, ◌≤◌, List, [], ◌∷◌, ◌++◌, length, map, arith}
+use Rattle.std.proofs.Common.{inl, inr}
 use Rattle.std.proofs.Math.Path.{fun_ext}
 use Rattle.std.proofs.Math.ListN.{get_or-eq_default}
 use Rattle.std.specs.Prelude.{Result, Ok, Err, IfOk, min}
@@ -24,7 +25,8 @@ use Rattle.pm_walk.specs.Runs.{IsRun, IsAtEnd}
 pub none_made : (plan : PlanData) (cut : Cut) → IsPlan plan → ((x : ℕ) → cut x ≡ 0) → cut ≡ end_cut plan 0
 none_made plan cut is none = fun_ext (λ x. none x ∙ sym (end-none plan x is.in_phases))
 
-pub start_stops : (plan : PlanData) (counts : List ℕ) (progress : List Progress) → IsPlan plan → HaveCome plan progress → ((x : ℕ) → cut_made progress x ≡ 0) → AreStops plan counts 0 progress
+pub start_stops : (plan : PlanData) (counts : List ℕ) (progress : List Progress) → IsPlan plan → HaveCome plan progress →
+    ((x : ℕ) → cut_made progress x ≡ 0) → AreStops plan counts 0 progress
 start_stops plan counts progress is all none = record {
   reached = all;
   cut = fun_ext (λ x. none x ∙ (let none_of : 0 ≡ min (file_cut counts x) (end_cut plan 0 x) = omega (arith, end-none plan x is.in_phases) in none_of));
@@ -35,18 +37,21 @@ pub if_both : {A E : Type 0} (P Q R : A → Type 0) → ((x : A) → P x → Q x
 if_both P Q R both (Ok x) first second = both x first second
 if_both P Q R both (Err e) first second = second
 
-pub run_at : (plan : PlanData) (p : ℕ) (standing : StandingValue) → cut_made standing.progress ≡ end_cut plan p → (run : Run) → IsRun plan run → run.standing ≡ standing → IsAtEnd plan p run
+pub run_at : (plan : PlanData) (p : ℕ) (standing : StandingValue) → cut_made standing.progress ≡ end_cut plan p → (run : Run) →
+    IsRun plan run → run.standing ≡ standing → IsAtEnd plan p run
 run_at plan p standing cut run sound same = record { sound = sound; cut = ap (λ (s : StandingValue). cut_made s.progress) same ∙ cut }
 
 -- ---- one more phase
 
-pub ends_more : (plan : PlanData) (p : ℕ) (ends : List EndValue) (new : EndValue) → 1 ≤ p → map (λ (e : EndValue). e.end) ends ≡ map (λ q. end_of plan (end_cut plan q)) (range_with_len 1 (p - 1)) → new.end ≡ end_of plan (end_cut plan p) →
+pub ends_more : (plan : PlanData) (p : ℕ) (ends : List EndValue) (new : EndValue) → 1 ≤ p →
+    map (λ (e : EndValue). e.end) ends ≡ map (λ q. end_of plan (end_cut plan q)) (range_with_len 1 (p - 1)) → new.end ≡ end_of plan (end_cut plan p) →
     map (λ (e : EndValue). e.end) ends ++ new.end ∷ [] ≡ map (λ q. end_of plan (end_cut plan q)) (range_with_len 1 (p + 1 - 1))
 ends_more plan p ends new low before new_is =
     let f = λ (q : ℕ). end_of plan (end_cut plan q) in
     ap (λ xs. xs ++ new.end ∷ []) before
     ∙ ap (λ (x : EndData). map f (range_with_len 1 (p - 1)) ++ x ∷ []) new_is
-    ∙ sym ((let e : p + 1 - 1 ≡ (p - 1) + 1 = omega arith in ap (λ n. map f (range_with_len 1 n)) e) ∙ map-range_with_len_more f 1 (p - 1) p (omega arith))
+    ∙ sym ((let e : p + 1 - 1 ≡ (p - 1) + 1 = omega arith in ap (λ n. map f (range_with_len 1 n)) e)
+    ∙ map-range_with_len_more f 1 (p - 1) p (omega arith))
 
 -- ---- after the last phase
 
@@ -54,13 +59,16 @@ ends_more plan p ends new low before new_is =
 abbrev pub IsPlanned : PlanData → List ℕ → Type 0
 IsPlanned plan counts = (x : ℕ) → 1 ≤ x → x ≤ length plan.nodes → file_cut counts x ≤ change_count plan x
 
-within_at : (plan : PlanData) (counts : List ℕ) → length counts ≡ length plan.nodes → IsPlanned plan counts → (x : ℕ) → file_cut counts x ≤ change_count plan x
+within_at : (plan : PlanData) (counts : List ℕ) → length counts ≡ length plan.nodes → IsPlanned plan counts → (x : ℕ) →
+    file_cut counts x ≤ change_count plan x
 within_at plan counts many planned zero = omega arith
 within_at plan counts many planned (suc x) = elim (cases_lt (length plan.nodes) (suc x)) [
   | inl far ↦ omega (arith, get_or-eq_default counts 0 {n = x} (omega arith))
   | inr near ↦ planned (suc x) (omega arith) near
 ]
 
-pub cut_reached : (plan : PlanData) (counts : List ℕ) → IsPlan plan → length counts ≡ length plan.nodes → IsPlanned plan counts → earlier_cut (file_cut counts) (end_cut plan (phases plan)) ≡ file_cut counts
+pub cut_reached : (plan : PlanData) (counts : List ℕ) → IsPlan plan → length counts ≡ length plan.nodes → IsPlanned plan counts →
+    earlier_cut (file_cut counts) (end_cut plan (phases plan)) ≡ file_cut counts
 cut_reached plan counts is many planned =
-    fun_ext (λ x. (let same : min (file_cut counts x) (end_cut plan (phases plan) x) ≡ file_cut counts x = omega (arith, end-last plan x is.in_phases, within_at plan counts many planned x) in same))
+    fun_ext (λ x. (let same : min (file_cut counts x) (end_cut plan (phases plan) x) ≡ file_cut counts x =
+    omega (arith, end-last plan x is.in_phases, within_at plan counts many planned x) in same))

@@ -1,5 +1,6 @@
 -- What is kept before the first change, and after a device has come further.
-use Rattle.std.proofs.Common.{◌≡◌, ◌≢◌, ◌∙◌, sym, ap, ℕ, zero, suc, ◌+◌, ◌<◌, ◌≤◌, ℤ, Bool, true, false, cond, List, [], ◌∷◌, Some, length, map, get_or, replicate, refl, arith, subst, inl, inr}
+use Rattle.std.proofs.Common.{◌≡◌, ◌≢◌, ◌∙◌, sym, ap, ℕ, zero, suc, ◌+◌, ◌<◌, ◌≤◌, ℤ, Bool, true, false, cond, List, []}
+use Rattle.std.proofs.Common.{◌∷◌, Some, length, map, get_or, replicate, refl, arith, subst, inl, inr}
 use Rattle.std.proofs.Math.Path.{fun_ext}
 use Rattle.std.proofs.Math.ListN.{set, length-set, get_or-eq_default}
 use Rattle.std.specs.Prelude.{◌==◌}
@@ -24,7 +25,8 @@ use Rattle.pm_walk.proofs.Sums.{Fit, fits, demand_cut, sum_fits, sum_within, sum
 
 -- ---- cuts of changes made
 
-pub made-within : (plan : PlanData) (progress : List Progress) → HaveCome plan progress → (x : ℕ) → x ≤ length plan.nodes → cut_made progress x ≤ change_count plan x
+pub made-within : (plan : PlanData) (progress : List Progress) → HaveCome plan progress → (x : ℕ) → x ≤ length plan.nodes →
+    cut_made progress x ≤ change_count plan x
 made-within plan progress all x inside = (all.reached x inside).within
 
 -- no change is made by the auctioneer, nor by what is beyond the nodes
@@ -35,14 +37,17 @@ pub made-beyond : (plan : PlanData) (progress : List Progress) (x : ℕ) → Hav
 made-beyond plan progress x all far = ap (λ (p : Progress). p.count) (get_or-eq_default progress no_progress (omega (arith, all.one_each)))
 
 -- nor by a node that is no device
-pub made-other : (plan : PlanData) (progress : List Progress) (x : ℕ) → IsPlan plan → HaveCome plan progress → x ≤ length plan.nodes → is_leaf plan x ≡ false → cut_made progress x ≡ 0
+pub made-other : (plan : PlanData) (progress : List Progress) (x : ℕ) → IsPlan plan → HaveCome plan progress → x ≤ length plan.nodes →
+    is_leaf plan x ≡ false → cut_made progress x ≡ 0
 made-other plan progress x is all inside other = omega (arith, (all.reached x inside).within, no_changes plan x is other)
 
 pub standing_fits : (plan : PlanData) (standing : StandingValue) → IsStanding plan standing → Fit plan (state plan) (cut_made standing.progress)
 standing_fits plan standing stands = fits plan (cut_made standing.progress) stands.sound (made-within plan standing.progress stands.progress)
 
-group_sum_steps : (plan : PlanData) (standing : StandingValue) (g : ℕ) (sum : List ℤ) → IsStanding plan standing → sum ≡ sum_in plan (state plan) (cut_made standing.progress) g → length sum ≡ plan.basis.steps
-group_sum_steps plan standing g sum stands sum_is = ap (λ l. length l) sum_is ∙ sum_fits plan (state plan) (cut_made standing.progress) g (standing_fits plan standing stands)
+group_sum_steps : (plan : PlanData) (standing : StandingValue) (g : ℕ) (sum : List ℤ) → IsStanding plan standing →
+    sum ≡ sum_in plan (state plan) (cut_made standing.progress) g → length sum ≡ plan.basis.steps
+group_sum_steps plan standing g sum stands sum_is =
+    ap (λ l. length l) sum_is ∙ sum_fits plan (state plan) (cut_made standing.progress) g (standing_fits plan standing stands)
 
 is_member-none : (plan : PlanData) (d : ℕ) → is_member plan d 0 ≡ false
 unfolding is_member
@@ -54,23 +59,29 @@ demand-none plan s cut d h =
     ap (λ b. cond b (node_bid plan (node plan d) (s d (cut d))) (zeros plan.basis.steps)) (ap (is_member plan d) h ∙ is_member-none plan d)
 
 -- the auctioneer is no member
-demand-zero : (plan : PlanData) (standing : StandingValue) → IsStanding plan standing → length (demand_in_cut plan (state plan) (cut_made standing.progress) 0) ≡ plan.basis.steps
-demand-zero plan standing stands = ap (λ l. length l) (demand-none plan (state plan) (cut_made standing.progress) 0 (made-zero plan standing.progress stands.progress)) ∙ length-zeros plan.basis.steps
+demand-zero : (plan : PlanData) (standing : StandingValue) → IsStanding plan standing →
+    length (demand_in_cut plan (state plan) (cut_made standing.progress) 0) ≡ plan.basis.steps
+demand-zero plan standing stands = ap (λ l. length l)
+    (demand-none plan (state plan) (cut_made standing.progress) 0 (made-zero plan standing.progress stands.progress)) ∙ length-zeros plan.basis.steps
 
-demand_steps-at : (plan : PlanData) (standing : StandingValue) (x : ℕ) → IsStanding plan standing → x ≤ length plan.nodes → length (demand_in_cut plan (state plan) (cut_made standing.progress) x) ≡ plan.basis.steps
+demand_steps-at : (plan : PlanData) (standing : StandingValue) (x : ℕ) → IsStanding plan standing → x ≤ length plan.nodes →
+    length (demand_in_cut plan (state plan) (cut_made standing.progress) x) ≡ plan.basis.steps
 demand_steps-at plan standing zero stands inside = demand-zero plan standing stands
 demand_steps-at plan standing (suc x) stands inside = (standing_fits plan standing stands).steps (suc x) (omega arith) inside
 
-node_demand_steps : (plan : PlanData) (standing : StandingValue) (x : ℕ) (demand : List ℤ) → IsStanding plan standing → x ≤ length plan.nodes → demand ≡ demand_in_cut plan (state plan) (cut_made standing.progress) x → length demand ≡ plan.basis.steps
+node_demand_steps : (plan : PlanData) (standing : StandingValue) (x : ℕ) (demand : List ℤ) → IsStanding plan standing →
+    x ≤ length plan.nodes → demand ≡ demand_in_cut plan (state plan) (cut_made standing.progress) x → length demand ≡ plan.basis.steps
 node_demand_steps plan standing x demand stands inside demand_is = ap (λ l. length l) demand_is ∙ demand_steps-at plan standing x stands inside
 
 -- what is read of a group and of a node has the steps of the basis
-pub kept_sum : (plan : PlanData) (old kept : StandingValue) (g : ℕ) (x : List ℤ) → old ≡ kept → IsStanding plan kept → g ≤ length plan.nodes → x ≡ get_or old.sums g x → length x ≡ plan.basis.steps
+pub kept_sum : (plan : PlanData) (old kept : StandingValue) (g : ℕ) (x : List ℤ) → old ≡ kept → IsStanding plan kept →
+    g ≤ length plan.nodes → x ≡ get_or old.sums g x → length x ≡ plan.basis.steps
 kept_sum plan old kept g x e stands inside read =
     let there = subst (IsStanding plan) (sym e) stands in
     group_sum_steps plan old g x there (read ∙ get_or_default old.sums g x [] (omega (arith, there.sum_each)) ∙ there.sums g inside)
 
-pub kept_demand : (plan : PlanData) (old kept : StandingValue) (d : ℕ) (x : List ℤ) → old ≡ kept → IsStanding plan kept → d ≤ length plan.nodes → x ≡ get_or old.demands d x → length x ≡ plan.basis.steps
+pub kept_demand : (plan : PlanData) (old kept : StandingValue) (d : ℕ) (x : List ℤ) → old ≡ kept → IsStanding plan kept →
+    d ≤ length plan.nodes → x ≡ get_or old.demands d x → length x ≡ plan.basis.steps
 kept_demand plan old kept d x e stands inside read =
     let there = subst (IsStanding plan) (sym e) stands in
     node_demand_steps plan old d x there inside (read ∙ get_or_default old.demands d x [] (omega (arith, there.demand_each)) ∙ there.demands d inside)
@@ -87,7 +98,8 @@ pub record AreBetween (n : ℕ) (progress : List Progress) (after before : Cut) 
   pub left : (x : ℕ) → n ≤ x → cut_made progress x ≡ before x
 
 -- node n has made as many as it has to, and the other nodes stay
-pub between-more : (n : ℕ) (old new : List Progress) (after before : Cut) → AreBetween n old after before → cut_made new n ≡ after n → ((x : ℕ) → x ≢ n → cut_made new x ≡ cut_made old x) → AreBetween (n + 1) new after before
+pub between-more : (n : ℕ) (old new : List Progress) (after before : Cut) → AreBetween n old after before → cut_made new n ≡ after n →
+    ((x : ℕ) → x ≢ n → cut_made new x ≡ cut_made old x) → AreBetween (n + 1) new after before
 between-more n old new after before between here others = record {
   done = λ x below. elim (cases_eq x n) [
     | inl same ↦ subst (λ (k : ℕ). cut_made new k ≡ after k) (sym same) here
@@ -97,7 +109,8 @@ between-more n old new after before between here others = record {
 }
 
 -- node n has none to make
-pub between-passed : (n : ℕ) (progress : List Progress) (after before : Cut) → AreBetween n progress after before → before n ≡ after n → AreBetween (n + 1) progress after before
+pub between-passed : (n : ℕ) (progress : List Progress) (after before : Cut) → AreBetween n progress after before →
+    before n ≡ after n → AreBetween (n + 1) progress after before
 between-passed n progress after before between none = record {
   done = λ x below. elim (cases_eq x n) [
     | inl same ↦ subst (λ (k : ℕ). cut_made progress k ≡ after k) (sym same) (between.left n (omega arith) ∙ none)
@@ -106,26 +119,31 @@ between-passed n progress after before between none = record {
   left = λ x from. between.left x (omega arith);
 }
 
-between_at : (n : ℕ) (progress : List Progress) (after before : Cut) → AreBetween n progress after before → ((x : ℕ) → n ≤ x → before x ≡ after x) → (x : ℕ) → cut_made progress x ≡ after x
+between_at : (n : ℕ) (progress : List Progress) (after before : Cut) → AreBetween n progress after before →
+    ((x : ℕ) → n ≤ x → before x ≡ after x) → (x : ℕ) → cut_made progress x ≡ after x
 between_at n progress after before between none x = elim (cases_lt x n) [
   | inl below ↦ between.done x below
   | inr beyond ↦ between.left x beyond ∙ none x beyond
 ]
 
 -- the nodes from n on have none to make
-pub all_between : (n : ℕ) (progress : List Progress) (after before : Cut) → AreBetween n progress after before → ((x : ℕ) → n ≤ x → before x ≡ after x) → cut_made progress ≡ after
+pub all_between : (n : ℕ) (progress : List Progress) (after before : Cut) → AreBetween n progress after before →
+    ((x : ℕ) → n ≤ x → before x ≡ after x) → cut_made progress ≡ after
 all_between n progress after before between none = fun_ext (between_at n progress after before between none)
 
-pub all_done : (plan : PlanData) (progress : List Progress) (n p q : ℕ) → AreBetween n progress (end_cut plan p) (end_cut plan q) → length plan.nodes < n → cut_made progress ≡ end_cut plan p
+pub all_done : (plan : PlanData) (progress : List Progress) (n p q : ℕ) → AreBetween n progress (end_cut plan p) (end_cut plan q) →
+    length plan.nodes < n → cut_made progress ≡ end_cut plan p
 all_done plan progress n p q between all =
     all_between n progress (end_cut plan p) (end_cut plan q) between (λ x from. end-beyond plan q x (omega arith) ∙ sym (end-beyond plan p x (omega arith)))
 
 -- the number of a node whose progress is set, and of the others
 pub made-here : (old new : List Progress) (n : ℕ) (here : Progress) → n < length old → new ≡ set old n here → cut_made new n ≡ here.count
-made-here old new n here inside new_is = ap (λ (l : List Progress). cut_made l n) new_is ∙ ap (λ (p : Progress). p.count) (get_or-set_same old n here no_progress inside)
+made-here old new n here inside new_is = ap (λ (l : List Progress). cut_made l n) new_is
+    ∙ ap (λ (p : Progress). p.count) (get_or-set_same old n here no_progress inside)
 
 pub made-others : (old new : List Progress) (n x : ℕ) (here : Progress) → new ≡ set old n here → x ≢ n → cut_made new x ≡ cut_made old x
-made-others old new n x here new_is other = ap (λ (l : List Progress). cut_made l x) new_is ∙ ap (λ (p : Progress). p.count) (get_or-set_other old n x here no_progress other)
+made-others old new n x here new_is other = ap (λ (l : List Progress). cut_made l x) new_is
+    ∙ ap (λ (p : Progress). p.count) (get_or-set_other old n x here no_progress other)
 
 -- ---- a device comes further
 
@@ -137,7 +155,8 @@ put plan old d here bid = record {
   sums = set old.sums (group plan d) (added (taken_off (get_or old.sums (group plan d) []) (get_or old.demands d [])) bid);
 }
 
-pub reached-set : (plan : PlanData) (progress : List Progress) (d : ℕ) (here : Progress) → d ≤ length plan.nodes → HaveCome plan progress → HasCome plan d here → HaveCome plan (set progress d here)
+pub reached-set : (plan : PlanData) (progress : List Progress) (d : ℕ) (here : Progress) → d ≤ length plan.nodes →
+    HaveCome plan progress → HasCome plan d here → HaveCome plan (set progress d here)
 reached-set plan progress d here inside all reached = record {
   one_each = length-set progress d here ∙ all.one_each;
   reached = λ x within. elim (cases_eq x d) [
@@ -154,7 +173,8 @@ demand_after-is plan d here leaf reached =
     ap (λ m. cond m (node_bid plan (node plan d) here.state.0) (zeros plan.basis.steps)) reached.member
     ∙ ap (λ z. cond (is_member plan d here.count) (node_bid plan (node plan d) z) (zeros plan.basis.steps)) (reached.state leaf)
 
-pub stands-put : (plan : PlanData) (old : StandingValue) (d : ℕ) (here : Progress) (bid : List ℤ) → IsPlan plan → is_leaf plan d ≡ true → IsStanding plan old → HasCome plan d here →
+pub stands-put : (plan : PlanData) (old : StandingValue) (d : ℕ) (here : Progress) (bid : List ℤ) → IsPlan plan →
+    is_leaf plan d ≡ true → IsStanding plan old → HasCome plan d here →
     bid ≡ demand_come plan d here → length bid ≡ plan.basis.steps → IsStanding plan (put plan old d here bid)
 unfolding demand_in_cut
 stands-put plan old d here bid is leaf stands reached bid_is steps =
@@ -162,7 +182,8 @@ stands-put plan old d here bid is leaf stands reached bid_is steps =
     let high = last_of plan d is leaf in
     let a = cut_made old.progress in
     let b = cut_made (set old.progress d here) in
-    let here_is : b d ≡ here.count = ap (λ (p : Progress). p.count) (get_or-set_same old.progress d here no_progress (omega (arith, stands.progress.one_each))) in
+    let here_is : b d ≡ here.count =
+    ap (λ (p : Progress). p.count) (get_or-set_same old.progress d here no_progress (omega (arith, stands.progress.one_each))) in
     let other = λ (e : ℕ) (h : e ≢ d). ap (λ (p : Progress). p.count) (get_or-set_other old.progress d e here no_progress h) in
     let demand_is : demand_in_cut plan (state plan) b d ≡ bid =
     ap (λ k. cond (is_member plan d k) (node_bid plan (node plan d) (state plan d k)) (zeros plan.basis.steps)) here_is
@@ -186,7 +207,8 @@ stands-put plan old d here bid is leaf stands reached bid_is steps =
             ∙ ap (λ l. added (taken_off (sum_in plan (state plan) a (group plan d)) l) bid) (stands.demands d high)
             ∙ ap (λ l. added (taken_off (sum_in plan (state plan) a (group plan d)) (demand_in_cut plan (state plan) a d)) l) (sym demand_is)
             ∙ sum_exchanged plan (state plan) a b d low high (standing_fits plan old stands) (ap (λ l. length l) demand_is ∙ steps) other)
-        | inr h ↦ get_or-set_other old.sums (group plan d) g sum [] h ∙ stands.sums g within ∙ sym (sum_kept plan (state plan) a b g d (λ e. h (sym e)) other)
+        | inr h ↦ get_or-set_other old.sums (group plan d) g sum [] h ∙ stands.sums g within
+            ∙ sym (sum_kept plan (state plan) a b g d (λ e. h (sym e)) other)
       ];
     }
 
@@ -198,31 +220,39 @@ pub record Read (plan : PlanData) (old : StandingValue) (d g : ℕ) (sum demand 
   pub sum_is : sum ≡ get_or old.sums g sum
   pub demand_is : demand ≡ get_or old.demands d demand
 
-read_sum : (plan : PlanData) (old : StandingValue) (d g : ℕ) (sum demand : List ℤ) → IsPlan plan → is_leaf plan d ≡ true → IsStanding plan old → Read plan old d g sum demand → sum ≡ get_or old.sums (group plan d) []
+read_sum : (plan : PlanData) (old : StandingValue) (d g : ℕ) (sum demand : List ℤ) → IsPlan plan → is_leaf plan d ≡ true →
+    IsStanding plan old → Read plan old d g sum demand → sum ≡ get_or old.sums (group plan d) []
 read_sum plan old d g sum demand is leaf stands read =
-    read.sum_is ∙ get_or_default old.sums g sum [] (omega (arith, stands.sum_each, read.group_is, group_inside plan d is (last_of plan d is leaf))) ∙ ap (λ h. get_or old.sums h []) read.group_is
+    read.sum_is ∙ get_or_default old.sums g sum []
+    (omega (arith, stands.sum_each, read.group_is, group_inside plan d is (last_of plan d is leaf))) ∙ ap (λ h. get_or old.sums h []) read.group_is
 
-read_demand : (plan : PlanData) (old : StandingValue) (d g : ℕ) (sum demand : List ℤ) → IsPlan plan → is_leaf plan d ≡ true → IsStanding plan old → Read plan old d g sum demand → demand ≡ get_or old.demands d []
-read_demand plan old d g sum demand is leaf stands read = read.demand_is ∙ get_or_default old.demands d demand [] (omega (arith, stands.demand_each, last_of plan d is leaf))
+read_demand : (plan : PlanData) (old : StandingValue) (d g : ℕ) (sum demand : List ℤ) → IsPlan plan → is_leaf plan d ≡ true →
+    IsStanding plan old → Read plan old d g sum demand → demand ≡ get_or old.demands d []
+read_demand plan old d g sum demand is leaf stands read =
+    read.demand_is ∙ get_or_default old.demands d demand [] (omega (arith, stands.demand_each, last_of plan d is leaf))
 
-pub read_lengths : (plan : PlanData) (old : StandingValue) (d g : ℕ) (sum demand : List ℤ) → IsPlan plan → is_leaf plan d ≡ true → IsStanding plan old → Read plan old d g sum demand →
+pub read_lengths : (plan : PlanData) (old : StandingValue) (d g : ℕ) (sum demand : List ℤ) → IsPlan plan → is_leaf plan d ≡ true →
+    IsStanding plan old → Read plan old d g sum demand →
     (length sum ≡ plan.basis.steps) × (length demand ≡ plan.basis.steps)
 read_lengths plan old d g sum demand is leaf stands read =
     let low = first_of plan d is leaf in
     let high = last_of plan d is leaf in
     let fit = standing_fits plan old stands in (
-      ap (λ l. length l) (read_sum plan old d g sum demand is leaf stands read ∙ stands.sums (group plan d) (group_inside plan d is high)) ∙ sum_fits plan (state plan) (cut_made old.progress) (group plan d) fit,
+      ap (λ l. length l) (read_sum plan old d g sum demand is leaf stands read
+          ∙ stands.sums (group plan d) (group_inside plan d is high)) ∙ sum_fits plan (state plan) (cut_made old.progress) (group plan d) fit,
       ap (λ l. length l) (read_demand plan old d g sum demand is leaf stands read ∙ stands.demands d high) ∙ fit.steps d low high,
     )
 
 -- the sum that the exchange makes
-exchanged-is : (plan : PlanData) (old : StandingValue) (d g : ℕ) (sum demand bid : List ℤ) → IsPlan plan → is_leaf plan d ≡ true → IsStanding plan old → Read plan old d g sum demand →
+exchanged-is : (plan : PlanData) (old : StandingValue) (d g : ℕ) (sum demand bid : List ℤ) → IsPlan plan → is_leaf plan d ≡ true →
+    IsStanding plan old → Read plan old d g sum demand →
     added (taken_off sum demand) bid ≡ added (taken_off (get_or old.sums (group plan d) []) (get_or old.demands d [])) bid
 exchanged-is plan old d g sum demand bid is leaf stands read =
     ap (λ l. added (taken_off l demand) bid) (read_sum plan old d g sum demand is leaf stands read)
     ∙ ap (λ l. added (taken_off (get_or old.sums (group plan d) []) l) bid) (read_demand plan old d g sum demand is leaf stands read)
 
-pub read_within : (plan : PlanData) (old : StandingValue) (d g : ℕ) (sum demand bid : List ℤ) (here : Progress) → IsPlan plan → is_leaf plan d ≡ true → IsStanding plan old → Read plan old d g sum demand →
+pub read_within : (plan : PlanData) (old : StandingValue) (d g : ℕ) (sum demand bid : List ℤ) (here : Progress) → IsPlan plan →
+    is_leaf plan d ≡ true → IsStanding plan old → Read plan old d g sum demand →
     HasCome plan d here → bid ≡ demand_come plan d here → length bid ≡ plan.basis.steps → AllWithinLimit sum_limit (added (taken_off sum demand) bid)
 read_within plan old d g sum demand bid here is leaf stands read reached bid_is steps =
     let next = put plan old d here bid in
@@ -234,15 +264,22 @@ read_within plan old d g sum demand bid here is leaf stands read reached bid_is 
     subst (AllWithinLimit sum_limit) (sym (exchanged-is plan old d g sum demand bid is leaf stands read ∙ new_is))
     (sum_within plan (state plan) (cut_made next.progress) (group plan d) is.nodes.few (standing_fits plan next stands'))
 
-pub read_stands : (plan : PlanData) (old : StandingValue) (d g : ℕ) (sum demand bid : List ℤ) (here : Progress) → IsPlan plan → is_leaf plan d ≡ true → IsStanding plan old → Read plan old d g sum demand →
-    HasCome plan d here → bid ≡ demand_come plan d here → length bid ≡ plan.basis.steps → (new : List ℤ) → new ≡ added (taken_off sum demand) bid → (copy : List ℤ) → copy ≡ bid →
+pub read_stands : (plan : PlanData) (old : StandingValue) (d g : ℕ) (sum demand bid : List ℤ) (here : Progress) → IsPlan plan →
+    is_leaf plan d ≡ true → IsStanding plan old → Read plan old d g sum demand →
+    HasCome plan d here → bid ≡ demand_come plan d here → length bid ≡ plan.basis.steps → (new : List ℤ) →
+    new ≡ added (taken_off sum demand) bid → (copy : List ℤ) → copy ≡ bid →
     IsStanding plan (record { progress = set old.progress d here; demands = set old.demands d copy; sums = set old.sums g new })
 read_stands plan old d g sum demand bid here is leaf stands read reached bid_is steps new new_is copy copy_is =
-    let kept_with = λ (h : ℕ) (l m : List ℤ). (let x : StandingValue = record { progress = set old.progress d here; demands = set old.demands d m; sums = set old.sums h l } in x) in
+    let kept_with = λ (h : ℕ) (l m : List ℤ). (let x : StandingValue = record {
+      progress = set old.progress d here;
+      demands = set old.demands d m;
+      sums = set old.sums h l;
+    } in x) in
     let made_is = exchanged-is plan old d g sum demand bid is leaf stands read in
     subst (λ (h : ℕ). IsStanding plan (kept_with h new copy)) (sym read.group_is)
     (subst (λ (l : List ℤ). IsStanding plan (kept_with (group plan d) l copy)) (sym (new_is ∙ made_is))
-    (subst (λ (m : List ℤ). IsStanding plan (kept_with (group plan d) (added (taken_off (get_or old.sums (group plan d) []) (get_or old.demands d [])) bid) m)) (sym copy_is)
+    (subst (λ (m : List ℤ). IsStanding plan
+    (kept_with (group plan d) (added (taken_off (get_or old.sums (group plan d) []) (get_or old.demands d [])) bid) m)) (sym copy_is)
     (stands-put plan old d here bid is leaf stands reached bid_is steps)))
 
 -- ---- before the first change
@@ -258,7 +295,8 @@ same_both false x y h = refl
 sum-none : (plan : PlanData) (s : States) (cut : Cut) (g : ℕ) → ((d : ℕ) → cut d ≡ 0) → sum_in plan s cut g ≡ zeros plan.basis.steps
 unfolding sum_in part_in
 sum-none plan s cut g h =
-    ap (sum_of plan.basis.steps) (map_range_const (part_in plan s cut g) 1 (length plan.nodes) (zeros plan.basis.steps) (λ d. same_both (group plan d == g) (demand_in_cut plan s cut d) (zeros plan.basis.steps) (demand-none plan s cut d (h d))))
+    ap (sum_of plan.basis.steps) (map_range_const (part_in plan s cut g) 1 (length plan.nodes) (zeros plan.basis.steps)
+    (λ d. same_both (group plan d == g) (demand_in_cut plan s cut d) (zeros plan.basis.steps) (demand-none plan s cut d (h d))))
     ∙ sum_of-replicate_zeros plan.basis.steps (length plan.nodes)
 
 -- a node in its start has come nowhere
@@ -272,13 +310,17 @@ reached-start plan x progress none stranger start = record {
   member = stranger ∙ sym (is_member-none plan x) ∙ ap (is_member plan x) (sym none);
 }
 
-pub start_stands : (plan : PlanData) (progress : List Progress) (demands sums : List (List ℤ)) (n : ℕ) → IsPlan plan → n ≡ length plan.nodes + 1 → HaveCome plan progress → ((x : ℕ) → cut_made progress x ≡ 0) →
-    demands ≡ replicate n (zeros plan.basis.steps) → sums ≡ replicate n (zeros plan.basis.steps) → IsStanding plan (record { progress = progress; demands = demands; sums = sums })
+pub start_stands : (plan : PlanData) (progress : List Progress) (demands sums : List (List ℤ)) (n : ℕ) → IsPlan plan →
+    n ≡ length plan.nodes + 1 → HaveCome plan progress → ((x : ℕ) → cut_made progress x ≡ 0) →
+    demands ≡ replicate n (zeros plan.basis.steps) → sums ≡ replicate n (zeros plan.basis.steps) →
+    IsStanding plan (record { progress = progress; demands = demands; sums = sums })
 start_stands plan progress demands sums n is n_is all none demands_is sums_is = record {
   sound = is;
   progress = all;
   demand_each = ap (λ l. length l) demands_is ∙ length-replicate n (zeros plan.basis.steps) ∙ n_is;
   sum_each = ap (λ l. length l) sums_is ∙ length-replicate n (zeros plan.basis.steps) ∙ n_is;
-  demands = λ x h. ap (λ l. get_or l x []) demands_is ∙ get_or-replicate n x (zeros plan.basis.steps) [] (omega arith) ∙ sym (demand-none plan (state plan) (cut_made progress) x (none x));
-  sums = λ g h. ap (λ l. get_or l g []) sums_is ∙ get_or-replicate n g (zeros plan.basis.steps) [] (omega arith) ∙ sym (sum-none plan (state plan) (cut_made progress) g none);
+  demands = λ x h. ap (λ l. get_or l x []) demands_is ∙ get_or-replicate n x (zeros plan.basis.steps) [] (omega arith)
+      ∙ sym (demand-none plan (state plan) (cut_made progress) x (none x));
+  sums = λ g h. ap (λ l. get_or l g []) sums_is ∙ get_or-replicate n g (zeros plan.basis.steps) [] (omega arith)
+      ∙ sym (sum-none plan (state plan) (cut_made progress) g none);
 }

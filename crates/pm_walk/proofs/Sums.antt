@@ -1,5 +1,6 @@
 -- The sums of the groups: their limits, and what a change of one device does to them.
-use Rattle.std.proofs.Common.{◌≡◌, ◌≢◌, ◌∙◌, sym, ap, ℕ, zero, suc, ◌+◌, ◌*◌, ◌<◌, ◌≤◌, ℤ, Bool, true, false, cond, List, [], ◌∷◌, length, map, get_or, refl, arith, subst, inl, inr}
+use Rattle.std.proofs.Common.{◌≡◌, ◌≢◌, ◌∙◌, sym, ap, ℕ, zero, suc, ◌+◌, ◌*◌, ◌<◌, ◌≤◌, ℤ, Bool, true, false, cond}
+use Rattle.std.proofs.Common.{List, [], ◌∷◌, length, map, get_or, refl, arith, subst, inl, inr}
 use Rattle.std.proofs.Math.ListN.{set}
 use Rattle.std.specs.Prelude.{◌==◌}
 use Rattle.std.specs.List.{range_with_len}
@@ -20,7 +21,8 @@ use Rattle.pm_plan.proofs.Auctions.{map_range_same}
 use Rattle.pm_plan.proofs.Fits.{bid-steps, demand-within}
 
 -- one value of a list of values is another
-map_range_set : {X : Type 0} (f g : ℕ → X) (a n i : ℕ) → i < n → ((k : ℕ) → k ≢ a + i → g k ≡ f k) → map g (range_with_len a n) ≡ set (map f (range_with_len a n)) i (g (a + i))
+map_range_set : {X : Type 0} (f g : ℕ → X) (a n i : ℕ) → i < n → ((k : ℕ) → k ≢ a + i → g k ≡ f k) →
+    map g (range_with_len a n) ≡ set (map f (range_with_len a n)) i (g (a + i))
 map_range_set f g a zero i inside other = absurd (omega arith)
 map_range_set f g a (suc n) zero inside other =
     ap (λ x. x ∷ map g (range_with_len (a + 1) n)) (let e : a ≡ a + 0 = omega arith in ap g e)
@@ -38,11 +40,13 @@ demand_cut plan s a b d same =
 
 pub part_own : (plan : PlanData) (s : States) (cut : Cut) (d : ℕ) → part_in plan s cut (group plan d) d ≡ demand_in_cut plan s cut d
 unfolding part_in
-part_own plan s cut d = cond-true {A = List ℤ} (group plan d == group plan d) (demand_in_cut plan s cut d) (zeros plan.basis.steps) (eq-eqb (group plan d) (group plan d) refl)
+part_own plan s cut d = cond-true {A = List ℤ} (group plan d == group plan d) (demand_in_cut plan s cut d) (zeros plan.basis.steps)
+    (eq-eqb (group plan d) (group plan d) refl)
 
 pub part_other : (plan : PlanData) (s : States) (cut : Cut) (g d : ℕ) → group plan d ≢ g → part_in plan s cut g d ≡ zeros plan.basis.steps
 unfolding part_in
-part_other plan s cut g d other = cond-false {A = List ℤ} (group plan d == g) (demand_in_cut plan s cut d) (zeros plan.basis.steps) (ne_eqb (group plan d) g other)
+part_other plan s cut g d other =
+    cond-false {A = List ℤ} (group plan d == g) (demand_in_cut plan s cut d) (zeros plan.basis.steps) (ne_eqb (group plan d) g other)
 
 part_cut : (plan : PlanData) (s : States) (a b : Cut) (g d : ℕ) → a d ≡ b d → part_in plan s a g d ≡ part_in plan s b g d
 unfolding part_in
@@ -61,38 +65,45 @@ cond_steps true steps bid h = h
 cond_steps false steps bid h = length-zeros steps
 
 -- so they are in each cut
-pub fits : (plan : PlanData) (cut : Cut) → IsPlan plan → ((d : ℕ) → d ≤ length plan.nodes → cut d ≤ change_count plan d) → Fit plan (state plan) cut
+pub fits : (plan : PlanData) (cut : Cut) → IsPlan plan → ((d : ℕ) → d ≤ length plan.nodes → cut d ≤ change_count plan d) →
+    Fit plan (state plan) cut
 unfolding demand_in_cut
 fits plan cut is within = record {
   steps = λ d low high. cond_steps (is_member plan d (cut d)) plan.basis.steps _ (bid-steps plan (node plan d) (state plan d (cut d)) is);
   bounded = λ d low high. demand-within plan cut d is (within d high);
 }
 
-part_fits : (plan : PlanData) (s : States) (cut : Cut) (g d : ℕ) → 1 ≤ d → d ≤ length plan.nodes → Fit plan s cut → length (part_in plan s cut g d) ≡ plan.basis.steps
+part_fits : (plan : PlanData) (s : States) (cut : Cut) (g d : ℕ) → 1 ≤ d → d ≤ length plan.nodes → Fit plan s cut →
+    length (part_in plan s cut g d) ≡ plan.basis.steps
 part_fits plan s cut g d low high fit = elim (cases_eq (group plan d) g) [
-  | inl same ↦ subst (λ (h : ℕ). length (part_in plan s cut h d) ≡ plan.basis.steps) same (ap (λ bid. length bid) (part_own plan s cut d) ∙ fit.steps d low high)
+  | inl same ↦ subst (λ (h : ℕ). length (part_in plan s cut h d) ≡ plan.basis.steps) same
+      (ap (λ bid. length bid) (part_own plan s cut d) ∙ fit.steps d low high)
   | inr other ↦ ap (λ bid. length bid) (part_other plan s cut g d other) ∙ length-zeros plan.basis.steps
 ]
 
-pub part_within : (plan : PlanData) (s : States) (cut : Cut) (g d step : ℕ) → 1 ≤ d → d ≤ length plan.nodes → step < plan.basis.steps → Fit plan s cut → Bounded demand_limit step (part_in plan s cut g d)
+pub part_within : (plan : PlanData) (s : States) (cut : Cut) (g d step : ℕ) → 1 ≤ d → d ≤ length plan.nodes →
+    step < plan.basis.steps → Fit plan s cut → Bounded demand_limit step (part_in plan s cut g d)
 part_within plan s cut g d step low high below fit = elim (cases_eq (group plan d) g) [
   | inl same ↦ subst (λ (h : ℕ). Bounded demand_limit step (part_in plan s cut h d)) same
       (subst (λ bid. Bounded demand_limit step bid) (sym (part_own plan s cut d)) (fit.bounded d low high step (omega (arith, fit.steps d low high))))
   | inr other ↦ subst (λ bid. Bounded demand_limit step bid) (sym (part_other plan s cut g d other)) (zero_within demand_limit plan.basis.steps step)
 ]
 
-pub parts_fit : (plan : PlanData) (s : States) (cut : Cut) (g : ℕ) → Fit plan s cut → HaveSteps plan.basis.steps (map (part_in plan s cut g) (node_numbers plan))
+pub parts_fit : (plan : PlanData) (s : States) (cut : Cut) (g : ℕ) → Fit plan s cut →
+    HaveSteps plan.basis.steps (map (part_in plan s cut g) (node_numbers plan))
 parts_fit plan s cut g fit i d inside =
     let n = length plan.nodes in
     let long = length-map-range_with_len (part_in plan s cut g) 1 n in
     let below : i < n = omega (arith, long) in
-    ap (λ bid. length bid) (get_or-map-range_with_len (part_in plan s cut g) 1 n i (1 + i) d below refl) ∙ part_fits plan s cut g (1 + i) (omega arith) (omega arith) fit
+    ap (λ bid. length bid) (get_or-map-range_with_len (part_in plan s cut g) 1 n i (1 + i) d below refl)
+    ∙ part_fits plan s cut g (1 + i) (omega arith) (omega arith) fit
 
 pub sum_fits : (plan : PlanData) (s : States) (cut : Cut) (g : ℕ) → Fit plan s cut → length (sum_in plan s cut g) ≡ plan.basis.steps
 unfolding sum_in
 sum_fits plan s cut g fit = length-sum_of plan.basis.steps _ (parts_fit plan s cut g fit)
 
-pub sum_within : (plan : PlanData) (s : States) (cut : Cut) (g : ℕ) → length plan.nodes ≤ most_nodes → Fit plan s cut → AllWithinLimit sum_limit (sum_in plan s cut g)
+pub sum_within : (plan : PlanData) (s : States) (cut : Cut) (g : ℕ) → length plan.nodes ≤ most_nodes → Fit plan s cut →
+    AllWithinLimit sum_limit (sum_in plan s cut g)
 unfolding sum_in
 sum_within plan s cut g few fit step inside =
     let n = length plan.nodes in
@@ -100,11 +111,16 @@ sum_within plan s cut g few fit step inside =
     let long : length bids ≡ n = length-map-range_with_len (part_in plan s cut g) 1 n in
     let all = parts_fit plan s cut g fit in
     let below : step < plan.basis.steps = omega (arith, length-sum_of plan.basis.steps bids all) in
-    let total = total_within demand_limit step bids (λ i d h. subst (λ bid. Bounded demand_limit step bid) (sym (get_or-map-range_with_len (part_in plan s cut g) 1 n i (1 + i) d (omega (arith, long)) refl)) (part_within plan s cut g (1 + i) step (omega arith) (omega (arith, long)) below fit)) in
-    wider (length bids * demand_limit) sum_limit _ (omega arith) (subst (λ z. IsWithin (length bids * demand_limit) z) (sym (sum_of-at plan.basis.steps bids step all below)) total)
+    let total = total_within demand_limit step bids
+    (λ i d h. subst (λ bid. Bounded demand_limit step bid)
+    (sym (get_or-map-range_with_len (part_in plan s cut g) 1 n i (1 + i) d (omega (arith, long)) refl))
+    (part_within plan s cut g (1 + i) step (omega arith) (omega (arith, long)) below fit)) in
+    wider (length bids * demand_limit) sum_limit _ (omega arith)
+    (subst (λ z. IsWithin (length bids * demand_limit) z) (sym (sum_of-at plan.basis.steps bids step all below)) total)
 
 -- the sum of the group of a device, after the device has made its changes
-pub sum_exchanged : (plan : PlanData) (s : States) (a b : Cut) (d : ℕ) → 1 ≤ d → d ≤ length plan.nodes → Fit plan s a → length (demand_in_cut plan s b d) ≡ plan.basis.steps → ((e : ℕ) → e ≢ d → b e ≡ a e) →
+pub sum_exchanged : (plan : PlanData) (s : States) (a b : Cut) (d : ℕ) → 1 ≤ d → d ≤ length plan.nodes → Fit plan s a →
+    length (demand_in_cut plan s b d) ≡ plan.basis.steps → ((e : ℕ) → e ≢ d → b e ≡ a e) →
     added (taken_off (sum_in plan s a (group plan d)) (demand_in_cut plan s a d)) (demand_in_cut plan s b d) ≡ sum_in plan s b (group plan d)
 unfolding sum_in
 sum_exchanged plan s a b zero low high fit same other = absurd (omega arith)
@@ -112,17 +128,24 @@ sum_exchanged plan s a b (suc d) low high fit same other =
     let n = length plan.nodes in
     let g = group plan (suc d) in
     let bids = map (part_in plan s a g) (node_numbers plan) in
-    let old : get_or bids d [] ≡ demand_in_cut plan s a (suc d) = get_or-map-range_with_len (part_in plan s a g) 1 n d (suc d) [] (omega arith) (omega arith) ∙ part_own plan s a (suc d) in
+    let old : get_or bids d [] ≡ demand_in_cut plan s a (suc d) =
+    get_or-map-range_with_len (part_in plan s a g) 1 n d (suc d) [] (omega arith) (omega arith) ∙ part_own plan s a (suc d) in
     let inside : d < length bids = omega (arith, length-map-range_with_len (part_in plan s a g) 1 n) in
     ap (λ bid. added (taken_off (sum_of plan.basis.steps bids) bid) (demand_in_cut plan s b (suc d))) (sym old)
     ∙ sum_of-set plan.basis.steps bids d (demand_in_cut plan s b (suc d)) inside (parts_fit plan s a g fit) same
-    ∙ ap (λ bid. sum_of plan.basis.steps (set bids d bid)) (sym (part_own plan s b (suc d)) ∙ (let e : suc d ≡ 1 + d = omega arith in ap (part_in plan s b g) e))
-    ∙ ap (sum_of plan.basis.steps) (sym (map_range_set (part_in plan s a g) (part_in plan s b g) 1 n d (omega arith) (λ k h. part_cut plan s b a g k (other k (λ e. h (e ∙ omega arith))))))
+    ∙ ap (λ bid. sum_of plan.basis.steps (set bids d bid)) (sym (part_own plan s b (suc d))
+    ∙ (let e : suc d ≡ 1 + d = omega arith in ap (part_in plan s b g) e))
+    ∙ ap (sum_of plan.basis.steps)
+    (sym (map_range_set (part_in plan s a g) (part_in plan s b g) 1 n d (omega arith)
+    (λ k h. part_cut plan s b a g k (other k (λ e. h (e ∙ omega arith))))))
 
 -- the sum of another group stays
-pub sum_kept : (plan : PlanData) (s : States) (a b : Cut) (g d : ℕ) → group plan d ≢ g → ((e : ℕ) → e ≢ d → b e ≡ a e) → sum_in plan s b g ≡ sum_in plan s a g
+pub sum_kept : (plan : PlanData) (s : States) (a b : Cut) (g d : ℕ) → group plan d ≢ g → ((e : ℕ) → e ≢ d → b e ≡ a e) →
+    sum_in plan s b g ≡ sum_in plan s a g
 unfolding sum_in
-sum_kept plan s a b g d apart other = ap (sum_of plan.basis.steps) (map_range_same (part_in plan s b g) (part_in plan s a g) 1 (length plan.nodes) (λ k low high. elim (cases_eq k d) [
-  | inl same ↦ subst (λ (e : ℕ). part_in plan s b g e ≡ part_in plan s a g e) (sym same) (part_other plan s b g d apart ∙ sym (part_other plan s a g d apart))
-  | inr away ↦ part_cut plan s b a g k (other k away)
-]))
+sum_kept plan s a b g d apart other =
+    ap (sum_of plan.basis.steps) (map_range_same (part_in plan s b g) (part_in plan s a g) 1 (length plan.nodes) (λ k low high. elim (cases_eq k d) [
+      | inl same ↦ subst (λ (e : ℕ). part_in plan s b g e ≡ part_in plan s a g e) (sym same) (part_other plan s b g d apart
+          ∙ sym (part_other plan s a g d apart))
+      | inr away ↦ part_cut plan s b a g k (other k away)
+    ]))

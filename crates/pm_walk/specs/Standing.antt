@@ -48,5 +48,6 @@ pub record IsStanding (plan : PlanData) (standing : StandingValue) : Type 0 wher
   pub progress : HaveCome plan standing.progress
   pub demand_each : length standing.demands ≡ length plan.nodes + 1
   pub sum_each : length standing.sums ≡ length plan.nodes + 1
-  pub demands : (x : ℕ) → x ≤ length plan.nodes → slice_index_or standing.demands x [] ≡ demand_in_cut plan (state plan) (cut_made standing.progress) x
+  pub demands : (x : ℕ) → x ≤ length plan.nodes → slice_index_or standing.demands x [] ≡ demand_in_cut plan (state plan)
+      (cut_made standing.progress) x
   pub sums : (g : ℕ) → g ≤ length plan.nodes → slice_index_or standing.sums g [] ≡ sum_in plan (state plan) (cut_made standing.progress) g

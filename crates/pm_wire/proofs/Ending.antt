@@ -1,5 +1,6 @@
 -- How a service ends, from where it was before the last piece.
-use Rattle.std.proofs.Common.{◌≡◌, ◌≢◌, ◌∙◌, sym, ap, refl, subst, ℕ, ◌+◌, ◌-◌, ◌<◌, ◌≤◌, List, [], ◌∷◌, ◌++◌, length, take, zero, suc, Option, None, Some}
+use Rattle.std.proofs.Common.{◌≡◌, ◌≢◌, ◌∙◌, sym, ap, refl, subst, ℕ, ◌+◌, ◌-◌, ◌<◌, ◌≤◌, List, [], ◌∷◌, ◌++◌}
+use Rattle.std.proofs.Common.{length, take, zero, suc, Option, None, Some}
 use Rattle.std.proofs.Common.{IfSome, arith, append_assoc, length-append, inl, inr, ◌⊎◌, Result, Ok, Err, OnOk, IfErr, is_err, true, false}
 use Rattle.std.specs.Io.KnownBytes.{Appends, Consumes, IsAtEnd}
 use Rattle.std.proofs.KnownBytes.{Appends-trans, Consumes-trans}
@@ -118,7 +119,8 @@ TakesAll old market new after piece reply = (bytes : List ℕ) (frames : List Fr
 
 pub piece_cut_short : (old mid new held holds held' : Option (List ℕ)) (a b : Decoding) (m n : Option Market) (count written : ℕ) (piece reply : List
     ℕ) → Serving old mid held holds a m count →
-    Consumes mid new piece → TakesAll a m b n piece reply → written < length reply → Appends holds held' (take written reply) → IsCutShort old new held held'
+    Consumes mid new piece → TakesAll a m b n piece reply → written < length reply → Appends holds held' (take written reply) →
+    IsCutShort old new held held'
 piece_cut_short old mid new held holds held' a b m n count written piece reply serving consumes takes proper appends =
     let found = takes serving.input serving.frames serving.follows in
     let frames = serving.frames ++ found.0 in
@@ -129,7 +131,8 @@ piece_cut_short old mid new held holds held' a b m n count written piece reply s
 
 pub serving_more : (old mid new held holds held' : Option (List ℕ)) (a b : Decoding) (m n : Option Market) (count more : ℕ) (piece reply : List ℕ) →
     Serving old mid held holds a m count →
-    Consumes mid new piece → length piece ≡ more → TakesAll a m b n piece reply → Appends holds held' reply → Serving old new held held' b n (count + more)
+    Consumes mid new piece → length piece ≡ more → TakesAll a m b n piece reply → Appends holds held' reply →
+    Serving old new held held' b n (count + more)
 serving_more old mid new held holds held' a b m n count more piece reply serving consumes many takes appends =
     let found = takes serving.input serving.frames serving.follows in
     let P : List ℕ → Type 0 = λ l. Appends held held' l in
@@ -224,7 +227,8 @@ pub rose_later : (a b c : ℕ) → a ≤ b → Rose b c → Rose a c
 rose_later a b c le rose = omega (arith, le, rose)
 
 -- a write that failed
-pub failed : {T E : Type 0} (P Q R : E → Type 0) (r : Result T E) → is_err r ≡ true → IfErr r P → IfErr r Q → IfErr r R → (e : E) × P e × Q e × R e
+pub failed : {T E : Type 0} (P Q R : E → Type 0) (r : Result T E) → is_err r ≡ true → IfErr r P → IfErr r Q → IfErr r R →
+    (e : E) × P e × Q e × R e
 failed P Q R (Ok x) is p q s = absurd (cc is)
 failed P Q R (Err e) is p q s = (e, p, q, s)
 
@@ -240,7 +244,8 @@ rest_proper reply count left written rest is proper = let P : ℕ →
     Type 0 = λ n. written < length (reply ++ answer_bytes (Fault (count - n))) in subst P is proper
 
 -- the fault at the offset that was told
-pub told_text : (holds held' : Option (List ℕ)) (reply : List ℕ) (told at : ℕ) → told ≡ at → Appends holds held' (reply ++ answer_bytes (Fault told)) →
+pub told_text : (holds held' : Option (List ℕ)) (reply : List ℕ) (told at : ℕ) → told ≡ at →
+    Appends holds held' (reply ++ answer_bytes (Fault told)) →
     Appends holds held' (reply ++ answer_bytes (Fault at))
 told_text holds held' reply told at is appends = let P : ℕ → Type 0 = λ n. Appends holds held' (reply ++ answer_bytes (Fault n)) in subst P is appends
 
@@ -249,5 +254,6 @@ pub told_prefix : (holds held' : Option (List ℕ)) (reply : List ℕ) (told at 
 told_prefix holds held' reply told at n is appends = let P : ℕ →
     Type 0 = λ m. Appends holds held' (take n (reply ++ answer_bytes (Fault m))) in subst P is appends
 
-pub told_proper : (reply : List ℕ) (told at n : ℕ) → told ≡ at → n < length (reply ++ answer_bytes (Fault told)) → n < length (reply ++ answer_bytes (Fault at))
+pub told_proper : (reply : List ℕ) (told at n : ℕ) → told ≡ at → n < length (reply ++ answer_bytes (Fault told)) →
+    n < length (reply ++ answer_bytes (Fault at))
 told_proper reply told at n is proper = let P : ℕ → Type 0 = λ m. n < length (reply ++ answer_bytes (Fault m)) in subst P is proper

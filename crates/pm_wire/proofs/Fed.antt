@@ -1,5 +1,6 @@
 -- What the bytes left are once another piece is fed.
-use Rattle.std.proofs.Common.{◌≡◌, ◌∙◌, sym, ap, subst, ℕ, ◌≤◌, List, ◌++◌, length, drop, Option, Bool, true, false, arith, length-append}
+use Rattle.std.proofs.Common.{◌≡◌, ◌∙◌, sym, ap, subst, ℕ, ◌≤◌, List, ◌++◌, length, drop, Option, Bool, true, false, arith}
+use Rattle.std.proofs.Common.{length-append}
 use Rattle.std.specs.Prelude.{if◌then◌else◌}
 use Rattle.std.proofs.lemmas.List.{drop-append-le}
 use Rattle.pm_wire.specs.Frames.{BeginsBadly}
@@ -16,6 +17,7 @@ fed_bad place buffer kept after piece start start' false same within is bad =
     let P : List ℕ → Type 0 = λ l. BeginsBadly place l in
     subst P (sym same ∙ ap (drop start') (sym is)) bad
 
-pub fed_within : (kept after piece : List ℕ) (start : ℕ) (ok : Bool) → start ≤ length kept → after ≡ (if ok then kept ++ piece else kept) → start ≤ length after
+pub fed_within : (kept after piece : List ℕ) (start : ℕ) (ok : Bool) → start ≤ length kept →
+    after ≡ (if ok then kept ++ piece else kept) → start ≤ length after
 fed_within kept after piece start true within is = omega (arith, ap length is, length-append kept piece)
 fed_within kept after piece start false within is = omega (arith, ap length is)

@@ -1,5 +1,6 @@
 -- A decoder and a market behind the frames that the bytes fed begin with.
-use Rattle.std.proofs.Common.{◌≡◌, ◌≢◌, ◌∙◌, sym, ap, refl, subst, ℕ, ◌+◌, ◌<◌, ◌≤◌, List, [], ◌∷◌, ◌++◌, length, take, zero, suc, Option, None, Some}
+use Rattle.std.proofs.Common.{◌≡◌, ◌≢◌, ◌∙◌, sym, ap, refl, subst, ℕ, ◌+◌, ◌<◌, ◌≤◌, List, [], ◌∷◌, ◌++◌, length}
+use Rattle.std.proofs.Common.{take, zero, suc, Option, None, Some}
 use Rattle.std.proofs.Common.{IfSome, arith, append_assoc, length-append, inl, inr, ◌⊎◌}
 use Rattle.pm_wire.specs.declared.frame.Frame.{Frame}
 use Rattle.pm_wire.specs.declared.market.Market.{Market}
@@ -65,4 +66,5 @@ pub follows_replies : (bytes : List ℕ) (frames more : List Frame) (old new : D
     → AreBehind bytes frames old market →
     Takes more (with_piece old piece) new market after reply → replies frames ++ reply ≡ replies (frames ++ more)
 follows_replies bytes frames more old new market after reply piece follows takes =
-    ap (λ l. replies frames ++ l) (takes.replied ∙ ap (λ k. reply_bytes (answers_behind k more)) follows.knows) ∙ sym (reply_bytes-append None frames more)
+    ap (λ l. replies frames ++ l) (takes.replied ∙ ap (λ k. reply_bytes (answers_behind k more)) follows.knows)
+    ∙ sym (reply_bytes-append None frames more)

@@ -1,5 +1,6 @@
 -- A market behind its frames: its entries are single bids, and its prices one behind the other.
-use Rattle.std.proofs.Common.{◌≡◌, ◌∙◌, sym, ap, refl, subst, ℕ, ◌+◌, ◌<◌, ◌≤◌, ℤ, pos, Bool, true, false, List, [], ◌∷◌, ◌++◌, length, drop, replicate}
+use Rattle.std.proofs.Common.{◌≡◌, ◌∙◌, sym, ap, refl, subst, ℕ, ◌+◌, ◌<◌, ◌≤◌, ℤ, pos, Bool, true, false, List, [], ◌∷◌}
+use Rattle.std.proofs.Common.{◌++◌, length, drop, replicate}
 use Rattle.std.proofs.Common.{get_or, Result, Ok, Err, arith, append_assoc, All}
 use Rattle.std.specs.Prelude.{◌==◌, nat_lt, if◌then◌else◌}
 use Rattle.std.proofs.lemmas.Bool.Decides.{nat_tests}
@@ -47,7 +48,8 @@ no_power_small steps = λ step h.
 empty_single : (children steps : ℕ) → HasSingleBids (empty_cache children steps)
 empty_single children steps = All-replicate (λ bid. AllWithinLimit demand_limit bid) children (zeros steps) (no_power_small steps)
 
-pub opened_sound : (children steps index : ℕ) (changed : Bool) (cache : Cache) → children ≡ most_nodes → AreSteps steps → cache ≡ empty_cache children steps →
+pub opened_sound : (children steps index : ℕ) (changed : Bool) (cache : Cache) → children ≡ most_nodes → AreSteps steps →
+    cache ≡ empty_cache children steps →
     IsMarket (record { cache = cache; index = index; changed = changed })
 opened_sound children steps index changed cache all basis is =
     let P : Cache → Type 0 = λ c. IsCache c in

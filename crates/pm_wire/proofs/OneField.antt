@@ -1,5 +1,6 @@
 -- The bytes of a field determine it, and the demands of a bid.
-use Rattle.std.proofs.Common.{◌≡◌, ◌∙◌, sym, ap, refl, ℕ, ◌+◌, ◌*◌, ◌<◌, ◌^◌, ℤ, List, [], ◌∷◌, ◌++◌, length, take, drop, arith, append_assoc}
+use Rattle.std.proofs.Common.{◌≡◌, ◌∙◌, sym, ap, refl, ℕ, ◌+◌, ◌*◌, ◌<◌, ◌^◌, ℤ, List, [], ◌∷◌, ◌++◌, length, take}
+use Rattle.std.proofs.Common.{drop, arith, append_assoc}
 use Rattle.std.proofs.Common.{length-append, FitsSigned}
 use Rattle.std.specs.Int.{w16, w32, w64, to_be_bytes, from_be_bytes, cast_signed, cast_unsigned}
 use Rattle.std.specs.List.{AllByRecursion, flat_map}
@@ -30,7 +31,8 @@ four_same a b x y fits fits' e =
     (sym (from_be_bytes-to_be_bytes_4 a fits) ∙ ap (from_be_bytes w32) parts.0 ∙ from_be_bytes-to_be_bytes_4 b fits', parts.1)
 
 -- a signed field of four bytes
-pub signed_same : (a b : ℤ) (x y : List ℕ) → FitsSigned w32 a → FitsSigned w32 b → signed_bytes a ++ x ≡ signed_bytes b ++ y → (a ≡ b) × (x ≡ y)
+pub signed_same : (a b : ℤ) (x y : List ℕ) → FitsSigned w32 a → FitsSigned w32 b → signed_bytes a ++ x ≡ signed_bytes b ++ y →
+    (a ≡ b) × (x ≡ y)
 signed_same a b x y fits fits' e =
     let same = four_same (cast_unsigned w32 a) (cast_unsigned w32 b) x y (Fits-lt-pow (Fits-of_z fits)) (Fits-lt-pow (Fits-of_z fits')) e in
     (sym (to_z-of_z w32 a fits) ∙ ap (cast_signed w32) same.0 ∙ to_z-of_z w32 b fits', same.1)
@@ -53,7 +55,8 @@ length-demand_bytes [] = refl
 length-demand_bytes (d ∷ demand) = omega (arith, length-append (signed_bytes d) (demand_bytes demand), length-demand_bytes demand)
 
 -- one more demand
-pub demands_more : (bytes rest behind : List ℕ) (demand : List ℤ) (d : ℤ) → bytes ≡ demand_bytes demand ++ rest → rest ≡ signed_bytes d ++ behind →
+pub demands_more : (bytes rest behind : List ℕ) (demand : List ℤ) (d : ℤ) → bytes ≡ demand_bytes demand ++ rest →
+    rest ≡ signed_bytes d ++ behind →
     bytes ≡ demand_bytes (demand ++ d ∷ []) ++ behind
 demands_more bytes rest behind demand d e e' =
     let one : demand_bytes (demand ++ d ∷ []) ≡ demand_bytes demand ++ signed_bytes d = flat_map-append signed_bytes demand (d ∷ []) in

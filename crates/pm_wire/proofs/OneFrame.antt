@@ -1,5 +1,6 @@
 -- The bytes of a frame determine it, whatever follows.
-use Rattle.std.proofs.Common.{◌≡◌, ◌∙◌, sym, ap, refl, ℕ, ◌+◌, ◌<◌, ◌^◌, ℤ, List, [], ◌∷◌, ◌++◌, length, Option, None, Some, arith, append_assoc}
+use Rattle.std.proofs.Common.{◌≡◌, ◌∙◌, sym, ap, refl, ℕ, ◌+◌, ◌<◌, ◌^◌, ℤ, List, [], ◌∷◌, ◌++◌, length, Option, None}
+use Rattle.std.proofs.Common.{Some, arith, append_assoc}
 use Rattle.std.proofs.Common.{FitsSigned}
 use Rattle.std.specs.Int.{w16, w32, to_be_bytes}
 use Rattle.pm_basis.specs.Prices.{BasisValue}
@@ -34,7 +35,8 @@ bid_same steps child number child' number' demand demand' x y f g e =
     let demands = demands_same demand demand' x y (f.2 ∙ sym g.2) f.3 g.3 numbers.1 in
     (cc (senders.0, numbers.0, demands.0), demands.1)
 
-gone_same : (steps child number child' number' : ℕ) (x y : List ℕ) → IsFormed (Some steps) (Gone child number) → IsFormed (Some steps) (Gone child' number') →
+gone_same : (steps child number child' number' : ℕ) (x y : List ℕ) → IsFormed (Some steps) (Gone child number) →
+    IsFormed (Some steps) (Gone child' number') →
     frame_bytes (Gone child number) ++ x ≡ frame_bytes (Gone child' number') ++ y → (Gone child number ≡ Gone child' number') × (x ≡ y)
 gone_same steps child number child' number' x y f g e =
     let senders = two_same child child' (to_be_bytes w32 number ++ x) (to_be_bytes w32 number' ++ y) f.0 g.0 (parts_same _ _ _ _ e).1 in

@@ -1,5 +1,6 @@
 -- Bytes have one reading: one list of frames, and one rest at which it stops.
-use Rattle.std.proofs.Common.{◌≡◌, ◌≢◌, ◌∙◌, sym, ap, subst, refl, ℕ, ◌<◌, List, [], ◌∷◌, ◌++◌, length, Option, None, append_assoc, inl, inr, ◌⊎◌}
+use Rattle.std.proofs.Common.{◌≡◌, ◌≢◌, ◌∙◌, sym, ap, subst, refl, ℕ, ◌<◌, List, [], ◌∷◌, ◌++◌, length, Option, None}
+use Rattle.std.proofs.Common.{append_assoc, inl, inr, ◌⊎◌}
 use Rattle.std.proofs.lemmas.List.{append-nil}
 use Rattle.pm_wire.specs.declared.frame.Frame.{Frame}
 use Rattle.pm_wire.specs.Frames.{frame_bytes, stream_bytes, place_after, place_behind, MayStand, AllStand, IsUnfinished, BeginsBadly, Stops, BeginsWith}
@@ -7,7 +8,8 @@ use Rattle.pm_wire.specs.Frames.{AreFrames, HasBadFrame, EndsWithin}
 use Rattle.pm_wire.proofs.Places.{whole_same, whole_not_unfinished, whole_not_bad, bad_not_unfinished, bad_more}
 
 -- no frame stands where a list of frames stops
-frame_not_stop : (place : Option ℕ) (bytes : List ℕ) (f : Frame) (more : List ℕ) → MayStand place f → bytes ≡ frame_bytes f ++ more → Stops place bytes → ⊥
+frame_not_stop : (place : Option ℕ) (bytes : List ℕ) (f : Frame) (more : List ℕ) → MayStand place f → bytes ≡ frame_bytes f ++ more →
+    Stops place bytes → ⊥
 frame_not_stop place bytes f more stands e (inl unfinished) = whole_not_unfinished place bytes f more stands e unfinished
 frame_not_stop place bytes f more stands e (inr bad) = whole_not_bad place bytes f more stands e bad
 
@@ -62,7 +64,8 @@ frames_not_within bytes frames n are a =
 pub bad_not_within : (bytes : List ℕ) (m n : ℕ) → HasBadFrame bytes m → EndsWithin bytes n → ⊥
 bad_not_within bytes m n a b = bad_or_unfinished bytes a.frames b.frames a.rest b.rest a.begins a.bad b.begins b.unfinished
 
-pub begins_more : (bytes more : List ℕ) (frames : List Frame) (rest : List ℕ) → BeginsWith bytes frames rest → BeginsWith (bytes ++ more) frames (rest ++ more)
+pub begins_more : (bytes more : List ℕ) (frames : List Frame) (rest : List ℕ) → BeginsWith bytes frames rest →
+    BeginsWith (bytes ++ more) frames (rest ++ more)
 begins_more bytes more frames rest b = record {
   stand = b.stand;
   spelled = ap (λ l. l ++ more) b.spelled ∙ append_assoc (stream_bytes frames) rest more;

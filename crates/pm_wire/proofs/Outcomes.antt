@@ -1,5 +1,6 @@
 -- The ways in which a service ends, as what its source had says.
-use Rattle.std.proofs.Common.{◌≡◌, ◌≢◌, ◌∙◌, sym, ap, refl, subst, ℕ, ◌+◌, ◌-◌, ◌<◌, ◌≤◌, List, [], ◌∷◌, ◌++◌, length, Option, None, Some, arith}
+use Rattle.std.proofs.Common.{◌≡◌, ◌≢◌, ◌∙◌, sym, ap, refl, subst, ℕ, ◌+◌, ◌-◌, ◌<◌, ◌≤◌, List, [], ◌∷◌, ◌++◌}
+use Rattle.std.proofs.Common.{length, Option, None, Some, arith}
 use Rattle.std.proofs.Common.{append_assoc, length-append, inl, inr, ◌⊎◌}
 use Rattle.std.specs.Io.KnownBytes.{Appends, Consumes, IsAtEnd}
 use Rattle.std.proofs.lemmas.List.{append-nil}
@@ -86,7 +87,8 @@ bad_frame all new held holds r k ReadFault n out bad =
 bad_frame all new held holds r k WriteFault n out bad = inr (inl refl)
 bad_frame all new held holds r k NoMemory n out bad = inr (inr refl)
 
-refused_long : (all : List ℕ) (new held holds : Option (List ℕ)) → IsRefused (Some all) new held holds → stream_limit < length (taken (Some all) new) →
+refused_long : (all : List ℕ) (new held holds : Option (List ℕ)) → IsRefused (Some all) new held holds →
+    stream_limit < length (taken (Some all) new) →
     ((n : ℕ) → HasBadFrame (taken (Some all) new) n → ⊥) → ⊥
 refused_long all new held holds d long none =
     let same = taken-Consumes all new d.input d.consumes in
@@ -110,7 +112,8 @@ took_more all new held holds r k WriteFault out long none = inr (inl refl)
 took_more all new held holds r k NoMemory out long none = inr (inr refl)
 
 -- an input that is refused is no list of frames
-refused_frames : (all : List ℕ) (new held holds : Option (List ℕ)) (frames : List Frame) → IsRefused (Some all) new held holds → AreFrames all frames → ⊥
+refused_frames : (all : List ℕ) (new held holds : Option (List ℕ)) (frames : List Frame) → IsRefused (Some all) new held holds →
+    AreFrames all frames → ⊥
 refused_frames all new held holds frames d are =
     let s = splits all d.input new d.consumes in
     elim (fault_is new d.input d.frames d.fault) [
@@ -130,7 +133,8 @@ frames all new held holds r k ReadFault list out short are = inr (inl refl)
 frames all new held holds r k WriteFault list out short are = inr (inr (inl refl))
 frames all new held holds r k NoMemory list out short are = inr (inr (inr refl))
 
-done_refusal : (all : List ℕ) (new held holds : Option (List ℕ)) (n : ℕ) → IsDone (Some all) new held holds → HasBadFrame all n ⊎ EndsWithin all n → ⊥
+done_refusal : (all : List ℕ) (new held holds : Option (List ℕ)) (n : ℕ) → IsDone (Some all) new held holds → HasBadFrame all n
+    ⊎ EndsWithin all n → ⊥
 done_refusal all new held holds n d (inl bad) = frames_not_bad all d.frames n (move_frames _ _ _ (whole all d.input new d.consumes d.at_end) d.are_frames) bad
 done_refusal all new held holds n d (inr ends) = frames_not_within all d.frames n (move_frames _ _ _ (whole all d.input new d.consumes d.at_end)
     d.are_frames) ends

@@ -1,5 +1,6 @@
 -- What stands at a place: a whole frame, fewer bytes than one, or a bad one, and no two of these.
-use Rattle.std.proofs.Common.{◌≡◌, ◌∙◌, sym, ap, refl, subst, ℕ, ◌+◌, ◌*◌, ◌<◌, ◌≤◌, ℤ, List, [], ◌∷◌, ◌++◌, length, Option, None, Some, arith}
+use Rattle.std.proofs.Common.{◌≡◌, ◌∙◌, sym, ap, refl, subst, ℕ, ◌+◌, ◌*◌, ◌<◌, ◌≤◌, ℤ, List, [], ◌∷◌, ◌++◌, length}
+use Rattle.std.proofs.Common.{Option, None, Some, arith}
 use Rattle.std.proofs.Common.{append_assoc, length-append, inl, inr, ◌⊎◌}
 use Rattle.pm_wire.specs.declared.frame.Frame.{Frame}
 use Rattle.pm_wire.specs.declared.frame.Frame.TheVariants.{Hello, Bid, Gone, Clear}
@@ -35,7 +36,8 @@ frame_length place Clear f = omega arith
 some_same : (m n : ℕ) → Some m ≡ Some n → m ≡ n
 some_same m n e = cc
 
-sized_not_unfinished : (place : Option ℕ) (bytes : List ℕ) (size : ℕ) → HasSize place bytes size → size ≤ length bytes → IsUnfinished place bytes → ⊥
+sized_not_unfinished : (place : Option ℕ) (bytes : List ℕ) (size : ℕ) → HasSize place bytes size → size ≤ length bytes →
+    IsUnfinished place bytes → ⊥
 sized_not_unfinished place [] size has within unfinished = has
 sized_not_unfinished place (kind ∷ more) size has within unfinished =
     let same : size ≡ unfinished.0 = some_same size unfinished.0 (sym has ∙ unfinished.1) in
@@ -82,7 +84,8 @@ bad_not_unfinished place bytes (inl wrong) unfinished = wrong_not_unfinished pla
 bad_not_unfinished place bytes (inr bad) unfinished = formed_not_unfinished place bytes bad.frame bad.more bad.formed bad.spelled unfinished
 
 -- two frames at one place with the same bytes are one
-pub whole_same : (place : Option ℕ) (bytes : List ℕ) (f g : Frame) (x y : List ℕ) → MayStand place f → MayStand place g → bytes ≡ frame_bytes f ++ x →
+pub whole_same : (place : Option ℕ) (bytes : List ℕ) (f g : Frame) (x y : List ℕ) → MayStand place f → MayStand place g →
+    bytes ≡ frame_bytes f ++ x →
     bytes ≡ frame_bytes g ++ y → (f ≡ g) × (x ≡ y)
 whole_same place bytes f g x y stands stands' e e' = one_frame place f g x y stands.formed stands'.formed (sym e ∙ e')
 

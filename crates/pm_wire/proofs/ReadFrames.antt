@@ -1,5 +1,6 @@
 -- What the readers of a frame's fields have read.
-use Rattle.std.proofs.Common.{◌≡◌, ◌≢◌, ◌∙◌, sym, ap, refl, subst, ℕ, ◌+◌, ◌*◌, ◌<◌, ◌≤◌, ◌^◌, ℤ, pos, true, false, Bool, List, [], ◌∷◌, ◌++◌, length, take}
+use Rattle.std.proofs.Common.{◌≡◌, ◌≢◌, ◌∙◌, sym, ap, refl, subst, ℕ, ◌+◌, ◌*◌, ◌<◌, ◌≤◌, ◌^◌, ℤ, pos, true, false}
+use Rattle.std.proofs.Common.{Bool, List, [], ◌∷◌, ◌++◌, length, take}
 use Rattle.std.proofs.Common.{drop, get_or, zero, suc, ◌-◌, Option, None, Some, Ok, Err, Result, arith, append_assoc, length-append, inl, inr, ◌⊎◌}
 use Rattle.std.proofs.Common.{FitsSigned, IsTrue}
 use Rattle.std.specs.Int.{w16, w32, w64, to_be_bytes, cast_signed, cast_unsigned}
@@ -32,7 +33,8 @@ basis_is min max steps basis h =
     cc is
 
 -- the bytes of Hello by its fields
-hello_spelled : (body x y z : List ℕ) (min max : ℤ) (steps : ℕ) → length body ≡ 10 → body ≡ signed_bytes min ++ x → x ≡ signed_bytes max ++ y →
+hello_spelled : (body x y z : List ℕ) (min max : ℤ) (steps : ℕ) → length body ≡ 10 → body ≡ signed_bytes min ++ x →
+    x ≡ signed_bytes max ++ y →
     y ≡ to_be_bytes w16 steps ++ z →
     hello_kind ∷ body ≡ frame_bytes (Hello (record { min = min; max = max; steps = steps }))
 hello_spelled body x y z min max steps many ex ey ez =
@@ -40,11 +42,13 @@ hello_spelled body x y z min max steps many ex ey ez =
     let second : length x ≡ 4 + length y = omega (arith, ap length ey, length-append (signed_bytes max) y) in
     let third : length y ≡ 2 + length z = omega (arith, ap length ez, length-append (to_be_bytes w16 steps) z) in
     let none : z ≡ [] = nil_from_length z (omega arith) in
-    ap (λ l. hello_kind ∷ l) (ex ∙ ap (λ l. signed_bytes min ++ l) (ey ∙ ap (λ l. signed_bytes max ++ l) (ez ∙ ap (λ l. to_be_bytes w16 steps ++ l) none)))
+    ap (λ l. hello_kind ∷ l) (ex ∙ ap (λ l. signed_bytes min ++ l)
+    (ey ∙ ap (λ l. signed_bytes max ++ l) (ez ∙ ap (λ l. to_be_bytes w16 steps ++ l) none)))
 
 pub hello_read : (body x y z : List ℕ) (min max : ℤ) (steps : ℕ) (basis : BasisValue) → length body ≡ 10 → body ≡ signed_bytes min ++ x →
     x ≡ signed_bytes max ++ y → y ≡ to_be_bytes w16 steps ++ z →
-    FitsSigned w32 min → FitsSigned w32 max → steps < 2 ^ 16 → Ok basis ≡ checked_basis min max (pos steps) → IsFrameAt None (hello_kind ∷ body) (Hello basis)
+    FitsSigned w32 min → FitsSigned w32 max → steps < 2 ^ 16 → Ok basis ≡ checked_basis min max (pos steps) →
+    IsFrameAt None (hello_kind ∷ body) (Hello basis)
 hello_read body x y z min max steps basis many ex ey ez low high small is =
     let P : BasisValue → Type 0 = λ b. IsFrameAt None (hello_kind ∷ body) (Hello b) in
     let value : BasisValue = record { min = min; max = max; steps = steps } in
@@ -83,7 +87,8 @@ bid_refused steps body x y child number demand ex ey ez few small many fit bad =
   spelled = bid_spelled body x y child number demand ex ey ez;
 }
 
-gone_spelled : (body x y : List ℕ) (child number : ℕ) → length body ≡ 6 → body ≡ to_be_bytes w16 child ++ x → x ≡ to_be_bytes w32 number ++ y →
+gone_spelled : (body x y : List ℕ) (child number : ℕ) → length body ≡ 6 → body ≡ to_be_bytes w16 child ++ x →
+    x ≡ to_be_bytes w32 number ++ y →
     gone_kind ∷ body ≡ frame_bytes (Gone child number)
 gone_spelled body x y child number many ex ey =
     let first : length body ≡ 2 + length x = omega (arith, ap length ex, length-append (to_be_bytes w16 child) x) in
@@ -91,7 +96,8 @@ gone_spelled body x y child number many ex ey =
     let none : y ≡ [] = nil_from_length y (omega arith) in
     ap (λ l. gone_kind ∷ l) (ex ∙ ap (λ l. to_be_bytes w16 child ++ l) (ey ∙ ap (λ l. to_be_bytes w32 number ++ l) none))
 
-pub gone_refused : (steps : ℕ) (body x y : List ℕ) (child number : ℕ) → length body ≡ 6 → body ≡ to_be_bytes w16 child ++ x → x ≡ to_be_bytes w32 number ++ y →
+pub gone_refused : (steps : ℕ) (body x y : List ℕ) (child number : ℕ) → length body ≡ 6 → body ≡ to_be_bytes w16 child ++ x →
+    x ≡ to_be_bytes w32 number ++ y →
     child < 2 ^ 16 → number < 2 ^ 32 → (IsSender child number → ⊥) → IsRefused (Some steps) (gone_kind ∷ body)
 gone_refused steps body x y child number many ex ey few small bad = record {
   frame = Gone child number;

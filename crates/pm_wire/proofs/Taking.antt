@@ -1,5 +1,6 @@
 -- Frames that were given and taken one after the other.
-use Rattle.std.proofs.Common.{◌≡◌, ◌∙◌, sym, ap, refl, subst, ℕ, ◌+◌, ◌<◌, ◌≤◌, ℤ, Bool, true, false, List, [], ◌∷◌, ◌++◌, length, Option, None, Some}
+use Rattle.std.proofs.Common.{◌≡◌, ◌∙◌, sym, ap, refl, subst, ℕ, ◌+◌, ◌<◌, ◌≤◌, ℤ, Bool, true, false, List, [], ◌∷◌}
+use Rattle.std.proofs.Common.{◌++◌, length, Option, None, Some}
 use Rattle.std.proofs.Common.{IfSome, arith, append_assoc, length-append}
 use Rattle.std.specs.Prelude.{if◌then◌else◌, nat_le}
 use Rattle.std.proofs.lemmas.List.{append-nil}
@@ -126,7 +127,8 @@ place_known-after (Some market) (Gone child number) stands = ap (λ n. Some n) (
 place_known-after (Some market) Clear stands = ap (λ n. Some n) (cleared_steps market market.changed)
 
 -- a frame makes at most one clearing
-clearings_after : (market : Option Market) (frame : Frame) (offset : ℕ) → MayStand (place_known market) frame → IfSome market (λ known. known.index ≤ offset) →
+clearings_after : (market : Option Market) (frame : Frame) (offset : ℕ) → MayStand (place_known market) frame →
+    IfSome market (λ known. known.index ≤ offset) →
     IfSome (market_after market frame) (λ known. known.index ≤ offset + 1)
 unfolding open_market
 clearings_after None (Hello basis) offset stands few = omega arith
@@ -161,7 +163,8 @@ place_known-behind (f ∷ fs) market all =
     let P : Option ℕ → Type 0 = λ place. AllStand place fs in
     place_known-behind fs (market_after market f) (subst P (sym same) all.1) ∙ ap (λ p. place_behind p fs) same
 
-pub clearings_behind : (fs : List Frame) (market : Option Market) (offset : ℕ) → AllStand (place_known market) fs → IfSome market (λ known. known.index ≤ offset) →
+pub clearings_behind : (fs : List Frame) (market : Option Market) (offset : ℕ) → AllStand (place_known market) fs →
+    IfSome market (λ known. known.index ≤ offset) →
     IfSome (market_behind market fs) (λ known. known.index ≤ offset + length fs)
 clearings_behind [] market offset all few = fewer market offset (offset + 0) (omega arith) few
 clearings_behind (f ∷ fs) market offset all few =
@@ -194,7 +197,8 @@ few_clearings None offset small few = tt
 few_clearings (Some market) offset small few = omega (arith, few)
 
 -- a decoder that told a bad frame is where it was
-pub takes_refused : (fs : List Frame) (a b c : Decoding) (m n : Option Market) (x : List ℕ) → Takes fs a b m n x → c ≡ with_refusal b → Takes fs a c m n x
+pub takes_refused : (fs : List Frame) (a b c : Decoding) (m n : Option Market) (x : List ℕ) → Takes fs a b m n x →
+    c ≡ with_refusal b → Takes fs a c m n x
 takes_refused fs a b c m n x takes is =
     let P : Decoding → Type 0 = λ d. Takes fs a d m n x in
     subst P (sym is) (record {
@@ -206,7 +210,8 @@ takes_refused fs a b c m n x takes is =
       replied = takes.replied;
     })
 
-pub bad_refused : (b c : Decoding) (at : ℕ) → (at ≡ b.offset) × BeginsBadly b.place b.rest × (c ≡ with_refusal b) → BeginsBadly c.place c.rest × (at ≡ c.offset)
+pub bad_refused : (b c : Decoding) (at : ℕ) → (at ≡ b.offset) × BeginsBadly b.place b.rest × (c ≡ with_refusal b) →
+    BeginsBadly c.place c.rest × (at ≡ c.offset)
 bad_refused b c at h =
     let P : Decoding → Type 0 = λ d. BeginsBadly d.place d.rest in
     (subst P (sym h.2) h.1, h.0 ∙ ap (λ d. d.offset) (sym h.2))

@@ -1,4 +1,5 @@
-ghost use Rattle.std.specs.Prelude.{◌≡◌, ◌+◌, ◌≤◌, ◌++◌, ◌⊎◌, ℕ, List, true, length, drop, vec_len, IfOk, IfErr, IfSome, IfNone, OnOk, OnErr};
+ghost use Rattle.std.specs.Prelude.{◌≡◌, ◌+◌, ◌≤◌, ◌++◌, ◌⊎◌, ℕ, List, true, length, drop, vec_len, IfOk, IfErr, IfSome, IfNone};
+ghost use Rattle.std.specs.Prelude.{OnOk, OnErr};
 ghost use Rattle.pm_wire.specs.Frames.{frame_bytes, MayStand, IsUnfinished, BeginsBadly};
 ghost use Rattle.pm_wire.specs.Decoding.{nothing_fed, with_piece, with_refusal, GivesFrame};
 

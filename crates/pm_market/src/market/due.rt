@@ -28,7 +28,8 @@ impl Market {
     /// Marks each node that a node is or stands below.
     fn mark_above(&self, marks: &mut [bool], below: usize)
         ensures length { length marks.new ≡ length marks.old }
-        ensures marks { (x : ℕ) → x < length marks.old → slice_index_or marks.new x false ≡ (slice_index_or marks.old x false || is_below (market_lists self.now) x below) }
+        ensures marks { (x : ℕ) → x < length marks.old →
+            slice_index_or marks.new x false ≡ (slice_index_or marks.old x false || is_below (market_lists self.now) x below) }
     {
         let mut at = below;
         for _step in 0..below {
@@ -43,7 +44,8 @@ impl Market {
 
     /// For each node, the auctioneer first, whether a cut has a number above 0 of one of its leaves.
     fn cut_marks(&self, cut: &[u32]) -> Result<Vec<bool>, AllocError>
-        ensures { IfOk result (λ marks. (x : ℕ) → x ≤ nodes (market_lists self.now) → slice_index_or marks.items x false ≡ not (is_same_on (market_lists self.now) x (cut_of cut.now) no_changes)) }
+        ensures { IfOk result (λ marks. (x : ℕ) → x ≤ nodes (market_lists self.now) →
+            slice_index_or marks.items x false ≡ not (is_same_on (market_lists self.now) x (cut_of cut.now) no_changes)) }
     {
         let mut marks = vec![in self.alloc; false; self.due.len()]?;
         for before in 0..self.parents.len() {
@@ -91,7 +93,8 @@ impl Market {
         cut: &[u32],
     ) -> Result<Vec<usize>, AllocError>
         ensures length { IfOk result (λ row. vec_len row ≡ nodes (market_lists self.now) + 1) }
-        ensures due { IfOk result (λ row. (x : ℕ) → x ≤ nodes (market_lists self.now) → slice_index_or row.items x 0 ≡ due_after (market_lists self.now) (market_due self.now) reached index (cut_of cut.now) x) }
+        ensures due { IfOk result (λ row. (x : ℕ) → x ≤ nodes (market_lists self.now) →
+            slice_index_or row.items x 0 ≡ due_after (market_lists self.now) (market_due self.now) reached index (cut_of cut.now) x) }
     {
         let marks = self.cut_marks(cut)?;
         let mut row = Vec::with_capacity(self.alloc, self.due.len())?;

@@ -8,7 +8,8 @@ impl Market {
     ghost use Rattle.std.specs.Prelude.{◌≡◌, ◌==◌, ◌+◌, ◌-◌, ◌≤◌, true, if◌then◌else◌, length, not};
     ghost use Rattle.pm_market.specs.Lists.{is_leaf, nodes, end_count};
     ghost use Rattle.pm_market.specs.State.{all_to, newest, clearings};
-    ghost use Rattle.pm_market.specs.Legality.{learn_is_legal, publish_is_legal, clear_is_legal, pass_is_legal, change_is_legal, close_is_legal, is_idle, is_idle_at, is_legal, are_made};
+    ghost use Rattle.pm_market.specs.Legality.{learn_is_legal, publish_is_legal, clear_is_legal, pass_is_legal, change_is_legal, close_is_legal, is_idle};
+    ghost use Rattle.pm_market.specs.Legality.{is_idle_at, is_legal, are_made};
     ghost use Rattle.pm_market.specs.Market.{market_lists, market_state};
 
     /// Whether the parent of a node may learn a number of it.
@@ -23,7 +24,8 @@ impl Market {
 
     /// Whether a concentrator may publish, under its next number.
     fn may_publish(&self, node: usize) -> bool
-        ensures { result ≡ publish_is_legal (market_lists self.now) (market_state self.now) node (newest (market_lists self.now) (market_state self.now) node + 1) }
+        ensures { result ≡ publish_is_legal (market_lists self.now) (market_state self.now) node
+            (newest (market_lists self.now) (market_state self.now) node + 1) }
     {
         if !self.is_node(node) || self.is_leaf(node) || self.knows_same(node) {
             return false;
@@ -111,7 +113,8 @@ impl Market {
 
     /// Whether a node is no device, or its changes of the phases up to this one are made.
     fn is_made_at(&self, phase: usize, node: usize) -> bool
-        ensures { result ≡ (if is_leaf (market_lists self.now) node then (market_state self.now).counts node == end_count (market_lists self.now) phase node else true) }
+        ensures { result ≡ (if is_leaf (market_lists self.now) node then (market_state self.now).counts node == end_count
+            (market_lists self.now) phase node else true) }
     {
         !self.is_leaf(node) || item_at(&self.counts, node, 0) == self.end(phase, node)
     }

@@ -23,7 +23,12 @@ impl Market {
         ends: Vec<Vec<u32>>,
     ) -> Result<Market, AllocError>
         requires { vec_len leaves ≡ vec_len parents }
-        ensures lists { IfOk result (λ market. market_lists market ≡ record { parents = parents.items; leaves = leaves.items; members = map (λ row. row.items) members.items; ends = map (λ row. row.items) ends.items }) }
+        ensures lists { IfOk result (λ market. market_lists market ≡ record {
+          parents = parents.items;
+          leaves = leaves.items;
+          members = map (λ row. row.items) members.items;
+          ends = map (λ row. row.items) ends.items;
+        }) }
         ensures start { IfOk result (λ market. market_state market ≡ start) }
     {
         let places = parents.len() + 1;

@@ -11,6 +11,7 @@ learn-requires c =
       bid = record {
         is_child = omega (arith, c.requires.child);
         equal_lengths = c.requires.bid_steps ∙ sym c.requires.steps;
-        within = single_within c.args.auctioneer.now.cache 0 c.args.bid.now sound (omega (arith, c.requires.child)) c.requires.single (c.requires.bid_steps ∙ sym c.requires.steps) c.requires.small;
+        within = single_within c.args.auctioneer.now.cache 0 c.args.bid.now sound (omega (arith, c.requires.child)) c.requires.single
+            (c.requires.bid_steps ∙ sym c.requires.steps) c.requires.small;
       };
     }

@@ -16,14 +16,17 @@ loop-step-preserved g c =
     let nearest_one : FitsSigned w64 c.clamp.result = search rules in
     record {
       progress = progress_more _ _ _ _ _ (omega arith) c.loop-step.invariant.progress
-          (to_z-of_z w64 c.clamp.result nearest_one ∙ c.clamp.ensures.value ∙ ap (λ z. nearest low high z) (to_z-of_z w64 (demand_at bid step) demand) ∙ sym (clamped-at low high bid step (omega arith)));
+          (to_z-of_z w64 c.clamp.result nearest_one ∙ c.clamp.ensures.value
+          ∙ ap (λ z. nearest low high z) (to_z-of_z w64 (demand_at bid step) demand) ∙ sym (clamped-at low high bid step (omega arith)));
       cost = omega arith;
     }
 
 -- the targets, once the loop has ended
 targets_are : (g : Over) (c : goal.After-loop-step g) → c.loop-step.targets ≡ clamped c.args.floor c.args.ceiling c.args.demands.now
 targets_are g c =
-    progress_all _ _ _ c.loop-step.step (omega arith) (omega (arith, length-clamped (to_z w64 (of_z w64 c.args.floor)) (to_z w64 (of_z w64 c.args.ceiling)) c.args.demands.now)) c.loop-step.invariant.progress
+    progress_all _ _ _ c.loop-step.step (omega arith)
+    (omega (arith, length-clamped (to_z w64 (of_z w64 c.args.floor)) (to_z w64 (of_z w64 c.args.ceiling)) c.args.demands.now))
+    c.loop-step.invariant.progress
     ∙ ap (λ floor. clamped floor (to_z w64 (of_z w64 c.args.ceiling)) c.args.demands.now) (to_z-of_z w64 c.args.floor c.ranges.floor)
     ∙ ap (λ ceiling. clamped c.args.floor ceiling c.args.demands.now) (to_z-of_z w64 c.args.ceiling c.ranges.ceiling)
 
@@ -33,4 +36,5 @@ returns-clause-clamped g c = targets_are g c
 pub returns-clause-within : goal.returns-clause-within
 returns-clause-within g c =
     let P : List ℤ → Type 0 = λ bid. AllWithinLimit sum_limit bid in
-    subst P (sym (targets_are g c)) (clamped_within c.args.floor c.args.ceiling c.args.demands.now c.requires.order c.requires.floor_within c.requires.ceiling_within)
+    subst P (sym (targets_are g c)) (clamped_within c.args.floor c.args.ceiling c.args.demands.now c.requires.order
+    c.requires.floor_within c.requires.ceiling_within)

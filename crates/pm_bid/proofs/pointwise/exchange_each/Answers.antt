@@ -5,13 +5,15 @@ use Rattle.pm_bid.proofs.EachStep.{length-exchanged, fits_exchanged, computed_ex
 
 pub overflow_add-demand : goal.overflow_add-demand
 overflow_add-demand g c =
-    let next = next_exchanged _ _ _ _ c.loop-step.step c.requires.old_length c.requires.new_length (omega arith) c.requires.demands_within c.requires.olds_within c.requires.within c.loop-step.invariant.progress in
+    let next = next_exchanged _ _ _ _ c.loop-step.step c.requires.old_length c.requires.new_length
+    (omega arith) c.requires.demands_within c.requires.olds_within c.requires.within c.loop-step.invariant.progress in
     let new : FitsSigned w64 (demand_at c.args.news.now c.loop-step.step) = search rules in
     fits_exchanged _ _ _ new next.mine next.old next.within
 
 pub loop-step-preserved : goal.loop-step-preserved
 loop-step-preserved g c =
-    let next = next_exchanged _ _ _ _ c.loop-step.step c.requires.old_length c.requires.new_length (omega arith) c.requires.demands_within c.requires.olds_within c.requires.within c.loop-step.invariant.progress in
+    let next = next_exchanged _ _ _ _ c.loop-step.step c.requires.old_length c.requires.new_length
+    (omega arith) c.requires.demands_within c.requires.olds_within c.requires.within c.loop-step.invariant.progress in
     let new : FitsSigned w64 (demand_at c.args.news.now c.loop-step.step) = search rules in
     record {
       progress = progress_more _ _ _ _ _ (omega arith) c.loop-step.invariant.progress (computed_exchanged _ _ _ new next.mine next.old next.within ∙ next.is);
@@ -20,4 +22,9 @@ loop-step-preserved g c =
 
 pub returns-clause-exchanged : goal.returns-clause-exchanged
 returns-clause-exchanged g c =
-    progress_all _ _ _ c.loop-step.step (omega arith) (omega (arith, length-exchanged c.args.demands.now c.args.olds.now c.args.news.now c.requires.old_length c.requires.new_length)) c.loop-step.invariant.progress
+    progress_all _ _ _ c.loop-step.step (omega arith)
+    (omega (
+      arith,
+      length-exchanged c.args.demands.now c.args.olds.now c.args.news.now c.requires.old_length
+          c.requires.new_length,
+    )) c.loop-step.invariant.progress

@@ -5,14 +5,16 @@ use Rattle.pm_bid.proofs.EachStep.{length-taken_off, fits_taken_off, computed_ta
 
 pub overflow_sub-demand : goal.overflow_sub-demand
 overflow_sub-demand g c =
-    let next = next_taken_off _ _ c.loop-step.demands c.loop-step.step c.requires.equal_lengths c.loop-step.auto.demands (omega arith) c.requires.within c.loop-step.invariant.progress in
+    let next = next_taken_off _ _ c.loop-step.demands c.loop-step.step c.requires.equal_lengths c.loop-step.auto.demands
+    (omega arith) c.requires.within c.loop-step.invariant.progress in
     let mine : FitsSigned w64 (demand_at c.loop-step.demands c.loop-step.step) = search rules in
     let other : FitsSigned w64 (demand_at c.args.others.now c.loop-step.step) = search rules in
     fits_taken_off _ _ mine other next.0
 
 pub loop-step-preserved : goal.loop-step-preserved
 loop-step-preserved g c =
-    let next = next_taken_off _ _ c.loop-step.demands c.loop-step.step c.requires.equal_lengths c.loop-step.auto.demands (omega arith) c.requires.within c.loop-step.invariant.progress in
+    let next = next_taken_off _ _ c.loop-step.demands c.loop-step.step c.requires.equal_lengths c.loop-step.auto.demands
+    (omega arith) c.requires.within c.loop-step.invariant.progress in
     let mine : FitsSigned w64 (demand_at c.loop-step.demands c.loop-step.step) = search rules in
     let other : FitsSigned w64 (demand_at c.args.others.now c.loop-step.step) = search rules in
     record {
@@ -22,4 +24,5 @@ loop-step-preserved g c =
 
 pub returns-clause-rest : goal.returns-clause-rest
 returns-clause-rest g c =
-    progress_all _ _ _ c.loop-step.step (omega arith) (omega (arith, length-taken_off c.args.demands.now c.args.others.now c.requires.equal_lengths)) c.loop-step.invariant.progress
+    progress_all _ _ _ c.loop-step.step (omega arith)
+    (omega (arith, length-taken_off c.args.demands.now c.args.others.now c.requires.equal_lengths)) c.loop-step.invariant.progress

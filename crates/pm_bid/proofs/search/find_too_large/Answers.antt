@@ -12,4 +12,5 @@ returns-then-demand-gt-DEMAND_LIMIT c =
     sym (position_or_len_is is_too_large c.args.demands.now c.loop-step.step (pos 0) (omega arith) c.loop-step.invariant (λ _. found))
 
 pub returns : goal.returns
-returns c = sym (position_or_len_is is_too_large c.args.demands.now _ (pos 0) (omega arith) (λ k h. c.loop-step.invariant k (omega arith)) (λ h. absurd (omega arith)))
+returns c = sym (position_or_len_is is_too_large c.args.demands.now _ (pos 0) (omega arith)
+    (λ k h. c.loop-step.invariant k (omega arith)) (λ h. absurd (omega arith)))

@@ -1,4 +1,5 @@
-use Rattle.std.proofs.Common.{◌≡◌, ◌∙◌, sym, ap, subst, ℕ, ◌+◌, ◌<◌, pos, ◌+ℤ◌, Bool, true, false, cond, List, get_or, take, length, to_z, w64, arith}
+use Rattle.std.proofs.Common.{◌≡◌, ◌∙◌, sym, ap, subst, ℕ, ◌+◌, ◌<◌, pos, ◌+ℤ◌, Bool, true, false, cond, List, get_or, take, length}
+use Rattle.std.proofs.Common.{to_z, w64, arith}
 use Rattle.std.specs.Prelude.{◌==◌, All, filter}
 use Rattle.std.proofs.lemmas.Bool.{eq-eqb, ne_eqb}
 use Rattle.std.proofs.lemmas.Int.{ints}

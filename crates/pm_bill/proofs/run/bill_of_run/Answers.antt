@@ -1,4 +1,5 @@
-use Rattle.std.proofs.Common.{rules, ◌≡◌, ◌∙◌, sym, ap, subst, ℕ, ◌+◌, ◌-◌, ◌≤◌, length, arith, ℤ, List, to_z, of_z, w64, FitsSigned, Some, Bool}
+use Rattle.std.proofs.Common.{rules, ◌≡◌, ◌∙◌, sym, ap, subst, ℕ, ◌+◌, ◌-◌, ◌≤◌, length, arith, ℤ, List, to_z, of_z, w64}
+use Rattle.std.proofs.Common.{FitsSigned, Some, Bool}
 use Rattle.std.specs.Prelude.{IsTrue, is_some, true, false}
 use Rattle.std.proofs.lemmas.Int.{to_z-of_z}
 use Rattle.pm_plan.specs.Plans.{PlanData, minutes_of}

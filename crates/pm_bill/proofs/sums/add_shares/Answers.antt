@@ -1,4 +1,5 @@
-use Rattle.std.proofs.Common.{arith, ◌≡◌, ◌∙◌, sym, ap, subst, ℤ, pos, ◌*◌, ◌++◌, ◌∷◌, [], List, length, ◌<◌, get_or, take, w64, to_z, of_z}
+use Rattle.std.proofs.Common.{arith, ◌≡◌, ◌∙◌, sym, ap, subst, ℤ, pos, ◌*◌, ◌++◌, ◌∷◌, [], List, length, ◌<◌, get_or, take, w64}
+use Rattle.std.proofs.Common.{to_z, of_z}
 use Rattle.std.specs.Prelude.{IsTrue}
 use Rattle.std.specs.Int.{w128}
 use Rattle.std.proofs.Math.ListN.{set}

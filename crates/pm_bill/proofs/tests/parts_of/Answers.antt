@@ -10,7 +10,8 @@ use Rattle.pm_bill.proofs.tests.parts_of.Goals as goal
 -- one more node
 more : (nodes new_nodes : List NodeSpec) (entries new_entries : List TreeEntry) (spec : NodeSpec) (entry : TreeEntry) →
     map is_device (map node_part nodes) ≡ leaves_of (entries_of entries) → is_device (node_part spec) ≡ entry.leaf →
-    new_nodes ≡ nodes ++ spec ∷ [] → new_entries ≡ entries ++ entry ∷ [] → map is_device (map node_part new_nodes) ≡ leaves_of (entries_of new_entries)
+    new_nodes ≡ nodes ++ spec ∷ [] → new_entries ≡ entries ++ entry ∷ [] →
+    map is_device (map node_part new_nodes) ≡ leaves_of (entries_of new_entries)
 more nodes new_nodes entries new_entries spec entry so_far leaf nodes_are entries_are =
     ap (λ all. map is_device (map node_part all)) nodes_are
     ∙ ap (map is_device) (map-append node_part nodes (spec ∷ []))

@@ -12,5 +12,6 @@ loop-preserved c =
     record {
       many = ap length pushed ∙ length-append c.loop.ends.items (made ∷ []) ∙ ap (λ n. n + 1) c.loop.invariant.many;
       room = subst (All (HasRoomForAll c.args.plan.now)) (sym pushed)
-          (All-push (HasRoomForAll c.args.plan.now) c.loop.ends.items made c.loop.invariant.room (vacant_has_room c.args.plan.now made c.in_ok-vacant.ensures.members c.in_ok-vacant.ensures.limited));
+          (All-push (HasRoomForAll c.args.plan.now) c.loop.ends.items made c.loop.invariant.room
+          (vacant_has_room c.args.plan.now made c.in_ok-vacant.ensures.members c.in_ok-vacant.ensures.limited));
     }

@@ -8,6 +8,7 @@ learn-requires c = record {
   bid = record {
     is_child = c.requires.child;
     equal_lengths = c.requires.steps;
-    within = single_within c.args.cache.now c.args.child (offered c.args.cache.now (option_copied c.args.bid)) c.heads-heads.ensures.sound c.requires.child c.requires.single c.requires.steps c.requires.small;
+    within = single_within c.args.cache.now c.args.child (offered c.args.cache.now (option_copied c.args.bid))
+        c.heads-heads.ensures.sound c.requires.child c.requires.single c.requires.steps c.requires.small;
   };
 }

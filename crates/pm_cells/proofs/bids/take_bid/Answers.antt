@@ -19,7 +19,8 @@ store-requires c =
     let got = c.fetch_or-found.ensures.2.0 (omega arith) in
     let a = with_up v (taking v.up (n / 2)) in
     let is : c.exchange-message.new.seat.me ≡ (a, (0, None) ∷ []) =
-    c.exchange-message.ensures.3 ∙ ap (λ (m : Seated). (m.0, (0, None) ∷ rest m.1)) got.1 ∙ ap (λ l. (a, (0, None) ∷ l)) c.end.invariant.has_no_slot in
+    c.exchange-message.ensures.3 ∙ ap (λ (m : Seated). (m.0, (0, None) ∷ rest m.1)) got.1
+    ∙ ap (λ l. (a, (0, None) ∷ l)) c.end.invariant.has_no_slot in
     (search rules, search rules, may_end_take_bid _ _ _ v n is c.end.invariant.role_is (omega arith))
 
 pub returns-in-Some-Bid-clause-above : goal.returns-in-Some-Bid-clause-above

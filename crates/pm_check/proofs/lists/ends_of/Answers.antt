@@ -21,5 +21,6 @@ loop-at-preserved c = record {
   before = c.in_ok-before-2.ensures.items ∙ c.deref-in-loop-at.ensures.value ∙ c.in_ok-row.ensures;
   rows =
       ap (map (λ (row : Vec ℕ Global). row.items)) c.in_ok-push.ensures.items ∙ map-append (λ (row : Vec ℕ Global). row.items) _ _
-      ∙ next_mapped (λ (p : ℕ). map (end_cut c.args.plan.now p) (node_numbers c.args.plan.now)) _ c.loop-at.at _ c.loop-at.invariant.rows c.in_ok-row.ensures;
+      ∙ next_mapped (λ (p : ℕ). map (end_cut c.args.plan.now p) (node_numbers c.args.plan.now)) _ c.loop-at.at _
+      c.loop-at.invariant.rows c.in_ok-row.ensures;
 }

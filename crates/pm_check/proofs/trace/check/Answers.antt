@@ -10,7 +10,8 @@ use Rattle.pm_check.proofs.trace.check.Goals as goal
 
 module _ (plan : PlanData) (is : IsPlan plan) (report trace : List ℕ) where
   -- a valid trace is refused for want of memory alone
-  not_refused : (result : Result ℕ CheckFault) → IfErr result (IsFaultOfTrace plan report trace) → (moves : ℕ) → IsValidTrace plan report trace moves →
+  not_refused : (result : Result ℕ CheckFault) → IfErr result (IsFaultOfTrace plan report trace) → (moves : ℕ) →
+      IsValidTrace plan report trace moves →
       IfErr result (λ fault. fault ≡ NoMemory)
   not_refused (Ok n) fault moves valid = tt
   not_refused (Err NoMemory) fault moves valid = refl

@@ -21,9 +21,14 @@ overflow_add-index_mut c =
     let n : ℕ = c.loop-number.number in
     let leaf : IsLeaf (plan_lists plan) n = sym c.is_device.ensures ∙ c.if-is_device.true in
     let inside = (leaf_inside plan c.phases.ensures.sound n leaf).1 in
-    let count = get_or_read c.loop-number.due.items n c.index_mut.result.now (omega (arith, inside, c.loop-number.invariant.same_length, c.requires.same_length)) c.index_mut.ensures.value 0
+    let count = get_or_read c.loop-number.due.items n c.index_mut.result.now
+    (omega (arith, inside, c.loop-number.invariant.same_length, c.requires.same_length)) c.index_mut.ensures.value 0
     ∙ c.loop-number.invariant.before n leaf (omega arith) in
-    omega (arith, one_phase_more plan c.args.closed n c.index_mut.result.now c.changes_of.result count c.changes_of.ensures, few_due plan c.phases.ensures.sound (c.args.closed + 1) n)
+    omega (
+      arith,
+      one_phase_more plan c.args.closed n c.index_mut.result.now c.changes_of.result count c.changes_of.ensures,
+      few_due plan c.phases.ensures.sound (c.args.closed + 1) n,
+    )
 
 pub loop-number-preserved : goal.loop-number-preserved
 loop-number-preserved c =
@@ -34,9 +39,11 @@ loop-number-preserved c =
           let leaf : IsLeaf (plan_lists plan) n = sym c.is_device.ensures ∙ w.if-is_device.true in
           let inside : n < length c.loop-number.due.items =
           omega (arith, (leaf_inside plan c.phases.ensures.sound n leaf).1, c.loop-number.invariant.same_length, c.requires.same_length) in
-          let count = get_or_read c.loop-number.due.items n w.index_mut.result.now inside w.index_mut.ensures.value 0 ∙ c.loop-number.invariant.before n leaf (omega arith) in
+          let count = get_or_read c.loop-number.due.items n w.index_mut.result.now inside w.index_mut.ensures.value 0
+          ∙ c.loop-number.invariant.before n leaf (omega arith) in
           subst (λ (v : Vec ℕ Global). IsDueTo plan c.args.closed (n + 1) c.args.due.now.items v.items) (sym w.due-is)
-          (due_set plan c.args.closed n c.args.due.now.items c.loop-number.due.items (w.index_mut.result.now + w.changes_of.result) c.loop-number.invariant inside
+          (due_set plan c.args.closed n c.args.due.now.items c.loop-number.due.items (w.index_mut.result.now + w.changes_of.result)
+          c.loop-number.invariant inside
           (one_phase_more plan c.args.closed n w.index_mut.result.now w.changes_of.result count w.changes_of.ensures))
       | else-is_device w ↦
           subst (λ (v : Vec ℕ Global). IsDueTo plan c.args.closed (n + 1) c.args.due.now.items v.items) (sym w.due-is)
@@ -46,4 +53,11 @@ loop-number-preserved c =
 
 pub returns-clause-after : goal.returns-clause-after
 returns-clause-after c = λ some d leaf. c.loop-number.invariant.after d leaf
-    (omega (arith, (leaf_inside c.args.plan.now c.phases.ensures.sound d leaf).1, nodes_are c.args.plan.now, c.loop-number-test.false, c.len-number-end.ensures.len, ap length c.tree.ensures.tree))
+    (omega (
+      arith,
+      (leaf_inside c.args.plan.now c.phases.ensures.sound d leaf).1,
+      nodes_are c.args.plan.now,
+      c.loop-number-test.false,
+      c.len-number-end.ensures.len,
+      ap length c.tree.ensures.tree,
+    ))

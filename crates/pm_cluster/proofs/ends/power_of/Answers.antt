@@ -24,7 +24,8 @@ seat_is : (c : After-index) → seat_at c.args.ports.now.items c.args.device.0 �
 seat_is c = seat_read c.args.ports.now.items c.args.device.0 c.index.result.now
     c.requires.told.port c.index.ensures
 
-held_price_is : (c : After-index) (held : Option Held) → held ≡ held_by c.index.result.now → held_by (seat_at c.args.ports.now.items c.args.device.0) ≡ held
+held_price_is : (c : After-index) (held : Option Held) → held ≡ held_by c.index.result.now →
+    held_by (seat_at c.args.ports.now.items c.args.device.0) ≡ held
 held_price_is c held is = ap held_by (seat_is c) ∙ sym is
 
 pub returns-in_default : goal.returns-in_default
@@ -47,7 +48,12 @@ pub demand-requires-clause-step : goal.demand-requires-clause-step
 demand-requires-clause-step c =
     let is = root_cache c ∙ ap (cache_in c.args.auctioneer.now c.args.concentrators.now.items) c.parent_of-parent.ensures.parent in
     let at = goal.at.demand-requires-clause-step c in
-    omega (arith, c.requires.told.step c.in-Some.price (held_price_is at.After-index (Some c.in-Some.price) c.in-Some.ensures.held), c.requires.told.steps, ap (λ (q : Cache). q.steps) is)
+    omega (
+      arith,
+      c.requires.told.step c.in-Some.price (held_price_is at.After-index (Some c.in-Some.price) c.in-Some.ensures.held),
+      c.requires.told.steps,
+      ap (λ (q : Cache). q.steps) is,
+    )
 
 pub returns-then-parent-eq0 : goal.returns-then-parent-eq0
 returns-then-parent-eq0 c =
@@ -55,7 +61,9 @@ returns-then-parent-eq0 c =
     let at = goal.at.returns-then-parent-eq0 c in
     let price_is = held_price_is at.After-index (Some c.in-Some.price) c.in-Some.ensures.held in
     record {
-      power = to_z-of_z w64 c.demand.result fits ∙ (power_told c.args.plan.now c.args.auctioneer.now c.args.concentrators.now.items c.args.ports.now.items c.args.device.0 c.parent_of-parent.result c.place_in_row-place.result c.in-Some.price c.cache.result.now c.demand.result
+      power = to_z-of_z w64 c.demand.result fits
+          ∙ (power_told c.args.plan.now c.args.auctioneer.now c.args.concentrators.now.items c.args.ports.now.items c.args.device.0
+          c.parent_of-parent.result c.place_in_row-place.result c.in-Some.price c.cache.result.now c.demand.result
           price_is c.parent_of-parent.ensures.parent c.place_in_row-place.ensures.place (root_cache at.After-counter-1) c.demand.ensures.demand);
     }
 
@@ -68,13 +76,17 @@ pub returns-in-None : goal.returns-in-None
 returns-in-None c =
     let at = goal.at.returns-in-None c in
     let none : slice_index_or c.args.concentrators.now.items c.parent_of-parent.result None ≡ None =
-    concentrator_read c.args.concentrators.now.items c.parent_of-parent.result c.index-2.result.now (above at.After-place_in_row-place) c.index-2.ensures ∙ c.in-None.is in
+    concentrator_read c.args.concentrators.now.items c.parent_of-parent.result c.index-2.result.now
+    (above at.After-place_in_row-place) c.index-2.ensures ∙ c.in-None.is in
     let some = c.requires.told.there (λ e. c.if-parent-eq0.false (c.parent_of-parent.ensures.parent ∙ e)) in
-    absurd (false≢true (sym (ap (λ (y : ℕ). is_some (slice_index_or c.args.concentrators.now.items y None)) (sym c.parent_of-parent.ensures.parent) ∙ ap is_some none) ∙ some))
+    absurd (false≢true (sym (ap (λ (y : ℕ). is_some (slice_index_or c.args.concentrators.now.items y None))
+    (sym c.parent_of-parent.ensures.parent) ∙ ap is_some none) ∙ some))
 
-inner_cache : (c : After-counter-in-Some-index-1) → c.cache-in-Some-index.result.now ≡ cache_in c.args.auctioneer.now c.args.concentrators.now.items c.parent_of-parent.result
+inner_cache : (c : After-counter-in-Some-index-1) →
+    c.cache-in-Some-index.result.now ≡ cache_in c.args.auctioneer.now c.args.concentrators.now.items c.parent_of-parent.result
 inner_cache c = cache_read c.args.auctioneer.now c.args.concentrators.now.items c.parent_of-parent.result c.index-2.result.now c.in-Some-index.concentrator
-    c.cache-in-Some-index.result.now (omega (arith, c.requires.told.above, c.parent_of-parent.ensures.parent)) c.index-2.ensures c.in-Some-index.is c.if-parent-eq0.false c.cache-in-Some-index.ensures.cache
+    c.cache-in-Some-index.result.now (omega (arith, c.requires.told.above, c.parent_of-parent.ensures.parent)) c.index-2.ensures
+    c.in-Some-index.is c.if-parent-eq0.false c.cache-in-Some-index.ensures.cache
 
 pub demand-requires-in-Some-index-clause-child : goal.demand-requires-in-Some-index-clause-child
 demand-requires-in-Some-index-clause-child c =
@@ -85,7 +97,12 @@ pub demand-requires-in-Some-index-clause-step : goal.demand-requires-in-Some-ind
 demand-requires-in-Some-index-clause-step c =
     let is = inner_cache c ∙ ap (cache_in c.args.auctioneer.now c.args.concentrators.now.items) c.parent_of-parent.ensures.parent in
     let at = goal.at.demand-requires-in-Some-index-clause-step c in
-    omega (arith, c.requires.told.step c.in-Some.price (held_price_is at.After-index (Some c.in-Some.price) c.in-Some.ensures.held), c.requires.told.steps, ap (λ (q : Cache). q.steps) is)
+    omega (
+      arith,
+      c.requires.told.step c.in-Some.price (held_price_is at.After-index (Some c.in-Some.price) c.in-Some.ensures.held),
+      c.requires.told.steps,
+      ap (λ (q : Cache). q.steps) is,
+    )
 
 pub returns : goal.returns
 returns c =
@@ -93,6 +110,9 @@ returns c =
     let at = goal.at.returns c in
     let price_is = held_price_is at.After-index (Some c.in-Some.price) c.in-Some.ensures.held in
     record {
-      power = to_z-of_z w64 c.demand-in-Some-index.result fits ∙ (power_told c.args.plan.now c.args.auctioneer.now c.args.concentrators.now.items c.args.ports.now.items c.args.device.0 c.parent_of-parent.result c.place_in_row-place.result c.in-Some.price c.cache-in-Some-index.result.now
-          c.demand-in-Some-index.result price_is c.parent_of-parent.ensures.parent c.place_in_row-place.ensures.place (inner_cache at.After-counter-in-Some-index-1) c.demand-in-Some-index.ensures.demand);
+      power = to_z-of_z w64 c.demand-in-Some-index.result fits
+          ∙ (power_told c.args.plan.now c.args.auctioneer.now c.args.concentrators.now.items c.args.ports.now.items c.args.device.0
+          c.parent_of-parent.result c.place_in_row-place.result c.in-Some.price c.cache-in-Some-index.result.now
+          c.demand-in-Some-index.result price_is c.parent_of-parent.ensures.parent c.place_in_row-place.ensures.place
+          (inner_cache at.After-counter-in-Some-index-1) c.demand-in-Some-index.ensures.demand);
     }

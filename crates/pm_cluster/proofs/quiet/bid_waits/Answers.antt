@@ -11,7 +11,8 @@ returns-then-bids_waiting c =
     record {
       none = (
         λ e. (cc),
-        λ taken. let here = iff.1 (subst (λ (z : Session). z.up.offered ≡ z.up.taken) (sym read) (taken c.loop-link.link-index c.loop-link-test.true)) in cc,
+        λ taken. let here =
+            iff.1 (subst (λ (z : Session). z.up.offered ≡ z.up.taken) (sym read) (taken c.loop-link.link-index c.loop-link-test.true)) in cc,
       );
     }
 

@@ -11,6 +11,7 @@ learn-requires c =
       bid = record {
         is_child = c.requires.child;
         equal_lengths = c.requires.bid_steps ∙ sym c.requires.steps;
-        within = single_within c.args.c.now.cache c.args.child c.args.bid.now sound c.requires.child c.requires.single (c.requires.bid_steps ∙ sym c.requires.steps) c.requires.small;
+        within = single_within c.args.c.now.cache c.args.child c.args.bid.now sound c.requires.child c.requires.single
+            (c.requires.bid_steps ∙ sym c.requires.steps) c.requires.small;
       };
     }

@@ -16,6 +16,7 @@ returns-then-is_power c =
     elim c.if-is_band.branch [
       | then-is_band w ↦
           let power_is = simp to_z-of_z at w.is_power.ensures in
-          last_of_three (is_band c.args.low c.args.high) (is_power c.args.power) (are_changes c.args.drift c.args.effect) c.are_changes.result (cc) (cc) changes_are
+          last_of_three (is_band c.args.low c.args.high) (is_power c.args.power) (are_changes c.args.drift c.args.effect)
+          c.are_changes.result (cc) (cc) changes_are
       | else-is_band w ↦ cc
     ]

@@ -10,7 +10,8 @@ use Rattle.pm_gen.proofs.rounds.make_phases.Goals as goal
 
 pub push_rounds-requires-clause-few : goal.push_rounds-requires-clause-few
 push_rounds-requires-clause-few c =
-    let count : length c.deref_mut.result.now ≡ c.args.size = ap length (c.deref_mut.ensures.value ∙ c.in_ok-members.ensures) ∙ length-replicate c.args.size true in
+    let count : length c.deref_mut.result.now ≡ c.args.size = ap length (c.deref_mut.ensures.value ∙ c.in_ok-members.ensures)
+    ∙ length-replicate c.args.size true in
     omega arith
 
 pub push_rounds-requires-clause-joined : goal.push_rounds-requires-clause-joined
@@ -22,7 +23,8 @@ push_rounds-requires-clause-joined c =
 pub returns : goal.returns
 unfolding demo_phases
 returns c =
-    let count : length c.deref_mut.result.now ≡ c.args.size = ap length (c.deref_mut.ensures.value ∙ c.in_ok-members.ensures) ∙ length-replicate c.args.size true in
+    let count : length c.deref_mut.result.now ≡ c.args.size = ap length (c.deref_mut.ensures.value ∙ c.in_ok-members.ensures)
+    ∙ length-replicate c.args.size true in
     let first : map phase_part c.push.new.self.items ≡ events (map (λ i. join (device_name i)) (range_with_len 1 c.args.size)) ∷ [] =
     ap (map phase_part) (c.in_ok-push.ensures.items ∙ ap (λ front. front ++ Events c.in_ok-join_all.field-0 ∷ []) c.new-phases.ensures.items)
     ∙ ap (λ list. events list ∷ []) c.in_ok-join_all.ensures in

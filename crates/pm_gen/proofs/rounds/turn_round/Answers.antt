@@ -10,7 +10,8 @@ pub loop-init : goal.loop-init
 loop-init c = record {
   seed = sym (after-none c.args.draws.now.seed);
   size = refl;
-  turned = λ earlier flags. turned-none (length c.args.members.now) earlier c.args.draws.now.seed c.args.members.now (map event_part c.new-events.result.items) flags (ap (map event_part) c.new-events.ensures.items);
+  turned = λ earlier flags. turned-none (length c.args.members.now) earlier c.args.draws.now.seed c.args.members.now
+      (map event_part c.new-events.result.items) flags (ap (map event_part) c.new-events.ensures.items);
 }
 
 pub loop-preserved : goal.loop-preserved
@@ -18,12 +19,16 @@ loop-preserved c =
     let size_is = c.loop.invariant.size in
     let seed_is = c.loop.invariant.seed in
     let low : c.draw-place.result < length c.args.members.now = omega (arith, c.draw-place.ensures.below) in
-    let pick : c.draw-place.result ≡ drawn (length c.args.members.now) (seed_after c.loop.counter c.args.draws.now.seed) = c.draw-place.ensures.drawn ∙ (λ i. drawn (size_is i) (seed_is i)) in
+    let pick : c.draw-place.result ≡ drawn (length c.args.members.now) (seed_after c.loop.counter c.args.draws.now.seed) =
+    c.draw-place.ensures.drawn ∙ (λ i. drawn (size_is i) (seed_is i)) in
     record {
       seed = c.draw-place.ensures.seed ∙ ap next seed_is ∙ sym (after-more c.loop.counter c.args.draws.now.seed);
-      size = ap length c.in_ok-turn.ensures.members ∙ length-set c.loop.members c.draw-place.result (not (get_or c.loop.members c.draw-place.result false)) ∙ size_is;
-      turned = λ earlier flags. turned-more (length c.args.members.now) earlier c.args.draws.now.seed c.loop.counter c.draw-place.result c.loop.members c.turn.new.members
-          (map event_part c.loop.events.items) (map event_part c.push.new.self.items) (event_part c.in_ok-turn.field-0) low pick (c.loop.invariant.turned earlier flags)
+      size = ap length c.in_ok-turn.ensures.members
+          ∙ length-set c.loop.members c.draw-place.result (not (get_or c.loop.members c.draw-place.result false)) ∙ size_is;
+      turned = λ earlier flags. turned-more (length c.args.members.now) earlier c.args.draws.now.seed c.loop.counter
+          c.draw-place.result c.loop.members c.turn.new.members
+          (map event_part c.loop.events.items) (map event_part c.push.new.self.items) (event_part c.in_ok-turn.field-0) low pick
+          (c.loop.invariant.turned earlier flags)
           c.in_ok-turn.ensures.members c.in_ok-turn.ensures.event
           (ap (map event_part) c.in_ok-push.ensures.items ∙ map-append event_part c.loop.events.items (c.in_ok-turn.field-0 ∷ []));
     }

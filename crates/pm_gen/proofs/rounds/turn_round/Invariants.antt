@@ -8,5 +8,6 @@ abbrev pub invariant-loop : goal.invariant-loop
 invariant-loop l = record {
   seed : l.draws.seed ≡ seed_after l.counter l.fn.draws.seed;
   size : length l.members ≡ length l.fn.members;
-  turned : (earlier : List ℕ) → l.fn.members ≡ joined_flags (length l.fn.members) earlier → Turned (length l.fn.members) earlier l.fn.draws.seed l.counter l.members (map event_part l.events.items);
+  turned : (earlier : List ℕ) → l.fn.members ≡ joined_flags (length l.fn.members) earlier →
+      Turned (length l.fn.members) earlier l.fn.draws.seed l.counter l.members (map event_part l.events.items);
 }

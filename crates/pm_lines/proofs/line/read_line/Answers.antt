@@ -4,7 +4,8 @@ use Rattle.pm_lines.proofs.Readings.{reads_none}
 use Rattle.pm_lines.proofs.line.read_line.Goals as goal
 
 pub returns-in_err-what : goal.returns-in_err-what
-returns-in_err-what c = reads_none _ _ c.args.line.now c.from_residual.result c.from_residual.ensures (no_first c.args.plan.now c.args.line.now (c.in_err-what.ensures.none refl))
+returns-in_err-what c = reads_none _ _ c.args.line.now c.from_residual.result c.from_residual.ensures
+    (no_first c.args.plan.now c.args.line.now (c.in_err-what.ensures.none refl))
 
 pub returns-else-is_same-6 : goal.returns-else-is_same-6
 returns-else-is_same-6 c =

@@ -7,7 +7,8 @@ use Rattle.pm_lines.proofs.names.read_node.Goals as goal
 
 pub returns-in_err-text : goal.returns-in_err-text
 returns-in_err-text c =
-    reads_none _ _ _ c.from_residual.result c.from_residual.ensures (λ x inside same. c.in_err-text.ensures.none refl (subst IsUtf8 same (node_text c.args.plan.now c.requires x inside)))
+    reads_none _ _ _ c.from_residual.result c.from_residual.ensures
+    (λ x inside same. c.in_err-text.ensures.none refl (subst IsUtf8 same (node_text c.args.plan.now c.requires x inside)))
 
 pub returns-in_err-node : goal.returns-in_err-node
 returns-in_err-node c =

@@ -26,8 +26,10 @@ pub returns-in_err-child : goal.returns-in_err-child
 returns-in_err-child c =
     let plan = c.args.plan.now in
     reads_none _ _ c.args.rest.now c.from_residual-in_err-child.result c.from_residual-in_err-child.ensures (λ read fits same.
-    let first = first_same (name plan (parent plan read.0)) c.in_ok-above.above.now (text_line (name plan read.0 ∷ decimal read.1 ∷ [])) c.in_ok-above.rest.now
-    (node_word plan c.requires (parent plan read.0) (parent_inside plan c.requires read.0 fits.1)) c.in_ok-above.ensures.told.0 (same ∙ c.in_ok-above.ensures.told.1) in
+    let first = first_same (name plan (parent plan read.0)) c.in_ok-above.above.now
+    (text_line (name plan read.0 ∷ decimal read.1 ∷ [])) c.in_ok-above.rest.now
+    (node_word plan c.requires (parent plan read.0) (parent_inside plan c.requires read.0 fits.1)) c.in_ok-above.ensures.told.0
+    (same ∙ c.in_ok-above.ensures.told.1) in
     c.in_err-child.ensures.none refl read (fits.1, fits.2) first.rest)
 
 pub returns-then-child-eq0 : goal.returns-then-child-eq0
@@ -35,8 +37,10 @@ returns-then-child-eq0 c =
     let plan = c.args.plan.now in
     let child = c.in_ok-child.ensures.told in
     reads_none _ _ c.args.rest.now None refl (λ read fits same.
-    let first = first_same (name plan (parent plan read.0)) c.in_ok-above.above.now (text_line (name plan read.0 ∷ decimal read.1 ∷ [])) c.in_ok-above.rest.now
-    (node_word plan c.requires (parent plan read.0) (parent_inside plan c.requires read.0 fits.1)) c.in_ok-above.ensures.told.0 (same ∙ c.in_ok-above.ensures.told.1) in
+    let first = first_same (name plan (parent plan read.0)) c.in_ok-above.above.now
+    (text_line (name plan read.0 ∷ decimal read.1 ∷ [])) c.in_ok-above.rest.now
+    (node_word plan c.requires (parent plan read.0) (parent_inside plan c.requires read.0 fits.1)) c.in_ok-above.ensures.told.0
+    (same ∙ c.in_ok-above.ensures.told.1) in
     let second = first_same (name plan read.0) (name plan c.in_ok-child.child) (decimal read.1 ++ 10 ∷ []) (decimal c.in_ok-child.number ++ 10 ∷ [])
     (node_word plan c.requires read.0 fits.1) (node_word plan c.requires c.in_ok-child.child child.0.0) (first.rest ∙ sym child.1) in
     absurd (omega (arith, fits.0, same_node plan c.requires read.0 c.in_ok-child.child fits.1 child.0.0 second.word, c.if-child-eq0.true)))
@@ -46,12 +50,15 @@ returns-then-not-is_same c =
     let plan = c.args.plan.now in
     let child = c.in_ok-child.ensures.told in
     reads_none _ _ c.args.rest.now None refl (λ read fits same.
-    let first = first_same (name plan (parent plan read.0)) c.in_ok-above.above.now (text_line (name plan read.0 ∷ decimal read.1 ∷ [])) c.in_ok-above.rest.now
-    (node_word plan c.requires (parent plan read.0) (parent_inside plan c.requires read.0 fits.1)) c.in_ok-above.ensures.told.0 (same ∙ c.in_ok-above.ensures.told.1) in
+    let first = first_same (name plan (parent plan read.0)) c.in_ok-above.above.now
+    (text_line (name plan read.0 ∷ decimal read.1 ∷ [])) c.in_ok-above.rest.now
+    (node_word plan c.requires (parent plan read.0) (parent_inside plan c.requires read.0 fits.1)) c.in_ok-above.ensures.told.0
+    (same ∙ c.in_ok-above.ensures.told.1) in
     let second = first_same (name plan read.0) (name plan c.in_ok-child.child) (decimal read.1 ++ 10 ∷ []) (decimal c.in_ok-child.number ++ 10 ∷ [])
     (node_word plan c.requires read.0 fits.1) (node_word plan c.requires c.in_ok-child.child child.0.0) (first.rest ∙ sym child.1) in
     let node = same_node plan c.requires read.0 c.in_ok-child.child fits.1 child.0.0 second.word in
-    c.is_same.ensures.differ c.if-not-is_same.true (sym first.word ∙ ap (λ (x : ℕ). name plan (parent plan x)) node ∙ sym (above_is (goal.at.returns-then-not-is_same c).After-is_same)))
+    c.is_same.ensures.differ c.if-not-is_same.true (sym first.word ∙ ap (λ (x : ℕ). name plan (parent plan x)) node
+    ∙ sym (above_is (goal.at.returns-then-not-is_same c).After-is_same)))
 
 pub returns : goal.returns
 returns c =

@@ -15,14 +15,16 @@ pub returns-in_err-node : goal.returns-in_err-node
 returns-in_err-node c =
     let plan = c.args.plan.now in
     reads_none _ _ c.args.rest.now c.from_residual-in_err-node.result c.from_residual-in_err-node.ensures (λ read fits same.
-    let first = first_same (name plan read.0) c.in_ok-word.word.now (text_line (decimal read.1 ∷ [])) c.in_ok-word.rest.now (node_word plan c.requires read.0 fits.0) c.in_ok-word.ensures.told.0 (same ∙ c.in_ok-word.ensures.told.1) in
+    let first = first_same (name plan read.0) c.in_ok-word.word.now (text_line (decimal read.1 ∷ [])) c.in_ok-word.rest.now
+    (node_word plan c.requires read.0 fits.0) c.in_ok-word.ensures.told.0 (same ∙ c.in_ok-word.ensures.told.1) in
     c.in_err-node.ensures.none refl read.0 fits.0 first.word)
 
 pub returns-in_err-number : goal.returns-in_err-number
 returns-in_err-number c =
     let plan = c.args.plan.now in
     reads_none _ _ c.args.rest.now c.from_residual-in_err-number.result c.from_residual-in_err-number.ensures (λ read fits same.
-    let first = first_same (name plan read.0) c.in_ok-word.word.now (text_line (decimal read.1 ∷ [])) c.in_ok-word.rest.now (node_word plan c.requires read.0 fits.0) c.in_ok-word.ensures.told.0 (same ∙ c.in_ok-word.ensures.told.1) in
+    let first = first_same (name plan read.0) c.in_ok-word.word.now (text_line (decimal read.1 ∷ [])) c.in_ok-word.rest.now
+    (node_word plan c.requires read.0 fits.0) c.in_ok-word.ensures.told.0 (same ∙ c.in_ok-word.ensures.told.1) in
     c.in_err-number.ensures.none refl read.1 fits.1 first.rest)
 
 pub returns : goal.returns

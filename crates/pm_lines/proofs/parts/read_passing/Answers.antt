@@ -31,7 +31,8 @@ pub returns-in_err-node : goal.returns-in_err-node
 returns-in_err-node c =
     let plan = c.args.plan.now in
     reads_none _ _ c.args.rest.now c.from_residual-in_err-node.result c.from_residual-in_err-node.ensures (λ read fits same.
-    let first = first_same (name plan read.0) c.in_ok-word.word.now _ c.in_ok-word.rest.now (node_word plan c.requires.plan read.0 fits.last) c.in_ok-word.ensures.told.0 (same ∙ c.in_ok-word.ensures.told.1) in
+    let first = first_same (name plan read.0) c.in_ok-word.word.now _ c.in_ok-word.rest.now
+    (node_word plan c.requires.plan read.0 fits.last) c.in_ok-word.ensures.told.0 (same ∙ c.in_ok-word.ensures.told.1) in
     c.in_err-node.ensures.none refl read.0 fits.last first.word)
 
 pub returns-then-node-eq0 : goal.returns-then-node-eq0
@@ -39,8 +40,15 @@ returns-then-node-eq0 c =
     let plan = c.args.plan.now in
     let node = c.in_ok-node.ensures.told in
     reads_none _ _ c.args.rest.now None refl (λ read fits same.
-    let first = first_same (name plan read.0) c.in_ok-word.word.now _ c.in_ok-word.rest.now (node_word plan c.requires.plan read.0 fits.last) c.in_ok-word.ensures.told.0 (same ∙ c.in_ok-word.ensures.told.1) in
-    absurd (omega (arith, fits.first, same_node plan c.requires.plan read.0 c.in_ok-node.node fits.last node.0 (first.word ∙ sym node.1), c.if-node-eq0.true)))
+    let first = first_same (name plan read.0) c.in_ok-word.word.now _ c.in_ok-word.rest.now
+    (node_word plan c.requires.plan read.0 fits.last) c.in_ok-word.ensures.told.0 (same ∙ c.in_ok-word.ensures.told.1) in
+    absurd (omega (
+      arith,
+      fits.first,
+      same_node plan c.requires.plan read.0 c.in_ok-node.node fits.last node.0
+          (first.word ∙ sym node.1),
+      c.if-node-eq0.true,
+    )))
 
 pub returns-in_err-index : goal.returns-in_err-index
 returns-in_err-index c =
@@ -48,7 +56,8 @@ returns-in_err-index c =
     let node = c.in_ok-node.ensures.told in
     let inner = sym (leaf_is (goal.at.returns-in_err-index c).After-is_leaf) ∙ c.if-not-is_leaf.true in
     reads_none _ _ c.args.rest.now c.from_residual-in_err-index.result c.from_residual-in_err-index.ensures (λ read fits same.
-    let first = first_same (name plan read.0) c.in_ok-word.word.now _ c.in_ok-word.rest.now (node_word plan c.requires.plan read.0 fits.last) c.in_ok-word.ensures.told.0 (same ∙ c.in_ok-word.ensures.told.1) in
+    let first = first_same (name plan read.0) c.in_ok-word.word.now _ c.in_ok-word.rest.now
+    (node_word plan c.requires.plan read.0 fits.last) c.in_ok-word.ensures.told.0 (same ∙ c.in_ok-word.ensures.told.1) in
     let here = same_node plan c.requires.plan read.0 c.in_ok-node.node fits.last node.0 (first.word ∙ sym node.1) in
     let leaf = ap (is_leaf plan) here ∙ inner in
     c.in_err-index.ensures.none refl read.1 fits.index (ap (λ b. text_line (decimal read.1 ∷ device_words b plan.basis read.2)) (sym leaf) ∙ first.rest))
@@ -76,7 +85,8 @@ returns-in_err-index-2 c =
     let leaf = sym (leaf_is (goal.at.returns-in_err-index-2 c).After-is_leaf) ∙ c.if-not-is_leaf.false in
     let reads = subst (PassReads c.in_ok-word.rest.now None) c.requires.basis c.in_err-index-2.ensures in
     reads_none _ _ c.args.rest.now c.from_residual-in_err-index-2.result c.from_residual-in_err-index-2.ensures (λ read fits same.
-    let first = first_same (name plan read.0) c.in_ok-word.word.now _ c.in_ok-word.rest.now (node_word plan c.requires.plan read.0 fits.last) c.in_ok-word.ensures.told.0 (same ∙ c.in_ok-word.ensures.told.1) in
+    let first = first_same (name plan read.0) c.in_ok-word.word.now _ c.in_ok-word.rest.now
+    (node_word plan c.requires.plan read.0 fits.last) c.in_ok-word.ensures.told.0 (same ∙ c.in_ok-word.ensures.told.1) in
     let here = same_node plan c.requires.plan read.0 c.in_ok-node.node fits.last node.0 (first.word ∙ sym node.1) in
     reads.none refl (read.1, read.2) (fits.index, fits.held)
     (ap (λ b. text_line (decimal read.1 ∷ device_words b plan.basis read.2)) (sym (ap (is_leaf plan) here ∙ leaf)) ∙ first.rest))
@@ -91,7 +101,13 @@ returns c =
     let named = node.1 in
     record {
       told = (
-        record { first = omega (arith, c.if-node-eq0.false); last = node.0; index = told.0.0; held = told.0.1; holder = λ inner. absurd (both_ways (is_leaf plan c.in_ok-node.node) inner leaf) },
+        record {
+          first = omega (arith, c.if-node-eq0.false);
+          last = node.0;
+          index = told.0.0;
+          held = told.0.1;
+          holder = λ inner. absurd (both_ways (is_leaf plan c.in_ok-node.node) inner leaf);
+        },
         (λ i. named i ++ 32 ∷ rest i) ∙ sym c.in_ok-word.ensures.told.1,
       );
       none = λ e. absurd cc;

@@ -11,5 +11,6 @@ returns-in_err-price c =
 
 pub returns : goal.returns
 returns c =
-    let read = reads_written c.args.basis.now c.requires c.in_ok-price.price c.args.word.now c.step_of.result c.in_ok-price.ensures.told.0 c.in_ok-price.ensures.told.1 in
+    let read = reads_written c.args.basis.now c.requires c.in_ok-price.price c.args.word.now c.step_of.result
+    c.in_ok-price.ensures.told.0 c.in_ok-price.ensures.told.1 in
     search (rules, read)

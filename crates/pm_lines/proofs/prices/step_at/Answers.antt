@@ -8,8 +8,13 @@ nonzero_rem-rise c = some_spacing c.args.range c.args.last c.requires.last.0 c.r
 
 pub returns-then-rise-spacing-ne0 : goal.returns-then-rise-spacing-ne0
 returns-then-rise-spacing-ne0 c =
-    reads_none _ _ c.args.rise None refl (λ k within same. c.if-rise-spacing-ne0.true (rise_is_divided c.args.range c.args.last c.args.rise k c.requires.last.0 c.requires.even same))
+    reads_none _ _ c.args.rise None refl (λ k within same.
+    c.if-rise-spacing-ne0.true (rise_is_divided c.args.range c.args.last c.args.rise k c.requires.last.0 c.requires.even same))
 
 pub returns : goal.returns
 returns c =
-    record { told = step_at_rise c.args.range c.args.last c.args.rise c.requires.last.0 c.requires.range c.requires.even c.requires.within c.if-rise-spacing-ne0.false; none = λ e. absurd cc }
+    record {
+      told = step_at_rise c.args.range c.args.last c.args.rise c.requires.last.0 c.requires.range c.requires.even
+          c.requires.within c.if-rise-spacing-ne0.false;
+      none = λ e. absurd cc;
+    }

@@ -13,4 +13,5 @@ pub returns-clause-ok : goal.returns-clause-ok
 returns-clause-ok g c =
     map-set (λ row. row.items) c.args.table.now c.args.place c.push.new.self
     ∙ ap (λ row. set (map (λ row. row.items) c.args.table.now) c.args.place row)
-    (c.in_ok-push.ensures.items ∙ ap (λ row. row ++ c.args.item ∷ []) (sym (get_or-map (λ row. row.items) c.args.table.now c.args.place c.index-table-place.result [] c.requires)))
+    (c.in_ok-push.ensures.items ∙ ap (λ row. row ++ c.args.item ∷ [])
+    (sym (get_or-map (λ row. row.items) c.args.table.now c.args.place c.index-table-place.result [] c.requires)))

@@ -12,4 +12,5 @@ returns c =
     let rises = IsNonDecreasingBy-from_default (λ (x : Change). x.phase) changes no_change c.requires.rise in
     let parted = IsPartitionedBy-leb (λ (x : Change). x.phase) changes c.args.phase rises in
     let point = IsPartitionPoint-from_clause (is_up_to c.args.phase) changes _ c.partition_point.ensures.partitioned parted (λ a r q k. search rules) in
-    sym (prefix_len_is (is_up_to c.args.phase) changes c.partition_point.result no_change c.partition_point.ensures.bound (λ k below. point.0 k no_change (omega arith) below) (λ inside. point.1 c.partition_point.result no_change (omega arith) inside))
+    sym (prefix_len_is (is_up_to c.args.phase) changes c.partition_point.result no_change c.partition_point.ensures.bound
+    (λ k below. point.0 k no_change (omega arith) below) (λ inside. point.1 c.partition_point.result no_change (omega arith) inside))

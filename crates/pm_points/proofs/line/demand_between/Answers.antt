@@ -16,5 +16,6 @@ returns-clause-demand c =
     (to_z w64 (of_z w64 (to_z w64 (of_z w64 c.args.price) -ℤ to_z w64 (of_z w64 c.args.from.0))))
     (to_z w64 (of_z w64 (to_z w64 (of_z w64 c.args.to.0) -ℤ to_z w64 (of_z w64 c.args.from.0))))
     change run width c.change_along.ensures.change (omega (arith, ints)) (omega (arith, ints)) (omega (arith, ints)) in
-    let sum : to_z w64 (of_z w64 (to_z w64 (of_z w64 c.args.from.1) +ℤ to_z w64 (of_z w64 c.change_along.result))) ≡ c.args.from.1 +ℤ c.change_along.result = omega (arith, ints, c.change_along.ensures.falls, c.change_along.ensures.stays) in
+    let sum : to_z w64 (of_z w64 (to_z w64 (of_z w64 c.args.from.1) +ℤ to_z w64 (of_z w64 c.change_along.result)))
+    ≡ c.args.from.1 +ℤ c.change_along.result = omega (arith, ints, c.change_along.ensures.falls, c.change_along.ensures.stays) in
     sum ∙ ap (λ z. c.args.from.1 +ℤ z) is

@@ -15,7 +15,8 @@ returns-then-point-min-clause-position c =
     let greatest_fits : FitsSigned w64 c.max-max.result = search rules in
     let greatest : to_z w64 (of_z w64 c.max-max.result) ≡ c.args.basis.now.max = to_z-of_z w64 c.max-max.result greatest_fits ∙ c.max-max.ensures.max in
     let found : is_outside c.args.basis.now (price_of_point (point_at points at)) ≡ true = grind (arith, ints) in
-    sym (position_or_len_is (λ point. is_outside c.args.basis.now (price_of_point point)) points at (pos 0, pos 0) (omega arith) c.loop-at.invariant (λ _. found))
+    sym (position_or_len_is (λ point. is_outside c.args.basis.now (price_of_point point)) points at (pos 0, pos 0)
+    (omega arith) c.loop-at.invariant (λ _. found))
 
 pub loop-at-preserved : goal.loop-at-preserved
 loop-at-preserved c =
@@ -30,4 +31,5 @@ loop-at-preserved c =
     below_more _ _ c.loop-at.invariant passed
 
 pub returns-clause-position : goal.returns-clause-position
-returns-clause-position c = sym (position_or_len_is (λ point. is_outside c.args.basis.now (price_of_point point)) c.args.points.now _ (pos 0, pos 0) (omega arith) (λ k h. c.loop-at.invariant k (omega arith)) (λ h. absurd (omega arith)))
+returns-clause-position c = sym (position_or_len_is (λ point. is_outside c.args.basis.now (price_of_point point)) c.args.points.now _
+    (pos 0, pos 0) (omega arith) (λ k h. c.loop-at.invariant k (omega arith)) (λ h. absurd (omega arith)))

@@ -14,4 +14,5 @@ returns-then-point c =
     sym (position_or_len_is (λ point. is_too_large (demand_of_point point)) points at (pos 0, pos 0) (omega arith) c.loop-at.invariant (λ _. found))
 
 pub returns : goal.returns
-returns c = sym (position_or_len_is (λ point. is_too_large (demand_of_point point)) c.args.points.now _ (pos 0, pos 0) (omega arith) (λ k h. c.loop-at.invariant k (omega arith)) (λ h. absurd (omega arith)))
+returns c = sym (position_or_len_is (λ point. is_too_large (demand_of_point point)) c.args.points.now _ (pos 0, pos 0) (omega arith)
+    (λ k h. c.loop-at.invariant k (omega arith)) (λ h. absurd (omega arith)))

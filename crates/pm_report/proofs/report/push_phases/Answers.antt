@@ -4,7 +4,8 @@ use Rattle.pm_report.proofs.report.push_phases.Goals as goal
 
 pub push_phase-requires : goal.push_phase-requires
 push_phase-requires c =
-    end_at (IsEndOf c.args.plan.now) c.args.ends.now c.loop-before.before c.index-ends-before.result c.requires.of_plan c.loop-before-test.true c.index-ends-before.is
+    end_at (IsEndOf c.args.plan.now) c.args.ends.now c.loop-before.before c.index-ends-before.result c.requires.of_plan
+    c.loop-before-test.true c.index-ends-before.is
 
 pub loop-before-preserved : goal.loop-before-preserved
 loop-before-preserved c =

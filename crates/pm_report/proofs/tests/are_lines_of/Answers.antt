@@ -11,4 +11,5 @@ loop-line-preserved c =
 
 pub returns : goal.returns
 returns c =
-    λ all. subst (λ (lines : List Line). All (IsLineOf c.args.plan.now) lines) (take_all c.loop-line.line-index c.args.lines.now c.loop-line-test.false) c.loop-line.invariant
+    λ all. subst (λ (lines : List Line). All (IsLineOf c.args.plan.now) lines)
+    (take_all c.loop-line.line-index c.args.lines.now c.loop-line-test.false) c.loop-line.invariant

@@ -6,4 +6,5 @@ use Rattle.pm_board.specs.Boards.{board_state}
 use Rattle.pm_runner.proofs.one_thread.first_next.Given as goal
 
 abbrev pub invariant-loop-number : goal.invariant-loop-number
-invariant-loop-number l = (d : ℕ) → d < l.number → IsLeaf (plan_lists l.board.plan) d → HasNoNext l.board.plan (board_state l.board).closed (board_state l.board).counts d
+invariant-loop-number l = (d : ℕ) → d < l.number → IsLeaf (plan_lists l.board.plan) d →
+    HasNoNext l.board.plan (board_state l.board).closed (board_state l.board).counts d

@@ -5,5 +5,6 @@ use Rattle.pm_runner.proofs.one_thread.is_settled.Goals as goal
 
 pub returns : goal.returns
 returns c = record {
-  settled = settled c.args.board.now (subst IsPlan c.plan.ensures.plan c.basis-plan.ensures.sound) c.journal-journal.ensures.journal c.ends-ends.ensures.kept c.requires.done;
+  settled = settled c.args.board.now (subst IsPlan c.plan.ensures.plan c.basis-plan.ensures.sound) c.journal-journal.ensures.journal
+      c.ends-ends.ensures.kept c.requires.done;
 }

@@ -18,7 +18,8 @@ work-made-requires-clause-fits g c =
 
 pub work-made-requires-clause-arrays : goal.work-made-requires-clause-arrays
 work-made-requires-clause-arrays g c =
-    arrays_fit c.args.board.now.plan (subst IsPlan c.plan.ensures.plan c.basis-basis.ensures.sound) c.plan-2.result.now c.arrays.result.now c.args.agent.now.steps
+    arrays_fit c.args.board.now.plan (subst IsPlan c.plan.ensures.plan c.basis-basis.ensures.sound) c.plan-2.result.now
+    c.arrays.result.now c.args.agent.now.steps
     c.arrays.ensures.arrays c.plan-2.ensures.plan c.requires.its.steps
 
 pub post-requires : goal.post-requires

@@ -7,7 +7,8 @@ use Rattle.pm_scene.proofs.tests.parts_of.Goals as goal
 
 -- the parts of one node
 one : (spec : NodeSpec) (entry : TreeEntry) (old_nodes nodes : List NodeSpec) (old_entries entries : List TreeEntry) →
-    is_device (node_part spec) ≡ entry.leaf → old_nodes ≡ [] → nodes ≡ old_nodes ++ spec ∷ [] → old_entries ≡ [] → entries ≡ old_entries ++ entry ∷ [] →
+    is_device (node_part spec) ≡ entry.leaf → old_nodes ≡ [] → nodes ≡ old_nodes ++ spec ∷ [] → old_entries ≡ [] →
+    entries ≡ old_entries ++ entry ∷ [] →
     map is_device (map node_part nodes) ≡ leaves_of (entries_of entries)
 unfolding leaves_of
 one spec entry old_nodes nodes old_entries entries leaf no_nodes nodes_are no_entries entries_are =

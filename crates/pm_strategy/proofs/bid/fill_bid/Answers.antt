@@ -24,7 +24,8 @@ returns-in-Some-clause-falls c = λ all.
 pub returns-in-Some-clause-within : goal.returns-in-Some-clause-within
 returns-in-Some-clause-within c = λ all.
     let P : List ℤ → Type 0 = AllWithinLimit demand_limit in
-    subst P (sym (returns-in-Some-clause-bid c)) (bid_of-within c.args.kind.now c.args.state.0 c.args.arrays.now (length c.args.out.now) c.requires.valid c.requires.fits all)
+    subst P (sym (returns-in-Some-clause-bid c))
+    (bid_of-within c.args.kind.now c.args.state.0 c.args.arrays.now (length c.args.out.now) c.requires.valid c.requires.fits all)
 
 pub returns-in-None-clause-bid : goal.returns-in-None-clause-bid
 returns-in-None-clause-bid c = c.fill_from_array.ensures ∙ sym (bid_of-manual _ _ _ _ c.in-None.ensures.levels)
@@ -41,4 +42,5 @@ returns-in-None-clause-falls c = λ all.
 pub returns-in-None-clause-within : goal.returns-in-None-clause-within
 returns-in-None-clause-within c = λ all.
     let P : List ℤ → Type 0 = AllWithinLimit demand_limit in
-    subst P (sym (returns-in-None-clause-bid c)) (bid_of-within c.args.kind.now c.args.state.0 c.args.arrays.now (length c.args.out.now) c.requires.valid c.requires.fits all)
+    subst P (sym (returns-in-None-clause-bid c))
+    (bid_of-within c.args.kind.now c.args.state.0 c.args.arrays.now (length c.args.out.now) c.requires.valid c.requires.fits all)

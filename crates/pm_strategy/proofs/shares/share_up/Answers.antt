@@ -17,5 +17,6 @@ returns c =
     let minus : pos 0 -ℤ (c.args.part *ℤ pos c.args.last) ≡ neg_ℤ (c.args.part *ℤ pos c.args.last) = omega (arith, ints) in
     let quotient : c.div_euclid.result ≡ floor_div (neg_ℤ (c.args.part *ℤ pos c.args.last)) c.args.whole =
     simp (last_is, to_z-of_z) at c.div_euclid.ensures ∙ ap (λ z. floor_div z c.args.whole) minus in
-    let within = floor_div-within (demand_limit * last_limit) (neg_ℤ (c.args.part *ℤ pos c.args.last)) c.args.whole (record { low = omega (arith, ints); high = omega (arith, ints) }) c.requires.whole_positive in
+    let within = floor_div-within (demand_limit * last_limit) (neg_ℤ (c.args.part *ℤ pos c.args.last)) c.args.whole
+    (record { low = omega (arith, ints); high = omega (arith, ints) }) c.requires.whole_positive in
     record { step = omega (arith, ints) }

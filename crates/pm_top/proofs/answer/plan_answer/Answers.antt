@@ -18,4 +18,6 @@ returns-in-Err-Bad g c =
     let arm = c.in-Err-Bad in
     let bad = arm.ensures.bad arm.line (ap (λ fault. Err fault) arm.field-0-is) in
     refusal_answers c.args.asked c.args.input.now c.at.result c.refused.result c.refused.ensures.status c.refused.ensures.text
-    (subst (IsRefusalOf c.args.asked c.args.input.now) (sym (c.at.ensures ∙ ap (λ line. refusal_at (cause_code BadTarget) (Line line)) arm.line-is)) (bad_target c.args.plan.now c.args.rest.now arm.line bad.0 c.requires.plan bad.1))
+    (subst (IsRefusalOf c.args.asked c.args.input.now)
+    (sym (c.at.ensures ∙ ap (λ line. refusal_at (cause_code BadTarget) (Line line)) arm.line-is))
+    (bad_target c.args.plan.now c.args.rest.now arm.line bad.0 c.requires.plan bad.1))

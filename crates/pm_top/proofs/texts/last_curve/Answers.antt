@@ -21,5 +21,6 @@ pub unreachable-requires : goal.unreachable-requires
 unfolding last_total
 unreachable-requires g c =
     let plan = c.args.plan.now in
-    let falls = subst NeverRises (sym (sum_is g (goal.at.unreachable-requires g c).After-aggregate)) (total_falls plan (end_cut plan (phases plan)) c.basis-basis.ensures.sound) in
+    let falls = subst NeverRises (sym (sum_is g (goal.at.unreachable-requires g c).After-aggregate))
+    (total_falls plan (end_cut plan (phases plan)) c.basis-basis.ensures.sound) in
     never_refused c.aggregate.result.now c.in-Err-Rising.field-0 c.in-Err-Rising.field-0-0 falls c.in-Err-Rising.field-0-is c.in-Err-Rising.ensures.rising

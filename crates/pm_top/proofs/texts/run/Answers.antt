@@ -21,11 +21,13 @@ prove-unreachable-requires g c =
 pub returns-clause-lines : goal.returns-clause-lines
 returns-clause-lines g c =
     let lines = c.into_parts-journal.result.0.lines in
-    let journal = settled_journal c.args.plan.now c.in_ok-board.board lines c.in_ok-board.ensures.plan c.in_ok-board.ensures.settled c.into_parts-journal.ensures.lines in
+    let journal = settled_journal c.args.plan.now c.in_ok-board.board lines c.in_ok-board.ensures.plan c.in_ok-board.ensures.settled
+    c.into_parts-journal.ensures.lines in
     of_plan c.args.plan.now lines (journal_lines c.args.plan.now c.phases.ensures.sound lines journal.legal)
 
 pub returns-clause-of_plan : goal.returns-clause-of_plan
 returns-clause-of_plan g c =
     let ends = c.into_parts-journal.result.1.items in
-    let are = settled_ends c.args.plan.now c.in_ok-board.board ends c.in_ok-board.ensures.plan c.in_ok-board.ensures.settled c.into_parts-journal.ensures.ends in
+    let are = settled_ends c.args.plan.now c.in_ok-board.board ends c.in_ok-board.ensures.plan c.in_ok-board.ensures.settled
+    c.into_parts-journal.ensures.ends in
     subst (All (IsEndOf c.args.plan.now)) (sym are) (ends-are c.args.plan.now c.phases.ensures.sound)

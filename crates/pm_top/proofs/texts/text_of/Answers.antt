@@ -13,13 +13,15 @@ report_text-requires-clause-of_plan g c =
 
 pub trace_text-requires-clause-of_plan : goal.trace_text-requires-clause-of_plan
 trace_text-requires-clause-of_plan g c =
-    subst (λ (ends : List EndValue). All (IsEndOf c.args.plan.now) (ends_of ends)) (sym c.deref-in-Trace.ensures.value) c.in_ok-journal-in-Trace.ensures.of_plan
+    subst (λ (ends : List EndValue). All (IsEndOf c.args.plan.now) (ends_of ends))
+    (sym c.deref-in-Trace.ensures.value) c.in_ok-journal-in-Trace.ensures.of_plan
 
 pub ask_text-requires-clause-steps : goal.ask_text-requires-clause-steps
 unfolding last_total
 ask_text-requires-clause-steps g c =
     let plan = c.args.plan.now in
-    ap length c.in_ok-curve-in-Ask.ensures ∙ total_steps plan c.basis.ensures.sound (end_cut plan (phases plan)) ∙ sym (ap (λ basis. basis.steps) c.basis.ensures.basis)
+    ap length c.in_ok-curve-in-Ask.ensures ∙ total_steps plan c.basis.ensures.sound (end_cut plan (phases plan))
+    ∙ sym (ap (λ basis. basis.steps) c.basis.ensures.basis)
 
 pub report_text-requires-in-Free-clause-of_plan : goal.report_text-requires-in-Free-clause-of_plan
 report_text-requires-in-Free-clause-of_plan g c =

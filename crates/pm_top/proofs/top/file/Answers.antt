@@ -11,7 +11,8 @@ use Rattle.pm_top.proofs.top.file.Goals as goal
 use Rattle.pm_top.proofs.top.file.Goals.{After-give, After-give-in-Err-TooLong}
 
 -- the input was read to its end
-was_read : (g : Over) (c : After-give g) → IsRead (Some (File c.args.asked)) c.args.asked (g.S.Source.left c.args.source.now) (g.S.Source.left c.read_all.new.source)
+was_read : (g : Over) (c : After-give g) → IsRead (Some (File c.args.asked)) c.args.asked (g.S.Source.left c.args.source.now)
+    (g.S.Source.left c.read_all.new.source)
     c.deref.result.now
 was_read g c = record {
   asks = refl;
@@ -43,12 +44,14 @@ returns-in-Ok-answer_of-clause-answer g c =
     read_answers c.args.asked _ _ c.deref.result.now c.give.result _ _ read.consumes read.at_end read.short c.in-Ok-answer_of.ensures c.give.ensures.either
 
 -- more than the limit was taken
-took_more : (g : Over) (c : After-give-in-Err-TooLong g) → TookMore (g.S.Source.left c.args.source.now) (g.S.Source.left c.read_all.new.source) (input_limit c.args.asked)
+took_more : (g : Over) (c : After-give-in-Err-TooLong g) →
+    TookMore (g.S.Source.left c.args.source.now) (g.S.Source.left c.read_all.new.source) (input_limit c.args.asked)
 took_more g c =
     subst (TookMore (g.S.Source.left c.args.source.now) (g.S.Source.left c.read_all.new.source)) c.input_limit.ensures
     (c.in-Err-TooLong.ensures.too_long c.in-Err-TooLong.field-0-0 c.in-Err-TooLong.field-0-is).1
 
-is_long : (g : Over) (c : After-give-in-Err-TooLong g) → IsDue (Some (File c.args.asked)) (g.S.Source.left c.args.source.now) (g.S.Source.left c.read_all.new.source)
+is_long : (g : Over) (c : After-give-in-Err-TooLong g) →
+    IsDue (Some (File c.args.asked)) (g.S.Source.left c.args.source.now) (g.S.Source.left c.read_all.new.source)
     TooLong (too_long_line c.args.asked)
 is_long g c = too_long c.args.asked (record { asks = refl; took = took_more g c })
 

@@ -1,4 +1,5 @@
-use Rattle.std.proofs.Common.{◌≡◌, ◌<◌, ◌∙◌, ap, sym, subst, refl, map, length, take, [], string_bytes, arith, List, ℕ, ◌++◌, ◌∷◌, inl}
+use Rattle.std.proofs.Common.{◌≡◌, ◌<◌, ◌∙◌, ap, sym, subst, refl, map, length, take, [], string_bytes, arith, List, ℕ, ◌++◌, ◌∷◌}
+use Rattle.std.proofs.Common.{inl}
 use Rattle.std.proofs.lemmas.List.{take_all}
 use Rattle.std.proofs.lemmas.Result.{err_from_is_err_and}
 use Rattle.pm_tree.specs.Shape.{IsTree}
@@ -22,7 +23,8 @@ loop-place-preserved c =
       index = index_step _ _ inside _ _ _ _ c.in_ok-row.row c.loop-place.invariant.index c.loop-place.invariant.lawful c.in_ok-row.ensures.row
           (c.in_ok-push.ensures.names
           ∙ ap (λ (name : List ℕ). map string_bytes c.loop-place.index.names.keys ++ name ∷ [])
-          (c.as_str.ensures.value ∙ sym (entry_read c.args.entries.now c.loop-place.place c.index-entries-place.result c.loop-place-test.true))) c.in_ok-push.ensures.nodes;
+          (c.as_str.ensures.value ∙ sym (entry_read c.args.entries.now c.loop-place.place c.index-entries-place.result
+          c.loop-place-test.true))) c.in_ok-push.ensures.nodes;
       lawful = lawful_step _ _ inside _ _ c.in_ok-row.row c.loop-place.invariant.index c.loop-place.invariant.lawful c.in_ok-row.ensures.row;
       accepted = accepted_step _ _ inside c.loop-place.invariant.accepted c.in_ok-row.ensures.accepted;
     }
@@ -35,5 +37,6 @@ returns-in_err-row-clause-refused c =
 
 pub returns-clause-lawful : goal.returns-clause-lawful
 returns-clause-lawful c =
-    let whole : take c.loop-place.place (entries_of c.args.entries.now) ≡ entries_of c.args.entries.now = take_all _ _ (omega (arith, length-entries_of c.args.entries.now)) in
+    let whole : take c.loop-place.place (entries_of c.args.entries.now) ≡ entries_of c.args.entries.now =
+    take_all _ _ (omega (arith, length-entries_of c.args.entries.now)) in
     subst (λ (es : List Entry). IsTree (parents_of es) (leaves_of es)) whole c.loop-place.invariant.lawful

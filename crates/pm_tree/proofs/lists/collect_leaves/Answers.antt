@@ -17,16 +17,27 @@ loop-number-preserved c =
       | then-nodes-number+in_ok-push_on_path w ↦
           let same : length w.push_on_path.new.lists ≡ c.loop-number.lists.len = omega arith in
           let written = ap (λ (v : Vec (Vec NodeId Global) Global). v.items) w.lists-is ∙ with_items_is c.loop-number.lists w.push_on_path.new.lists same in
-          subst (λ (ls : List (Vec NodeId Global)). AreLists (length nodes) (leaves_among (shape_parents nodes) (shape_leaves nodes) (c.loop-number.number + 1 - 1)) (node_lists ls)) (sym written)
-          (leaves_step (shape_parents nodes) (shape_leaves nodes) (length nodes) c.loop-number.number (node_lists c.loop-number.lists.items) (node_lists w.push_on_path.new.lists) (omega arith)
+          subst (λ (ls : List (Vec NodeId Global)). AreLists (length nodes)
+          (leaves_among (shape_parents nodes) (shape_leaves nodes) (c.loop-number.number + 1 - 1)) (node_lists ls)) (sym written)
+          (leaves_step (shape_parents nodes) (shape_leaves nodes) (length nodes) c.loop-number.number
+          (node_lists c.loop-number.lists.items) (node_lists w.push_on_path.new.lists) (omega arith)
           (sym leaf_is ∙ w.if-nodes-number.true)
           (omega (arith, length-lists_of c.loop-number.lists.items, length-lists_of w.push_on_path.new.lists, c.loop-number.lists.ok))
-          (λ node. w.in_ok-push_on_path.ensures node ∙ ap (λ (ls : List (Vec NodeId Global)). get_or (node_lists ls) node [] ++ added_on_path (shape_parents nodes) c.loop-number.number c.loop-number.number node) w.deref_mut.ensures.value)
+          (λ node. w.in_ok-push_on_path.ensures node
+          ∙ ap (λ (ls : List (Vec NodeId Global)). get_or (node_lists ls) node []
+          ++ added_on_path (shape_parents nodes) c.loop-number.number c.loop-number.number node) w.deref_mut.ensures.value)
           c.loop-number.invariant)
       | else-nodes-number w ↦
-          subst (λ (v : Vec (Vec NodeId Global) Global). AreLists (length nodes) (leaves_among (shape_parents nodes) (shape_leaves nodes) (c.loop-number.number + 1 - 1)) (node_lists v.items)) (sym w.lists-is)
-          (leaves_skip (shape_parents nodes) (shape_leaves nodes) (length nodes) c.loop-number.number (node_lists c.loop-number.lists.items) (omega arith) (sym leaf_is ∙ w.if-nodes-number.false) c.loop-number.invariant)
+          subst (λ (v : Vec (Vec NodeId Global) Global). AreLists (length nodes)
+          (leaves_among (shape_parents nodes) (shape_leaves nodes) (c.loop-number.number + 1 - 1)) (node_lists v.items)) (sym w.lists-is)
+          (leaves_skip (shape_parents nodes) (shape_leaves nodes) (length nodes) c.loop-number.number
+          (node_lists c.loop-number.lists.items) (omega arith) (sym leaf_is ∙ w.if-nodes-number.false) c.loop-number.invariant)
     ]
 
 pub returns : goal.returns
-returns c = leaves_done _ _ _ c.loop-number.number _ (omega (arith, length-shape_parents c.args.nodes.now, length-table (shape_parents c.args.nodes.now) (shape_leaves c.args.nodes.now) c.args.nodes.now c.requires.table)) c.loop-number.invariant
+returns c = leaves_done _ _ _ c.loop-number.number _
+    (omega (
+      arith,
+      length-shape_parents c.args.nodes.now,
+      length-table (shape_parents c.args.nodes.now) (shape_leaves c.args.nodes.now) c.args.nodes.now c.requires.table,
+    )) c.loop-number.invariant

@@ -12,7 +12,8 @@ use Rattle.pm_walk.proofs.Devices.{few_changes, kind-valid, planned-is, next-is,
 use Rattle.pm_walk.proofs.changes.make_changes.Goals as goal
 
 pub overflow_add-here : goal.overflow_add-here
-overflow_add-here c = omega (arith, end-within c.args.plan.now c.args.phase c.args.device.0, few_changes c.args.plan.now c.args.device.0 c.kind-kind.ensures.sound)
+overflow_add-here c =
+    omega (arith, end-within c.args.plan.now c.args.phase c.args.device.0, few_changes c.args.plan.now c.args.device.0 c.kind-kind.ensures.sound)
 
 pub unwrap-what-requires : goal.unwrap-what-requires
 unwrap-what-requires c =
@@ -22,14 +23,16 @@ unwrap-what-requires c =
     subst (λ (found : Option Planned). IsSome found) (sym (c.planned.ensures ∙ planned-is plan d c.loop.here.count inside)) (search rules)
 
 pub make_change-here-requires-clause-few : goal.make_change-here-requires-clause-few
-make_change-here-requires-clause-few c = omega (arith, end-within c.args.plan.now c.args.phase c.args.device.0, few_changes c.args.plan.now c.args.device.0 c.kind-kind.ensures.sound)
+make_change-here-requires-clause-few c =
+    omega (arith, end-within c.args.plan.now c.args.phase c.args.device.0, few_changes c.args.plan.now c.args.device.0 c.kind-kind.ensures.sound)
 
 pub make_change-here-requires-clause-valid : goal.make_change-here-requires-clause-valid
 make_change-here-requires-clause-valid c = kind-valid c.args.plan.now c.args.device.0 c.kind-kind.result c.kind-kind.ensures.sound c.kind-kind.ensures.kind
 
 pub make_change-here-requires-clause-fits : goal.make_change-here-requires-clause-fits
 make_change-here-requires-clause-fits c =
-    reached-fits c.args.plan.now c.args.device.0 c.loop.here c.kind-kind.result c.kind-kind.ensures.sound c.requires.leaf c.loop.invariant.reached c.kind-kind.ensures.kind
+    reached-fits c.args.plan.now c.args.device.0 c.loop.here c.kind-kind.result c.kind-kind.ensures.sound c.requires.leaf
+    c.loop.invariant.reached c.kind-kind.ensures.kind
 
 pub make_change-here-requires-clause-change : goal.make_change-here-requires-clause-change
 make_change-here-requires-clause-change c =

@@ -12,4 +12,5 @@ pub returns : goal.returns
 returns c =
     let fits : SFits w64 (get_or c.args.powers.now c.args.device.0 (pos 0)) = search rules in
     member_line_is c.args.plan.now (state c.args.plan.now) (cut_made c.args.standing.now.progress) c.args.device.0 _ _
-    (to_z-of_z w64 (get_or c.args.powers.now c.args.device.0 (pos 0)) fits ∙ c.requires.powers.same c.args.device.0 c.requires.inside) (ap (λ (p : Progress). p.count) c.progress.ensures.progress)
+    (to_z-of_z w64 (get_or c.args.powers.now c.args.device.0 (pos 0)) fits ∙ c.requires.powers.same c.args.device.0 c.requires.inside)
+    (ap (λ (p : Progress). p.count) c.progress.ensures.progress)

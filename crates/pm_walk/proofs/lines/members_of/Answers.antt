@@ -17,7 +17,8 @@ loop-number-preserved c =
     let plan = c.args.plan.now in
     let cut = cut_made c.args.standing.now.progress in
     let n = c.loop-number.number in
-    let inside : n ≤ length plan.nodes = omega (arith, c.tree.ensures.sound.nodes.one_each, c.len-number-end.ensures.len, ap (λ e. length e) c.tree.ensures.tree) in
+    let inside : n ≤ length plan.nodes =
+    omega (arith, c.tree.ensures.sound.nodes.one_each, c.len-number-end.ensures.len, ap (λ e. length e) c.tree.ensures.tree) in
     let member : is_member plan n (cut n) ≡ c.progress.result.member =
     sym (ap (λ (p : Progress). p.member) c.progress.ensures.progress ∙ (c.requires.stands.progress.reached n inside).member) in
     elim c.if-progress.branch [

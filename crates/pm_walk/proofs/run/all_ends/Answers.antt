@@ -15,5 +15,6 @@ loop-phase-preserved c =
       run = subst (λ (q : ℕ). IsAtEnd plan q c.pass.new.self) same c.pass.ensures;
       ends =
           ap (map (λ (e : EndValue). e.end)) c.in_ok-push.ensures.items ∙ map-append (λ (e : EndValue). e.end) _ _
-          ∙ ends_more plan p c.loop-phase.ends.items c.in_ok-end.field-0 c.loop-phase.auto.phase c.loop-phase.invariant.ends (c.in_ok-end.ensures ∙ ap (end_of plan) c.pass.ensures.cut);
+          ∙ ends_more plan p c.loop-phase.ends.items c.in_ok-end.field-0 c.loop-phase.auto.phase c.loop-phase.invariant.ends
+          (c.in_ok-end.ensures ∙ ap (end_of plan) c.pass.ensures.cut);
     }

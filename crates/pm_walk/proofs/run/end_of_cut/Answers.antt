@@ -25,7 +25,8 @@ loop-phase-preserved c =
     let p = c.loop-phase.phase in
     let same : p ≡ p + 1 - 1 = omega arith in
     let stops = c.loop-phase.stops in
-    let many : length c.change_stops.new.stops ≡ stops.len = omega (arith, c.change_stops.ensures.reached.one_each, c.loop-phase.invariant.stops.reached.one_each, stops.ok) in
+    let many : length c.change_stops.new.stops ≡ stops.len =
+    omega (arith, c.change_stops.ensures.reached.one_each, c.loop-phase.invariant.stops.reached.one_each, stops.ok) in
     record {
       run = subst (λ (q : ℕ). IsAtEnd plan q c.pass.new.self) same c.pass.ensures;
       stops = subst (λ (q : ℕ). AreStops plan c.args.cut.now q (with_items stops c.change_stops.new.stops).items) same

@@ -5,4 +5,6 @@ use Rattle.pm_walk.proofs.standing.group_of.Goals as goal
 pub returns-in-Some-clause-inside : goal.returns-in-Some-clause-inside
 returns-in-Some-clause-inside c =
     let plan = c.args.plan.now in
-    subst (λ (g : ℕ). g ≤ length plan.nodes) (sym (group_found plan c.args.at.0 c.group.result c.in-Some.above c.group.ensures.group c.in-Some.is)) (group_inside plan c.args.at.0 c.group.ensures.sound c.requires)
+    subst (λ (g : ℕ). g ≤ length plan.nodes)
+    (sym (group_found plan c.args.at.0 c.group.result c.in-Some.above c.group.ensures.group c.in-Some.is))
+    (group_inside plan c.args.at.0 c.group.ensures.sound c.requires)

@@ -27,7 +27,9 @@ loop-number-init c =
       reached = c.requires.stops.reached;
       between = record {
         done = λ x below. first_node (cut_made c.args.stops.now) (earlier_cut cut (end_cut plan c.args.phase)) x below
-            (ap (λ (f : Cut). f 0) c.requires.stops.cut ∙ first-same cut (end_cut plan (c.args.phase - 1)) (end_cut plan c.args.phase) 0 (end-zero plan (c.args.phase - 1) ∙ sym (end-zero plan c.args.phase)));
+            (ap (λ (f : Cut). f 0) c.requires.stops.cut
+            ∙ first-same cut (end_cut plan (c.args.phase - 1)) (end_cut plan c.args.phase) 0 (end-zero plan (c.args.phase - 1)
+            ∙ sym (end-zero plan c.args.phase)));
         left = λ x from. ap (λ (f : Cut). f x) c.requires.stops.cut;
       };
     }
@@ -45,10 +47,13 @@ loop-number-preserved c =
     elim c.if-is_leaf.branch [
       | then-is_leaf w ↦
           let there : n < length old = omega (arith, c.loop-number.invariant.reached.one_each) in
-          let here = made-here old c.if-is_leaf.stops n w.change_stop.result there w.stops-is ∙ w.change_stop.ensures.count ∙ ap (λ m. min m (end_cut plan c.args.phase n)) (cut_of-at c.args.cut.now n c.loop-number.auto.number) in
+          let here = made-here old c.if-is_leaf.stops n w.change_stop.result there w.stops-is ∙ w.change_stop.ensures.count
+          ∙ ap (λ m. min m (end_cut plan c.args.phase n)) (cut_of-at c.args.cut.now n c.loop-number.auto.number) in
           record {
-            reached = subst (HaveCome plan) (sym w.stops-is) (reached-set plan old n w.change_stop.result inside c.loop-number.invariant.reached w.change_stop.ensures.reached);
-            between = between-more n old c.if-is_leaf.stops after before c.loop-number.invariant.between here (λ x other. made-others old c.if-is_leaf.stops n x w.change_stop.result w.stops-is other);
+            reached = subst (HaveCome plan) (sym w.stops-is)
+                (reached-set plan old n w.change_stop.result inside c.loop-number.invariant.reached w.change_stop.ensures.reached);
+            between = between-more n old c.if-is_leaf.stops after before c.loop-number.invariant.between here
+                (λ x other. made-others old c.if-is_leaf.stops n x w.change_stop.result w.stops-is other);
           }
       | else-is_leaf w ↦
           let other : is_leaf plan n ≡ false = ap (λ e. is_leaf_at e n) (sym c.tree-tree.ensures.tree) ∙ sym c.is_leaf.ensures ∙ w.if-is_leaf.false in
@@ -56,7 +61,8 @@ loop-number-preserved c =
             reached = subst (HaveCome plan) (sym w.stops-is) c.loop-number.invariant.reached;
             between = subst (λ (l : List Progress). AreBetween (n + 1) l after before) (sym w.stops-is)
                 (between-passed n old after before c.loop-number.invariant.between
-                (first-same cut (end_cut plan (c.args.phase - 1)) (end_cut plan c.args.phase) n (end-other plan (c.args.phase - 1) n is other ∙ sym (end-other plan c.args.phase n is other))));
+                (first-same cut (end_cut plan (c.args.phase - 1)) (end_cut plan c.args.phase) n
+                (end-other plan (c.args.phase - 1) n is other ∙ sym (end-other plan c.args.phase n is other))));
           }
     ]
 
@@ -64,9 +70,12 @@ pub returns : goal.returns
 returns c =
     let plan = c.args.plan.now in
     let cut = file_cut c.args.cut.now in
-    let all : length plan.nodes < c.loop-number.number = omega (arith, c.tree-tree.ensures.sound.nodes.one_each, c.len-number-end.ensures.len, ap (λ e. length e) c.tree-tree.ensures.tree) in
+    let all : length plan.nodes < c.loop-number.number =
+    omega (arith, c.tree-tree.ensures.sound.nodes.one_each, c.len-number-end.ensures.len, ap (λ e. length e) c.tree-tree.ensures.tree) in
     record {
       reached = c.loop-number.invariant.reached;
-      cut = all_between c.loop-number.number c.loop-number.stops (earlier_cut cut (end_cut plan c.args.phase)) (earlier_cut cut (end_cut plan (c.args.phase - 1))) c.loop-number.invariant.between
-          (λ x from. first-same cut (end_cut plan (c.args.phase - 1)) (end_cut plan c.args.phase) x (end-beyond plan (c.args.phase - 1) x (omega arith) ∙ sym (end-beyond plan c.args.phase x (omega arith))));
+      cut = all_between c.loop-number.number c.loop-number.stops (earlier_cut cut (end_cut plan c.args.phase))
+          (earlier_cut cut (end_cut plan (c.args.phase - 1))) c.loop-number.invariant.between
+          (λ x from. first-same cut (end_cut plan (c.args.phase - 1)) (end_cut plan c.args.phase) x
+          (end-beyond plan (c.args.phase - 1) x (omega arith) ∙ sym (end-beyond plan c.args.phase x (omega arith))));
     }

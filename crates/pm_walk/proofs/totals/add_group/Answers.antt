@@ -10,7 +10,8 @@ use Rattle.pm_walk.proofs.totals.add_group.Goals as goal
 pub add_into-requires-clause-equal_lengths : goal.add_into-requires-clause-equal_lengths
 add_into-requires-clause-equal_lengths c =
     let fit = standing_fits c.args.plan.now c.args.standing.now c.requires.stands in
-    ap (λ l. length l) c.requires.before ∙ total_to-steps c.args.plan.now (state c.args.plan.now) (cut_made c.args.standing.now.progress) (c.args.at.0 - 1) fit ∙ sym c.announce.ensures.steps
+    ap (λ l. length l) c.requires.before ∙ total_to-steps c.args.plan.now (state c.args.plan.now)
+    (cut_made c.args.standing.now.progress) (c.args.at.0 - 1) fit ∙ sym c.announce.ensures.steps
 
 pub add_into-requires-clause-within : goal.add_into-requires-clause-within
 add_into-requires-clause-within c =
@@ -30,4 +31,5 @@ returns-in-Some-clause-after c =
     (sym c.in-Some.ensures) c.requires.before c.announce.ensures.announced
 
 pub returns-in_default-clause-after : goal.returns-in_default-clause-after
-returns-in_default-clause-after c = group_passed c.args.plan.now (state c.args.plan.now) (cut_made c.args.standing.now.progress) c.args.at.0 c.args.out.now c.requires.first (sym c.in_default.ensures) c.requires.before
+returns-in_default-clause-after c = group_passed c.args.plan.now (state c.args.plan.now)
+    (cut_made c.args.standing.now.progress) c.args.at.0 c.args.out.now c.requires.first (sym c.in_default.ensures) c.requires.before

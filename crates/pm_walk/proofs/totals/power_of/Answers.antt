@@ -14,5 +14,6 @@ pub returns : goal.returns
 returns c =
     let fits : SFits w64 c.at.result = search rules in
     to_z-of_z w64 c.at.result fits
-    ∙ power_is c.args.plan.now (state c.args.plan.now) (cut_made c.args.standing.now.progress) c.args.at.0 c.group_of.result _ c.demand.result.now c.at.result c.group_of.ensures.group
+    ∙ power_is c.args.plan.now (state c.args.plan.now) (cut_made c.args.standing.now.progress) c.args.at.0 c.group_of.result _
+    c.demand.result.now c.at.result c.group_of.ensures.group
     (c.requires.steps.same c.group_of.result c.group_of.ensures.inside) c.demand.ensures.demand c.at.ensures.demand

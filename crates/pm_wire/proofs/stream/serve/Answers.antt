@@ -8,7 +8,8 @@ use Rattle.pm_wire.proofs.Outcomes.{Outcomes, bad_frame, took_more, frames, refu
 use Rattle.pm_wire.proofs.stream.serve.Goals as goal
 
 -- what was said of the statuses, of a source that tells all that it has
-said : (all : List ℕ) (old new held holds : Option (List ℕ)) (r k : Type 0) (result : Served) → old ≡ Some all → (result ≡ Done → IsDone old new held holds) →
+said : (all : List ℕ) (old new held holds : Option (List ℕ)) (r k : Type 0) (result : Served) → old ≡ Some all →
+    (result ≡ Done → IsDone old new held holds) →
     (result ≡ Refused → IsRefused old new held holds) → (result ≡ TooLong → IsLongStream old new held holds) → (result ≡ ReadFault →
     r × FailsReading old new held holds) →
     (result ≡ WriteFault → k × IsCutShort old new held holds) → Outcomes (Some all) new held holds r k result

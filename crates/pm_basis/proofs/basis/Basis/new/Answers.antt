@@ -15,5 +15,6 @@ invariant_of-result c =
       order = grind (arith, ints);
       low = grind (arith, ints);
       high = grind (arith, ints);
-      even = no_rest (to_z w64 (of_z w64 (max -ℤ min))) (to_z w64 (of_z w64 (steps -ℤ pos 1))) (max -ℤ min) (pos (unsigned_abs steps) -ℤ pos 1) (sym c.leaves_rest.ensures ∙ c.if-leaves_rest.false) (omega (arith, ints)) (omega (arith, ints));
+      even = no_rest (to_z w64 (of_z w64 (max -ℤ min))) (to_z w64 (of_z w64 (steps -ℤ pos 1))) (max -ℤ min)
+          (pos (unsigned_abs steps) -ℤ pos 1) (sym c.leaves_rest.ensures ∙ c.if-leaves_rest.false) (omega (arith, ints)) (omega (arith, ints));
     }

@@ -1,4 +1,5 @@
-use Rattle.std.proofs.Common.{arith, ◌≡◌, ◌∙◌, sym, ap, subst, ℕ, ◌*◌, ◌<◌, ◌++◌, length, take, drop, w64, to_z, of_z, ℤ, pos, neg_ℤ, ◌+ℤ◌, ◌-ℤ◌, List}
+use Rattle.std.proofs.Common.{arith, ◌≡◌, ◌∙◌, sym, ap, subst, ℕ, ◌*◌, ◌<◌, ◌++◌, length, take, drop, w64, to_z, of_z, ℤ, pos}
+use Rattle.std.proofs.Common.{neg_ℤ, ◌+ℤ◌, ◌-ℤ◌, List}
 use Rattle.std.specs.Prelude.{IsTrue}
 use Rattle.std.specs.Int.{w128}
 use Rattle.std.proofs.lemmas.Int.{ints, to_z-of_z}
@@ -125,7 +126,8 @@ pub returns-clause-accounts : goal.returns-clause-accounts
 returns-clause-accounts c = λ node.
     ap (λ accounts. account_at accounts node) (accounts_are c)
     ∙ (added c).gains node
-    ∙ ap (λ (bill : BillData). account_sum (account_at bill.accounts node) (account_of_shares c.args.minutes (shares_of node c.args.shares.now))) c.self.view_is
+    ∙ ap (λ (bill : BillData). account_sum (account_at bill.accounts node)
+    (account_of_shares c.args.minutes (shares_of node c.args.shares.now))) c.self.view_is
 
 pub returns-clause-grid : goal.returns-clause-grid
 returns-clause-grid c =

@@ -33,7 +33,8 @@ end_before plan ends p end are second last read =
     ∙ get_or-map-range_with_len (λ k. end_of plan (end_cut plan k)) 1 (phases plan) (p - 2) (p - 1) end.end (omega arith) (omega arith)
 
 -- the charges at that end
-charged : (plan : PlanData) (p : ℕ) (end : EndData) (shares : List Share) (groups : List GroupSum) → IsPlan plan → end ≡ end_of plan (cut_before plan p) →
+charged : (plan : PlanData) (p : ℕ) (end : EndData) (shares : List Share) (groups : List GroupSum) → IsPlan plan →
+    end ≡ end_of plan (cut_before plan p) →
     shares ≡ member_shares plan end → groups ≡ end_groups plan end → AreCharges plan (cut_before plan p) shares groups
 charged plan p end shares groups is same shares_are groups_are =
     let cut : Cut = cut_before plan p in

@@ -15,5 +15,6 @@ returns-clause-sum c =
 
 pub returns-clause-current : goal.returns-clause-current
 returns-clause-current c =
-    subst (λ (v : BoardValue). Idle (plan_lists v.plan) (board_state v) → c.aggregate.result.now ≡ total v.plan (state v.plan) (board_state v).counts) c.self.view_is
+    subst (λ (v : BoardValue). Idle (plan_lists v.plan) (board_state v) →
+    c.aggregate.result.now ≡ total v.plan (state v.plan) (board_state v).counts) c.self.view_is
     (c.aggregate.ensures.current _ c.self.invariant.run.stands)

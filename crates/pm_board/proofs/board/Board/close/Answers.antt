@@ -32,7 +32,8 @@ index_mut-requires c =
 -- the close that was made
 makes : (c : After-index_mut) → let plan = c.self.inside.cluster.plan in let s = after (plan_lists plan) (moves_of c.self.inside.journal.lines) in
     MakesMove plan c.close.new.self.core s (Close (s.closed + 1))
-makes c = c.close.ensures.made c.if-not-close.false (after (plan_lists c.self.inside.cluster.plan) (moves_of c.self.inside.journal.lines)) c.self.invariant.run.stands
+makes c = c.close.ensures.made c.if-not-close.false
+    (after (plan_lists c.self.inside.cluster.plan) (moves_of c.self.inside.journal.lines)) c.self.invariant.run.stands
 
 -- there is an end for the phase
 inside : (c : After-index_mut) → c.closed-closed.result < length c.self.inside.ends.items
@@ -40,14 +41,16 @@ inside c =
     omega (
       arith,
       c.closed-closed.ensures.closed,
-      has_end c.self.inside.cluster.plan c.self.inside.cluster.core c.close.new.self.core c.self.inside.journal c.self.inside.ends.items c.self.invariant (makes c),
+      has_end c.self.inside.cluster.plan c.self.inside.cluster.core c.close.new.self.core c.self.inside.journal
+          c.self.inside.ends.items c.self.invariant (makes c),
     )
 
 has_room : (c : After-index_mut) → HasRoomForAll c.self.inside.cluster.plan c.index_mut.result.now
 has_room c =
     let k = c.closed-closed.result in
     let there = inside c in
-    subst (HasRoomForAll c.self.inside.cluster.plan) (sym (get_or_read c.self.inside.ends.items k c.index_mut.result.now there c.index_mut.ensures.value no_value))
+    subst (HasRoomForAll c.self.inside.cluster.plan)
+    (sym (get_or_read c.self.inside.ends.items k c.index_mut.result.now there c.index_mut.ensures.value no_value))
     (c.self.invariant.vacant k (omega (arith, c.closed-closed.ensures.closed)) (omega (arith, there, c.self.invariant.one_each)))
 
 pub phase_end_into-requires-clause-members : goal.phase_end_into-requires-clause-members
@@ -72,7 +75,8 @@ its_end c is_made =
     let s : State = after (plan_lists plan) (moves_of c.self.inside.journal.lines) in
     let t : State = step (plan_lists plan) s (Close (s.closed + 1)) in
     let p : ℕ = c.self.inside.cluster.core.closed + 1 in
-    let Claim : PlanData → Type 0 = λ q. StandsFor q c.close.new.self.core t → AreMade q t.counts p → c.phase_end_into.new.out.end ≡ end_of q (end_cut q p) in
+    let Claim : PlanData → Type 0 = λ q. StandsFor q c.close.new.self.core t → AreMade q t.counts p →
+    c.phase_end_into.new.out.end ≡ end_of q (end_cut q p) in
     subst Claim c.close.ensures.plan (c.phase_end_into.ensures.phase t p) is_made.stands
     (all_made plan c.self.inside.cluster.core c.close.new.self.core c.self.inside.journal c.self.inside.ends.items c.self.invariant is_made)
 
@@ -82,7 +86,8 @@ added : (c : After-push) → IsMade c → let s = after (plan_lists c.self.insid
 added c is_made =
     let plan = c.self.inside.cluster.plan in
     let s = after (plan_lists plan) (moves_of c.self.inside.journal.lines) in
-    let spare = has_spare plan c.self.inside.cluster.core c.close.new.self.core c.self.inside.journal c.self.inside.ends.items (closing_line (s.closed + 1)) c.self.invariant
+    let spare = has_spare plan c.self.inside.cluster.core c.close.new.self.core c.self.inside.journal c.self.inside.ends.items
+    (closing_line (s.closed + 1)) c.self.invariant
     (made plan c.self.inside.cluster.core c.close.new.self.core c.self.inside.journal c.self.inside.ends.items c.self.invariant is_made) in
     pushed c.push.result (c.push.ensures.within spare) c.push.ensures.lines
     ∙ ap (λ (p : ℕ). c.self.inside.journal.lines ++ closing_line (p + 1) ∷ []) (c.closed-closed.ensures.closed ∙ c.self.invariant.run.stands.closed)
@@ -91,7 +96,8 @@ pub invariant_of-self-2 : goal.invariant_of-self-2
 invariant_of-self-2 c =
     let at = (goal.at.invariant_of-self-2 c).After-push in
     let is_made = makes (goal.at.invariant_of-self-2 c).After-index_mut in
-    let closed' = board_closed c.self.inside.cluster.plan c.self.inside.cluster.core c.close.new.self.core c.self.inside.journal c.self.inside.ends.items c.self.invariant is_made
+    let closed' = board_closed c.self.inside.cluster.plan c.self.inside.cluster.core c.close.new.self.core c.self.inside.journal
+    c.self.inside.ends.items c.self.invariant is_made
     c.phase_end_into.new.out (its_end at is_made) c.push.new.self (added at is_made) c.push.ensures.spare in
     rw (c.close.ensures.plan, c.closed-closed.ensures.closed) closed'
 
@@ -104,6 +110,7 @@ returns-clause-closed c = λ done.
       ends = take c.close.new.self.core.closed (set c.self.inside.ends.items c.closed-closed.result c.phase_end_into.new.out);
     } in
     let is_made = makes (goal.at.returns-clause-closed c).After-index_mut in
-    let closed' = phase_closed c.self.inside.cluster.plan c.self.inside.cluster.core c.close.new.self.core c.self.inside.journal c.self.inside.ends.items c.self.invariant is_made
+    let closed' = phase_closed c.self.inside.cluster.plan c.self.inside.cluster.core c.close.new.self.core c.self.inside.journal
+    c.self.inside.ends.items c.self.invariant is_made
     c.phase_end_into.new.out (its_end at is_made) c.close.new.self.plan c.push.new.self.lines c.close.ensures.plan (added at is_made) in
     subst (λ (v : BoardValue). ClosesPhase v after_close) c.self.view_is (rw c.closed-closed.ensures.closed closed')

@@ -12,7 +12,8 @@ use Rattle.pm_board.proofs.board.Board.post.Goals as goal
 use Rattle.pm_board.proofs.board.Board.post.Goals.{After-push}
 
 -- the line of the change that was made
-made_line : (c : After-push) → IsMadeLine c.self.inside.cluster.plan c.change.new.self.core (after (plan_lists c.self.inside.cluster.plan) (moves_of c.self.inside.journal.lines))
+made_line : (c : After-push) → IsMadeLine c.self.inside.cluster.plan c.change.new.self.core
+    (after (plan_lists c.self.inside.cluster.plan) (moves_of c.self.inside.journal.lines))
     (record { what = c.in_ok-what.what; held = None })
 made_line c = record {
   makes = c.in_ok-what.ensures.made _ c.self.invariant.run.stands;
@@ -21,12 +22,14 @@ made_line c = record {
 
 no_phase_closed : (c : After-push) → c.change.new.self.core.closed ≡ c.self.inside.cluster.core.closed
 no_phase_closed c =
-    closed_on c.self.inside.cluster.plan c.self.inside.cluster.core c.change.new.self.core c.self.inside.journal c.self.inside.ends.items _ c.self.invariant (made_line c)
+    closed_on c.self.inside.cluster.plan c.self.inside.cluster.core c.change.new.self.core c.self.inside.journal
+    c.self.inside.ends.items _ c.self.invariant (made_line c)
     (rw c.in_ok-what.ensures.form refl)
 
 spare_is : (c : After-push) → 1 ≤ c.self.inside.journal.spare
 spare_is c =
-    has_spare c.self.inside.cluster.plan c.self.inside.cluster.core c.change.new.self.core c.self.inside.journal c.self.inside.ends.items _ c.self.invariant (made_line c)
+    has_spare c.self.inside.cluster.plan c.self.inside.cluster.core c.change.new.self.core c.self.inside.journal
+    c.self.inside.ends.items _ c.self.invariant (made_line c)
 
 pub invariant_of-self-2 : goal.invariant_of-self-2
 invariant_of-self-2 c =
@@ -39,9 +42,11 @@ invariant_of-self-2 c =
 pub returns-clause-adds : goal.returns-clause-adds
 returns-clause-adds c =
     let at = (goal.at.returns-clause-adds c).After-push in
-    let after_post : BoardValue = record { plan = c.change.new.self.plan; lines = c.push.new.self.lines; ends = take c.change.new.self.core.closed c.self.inside.ends.items } in
+    let after_post : BoardValue =
+    record { plan = c.change.new.self.plan; lines = c.push.new.self.lines; ends = take c.change.new.self.core.closed c.self.inside.ends.items } in
     subst (λ (v : BoardValue). AddsLine v after_post (record { what = c.in_ok-what.what; held = None })) c.self.view_is
-    (adds_line c.self.inside.cluster.plan c.self.inside.cluster.core c.change.new.self.core c.self.inside.journal c.self.inside.ends.items _ c.self.invariant (made_line at)
+    (adds_line c.self.inside.cluster.plan c.self.inside.cluster.core c.change.new.self.core c.self.inside.journal
+    c.self.inside.ends.items _ c.self.invariant (made_line at)
     c.change.new.self.plan _ _ c.push.new.self.lines c.change.ensures.plan (pushed c.push.result (c.push.ensures.within (spare_is at)) c.push.ensures.lines))
 
 pub returns-in_err-what-clause-refused : goal.returns-in_err-what-clause-refused

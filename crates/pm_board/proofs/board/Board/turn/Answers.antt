@@ -11,7 +11,8 @@ use Rattle.pm_board.proofs.board.Board.turn.Goals as goal
 use Rattle.pm_board.proofs.board.Board.turn.Goals.{After-push}
 
 -- the line of the move that was made
-made_line : (c : After-push) → IsMadeLine c.self.inside.cluster.plan c.step.new.self.core (after (plan_lists c.self.inside.cluster.plan) (moves_of c.self.inside.journal.lines)) c.in-Some.line
+made_line : (c : After-push) → IsMadeLine c.self.inside.cluster.plan c.step.new.self.core
+    (after (plan_lists c.self.inside.cluster.plan) (moves_of c.self.inside.journal.lines)) c.in-Some.line
 made_line c =
     let plan = c.self.inside.cluster.plan in
     let s = after (plan_lists plan) (moves_of c.self.inside.journal.lines) in
@@ -28,19 +29,23 @@ no_phase_closed c =
 
 spare_is : (c : After-push) → 1 ≤ c.self.inside.journal.spare
 spare_is c =
-    has_spare c.self.inside.cluster.plan c.self.inside.cluster.core c.step.new.self.core c.self.inside.journal c.self.inside.ends.items c.in-Some.line c.self.invariant (made_line c)
+    has_spare c.self.inside.cluster.plan c.self.inside.cluster.core c.step.new.self.core c.self.inside.journal
+    c.self.inside.ends.items c.in-Some.line c.self.invariant (made_line c)
 
 pub invariant_of-self-2 : goal.invariant_of-self-2
 invariant_of-self-2 c =
     let at = (goal.at.invariant_of-self-2 c).After-push in
-    let on = board_on c.self.inside.cluster.plan c.self.inside.cluster.core c.step.new.self.core c.self.inside.journal c.self.inside.ends.items c.in-Some.line c.self.invariant (made_line at)
+    let on = board_on c.self.inside.cluster.plan c.self.inside.cluster.core c.step.new.self.core c.self.inside.journal
+    c.self.inside.ends.items c.in-Some.line c.self.invariant (made_line at)
     c.push.new.self (pushed c.push.result (c.push.ensures.within (spare_is at)) c.push.ensures.lines) c.push.ensures.spare (no_phase_closed at) in
     rw c.step.ensures.plan on
 
 pub returns-clause-adds : goal.returns-clause-adds
 returns-clause-adds c =
     let at = (goal.at.returns-clause-adds c).After-push in
-    let after_turn : BoardValue = record { plan = c.step.new.self.plan; lines = c.push.new.self.lines; ends = take c.step.new.self.core.closed c.self.inside.ends.items } in
+    let after_turn : BoardValue =
+    record { plan = c.step.new.self.plan; lines = c.push.new.self.lines; ends = take c.step.new.self.core.closed c.self.inside.ends.items } in
     subst (λ (v : BoardValue). AddsLine v after_turn c.in-Some.line) c.self.view_is
-    (adds_line c.self.inside.cluster.plan c.self.inside.cluster.core c.step.new.self.core c.self.inside.journal c.self.inside.ends.items c.in-Some.line c.self.invariant (made_line at)
+    (adds_line c.self.inside.cluster.plan c.self.inside.cluster.core c.step.new.self.core c.self.inside.journal
+    c.self.inside.ends.items c.in-Some.line c.self.invariant (made_line at)
     c.step.new.self.plan _ _ c.push.new.self.lines c.step.ensures.plan (pushed c.push.result (c.push.ensures.within (spare_is at)) c.push.ensures.lines))

@@ -12,7 +12,8 @@ use Rattle.pm_check.proofs.judge.Judge.held.Goals as goal
 -- the node is a device
 leaf_at : (c : goal.After-number_at-number) → IsLeaf (plan_lists c.args.plan.now) c.args.node
 leaf_at c =
-    is_leaf-is c.args.plan.now c.args.node ∙ ap (λ e. is_leaf_at e c.args.node) (sym c.tree.ensures.tree) ∙ sym c.is_leaf.ensures ∙ c.if-not-is_leaf.false
+    is_leaf-is c.args.plan.now c.args.node ∙ ap (λ e. is_leaf_at e c.args.node) (sym c.tree.ensures.tree) ∙ sym c.is_leaf.ensures
+    ∙ c.if-not-is_leaf.false
 
 pub step-step-requires-clause-first : goal.step-step-requires-clause-first
 step-step-requires-clause-first c =
@@ -35,6 +36,7 @@ pub returns : goal.returns
 returns c =
     let holds = sym c.holds_price.ensures ∙ c.if-not-holds_price.false in
     let leaf : IsLeaf (plan_lists c.args.plan.now) c.args.node =
-    is_leaf-is c.args.plan.now c.args.node ∙ ap (λ e. is_leaf_at e c.args.node) (sym c.tree.ensures.tree) ∙ sym c.is_leaf.ensures ∙ c.if-not-is_leaf.false in
+    is_leaf-is c.args.plan.now c.args.node ∙ ap (λ e. is_leaf_at e c.args.node) (sym c.tree.ensures.tree) ∙ sym c.is_leaf.ensures
+    ∙ c.if-not-is_leaf.false in
     told_held c.args.plan.now c.args.self.now c.requires.judge c.args.node leaf holds c.last_passed-index.result c.number_at-number.result c.step-step.result
     c.last_passed-index.ensures (c.number_at-number.ensures ∙ ap (λ (cut : Cut). cut c.args.node) c.cleared.ensures) c.step-step.ensures

@@ -15,7 +15,8 @@ use Rattle.pm_cluster.proofs.cluster.Cluster.aggregate.Goals as goal
 
 pub returns-clause-known : goal.returns-clause-known
 returns-clause-known c s stands =
-    let Claim : ClusterValue → Type 0 = λ v. (s : State) → StandsFor v.plan v.core s → c.aggregate.result.now ≡ children_sum v.plan 0 (known (plan_lists v.plan) s 0) in
+    let Claim : ClusterValue → Type 0 = λ v. (s : State) → StandsFor v.plan v.core s →
+    c.aggregate.result.now ≡ children_sum v.plan 0 (known (plan_lists v.plan) s 0) in
     subst Claim c.self.view_is (λ s stands.
     c.aggregate.ensures.sum ∙ ap aggregate_of c.cache.ensures.cache
     ∙ sum_of_known c.self.inside.plan.now (core_of c.self.inside) s c.self.invariant.is_plan stands) s stands

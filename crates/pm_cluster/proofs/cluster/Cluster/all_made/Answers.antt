@@ -23,12 +23,14 @@ returns-then-index c =
     let inside = (leaf_inside plan c.self.invariant.is_plan n leaf).1 in
     let open_phase = subst (λ (v : ClusterValue). v.core.closed < phases v.plan) (sym c.self.view_is) c.requires.open_phase in
     let count_is = get_or_read c.self.inside.counts.items n c.index.result.now (omega (arith, inside, c.self.invariant.places.all_counts)) c.index.ensures 0 in
-    let due_is = get_or_read c.self.inside.due.items n c.index-then-is_device.result.now (omega (arith, inside, c.self.invariant.same_due)) c.index-then-is_device.ensures 0 in
+    let due_is = get_or_read c.self.inside.due.items n c.index-then-is_device.result.now
+    (omega (arith, inside, c.self.invariant.same_due)) c.index-then-is_device.ensures 0 in
     record {
       made = (
         λ is. absurd (false≢true is),
         λ all.
-            let Claim : ClusterValue → Type 0 = λ v. (d : ℕ) → IsLeaf (plan_lists v.plan) d → slice_index_or v.core.counts d 0 ≡ end_cut v.plan (v.core.closed + 1) d in
+            let Claim : ClusterValue → Type 0 = λ v. (d : ℕ) → IsLeaf (plan_lists v.plan) d →
+            slice_index_or v.core.counts d 0 ≡ end_cut v.plan (v.core.closed + 1) d in
             let here = subst Claim (sym c.self.view_is) all n leaf in
             absurd (c.if-index.true (count_is ∙ here ∙ sym (c.self.invariant.due open_phase n leaf) ∙ sym due_is)),
       );
@@ -39,7 +41,14 @@ returns c = record {
   made = (
     λ is d leaf. c.loop-number.invariant d leaf (
         let here = subst (λ (v : ClusterValue). IsLeaf (plan_lists v.plan) d) (sym c.self.view_is) leaf in
-        omega (arith, (leaf_inside c.self.inside.plan.now c.self.invariant.is_plan d here).1, nodes_are c.self.inside.plan.now, c.loop-number-test.false, c.len-number-end.ensures.len, ap length c.tree.ensures.tree)),
+        omega (
+          arith,
+          (leaf_inside c.self.inside.plan.now c.self.invariant.is_plan d here).1,
+          nodes_are c.self.inside.plan.now,
+          c.loop-number-test.false,
+          c.len-number-end.ensures.len,
+          ap length c.tree.ensures.tree,
+        )),
     λ all. refl,
   );
 }

@@ -16,7 +16,8 @@ use Rattle.pm_cluster.proofs.ActForms.{far_leaf}
 use Rattle.pm_cluster.proofs.SameNext.{same_found, same_kind, not_differ, do_differ}
 use Rattle.pm_cluster.proofs.cluster.Cluster.change.Goals as goal
 use Rattle.pm_cluster.proofs.cluster.Cluster.change.Goals.{After-next-due, After-own_demand, then-len-next-via-then-len-next}
-use Rattle.pm_cluster.proofs.cluster.Cluster.change.Goals.{then-len-next-via-else-len-next+then-not-is_device, then-ne-via-then-ne, then-ne-via-else-ne+then-ne-2}
+use Rattle.pm_cluster.proofs.cluster.Cluster.change.Goals.{then-len-next-via-else-len-next+then-not-is_device, then-ne-via-then-ne}
+use Rattle.pm_cluster.proofs.cluster.Cluster.change.Goals.{then-ne-via-else-ne+then-ne-2}
 
 pub is_device-requires : goal.is_device-requires
 is_device-requires c = omega (arith, nodes_are c.self.inside.plan.now, c.if-len-next.false, c.len.ensures.len, ap length c.tree.ensures.tree)
@@ -46,7 +47,8 @@ leaf_made c =
     subst (Claim c.args.self.now) (ap (λ (n : Next). n.device) c.next-next.ensures.next) (
     subst (λ (v : ClusterValue). Claim v c.next-next.result.device) c.self.view_is (leaf c))
 
-next_made : (c : After-next-due) → IsNextOrNone c.args.self.now.plan c.args.self.now.core.closed (count_of c.args.self.now.core) c.args.made.now.next.device c.next-due.result
+next_made : (c : After-next-due) → IsNextOrNone c.args.self.now.plan c.args.self.now.core.closed
+    (count_of c.args.self.now.core) c.args.made.now.next.device c.next-due.result
 next_made c =
     let Claim : ℕ → Type 0 = λ x. IsNextOrNone c.args.self.now.plan c.args.self.now.core.closed (count_of c.args.self.now.core) x c.next-due.result in
     subst Claim (ap (λ (n : Next). n.device) c.next-next.ensures.next) c.next-due.ensures.next
@@ -62,7 +64,8 @@ returns-then-ne-clause-refused c =
       next_made p,
       elim c.then-ne.branch [
         | then-ne-via-then-ne w ↦
-            let differs : c.next-due.result ≡ Some c.next-next.result → ⊥ = do_differ _ _ (same_found c.next-due.result c.next-next.result) w.if-ne.ensures in
+            let differs : c.next-due.result ≡ Some c.next-next.result → ⊥ =
+            do_differ _ _ (same_found c.next-due.result c.next-next.result) w.if-ne.ensures in
             inl (λ e. differs (e ∙ ap Some (sym c.next-next.ensures.next)))
         | then-ne-via-else-ne+then-ne-2 w ↦
             let differs : c.kind-kind.result ≡ w.kind.result → ⊥ = do_differ _ _ (same_kind c.kind-kind.result w.kind.result) w.if-ne-2.ensures in

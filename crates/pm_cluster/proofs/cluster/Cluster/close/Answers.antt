@@ -19,7 +19,8 @@ use Rattle.pm_cluster.proofs.cluster.Cluster.close.Goals.{After-keep_powers}
 pub returns-then-not-may_close-clause-refused : goal.returns-then-not-may_close-clause-refused
 returns-then-not-may_close-clause-refused c = λ no.
     of_value c.self.inside c.args.self.now c.self.view_is (λ p s. (phase : ℕ) → Legal (plan_lists p) s (Close phase) → ⊥) (λ s stands phase legal.
-    let may = subst (λ (v : ClusterValue). MayClose v.plan v.core) c.self.view_is (may_close_from c.self.inside.plan.now (core_of c.self.inside) s phase c.self.invariant.is_plan stands legal) in
+    let may = subst (λ (v : ClusterValue). MayClose v.plan v.core) c.self.view_is
+    (may_close_from c.self.inside.plan.now (core_of c.self.inside) s phase c.self.invariant.is_plan stands legal) in
     false≢true (sym c.if-not-may_close.true ∙ c.may_close.ensures.may.1 may))
 
 may : (c : After-keep_powers) → MayClose c.self.inside.plan.now (core_of c.self.inside)
@@ -31,13 +32,17 @@ makes c s stands = close_did c.self.inside.plan.now (core_of c.self.inside) s c.
     c.keep_powers.ensures.same_length c.keep_powers.ensures.kept
 
 pub keep_powers-requires-clause-told : goal.keep_powers-requires-clause-told
-keep_powers-requires-clause-told c = λ d leaf. entry_told c.self.inside.plan.now c.self.invariant.is_plan (core_of c.self.inside) c.self.invariant.stands d leaf
+keep_powers-requires-clause-told c =
+    λ d leaf. entry_told c.self.inside.plan.now c.self.invariant.is_plan (core_of c.self.inside) c.self.invariant.stands d leaf
 
 pub invariant_of-self : goal.invariant_of-self
 invariant_of-self c =
     let plan = c.self.inside.plan.now in
     let at = (goal.at.invariant_of-self c).After-keep_powers in
-    let now = ∥∥₁_map c.self.invariant.stands (λ st. record { state = step (plan_lists plan) st.state (Close (st.state.closed + 1)); is = (makes at st.state st.is).stands }) in
+    let now = ∥∥₁_map c.self.invariant.stands (λ st. record {
+      state = step (plan_lists plan) st.state (Close (st.state.closed + 1));
+      is = (makes at st.state st.is).stands;
+    }) in
     record {
       is_plan = c.self.invariant.is_plan;
       places = places_of _ _ now;

@@ -20,13 +20,22 @@ use Rattle.pm_cluster.proofs.cluster.Cluster.limited_line.Goals.{After-aggregate
 gathered_is : (c : After-aggregate-sum) → gathered_at c.self.inside.concentrators.items c.args.node.0 ≡ c.in-Some-Some.concentrator
 gathered_is c = gathered_known c.self.inside.concentrators.items c.args.node.0 c.in-Some-Some.concentrator
     (sym (get_or_read c.self.inside.concentrators.items c.args.node.0 c.index.result.now
-    (limited_of c.self.inside c.args.self.now c.self.view_is c.self.invariant c.args.node.0 c.requires.inside c.requires.limited).here c.index.ensures None) ∙ c.in-Some-Some.is-0)
+    (limited_of c.self.inside c.args.self.now c.self.view_is c.self.invariant c.args.node.0 c.requires.inside c.requires.limited).here
+    c.index.ensures None) ∙ c.in-Some-Some.is-0)
 
 pub step_within-local-requires : goal.step_within-local-requires
 step_within-local-requires c =
     let at = goal.at.step_within-local-requires c in
     let told = limited_of c.self.inside c.args.self.now c.self.view_is c.self.invariant c.args.node.0 c.requires.inside c.requires.limited in
-    omega (arith, c.step-step.ensures.inside, c.aggregate-sum.ensures.steps, ap (λ q. q.steps) c.cache.ensures.cache, ap (λ g. g.cache.steps) (gathered_is at.After-aggregate-sum), told.steps, told.root_steps)
+    omega (
+      arith,
+      c.step-step.ensures.inside,
+      c.aggregate-sum.ensures.steps,
+      ap (λ q. q.steps) c.cache.ensures.cache,
+      ap (λ g. g.cache.steps) (gathered_is at.After-aggregate-sum),
+      told.steps,
+      told.root_steps,
+    )
 
 pub returns-in-Some-Some : goal.returns-in-Some-Some
 returns-in-Some-Some c =
@@ -35,16 +44,26 @@ returns-in-Some-Some c =
     let fits_floor : FitsSigned w64 c.in-Some-Some.floor = search rules in
     let fits_ceiling : FitsSigned w64 c.in-Some-Some.ceiling = search rules in
     let limits : Limits = record { floor = c.in-Some-Some.floor; ceiling = c.in-Some-Some.ceiling } in
-    let limits_are = limits_read (limits_of (node c.self.inside.plan.now c.args.node.0)) c.in-Some-Some.floor c.in-Some-Some.ceiling (sym c.in-Some-Some.is-1 ∙ c.limits.ensures) in
+    let limits_are = limits_read (limits_of (node c.self.inside.plan.now c.args.node.0)) c.in-Some-Some.floor c.in-Some-Some.ceiling
+    (sym c.in-Some-Some.is-1 ∙ c.limits.ensures) in
     let step_is : c.step_within-local.result ≡ step_within limits c.self.inside.auctioneer.step c.aggregate-sum.result.now =
     c.step_within-local.ensures.step
-    ∙ ap (λ (z : ℤ). step_within (record { floor = z; ceiling = to_z w64 (of_z w64 c.in-Some-Some.ceiling) }) c.step-step.result c.aggregate-sum.result.now) (to_z-of_z w64 c.in-Some-Some.floor fits_floor)
-    ∙ ap (λ (z : ℤ). step_within (record { floor = c.in-Some-Some.floor; ceiling = z }) c.step-step.result c.aggregate-sum.result.now) (to_z-of_z w64 c.in-Some-Some.ceiling fits_ceiling)
+    ∙ ap (λ (z : ℤ). step_within (record { floor = z; ceiling = to_z w64 (of_z w64 c.in-Some-Some.ceiling) }) c.step-step.result
+    c.aggregate-sum.result.now) (to_z-of_z w64 c.in-Some-Some.floor fits_floor)
+    ∙ ap (λ (z : ℤ). step_within (record { floor = c.in-Some-Some.floor; ceiling = z }) c.step-step.result c.aggregate-sum.result.now)
+    (to_z-of_z w64 c.in-Some-Some.ceiling fits_ceiling)
     ∙ ap (λ (k : ℕ). step_within limits k c.aggregate-sum.result.now) c.step-step.ensures.step in
     record {
-      line = subst (λ (v : ClusterValue). (let line : LimitedLine = record { node = c.args.node.0; step = c.step_within-local.result; total = to_z w64 (of_z w64 c.at.result) } in line) ≡ kept_line v.plan v.core c.args.node.0) c.self.view_is
-          (line_told c.self.inside.plan.now (core_of c.self.inside) c.args.node.0 limits c.in-Some-Some.concentrator c.step_within-local.result _ c.aggregate-sum.result.now limits_are
-          (gathered_is at.After-aggregate-sum) (c.aggregate-sum.ensures.sum ∙ ap aggregate_of c.cache.ensures.cache) step_is (to_z-of_z w64 c.at.result fits ∙ c.at.ensures.demand));
+      line =
+          subst (λ (v : ClusterValue). (let line : LimitedLine = record {
+            node = c.args.node.0;
+            step = c.step_within-local.result;
+            total = to_z w64 (of_z w64 c.at.result);
+          } in line) ≡ kept_line v.plan v.core c.args.node.0) c.self.view_is
+          (line_told c.self.inside.plan.now (core_of c.self.inside) c.args.node.0 limits c.in-Some-Some.concentrator
+          c.step_within-local.result _ c.aggregate-sum.result.now limits_are
+          (gathered_is at.After-aggregate-sum) (c.aggregate-sum.ensures.sum ∙ ap aggregate_of c.cache.ensures.cache) step_is
+          (to_z-of_z w64 c.at.result fits ∙ c.at.ensures.demand));
     }
 
 pub returns-in_default-2 : goal.returns-in_default-2

@@ -30,7 +30,8 @@ use Rattle.pm_walk.proofs.Devices.{planned-is}
 use Rattle.pm_cluster.proofs.NextChanges.{FoundNext, keeps_device, no_next, what_is, is_next, kind_valid, state_valid, power_valid, minutes_valid}
 use Rattle.pm_cluster.proofs.cluster.Cluster.next.Goals as goal
 use Rattle.pm_cluster.proofs.cluster.Cluster.next.Goals.{After-planned, in-Join, in-Leave}
-use Rattle.pm_cluster.proofs.cluster.Cluster.next.Goals.{in-Set, in-Tick, then-phases-self-via-then-phases-self, then-phases-self-via-else-phases-self+then-index-count}
+use Rattle.pm_cluster.proofs.cluster.Cluster.next.Goals.{in-Set, in-Tick, then-phases-self-via-then-phases-self}
+use Rattle.pm_cluster.proofs.cluster.Cluster.next.Goals.{then-phases-self-via-else-phases-self+then-index-count}
 
 -- a device has its place in each list
 placed : (inside : Inside) → AreClusterFields inside → (v : ClusterValue) (d : ℕ) → IsLeaf
@@ -226,7 +227,8 @@ returns c =
     let what = c.in-Some.what in
     let made = c.match-what.member in
     let used = power plan (state plan) (end_cut plan c.self.inside.closed) d in
-    let Claim : ClusterValue → Type 0 = λ v. IsNext v.plan v.core.closed (count_of v.core) d (record { device = d; number = count + 1; member = made.1; state = made.0 }) in
+    let Claim : ClusterValue → Type 0 =
+    λ v. IsNext v.plan v.core.closed (count_of v.core) d (record { device = d; number = count + 1; member = made.1; state = made.0 }) in
     let is = is_next plan c.self.invariant.is_plan (core_of c.self.inside) c.self.invariant.stands d count what leaf
     (found p what c.in-Some.is) made.1 made.0 in
     let member_of = member_after (is_member plan d count) in

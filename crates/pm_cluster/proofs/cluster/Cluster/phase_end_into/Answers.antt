@@ -24,14 +24,20 @@ use Rattle.pm_cluster.proofs.cluster.Cluster.phase_end_into.Goals as goal
 
 pub begin-requires : goal.begin-requires
 begin-requires c =
-    omega (arith, c.step-step.ensures.inside, auction_steps c.self.inside.plan.now (core_of c.self.inside) c.self.invariant.stands, ap (λ b. b.steps) c.basis.ensures.basis)
+    omega (
+      arith,
+      c.step-step.ensures.inside,
+      auction_steps c.self.inside.plan.now (core_of c.self.inside) c.self.invariant.stands,
+      ap (λ b. b.steps) c.basis.ensures.basis,
+    )
 
 pub loop-number-init : goal.loop-number-init
 loop-number-init c =
     let head : EndData = c.begin.new.self.end in
     record {
       lines = λ s stands.
-          ap (λ xs. record head { members = xs; limited = head.limited }) (ap (λ (e : EndData). e.members) c.begin.ensures.end ∙ (no_lines c.args.self.now.plan s.counts).0)
+          ap (λ xs. record head { members = xs; limited = head.limited }) (ap (λ (e : EndData). e.members) c.begin.ensures.end
+          ∙ (no_lines c.args.self.now.plan s.counts).0)
           ∙ ap (λ xs. record head { members = members_to c.args.self.now.plan s.counts 0; limited = xs })
           (ap (λ (e : EndData). e.limited) c.begin.ensures.end ∙ (no_lines c.args.self.now.plan s.counts).1);
       member_room = omega (arith, c.begin.ensures.members, c.requires.members);
@@ -53,7 +59,15 @@ returns c =
     let head : EndData = c.begin.new.self.end in
     let fits : FitsSigned w64 c.at-total.result = search rules in
     let all : c.loop-number.number - 1 ≡ length plan.nodes =
-    omega (arith, c.loop-number-test.false, c.loop-number.auto.number, c.loop-number.auto.number-end, c.len-number-end.ensures.len, ap length c.tree.ensures.tree, c.self.invariant.is_plan.nodes.one_each) in
+    omega (
+      arith,
+      c.loop-number-test.false,
+      c.loop-number.auto.number,
+      c.loop-number.auto.number-end,
+      c.len-number-end.ensures.len,
+      ap length c.tree.ensures.tree,
+      c.self.invariant.is_plan.nodes.one_each,
+    ) in
     let begun = c.begin.ensures.end in
     let step_is : head.step ≡ c.self.inside.auctioneer.step = ap (λ (e : EndData). e.step) begun ∙ c.step-step.ensures.step in
     let price_is : head.price ≡ price_at plan.basis head.step =
@@ -66,9 +80,11 @@ returns c =
     let quiet = subst (λ (v : ClusterValue). IsQuiet v.plan v.core) (sym c.self.view_is) c.requires.quiet in
     let told = subst (λ (v : ClusterValue). IsEndTo v.plan v.core c.loop-number.number head c.loop-number.out) (sym c.self.view_is) c.loop-number.invariant in
     let whole : (s : State) → StandsFor plan (core_of c.self.inside) s → c.loop-number.out.end ≡ end_of plan s.counts = λ s stands.
-    whole_end plan (core_of c.self.inside) s c.loop-number.number head c.loop-number.out c.self.invariant.is_plan stands quiet told all step_is price_is total_is in
+    whole_end plan (core_of c.self.inside) s c.loop-number.number head c.loop-number.out c.self.invariant.is_plan stands quiet told
+    all step_is price_is total_is in
     record {
       end = of_value c.self.inside c.args.self.now c.self.view_is (λ p s. c.loop-number.out.end ≡ end_of p s.counts) whole;
-      phase = λ s p stands made. of_value c.self.inside c.args.self.now c.self.view_is (λ q s. AreMade q s.counts p → c.loop-number.out.end ≡ end_of q (end_cut q p))
+      phase = λ s p stands made. of_value c.self.inside c.args.self.now c.self.view_is (λ q s. AreMade q s.counts p →
+          c.loop-number.out.end ≡ end_of q (end_cut q p))
           (λ s stands made. whole s stands ∙ end_alike plan c.self.invariant.is_plan s.counts (end_cut plan p) made) s stands made;
     }

@@ -11,4 +11,7 @@ power_of-requires c = record { told = told_of c.self.inside c.args.self.now c.se
 pub returns : goal.returns
 returns c =
     let fits : FitsSigned w64 c.power_of.result = search rules in
-    record { power = to_z-of_z w64 c.power_of.result fits ∙ subst (λ (v : ClusterValue). c.power_of.result ≡ kept_power v.plan v.core c.args.device.0) c.self.view_is c.power_of.ensures.power }
+    record {
+      power = to_z-of_z w64 c.power_of.result fits
+          ∙ subst (λ (v : ClusterValue). c.power_of.result ≡ kept_power v.plan v.core c.args.device.0) c.self.view_is c.power_of.ensures.power;
+    }

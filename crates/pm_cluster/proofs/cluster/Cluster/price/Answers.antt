@@ -29,4 +29,5 @@ returns-clause-current c s stands idle =
     price_read c.basis.result.now c.price.result c.price.ensures.sound c.price.ensures.from_min c.price.ensures.to_max
     ∙ subst Claim c.self.view_is (λ s stands idle.
     c.price.ensures.price ∙ ap (λ (b : BasisValue). price_at b c.step.result) c.basis.ensures.basis
-    ∙ ap (price_at plan.basis) (c.step.ensures.step ∙ (quiet_current plan (core_of c.self.inside) s c.self.invariant.is_plan stands idle).step)) s stands idle
+    ∙ ap (price_at plan.basis) (c.step.ensures.step
+    ∙ (quiet_current plan (core_of c.self.inside) s c.self.invariant.is_plan stands idle).step)) s stands idle

@@ -7,7 +7,8 @@ use Rattle.pm_cluster.proofs.Parents.{nodes_are}
 use Rattle.pm_cluster.proofs.ActForms.{no_publish, at_none}
 use Rattle.pm_cluster.proofs.cluster.Cluster.publish_at.Goals as goal
 use Rattle.pm_cluster.proofs.cluster.Cluster.publish_at.Goals.{then-node-eq0-via-then-node-eq0}
-use Rattle.pm_cluster.proofs.cluster.Cluster.publish_at.Goals.{then-node-eq0-via-else-node-eq0+then-len-node, then-node-eq0-via-else-node-eq0+else-len-node+then-is_device}
+use Rattle.pm_cluster.proofs.cluster.Cluster.publish_at.Goals.{then-node-eq0-via-else-node-eq0+then-len-node}
+use Rattle.pm_cluster.proofs.cluster.Cluster.publish_at.Goals.{then-node-eq0-via-else-node-eq0+else-len-node+then-is_device}
 
 pub is_device-requires : goal.is_device-requires
 is_device-requires c = omega (arith, nodes_are c.self.inside.plan.now, c.if-len-node.false, c.len.ensures.len, ap length c.tree.ensures.tree)

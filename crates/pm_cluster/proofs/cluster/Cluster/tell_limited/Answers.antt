@@ -33,4 +33,5 @@ returns-then-is_some-clause-end c =
     sym (is_some-option_map _ (limits_of (node plan g))) ∙ ap is_some (sym c.limits.ensures) ∙ sym c.is_some.ensures ∙ c.if-is_some.true in
     let line_is = subst (λ (v : ClusterValue). c.limited_line.result ≡ kept_line v.plan v.core g) (sym c.self.view_is) c.limited_line.ensures.line in
     of_value c.self.inside c.args.self.now c.self.view_is (λ p s. c.add_limited.new.self.end ≡ more (limited_at p s.counts g)) (λ s stands.
-    c.add_limited.ensures.end ∙ ap more (limited_line_told plan (core_of c.self.inside) s g c.limited_line.result c.self.invariant.is_plan stands quiet inside limited line_is))
+    c.add_limited.ensures.end ∙ ap more (limited_line_told plan (core_of c.self.inside) s g c.limited_line.result
+    c.self.invariant.is_plan stands quiet inside limited line_is))

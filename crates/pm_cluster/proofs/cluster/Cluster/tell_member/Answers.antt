@@ -26,8 +26,10 @@ returns-then-index-clause-end c =
     let inside = (leaf_inside plan c.self.invariant.is_plan d leaf).1 in
     let quiet = subst (λ (v : ClusterValue). IsQuiet v.plan v.core) (sym c.self.view_is) c.requires.quiet in
     let member = sym (c.self.invariant.members d leaf)
-    ∙ sym (get_or_read c.self.inside.members.items d c.index.result.now (omega (arith, inside, c.self.invariant.same_members)) c.index.ensures false) ∙ c.if-index.true in
-    let number = get_or_read c.self.inside.counts.items d c.index-then-index.result.now (omega (arith, inside, c.self.invariant.places.all_counts)) c.index-then-index.ensures 0 in
+    ∙ sym (get_or_read c.self.inside.members.items d c.index.result.now (omega (arith, inside, c.self.invariant.same_members))
+    c.index.ensures false) ∙ c.if-index.true in
+    let number = get_or_read c.self.inside.counts.items d c.index-then-index.result.now
+    (omega (arith, inside, c.self.invariant.places.all_counts)) c.index-then-index.ensures 0 in
     let fits : FitsSigned w64 c.power-power.result = search rules in
     let power_is = to_z-of_z w64 c.power-power.result fits
     ∙ subst (λ (v : ClusterValue). c.power-power.result ≡ kept_power v.plan v.core d) (sym c.self.view_is) c.power-power.ensures.power in
@@ -47,7 +49,8 @@ returns-else-is_device-clause-end c =
           let leaf : IsLeaf (plan_lists plan) d = sym c.is_device.ensures ∙ w.if-is_device.true in
           let inside = (leaf_inside plan c.self.invariant.is_plan d leaf).1 in
           let none = sym (c.self.invariant.members d leaf)
-          ∙ sym (get_or_read c.self.inside.members.items d w.index.result.now (omega (arith, inside, c.self.invariant.same_members)) w.index.ensures false) ∙ w.if-index.false in
+          ∙ sym (get_or_read c.self.inside.members.items d w.index.result.now (omega (arith, inside, c.self.invariant.same_members))
+          w.index.ensures false) ∙ w.if-index.false in
           no_member_told plan (core_of c.self.inside) s d stands leaf none
       | else-is_device-via-else-is_device w ↦ no_leaf_told plan s.counts d c.self.invariant.is_plan (sym c.is_device.ensures ∙ w.if-is_device.false)
     ]))

@@ -13,7 +13,8 @@ pub returns-then-above-node : goal.returns-then-above-node
 returns-then-above-node c =
     let lists = market_lists c.args.self.now in
     let left : ℕ = c.args.below - (c.loop-step._step + 1) in
-    sym (toward_here lists left (c.args.below - c.loop-step._step) c.args.node c.loop-step.at (omega arith) (sym c.parent-above.ensures ∙ c.if-above-node.true))
+    sym (toward_here lists left (c.args.below - c.loop-step._step) c.args.node c.loop-step.at (omega arith)
+    (sym c.parent-above.ensures ∙ c.if-above-node.true))
     ∙ c.loop-step.invariant ∙ toward_all lists c.args.node c.args.below
 
 pub returns-then-at-eq0 : goal.returns-then-at-eq0

@@ -19,11 +19,14 @@ invariant_of-self-2-clause-greatest_due c =
     let with = ap (map (λ rows. rows.items)) (with_items_is m.published c.push_at.new.table (c.push_at.auto.table ∙ c.deref_mut.ensures.len)) in
     let lent = ap (map (λ rows. rows.items)) c.deref_mut.ensures.value in
     let knows : (ℕ → List Cut) → Type 0 = λ published. KnowsDue lists (record s { published = published }) (λ x. get_or c.in_ok-due.due.items x 0) in
-    subst knows (sym (lent_row_pushed (λ rows. map cut_of (map (λ row. row.items) rows)) old _ _ 0 c.in_ok-row.row cut lent (with ∙ c.in_ok-push_at.ensures.ok) inside
-    (λ rows. ap (map cut_of) (map-append (λ row. row.items) rows (c.in_ok-row.row ∷ [])) ∙ map-append cut_of (map (λ row. row.items) rows) (c.in_ok-row.row.items ∷ [])
+    subst knows (sym (lent_row_pushed (λ rows. map cut_of (map (λ row. row.items) rows)) old _ _ 0 c.in_ok-row.row cut lent
+    (with ∙ c.in_ok-push_at.ensures.ok) inside
+    (λ rows. ap (map cut_of) (map-append (λ row. row.items) rows (c.in_ok-row.row ∷ []))
+    ∙ map-append cut_of (map (λ row. row.items) rows) (c.in_ok-row.row.items ∷ [])
     ∙ ap (λ (a : Cut). map cut_of (map (λ row. row.items) rows) ++ a ∷ []) c.in_ok-row.ensures)))
     (knows_same lists _ (due_after lists (market_due m) 0 (clearings s + 1) cut) _
-    (λ x within. c.in_ok-due.ensures.due x within ∙ ap (λ (index : ℕ). due_after lists (market_due m) 0 index (cut_of c.deref.result.now) x) c.next_index.ensures
+    (λ x within. c.in_ok-due.ensures.due x within
+    ∙ ap (λ (index : ℕ). due_after lists (market_due m) 0 index (cut_of c.deref.result.now) x) c.next_index.ensures
     ∙ ap (λ (a : Cut). due_after lists (market_due m) 0 (clearings s + 1) a x) (ap cut_of c.deref.ensures.value ∙ c.in_ok-row.ensures))
     (knows_cleared lists s (market_due m) cut m.greatest_due))
 
@@ -37,6 +40,7 @@ returns-clause-ok c =
     let lent = ap (map (λ rows. rows.items)) c.deref_mut.ensures.value in
     state_same _ _ _ _ _ _ _ _ _ refl
     (lent_row_pushed (λ rows. map cut_of (map (λ row. row.items) rows)) old _ _ 0 c.in_ok-row.row cut lent (with ∙ c.in_ok-push_at.ensures.ok) inside
-    (λ rows. ap (map cut_of) (map-append (λ row. row.items) rows (c.in_ok-row.row ∷ [])) ∙ map-append cut_of (map (λ row. row.items) rows) (c.in_ok-row.row.items ∷ [])
+    (λ rows. ap (map cut_of) (map-append (λ row. row.items) rows (c.in_ok-row.row ∷ []))
+    ∙ map-append cut_of (map (λ row. row.items) rows) (c.in_ok-row.row.items ∷ [])
     ∙ ap (λ (a : Cut). map cut_of (map (λ row. row.items) rows) ++ a ∷ []) c.in_ok-row.ensures))
     refl refl

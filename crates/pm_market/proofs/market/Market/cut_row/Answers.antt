@@ -7,4 +7,5 @@ use Rattle.pm_market.proofs.market.Market.cut_row.Goals as goal
 pub returns : goal.returns
 returns c =
     ap cut_of c.row_from_one.ensures ∙ cut_at_row (map (λ row. row.items) c.row_at.result.now) c.args.number
-    ∙ ap (λ rows. cut_at (map cut_of (map (λ row. row.items) rows)) c.args.number) (c.row_at.ensures ∙ ap (λ table. get_or (map (λ rows. rows.items) table) c.args.node []) c.deref.ensures.value)
+    ∙ ap (λ rows. cut_at (map cut_of (map (λ row. row.items) rows)) c.args.number)
+    (c.row_at.ensures ∙ ap (λ table. get_or (map (λ rows. rows.items) table) c.args.node []) c.deref.ensures.value)

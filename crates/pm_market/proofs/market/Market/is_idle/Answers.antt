@@ -15,12 +15,15 @@ unfolding is_idle
 returns-then-not-is_idle_at c =
     let lists = market_lists c.args.self.now in
     let s = market_state c.args.self.now in
-    let none : all_to (nodes lists) (is_idle_at lists s) ≡ false = all_to_false (nodes lists) (c.loop-before.before + 1) (is_idle_at lists s) (omega arith) (omega arith) (sym c.is_idle_at.ensures ∙ c.if-not-is_idle_at.true) in
+    let none : all_to (nodes lists) (is_idle_at lists s) ≡ false = all_to_false (nodes lists) (c.loop-before.before + 1)
+    (is_idle_at lists s) (omega arith) (omega arith) (sym c.is_idle_at.ensures ∙ c.if-not-is_idle_at.true) in
     sym (ap (λ (b : Bool). b && not (clear_is_legal lists s (clearings s + 1))) none)
 
 pub loop-before-preserved : goal.loop-before-preserved
 loop-before-preserved c =
-    all_to_more c.loop-before.before (c.loop-before.before + 1) (is_idle_at (market_lists c.args.self.now) (market_state c.args.self.now)) refl (sym c.is_idle_at.ensures ∙ c.if-not-is_idle_at.false) c.loop-before.invariant
+    all_to_more c.loop-before.before (c.loop-before.before + 1)
+    (is_idle_at (market_lists c.args.self.now) (market_state c.args.self.now)) refl
+    (sym c.is_idle_at.ensures ∙ c.if-not-is_idle_at.false) c.loop-before.invariant
 
 pub returns : goal.returns
 unfolding is_idle

@@ -13,17 +13,21 @@ loop-before-init c = refl
 pub returns-then-not-is_same_at : goal.returns-then-not-is_same_at
 unfolding is_same_on
 returns-then-not-is_same_at c =
-    let p : ℕ → Bool = λ d. cond (is_leaf_of (market_lists c.args.self.now) c.args.node d) (eqb (cut_of c.args.one.now d) (cut_of c.args.other.now d)) true in
-    sym (all_to_false (nodes (market_lists c.args.self.now)) (c.loop-before.before + 1) p (omega arith) (omega arith) (sym c.is_same_at.ensures ∙ c.if-not-is_same_at.true))
+    let p : ℕ → Bool =
+    λ d. cond (is_leaf_of (market_lists c.args.self.now) c.args.node d) (eqb (cut_of c.args.one.now d) (cut_of c.args.other.now d)) true in
+    sym (all_to_false (nodes (market_lists c.args.self.now)) (c.loop-before.before + 1) p (omega arith) (omega arith)
+    (sym c.is_same_at.ensures ∙ c.if-not-is_same_at.true))
 
 pub loop-before-preserved : goal.loop-before-preserved
 loop-before-preserved c =
-    let p : ℕ → Bool = λ d. cond (is_leaf_of (market_lists c.args.self.now) c.args.node d) (eqb (cut_of c.args.one.now d) (cut_of c.args.other.now d)) true in
+    let p : ℕ → Bool =
+    λ d. cond (is_leaf_of (market_lists c.args.self.now) c.args.node d) (eqb (cut_of c.args.one.now d) (cut_of c.args.other.now d)) true in
     all_to_more c.loop-before.before (c.loop-before.before + 1) p refl (sym c.is_same_at.ensures ∙ c.if-not-is_same_at.false) c.loop-before.invariant
 
 pub returns : goal.returns
 unfolding is_same_on
 returns c =
-    let p : ℕ → Bool = λ d. cond (is_leaf_of (market_lists c.args.self.now) c.args.node d) (eqb (cut_of c.args.one.now d) (cut_of c.args.other.now d)) true in
+    let p : ℕ → Bool =
+    λ d. cond (is_leaf_of (market_lists c.args.self.now) c.args.node d) (eqb (cut_of c.args.one.now d) (cut_of c.args.other.now d)) true in
     let all : nodes (market_lists c.args.self.now) ≡ c.loop-before.before = omega arith in
     sym (ap (λ (n : ℕ). all_to n p) all ∙ c.loop-before.invariant)

@@ -15,7 +15,8 @@ returns-then-is_join c =
 pub loop-back-preserved : goal.loop-back-preserved
 loop-back-preserved c =
     let at : ℕ = c.args.changes - c.loop-back.back in
-    sym (join_below (market_lists c.args.self.now) c.args.device at (c.args.changes - (c.loop-back.back + 1)) (omega arith) (sym c.is_join.ensures ∙ c.if-is_join.false)) ∙ c.loop-back.invariant
+    sym (join_below (market_lists c.args.self.now) c.args.device at (c.args.changes - (c.loop-back.back + 1)) (omega arith)
+    (sym c.is_join.ensures ∙ c.if-is_join.false)) ∙ c.loop-back.invariant
 
 pub returns : goal.returns
 unfolding last_join

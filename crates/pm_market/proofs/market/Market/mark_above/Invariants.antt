@@ -7,5 +7,6 @@ abbrev pub invariant-loop-step : goal.invariant-loop-step
 invariant-loop-step l = record {
   size : length l.marks ≡ length l.fn.marks;
   marks : (k : ℕ) → k < length l.fn.marks →
-      get_or l.marks k false || is_below_in (market_lists l.self) (l.below - l._step) k l.at ≡ get_or l.fn.marks k false || is_below (market_lists l.self) k l.below;
+      get_or l.marks k false || is_below_in (market_lists l.self) (l.below - l._step) k l.at ≡ get_or l.fn.marks k false
+      || is_below (market_lists l.self) k l.below;
 }

@@ -5,7 +5,8 @@ use Rattle.pm_market.proofs.market.Market.may_pass_none.Goals as goal
 
 pub returns-then-not-is_node : goal.returns-then-not-is_node
 returns-then-not-is_node c =
-    ap not c.if-not-is_node.true ∙ sym (no_pass_outside (market_lists c.args.self.now) (market_state c.args.self.now) c.args.node (sym c.is_node.ensures ∙ c.if-not-is_node.true))
+    ap not c.if-not-is_node.true ∙ sym (no_pass_outside (market_lists c.args.self.now) (market_state c.args.self.now) c.args.node
+    (sym c.is_node.ensures ∙ c.if-not-is_node.true))
 
 pub returns-else-not-is_node : goal.returns-else-not-is_node
 returns-else-not-is_node c =

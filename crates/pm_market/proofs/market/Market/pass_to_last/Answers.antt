@@ -30,5 +30,6 @@ returns-clause-ok c =
     let with = ap (map (λ row. row.items)) (with_items_is m.passed c.push_at.new.table (c.push_at.auto.table ∙ c.deref_mut.ensures.len)) in
     let lent = ap (map (λ row. row.items)) c.deref_mut.ensures.value in
     on_success c.push_at.result _ _ (λ pushed.
-    state_same _ _ _ _ _ _ _ _ _ refl refl refl (lent_row_pushed (λ (row : List ℕ). row) old _ _ at c.args.index c.args.index lent (with ∙ pushed) inside (λ row. refl)))
+    state_same _ _ _ _ _ _ _ _ _ refl refl refl
+    (lent_row_pushed (λ (row : List ℕ). row) old _ _ at c.args.index c.args.index lent (with ∙ pushed) inside (λ row. refl)))
     c.push_at.ensures.ok

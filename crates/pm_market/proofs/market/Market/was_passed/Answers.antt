@@ -3,4 +3,5 @@ use Rattle.pm_market.specs.Legality.{is_one_of}
 use Rattle.pm_market.proofs.market.Market.was_passed.Goals as goal
 
 pub returns : goal.returns
-returns c = c.is_among.ensures ∙ ap (λ (l : List ℕ). is_one_of l c.args.index) (c.row_at.ensures ∙ ap (λ table. get_or (map (λ row. row.items) table) c.args.node []) c.deref.ensures.value)
+returns c = c.is_among.ensures ∙ ap (λ (l : List ℕ). is_one_of l c.args.index)
+    (c.row_at.ensures ∙ ap (λ table. get_or (map (λ row. row.items) table) c.args.node []) c.deref.ensures.value)

@@ -6,7 +6,8 @@ use Rattle.pm_plan.proofs.building.events.add_events.Goals as goal
 
 pub returns-in_err-add_event-clause-made : goal.returns-in_err-add_event-clause-made
 returns-in_err-add_event-clause-made c =
-    makes_refused (add_event c.args.phase) event_part c.args.draft.now c.args.specs.now c.loop-spec.spec-index (c.loop-spec.number + 1) c.spec-item.result c.loop-spec.draft _ _ _
+    makes_refused (add_event c.args.phase) event_part c.args.draft.now c.args.specs.now c.loop-spec.spec-index
+    (c.loop-spec.number + 1) c.spec-item.result c.loop-spec.draft _ _ _
     (omega arith) (omega arith) c.spec-item.is c.loop-spec.invariant.made c.in_err-add_event.ensures.made c.from_residual.ensures.1
 
 pub loop-spec-preserved : goal.loop-spec-preserved
@@ -16,9 +17,11 @@ loop-spec-preserved c = record {
   entries = c.in_ok-add_event.ensures.entries ∙ c.loop-spec.invariant.entries;
   arrays = omega (arith, c.in_ok-add_event.ensures.arrays);
   made =
-      made_more (add_event c.args.phase) event_part c.args.draft.now c.args.specs.now c.loop-spec.spec-index (c.loop-spec.number + 1) c.spec-item.result c.loop-spec.draft _
+      made_more (add_event c.args.phase) event_part c.args.draft.now c.args.specs.now c.loop-spec.spec-index
+      (c.loop-spec.number + 1) c.spec-item.result c.loop-spec.draft _
       (omega arith) (omega arith) c.spec-item.is c.loop-spec.invariant.made c.in_ok-add_event.ensures.made;
 }
 
 pub returns-clause-made : goal.returns-clause-made
-returns-clause-made c = made_all (add_event c.args.phase) event_part c.args.draft.now c.args.specs.now c.loop-spec.spec-index c.loop-spec.draft (omega arith) c.loop-spec.invariant.made
+returns-clause-made c = made_all (add_event c.args.phase) event_part c.args.draft.now c.args.specs.now c.loop-spec.spec-index
+    c.loop-spec.draft (omega arith) c.loop-spec.invariant.made

@@ -22,13 +22,15 @@ returns-in_err-add_nodes-clause-draft c =
     let later : List PhasePart = map phase_part c.args.phases.now in
     Gives-err refusal_in _ _ _ _ c.from_residual-in_err-add_nodes.ensures.1
     (nodes_refused c.args.basis c.args.tree parts later (refusal_in c.in_err-add_nodes.field-0.0) (omega (arith, length-map c.args.phases.now phase_part))
-    (subst (λ (plan : PlanData). Refuses (refusal_in c.in_err-add_nodes.field-0.0) (fold_from 1 add_node plan parts)) c.in_ok-draft.ensures.draft c.in_err-add_nodes.ensures.made))
+    (subst (λ (plan : PlanData). Refuses (refusal_in c.in_err-add_nodes.field-0.0) (fold_from 1 add_node plan parts))
+    c.in_ok-draft.ensures.draft c.in_err-add_nodes.ensures.made))
 
 pub returns-in_err-add_phases-clause-draft : goal.returns-in_err-add_phases-clause-draft
 returns-in_err-add_phases-clause-draft c =
     let parts : List NodePart = map node_part c.args.nodes.now in
     let later : List PhasePart = map phase_part c.args.phases.now in
     Gives-err refusal_in _ _ _ _ c.from_residual-in_err-add_phases.ensures.1
-    (phases_refused c.args.basis c.args.tree parts later c.add_nodes.new.draft (refusal_in c.in_err-add_phases.field-0.0) (omega (arith, length-map c.args.phases.now phase_part))
+    (phases_refused c.args.basis c.args.tree parts later c.add_nodes.new.draft (refusal_in c.in_err-add_phases.field-0.0)
+    (omega (arith, length-map c.args.phases.now phase_part))
     (subst (λ (plan : PlanData). fold_from 1 add_node plan parts ≡ Ok c.add_nodes.new.draft) c.in_ok-draft.ensures.draft c.in_ok-add_nodes.ensures.made)
     c.in_err-add_phases.ensures)

@@ -6,7 +6,8 @@ use Rattle.pm_plan.proofs.building.nodes.add_nodes.Goals as goal
 
 pub returns-in_err-add_node-clause-made : goal.returns-in_err-add_node-clause-made
 returns-in_err-add_node-clause-made c =
-    makes_refused add_node node_part c.args.draft.now c.args.specs.now c.loop-spec.spec-index (c.loop-spec.number + 1) c.spec-item.result c.loop-spec.draft _ _ _
+    makes_refused add_node node_part c.args.draft.now c.args.specs.now c.loop-spec.spec-index
+    (c.loop-spec.number + 1) c.spec-item.result c.loop-spec.draft _ _ _
     (omega arith) (omega arith) c.spec-item.is c.loop-spec.invariant.made c.in_err-add_node.ensures.made c.from_residual.ensures.1
 
 pub loop-spec-preserved : goal.loop-spec-preserved
@@ -21,4 +22,5 @@ loop-spec-preserved c = record {
 }
 
 pub returns-clause-made : goal.returns-clause-made
-returns-clause-made c = made_all add_node node_part c.args.draft.now c.args.specs.now c.loop-spec.spec-index c.loop-spec.draft (omega arith) c.loop-spec.invariant.made
+returns-clause-made c = made_all add_node node_part c.args.draft.now c.args.specs.now c.loop-spec.spec-index c.loop-spec.draft
+    (omega arith) c.loop-spec.invariant.made

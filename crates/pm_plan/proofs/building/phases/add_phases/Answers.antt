@@ -6,7 +6,8 @@ use Rattle.pm_plan.proofs.building.phases.add_phases.Goals as goal
 
 pub returns-in_err-add_phase : goal.returns-in_err-add_phase
 returns-in_err-add_phase c =
-    makes_refused add_phase phase_part c.args.draft.now c.args.specs.now c.loop-spec.spec-index (c.loop-spec.number + 1) c.spec-item.result c.loop-spec.draft _ _ _
+    makes_refused add_phase phase_part c.args.draft.now c.args.specs.now c.loop-spec.spec-index
+    (c.loop-spec.number + 1) c.spec-item.result c.loop-spec.draft _ _ _
     (omega arith) (omega arith) c.spec-item.is c.loop-spec.invariant.made c.in_err-add_phase.ensures.made c.from_residual.ensures.1
 
 pub loop-spec-preserved : goal.loop-spec-preserved

@@ -9,7 +9,8 @@ pub returns-then-is_limited : goal.returns-then-is_limited
 returns-then-is_limited c =
     let plan = c.args.self.now in
     let up : c.parent-above.result.0 ≡ parent plan c.loop-above.above.0 = c.parent-above.ensures.parent in
-    let limited : is_limited plan (parent plan c.loop-above.above.0) ≡ true = ap (is_limited plan) (sym up) ∙ sym c.is_limited.ensures ∙ c.if-is_limited.true in
+    let limited : is_limited plan (parent plan c.loop-above.above.0) ≡ true = ap (is_limited plan) (sym up) ∙ sym c.is_limited.ensures
+    ∙ c.if-is_limited.true in
     let is : group plan c.loop-above.above.0 ≡ parent plan c.loop-above.above.0 = group_is_parent plan c.loop-above.above.0 (omega arith) limited in
     let some : 1 ≤ parent plan c.loop-above.above.0 = limited_is_no_root plan (parent plan c.loop-above.above.0) limited in
     let there : 1 ≤ group plan c.args.node.0 = omega (arith, c.loop-above.invariant.same) in
@@ -19,7 +20,8 @@ pub loop-above-preserved : goal.loop-above-preserved
 loop-above-preserved c =
     let plan = c.args.self.now in
     let up : c.parent-above.result.0 ≡ parent plan c.loop-above.above.0 = c.parent-above.ensures.parent in
-    let limited : is_limited plan (parent plan c.loop-above.above.0) ≡ false = ap (is_limited plan) (sym up) ∙ sym c.is_limited.ensures ∙ c.if-is_limited.false in
+    let limited : is_limited plan (parent plan c.loop-above.above.0) ≡ false = ap (is_limited plan) (sym up)
+    ∙ sym c.is_limited.ensures ∙ c.if-is_limited.false in
     record {
       inside = omega arith;
       before = omega arith;

@@ -8,12 +8,14 @@ pub overflow_mul-result : goal.overflow_mul-result
 overflow_mul-result c =
     let is = subst IsPlan c.self.view_is c.self.invariant in
     let nodes = c.node_count.ensures ∙ ap (λ (p : PlanData). length p.nodes) c.self.view_is in
-    let few = mul-le-mul {n₁ = c.changes.result} {m₁ = c.node_count.result + 15} {n₂ = most_changes} {m₂ = 271} (omega (arith, c.changes.ensures, is.within.few_changes)) (omega (arith, nodes, is.nodes.few)) in
+    let few = mul-le-mul {n₁ = c.changes.result} {m₁ = c.node_count.result + 15} {n₂ = most_changes} {m₂ = 271}
+    (omega (arith, c.changes.ensures, is.within.few_changes)) (omega (arith, nodes, is.nodes.few)) in
     omega (arith, few)
 
 pub overflow_add-result-2 : goal.overflow_add-result-2
 overflow_add-result-2 c =
     let is = subst IsPlan c.self.view_is c.self.invariant in
     let nodes = c.node_count.ensures ∙ ap (λ (p : PlanData). length p.nodes) c.self.view_is in
-    let few = mul-le-mul {n₁ = c.changes.result} {m₁ = c.node_count.result + 15} {n₂ = most_changes} {m₂ = 271} (omega (arith, c.changes.ensures, is.within.few_changes)) (omega (arith, nodes, is.nodes.few)) in
+    let few = mul-le-mul {n₁ = c.changes.result} {m₁ = c.node_count.result + 15} {n₂ = most_changes} {m₂ = 271}
+    (omega (arith, c.changes.ensures, is.within.few_changes)) (omega (arith, nodes, is.nodes.few)) in
     omega (arith, few, c.phase_count.ensures ∙ ap phases c.self.view_is, is.within.few_phases)

@@ -11,14 +11,19 @@ pub invariant_of-result : goal.invariant_of-result
 invariant_of-result c =
     checked_plan-keeps c.args.basis c.args.tree (map node_part c.args.nodes.items) (map phase_part c.args.phases.items) c.in_ok-draft.draft
     c.in_ok-draft.ensures.sound c.in_ok-draft.ensures.accepted c.in_ok-draft.ensures.lawful c.requires.nodes
-    (ap (λ (nodes : List NodeSpec). checked_plan c.args.basis c.args.tree (map node_part nodes) (map phase_part c.args.phases.items)) (sym c.deref.ensures.value)
-    ∙ ap (λ (phases : List PhaseSpec). checked_plan c.args.basis c.args.tree (map node_part c.deref.result.now) (map phase_part phases)) (sym c.deref-2.ensures.value)
+    (ap (λ (nodes : List NodeSpec). checked_plan c.args.basis c.args.tree (map node_part nodes) (map phase_part c.args.phases.items))
+    (sym c.deref.ensures.value)
+    ∙ ap (λ (phases : List PhaseSpec). checked_plan c.args.basis c.args.tree (map node_part c.deref.result.now)
+    (map phase_part phases)) (sym c.deref-2.ensures.value)
     ∙ c.in_ok-draft.ensures.draft)
 
 pub returns-clause-phases : goal.returns-clause-phases
 returns-clause-phases c =
     checked_plan-phases c.args.basis c.args.tree (map node_part c.args.nodes.items) (map phase_part c.args.phases.items) c.in_ok-draft.draft
-    c.in_ok-draft.ensures.sound c.in_ok-draft.ensures.lawful c.requires.nodes (ap (λ (nodes : List NodeSpec). checked_plan c.args.basis c.args.tree (map node_part nodes) (map phase_part c.args.phases.items)) (sym c.deref.ensures.value)
-    ∙ ap (λ (phases : List PhaseSpec). checked_plan c.args.basis c.args.tree (map node_part c.deref.result.now) (map phase_part phases)) (sym c.deref-2.ensures.value)
+    c.in_ok-draft.ensures.sound c.in_ok-draft.ensures.lawful c.requires.nodes
+    (ap (λ (nodes : List NodeSpec). checked_plan c.args.basis c.args.tree (map node_part nodes)
+    (map phase_part c.args.phases.items)) (sym c.deref.ensures.value)
+    ∙ ap (λ (phases : List PhaseSpec). checked_plan c.args.basis c.args.tree (map node_part c.deref.result.now)
+    (map phase_part phases)) (sym c.deref-2.ensures.value)
     ∙ c.in_ok-draft.ensures.draft)
     ∙ length-map c.args.phases.items phase_part

@@ -9,8 +9,11 @@ invariant_of-result c =
     let points = c.args.points.items in
     let some : 1 ≤ length points = subst (λ (ps : List Point). 1 ≤ length ps) c.deref.ensures.value (search rules) in
     let few : length points ≤ max_points = subst (λ (ps : List Point). length ps ≤ max_points) c.deref.ensures.value (omega arith) in
-    let fall : length points ≤ first_price_fall points = subst (λ (ps : List Point). length ps ≤ first_price_fall ps) c.deref.ensures.value (omega arith) in
+    let fall : length points ≤ first_price_fall points =
+    subst (λ (ps : List Point). length ps ≤ first_price_fall ps) c.deref.ensures.value (omega arith) in
     let rise : length points ≤ first_rise points = subst (λ (ps : List Point). length ps ≤ first_rise ps) c.deref-2.ensures.value (omega arith) in
-    let large : length points ≤ first_large_demand points = subst (λ (ps : List Point). length ps ≤ first_large_demand ps) c.deref-3.ensures.value (omega arith) in
-    let outside : length points ≤ first_outside c.args.basis.now points = subst (λ (ps : List Point). length ps ≤ first_outside c.args.basis.now ps) c.deref-4.ensures.value (omega arith) in
+    let large : length points ≤ first_large_demand points =
+    subst (λ (ps : List Point). length ps ≤ first_large_demand ps) c.deref-3.ensures.value (omega arith) in
+    let outside : length points ≤ first_outside c.args.basis.now points =
+    subst (λ (ps : List Point). length ps ≤ first_outside c.args.basis.now ps) c.deref-4.ensures.value (omega arith) in
     passed_all c.args.basis.now points c.find_outside-at.ensures.sound some few fall rise large outside

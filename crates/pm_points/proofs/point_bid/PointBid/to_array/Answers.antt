@@ -30,7 +30,8 @@ pub returns-clause-falls : goal.returns-clause-falls
 returns-clause-falls c =
     let points = c.args.self.now in
     let basis = c.args.basis.now in
-    let array : c.loop-step.array ≡ array_of_points points basis = filled_all points basis c.loop-step.array c.loop-step.step (omega arith) c.loop-step.invariant.filled in
+    let array : c.loop-step.array ≡ array_of_points points basis =
+    filled_all points basis c.loop-step.array c.loop-step.step (omega arith) c.loop-step.invariant.filled in
     let bid : IsPointBid points = subst (λ (ps : List Point). IsPointBid ps) c.self.view_is c.self.invariant in
     subst (λ (list : List ℤ). NeverRises list) (sym array) (array_falls points basis bid c.steps-steps.ensures.sound)
 
@@ -38,6 +39,7 @@ pub returns-clause-within : goal.returns-clause-within
 returns-clause-within c =
     let points = c.args.self.now in
     let basis = c.args.basis.now in
-    let array : c.loop-step.array ≡ array_of_points points basis = filled_all points basis c.loop-step.array c.loop-step.step (omega arith) c.loop-step.invariant.filled in
+    let array : c.loop-step.array ≡ array_of_points points basis =
+    filled_all points basis c.loop-step.array c.loop-step.step (omega arith) c.loop-step.invariant.filled in
     let bid : IsPointBid points = subst (λ (ps : List Point). IsPointBid ps) c.self.view_is c.self.invariant in
     subst (λ (list : List ℤ). AllWithinLimit demand_limit list) (sym array) (array_within points basis bid)

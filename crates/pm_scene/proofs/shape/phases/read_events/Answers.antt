@@ -16,9 +16,12 @@ unfolding events_of
 returns-in_err-read_event c =
     let f = λ (n : ℕ) (v : Value). numbered_event c.args.phase n (view v) in
     let number : c.saturating_add-number.result ≡ min (1 + c.loop-value.value-index) 4294967295 = omega (arith, c.saturating_add-number.ensures) in
-    let here = subst (λ (v : Value). Refuses (refusal_in c.in_err-read_event.field-0.0) (numbered_event c.args.phase (1 + c.loop-value.value-index) (view v))) c.value-item.is
-    (subst (λ (n : ℕ). Refuses (refusal_in c.in_err-read_event.field-0.0) (event_shape (Event c.args.phase n) (view c.value-item.result))) number c.in_err-read_event.ensures) in
-    Gives-err refusal_in _ _ _ _ c.from_residual.ensures.1 (subst (Refuses (refusal_in c.in_err-read_event.field-0.0)) (each_from-map 1 (numbered_event c.args.phase) view _)
+    let here = subst (λ (v : Value). Refuses (refusal_in c.in_err-read_event.field-0.0)
+    (numbered_event c.args.phase (1 + c.loop-value.value-index) (view v))) c.value-item.is
+    (subst (λ (n : ℕ). Refuses (refusal_in c.in_err-read_event.field-0.0)
+    (event_shape (Event c.args.phase n) (view c.value-item.result))) number c.in_err-read_event.ensures) in
+    Gives-err refusal_in _ _ _ _ c.from_residual.ensures.1
+    (subst (Refuses (refusal_in c.in_err-read_event.field-0.0)) (each_from-map 1 (numbered_event c.args.phase) view _)
     (Refuses-each_from 1 f _ _ _ _ _ c.loop-value-test.true c.loop-value.invariant.read here))
 
 pub loop-value-preserved : goal.loop-value-preserved
@@ -36,4 +39,5 @@ loop-value-preserved c =
 
 pub returns : goal.returns
 unfolding events_of
-returns c = sym (each_from-map 1 (numbered_event c.args.phase) view _) ∙ ap (each_from 1 (λ n (v : Value). numbered_event c.args.phase n (view v))) (sym (take_all _ _ c.loop-value-test.false)) ∙ c.loop-value.invariant.read
+returns c = sym (each_from-map 1 (numbered_event c.args.phase) view _)
+    ∙ ap (each_from 1 (λ n (v : Value). numbered_event c.args.phase n (view v))) (sym (take_all _ _ c.loop-value-test.false)) ∙ c.loop-value.invariant.read

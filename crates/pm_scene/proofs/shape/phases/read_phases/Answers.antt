@@ -15,7 +15,8 @@ unfolding phases_of
 returns-in_err-read_phase c =
     let f = λ (n : ℕ) (v : Value). numbered_phase n (view v) in
     let number : c.saturating_add-number.result ≡ min (1 + c.loop-value.value-index) 4294967295 = omega (arith, c.saturating_add-number.ensures) in
-    let here = subst (λ (v : Value). Refuses (refusal_in c.in_err-read_phase.field-0.0) (numbered_phase (1 + c.loop-value.value-index) (view v))) c.value-item.is
+    let here = subst (λ (v : Value). Refuses (refusal_in c.in_err-read_phase.field-0.0)
+    (numbered_phase (1 + c.loop-value.value-index) (view v))) c.value-item.is
     (subst (λ (n : ℕ). Refuses (refusal_in c.in_err-read_phase.field-0.0) (phase_shape n (view c.value-item.result))) number c.in_err-read_phase.ensures) in
     Gives-err refusal_in _ _ _ _ c.from_residual.ensures.1 (subst (Refuses (refusal_in c.in_err-read_phase.field-0.0)) (each_from-map 1 numbered_phase view _)
     (Refuses-each_from 1 f _ _ _ _ _ c.loop-value-test.true c.loop-value.invariant.read here))
@@ -35,4 +36,5 @@ loop-value-preserved c =
 
 pub returns : goal.returns
 unfolding phases_of
-returns c = sym (each_from-map 1 numbered_phase view _) ∙ ap (each_from 1 (λ n (v : Value). numbered_phase n (view v))) (sym (take_all _ _ c.loop-value-test.false)) ∙ c.loop-value.invariant.read
+returns c = sym (each_from-map 1 numbered_phase view _)
+    ∙ ap (each_from 1 (λ n (v : Value). numbered_phase n (view v))) (sym (take_all _ _ c.loop-value-test.false)) ∙ c.loop-value.invariant.read

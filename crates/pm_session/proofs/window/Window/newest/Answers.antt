@@ -7,4 +7,5 @@ pub returns-clause-record : goal.returns-clause-record
 returns-clause-record c =
     let read : c.index.result.now ≡ record_in c.self.inside.places.items c.self.inside.last =
     read_in c.self.inside.places.items c.self.inside.last c.index.result.now c.self.invariant.size c.index.ensures in
-    rw (← c.self.view_is) (read ∙ newest_kept c.self.inside.children c.self.inside.steps c.self.inside.places.items c.self.inside.answered c.self.inside.last (ring_of c.self.inside c.self.invariant))
+    rw (← c.self.view_is) (read ∙ newest_kept c.self.inside.children c.self.inside.steps c.self.inside.places.items
+    c.self.inside.answered c.self.inside.last (ring_of c.self.inside c.self.invariant))

@@ -11,7 +11,8 @@ invariant_of-self c =
     let room : c.self.inside.last - c.self.inside.answered < window_size = search rules in
     let next : c.args.number ≡ c.self.inside.last + 1 = search rules in
     let fits : Fits (window_of c.self.inside) sent = record { children = search rules; steps = search rules } in
-    let ring = ring_sent c.self.inside.children c.self.inside.steps c.self.inside.places.items c.self.inside.answered c.self.inside.last sent (ring_of c.self.inside c.self.invariant) room next fits in
+    let ring = ring_sent c.self.inside.children c.self.inside.steps c.self.inside.places.items c.self.inside.answered
+    c.self.inside.last sent (ring_of c.self.inside c.self.invariant) room next fits in
     rw c.write_limited.ensures (record { size = ring.size; each = ring.each; sound = ring.sound })
 
 pub returns : goal.returns
@@ -19,4 +20,8 @@ returns c =
     let sent : Sent = record { number = c.args.number; heads = c.args.children.now; sum = Some c.args.sum.now } in
     let room : c.self.inside.last - c.self.inside.answered < window_size = search rules in
     let next : c.args.number ≡ c.self.inside.last + 1 = search rules in
-    record { sent = rw (c.write_limited.ensures, ← c.self.view_is) (record_sent c.self.inside.children c.self.inside.steps c.self.inside.places.items c.self.inside.answered c.self.inside.last sent (ring_of c.self.inside c.self.invariant) room next) }
+    record {
+      sent = rw (c.write_limited.ensures, ← c.self.view_is)
+          (record_sent c.self.inside.children c.self.inside.steps c.self.inside.places.items c.self.inside.answered c.self.inside.last
+          sent (ring_of c.self.inside c.self.invariant) room next);
+    }

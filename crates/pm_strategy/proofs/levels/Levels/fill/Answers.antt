@@ -14,4 +14,7 @@ loop-step-preserved c =
     })
 
 pub returns : goal.returns
-returns c = record { bid = progress_all _ _ _ c.loop-step.step (omega arith) (c.loop-step.invariant.kept ∙ sym (length-by_step _ _)) c.loop-step.invariant.progress }
+returns c = record {
+  bid = progress_all _ _ _ c.loop-step.step (omega arith) (c.loop-step.invariant.kept ∙ sym (length-by_step _ _))
+      c.loop-step.invariant.progress;
+}

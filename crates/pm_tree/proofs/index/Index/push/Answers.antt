@@ -10,7 +10,10 @@ returns-clause-names c =
     let names = c.args.self.now.names.keys in
     let value = c.in_ok-from_str.field-0 in
     let same : string_bytes value ≡ c.args.name.now = c.in_ok-from_str.ensures.ok in
-    let unknown : position (bytes_eq (string_bytes value)) (map string_bytes names) ≡ None = ap (λ (name : List ℕ). position (bytes_eq name) (map string_bytes names)) same ∙ c.requires in
-    let absent = list_any-map (bytes_eq (string_bytes value)) string_bytes names ∙ list_any-position (bytes_eq (string_bytes value)) (map string_bytes names) unknown in
-    let keys : c.insert.new.self.keys ≡ names ++ value ∷ [] = c.in_ok-insert.ensures.keys ∙ ap (λ b. if b then names else names ++ value ∷ []) absent in
+    let unknown : position (bytes_eq (string_bytes value)) (map string_bytes names) ≡ None =
+    ap (λ (name : List ℕ). position (bytes_eq name) (map string_bytes names)) same ∙ c.requires in
+    let absent = list_any-map (bytes_eq (string_bytes value)) string_bytes names
+    ∙ list_any-position (bytes_eq (string_bytes value)) (map string_bytes names) unknown in
+    let keys : c.insert.new.self.keys ≡ names ++ value ∷ [] = c.in_ok-insert.ensures.keys
+    ∙ ap (λ b. if b then names else names ++ value ∷ []) absent in
     ap (map string_bytes) keys ∙ map-append string_bytes names (value ∷ []) ∙ ap (λ (name : List ℕ). map string_bytes names ++ name ∷ []) same

@@ -1,4 +1,5 @@
-use Rattle.std.proofs.Common.{◌≡◌, ◌≤◌, ◌∙◌, ap, subst, inl, length, arith, List, [], map, slice_get, string_bytes, Err, None, Some, ◌⊎◌}
+use Rattle.std.proofs.Common.{◌≡◌, ◌≤◌, ◌∙◌, ap, subst, inl, length, arith, List, [], map, slice_get, string_bytes, Err, None, Some}
+use Rattle.std.proofs.Common.{◌⊎◌}
 use Rattle.std.proofs.lemmas.Result.{err_from_is_err_and}
 use Rattle.pm_base.specs.Limits.{most_nodes}
 use Rattle.pm_tree.specs.Shape.{IsTree, children_at, leaves_below_at, place_at}
@@ -22,32 +23,44 @@ pub returns-in_err-index : goal.returns-in_err-index
 returns-in_err-index c =
     let p = err_from_is_err_and c.from_residual.result c.from_residual.ensures.1 in
     let fault = c.in_err-index.field-0.0 in
-    let refused = subst (λ (es : List TreeEntry). (slice_get (refusals_after [] (entries_of es)) 0 ≡ Some fault) ⊎ (fault ≡ NoMemory)) c.deref.ensures.value c.in_err-index.ensures.refused in
-    record { tree = entry_refused (entries_of c.args.entries.items) c.from_residual.result fault (omega (arith, length-entries_of c.args.entries.items, c.args.entries.ok)) (p.1 ∙ ap (λ (e : TreeFault). Err e) p.2) refused }
+    let refused = subst (λ (es : List TreeEntry). (slice_get (refusals_after [] (entries_of es)) 0 ≡ Some fault) ⊎ (fault ≡ NoMemory))
+    c.deref.ensures.value c.in_err-index.ensures.refused in
+    record {
+      tree = entry_refused (entries_of c.args.entries.items) c.from_residual.result fault
+          (omega (arith, length-entries_of c.args.entries.items, c.args.entries.ok)) (p.1 ∙ ap (λ (e : TreeFault). Err e) p.2) refused;
+    }
 
 pub collect_children-requires-clause-few : goal.collect_children-requires-clause-few
 collect_children-requires-clause-few c =
-    let index = subst (λ (es : List TreeEntry). IsIndexOf (entries_of es) (map string_bytes c.in_ok-index.index.names.keys) c.in_ok-index.index.nodes.items) c.deref.ensures.value c.in_ok-index.ensures.index in
+    let index = subst (λ (es : List TreeEntry). IsIndexOf (entries_of es) (map string_bytes c.in_ok-index.index.names.keys)
+    c.in_ok-index.index.nodes.items) c.deref.ensures.value c.in_ok-index.ensures.index in
     omega (arith, ap length c.deref-2.ensures.value, length-index _ _ _ index, length-entries_of c.args.entries.items, c.args.entries.ok)
 
 pub collect_leaves-requires-clause-few : goal.collect_leaves-requires-clause-few
 collect_leaves-requires-clause-few c =
-    let index = subst (λ (es : List TreeEntry). IsIndexOf (entries_of es) (map string_bytes c.in_ok-index.index.names.keys) c.in_ok-index.index.nodes.items) c.deref.ensures.value c.in_ok-index.ensures.index in
+    let index = subst (λ (es : List TreeEntry). IsIndexOf (entries_of es) (map string_bytes c.in_ok-index.index.names.keys)
+    c.in_ok-index.index.nodes.items) c.deref.ensures.value c.in_ok-index.ensures.index in
     omega (arith, ap length c.deref-3.ensures.value, length-index _ _ _ index, length-entries_of c.args.entries.items, c.args.entries.ok)
 
 pub invariant_of-result : goal.invariant_of-result
 invariant_of-result c =
     let few : length (entries_of c.args.entries.items) ≤ most_nodes = omega (arith, length-entries_of c.args.entries.items, c.args.entries.ok) in
-    let accepted = subst (λ (es : List TreeEntry). slice_get (refusals_after [] (entries_of es)) 0 ≡ None) c.deref.ensures.value c.in_ok-index.ensures.accepted in
+    let accepted = subst (λ (es : List TreeEntry). slice_get (refusals_after [] (entries_of es)) 0 ≡ None) c.deref.ensures.value
+    c.in_ok-index.ensures.accepted in
     kept_all _ _ _ _ _ _ (first_refusal-few (entries_of c.args.entries.items) few ∙ accepted) few
     (subst (λ (es : List TreeEntry). IsTree (parents_of (entries_of es)) (leaves_of (entries_of es))) c.deref.ensures.value c.in_ok-index.ensures.lawful)
-    (subst (λ (es : List TreeEntry). IsIndexOf (entries_of es) (map string_bytes c.in_ok-index.index.names.keys) c.in_ok-index.index.nodes.items) c.deref.ensures.value c.in_ok-index.ensures.index)
-    (subst (λ (ns : List Node). AreLists (length ns) (children_at (shape_parents ns)) (node_lists c.in_ok-children.children.lists.items)) c.deref-2.ensures.value c.in_ok-children.ensures.lists)
-    (subst (λ (ns : List Node). AreNumbers (length ns) (place_at (shape_parents ns)) c.in_ok-children.children.places.items) c.deref-2.ensures.value c.in_ok-children.ensures.places)
-    (subst (λ (ns : List Node). AreLists (length ns) (leaves_below_at (shape_parents ns) (shape_leaves ns)) (node_lists c.in_ok-leaves_below.leaves_below.items)) c.deref-3.ensures.value c.in_ok-leaves_below.ensures)
+    (subst (λ (es : List TreeEntry). IsIndexOf (entries_of es) (map string_bytes c.in_ok-index.index.names.keys)
+    c.in_ok-index.index.nodes.items) c.deref.ensures.value c.in_ok-index.ensures.index)
+    (subst (λ (ns : List Node). AreLists (length ns) (children_at (shape_parents ns))
+    (node_lists c.in_ok-children.children.lists.items)) c.deref-2.ensures.value c.in_ok-children.ensures.lists)
+    (subst (λ (ns : List Node). AreNumbers (length ns) (place_at (shape_parents ns)) c.in_ok-children.children.places.items)
+    c.deref-2.ensures.value c.in_ok-children.ensures.places)
+    (subst (λ (ns : List Node). AreLists (length ns) (leaves_below_at (shape_parents ns) (shape_leaves ns))
+    (node_lists c.in_ok-leaves_below.leaves_below.items)) c.deref-3.ensures.value c.in_ok-leaves_below.ensures)
 
 pub returns : goal.returns
 returns c =
     let few : length (entries_of c.args.entries.items) ≤ most_nodes = omega (arith, length-entries_of c.args.entries.items, c.args.entries.ok) in
-    let accepted = subst (λ (es : List TreeEntry). slice_get (refusals_after [] (entries_of es)) 0 ≡ None) c.deref.ensures.value c.in_ok-index.ensures.accepted in
+    let accepted = subst (λ (es : List TreeEntry). slice_get (refusals_after [] (entries_of es)) 0 ≡ None) c.deref.ensures.value
+    c.in_ok-index.ensures.accepted in
     record { tree = inl (tree_accepted (entries_of c.args.entries.items) (first_refusal-few (entries_of c.args.entries.items) few ∙ accepted)) }

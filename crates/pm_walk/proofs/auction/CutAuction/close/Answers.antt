@@ -13,6 +13,7 @@ returns-clause-auction c =
     record {
       run = run;
       begun = λ d leaf. omega (arith, c.requires.ended d leaf);
-      powers = subst (λ (powers : List ℤ). ArePowers plan (end_cut plan c.args.phase) powers) (sym (c.copy_from_slice.ensures.items ∙ c.deref.ensures.value))
+      powers = subst (λ (powers : List ℤ). ArePowers plan (end_cut plan c.args.phase) powers)
+          (sym (c.copy_from_slice.ensures.items ∙ c.deref.ensures.value))
           (subst (λ (cut : Cut). ArePowers plan cut c.args.self.now.run.clearing.powers.items) ended run.clearing.powers);
     }

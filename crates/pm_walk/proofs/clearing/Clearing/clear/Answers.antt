@@ -17,7 +17,8 @@ returns-clause-clearing c =
     let cut = cut_made c.args.standing.now.progress in
     let steps = c.args.self.now.group_steps in
     let powers = c.args.self.now.powers in
-    let many_steps : length c.fill_group_steps.new.group_steps ≡ steps.len = omega (arith, c.fill_group_steps.ensures.one_each, c.requires.room.group_steps, steps.ok) in
+    let many_steps : length c.fill_group_steps.new.group_steps ≡ steps.len =
+    omega (arith, c.fill_group_steps.ensures.one_each, c.requires.room.group_steps, steps.ok) in
     let many_powers : length c.fill_powers.new.powers ≡ powers.len = omega (arith, c.fill_powers.ensures.one_each, c.requires.room.powers, powers.ok) in
     record {
       total = c.fill_total.ensures.total;

@@ -10,5 +10,7 @@ pub returns : goal.returns
 returns c =
     let plan = c.args.plan.now in
     let standing = c.in_ok-standing.standing in
-    let cut : cut_made standing.progress ≡ end_cut plan 0 = none_made plan (cut_made standing.progress) c.in_ok-standing.ensures.stands.sound c.in_ok-standing.ensures.none in
-    if_both (IsRun plan) (λ (run : Run). run.standing ≡ standing) (IsAtEnd plan 0) (run_at plan 0 standing cut) c.over.result c.over.ensures.run c.over.ensures.standing
+    let cut : cut_made standing.progress ≡ end_cut plan 0 =
+    none_made plan (cut_made standing.progress) c.in_ok-standing.ensures.stands.sound c.in_ok-standing.ensures.none in
+    if_both (IsRun plan) (λ (run : Run). run.standing ≡ standing) (IsAtEnd plan 0) (run_at plan 0 standing cut) c.over.result
+    c.over.ensures.run c.over.ensures.standing

@@ -8,4 +8,5 @@ returns-then-many-eq0-clause-done c = omega (arith, end-rises c.args.plan.now (c
 
 pub make_changes-here-requires-clause-reached : goal.make_changes-here-requires-clause-reached
 make_changes-here-requires-clause-reached c =
-    subst (HasCome c.args.plan.now c.args.device.0) (sym c.progress-before.ensures.progress) (c.requires.stands.progress.reached c.args.device.0 c.requires.inside)
+    subst (HasCome c.args.plan.now c.args.device.0) (sym c.progress-before.ensures.progress)
+    (c.requires.stands.progress.reached c.args.device.0 c.requires.inside)

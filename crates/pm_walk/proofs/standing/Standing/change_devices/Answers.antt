@@ -21,7 +21,8 @@ pub loop-number-init : goal.loop-number-init
 loop-number-init c = record {
   stands = c.requires.stands;
   between = record {
-    done = λ x below. first_node (cut_made c.args.self.now.progress) (end_cut c.args.plan.now c.args.phase) x below (made-zero c.args.plan.now c.args.self.now.progress c.requires.stands.progress ∙ sym (end-zero c.args.plan.now c.args.phase));
+    done = λ x below. first_node (cut_made c.args.self.now.progress) (end_cut c.args.plan.now c.args.phase) x below
+        (made-zero c.args.plan.now c.args.self.now.progress c.requires.stands.progress ∙ sym (end-zero c.args.plan.now c.args.phase));
     left = λ x from. ap (λ (cut : Cut). cut x) c.requires.begun;
   };
   same = λ _. refl;
@@ -38,11 +39,14 @@ loop-number-preserved c =
           let made_changes = w.change_device-changed.ensures in
           record {
             stands = subst (IsStanding plan) (sym w.self-is) made_changes.stands;
-            between = subst (λ (s : StandingValue). AreBetween (n + 1) s.progress (end_cut plan c.args.phase) (end_cut plan (c.args.phase - 1))) (sym w.self-is)
-                (between-more n c.loop-number.self.progress _ (end_cut plan c.args.phase) (end_cut plan (c.args.phase - 1)) between made_changes.done made_changes.others);
+            between = subst (λ (s : StandingValue). AreBetween (n + 1) s.progress (end_cut plan c.args.phase)
+                (end_cut plan (c.args.phase - 1))) (sym w.self-is)
+                (between-more n c.loop-number.self.progress _ (end_cut plan c.args.phase) (end_cut plan (c.args.phase - 1)) between
+                made_changes.done made_changes.others);
             same = λ none.
                 let neither = sym w.changed-is ∙ none in
-                w.self-is ∙ made_changes.same (or_second c.loop-number.changed _ neither) ∙ c.loop-number.invariant.same (or_first c.loop-number.changed _ neither);
+                w.self-is ∙ made_changes.same (or_second c.loop-number.changed _ neither)
+                ∙ c.loop-number.invariant.same (or_first c.loop-number.changed _ neither);
             spare = ap (λ l. length l) w.spare-is ∙ made_changes.spare;
           }
       | else-is_leaf w ↦
@@ -50,8 +54,10 @@ loop-number-preserved c =
           let is = c.tree-tree.ensures.sound in
           record {
             stands = subst (IsStanding plan) (sym w.self-is) c.loop-number.invariant.stands;
-            between = subst (λ (s : StandingValue). AreBetween (n + 1) s.progress (end_cut plan c.args.phase) (end_cut plan (c.args.phase - 1))) (sym w.self-is)
-                (between-passed n c.loop-number.self.progress (end_cut plan c.args.phase) (end_cut plan (c.args.phase - 1)) between (end-other plan (c.args.phase - 1) n is other ∙ sym (end-other plan c.args.phase n is other)));
+            between = subst (λ (s : StandingValue). AreBetween (n + 1) s.progress (end_cut plan c.args.phase)
+                (end_cut plan (c.args.phase - 1))) (sym w.self-is)
+                (between-passed n c.loop-number.self.progress (end_cut plan c.args.phase) (end_cut plan (c.args.phase - 1)) between
+                (end-other plan (c.args.phase - 1) n is other ∙ sym (end-other plan c.args.phase n is other)));
             same = λ none. w.self-is ∙ c.loop-number.invariant.same (sym w.changed-is ∙ none);
             spare = ap (λ l. length l) w.spare-is ∙ c.loop-number.invariant.spare;
           }
@@ -60,5 +66,6 @@ loop-number-preserved c =
 pub returns-clause-done : goal.returns-clause-done
 returns-clause-done c =
     let plan = c.args.plan.now in
-    let all : length plan.nodes < c.loop-number.number = omega (arith, c.tree-tree.ensures.sound.nodes.one_each, c.len-number-end.ensures.len, ap (λ e. length e) c.tree-tree.ensures.tree) in
+    let all : length plan.nodes < c.loop-number.number =
+    omega (arith, c.tree-tree.ensures.sound.nodes.one_each, c.len-number-end.ensures.len, ap (λ e. length e) c.tree-tree.ensures.tree) in
     all_done plan c.loop-number.self.progress c.loop-number.number c.args.phase (c.args.phase - 1) c.loop-number.invariant.between all

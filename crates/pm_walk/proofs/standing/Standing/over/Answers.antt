@@ -3,7 +3,8 @@ use Rattle.pm_bid.proofs.Sums.{length-zeros}
 use Rattle.pm_tree.specs.Entries.{is_leaf_at}
 use Rattle.pm_plan.specs.Plans.{is_leaf}
 use Rattle.pm_walk.specs.Standing.{StandingValue, IsStanding, cut_made}
-use Rattle.pm_walk.proofs.Standings.{AreBetween, first_node, made-zero, made-here, made-others, made-other, made-beyond, between-more, between-passed, all_between}
+use Rattle.pm_walk.proofs.Standings.{AreBetween, first_node, made-zero, made-here, made-others, made-other, made-beyond, between-more, between-passed}
+use Rattle.pm_walk.proofs.Standings.{all_between}
 use Rattle.pm_walk.proofs.standing.Standing.over.Goals as goal
 use Rattle.pm_walk.proofs.standing.Standing.over.Goals.{then-is_leaf, else-is_leaf}
 
@@ -11,7 +12,8 @@ pub loop-number-init : goal.loop-number-init
 loop-number-init c = record {
   stands = c.in_ok-standing.ensures.stands;
   between = record {
-    done = λ x below. first_node (cut_made c.in_ok-standing.standing.progress) (cut_made c.args.progress.now) x below (c.in_ok-standing.ensures.none 0 ∙ sym (made-zero c.args.plan.now c.args.progress.now c.requires));
+    done = λ x below. first_node (cut_made c.in_ok-standing.standing.progress) (cut_made c.args.progress.now) x below
+        (c.in_ok-standing.ensures.none 0 ∙ sym (made-zero c.args.plan.now c.args.progress.now c.requires));
     left = λ x from. c.in_ok-standing.ensures.none x;
   };
   spare = ap (λ l. length l) c.in_ok-spare.ensures.bid ∙ length-zeros c.steps.result ∙ c.steps.ensures.steps ∙ ap (λ b. b.steps) c.basis.ensures.basis;
@@ -31,7 +33,8 @@ loop-number-preserved c =
           record {
             stands = subst (IsStanding plan) (sym w.standing-is) w.reach.ensures.stands;
             between = subst (λ (s : StandingValue). AreBetween (n + 1) s.progress (cut_made stops) (λ _. 0)) (sym w.standing-is)
-                (between-more n old _ (cut_made stops) (λ _. 0) c.loop-number.invariant.between (made-here old _ n _ there w.reach.ensures.progress) (λ x other. made-others old _ n x _ w.reach.ensures.progress other));
+                (between-more n old _ (cut_made stops) (λ _. 0) c.loop-number.invariant.between
+                (made-here old _ n _ there w.reach.ensures.progress) (λ x other. made-others old _ n x _ w.reach.ensures.progress other));
             spare = ap (λ l. length l) w.spare-is ∙ w.reach.ensures.spare;
           }
       | else-is_leaf w ↦
@@ -39,7 +42,8 @@ loop-number-preserved c =
           record {
             stands = subst (IsStanding plan) (sym w.standing-is) c.loop-number.invariant.stands;
             between = subst (λ (s : StandingValue). AreBetween (n + 1) s.progress (cut_made stops) (λ _. 0)) (sym w.standing-is)
-                (between-passed n c.loop-number.standing.progress (cut_made stops) (λ _. 0) c.loop-number.invariant.between (sym (made-other plan stops n is c.requires inside other)));
+                (between-passed n c.loop-number.standing.progress (cut_made stops) (λ _. 0) c.loop-number.invariant.between
+                (sym (made-other plan stops n is c.requires inside other)));
             spare = ap (λ l. length l) w.spare-is ∙ c.loop-number.invariant.spare;
           }
     ]
@@ -48,5 +52,7 @@ pub returns-clause-cut : goal.returns-clause-cut
 returns-clause-cut c =
     let plan = c.args.plan.now in
     let stops = c.args.progress.now in
-    let all : length plan.nodes < c.loop-number.number = omega (arith, c.tree-tree.ensures.sound.nodes.one_each, c.len-number-end.ensures.len, ap (λ e. length e) c.tree-tree.ensures.tree) in
-    all_between c.loop-number.number c.loop-number.standing.progress (cut_made stops) (λ _. 0) c.loop-number.invariant.between (λ x from. sym (made-beyond plan stops x c.requires (omega arith)))
+    let all : length plan.nodes < c.loop-number.number =
+    omega (arith, c.tree-tree.ensures.sound.nodes.one_each, c.len-number-end.ensures.len, ap (λ e. length e) c.tree-tree.ensures.tree) in
+    all_between c.loop-number.number c.loop-number.standing.progress (cut_made stops) (λ _. 0) c.loop-number.invariant.between
+    (λ x from. sym (made-beyond plan stops x c.requires (omega arith)))

@@ -36,7 +36,8 @@ pub exchange-requires-clause-within : goal.exchange-requires-clause-within
 exchange-requires-clause-within c =
     let there = subst (IsStanding c.args.plan.now) (sym c.self.view_is) c.requires.stands in
     read_within c.args.plan.now _ c.args.device.0 _ _ _ c.args.demand.now c.args.here c.group_of-group.ensures.sound c.requires.leaf there
-    (record { group_is = c.group_of-group.ensures.group; sum_is = c.index_mut-2.ensures.value; demand_is = c.index.ensures }) c.requires.reached c.requires.demand c.requires.steps
+    (record { group_is = c.group_of-group.ensures.group; sum_is = c.index_mut-2.ensures.value; demand_is = c.index.ensures })
+    c.requires.reached c.requires.demand c.requires.steps
 
 pub index_mut-requires-3 : goal.index_mut-requires-3
 index_mut-requires-3 c =
@@ -54,5 +55,6 @@ pub returns-clause-stands : goal.returns-clause-stands
 returns-clause-stands c =
     let there = subst (IsStanding c.args.plan.now) (sym c.self.view_is) c.requires.stands in
     read_stands c.args.plan.now _ c.args.device.0 _ _ _ c.args.demand.now c.args.here c.group_of-group.ensures.sound c.requires.leaf there
-    (record { group_is = c.group_of-group.ensures.group; sum_is = c.index_mut-2.ensures.value; demand_is = c.index.ensures }) c.requires.reached c.requires.demand c.requires.steps
+    (record { group_is = c.group_of-group.ensures.group; sum_is = c.index_mut-2.ensures.value; demand_is = c.index.ensures })
+    c.requires.reached c.requires.demand c.requires.steps
     _ c.exchange.ensures.exchanged _ c.copy_into.ensures.bid

@@ -4,7 +4,8 @@ use Rattle.pm_wire.proofs.decoder.Decoder.feed.Goals as goal
 
 pub invariant_of-self : goal.invariant_of-self
 invariant_of-self c =
-    let within : c.drop_given-self-inside.result ≤ length c.drop_given-self-inside.new.buffer.items = omega (arith, c.drop_given-self-inside.ensures.within) in
+    let within : c.drop_given-self-inside.result ≤ length c.drop_given-self-inside.new.buffer.items =
+    omega (arith, c.drop_given-self-inside.ensures.within) in
     record {
       start = fed_within _ _ c.args.piece.now _ (is_ok c.extend_from_slice.result) within c.extend_from_slice.ensures.items;
       steps = c.self.invariant.steps;

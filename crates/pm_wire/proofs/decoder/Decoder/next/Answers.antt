@@ -12,7 +12,8 @@ use Rattle.pm_wire.proofs.Places.{whole_not_bad, whole_not_unfinished, bad_not_u
 use Rattle.pm_wire.proofs.decoder.Decoder.next.Goals as goal
 
 -- what was read stands at the front of the bytes left
-read_at : (old new : Decoding) (buffer bytes : List ℕ) (start : ℕ) (was is : Reading) → old ≡ new → old.rest ≡ drop start buffer → bytes ≡ buffer → was ≡ is →
+read_at : (old new : Decoding) (buffer bytes : List ℕ) (start : ℕ) (was is : Reading) → old ≡ new → old.rest ≡ drop start buffer →
+    bytes ≡ buffer → was ≡ is →
     IsReading old.place (take (length bytes - start) (drop start bytes)) was → IsReading new.place new.rest is
 read_at old new buffer bytes start was is view rest same e reading =
     let P : Decoding → Type 0 = λ d. IsReading d.place d.rest is in
