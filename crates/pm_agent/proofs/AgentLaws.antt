@@ -14,6 +14,7 @@ same_agent : (kind kind' : Kind) (device device' steps steps' : ℕ) → kind' �
     record { kind = kind; device = device; steps = steps } in a ≡ b)
 same_agent kind kind' device device' steps steps' k d s = cc
 
+-- a bid made anew with the same kind, device and number of steps is one of the same agent
 pub kept_agent : (value : Agent) (made new : MadeBid) (next : Next) → agent_of made ≡ value → next.device ≡ value.device →
     new.next ≡ next → new.kind ≡ made.kind → length new.demand ≡ length made.demand → agent_of new ≡ value
 kept_agent value made new next view device next_is kind_is steps_is =

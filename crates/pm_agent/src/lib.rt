@@ -14,6 +14,3 @@ mod made;
 
 pub use agent::DeviceAgent;
 pub use made::Made;
-
-#[cfg(test)]
-mod tests;

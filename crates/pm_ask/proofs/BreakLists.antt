@@ -26,16 +26,24 @@ any_in_longer P xs ys any =
 
 -- a break has all targets of its step, which are some, and no other
 record IsWhole (total : List ℤ) (break : Break) : Type 0 where
+  -- the step of the break has targets
   pub some : HasTargets total break.step
+  -- the break has the least and the greatest target of its step
   pub ends : HasEnds total break
+  -- each target that lies in the break is one of the break's step
   pub only : (target : ℤ) → LiesIn target break → IsTargetOf total break.step target
+  -- each target of the break's step lies in the break
   pub all : (target : ℤ) → IsTargetOf total break.step target → LiesIn target break
 
 -- breaks of steps before this one: the targets of these steps lie in them
 record AreBreaksBefore (total : List ℤ) (step : ℕ) (breaks : List Break) : Type 0 where
+  -- the breaks stand in the order of rising steps
   pub rise : AllPairs (λ earlier later. earlier.step < later.step) breaks
+  -- each break is of a step before this one
   pub before : All (λ break. break.step < step) breaks
+  -- each break has all targets of its step, and no other
   pub whole : All (IsWhole total) breaks
+  -- a target whose step is before this one has its break among them
   pub each : (target : ℤ) → asked_step target total < step → Any (IsBreakOf total target) breaks
 
 no_breaks : (total : List ℤ) → AreBreaksBefore total 0 []

@@ -6,11 +6,16 @@ use Rattle.pm_ask.proofs.Targets.{Meets, above_before}
 
 -- the step of the target is not before `low` and not after `high`
 pub record IsBetween (total : List ℤ) (target : ℤ) (low high : ℕ) : Type 0 where
+  -- low is at most high
   pub order : low ≤ high
+  -- high is one of the steps of the total
   pub inside : high < length total
+  -- at each step before low the total is above the target
   pub above : (earlier : ℕ) → earlier < low → target <ℤ demand_at total earlier
+  -- at high the total is at most the target, unless high is the last step
   pub met : high + 1 < length total → demand_at total high ≤ℤ target
 
+-- the step of any target is between step 0 and the last step
 pub between_all : (total : List ℤ) (target : ℤ) (last : ℕ) → last + 1 ≡ length total → IsBetween total target 0 last
 between_all total target last is = record {
   order = omega arith;
@@ -19,6 +24,7 @@ between_all total target last is = record {
   met = λ h. absurd (omega arith);
 }
 
+-- where the total at middle is at most the target, the step is from low to middle
 pub between_lower : (total : List ℤ) (target : ℤ) (low high middle : ℕ) → IsBetween total target low high → low ≤ middle → middle < high
     → demand_at total middle ≤ℤ target → IsBetween total target low middle
 between_lower total target low high middle between from to met = record {
@@ -28,6 +34,7 @@ between_lower total target low high middle between from to met = record {
   met = λ h. met;
 }
 
+-- where a total that never rises is above the target at middle, the step is from middle + 1 to high
 pub between_upper : (total : List ℤ) (target : ℤ) (low high middle : ℕ) → NeverRises total → IsBetween total target low high →
     low ≤ middle → middle < high
     → target <ℤ demand_at total middle → IsBetween total target (middle + 1) high
@@ -38,6 +45,7 @@ between_upper total target low high middle falls between from to above = record 
   met = between.met;
 }
 
+-- where high is at most low, the total meets the target at low
 pub between_one : (total : List ℤ) (target : ℤ) (low high : ℕ) → IsBetween total target low high → high ≤ low → Meets total target low
 between_one total target low high between one =
     let same : high ≡ low = omega (arith, between.order) in
@@ -52,6 +60,7 @@ abbrev pub LooksLeft : ℕ → ℕ → ℕ → ℕ → Type 0
 LooksLeft steps start counter gap =
     (n : ℕ) → steps ≤ 2 ^ n → (left : ℕ) × ((counter + left ≤ start + n) × (gap < 2 ^ left))
 
+-- at the start the looks that are enough for the steps are left, for any gap less than the steps
 pub looks_all : (steps start gap : ℕ) → gap < steps → LooksLeft steps start start gap
 looks_all steps start gap less = λ n enough. (n, (omega arith, omega arith))
 

@@ -49,10 +49,15 @@ one_break total break other step is also =
 
 -- the breaks of the steps from this one on: by rising steps, each with its ends, and one for each step that has targets
 record AreBreaksFrom (total : List ℤ) (first : ℕ) (breaks : List Break) : Type 0 where
+  -- the breaks stand in the order of rising steps
   pub rise : AllPairs (λ earlier later. earlier.step < later.step) breaks
+  -- each break is of the first step or of a later one
   pub later : All (λ break. first ≤ break.step) breaks
+  -- the step of each break has targets
   pub some : All (λ break. HasTargets total break.step) breaks
+  -- each break has the least and the greatest target of its step
   pub ends : All (HasEnds total) breaks
+  -- each step from the first on that has targets has a break
   pub each : (step : ℕ) → first ≤ step → HasTargets total step → Any (λ break. break.step ≡ step) breaks
 
 first_or_later : {X : Type 0} (P : X → Type 0) (x : X) (xs : List X) → Any P (x ∷ xs) → P x ⊎ Any P xs

@@ -35,6 +35,7 @@ pub same_number : (target other : ℤ) → IsWithin demand_limit target → IsWi
     → target ≡ other
 same_number target other within also same = signed_decimal_injective target other (small_mag target within) (small_mag other also) same
 
+-- where two texts that begin with a target's line are equal, so are the targets and the rests
 pub same_target : (target other : ℤ) (rest others : List ℕ) → IsWithin demand_limit target → IsWithin demand_limit other
     → target_line target ++ rest ≡ target_line other ++ others → (target ≡ other) × (rest ≡ others)
 same_target target other rest others within also same =
@@ -45,10 +46,14 @@ same_target target other rest others within also same =
 
 -- digits behind a minus sign are those of a number that is not 0
 pub record IsNegated (digits : List ℕ) (number : ℕ) : Type 0 where
+  -- the number is above 0
   pub positive : 0 < number
+  -- the number is at most the limit of a demand
   pub small : number ≤ demand_limit
+  -- the digits are the number in decimal
   pub written : digits ≡ decimal number
 
+-- where a target's text is a minus sign and digits, these are a number above 0 within the limit of a demand
 pub negated : (digits : List ℕ) (target : ℤ) → IsWithin demand_limit target → 45 ∷ digits ≡ signed_decimal target →
     (number : ℕ) × IsNegated digits number
 negated digits (pos n) within is =

@@ -39,8 +39,11 @@ same_stop (suc room) (target ∷ targets) (other ∷ others) rest more are also 
 
 -- a reading of targets that stops where it may
 record IsWholeReading (targets : List ℤ) (rest text : List ℕ) : Type 0 where
+  -- the targets are not too many, and each is within the limit of a demand
   pub list : AreTargets targets
+  -- the text is the lines of the targets in order, and then the rest
   pub parts : text ≡ targets_text targets ++ rest
+  -- where the rest begins with a target's line, there is no room for more targets
   pub stops : Stops (most_targets - length targets) rest
 
 same_reading : (targets others : List ℤ) (rest more text : List ℕ) → IsWholeReading targets rest text → IsWholeReading others more text
@@ -96,7 +99,9 @@ one_line_more targets target =
 
 -- the targets of the first lines of a text, and what follows these
 pub record AreRead (targets : List ℤ) (rest text : List ℕ) : Type 0 where
+  -- the targets read so far are not too many, and each is within the limit of a demand
   pub list : AreTargets targets
+  -- the text is the lines of the targets read so far in order, and then what is left
   pub parts : text ≡ targets_text targets ++ rest
 
 -- one more line is read

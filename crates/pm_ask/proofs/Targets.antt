@@ -11,17 +11,22 @@ use Rattle.pm_bid.proofs.FoundStep.{first_at_most_is_first}
 use Rattle.pm_ask.specs.Asked.{less_target, asked_step}
 use Rattle.pm_ask.specs.Breaks.{IsTargetOf, IsLeastTarget, IsGreatestTarget}
 
+-- a total with a target taken off has as many steps as before
 pub length-less_target : (target : ℤ) (total : List ℤ) → length (less_target target total) ≡ length total
 length-less_target target total = length-map total (λ demand. demand -ℤ target)
 
+-- at each step a total with a target taken off is the total there less the target
 pub less_target-at : (target : ℤ) (total : List ℤ) (step : ℕ) → step < length total
     → demand_at (less_target target total) step ≡ demand_at total step -ℤ target
 less_target-at target total step inside = get_or-map (λ demand. demand -ℤ target) total step (pos 0) (pos 0) inside
 
 -- the total is above the target before the step, and at most the target at the step, unless it is the last
 pub record Meets (total : List ℤ) (target : ℤ) (step : ℕ) : Type 0 where
+  -- the step is one of the total's
   pub inside : step < length total
+  -- at each earlier step the total is above the target
   pub before : (earlier : ℕ) → earlier < step → target <ℤ demand_at total earlier
+  -- at the step the total is at most the target, unless the step is the last
   pub met : step + 1 < length total → demand_at total step ≤ℤ target
 
 -- so it is with the step of a target
@@ -79,9 +84,12 @@ above_before total target (suc step) earlier falls inside order above =
 -- a target is one of a step where it is below the total at the step before and at least the total at the step; for the
 -- first and for the last step only one of these is asked
 pub record IsIn (total : List ℤ) (target : ℤ) (step : ℕ) : Type 0 where
+  -- unless the step is the first, the target is below the total at the step before
   pub below : 0 < step → target <ℤ demand_at total (step - 1)
+  -- unless the step is the last, the target is at least the total at the step
   pub met : step + 1 < length total → demand_at total step ≤ℤ target
 
+-- a target within the bounds of a step is one of that step, where the total never rises
 pub is_target : (total : List ℤ) (target : ℤ) (step : ℕ) → NeverRises total → step < length total → IsIn total target step →
     IsTargetOf total step target
 is_target total target step falls inside within = meets_is_asked target total step (record {
@@ -90,6 +98,7 @@ is_target total target step falls inside within = meets_is_asked target total st
   met = within.met;
 })
 
+-- a target of a step is within the bounds of that step, where the total has steps at all
 pub target_is_in : (total : List ℤ) (target : ℤ) (step : ℕ) → 1 ≤ length total → IsTargetOf total step target → IsIn total target step
 target_is_in total target step some is =
     let meets = rw is at (asked_step_meets target total some) in
@@ -106,6 +115,7 @@ least_is_total total step falls inside some = (
   λ target is. (target_is_in total target step (omega arith) is).met inside,
 )
 
+-- the last step of a total that never rises has no least target
 pub last_has_no_least : (total : List ℤ) (step : ℕ) → NeverRises total → step + 1 ≡ length total → IsLeastTarget total step None
 last_has_no_least total step falls last = λ target is.
     let within = target_is_in total target step (omega arith) is in (
@@ -119,6 +129,7 @@ last_has_no_least total step falls last = λ target is.
       ),
     )
 
+-- where the total falls at a step after the first, or it is last, its greatest target is the total before less 1
 pub greatest_is_below : (total : List ℤ) (step : ℕ) → NeverRises total → 0 < step → step < length total
     → (step + 1 < length total → demand_at total step <ℤ demand_at total (step - 1)) →
     IsGreatestTarget total step (Some (demand_at total (step - 1) -ℤ pos 1))
@@ -130,6 +141,7 @@ greatest_is_below total step falls after inside some = (
   λ target its_own. let below = (target_is_in total target step (omega arith) its_own).below after in omega (arith, ints, below),
 )
 
+-- the first step of a total that never rises has no greatest target
 pub first_has_no_greatest : (total : List ℤ) → NeverRises total → 1 ≤ length total → IsGreatestTarget total 0 None
 first_has_no_greatest total falls some = λ target is.
     let within = target_is_in total target 0 some is in (

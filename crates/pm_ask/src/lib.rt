@@ -21,8 +21,6 @@ mod search;
 mod target;
 mod target_fault;
 mod target_list;
-#[cfg(test)]
-mod tests;
 mod text;
 
 pub use breaks::Break;

@@ -14,6 +14,3 @@ mod fault;
 
 pub use auctioneer::{Auctioneer, Cleared};
 pub use fault::ClearFault;
-
-#[cfg(test)]
-mod tests;

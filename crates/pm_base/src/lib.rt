@@ -12,6 +12,3 @@ pub use limits::{
     DEMAND_LIMIT, LEAST_STEPS, Limits, MOST_CHANGES, MOST_DEPTH, MOST_EVENTS, MOST_NODES,
     MOST_PHASES, MOST_STEPS, PRICE_LIMIT, SUM_LIMIT, WINDOW_SIZE, constants_are_the_limits,
 };
-
-#[cfg(test)]
-mod tests;

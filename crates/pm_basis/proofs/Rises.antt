@@ -8,12 +8,14 @@ use Rattle.std.proofs.lemmas.Int.{ints}
 rise_of : (step last range : ℕ) → step ≤ last → step * range / last ≤ range
 rise_of step last range within = div-le_of_le-mul last (mul-le-mul_right range within)
 
+-- step * range / last is not negative, where none of the three is
 pub rise_from : (step last range : ℤ) → pos 0 ≤ℤ last → pos 0 ≤ℤ step → pos 0 ≤ℤ range → pos 0 ≤ℤ int_div (step *ℤ range) last
 rise_from (pos step) (pos last) (pos range) l s r = omega (arith, ints)
 rise_from (pos step) (pos last) (negsuc range) l s r = absurd (omega (arith, ints))
 rise_from (pos step) (negsuc last) range l s r = absurd (omega (arith, ints))
 rise_from (negsuc step) last range l s r = absurd (omega (arith, ints))
 
+-- step * range / last is at most the range, where step is at most last and none of the three is negative
 pub rise_to : (step last range : ℤ) → pos 0 ≤ℤ last → pos 0 ≤ℤ step → step ≤ℤ last → pos 0 ≤ℤ range →
     int_div (step *ℤ range) last ≤ℤ range
 rise_to (pos step) (pos last) (pos range) l s within r =

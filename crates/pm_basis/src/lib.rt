@@ -11,6 +11,3 @@ mod fault;
 
 pub use basis::Basis;
 pub use fault::BasisFault;
-
-#[cfg(test)]
-mod tests;

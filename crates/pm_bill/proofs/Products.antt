@@ -62,7 +62,9 @@ positive_part_within limit (negsuc n) within = none-within limit
 
 -- what a price and a power come to, as the code computes it
 pub record Costs (price power cost : ℤ) : Type 0 where
+  -- the cost as a number of 128 bits is the price times the power
   pub computed : to_z w128 (of_z w128 cost) ≡ price *ℤ power
+  -- the price times the power lies within the product of the limits of a price and of a sum
   pub within : IsWithin (price_limit * sum_limit) (price *ℤ power)
 
 -- the cost that the code computes is that of the price and the power

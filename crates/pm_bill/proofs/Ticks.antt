@@ -76,11 +76,17 @@ adds_up bill minutes shares groups accounts before are same added =
 
 -- what a tick owes to its conditions
 pub record MayTick (bill : BillData) (minutes : ℤ) (shares : List Share) (groups : List GroupSum) : Type 0 where
+  -- the bill has fewer ticks than a run may have phases
   pub few : bill.ticks < most_phases
+  -- the minutes are such as a tick may have
   pub are : IsTrue (are_minutes minutes)
+  -- the shares are of different devices of the bill, with prices and powers of a device
   pub shares_are : AreShares bill.leaves shares
+  -- the shares and the groups have the same power in all, and it costs the same
   pub same : ComeToTheSame shares groups
+  -- what all groups cost a minute, negated, lies within the limit of a minute's cost
   pub cost : IsWithin cost_limit (neg_ℤ (sum_each group_cost groups))
+  -- the power of all shares, negated, lies within the limit of a minute's cost
   pub power : IsWithin cost_limit (neg_ℤ (sum_each (λ share. share.power) shares))
 
 more_limit : (ticks : ℕ) → ticks * tick_limit + tick_limit ≡ (ticks + 1) * tick_limit

@@ -18,8 +18,6 @@ mod law;
 mod run;
 mod share;
 mod sums;
-#[cfg(test)]
-mod tests;
 mod text;
 
 pub use account::Account;

@@ -46,9 +46,11 @@ module _ (plan : PlanData) (c new : Core) (j : JournalData) (ends : List EndValu
   abbrev s : State
   s = after (plan_lists plan) (moves_of j.lines)
 
+  -- the line of the close is that of a legal move, and the new cluster stands for the state after it
   pub made : IsMadeLine plan new s (closing_line (s.closed + 1))
   made = record { makes = makes; line = refl }
 
+  -- the new cluster has one closed phase more
   pub one_more : new.closed ≡ c.closed + 1
   one_more = makes.stands.closed ∙ ap (λ (k : ℕ). k + 1) (sym is.run.stands.closed)
 
@@ -72,6 +74,7 @@ module _ (plan : PlanData) (c new : Core) (j : JournalData) (ends : List EndValu
         kept_more ends c.closed e has_end ∙ ap (λ (x : EndData). kept_ends (take c.closed ends) ++ x ∷ []) its_end
         ∙ ap (λ (xs : List EndData). xs ++ end_of plan (end_cut plan (c.closed + 1)) ∷ []) is.ended ∙ sym (ends_more plan c.closed)
 
+    -- with the line of the close in the journal and the phase's end among the ends, a board is a board
     pub board_closed : (j' : JournalData) → j'.lines ≡ j.lines ++ closing_line (s.closed + 1) ∷ [] → j'.spare ≡ j.spare - 1 →
         IsBoard plan new j' (set ends c.closed e)
     board_closed j' added spared = record {
@@ -83,6 +86,7 @@ module _ (plan : PlanData) (c new : Core) (j : JournalData) (ends : List EndValu
       vacant = rw one_more still_vacant;
     }
 
+    -- with the line of the close in the journal and the phase's end kept, the open phase was closed
     pub phase_closed : (plan' : PlanData) (lines : List Line) → plan' ≡ plan → lines ≡ j.lines ++ closing_line (s.closed + 1) ∷ [] →
         ClosesPhase (record { plan = plan; lines = j.lines; ends = take c.closed ends })
         (record { plan = plan'; lines = lines; ends = take new.closed (set ends c.closed e) })

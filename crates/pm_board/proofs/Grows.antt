@@ -57,11 +57,13 @@ module _ (plan : PlanData) (c new : Core) (j : JournalData) (ends : List EndValu
     is.room,
   )
 
+  -- the journal with the line of the move is a run of the plan, and the new cluster stands for the state after it
   pub run_on : (lines : List Line) → lines ≡ j.lines ++ l ∷ [] → IsRunOf plan (map act_of (moves_of lines)) new lines
   run_on lines added =
       subst (λ (ls : List Line). IsRunOf plan (map act_of (moves_of ls)) new ls) (sym added)
       (subst (λ (acts : List Act). IsRunOf plan acts new (j.lines ++ l ∷ [])) (sym (acts_more j.lines l)) run_longer)
 
+  -- once the line took one place of its room, the journal still has room for all moves of a run
   pub room_on : (j' : JournalData) → j'.lines ≡ j.lines ++ l ∷ [] → j'.spare ≡ j.spare - 1 → plan_bound plan ≤ length j'.lines + j'.spare
   room_on j' added spared = omega (arith, has_spare, ap length added, length-append j.lines (l ∷ []), spared, is.room)
 
@@ -76,6 +78,7 @@ module _ (plan : PlanData) (c new : Core) (j : JournalData) (ends : List EndValu
     vacant = rw closed is.vacant;
   }
 
+  -- the line of the move that was made joined the board's lines, whatever the ends are
   pub adds_line : (plan' : PlanData) (before after' : List EndValue) (lines : List Line) → plan' ≡ plan → lines ≡ j.lines ++ l ∷ [] →
       AddsLine (record { plan = plan; lines = j.lines; ends = before }) (record { plan = plan'; lines = lines; ends = after' }) l
   adds_line plan' before after' lines same added = record { plan = same; legal = made.makes.legal; told = made.line; lines = added }

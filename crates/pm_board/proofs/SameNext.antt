@@ -27,6 +27,7 @@ next_alike plan closed closed' counts counts' d (Some next) same count is = reco
   state = is.state;
 }
 
+-- a change refused by a cluster's counts is refused alike by those of the state that it stands for
 pub refused_alike : (plan : PlanData) (c : Core) (s : State) (made : MadeBid) (fault : ChangeFault) → StandsFor plan c s →
     NotChanged plan c.closed (count_of c) made fault → NotChanged plan s.closed s.counts made fault
 refused_alike plan c s made (change_faults.NotNext next) stands (inl none) = inl none

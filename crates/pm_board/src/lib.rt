@@ -12,6 +12,3 @@ mod board;
 mod moves;
 
 pub use board::Board;
-
-#[cfg(test)]
-mod tests;

@@ -15,6 +15,3 @@ mod fault;
 
 pub use cache::BidCache;
 pub use fault::CacheFault;
-
-#[cfg(test)]
-mod tests;

@@ -42,6 +42,7 @@ newest_at_most (x ∷ ns) ms rises among = at_most_last 0 ms (last_above x ns) r
 pub AllAmong-push : (ns ms : List ℕ) (n : ℕ) → AllAmong ns ms → Contains ms n → AllAmong (ns ++ n ∷ []) ms
 AllAmong-push ns ms n among c m h = ⊎_elim (λ (t : Contains ns m). among m t) (λ (t : n ≡ m). subst (Contains ms) t c) (Contains-push_cases ns n m h)
 
+-- numbers that are all among those of a list are also among those of the list with one more at its end
 pub AllAmong-more : (ns ms : List ℕ) (n : ℕ) → AllAmong ns ms → AllAmong ns (ms ++ n ∷ [])
 AllAmong-more ns ms n among m h = Contains-append_left ms (n ∷ []) m (among m h)
 

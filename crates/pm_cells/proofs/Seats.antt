@@ -34,6 +34,7 @@ HasView s id v = get_elem? s.views id ≡ opt.some v
 pub whole_is_not : (s : LinkTable) (id : ℕ) (v : EndView) (x : Role) → IsUncut s → HasView s id v → v.role ≡ x → Whole ≡ x
 whole_is_not s id v x e at is = other_role whole_view v Whole x (one_view whole_view v id (subst (λ t. HasView t id v) e at)) refl is
 
+-- once the ends were joined, the role in a seat's view is Joined or Spent
 pub joined_is_not : (s : LinkTable) (id : ℕ) (v : EndView) (x : Role) → IsJoined s → HasView s id v → v.role ≡ x → (Joined ≡ x) ⊎ (Spent ≡ x)
 joined_is_not s id v x (both, other, e, jb, sp, _, _) at is = ⊎_elim
     (λ (t : (id ≡ 0) × (both ≡ v)). inl (other_role both v Joined x t.1 jb is))

@@ -44,6 +44,7 @@ found_slot m v k more others x y e f = sym (ap (λ (u : Seated). held_first u.1)
 pub not_price : (a : CellView) (n : ℕ) (x : CellSlot) → ShowsNewest IsBidWith a n x → (p : PriceUpdate) → x ≡ Some (Price p) → ⊥
 not_price a n x s p e = let (u, is, _) = (some_is_new IsBidWith a n x s (Price p) e).1 in absurd (cc)
 
+-- what an end that is to take finds in the slot of the prices is no bid
 pub not_bid : (bids : List ℕ) (a : CellView) (n : ℕ) (x : CellSlot) → ShowsNewest (IsPriceOf bids) a n x → (u : UpMessage) →
     x ≡ Some (Bid u) → ⊥
 not_bid bids a n x s u e = let (p, is, _, _) = (some_is_new (IsPriceOf bids) a n x s (Bid u) e).1 in absurd (cc)
@@ -69,6 +70,7 @@ price_above bids a n x s u e =
 abbrev pub BidTaken : Seated → Seated → Type 0
 BidTaken m m' = ReleasesTaken m.0.up (with_up m.0 (having_taken m.0.up)) (with_up m.0 (having_found_none m.0.up)) m m'
 
+-- what a release after a take of a price tells of the end before and the end after
 abbrev pub PriceTaken : Seated → Seated → Type 0
 PriceTaken m m' = ReleasesTaken m.0.down (with_down m.0 (having_taken m.0.down)) (with_down m.0 (having_found_none m.0.down)) m m'
 

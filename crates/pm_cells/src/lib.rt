@@ -20,8 +20,6 @@ mod link;
 mod message;
 mod prices;
 mod steps;
-#[cfg(test)]
-mod tests;
 mod view;
 
 pub use bids::{put_bid, take_bid};

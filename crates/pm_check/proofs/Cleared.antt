@@ -110,18 +110,22 @@ cleared_alike plan s t steps same closed are = record {
   };
 }
 
+-- what is kept of the clearings is that of the state after a change too
 pub change_keeps : (plan : PlanData) (s : State) (steps : ClearedSteps) (d n : ℕ) → AreCleared plan s steps →
     AreCleared plan (step (plan_lists plan) s (Change d n)) steps
 change_keeps plan s steps d n are = cleared_alike plan s (step (plan_lists plan) s (Change d n)) steps refl refl are
 
+-- what is kept of the clearings is that of the state after a learning too
 pub learn_keeps : (plan : PlanData) (s : State) (steps : ClearedSteps) (x n : ℕ) → AreCleared plan s steps →
     AreCleared plan (step (plan_lists plan) s (Learn x n)) steps
 learn_keeps plan s steps x n are = cleared_alike plan s (step (plan_lists plan) s (Learn x n)) steps refl refl are
 
+-- what is kept of the clearings is that of the state after a pass too
 pub pass_keeps : (plan : PlanData) (s : State) (steps : ClearedSteps) (x j : ℕ) → AreCleared plan s steps →
     AreCleared plan (step (plan_lists plan) s (Pass x j)) steps
 pass_keeps plan s steps x j are = cleared_alike plan s (step (plan_lists plan) s (Pass x j)) steps refl refl are
 
+-- what is kept of the clearings is that of the state after a publishing too, by any node but the auctioneer
 pub publish_keeps : (plan : PlanData) (s : State) (steps : ClearedSteps) (c n : ℕ) → 1 ≤ c → AreCleared plan s steps →
     AreCleared plan (step (plan_lists plan) s (Publish c n)) steps
 publish_keeps plan s steps c n low are =
@@ -154,9 +158,11 @@ module _ (plan : PlanData) (is_plan : IsPlan plan) (s : State) (sound : Sound (p
     cuts_are : next.published 0 ≡ s.published 0 ++ known lists s 0 ∷ []
     cuts_are = updated_same s.published 0 (s.published 0 ++ known lists s 0 ∷ [])
 
+    -- after a legal clearing there is one clearing more
     pub clearings_are : clearings next ≡ clearings s + 1
     clearings_are = omega (arith, ap (λ (cuts : List Cut). length cuts) cuts_are, length-append (s.published 0) (known lists s 0 ∷ []))
 
+    -- the cut of the new clearing is what the auctioneer knew before it
     pub cleared_new : cleared next (clearings s + 1) ≡ known lists s 0
     cleared_new = ap (λ (cuts : List Cut). cut_at cuts (clearings s + 1)) cuts_are ∙ cut_at_new (s.published 0) (known lists s 0) (clearings s + 1) refl
 
@@ -243,6 +249,7 @@ module _ (plan : PlanData) (is_plan : IsPlan plan) (s : State) (sound : Sound (p
         let phase : p ≡ old.closed + 1 = omega (arith, legal.0, are.closed) in
         are.cut d leaf ∙ quiet_counts lists law s sound legal.3 d leaf ∙ legal.2 d leaf ∙ end ∙ ap (λ (q : ℕ). end_cut plan q d) phase
 
+    -- after a legal closing the same rows and cut, with one phase more closed, are those of the state
     pub close_keeps : new.closed ≡ old.closed + 1 → IsAuction plan new.closed new.auction → auction_cut new.auction ≡ auction_cut old.auction →
         rows_of new ≡ rows_of old →
         AreCleared plan (step lists s (Close p)) new
@@ -262,6 +269,7 @@ module _ (plan : PlanData) (is_plan : IsPlan plan) (s : State) (sound : Sound (p
 
 -- ---- before the first move
 
+-- what is kept at the start is no closed phase, an auction at the cut without changes, and no rows
 pub cleared_start : (plan : PlanData) (steps : ClearedSteps) → steps.closed ≡ 0 → IsAuction plan 0 steps.auction →
     ((x : ℕ) → auction_cut steps.auction x ≡ 0) →
     rows_of steps ≡ [] → AreCleared plan start steps

@@ -60,6 +60,7 @@ lines_push plan [] m s = refl
 lines_push plan (n ∷ ms) m s = ap (λ l. move_line plan (line_of (plan_lists plan) (local_at plan) s n) ∷ l)
     (lines_push plan ms m (step (plan_lists plan) s n))
 
+-- the lines of a journal with one move more are its lines and then the line of that move
 pub journal_push : (plan : PlanData) (journal : List Move) (m : Move) →
     journal_lines plan (journal ++ m ∷ []) ≡ journal_lines plan journal ++ next_line plan journal m ∷ []
 journal_push plan journal m = lines_push plan journal m start
@@ -101,6 +102,7 @@ module _ (plan : PlanData) (is_plan : IsPlan plan) where
       LegalJournal lists (journal ++ m ∷ [])
   legal_push journal m legal next = legal_append lists journal (m ∷ []) start legal (next, tt)
 
+  -- the state after a journal with one move more is the step of that move from the state after the journal
   pub after_push : (journal : List Move) (m : Move) → after lists (journal ++ m ∷ []) ≡ step lists (after lists journal) m
   after_push journal m = after_append lists journal (m ∷ []) start
 

@@ -36,8 +36,11 @@ no_bytes (byte ∷ bytes) none = absurd (omega (arith, none))
 
 -- these lines were read, each due, and this stands behind them
 pub record AreRead (plan : PlanData) (report : List (List ℕ)) (trace : List ℕ) (done : List (List ℕ)) (rest : List ℕ) : Type 0 where
+  -- the lines that were read are whole lines
   pub whole : All IsWholeLine done
+  -- each line that was read is due after those before it
   pub due : AreLinesDue plan report done
+  -- the trace is the lines that were read, and then the rest
   pub parts : trace ≡ joined done ++ rest
 
 module _ (plan : PlanData) (report : List (List ℕ)) (trace : List ℕ) (done : List (List ℕ)) (rest : List ℕ)
@@ -82,6 +85,7 @@ module _ (plan : PlanData) (report : List (List ℕ)) (trace : List ℕ) (done :
   bad_behind (line ∷ lines) end some none_due are =
       bad_line line (joined lines ++ end) (All-head IsWholeLine line lines are.whole) (are.parts ∙ append_assoc line (joined lines) end) (none_due line)
 
+  -- where nothing is due and the trace goes on, its bad line is the one behind those read
   pub bad_more : rest ≢ [] → ((line : List ℕ) → IsLineDue plan report done line → ⊥) → IsBadAmong plan report trace (length done + 1)
   bad_more some none_due = let are = lines_exist rest in bad_behind are.0 are.1.0 some none_due are.1.1
 
@@ -89,9 +93,13 @@ module _ (plan : PlanData) (report : List (List ℕ)) (trace : List ℕ) (done :
 
 -- so many lines of the report were read in the trace; this is left of both
 pub record IsMatched (report trace : List ℕ) (lines : ℕ) (done : List (List ℕ)) (later rest : List ℕ) : Type 0 where
+  -- the lines read of the report are whole lines
   pub whole : All IsWholeLine done
+  -- so many lines of the report were read
   pub count : lines ≡ length done
+  -- the report is the lines that were read, and then what is left of it
   pub report_is : report ≡ joined done ++ later
+  -- the trace is the lines that were read, and then what is left of it
   pub trace_is : trace ≡ joined done ++ rest
 
 module _ (report trace : List ℕ) (lines : ℕ) (done : List (List ℕ)) (later rest : List ℕ) (matched : IsMatched report trace lines done later rest)

@@ -62,9 +62,11 @@ module _ (plan : PlanData) (old : Judge) (judge : IsJudge plan old) (m : Move)
   is_plan : IsPlan plan
   is_plan = plan_of plan old judge
 
+  -- a move that passes the test of legality in a judge's market is legal in its state
   pub legal_is : Legal lists s m
   legal_is = (legal_tested lists s m (lawful plan is_plan) judge.sound).0 (subst (λ (ls : Lists). is_legal ls s m ≡ true) judge.lists tested)
 
+  -- where a move passes the test of legality, the judge has not closed all phases of the plan
   pub closed_within : old.steps.closed < plans.phases plan
   closed_within = omega (arith, judge.cleared.closed, phase_open plan is_plan s judge.sound m legal_is)
 
@@ -92,11 +94,13 @@ module _ (plan : PlanData) (old : Judge) (judge : IsJudge plan old) (m : Move)
           cut_is ∙ ap (λ (t : State). cleared t j) (made_is ∙ ap (step lists s) is)
           ∙ ap (cleared (step lists s (Clear j))) legal_clear.1
 
+      -- the cut of a clearing is at no device below the cut at which the auction stands
       pub clear_rises : (d : ℕ) → plans.is_leaf plan d ≡ true → auction_cut old.steps.auction d ≤ cut_of cut d
       clear_rises d leaf' =
           let leaf : IsLeaf lists d = is_leaf-is plan d ∙ leaf' in
           omega (arith, judge.cleared.cut d leaf, cut_rises plan is_plan s judge.sound j legal_clear d leaf, ap (λ (c : Cut). c d) cut_cleared)
 
+      -- the cut of a clearing is at no device above the end of the open phase
       pub clear_planned : (d : ℕ) → plans.is_leaf plan d ≡ true → cut_of cut d ≤ end_cut plan (old.steps.closed + 1) d
       clear_planned d leaf' =
           let leaf : IsLeaf lists d = is_leaf-is plan d ∙ leaf' in
@@ -107,6 +111,7 @@ module _ (plan : PlanData) (old : Judge) (judge : IsJudge plan old) (m : Move)
             ap (λ (p : ℕ). end_cut plan (p + 1) d) judge.cleared.closed,
           )
 
+      -- a clearing was made once the auction stands at its cut and one row of steps joins those kept
       pub clear_made : (steps : ClearedSteps) → steps.closed ≡ old.steps.closed → IsAuction plan steps.closed steps.auction →
           ((d : ℕ) → plans.is_leaf plan d ≡ true → auction_cut steps.auction d ≡ cut_of cut d) → HasRow plan old.steps steps →
           HasMade plan old (record { market = market; steps = steps }) m
@@ -118,9 +123,11 @@ module _ (plan : PlanData) (old : Judge) (judge : IsJudge plan old) (m : Move)
       legal_close : Legal lists s (Close p)
       legal_close = subst (Legal lists s) is legal_is
 
+      -- before a closing the auction stands at the end of the phase that is closed
       pub close_ended : (d : ℕ) → plans.is_leaf plan d ≡ true → auction_cut old.steps.auction d ≡ end_cut plan (old.steps.closed + 1) d
       close_ended d leaf = ends_closed plan is_plan s judge.sound p legal_close old.steps old.steps judge.cleared d leaf
 
+      -- a closing was made once one phase more is closed while the auction's cut and the rows stay
       pub close_made : (steps : ClearedSteps) → steps.closed ≡ old.steps.closed + 1 → IsAuction plan steps.closed steps.auction →
           auction_cut steps.auction ≡ auction_cut old.steps.auction → rows_of steps ≡ rows_of old.steps →
           HasMade plan old (record { market = market; steps = steps }) m
@@ -138,6 +145,7 @@ module _ (plan : PlanData) (old : Judge) (judge : IsJudge plan old) (m : Move)
     other_keeps (Pass x j) legal no_clear no_close = pass_keeps plan s old.steps x j judge.cleared
     other_keeps (Close p) legal no_clear no_close = absurd (no_close p refl)
 
+    -- a move that neither clears nor closes was made with what is kept of the clearings left as it was
     pub other_made : ((j : ℕ) → m ≡ Clear j → ⊥) → ((p : ℕ) → m ≡ Close p → ⊥) →
         HasMade plan old (record { market = market; steps = old.steps }) m
     other_made no_clear no_close = makes old.steps (other_keeps m legal_is no_clear no_close)
@@ -149,6 +157,7 @@ module _ (plan : PlanData) (judge : Judge) (is : IsJudge plan judge) (d : ℕ) (
   holds_in_plan : holds_price (plan_lists plan) (market_state judge.market) d ≡ true
   holds_in_plan = subst (λ (ls : Lists). holds_price ls (market_state judge.market) d ≡ true) is.lists holds
 
+  -- a price was passed to a device that holds one
   pub was_passed : 1 ≤ last (market_state judge.market) d
   unfolding holds_price
   was_passed =
@@ -157,10 +166,12 @@ module _ (plan : PlanData) (judge : Judge) (is : IsJudge plan judge) (d : ℕ) (
       let first = and_parts (nat_lt 0 (last t d)) (is_member (plan_lists plan) d (t.counts d)) parts.0 in
       omega (arith, ltb-true 0 (last t d) first.0)
 
+  -- for the last clearing passed to a device that holds a price there is a row of steps
   pub has_steps : last (market_state judge.market) d ≤ length (rows_of judge.steps)
   has_steps =
       omega (arith, is.cleared.steps_are.one_each, last_within (plan_lists plan) (market_state judge.market) is.sound d)
 
+  -- the step in the row of the clearing passed last and the number in its cut are what the device holds
   pub told_held : (index number step : ℕ) → index ≡ last (market_state judge.market) d → number ≡ cleared (market_state judge.market) index d →
       step ≡ get_or (get_or (rows_of judge.steps) (index - 1) []) (group plan d) 0 → Some (step, number) ≡ held_at plan (market_state judge.market) d
   told_held index number step index_is number_is step_is =

@@ -52,6 +52,7 @@ member_more changes n before inside so_far =
     ∙ sym (ap is_member_after (take_more changes n no_change inside)
     ∙ fold-append (λ (member : Bool) (change : Change). member_after member change.what) false (take n changes) (get_or changes n no_change ∷ []))
 
+-- what the next change makes of a device's membership so far is its membership after one change more
 pub next_member : (plan : PlanData) (d n : ℕ) (before : Bool) → n < change_count plan d → before ≡ is_member plan d n →
     member_after before (change_at plan d n).what ≡ is_member plan d (n + 1)
 unfolding is_member

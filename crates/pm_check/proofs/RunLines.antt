@@ -48,6 +48,7 @@ word_bytes (byte ∷ word) is =
     let above = ltb-true 32 byte parts.0 in
     All-cons (λ (b : ℕ). b ≢ 10) byte word (λ feed. absurd (omega (arith, feed, above))) (word_bytes word parts.1)
 
+-- the line of one or more words is a whole line
 pub whole_words : (words : List (List ℕ)) → AreWords words → IsWholeLine (text_line words)
 whole_words [] are = absurd are
 whole_words (word ∷ []) are = (word, (word_bytes word are, refl))
@@ -70,6 +71,7 @@ first_byte plan (Clear j) held same = absurd (omega (arith, same))
 first_byte plan (Pass x j) held same = absurd (omega (arith, same))
 first_byte plan (Close p) held same = absurd (omega (arith, same))
 
+-- no line of a move is a line with a number of moves
 pub no_count : (plan : PlanData) (line : Line) (lines : List Line) → move_line plan line ≢ moves_line lines
 no_count plan line lines same = first_byte plan line.what line.held (ap (λ bytes. get_or bytes 0 0) same)
 
@@ -191,18 +193,21 @@ module _ (plan : PlanData) (is_plan : IsPlan plan) where
         ap (λ (line : Line). line.what)
         (same_one plan (line_of lists (local_at plan) s m) (line_of lists (local_at plan) s n) is_plan (line_is m m_legal) (line_is n n_legal) same)
 
+    -- the line of one move that is legal in a sound state is a whole line
     pub whole_next : (m : Move) → Legal lists s m → IsWholeLine (move_line plan (line_of lists (local_at plan) s m))
     whole_next m legal = whole_words (move_words plan m (held_after lists (local_at plan) s m))
         (move_are_words plan is_plan (line_of lists (local_at plan) s m) (line_is m legal))
 
   -- ---- the lines of a legal journal
 
+  -- the lines of moves that are legal one after another from a sound state are lines of a run of the plan
   pub lines_are : (ms : List Move) (s : State) → Sound lists s → LegalFrom lists s ms → All (IsLineOfRun plan) (lines_from lists (local_at plan) s ms)
   lines_are [] s sound legal = All-nil (IsLineOfRun plan)
   lines_are (m ∷ ms) s sound legal =
       All-cons (IsLineOfRun plan) (line_of lists (local_at plan) s m) (lines_from lists (local_at plan) (step lists s m) ms) (line_is s sound m legal.0)
       (lines_are ms (step lists s m) (sound_step lists law s sound m legal.0) legal.1)
 
+  -- the lines of moves that are legal one after another from a sound state are whole lines
   pub whole_from : (ms : List Move) (s : State) → Sound lists s → LegalFrom lists s ms →
       All IsWholeLine (map (move_line plan) (lines_from lists (local_at plan) s ms))
   whole_from [] s sound legal = All-nil IsWholeLine
@@ -226,6 +231,7 @@ module _ (plan : PlanData) (is_plan : IsPlan plan) where
       (later ∙ ap (λ (k : Move). map (move_line plan) (lines_from lists (local_at plan) (step lists s k) b)) (sym here)) in
       (λ i. here i ∷ more i)
 
+  -- two legal journals with the same lines have the same moves
   pub same_moves : (a b : List Move) → LegalJournal lists a → LegalJournal lists b →
       map (move_line plan) (lines lists (local_at plan) a) ≡ map (move_line plan) (lines lists (local_at plan) b) → a ≡ b
   same_moves a b a_legal b_legal same = same_from a b start (sound_start lists law) a_legal b_legal same
@@ -235,9 +241,11 @@ module _ (plan : PlanData) (is_plan : IsPlan plan) where
   count_from [] s = refl
   count_from (m ∷ ms) s = ap suc (count_from ms (step lists s m))
 
+  -- a journal has as many lines as moves
   pub count_lines : (journal : List Move) → length (lines lists (local_at plan) journal) ≡ length journal
   count_lines journal = count_from journal start
 
+  -- the line with the number of moves of a legal journal is a whole line
   pub whole_count : (journal : List Move) → LegalJournal lists journal → IsWholeLine (moves_line (lines lists (local_at plan) journal))
   whole_count journal legal =
       let few : length (lines lists (local_at plan) journal) < 2 ^

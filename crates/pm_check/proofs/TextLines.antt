@@ -117,6 +117,7 @@ longer byte text (line ∷ lines) rest other are =
       ),
     )
 
+-- each text is some whole lines and a rest without a line feed
 pub lines_exist : (text : List ℕ) → HasLines text
 lines_exist [] = ([], ([], no_lines [] (All-nil (λ (b : ℕ). b ≢ 10))))
 lines_exist (byte ∷ text) =

@@ -37,6 +37,7 @@ use Rattle.pm_cluster.proofs.NextChanges.{end_of_market}
 
 -- ---- no move of a form
 
+-- where Change x n is legal for no number n, no legal move has the act Change x
 pub no_change : (lists : Lists) (s : State) (x : ℕ) → ((n : ℕ) → Legal lists s (Change x n) → ⊥) → (m : Move) →
     act_of m ≡ act.Change x → Legal lists s m → ⊥
 no_change lists s x none (Change y n) e legal = let same : y ≡ x = cc e in none n (subst (λ (z : ℕ). Legal lists s (Change z n)) same legal)
@@ -46,6 +47,7 @@ no_change lists s x none (Clear n) e legal = cc e
 no_change lists s x none (Pass y n) e legal = cc e
 no_change lists s x none (Close n) e legal = cc e
 
+-- where Learn x n is legal for no number n, no legal move has the act Learn x
 pub no_learn : (lists : Lists) (s : State) (x : ℕ) → ((n : ℕ) → Legal lists s (Learn x n) → ⊥) → (m : Move) → act_of m ≡ act.Learn x →
     Legal lists s m → ⊥
 no_learn lists s x none (Learn y n) e legal = let same : y ≡ x = cc e in none n (subst (λ (z : ℕ). Legal lists s (Learn z n)) same legal)
@@ -55,6 +57,7 @@ no_learn lists s x none (Clear n) e legal = cc e
 no_learn lists s x none (Pass y n) e legal = cc e
 no_learn lists s x none (Close n) e legal = cc e
 
+-- where Publish x n is legal for no number n, no legal move has the act Publish x
 pub no_publish : (lists : Lists) (s : State) (x : ℕ) → ((n : ℕ) → Legal lists s (Publish x n) → ⊥) → (m : Move) →
     act_of m ≡ act.Publish x → Legal lists s m → ⊥
 no_publish lists s x none (Publish y n) e legal = let same : y ≡ x = cc e in none n (subst (λ (z : ℕ). Legal lists s (Publish z n)) same legal)
@@ -64,6 +67,7 @@ no_publish lists s x none (Clear n) e legal = cc e
 no_publish lists s x none (Pass y n) e legal = cc e
 no_publish lists s x none (Close n) e legal = cc e
 
+-- where Clear n is legal for no index n, no legal move has the act Clear
 pub no_clear : (lists : Lists) (s : State) → ((n : ℕ) → Legal lists s (Clear n) → ⊥) → (m : Move) → act_of m ≡ act.Clear →
     Legal lists s m → ⊥
 no_clear lists s none (Clear n) e legal = none n legal
@@ -73,6 +77,7 @@ no_clear lists s none (Publish y n) e legal = cc e
 no_clear lists s none (Pass y n) e legal = cc e
 no_clear lists s none (Close n) e legal = cc e
 
+-- where Pass x n is legal for no index n, no legal move has the act Pass x
 pub no_pass : (lists : Lists) (s : State) (x : ℕ) → ((n : ℕ) → Legal lists s (Pass x n) → ⊥) → (m : Move) → act_of m ≡ act.Pass x →
     Legal lists s m → ⊥
 no_pass lists s x none (Pass y n) e legal = let same : y ≡ x = cc e in none n (subst (λ (z : ℕ). Legal lists s (Pass z n)) same legal)
@@ -82,6 +87,7 @@ no_pass lists s x none (Publish y n) e legal = cc e
 no_pass lists s x none (Clear n) e legal = cc e
 no_pass lists s x none (Close n) e legal = cc e
 
+-- where Close n is legal for no phase n, no legal move has the act Close
 pub no_close : (lists : Lists) (s : State) → ((n : ℕ) → Legal lists s (Close n) → ⊥) → (m : Move) → act_of m ≡ act.Close →
     Legal lists s m → ⊥
 no_close lists s none (Close n) e legal = none n legal
@@ -102,6 +108,7 @@ at_none (Some x) P Q R f h = h
 pub far_leaf : (plan : PlanData) → IsPlan plan → (x : ℕ) → length plan.entries < x → is_leaf (plan_lists plan) x ≡ false
 far_leaf plan is_plan x far = leaf_past (plan_lists plan) x (omega (arith, (lawful plan is_plan).leaves, nodes_are plan))
 
+-- no Change of a node that is no device is legal
 pub no_leaf : (plan : PlanData) (s : State) (x : ℕ) → is_leaf (plan_lists plan) x ≡ false → (n : ℕ) → Legal (plan_lists plan) s (Change x n) → ⊥
 no_leaf plan s x none n legal = both_ways (is_leaf (plan_lists plan) x) none legal.0
 
@@ -133,6 +140,7 @@ one_next a b e f g h =
     ∙ ap (λ (x : Bool). record { device = b.device; number = b.number; member = x; state = a.state }) g
     ∙ ap (λ (x : DeviceState). record { device = b.device; number = b.number; member = b.member; state = x }) states
 
+-- two records that both are the next change of a device are equal
 pub same_next : (plan : PlanData) (c : Core) (d : ℕ) (a b : Next) → IsNext plan c.closed (count_of c) d a →
     IsNext plan c.closed (count_of c) d b → a ≡ b
 same_next plan c d a b at_a at_b =
@@ -141,6 +149,7 @@ same_next plan c d a b at_a at_b =
     (at_a.member ∙ ap (Rattle.pm_plan.specs.Plans.is_member plan d) numbers ∙ sym at_b.member)
     (at_a.state ∙ ap (Rattle.pm_plan.specs.States.state plan d) numbers ∙ sym at_b.state)
 
+-- what was found as a device's next change, or as none, is its next change where it has one
 pub found_next : (plan : PlanData) (c : Core) (d : ℕ) (found : Option Next) (b : Next) →
     IsNextOrNone plan c.closed (count_of c) d found → IsNext plan c.closed (count_of c) d b → found ≡ Some b
 found_next plan c d (Some a) b at_a at_b = ap Some (same_next plan c d a b at_a at_b)
@@ -171,10 +180,12 @@ few_closed plan is_plan c stands = ∥∥₁_elim stands (Prim.hlevel props) (λ
 
 -- ---- what a device holds, as a line tells it
 
+-- the step and the number of a held price, none where no price is held
 abbrev pub pair_of : Option Held → Option (ℕ × ℕ)
 pair_of None = None
 pair_of (Some price) = Some (price.step, price.number)
 
+-- the price that a device holds in a state, as step and number, is what the market's lists say it holds
 pub pairs_are : (plan : PlanData) (s : State) (d : ℕ) → pair_of (held_price plan s d) ≡ held (plan_lists plan) (local_at plan) s d
 pairs_are plan s d = go (holds_price (plan_lists plan) s d) (local_at plan (cleared s (last s d)) d) (cleared s (last s d) d) (last s d)
   where

@@ -17,10 +17,14 @@ item items k = (get_or items k (record { 0 = 0 })).0
 
 -- a child of y that was read in place k
 pub record IsChild (plan : PlanData) (y k child : ℕ) : Type 0 where
+  -- the child is the node that the plan has in place k among the children of y
   pub at : child ≡ child_at plan y k
+  -- the child is a device or a concentrator of the plan, not the auctioneer
   pub node : IsNode (plan_lists plan) child
+  -- the parent of the child is y
   pub up : parent (plan_lists plan) child ≡ y
 
+-- the item in place k of a list of the children of y is the child of y in that place
 pub child_read : (plan : PlanData) → IsPlan plan → (entries : List Entry) (items : List NodeId) (y k : ℕ) →
     entries ≡ plan.entries → id_numbers items ≡ children_of entries y → k < length items → IsChild plan y k (item items k)
 child_read plan is_plan entries items y k tree listed lt =

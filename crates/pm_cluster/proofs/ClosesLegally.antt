@@ -39,6 +39,7 @@ ends_agree plan p d is_plan leaf within =
     let here = leaf_inside plan is_plan d leaf in
     end-is plan p d here.0 (omega (arith, here.1, group_nodes.nodes_are plan is_plan)) within is_plan.in_phases
 
+-- where a cluster may close its open phase, Close of that phase is legal in the state it stands for
 pub close_legal : (plan : PlanData) (c : Core) (s : State) → IsPlan plan → StandsFor plan c s → MayClose plan c →
     Legal (plan_lists plan) s (Close (s.closed + 1))
 close_legal plan c s is_plan stands may =
@@ -51,6 +52,7 @@ close_legal plan c s is_plan stands may =
       (quiet_is_idle plan c s is_plan stands).0 may.quiet,
     )
 
+-- where Close of a phase is legal in the state a cluster stands for, the cluster may close its open phase
 pub may_close_from : (plan : PlanData) (c : Core) (s : State) (phase : ℕ) → IsPlan plan → StandsFor plan c s →
     Legal (plan_lists plan) s (Close phase) → MayClose plan c
 may_close_from plan c s phase is_plan stands legal =
@@ -65,9 +67,12 @@ may_close_from plan c s phase is_plan stands legal =
 
 -- the numbers of the devices before number' are found
 pub record AreFoundTo (plan : PlanData) (value : ℕ → ℤ) (number' : ℕ) (old new : List ℤ) : Type 0 where
+  -- the new list is as long as the old one
   pub same_length : length new ≡ length old
+  -- in the place of each device before number' the new list has the value of the device
   pub found : (d : ℕ) → IsLeaf (plan_lists plan) d → d < number' → slice_index_or new d (pos 0) ≡ value d
 
+-- with the value of n written in place n, the numbers of the devices before n + 1 are found
 pub found_set : (plan : PlanData) (value : ℕ → ℤ) (n : ℕ) (old now : List ℤ) (z : ℤ) → AreFoundTo plan value n old now →
     n < length now → z ≡ value n →
     AreFoundTo plan value (n + 1) old (set now n z)
@@ -79,6 +84,7 @@ found_set plan value n old now z is inside z_is = record {
   ];
 }
 
+-- where n is no device, the numbers found of the devices before n are those before n + 1
 pub found_skip : (plan : PlanData) (value : ℕ → ℤ) (n : ℕ) (old now : List ℤ) → AreFoundTo plan value n old now →
     (IsLeaf (plan_lists plan) n → ⊥) →
     AreFoundTo plan value (n + 1) old now
@@ -113,6 +119,7 @@ did_close plan c s powers is_plan stands may same_length kept = record {
       (λ e below. at_end e (leaf_of_parts (plan_lists plan) 0 e below).0) (at_end d leaf);
 }
 
+-- a cluster that may close its phase and keeps each device's power makes the move Close of that phase
 pub close_did : (plan : PlanData) (c : Core) (s : State) (powers : List ℤ) → IsPlan plan → StandsFor plan c s → MayClose plan c →
     length powers ≡ length c.powers →
     ((d : ℕ) → IsLeaf (plan_lists plan) d → slice_index_or powers d (pos 0) ≡ kept_power plan c d) →

@@ -19,15 +19,20 @@ one_phase_more plan closed d count more counted added =
     let before : end_cut plan (closed + 1 - 1) d ≡ end_cut plan closed d = ap (λ (p : ℕ). end_cut plan p d) same in
     omega (arith, counted, added, before, end-rises plan closed (closed + 1) d (omega arith))
 
+-- the changes of a device up to the end of any phase are at most the most changes of a run
 pub few_due : (plan : PlanData) → IsPlan plan → (p d : ℕ) → end_cut plan p d ≤ most_changes
 few_due plan is_plan p d = omega (arith, end-within plan p d, few_changes plan d is_plan)
 
 -- what is due of the devices before number has the changes of the phase after the closed ones
 pub record IsDueTo (plan : PlanData) (closed number : ℕ) (old new : List ℕ) : Type 0 where
+  -- the new list of due changes is as long as the old one
   pub same_length : length new ≡ length old
+  -- of a device before number as many changes are due as at the end of the phase after the closed ones
   pub after : (d : ℕ) → IsLeaf (plan_lists plan) d → d < number → slice_index_or new d 0 ≡ end_cut plan (closed + 1) d
+  -- of a device from number on as many changes are due as at the end of the closed phases
   pub before : (d : ℕ) → IsLeaf (plan_lists plan) d → number ≤ d → slice_index_or new d 0 ≡ end_cut plan closed d
 
+-- with the changes up to the next phase's end written in place n, what is due is right before n + 1
 pub due_set : (plan : PlanData) (closed n : ℕ) (old now : List ℕ) (value : ℕ) → IsDueTo plan closed n old now → n < length now →
     value ≡ end_cut plan (closed + 1) n →
     IsDueTo plan closed (n + 1) old (set now n value)
@@ -41,6 +46,7 @@ due_set plan closed n old now value due inside is = record {
   before = λ d leaf low. get_or-set_other now n d value 0 (λ e. omega arith) ∙ due.before d leaf (omega arith);
 }
 
+-- where n is no device, what is due is right before n + 1 where it is right before n
 pub due_skip : (plan : PlanData) (closed n : ℕ) (old now : List ℕ) → IsDueTo plan closed n old now →
     (IsLeaf (plan_lists plan) n → ⊥) → IsDueTo plan closed (n + 1) old now
 due_skip plan closed n old now due no_leaf = record {

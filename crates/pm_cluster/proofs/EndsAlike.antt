@@ -68,6 +68,7 @@ module _ (plan : PlanData) (is_plan : IsPlan plan) (a b : Cut) (same : (d : ℕ)
       limited_line_is plan (state plan) b g k (sum_in plan (state plan) a g) (demand_at (sum_in plan (state plan) a g) k)
       (group_step_alike plan is_plan a b (same_below 0) g (inr has)) (same_sum g has) refl
 
+  -- a phase's end is the same over two cuts that agree at every device
   pub end_alike : end_of plan a ≡ end_of plan b
   unfolding end_in members_to limited_to
   end_alike =

@@ -78,6 +78,7 @@ pub concentrator_read : (concentrators : List (Option Gathered)) (y : ℕ) (here
     slice_index_or concentrators y None ≡ here
 concentrator_read concentrators y here inside is = sym (get_or_read concentrators y here inside is None)
 
+-- the cache of the concentrator read in place y is the cache of node y, where y is not the auctioneer
 pub cache_read : (auctioneer : Auction) (concentrators : List (Option Gathered)) (y : ℕ) (here : Option Gathered) (g : Gathered)
     (cache : Cache) → y < length concentrators →
     here ≡ slice_index_or concentrators y here → here ≡ Some g → (y ≡ 0 → ⊥) → cache ≡ g.cache →

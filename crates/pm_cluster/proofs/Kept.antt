@@ -19,6 +19,7 @@ use Rattle.pm_cluster.specs.Clusters.{ClusterValue}
 use Rattle.pm_cluster.specs.ClusterFields.{HasPlaces, core_of, cluster_of}
 use Rattle.pm_cluster.specs.declared.cluster.Cluster.TheInside.{Inside}
 
+-- a cluster that stands for some state has all the places that the code reads
 pub places_of : (plan : PlanData) (c : Core) → ∥ Stands plan c ∥₁ → HasPlaces plan c
 places_of plan c stands = ∥∥₁_elim stands (Prim.hlevel props) (λ st. record {
   all_counts = st.is.shaped.all_counts;

@@ -39,11 +39,16 @@ limited_concentrator plan g is_plan inside limited =
 
 -- its sum has the steps of the basis, and the auctioneer's entries have them too
 pub record LimitedTold (plan : PlanData) (c : Core) (g : ℕ) : Type 0 where
+  -- node g has its place in the list of concentrators
   pub here : g < length c.concentrators
+  -- a concentrator stands in the place of g
   pub there : is_some (slice_index_or c.concentrators g None) ≡ true
+  -- the cache of the concentrator of g has the steps of the basis
   pub steps : (concentrator_of c g).cache.steps ≡ plan.basis.steps
+  -- the auctioneer's cache has the steps of the basis
   pub root_steps : c.auctioneer.cache.steps ≡ plan.basis.steps
 
+-- in a cluster that stands for some state, each concentrator has what the code needs to tell its line
 pub limited_told : (plan : PlanData) → IsPlan plan → (c : Core) → ∥ Stands plan c ∥₁ → (g : ℕ) → IsConcentrator (plan_lists plan) g →
     LimitedTold plan c g
 limited_told plan is_plan c stands g conc = ∥∥₁_elim stands (Prim.hlevel props) (λ st. record {
@@ -55,6 +60,7 @@ limited_told plan is_plan c stands g conc = ∥∥₁_elim stands (Prim.hlevel p
       ∙ st.is.shaped.cache_steps 0 (omega arith) (leaf_zero (plan_lists plan));
 })
 
+-- each limited node of a cluster's value has in the cluster's fields what the code needs to tell its line
 pub limited_of : (inside : Inside) (v : ClusterValue) → cluster_of inside ≡ v → AreClusterFields inside → (g : ℕ) →
     g ≤ nodes (plan_lists v.plan) →
     is_limited v.plan g ≡ true → LimitedTold inside.plan.now (core_of inside) g

@@ -54,6 +54,7 @@ no_member_told plan c s d stands leaf none =
     sym (cond-false (is_member plan d (s.counts d)) (member_line plan (state plan) s.counts d ∷ []) []
     (sym (ap (is_member plan d) (stands.counts d leaf)) ∙ none))
 
+-- a node that is no device adds no member's line to a phase's end
 pub no_leaf_told : (plan : PlanData) (cut : Cut) (x : ℕ) → IsPlan plan → is_leaf (plan_lists plan) x ≡ false → [] ≡ member_at plan cut x
 no_leaf_told plan cut x is_plan inner =
     sym (cond-false (is_member plan x (cut x)) (member_line plan (state plan) cut x ∷ []) [] (no_member plan is_plan x (cut x) inner))
@@ -67,16 +68,20 @@ limited_line_told plan c s g line is_plan stands quiet inside limited is =
     ap (λ (l : LimitedLine). l ∷ []) (is ∙ line_current plan c s g is_plan stands idle (limited_concentrator plan g is_plan inside limited) limited)
     ∙ sym (cond-true (is_limited plan g) (limited_line plan (state plan) s.counts g ∷ []) [] limited)
 
+-- a node that is no limited concentrator adds no limited line to a phase's end
 pub no_limited_told : (plan : PlanData) (cut : Cut) (g : ℕ) → is_limited plan g ≡ false → [] ≡ limited_at plan cut g
 no_limited_told plan cut g none = sym (cond-false (is_limited plan g) (limited_line plan (state plan) cut g ∷ []) [] none)
 
 -- an end with the lines of the nodes before number, and room for those of the others
 pub record IsEndTo (plan : PlanData) (c : Core) (number' : ℕ) (head : EndData) (out : EndValue) : Type 0 where
+  -- the end is head with the lines of the nodes before number', over the changes of any state stood for
   pub lines : (s : State) → StandsFor plan c s → out.end ≡ record head {
     members = members_to plan s.counts (number' - 1);
     limited = limited_to plan s.counts (number' - 1);
   }
+  -- there is room for a member's line of each node from number' on
   pub member_room : nodes (plan_lists plan) + 1 ≤ out.member_room + number'
+  -- there is room for a limited concentrator's line of each node from number' on
   pub limited_room : nodes (plan_lists plan) + 1 ≤ out.limited_room + number'
 
 -- no lines before the first node

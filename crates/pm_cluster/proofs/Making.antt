@@ -40,10 +40,14 @@ use Rattle.pm_cluster.proofs.NextChanges.{end_of_market, member_of_market, deman
 
 -- a change that follows is of a device, its next one, and of the device's kind
 pub record IsFollowed (plan : PlanData) (c : Core) (next : Next) (kind : Kind) : Type 0 where
+  -- the change is of a device
   pub leaf : IsLeaf (plan_lists plan) next.device
+  -- the change is the next one of its device
   pub its_next : IsNext plan c.closed (count_of c) next.device next
+  -- the kind is that of the device in the plan
   pub its_kind : kind_of (node plan next.device) ≡ Some kind
 
+-- the number of a change that follows is at most how many changes its device makes
 pub within_changes : (plan : PlanData) (c : Core) (next : Next) (kind : Kind) → IsFollowed plan c next kind → next.number ≤ change_count plan next.device
 within_changes plan c next kind follows = omega (arith, follows.its_next.of_phase, end-within plan (c.closed + 1) next.device)
 
@@ -136,14 +140,22 @@ set_updated xs x v d lt e = elim (cases_eq e x) [
 
 -- what the code wrote
 pub record Written (plan : PlanData) (c : Core) (next : Next) (before : Bool) (y k : ℕ) (links : List (List Session)) (seat : Seat) : Type 0 where
+  -- the device has its place among the counts
   pub place_counts : next.device < length c.counts
+  -- the device has its place among the states
   pub place_states : next.device < length c.states
+  -- the device has its place among the ports
   pub place_ports : next.device < length c.ports
+  -- before the change the link of y to the child in place k had the steps of the basis
   pub steps : (link_at c.links y k).steps ≡ plan.basis.steps
+  -- of all links only that of y to the child in place k may be another
   pub one : OneLink c.links links y k
+  -- on that link the device's demand after the change was offered, and none where it is no member then
   pub offered : BidOffered (link_at c.links y k) (link_at links y k)
       (bid_offered (link_at c.links y k).steps next.number (bid_demand (not next.member) (device_demand plan next.device next.number)))
+  -- before tells whether the device was a member before the change
   pub before_is : before ≡ is_member plan next.device (count_of c next.device)
+  -- the seat is what the change makes of the device's seat
   pub seat_is : seat ≡ seat_after (seat_at c.ports next.device) before next.member next.number
 
 seat_set : (ports : List Seat) (x : ℕ) (seat : Seat) → x < length ports → seat_at (set ports x seat) x ≡ seat
@@ -154,6 +166,7 @@ seat_other : (ports : List Seat) (x d : ℕ) (seat : Seat) → (d ≡ x → ⊥)
 unfolding seat_at
 seat_other ports x d seat ne = get_or-set_other ports x d seat _ ne
 
+-- where what a change that follows asks for was written, the device made it and offered its bid
 pub did_change : (plan : PlanData) → IsPlan plan → (c : Core) (next : Next) (kind : Kind) → IsFollowed plan c next kind → (before : Bool) (y k : ℕ)
     (links : List (List Session)) (seat : Seat) → Written plan c next before y k links seat →
     DidChange plan c next.device next.number links (set c.counts next.device next.number) (set c.states next.device next.state.0)
@@ -196,6 +209,7 @@ change_makes plan is_plan c s stands next kind follows before y k e f links seat
     (set c.counts next.device next.number) (set c.states next.device next.state.0) (set c.ports next.device seat)
     (did_change plan is_plan c next kind follows before y k links seat written)
 
+-- a cluster that stands for some state still does so after a change that follows was written
 pub change_stands : (plan : PlanData) → IsPlan plan → (c : Core) → ∥ Stands plan c ∥₁ → (next : Next) (kind : Kind) →
     IsFollowed plan c next kind →
     (before : Bool) (y k : ℕ) → y ≡ parent (plan_lists plan) next.device → k ≡ place_of plan.entries next.device →

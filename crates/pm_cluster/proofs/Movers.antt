@@ -16,18 +16,23 @@ use Rattle.pm_cluster.specs.Clusters.{ClusterValue}
 abbrev pub Claim : Option Move → Core → (Lists → State → Type 0) → ClusterValue → Type 0
 Claim made new none v = (s : State) → StandsFor v.plan v.core s → MatchOption made (none (plan_lists v.plan) s) (λ what. MakesMove v.plan new s what)
 
+-- no Learn by node x is legal, of any of its children under any number
 abbrev pub NoLearn : ℕ → Lists → State → Type 0
 NoLearn x lists s = (child number : ℕ) → parent lists child ≡ x → Legal lists s (Learn child number) → ⊥
 
+-- no Publish of node x is legal, under any number
 abbrev pub NoPublish : ℕ → Lists → State → Type 0
 NoPublish x lists s = (number : ℕ) → Legal lists s (Publish x number) → ⊥
 
+-- no Pass to node x is legal, under any index
 abbrev pub NoPass : ℕ → Lists → State → Type 0
 NoPass x lists s = (index : ℕ) → Legal lists s (Pass x index) → ⊥
 
+-- no Clear is legal, under any index
 abbrev pub NoClear : Lists → State → Type 0
 NoClear lists s = (index : ℕ) → Legal lists s (Clear index) → ⊥
 
+-- where no Learn by the auctioneer and no Clear is legal, the auctioneer has no legal node move
 pub no_auctioneer_move : (lists : Lists) (s : State) → NoLearn 0 lists s → NoClear lists s → NoMoveOf lists s 0
 no_auctioneer_move lists s learn clear (Change d n) of legal = of
 no_auctioneer_move lists s learn clear (Learn x n) of legal = learn x n of legal
@@ -36,6 +41,7 @@ no_auctioneer_move lists s learn clear (Clear j) of legal = clear j legal
 no_auctioneer_move lists s learn clear (Pass x j) of legal = omega (arith, of, legal.0.0)
 no_auctioneer_move lists s learn clear (Close p) of legal = of
 
+-- where no Learn by, Publish of or Pass to a node but the auctioneer is legal, it has no legal node move
 pub no_concentrator_move : (lists : Lists) (s : State) (y : ℕ) → 1 ≤ y → NoLearn y lists s → NoPublish y lists s → NoPass y lists s →
     NoMoveOf lists s y
 no_concentrator_move lists s y one learn publish pass (Change d n) of legal = of
@@ -46,6 +52,7 @@ no_concentrator_move lists s y one learn publish pass (Clear j) of legal = omega
 no_concentrator_move lists s y one learn publish pass (Pass x j) of legal = pass j (subst (λ (i : ℕ). Legal lists s (Pass i j)) of legal)
 no_concentrator_move lists s y one learn publish pass (Close p) of legal = of
 
+-- under lawful lists, where no Pass to a device is legal, the device has no legal node move
 pub no_device_move : (lists : Lists) (s : State) (d : ℕ) → Lawful lists → 1 ≤ d → IsLeaf lists d → NoPass d lists s → NoMoveOf lists s d
 no_device_move lists s d law one leaf pass (Change e n) of legal = of
 no_device_move lists s d law one leaf pass (Learn x n) of legal =

@@ -45,12 +45,18 @@ use Rattle.pm_cluster.specs.Next.{count_of, HasNoNext, IsNext}
 
 -- what a cluster that stands for a state keeps of a device, in the words of the plan
 pub record KeepsDevice (plan : PlanData) (c : Core) (d : ℕ) : Type 0 where
+  -- the device made all its changes of the closed phases
   pub from : end_cut plan c.closed d ≤ count_of c d
+  -- while a phase is open, the device made no change of a phase after it
   pub to : c.closed < phases plan → count_of c d ≤ end_cut plan (c.closed + 1) d
+  -- the device made at most as many changes as the plan has for it
   pub within : count_of c d ≤ change_count plan d
+  -- the state kept of the device is the plan's after the changes that it made
   pub has_state : slice_index_or c.states d (pos 0) ≡ state plan d (count_of c d)
+  -- once a phase is closed, the power kept of the device is that at the end of the phase closed last
   pub had_power : 0 < c.closed → slice_index_or c.powers d (pos 0) ≡ power plan (state plan) (end_cut plan c.closed) d
 
+-- the number of a device is at least 1 and at most how many nodes the plan has
 pub few_nodes : (plan : PlanData) → IsPlan plan → (d : ℕ) → IsLeaf (plan_lists plan) d → (1 ≤ d) × (d ≤ length plan.nodes)
 few_nodes plan is_plan d leaf =
     let at = leaf_node (plan_lists plan) (lawful plan is_plan) d leaf in
@@ -61,6 +67,7 @@ pub end_of_market : (plan : PlanData) → IsPlan plan → (p d : ℕ) → IsLeaf
     (plan_lists plan) p d ≡ end_cut plan p d
 end_of_market plan is_plan p d leaf le = let at = few_nodes plan is_plan d leaf in end-is plan p d at.0 at.1 le is_plan.in_phases
 
+-- after any number of its changes a device is a member by the market's lists exactly where by the plan
 pub member_of_market : (plan : PlanData) → IsPlan plan → (d n : ℕ) → IsLeaf (plan_lists plan) d → n ≤ change_count plan d →
     market.is_member (plan_lists plan) d n ≡ is_member plan d n
 member_of_market plan is_plan d n leaf le = let at = few_nodes plan is_plan d leaf in is_member-is plan d n at.0 at.1 le
@@ -94,6 +101,7 @@ keeps_in plan is_plan c s stands d leaf =
           ∙ ap (λ (p : ℕ). power plan (state plan) (end_cut plan p) d) (sym stands.closed);
     }
 
+-- what a cluster that stands for some state keeps of a device agrees with the plan
 pub keeps_device : (plan : PlanData) → IsPlan plan → (c : Core) → ∥ Stands plan c ∥₁ → (d : ℕ) → IsLeaf (plan_lists plan) d →
     KeepsDevice plan c d
 keeps_device plan is_plan c stands d leaf = ∥∥₁_elim stands (Prim.hlevel props) (λ st. keeps_in plan is_plan c st.state st.is d leaf)
@@ -142,11 +150,13 @@ what_fits plan is_plan d n kind what kind_is inside e =
     subst (λ (k : Kind). IsTrue (change_fits k what)) has.kind_is
     (subst (λ (w : Planned). IsTrue (change_fits has.planned.kind w)) (sym e) (change-fits plan d n has.planned is_plan has.is inside))
 
+-- the parameters of a planned device's kind lie within their limits
 pub kind_valid : (plan : PlanData) → IsPlan plan → (d : ℕ) (kind : Kind) → kind_of (node plan d) ≡ Some kind → IsTrue (is_valid kind)
 kind_valid plan is_plan d kind kind_is =
     let has = kind_of-tells (node plan d) kind kind_is in
     subst (λ (k : Kind). IsTrue (is_valid k)) has.kind_is (is_plan.within.devices d has.planned has.is).kind
 
+-- the state of a device after its first n changes, for each n up to the last, is one its kind may have
 pub state_valid : (plan : PlanData) → IsPlan plan → (d n : ℕ) (kind : Kind) (z : ℤ) → kind_of (node plan d) ≡ Some kind →
     n ≤ change_count plan d →
     z ≡ state plan d n → IsTrue (state_fits kind z)
@@ -155,6 +165,7 @@ state_valid plan is_plan d n kind z kind_is le e =
     subst (λ (k : Kind). IsTrue (state_fits k z)) has.kind_is
     (subst (λ (y : ℤ). IsTrue (state_fits has.planned.kind y)) (sym e) (state-fits plan d n has.planned is_plan has.is le))
 
+-- the power of a node at the end of any phase lies within the limit of a demand
 pub power_valid : (plan : PlanData) → IsPlan plan → (d p : ℕ) (z : ℤ) → z ≡ power plan (state plan) (end_cut plan p) d → IsWithin demand_limit z
 power_valid plan is_plan d p z e = subst (IsWithin demand_limit) (sym e) (power-within plan (end_cut plan p) d is_plan (end-within plan p d))
 
@@ -167,10 +178,12 @@ demand_of_kind plan d n kind kind_is =
     ap (λ (m : NodeData). cond (is_member plan d n) (node_bid plan m (state plan d n)) (zeros plan.basis.steps)) has.is
     ∙ ap (λ (k : Kind). cond (is_member plan d n) (bid_of k (state plan d n) plan.arrays plan.basis.steps) (zeros plan.basis.steps)) has.kind_is
 
+-- the demand of a device that is a member after n changes is its kind's bid for its state then
 pub demand_of_member : (plan : PlanData) (d n : ℕ) (kind : Kind) → kind_of (node plan d) ≡ Some kind → is_member plan d n ≡ true →
     device_demand plan d n ≡ bid_of kind (state plan d n) plan.arrays plan.basis.steps
 demand_of_member plan d n kind kind_is member = demand_of_kind plan d n kind kind_is ∙ cond-true (is_member plan d n) _ _ member
 
+-- the demand of a device that is no member after n changes is zero at each step
 pub demand_of_none : (plan : PlanData) (d n : ℕ) (kind : Kind) → kind_of (node plan d) ≡ Some kind → is_member plan d n ≡ false →
     device_demand plan d n ≡ zeros plan.basis.steps
 demand_of_none plan d n kind kind_is none = demand_of_kind plan d n kind kind_is ∙ cond-false (is_member plan d n) _ _ none
@@ -191,9 +204,13 @@ has_kind plan is_plan d leaf =
 
 -- what is found of the next change of a device: the count, and the change
 pub record FoundNext (plan : PlanData) (c : Core) (d count : ℕ) (what : Planned) : Type 0 where
+  -- a phase is open
   pub open_phase : c.closed < phases plan
+  -- count is how many changes the device made
   pub counted : count ≡ count_of c d
+  -- the device made fewer changes than it has up to the end of the open phase
   pub inside : count < end_cut plan (c.closed + 1) d
+  -- what was found is the planned change that follows the first count changes of the device
   pub found : what ≡ (change_at plan d count).what
 
 -- the next change, where what it makes of the device is what that change makes of it

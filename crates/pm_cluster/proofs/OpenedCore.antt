@@ -35,17 +35,27 @@ empty_seat = record { joined = None; given = None }
 
 -- what opening makes
 pub record IsNewCore (plan : PlanData) (c : Core) : Type 0 where
+  -- the counts are all 0, one for the auctioneer and one for each node
   pub counts : c.counts ≡ replicate (nodes (plan_lists plan) + 1) 0
+  -- there is a state for each node, that of a device before its first change
   pub states : AreStarts plan c.states
+  -- there is a power for the auctioneer and one for each node
   pub powers : length c.powers ≡ nodes (plan_lists plan) + 1
+  -- no phase is closed
   pub closed : c.closed ≡ 0
+  -- the auctioneer and each node have a row of new links, one for each child
   pub links : AreNewRows plan c.links
+  -- in the place of each concentrator of the plan stands a new one, and in no other place
   pub concentrators : AreNewConcentrators plan c.concentrators
+  -- the auctioneer is new, with the number of its children and the steps of the basis
   pub auctioneer : c.auctioneer ≡ new_auction (length (children_of plan.entries 0)) plan.basis.steps
+  -- the ports are all empty, one for the auctioneer and one for each node
   pub ports : c.ports ≡ replicate (nodes (plan_lists plan) + 1) (record { joined = None; given = None })
 
 record IsThere (plan : PlanData) (y : ℕ) (o : Option Gathered) : Type 0 where
+  -- the option holds a concentrator
   pub there : o ≡ Some (gathered_in o)
+  -- the concentrator is new, with the children and the limits of node y and the steps of the basis
   pub new : IsNewConcentrator (length (children_of plan.entries y)) plan.basis.steps (limits_at plan y) (gathered_in o)
 
 new_there : (plan : PlanData) (y : ℕ) (o : Option Gathered) → IsNewAt plan y o → IsConcentrator (plan_lists plan) y → IsThere plan y o
@@ -128,6 +138,7 @@ module _ (plan : PlanData) (is_plan : IsPlan plan) (c : Core) (made : IsNewCore 
       ap (λ (l : List Seat). get_or l d empty_seat) made.ports
       ∙ get_or-replicate (nodes (plan_lists plan) + 1) d empty_seat empty_seat (omega (arith, at.1))
 
+  -- in a cluster that opening makes, no device made a change
   pub count_is : (d : ℕ) → IsLeaf (plan_lists plan) d → get_or c.counts d 0 ≡ 0
   count_is d leaf =
       ap (λ (l : List ℕ). get_or l d 0) made.counts
@@ -138,6 +149,7 @@ module _ (plan : PlanData) (is_plan : IsPlan plan) (c : Core) (made : IsNewCore 
       let start = start_of-tells (node plan d) (get_or c.states d (pos 0)) (made.states.starts d leaf) in
       sym start.start_is ∙ sym (state-start plan d start.planned start.is)
 
+  -- a cluster that opening makes has the shape that the plan gives
   pub shaped : IsShaped plan c
   shaped = record {
     all_counts = ap length made.counts ∙ length-replicate (nodes (plan_lists plan) + 1) 0;

@@ -10,12 +10,15 @@ use Rattle.pm_plan.specs.Plans as plans
 use Rattle.pm_plan.specs.Market.{plan_lists}
 use Rattle.pm_plan.proofs.MarketLists.{lawful, parent-is, is_leaf-is}
 
+-- the parent of a node is the same by the plan and by the plan's lists
 pub parent_is : (plan : PlanData) (x : ℕ) → plans.parent plan x ≡ parent (plan_lists plan) x
 parent_is plan x = sym (parent-is plan x)
 
+-- whether a node is a leaf is the same by the plan and by the plan's lists
 pub leaf_is : (plan : PlanData) (x : ℕ) → plans.is_leaf plan x ≡ is_leaf (plan_lists plan) x
 leaf_is plan x = sym (is_leaf-is plan x)
 
+-- a plan has as many entries as its lists have nodes
 pub nodes_are : (plan : PlanData) → length plan.entries ≡ nodes (plan_lists plan)
 nodes_are plan = sym (length-parents_of plan.entries)
 

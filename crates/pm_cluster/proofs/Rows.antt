@@ -15,6 +15,7 @@ row_same links y r lt = get_or-set_same links y r [] lt
 row_other : (links : List (List Session)) (y i : ℕ) (r : List Session) → (i ≡ y → ⊥) → row_at (set links y r) i ≡ row_at links i
 row_other links y i r ne = get_or-set_other links y i r [] ne
 
+-- the link in place k of row y is the one that was written there
 pub link_set : (links : List (List Session)) (y k : ℕ) (v : Session) → y < length links → k < length (row_at links y) →
     link_at (set links y (set (row_at links y) k v)) y k ≡ v
 unfolding link_at
@@ -22,6 +23,7 @@ link_set links y k v lt inside =
     ap (λ r. get_or r k (new_session 0)) (row_same links y (set (row_at links y) k v) lt)
     ∙ get_or-set_same (row_at links y) k v (new_session 0) inside
 
+-- writing the link in place k of row y changes no other link and no row's length
 pub one_link : (links : List (List Session)) (y k : ℕ) (v : Session) → y < length links → k < length (row_at links y) →
     OneLink links (set links y (set (row_at links y) k v)) y k
 unfolding link_at
@@ -44,18 +46,23 @@ one_link links y k v lt inside =
 
 -- the same over rows of any kind
 pub record Wrote (old new : List (List Session)) (y k : ℕ) (v : Session) : Type 0 where
+  -- of all links only that in place k of row y may be another
   pub one : OneLink old new y k
+  -- the new link in place k of row y is v
   pub at : link_at new y k ≡ v
 
+-- row y of the rows that f makes of xs is that of the element read in place y
 pub row_read : {R : Type 0} (f : R → List Session) (xs : List R) (y : ℕ) (r : R) → y < length xs → r ≡ get_or xs y r → row_at (map f xs) y ≡ f r
 row_read f xs y r lt read = get_or-map f xs y r [] lt ∙ ap f (sym read)
 
+-- the link in place k of row y is the one read in place k of the row of the element read in place y
 pub link_read : {R : Type 0} (f : R → List Session) (xs : List R) (y k : ℕ) (r : R) (v : Session) →
     y < length xs → r ≡ get_or xs y r → k < length (f r) → v ≡ get_or (f r) k v → link_at (map f xs) y k ≡ v
 unfolding link_at
 link_read f xs y k r v lt read inside at =
     ap (λ l. get_or l k (new_session 0)) (row_read f xs y r lt read) ∙ sym (get_or_read (f r) k v inside at (new_session 0))
 
+-- an element written back with v in place k of its row writes v as the link there, and no other link
 pub rows_set : {R : Type 0} (f : R → List Session) (xs : List R) (y k : ℕ) (r r' : R) (v : Session) → f r' ≡ set (f r) k v →
     y < length xs → r ≡ get_or xs y r → k < length (f r) → Wrote (map f xs) (map f (set xs y r')) y k v
 rows_set f xs y k r r' v written lt read inside =
@@ -75,6 +82,7 @@ rows_same f xs y k r r' v written lt read inside at =
     written ∙ ap (set (f r) k) (get_or_read (f r) k v inside at (new_session 0)) ∙ set-get_or (f r) k (new_session 0) in
     map-set f xs y r' ∙ ap (set (map f xs) y) (kept ∙ sym (row_read f xs y r lt read)) ∙ set-get_or (map f xs) y []
 
+-- an element written back with a row as long as before changes row y alone, into its own row
 pub row_wrote : {R : Type 0} (f : R → List Session) (xs : List R) (y : ℕ) (r r' : R) → y < length xs → r ≡ get_or xs y r →
     length (f r') ≡ length (f r) → OneRow (map f xs) (map f (set xs y r')) y × (row_at (map f (set xs y r')) y ≡ f r')
 unfolding link_at
@@ -102,10 +110,14 @@ list_read f xs y r lt read = get_or-map f xs y r [] lt ∙ ap f (sym read)
 
 -- the link in place k of row y that was read, and what writing it back makes of the rows
 pub record IsRead {R : Type 0} (f : R → List Session) (xs : List R) (y k : ℕ) (r : R) (v : Session) : Type 0 where
+  -- the link in place k of row y is the one that was read
   pub link : link_at (map f xs) y k ≡ v
+  -- an element written back with w in place k of its row writes w as the link there, and no other link
   pub wrote : (r' : R) (w : Session) → f r' ≡ set (f r) k w → Wrote (map f xs) (map f (set xs y r')) y k w
+  -- an element written back with the link that was read in place k of its row leaves all rows as they were
   pub same : (r' : R) (w : Session) → f r' ≡ set (f r) k w → w ≡ v → map f (set xs y r') ≡ map f xs
 
+-- where element and link were read, the link in place k of row y is known, and so is what writing back does
 pub is_read : {R : Type 0} (f : R → List Session) (xs : List R) (y k : ℕ) (r : R) (v : Session) →
     y < length xs → k < length (row_at (map f xs) y) → r ≡ get_or xs y r → v ≡ get_or (f r) k v → IsRead f xs y k r v
 is_read f xs y k r v lt within read at =
@@ -118,9 +130,12 @@ is_read f xs y k r v lt within read at =
 
 -- row y that was read, and what writing it back makes of the rows
 pub record IsRowRead {R : Type 0} (f : R → List Session) (xs : List R) (y : ℕ) (r : R) : Type 0 where
+  -- row y is the row of the element that was read
   pub row : row_at (map f xs) y ≡ f r
+  -- an element written back with a row as long as before changes row y alone, into its own row
   pub wrote : (r' : R) → length (f r') ≡ length (f r) → OneRow (map f xs) (map f (set xs y r')) y × (row_at (map f (set xs y r')) y ≡ f r')
 
+-- where the element in place y was read, row y is its row, and a row as long written back changes it alone
 pub is_row_read : {R : Type 0} (f : R → List Session) (xs : List R) (y : ℕ) (r : R) → y < length xs → r ≡ get_or xs y r → IsRowRead f xs y r
 is_row_read f xs y r lt read = record {
   row = row_read f xs y r lt read;

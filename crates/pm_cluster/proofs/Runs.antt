@@ -29,9 +29,11 @@ pub lines_more : (lists : Lists) (local : Cut → ℕ → ℕ) (ms : List Move) 
 lines_more lists local [] m s = refl
 lines_more lists local (n ∷ ns) m s = ap (λ (l : List Line). line_of lists local s n ∷ l) (lines_more lists local ns m (step lists s n))
 
+-- a cluster that stands for the start is that of a run of no acts, with an empty journal
 pub run_start : (plan : PlanData) (c : Core) → StandsFor plan c start → IsRunOf plan [] c []
 run_start plan c stands = record { legal = tt; forms = refl; lines = refl; stands = stands }
 
+-- a run and a line made in the state after its journal are a run with the act of the line's move at its end
 pub run_more : (plan : PlanData) (acts : List Act) (a : Act) (old new : Core) (journal : List Line) (line : Line) → IsRunOf plan acts old journal →
     act_of line.what ≡ a → IsMadeLine plan new (after (plan_lists plan) (moves_of journal)) line →
     IsRunOf plan (acts ++ a ∷ []) new (journal ++ line ∷ [])
@@ -53,6 +55,7 @@ run_more plan acts a old new journal line run form made =
           (sym (ap (after lists) moves ∙ after_append lists ms (m ∷ []) start)) made.makes.stands;
     }
 
+-- in a run's journal, of two prices passed to a node the later is of a later clearing, over no older bid
 pub run_forward : (plan : PlanData) → IsPlan plan → (acts : List Act) (c : Core)
     (journal : List Line) → IsRunOf plan acts c journal → NeverGoesBack plan journal
 run_forward plan is_plan acts c journal run front mid rest x i j is =
@@ -60,6 +63,7 @@ run_forward plan is_plan acts c journal run front mid rest x i j is =
     let Back : List Move → Type 0 = λ l. (i < j) × ((d : ℕ) → IsLeaf lists d → cleared (after lists l) i d ≤ cleared (after lists l) j d) in
     subst Back (sym is) (never_back lists (lawful plan is_plan) front mid rest x i j (subst (λ (l : List Move). LegalJournal lists l) is run.legal))
 
+-- the journal of a run has at most as many lines as the plan's bound on moves
 pub run_bounded : (plan : PlanData) → IsPlan plan → (acts : List Act) (c : Core)
     (journal : List Line) → IsRunOf plan acts c journal → length journal ≤ plan_bound plan
 run_bounded plan is_plan acts c journal run =
@@ -73,6 +77,7 @@ run_bounded plan is_plan acts c journal run =
 some_act : (x y : Act) → Some x ≡ Some y → x ≡ y
 some_act x y e = cc e
 
+-- where the acts before a place ran and no move by the act there is legal, it is the first illegal act
 pub run_illegal : (plan : PlanData) (acts : List Act) (at : ℕ) (a : Act) (c : Core) (journal : List Line) → IsRunOf plan (take at acts) c journal →
     at < length acts → slice_get acts at ≡ Some a → NoMoveBy plan (after (plan_lists plan) (moves_of journal)) a → IsFirstIllegal plan acts at
 run_illegal plan acts at a c journal run inside here none = record {

@@ -20,6 +20,7 @@ same_bool true false = fails (λ e. cc e)
 same_bool false true = fails (λ e. cc e)
 same_bool false false = (λ _. refl, λ _. refl)
 
+-- the code's test whether two kinds of device are equal holds exactly where they are the same
 pub same_kind : (x y : Kind) → IsTrue (kinds.eq-value.it x y) ↔ (x ≡ y)
 same_kind (Freezer a b c d e) (Freezer a' b' c' d' e') = Decides-like _ (λ p. λ i. Freezer (p.0 i) (p.1.0 i) (p.1.1.0 i) (p.1.1.1.0 i) (p.1.1.1.1 i))
     (λ h. (
@@ -134,6 +135,7 @@ same_kind Manual Load = fails (λ h. absurd (cc h))
 same_kind Manual Objective = fails (λ h. absurd (cc h))
 same_kind Manual Manual = (λ _. refl, λ _. refl)
 
+-- the code's test whether two next changes are equal holds exactly where they are the same
 pub same_next : (x y : Next) → IsTrue (nexts.eq-value.it x y) ↔ (x ≡ y)
 same_next x y =
     Decides-like _ (λ p. λ i. record { device = p.0 i; number = p.1.0 i; member = p.1.1.0 i; state = record { 0 = p.1.1.1 i } })
@@ -141,6 +143,7 @@ same_next x y =
     (Decides-and _ _ (Decides-eqb x.device y.device) (Decides-and _ _ (Decides-eqb x.number y.number)
     (Decides-and _ _ (same_bool x.member y.member) (Decides-int_eq x.state.0 y.state.0))))
 
+-- the test whether what was found is a given next change holds exactly where it is that change
 pub same_found : (found : Option Next) (y : Next) → IsTrue (option_eq nexts.eq-value.it found (Some y)) ↔ (found ≡ Some y)
 same_found None y = fails (λ e. absurd (cc e))
 same_found (Some x) y = Decides-like (nexts.eq-value.it x y) (ap Some) (λ e. cc e) (same_next x y)
@@ -150,6 +153,7 @@ pub not_differ : (test : Bool) (P : Type 0) → IsTrue test ↔ P → false ≡ 
 not_differ true P decides e = decides.0 refl
 not_differ false P decides e = absurd (cc e)
 
+-- where the negation of a test that decides P is true, P does not hold
 pub do_differ : (test : Bool) (P : Type 0) → IsTrue test ↔ P → true ≡ not test → P → ⊥
 do_differ true P decides e p = absurd (cc e)
 do_differ false P decides e p = false≢true (decides.1 p)

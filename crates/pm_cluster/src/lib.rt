@@ -19,8 +19,6 @@ mod node_moves;
 mod opening;
 mod parts;
 mod quiet;
-#[cfg(test)]
-mod tests;
 mod tree;
 
 pub use cluster::Cluster;

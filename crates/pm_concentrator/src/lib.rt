@@ -21,6 +21,3 @@ mod limited;
 
 pub use concentrator::Concentrator;
 pub use fault::PublishFault;
-
-#[cfg(test)]
-mod tests;

@@ -14,8 +14,6 @@
 mod kind;
 mod limits;
 mod state;
-#[cfg(test)]
-mod tests;
 mod tick;
 
 pub use kind::Kind;

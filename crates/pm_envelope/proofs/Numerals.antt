@@ -10,9 +10,13 @@ use Rattle.pm_envelope.specs.Lines.{HasNoLineFeed}
 
 -- digits without a leading zero, and their value
 pub record IsNumeralOf (number : ℕ) (text : List ℕ) : Type 0 where
+  -- there is at least one digit
   pub some : 0 < length text
+  -- digits that begin with a zero are that zero alone
   pub no_leading_zero : get_or text 0 0 ≡ 48 → length text ≡ 1
+  -- each byte is a decimal digit
   pub digits : AllDigits 10 text
+  -- the value of the digits is the number
   pub value : digits_value 10 text ≡ number
 
 no_zero_first : (number : ℕ) (text : List ℕ) → number < 2 ^ 64 → text ≡ decimal number → get_or text 0 0 ≡ 48 → length text ≡ 1

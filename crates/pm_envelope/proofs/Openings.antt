@@ -14,9 +14,12 @@ header_is_first input file rest is = record { parts = is.parts; no_line_feed = d
 
 -- what the first line and the bytes after it are in an envelope
 pub record HasHeader (header body file rest : List ℕ) : Type 0 where
+  -- the header is the decimal text of how many bytes the file has
   pub number : header ≡ decimal (length file)
+  -- the bytes after the header's line are the file and the rest
   pub parts : body ≡ file ++ rest
 
+-- the first line of an envelope tells its file's length, and the file and the rest stand after it
 pub has_header : (input header body file rest : List ℕ) → IsFirstLine input header body → IsEnvelope input file rest → HasHeader header body file rest
 has_header input header body file rest first is =
     let same = same_first_line input header body (decimal (length file)) (file ++ rest) first (header_is_first input file rest is) in

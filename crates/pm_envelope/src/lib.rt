@@ -11,8 +11,6 @@
 mod envelope;
 mod line;
 mod number;
-#[cfg(test)]
-mod tests;
 
 pub use envelope::{Envelope, FILE_LIMIT, envelopes_are_unique, open_envelope};
 pub use line::split_line;

@@ -19,10 +19,15 @@ use Rattle.pm_gen.specs.Rounds.{is_joined}
 -- the draft has the demo's tree, its last nodes are devices, its members are those whom the events so far have left joined, and it has at most
 -- so many changes
 pub record Stands (size : ℕ) (earlier : List ℕ) (most : ℕ) (plan : PlanData) : Type 0 where
+  -- the draft's tree is that of the demo cluster of this size
   pub entries_are : plan.entries ≡ demo_entries size
+  -- the draft has as many nodes as the demo has concentrators and devices
   pub one_each : length plan.nodes ≡ concentrator_count size + size
+  -- each node of the draft behind the concentrators, up to the size, is a device
   pub devices : (i : ℕ) → 1 ≤ i → i ≤ size → is_device (node plan (concentrator_count size + i)) ≡ true
+  -- a device is a member now just where the events so far have left it joined
   pub joined : (i : ℕ) → 1 ≤ i → i ≤ size → is_member_now plan (concentrator_count size + i) ≡ is_joined earlier i
+  -- the draft has at most so many changes
   pub few : all_changes plan.nodes ≤ most
 
 -- ---- nodes by their number
@@ -57,11 +62,13 @@ is_joined-more : (earlier : List ℕ) (i j : ℕ) → is_joined (earlier ++ i �
 unfolding is_joined
 is_joined-more earlier i j = fold_push (λ joined named. if named == j then not joined else joined) false earlier i
 
+-- one more event of a device turns round whether it is joined
 pub is_joined-same : (earlier : List ℕ) (i : ℕ) → is_joined (earlier ++ i ∷ []) i ≡ not (is_joined earlier i)
 is_joined-same earlier i =
     let same : (i == i) ≡ true = grind (arith, nat_tests) in
     is_joined-more earlier i i ∙ ap (λ b. if b then not (is_joined earlier i) else is_joined earlier i) same
 
+-- one more event of a device leaves whether another device is joined as it was
 pub is_joined-other : (earlier : List ℕ) (i j : ℕ) → i ≢ j → is_joined (earlier ++ i ∷ []) j ≡ is_joined earlier j
 is_joined-other earlier i j differ =
     let apart : (i == j) ≡ false = grind (arith, nat_tests) in
@@ -128,6 +135,7 @@ module _ (size : ℕ) (earlier : List ℕ) (most : ℕ) (plan : PlanData) (stand
       let longer = changes-with p (turning (is_joined earlier i)) (node plan d) in
       omega (arith, stands.few, sum, here, longer)
 
+  -- the draft stands as after one more event of a device once a change that turns it round is added
   pub stands-turned : Stands size (earlier ++ i ∷ []) (most + 1) (with_change_of plan d p (turning (is_joined earlier i)))
   unfolding with_change_of
   stands-turned = record {
@@ -179,6 +187,7 @@ ticked-at nodes p d minutes low high =
     ∙ get_or-map (map_device (ticked p minutes)) nodes (d - 1) Concentrator Concentrator (omega arith)
     ∙ ap (map_device (ticked p minutes)) (sym (node_at-below nodes d low))
 
+-- the draft stands so after a tick too, with at most one change more for each node
 pub stands-ticked : (size : ℕ) (earlier : List ℕ) (most : ℕ) (plan : PlanData) (p : ℕ) (minutes : ℤ) → Stands size earlier most plan →
     Stands size earlier (most + (concentrator_count size + size)) (with_tick p minutes plan)
 stands-ticked size earlier most plan p minutes stands = record {

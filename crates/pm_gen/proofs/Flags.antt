@@ -18,6 +18,7 @@ use Rattle.pm_gen.proofs.Turns.{not_turned}
 
 -- ---- one draw more
 
+-- the seed after one draw more is what a draw leaves of the seed before it
 pub after-more : (n seed : ℕ) → seed_after (n + 1) seed ≡ next (seed_after n seed)
 unfolding seed_after
 after-more zero seed = refl
@@ -39,6 +40,7 @@ turns-more earlier (d ∷ devices) i =
 
 -- ---- flags
 
+-- the flag at a place, counted from 0, says whether the device of the next number is joined
 pub flag-at : (size : ℕ) (earlier : List ℕ) (k : ℕ) → k < size → get_or (joined_flags size earlier) k false ≡ is_joined earlier (1 + k)
 flag-at size earlier k low = get_or-map-range_with_len (is_joined earlier) 1 size k (1 + k) false low refl
 
@@ -73,18 +75,23 @@ flags-turned size earlier k low =
 
 -- after so many events of a round: the flags and the events are those of the devices drawn so far
 pub record Turned (size : ℕ) (earlier : List ℕ) (first : ℕ) (count : ℕ) (members : List Bool) (made : List EventPart) : Type 0 where
+  -- the flags are those after the earlier events and those of the devices drawn so far
   pub flags : members ≡ joined_flags size (earlier ++ picks count size first)
+  -- the events made are those that turn round the devices drawn so far
   pub turned : made ≡ turns earlier (picks count size first)
 
+-- with the flags after the earlier events and nothing made, a round stands before its first event
 pub turned-none : (size : ℕ) (earlier : List ℕ) (first : ℕ) (members : List Bool) (made : List EventPart) →
     members ≡ joined_flags size earlier → made ≡ [] → Turned size earlier first 0 members made
 unfolding picks turns
 turned-none size earlier first members made flags nothing = record { flags = flags ∙ ap (joined_flags size) (sym (append-nil earlier)); turned = nothing }
 
+-- the seed after no draw is the first seed
 pub after-none : (seed : ℕ) → seed_after 0 seed ≡ seed
 unfolding seed_after
 after-none seed = refl
 
+-- with the next drawn device's flag turned and its event made, the round has come one event further
 pub turned-more : (size : ℕ) (earlier : List ℕ) (first count k : ℕ) (members new : List Bool) (made more : List EventPart)
     (event : EventPart) → k < size → k ≡ drawn size (seed_after count first)
     → Turned size earlier first count members made
@@ -132,6 +139,7 @@ turned_on n i low high =
     ∙ ap (λ b. fold (λ b named. if named == i then not b else b) (if b then true else false) (range_with_len (i + 1) (n - i))) same
     ∙ not_turned_yet (i + 1) (n - i) i true (omega arith)
 
+-- flags that are all set are those after one event of each device
 pub all_flags : (size : ℕ) (members : List Bool) → members ≡ replicate size true → members ≡ joined_flags size (range_with_len 1 size)
 all_flags size members made =
     let count = length-map-range_with_len (is_joined (range_with_len 1 size)) 1 size in
@@ -143,8 +151,11 @@ all_flags size members made =
 
 -- after so many rounds: the flags, and the phases so far with those of the rounds that are left
 pub record Rounded (size first : ℕ) (front : List PhasePart) (count seed : ℕ) (members : List Bool) (made : List PhasePart) : Type 0 where
+  -- the devices of all events so far
   pub earlier : List ℕ
+  -- the flags are those after all events so far
   pub flags : members ≡ joined_flags size earlier
+  -- the phases so far and the rounds that are left are the phases before and all ten rounds
   pub left : made ++ rounds (10 - count) size earlier seed ≡ front ++ rounds 10 size (range_with_len 1 size) first
 
 rounds-suc : (n size : ℕ) (earlier : List ℕ) (seed : ℕ) →
@@ -162,10 +173,13 @@ rounds-step count size earlier seed low =
 
 -- what a round makes of the flags and of the phases
 pub record Round (size seed : ℕ) (members new : List Bool) (made more : List PhasePart) : Type 0 where
+  -- a round puts a tick of 15 minutes and the events of its drawn devices behind the phases
   pub phases : (earlier : List ℕ) → members ≡ joined_flags size earlier →
       more ≡ made ++ tick (pos 15) ∷ events (turns earlier (round_picks size seed)) ∷ []
+  -- a round makes the flags those after its events too
   pub flags : (earlier : List ℕ) → members ≡ joined_flags size earlier → new ≡ joined_flags size (earlier ++ round_picks size seed)
 
+-- with one round's flags, phases and seed after it, the rounds have come one further
 pub rounded-more : (size have first : ℕ) (front : List PhasePart) (count seed left : ℕ) (members new : List Bool)
     (made more : List PhasePart) → count < 10 → have ≡ size
     → Rounded size first front count seed members made → Round have seed members new made more →
@@ -186,6 +200,7 @@ rounded-more size have first front count seed left members new made more low sam
           ∙ before.left;
     }
 
+-- once ten rounds have come, the phases are those before and all ten rounds
 pub rounded-all : (size first : ℕ) (front : List PhasePart) (count seed : ℕ) (members : List Bool) (made : List PhasePart) →
     10 ≤ count → Rounded size first front count seed members made → made ≡ front ++ rounds 10 size (range_with_len 1 size) first
 unfolding rounds

@@ -27,10 +27,12 @@ device_name-form i low high = in_range (λ i. is_name (device_name i)) 1 200 i d
 false_by : (b : Bool) → (b ≡ true → ⊥) → b ≡ false
 false_by b never = grind arith
 
+-- devices of different numbers below 2 ^ 64 have different names
 pub device_name-differs : (i j : ℕ) → i < 2 ^ 64 → j < 2 ^ 64 → i ≢ j → bytes_eq (device_name i) (device_name j) ≡ false
 device_name-differs i j low high differ =
     false_by (bytes_eq (decimal i) (decimal j)) (λ same. differ (decimal_injective i j low high ((bytes_eq-Decides (decimal i) (decimal j)).0 same)))
 
+-- the name of a device equals itself by the test of bytes
 pub device_name-same : (i : ℕ) → bytes_eq (device_name i) (device_name i) ≡ true
 device_name-same i = (bytes_eq-Decides (device_name i) (device_name i)).1 refl
 
@@ -59,6 +61,7 @@ no_earlier_has count i a (suc n) few later =
 abbrev pub front_entries : ℕ → ℕ → List Entry
 front_entries count k = concentrator_entries count ++ map (device_entry count) (range_with_len 1 k)
 
+-- neither the auctioneer, a concentrator nor one of the first devices has the name of a later device
 pub is_free : (count k i : ℕ) → i < 2 ^ 64 → k < i → is_taken (front_entries count k) (device_name i) ≡ false
 is_free count k i few later =
     ap (list_any (bytes_eq (device_name i))) (names_of-append (concentrator_entries count) (map (device_entry count) (range_with_len 1 k)))
@@ -68,6 +71,7 @@ is_free count k i few later =
     let rest = no_earlier_has count i 1 k few (omega arith) in
     (λ t. first t || rest t))
 
+-- a search among the concentrators and the first devices finds no node with the name of a later device
 pub not_named : (count k i : ℕ) → i < 2 ^ 64 → k < i → node_named (front_entries count k) (device_name i) ≡ None
 unfolding node_named
 not_named count k i few later = position-none (bytes_eq (device_name i)) (names_of (front_entries count k)) (is_free count k i few later)

@@ -25,8 +25,11 @@ use Rattle.pm_gen.specs.Nodes.{device_entry, concentrator_entries, device_entrie
 
 -- a device of a valid kind that is not manual, with a start that fits
 pub record IsDevice (kind : Kind) (start : ℤ) : Type 0 where
+  -- the kind is valid
   pub valid : is_valid kind ≡ true
+  -- the kind is not manual
   pub no_bid : is_manual kind ≡ false
+  -- the start fits the kind
   pub fits : state_fits kind start ≡ true
 
 -- a concentrator without limits, or such a device
@@ -53,6 +56,7 @@ device_planned (device kind (number start)) plain = refl
 device_planned (device kind (array demands)) plain = absurd plain
 device_planned (device kind (points pairs)) plain = absurd plain
 
+-- of plain parts a device is planned at a place just where the part there is a device
 pub devices_planned : (parts : List NodePart) → AllByRecursion IsPlain parts → (k : ℕ) →
     plans.is_device (get_or (map planned_for parts) k Concentrator) ≡ get_or (map is_device parts) k false
 devices_planned [] plain k = refl
@@ -67,9 +71,11 @@ add_plain n plan (device kind (number start)) plain = rw (plain.valid, plain.no_
 add_plain n plan (device kind (array demands)) plain = absurd plain
 add_plain n plan (device kind (points pairs)) plain = absurd plain
 
+-- the plan with more nodes behind its own
 abbrev pub with_nodes : PlanData → List NodeData → PlanData
 with_nodes plan more = record plan { nodes = plan.nodes ++ more }
 
+-- adding plain parts is never refused, and puts what is planned for them behind the plan's nodes
 pub add_plain_nodes : (n : ℕ) (plan : PlanData) (parts : List NodePart) → AllByRecursion IsPlain parts →
     fold_from n add_node plan parts ≡ Ok (with_nodes plan (map planned_for parts))
 add_plain_nodes n plan [] plain = ap (λ nodes. Ok (record plan { nodes = nodes })) (sym (append-nil plan.nodes))
@@ -152,6 +158,7 @@ after_concentrators : (count : ℕ) (parts : List NodePart) → AllByRecursion I
 after_concentrators zero parts plain = plain
 after_concentrators (suc count) parts plain = (tt, after_concentrators count parts plain)
 
+-- the parts of the demo cluster's nodes are all plain
 pub demo_nodes-plain : (size seed : ℕ) → AllByRecursion IsPlain (demo_nodes size seed)
 unfolding demo_nodes
 demo_nodes-plain size seed = after_concentrators (concentrator_count size) (drawn_devices size seed).0 (drawn_devices-plain size seed)
@@ -161,6 +168,7 @@ unfolding drawn_devices
 length-drawn_devices zero seed = refl
 length-drawn_devices (suc n) seed = ap suc (length-drawn_devices n (drawn_device seed).1)
 
+-- the demo cluster has as many parts of nodes as concentrators and devices
 pub length-demo_nodes : (size seed : ℕ) → length (demo_nodes size seed) ≡ concentrator_count size + size
 unfolding demo_nodes
 length-demo_nodes size seed =
@@ -195,6 +203,7 @@ constant_entries : (f : ℕ → Entry) (leaf : Bool) → ((i : ℕ) → (f i).le
 constant_entries f leaf same a zero = refl
 constant_entries f leaf same a (suc n) = let first = same a in let rest = constant_entries f leaf same (a + 1) n in (λ i. first i ∷ rest i)
 
+-- the parts of the demo cluster's nodes are those of its tree: the devices are the leaves
 pub demo_nodes-of_entries : (size seed : ℕ) → AreNodesOf (demo_entries size) (demo_nodes size seed)
 unfolding demo_nodes demo_entries leaves_of
 demo_nodes-of_entries size seed =

@@ -178,6 +178,7 @@ module _ (size : ℕ) (some : 1 ≤ size) (few : size ≤ 200) where
   unfolding demo_phases
   length-demo_phases seed = let rest = length-rounds 10 seed (range_with_len 1 size) in omega arith
 
+  -- the demo cluster of 1 to 200 devices has a plan, whatever the seed
   pub made_from-is_plan : (seed : ℕ) → (plan : PlanData) × (demo_plan_from size seed ≡ Ok plan)
   unfolding demo_plan_from checked_plan
   made_from-is_plan seed =

@@ -12,6 +12,7 @@ passes_by : (p : ℕ → Bool) (a i : ℕ) → p a ≡ true → (a < i → p i �
 passes_by p a i here later low (inl less) = later less
 passes_by p a i here later low (inr high) = let same : a ≡ i = omega arith in ap p (sym same) ∙ here
 
+-- a test that all numbers of a range pass is passed by each number of the range
 pub in_range : (p : ℕ → Bool) (a n i : ℕ) → list_all p (range_with_len a n) ≡ true → a ≤ i → i < a + n → p i ≡ true
 in_range p a zero i all low high = absurd (omega arith)
 in_range p a (suc n) i all low high =

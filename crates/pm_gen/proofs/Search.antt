@@ -12,6 +12,7 @@ past_all p (x ∷ xs) none =
     ap (λ b. cond (not b) (1 + position_or_len p xs) 0) both.0
     ∙ ap (λ n. 1 + n) (past_all p xs both.1) ∙ omega arith
 
+-- where no element passes a test, the search finds no place
 pub position-none : {A : Type 0} (p : A → Bool) (xs : List A) → list_any p xs ≡ false → position p xs ≡ None
 position-none p xs none = let past = past_all p xs none in grind (arith, nat_tests)
 
@@ -23,6 +24,7 @@ past_front p (x ∷ xs) y ys none here =
     ap (λ b. cond (not b) (1 + position_or_len p (xs ++ y ∷ ys)) 0) both.0
     ∙ ap (λ n. 1 + n) (past_front p xs y ys both.1 here) ∙ omega arith
 
+-- the first element that passes is found at the place behind those that do not
 pub position-first : {A : Type 0} (p : A → Bool) (xs : List A) (y : A) (ys : List A) → list_any p xs ≡ false → p y ≡ true →
     position p (xs ++ y ∷ ys) ≡ Some (length xs)
 position-first p xs y ys none here =

@@ -109,6 +109,7 @@ none_refused count size low high few =
     ∙ ap (λ before. refusals_after before (device_entries count size)) (sym (append-nil (concentrator_entries count)))
     ∙ devices-accepted count size 0 low high (omega arith)
 
+-- the demo cluster has as many entries as concentrators and devices
 pub length-demo_entries : (size : ℕ) → length (demo_entries size) ≡ concentrator_count size + size
 unfolding demo_entries
 length-demo_entries size =

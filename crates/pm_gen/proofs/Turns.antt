@@ -68,6 +68,7 @@ module _ (size : ℕ) (few : size ≤ 200) where
   abbrev pub AreDevices : List ℕ → Type 0
   AreDevices devices = AllByRecursion (λ i. (1 ≤ i) × (i ≤ size)) devices
 
+  -- events that turn devices round are accepted, and the draft stands as after them, with a change more for each
   pub turns-accepted : (n p : ℕ) (earlier devices : List ℕ) (most : ℕ) (plan : PlanData) → AreDevices devices → Stands size earlier most plan
       → IsDraft (earlier ++ devices) (most + length devices) (fold_from n (add_event p) plan (turns earlier devices))
   unfolding turns
@@ -99,20 +100,24 @@ module _ (size : ℕ) (few : size ≤ 200) where
         },
       )
 
+  -- the drawn numbers are those of devices, where there is a device
   pub picks-are_devices : (n seed : ℕ) → 1 ≤ size → AreDevices (picks n size seed)
   unfolding picks
   picks-are_devices zero seed some = tt
   picks-are_devices (suc n) seed some = ((omega arith, omega arith), picks-are_devices n (next seed) some)
 
+  -- the numbers of a range from 1 or more up to at most the size are those of devices
   pub range-are_devices : (a n : ℕ) → 1 ≤ a → a + n ≤ size + 1 → AreDevices (range_with_len a n)
   range-are_devices a zero low high = tt
   range-are_devices a (suc n) low high = ((low, omega arith), range-are_devices (a + 1) n (omega arith) (omega arith))
 
+-- there are as many events as devices to turn round
 pub length-turns : (earlier devices : List ℕ) → length (turns earlier devices) ≡ length devices
 unfolding turns
 length-turns earlier [] = refl
 length-turns earlier (i ∷ devices) = ap suc (length-turns (earlier ++ i ∷ []) devices)
 
+-- as many devices are drawn as are asked for
 pub length-picks : (n size seed : ℕ) → length (picks n size seed) ≡ n
 unfolding picks
 length-picks zero size seed = refl
@@ -143,5 +148,6 @@ turns_of_range k (suc n) =
     ∙ ap (λ a. map (λ i. join (device_name i)) (range_with_len a n)) (sym seam) in
     (λ t. first t ∷ rest t)
 
+-- the joins of all devices in order are the events that turn them round where none came before
 pub joins-are_turns : (size : ℕ) → map (λ i. join (device_name i)) (range_with_len 1 size) ≡ turns [] (range_with_len 1 size)
 joins-are_turns size = sym (turns_of_range 0 size)

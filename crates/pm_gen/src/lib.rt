@@ -12,8 +12,6 @@ mod draws;
 mod fault;
 mod names;
 mod rounds;
-#[cfg(test)]
-mod tests;
 mod tree;
 
 pub use demo::make_plan;

@@ -34,6 +34,7 @@ counted_same : (lists : Lists) (s t : State) → clearings s + s.closed < cleari
 unfolding counted
 counted_same lists s t lt le = omega (arith, sum_le (nodes lists) (counted_at lists s) (counted_at lists t) le)
 
+-- each legal move raises what is counted of the state
 pub counted_step : (lists : Lists) → Lawful lists → (s : State) (m : Move) → Legal lists s m → counted lists s < counted lists (step lists s m)
 unfolding counted_at
 counted_step lists law s (Change d n) legal =
@@ -232,6 +233,7 @@ list_weight lists law s sound c inner =
           ))),
     )
 
+-- in a sound state a node's newest number is at most the number of changes of its leaves
 pub newest_weight : (lists : Lists) → Lawful lists → (s : State) → Sound lists s → (x : ℕ) → IsNode lists x → newest lists s x ≤ weight lists x
 unfolding weight
 newest_weight lists law s sound x node =
@@ -419,6 +421,7 @@ all_weights lists law =
       sum_scaled (nodes lists) 7 (λ d. cond (is_leaf lists d) (changes lists d) 0),
     )
 
+-- what is counted of a sound state is at most the bound on moves
 pub counted_bound : (lists : Lists) → Lawful lists → (s : State) → Sound lists s → counted lists s ≤ bound lists
 unfolding counted counted_at
 counted_bound lists law s sound =
@@ -435,6 +438,7 @@ counted_bound lists law s sound =
     ∙ ap (λ (k : ℕ). (sum_to n (weight lists) + sum_to n (weight lists)) + k) (sum_same n j) in
     omega (arith, each, parted, all_weights lists law, mul-le-mul_left n j_le, j_le, sound.closed_within)
 
+-- a legal journal has at most as many moves as the bound
 pub journal_bound : (lists : Lists) → Lawful lists → (journal : List Move) → LegalJournal lists journal → length journal ≤ bound lists
 journal_bound lists law journal legal =
     omega (
@@ -448,11 +452,14 @@ pub newest_small : (lists : Lists) → Lawful lists → (s : State) → Sound li
     newest lists s x ≤ change_total lists
 newest_small lists law s sound x node = omega (arith, newest_weight lists law s sound x node, weight_small lists x)
 
+-- each legal move raises what is counted, with state and move before the premises
 pub move_counts : (lists : Lists) (s : State) (m : Move) → Lawful lists → Legal lists s m → counted lists s < counted lists (step lists s m)
 move_counts lists s m law legal = counted_step lists law s m legal
 
+-- what is counted of a sound state is at most the bound, with the state before the premises
 pub counts_end : (lists : Lists) (s : State) → Lawful lists → Sound lists s → counted lists s ≤ bound lists
 counts_end lists s law sound = counted_bound lists law s sound
 
+-- no newest number of a node is above the number of all changes, with state and node before the premises
 pub newest_end : (lists : Lists) (s : State) (x : ℕ) → Lawful lists → Sound lists s → IsNode lists x → newest lists s x ≤ change_total lists
 newest_end lists s x law sound node = newest_small lists law s sound x node

@@ -28,10 +28,12 @@ concentrators_more : (lists : Lists) (f y : ℕ) → 1 ≤ y →
 unfolding path_depth_in
 concentrators_more lists f y one = cond-false (eqb y 0) 0 (cond (is_leaf lists y) 0 1 + path_depth_in lists f (parent lists y)) (ne_eqb y 0 (λ e. omega arith))
 
+-- no concentrator stands on the path of the auctioneer
 pub concentrators_zero : (lists : Lists) → path_depth lists 0 ≡ 0
 unfolding path_depth path_depth_in
 concentrators_zero lists = refl
 
+-- where parents have smaller numbers a node's depth is its parent's, and one more if it is no device
 pub concentrators_step : (lists : Lists) → ((x : ℕ) → 1 ≤ x → parent lists x < x) → (x : ℕ) → 1 ≤ x →
     path_depth lists x ≡ cond (is_leaf lists x) 0 1 + path_depth lists (parent lists x)
 unfolding path_depth

@@ -13,6 +13,7 @@ use Rattle.pm_market.proofs.Tree.{leaf_of_parts, leaf_of_parent, leaf_of_auction
 use Rattle.pm_market.proofs.Cuts.{updated_same, updated_other, not_same, pushed, newest_inner, part_leaf, part_inner, greatest_le, greatest_from, greatest_same}
 use Rattle.pm_market.proofs.Cuts.{number_inner}
 
+-- at the end of phase 0, before the first phase, no change is made
 pub end_zero : (lists : Lists) (d : ℕ) → end_count lists 0 d ≡ 0
 unfolding end_count
 end_zero lists zero = refl
@@ -24,9 +25,11 @@ end_up lists law zero p d leaf e = let same : p ≡ phases lists = omega arith i
 end_up lists law (suc k) p d leaf e = let more : k + (p + 1) ≡ phases lists = omega arith in let below : p < phases lists = omega arith in
     omega (arith, law.ends_rise p d leaf below, end_up lists law k (p + 1) d leaf more)
 
+-- at the end of each phase a device has made at most as many changes as it makes in all
 pub end_within : (lists : Lists) → Lawful lists → (p d : ℕ) → IsLeaf lists d → p ≤ phases lists → end_count lists p d ≤ changes lists d
 end_within lists law p d leaf h = omega (arith, end_up lists law (phases lists - p) p d leaf (omega arith), law.ends_last d leaf)
 
+-- a function with one value replaced has the new value there, and the old value everywhere else
 pub updated_at : {A : Type 0} → (f : ℕ → A) (x : ℕ) (v : A) (y : ℕ) → ((y ≡ x) × (updated f x v y ≡ v))
     ⊎ ((y ≡ x → ⊥) × (updated f x v y ≡ f y))
 updated_at f x v y =
@@ -37,6 +40,7 @@ updated_at f x v y =
 
 -- lists of indices
 
+-- what stands in a list with one more at its end stood there before, or is the one more
 pub contains_push : (l : List ℕ) (v k : ℕ) → Contains (l ++ v ∷ []) k → Contains l k ⊎ (k ≡ v)
 contains_push l v k c =
     elim (cases_lt c.0 (length l)) [
@@ -44,12 +48,15 @@ contains_push l v k c =
       | inr ge ↦ let at : length l ≡ c.0 = omega (arith, length_push l v, c.1) in inr (sym (sym (get_or_push l v k c.0 at) ∙ c.2))
     ]
 
+-- what stands in a list of indices stands there still with one more at its end
 pub contains_more : (l : List ℕ) (v k : ℕ) → Contains l k → Contains (l ++ v ∷ []) k
 contains_more l v k c = (c.0, omega (arith, length_push l v, c.1), get_or_append_left l (v ∷ []) k c.0 c.1 ∙ c.2)
 
+-- the index that is added at the end of a list stands in it
 pub contains_last : (l : List ℕ) (v : ℕ) → Contains (l ++ v ∷ []) v
 contains_last l v = (length l, omega (arith, length_push l v), get_or_push l v v (length l) refl)
 
+-- what stands in the list of a node stands there still when an index joins the list of some node
 pub pushed_contains : (p : ℕ → List ℕ) (x v y k : ℕ) → Contains (p y) k → Contains (pushed p x v y) k
 pushed_contains p x v y k c =
     elim (updated_at p x (p x ++ v ∷ []) y) [
@@ -57,6 +64,7 @@ pushed_contains p x v y k c =
       | inr w ↦ subst (λ (l : List ℕ). Contains l k) (sym w.1) c
     ]
 
+-- what stands in a node's list once an index joined x's list stood there before, or is that index at x
 pub pushed_contains_cases : (p : ℕ → List ℕ) (x v y k : ℕ) → Contains (pushed p x v y) k → Contains (p y) k ⊎ ((y ≡ x) × (k ≡ v))
 pushed_contains_cases p x v y k c =
     elim (updated_at p x (p x ++ v ∷ []) y) [
@@ -75,6 +83,7 @@ last_empty : (l : List ℕ) → length l ≡ 0 → last_of l ≡ 0
 unfolding last_of
 last_empty l e = ap (λ (n : ℕ). get_or (0 ∷ l) n 0) e
 
+-- the last index of a list is the one that was added at its end
 pub last_push : (l : List ℕ) (v : ℕ) → last_of (l ++ v ∷ []) ≡ v
 last_push l v = last_at (l ++ v ∷ []) (length l) (omega (arith, length_push l v)) ∙ get_or_push l v 0 (length l) refl
 
@@ -87,6 +96,7 @@ last_cases l =
           inr (m, lt, get_or_default l m (last_of l) 0 lt ∙ sym (last_at l m e))
     ]
 
+-- in a list of indices that rise strictly each is at most the last
 pub last_most : (l : List ℕ) → ((i j : ℕ) → i < j → j < length l → get_or l i 0 < get_or l j 0) → (i : ℕ) → i < length l →
     get_or l i 0 ≤ last_of l
 last_most l rise i lt =
@@ -104,6 +114,7 @@ reached_within lists s sound y j came =
       | inr c ↦ sound.passed_within y j c
     ]
 
+-- in a sound state the index passed to a node last is at most the number of clearings
 pub last_within : (lists : Lists) (s : State) → Sound lists s → (x : ℕ) → last s x ≤ clearings s
 last_within lists s sound x =
     elim (last_cases (s.passed x)) [
@@ -113,6 +124,7 @@ last_within lists s sound x =
 
 -- cuts
 
+-- of two cuts that a node published or cleared the earlier is at most the later on its leaves
 pub rise_within : (lists : Lists) (s : State) → Sound lists s → (c i j : ℕ) → IsInner lists c → i ≤ j → j ≤ length (s.published c) →
     AtMostOn lists c (cut_at (s.published c) i) (cut_at (s.published c) j)
 rise_within lists s sound c i j inner h le d leaf =
@@ -121,10 +133,12 @@ rise_within lists s sound c i j inner h le d leaf =
       | inr n ↦ (sound.published_rise c i j inner (omega arith) le).within d leaf
     ]
 
+-- the number that was learnt of a concentrator is at most the number of cuts that it published
 pub learnt_of_inner : (lists : Lists) (s : State) → Sound lists s → (x : ℕ) → IsNode lists x → IsInner lists x →
     s.learnt x ≤ length (s.published x)
 learnt_of_inner lists s sound x node inner = omega (arith, sound.learnt_within x node, newest_inner lists s.counts s.published x inner)
 
+-- on a node's leaves the part of an earlier number is at most that of a later one, up to the newest
 pub part_within : (lists : Lists) (s : State) → Sound lists s → (x i j : ℕ) → i ≤ j → j ≤ newest lists s x →
     AtMostOn lists x (part lists s x i) (part lists s x j)
 part_within lists s sound x i j h le d leaf =
@@ -160,6 +174,7 @@ clearing_part_in lists law s sound (suc bound) x j h node le =
           )
     ]
 
+-- on the leaves of a node each clearing is the node's part of a number up to the one learnt last
 pub clearing_part : (lists : Lists) → Lawful lists → (s : State) → Sound lists s → (x j : ℕ) → IsNode lists x → j ≤ clearings s →
     (n : ℕ) × (n ≤ s.learnt x) × SameOn lists x (cleared s j) (part lists s x n)
 clearing_part lists law s sound x j node le = clearing_part_in lists law s sound x x j (omega arith) node le
@@ -169,6 +184,7 @@ pub cleared_within : (lists : Lists) → Lawful lists → (s : State) → Sound 
     IsLeaf lists d → cleared s i d ≤ cleared s j d
 cleared_within lists law s sound i j h le d leaf = rise_within lists s sound 0 i j (leaf_zero lists) h le d (leaf_of_auctioneer lists law d leaf)
 
+-- of two clearings the later has no smaller greatest number in a concentrator's list of published cuts
 pub number_rises : (lists : Lists) → Lawful lists → (s : State) → Sound lists s → (c i j : ℕ) → IsNode lists c → IsInner lists c →
     i ≤ j → j ≤ clearings s →
     greatest_number lists (s.published c) c (cleared s i) (length (s.published c)) ≤ greatest_number lists (s.published c) c

@@ -9,6 +9,7 @@ use Rattle.pm_market.specs.Held.{last_join, holds_price}
 use Rattle.pm_laws.proofs.Facts.{last_cases}
 use Rattle.pm_laws.proofs.Quiet.{addresses_leaf, quiet_counts, quiet_passed}
 
+-- the last join among the first n changes of a device has at most number n
 pub last_join_le : (lists : Lists) (d n : ℕ) → last_join lists d n ≤ n
 unfolding last_join
 last_join_le lists d zero = omega arith

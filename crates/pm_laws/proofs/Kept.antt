@@ -52,6 +52,7 @@ closed_idle lists s p idle (Clear j) legal = idle (Clear j) legal
 closed_idle lists s p idle (Pass x j) legal = idle (Pass x j) legal
 closed_idle lists s p idle (Close q) legal = legal
 
+-- the start is a sound state
 pub sound_start : (lists : Lists) → Lawful lists → Sound lists start
 sound_start lists law = record {
   counts_within = λ d leaf. omega arith;
@@ -457,6 +458,7 @@ sound_close lists law s sound p legal = record {
   window = sound.window;
 }
 
+-- the state after a legal move in a sound state is sound
 pub sound_step : (lists : Lists) → Lawful lists → (s : State) → Sound lists s → (m : Move) → Legal lists s m → Sound lists (step lists s m)
 sound_step lists law s sound (Change d n) legal = sound_change lists law s sound d n legal
 sound_step lists law s sound (Learn x n) legal = sound_learn lists law s sound x n legal
@@ -471,10 +473,12 @@ sound_step lists law s sound (Clear j) legal =
 sound_step lists law s sound (Pass x j) legal = sound_pass lists law s sound x j legal
 sound_step lists law s sound (Close p) legal = sound_close lists law s sound p legal
 
+-- the state after legal moves from any sound state on is sound
 pub sound_after_from : (lists : Lists) → Lawful lists → (journal : List Move) (s : State) → Sound lists s →
     LegalFrom lists s journal → Sound lists (after_from lists s journal)
 sound_after_from lists law [] s sound legal = sound
 sound_after_from lists law (m ∷ ms) s sound legal = sound_after_from lists law ms (step lists s m) (sound_step lists law s sound m legal.0) legal.1
 
+-- the state after a legal journal is sound
 pub sound_after : (lists : Lists) → Lawful lists → (journal : List Move) → LegalJournal lists journal → Sound lists (after lists journal)
 sound_after lists law journal legal = sound_after_from lists law journal start (sound_start lists law) legal

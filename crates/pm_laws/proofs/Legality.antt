@@ -35,6 +35,7 @@ idle_from lists s sound h (Pass x j) legal =
     both_ways (pass_is_legal lists s x j) (at.2 j within.0 within.1) (pass_at lists s x j legal)
 idle_from lists s sound h (Close p) legal = legal
 
+-- an idle state, sound or not, passes the test for one
 pub idle_to : (lists : Lists) (s : State) → Idle lists s → is_idle lists s ≡ true
 unfolding is_idle is_idle_at
 idle_to lists s idle =
@@ -45,6 +46,7 @@ idle_to lists s idle =
     (all_to_from (clearings s) _ (λ j j_one j_le. not_from_false _ (false_from_ne_true _ (λ e. idle (Pass x j) (pass_from lists s x j e)))))))
     (not_from_false _ (false_from_ne_true _ (λ e. idle (Clear (clearings s + 1)) (clear_from lists s (clearings s + 1) e))))
 
+-- a move that passes the test of legality in a sound state is legal
 pub legal_from : (lists : Lists) → Lawful lists → (s : State) → Sound lists s → (m : Move) → is_legal lists s m ≡ true → Legal lists s m
 unfolding is_legal change_is_legal close_is_legal are_made
 legal_from lists law s sound (Change d n) h =
@@ -68,6 +70,7 @@ legal_from lists law s sound (Close p) h =
       idle_from lists s sound a.1,
     )
 
+-- a legal move passes the test of legality, in a sound state or not
 pub legal_to : (lists : Lists) → (s : State) → (m : Move) → Legal lists s m → is_legal lists s m ≡ true
 unfolding is_legal change_is_legal close_is_legal are_made
 legal_to lists s (Change d n) h = and_from _ _
@@ -83,6 +86,7 @@ legal_to lists s (Close p) h =
       | inr e ↦ cond-false (is_leaf lists d) (eqb (s.counts d) (end_count lists p d)) true e
     ]))) (idle_to lists s h.3)
 
+-- moves from a sound state on are all legal where the place of the first illegal one is past their end
 pub journal_from : (lists : Lists) → Lawful lists → (ms : List Move) (s : State) → Sound lists s →
     first_illegal lists s ms ≡ length ms → LegalFrom lists s ms
 unfolding first_illegal
@@ -115,6 +119,7 @@ node_move_at lists s x h =
           (Pass x r.0, pass_from lists s x r.0 (not-false (pass_is_legal lists s x r.0) r.3))
     ]
 
+-- a state that fails the test of idleness, sound or not, has a legal node move
 pub not_idle_move : (lists : Lists) (s : State) → is_idle lists s ≡ false → (m : Move) × NodeLegal lists s m
 unfolding is_idle
 not_idle_move lists s h =
@@ -124,9 +129,11 @@ not_idle_move lists s h =
       | inr a ↦ (Clear (clearings s + 1), clear_from lists s (clearings s + 1) (not-false (clear_is_legal lists s (clearings s + 1)) a))
     ]
 
+-- in a sound state a move passes the test of legality exactly where it is legal
 pub legal_tested : (lists : Lists) (s : State) (m : Move) → Lawful lists → Sound lists s → (is_legal lists s m ≡ true) ↔ Legal lists s m
 legal_tested lists s m law sound = (legal_from lists law s sound m, legal_to lists s m)
 
+-- a sound state passes the test of idleness exactly where it is idle
 pub idle_tested : (lists : Lists) (s : State) → Sound lists s → (is_idle lists s ≡ true) ↔ Idle lists s
 idle_tested lists s sound = (idle_from lists s sound, idle_to lists s)
 

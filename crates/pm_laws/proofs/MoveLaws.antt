@@ -37,31 +37,37 @@ has_added lists law s sound y inner after = record {
   number_cleared = published.number_cleared lists law s sound y inner after;
 }
 
+-- a legal Publish adds to the concentrator's cuts what it knows, and keeps what was there
 pub publishing : (lists : Lists) (s : State) (c n : ℕ) → Lawful lists → Sound lists s → Legal lists s (Publish c n) →
     HasAdded lists s (step lists s (Publish c n)) c
 publishing lists s c n law sound legal = has_added lists law s sound c legal.0.2 (sound_step lists law s sound (Publish c n) legal)
 
+-- a legal Clear adds to the cleared cuts what the auctioneer knows, and keeps what was there
 pub clearing : (lists : Lists) (s : State) (j : ℕ) → Lawful lists → Sound lists s → Legal lists s (Clear j) →
     HasAdded lists s (step lists s (Clear j)) 0
 clearing lists s j law sound legal = has_added lists law s sound 0 (leaf_zero lists) (sound_step lists law s sound (Clear j) legal)
 
 -- learning
 
+-- after Learn x n the parent of x knows of each leaf of x what part n of x says
 pub learning_here : (lists : Lists) (s : State) (x n d : ℕ) → Lawful lists → IsNode lists x → IsLeafOf lists x d →
     known lists (step lists s (Learn x n)) (parent lists x) d ≡ part lists s x n d
 learning_here lists s x n d law node leaf =
     known_at lists law s.published _ x d node.0 leaf ∙ ap (λ (k : ℕ). part lists s x k d) (updated_same s.learnt x n)
 
+-- after Learn x n the parent of any other node z knows of the leaves of z what it knew
 pub learning_beside : (lists : Lists) (s : State) (x z n d : ℕ) → Lawful lists → IsNode lists z → z ≢ x → IsLeafOf lists z d →
     known lists (step lists s (Learn x n)) (parent lists z) d ≡ known lists s (parent lists z) d
 learning_beside lists s x z n d law node other leaf =
     known_at lists law s.published _ z d node.0 leaf ∙ ap (λ (k : ℕ). part lists s z k d) (updated_other s.learnt x n z other)
     ∙ sym (known_at lists law s.published s.learnt z d node.0 leaf)
 
+-- after Learn x n each inner node but the parent of x knows of its leaves what it knew
 pub learning_elsewhere : (lists : Lists) (s : State) (x n y : ℕ) → Lawful lists → IsInner lists y → parent lists x ≢ y →
     SameOn lists y (known lists s y) (known lists (step lists s (Learn x n)) y)
 learning_elsewhere lists s x n y law inner other = known_elsewhere lists law s x n y inner other
 
+-- after a legal Learn the parent knows something other than it published or cleared last
 pub learning_differs : (lists : Lists) (s : State) (x n : ℕ) → Lawful lists → Sound lists s → Legal lists s (Learn x n) →
     DifferOn lists (parent lists x) (known lists (step lists s (Learn x n)) (parent lists x))
     (cut_at (s.published (parent lists x)) (length (s.published (parent lists x))))
@@ -75,12 +81,15 @@ due_parts lists s x j due =
     let parts = and_parts (has_reached s (parent lists x) j) (addresses lists s j x) due in
     (reached_from s (parent lists x) j parts.0, parts.1)
 
+-- a clearing that reached the parent of a node and addresses the node is due to it
 pub due_from : (lists : Lists) (s : State) (x j : ℕ) → Reached s (parent lists x) j → addresses lists s j x ≡ true → is_due lists s x j ≡ true
 due_from lists s x j reached addressed = and_from _ _ (reached_at s (parent lists x) j reached) addressed
 
+-- in a sound state the index of what is due to a node is that of a clearing
 pub due_within : (lists : Lists) (s : State) (x j : ℕ) → Sound lists s → is_due lists s x j ≡ true → (1 ≤ j) × (j ≤ clearings s)
 due_within lists s x j sound due = published.due_within lists s sound x j due
 
+-- a concentrator's publishing makes nothing due, and leaves what was
 pub due_published : (lists : Lists) (s : State) (c n x j : ℕ) → IsConcentrator lists c → is_due lists (step lists s (Publish c n)) x j
     ≡ is_due lists s x j
 due_published lists s c n x j concentrator = published.due_kept lists s c concentrator.0 x j
@@ -111,6 +120,7 @@ module _ (lists : Lists) (s : State) (y i x j : ℕ) where
       let at : Contains ((step lists s (Pass y i)).passed y) j = subst (λ l. Contains l j) (sym (pushed_same s.passed y i)) here in
       due_from lists (step lists s (Pass y i)) x j (inr (subst (λ (z : ℕ). Contains ((step lists s (Pass y i)).passed z) j) (sym new.0) at)) new.2
 
+-- after Pass y i due is what was, and clearing i to each child of y that it addresses
 pub due_passed : (lists : Lists) (s : State) (y i x j : ℕ) →
     (is_due lists (step lists s (Pass y i)) x j ≡ true)
     ↔ ((is_due lists s x j ≡ true) ⊎ ((parent lists x ≡ y) × (j ≡ i) × (addresses lists s j x ≡ true)))
@@ -156,6 +166,7 @@ module _ (lists : Lists) (law : Lawful lists) (s : State) (sound : Sound lists s
       ]) (same within ∙ parts.1)
   cleared_to (inr new) = due_from lists next x j (inl (new.0, omega (arith, new.1), omega (arith, new.1, more))) (newly new.1 ∙ new.2)
 
+-- after a legal Clear due is what was, and the new clearing to each child of the auctioneer that it addresses
 pub due_cleared : (lists : Lists) (s : State) (k x j : ℕ) → Lawful lists → Sound lists s → Legal lists s (Clear k) →
     (is_due lists (step lists s (Clear k)) x j ≡ true)
     ↔ ((is_due lists s x j ≡ true) ⊎ ((parent lists x ≡ 0) × (j ≡ clearings s + 1) × (addresses_of lists (known lists s 0) x ≡ true)))

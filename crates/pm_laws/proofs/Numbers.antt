@@ -12,6 +12,7 @@ use Rattle.pm_market.proofs.Cuts.{greatest_le, greatest_from, greatest_same, num
 use Rattle.pm_laws.proofs.Facts.{clearing_part, cleared_within, learnt_of_inner, number_rises}
 use Rattle.pm_laws.proofs.Quiet.{zeros_address_none, addresses_inner}
 
+-- the number that a cut contains of a device is the cut's number of it
 pub number_leaf : (lists : Lists) (p : ℕ → List Cut) (x : ℕ) (cut : Cut) → IsLeaf lists x → number_of lists p x cut ≡ cut x
 unfolding number_of
 number_leaf lists p x cut leaf = cond-true (is_leaf lists x) (cut x) (greatest_number lists (p x) x cut (length (p x))) leaf

@@ -6,22 +6,26 @@ use Rattle.pm_market.specs.Lists.{Lists, nodes, parent, is_leaf_of, IsLeaf, IsIn
 use Rattle.pm_market.specs.Offers.{int_sum_to, sum_on, sum_children}
 use Rattle.pm_market.proofs.Tree.{leaf_node, leaf_of_itself, leaf_of_leaf, leaf_of_parent, child_at_or_above_is, child_of}
 
+-- sums of whole numbers from 1 to n are the same where their terms are
 pub int_sum_same : (n : ℕ) (f g : ℕ → ℤ) → ((x : ℕ) → 1 ≤ x → x ≤ n → f x ≡ g x) → int_sum_to n f ≡ int_sum_to n g
 unfolding int_sum_to
 int_sum_same zero f g h = refl
 int_sum_same (suc n) f g h = ap (λ (z : ℤ). z +ℤ int_sum_to n f) (h (suc n) (omega arith) (omega arith))
     ∙ ap (λ (z : ℤ). g (suc n) +ℤ z) (int_sum_same n f g (λ x one le. h x one (omega arith)))
 
+-- a sum of whole numbers that are all 0 is 0
 pub int_sum_none : (n : ℕ) → int_sum_to n (λ x. pos 0) ≡ pos 0
 unfolding int_sum_to
 int_sum_none zero = refl
 int_sum_none (suc n) = omega (arith, ints, int_sum_none n)
 
+-- a sum of whole numbers from 1 to n, of two functions added, is their two sums added
 pub int_sum_add : (n : ℕ) (f g : ℕ → ℤ) → int_sum_to n (λ x. f x +ℤ g x) ≡ int_sum_to n f +ℤ int_sum_to n g
 unfolding int_sum_to
 int_sum_add zero f g = omega (arith, ints)
 int_sum_add (suc n) f g = omega (arith, ints, int_sum_add n f g)
 
+-- two nested sums of whole numbers are the same with their ranges in the other order
 pub int_sum_swap : (m n : ℕ) (f : ℕ → ℕ → ℤ) → int_sum_to m (λ x. int_sum_to n (λ d. f x d)) ≡ int_sum_to n (λ d. int_sum_to m (λ x. f x d))
 unfolding int_sum_to
 int_sum_swap zero n f = sym (int_sum_none n)
@@ -51,6 +55,7 @@ int_sum_only (suc n) f k one le h =
     ints_left : (a : ℤ) → pos 0 +ℤ a ≡ a
     ints_left a = omega (arith, ints)
 
+-- the sum over the leaves of a device is the device's own term
 pub sum_on_leaf : (lists : Lists) → Lawful lists → (x : ℕ) (f : ℕ → ℤ) → IsLeaf lists x → sum_on lists x f ≡ f x
 unfolding sum_on
 sum_on_leaf lists law x f leaf =

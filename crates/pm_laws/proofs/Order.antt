@@ -12,16 +12,19 @@ use Rattle.pm_market.proofs.Cuts.{pushed_same, pushed_length_le, pushed_cut_at_k
 use Rattle.pm_laws.proofs.Facts.{pushed_contains, contains_last, last_most, cleared_within}
 use Rattle.pm_laws.proofs.Kept.{sound_start, sound_step, sound_after_from}
 
+-- the state after two lists of moves in a row is that of the second from where the first ends
 pub after_append : (lists : Lists) (front rest : List Move) (s : State) →
     after_from lists s (front ++ rest) ≡ after_from lists (after_from lists s front) rest
 after_append lists [] rest s = refl
 after_append lists (m ∷ ms) rest s = after_append lists ms rest (step lists s m)
 
+-- of two lists of moves, legal in a row, the first is legal and so is the second from where it ends
 pub legal_parts : (lists : Lists) (front rest : List Move) (s : State) → LegalFrom lists s (front ++ rest) → LegalFrom lists s front
     × LegalFrom lists (after_from lists s front) rest
 legal_parts lists [] rest s legal = (tt, legal)
 legal_parts lists (m ∷ ms) rest s legal = let r = legal_parts lists ms rest (step lists s m) legal.1 in ((legal.0, r.0), r.1)
 
+-- legal moves, and moves that are legal from where those end, are legal in a row
 pub legal_append : (lists : Lists) (front rest : List Move) (s : State) → LegalFrom lists s front →
     LegalFrom lists (after_from lists s front) rest → LegalFrom lists s (front ++ rest)
 legal_append lists [] rest s legal more = more
@@ -56,6 +59,7 @@ cleared_step lists s (Clear k) j h = (
 cleared_step lists s (Pass y k) j h = (h, refl)
 cleared_step lists s (Close p) j h = (h, refl)
 
+-- a clearing is still there, with the same cut, after any more moves, legal or not
 pub cleared_stays : (lists : Lists) (journal : List Move) (s : State) (j : ℕ) → j ≤ clearings s →
     (j ≤ clearings (after_from lists s journal)) × (cleared (after_from lists s journal) j ≡ cleared s j)
 cleared_stays lists [] s j h = (h, refl)
@@ -102,6 +106,7 @@ two_passes lists law mid rest s sound x i j legal =
           (passed_cuts lists law final sound_final x i j i_final j_final (omega arith) d leaf),
     )
 
+-- of two passes to a node in a legal journal the later's index is greater, and no device's number smaller
 pub never_back : (lists : Lists) → Lawful lists → (front mid rest : List Move) (x i j : ℕ) →
     LegalJournal lists (front ++ Pass x i ∷ (mid ++ Pass x j ∷ rest)) →
     let end_s = after lists (front ++ Pass x i ∷ (mid ++ Pass x j ∷ rest)) in

@@ -22,6 +22,7 @@ node_legal lists s (Clear j) h = h
 node_legal lists s (Pass x j) h = h
 node_legal lists s (Close p) h = absurd h
 
+-- in a sound state some move is legal as long as not all phases are closed
 pub progress : (lists : Lists) → Lawful lists → (s : State) → Sound lists s → s.closed < phases lists → (m : Move) × Legal lists s m
 progress lists law s sound open_now =
     let made : ℕ → Bool = λ d. cond (is_leaf lists d) (eqb (s.counts d) (end_count lists (s.closed + 1) d)) true in

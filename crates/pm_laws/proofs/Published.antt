@@ -19,6 +19,7 @@ pub due_within : (lists : Lists) (s : State) → Sound lists s → (x j : ℕ) �
 due_within lists s sound x j h = reached_within lists s sound (parent lists x) j
     (reached_from s (parent lists x) j (and_parts (has_reached s (parent lists x) j) (addresses lists s j x) h).0)
 
+-- the state in which what a node knows has joined the cuts that it published or cleared
 abbrev pub more : Lists → State → ℕ → State
 more lists s y = record s { published = pushed s.published y (known lists s y) }
 
@@ -27,41 +28,51 @@ module _ (lists : Lists) (law : Lawful lists) (s : State) (sound : Sound lists s
   abbrev s' : State
   s' = more lists s y
 
+  -- after y published, the cuts of every other node are those that were there
   pub list_kept : (z : ℕ) → (z ≡ y → ⊥) → s'.published z ≡ s.published z
   list_kept z ne = pushed_other s.published y (known lists s y) z ne
 
+  -- after y published, its list has one cut more
   pub list_longer : length (s'.published y) ≡ length (s.published y) + 1
   list_longer = pushed_length_same s.published y (known lists s y)
 
+  -- after y published, each number that a list had stands for the same cut
   pub cut_at_old : (z i : ℕ) → i ≤ length (s.published z) → cut_at (s'.published z) i ≡ cut_at (s.published z) i
   cut_at_old z i le = pushed_cut_at_kept s.published y (known lists s y) z i (λ e. omega (arith, ap (λ (k : ℕ). length (s.published k)) e))
 
+  -- after y published, its new number stands for the cut that it knew
   pub cut_at_last : (i : ℕ) → i ≡ length (s.published y) + 1 → cut_at (s'.published y) i ≡ known lists s y
   cut_at_last i e = ap (λ (l : List Cut). cut_at l i) (pushed_same s.published y (known lists s y)) ∙ cut_at_new (s.published y) (known lists s y) i e
 
+  -- after y published, the newest number of any other node is the same
   pub newest_other : (z : ℕ) → (z ≡ y → ⊥) → newest lists s' z ≡ newest lists s z
   newest_other z ne = elim (cases_Bool (is_leaf lists z)) [
     | inl e ↦ newest_leaf lists s.counts s'.published z e ∙ sym (newest_leaf lists s.counts s.published z e)
     | inr e ↦ newest_inner lists s.counts s'.published z e ∙ ap length (list_kept z ne) ∙ sym (newest_inner lists s.counts s.published z e)
   ]
 
+  -- after y published, its newest number is one more
   pub newest_more : newest lists s' y ≡ newest lists s y + 1
   newest_more = omega (arith, newest_inner lists s.counts s'.published y inner, newest_inner lists s.counts s.published y inner, list_longer)
 
+  -- after y published, no node's newest number is smaller
   pub newest_le : (z : ℕ) → newest lists s z ≤ newest lists s' z
   newest_le z = elim (cases_eq z y) [
     | inl e ↦ omega (arith, ap (newest lists s) e, ap (newest lists s') e, newest_more)
     | inr ne ↦ omega (arith, newest_other z ne)
   ]
 
+  -- after y published, each node's part of a number that it had is the same
   pub part_old : (z i : ℕ) → i ≤ newest lists s z → part lists s' z i ≡ part lists s z i
   part_old z i le = part_kept lists s.published y (known lists s y) z i (λ e.
       let inner_z : IsInner lists z = ap (is_leaf lists) e
       ∙ inner in omega (arith, newest_inner lists s.counts s.published z inner_z, ap (λ (k : ℕ). length (s.published k)) e))
 
+  -- after y published, its part of the new number is what it knew
   pub part_last : (i : ℕ) → i ≡ newest lists s y + 1 → part lists s' y i ≡ known lists s y
   part_last i e = part_inner lists s'.published y i inner ∙ cut_at_last i (omega (arith, newest_inner lists s.counts s.published y inner))
 
+  -- after y published, each inner node knows the same of its leaves
   pub known_same : (z : ℕ) → IsInner lists z → SameOn lists z (known lists s z) (known lists s' z)
   known_same z inner_z d leaf =
       let w = child_of lists law z d inner_z leaf in
@@ -76,6 +87,7 @@ module _ (lists : Lists) (law : Lawful lists) (s : State) (sound : Sound lists s
       number_of_part lists law s' sound' z i cut node (omega (arith, newest_le z)) (λ d leaf. same d leaf ∙ ap (λ (a : Cut). a d) (sym (part_old z i le)))
       ∙ sym (number_of_part lists law s sound z i cut node le same)
 
+  -- after y published, each cut from before of a node's parent contains the same number of the node
   pub number_published : (z i : ℕ) → IsNode lists z → i ≤ length (s.published (parent lists z)) →
       number lists s' z (cut_at (s'.published (parent lists z)) i) ≡ number lists s z (cut_at (s.published (parent lists z)) i)
   number_published z i node le =
@@ -93,22 +105,27 @@ module _ (lists : Lists) (law : Lawful lists) (s : State) (sound : Sound lists s
       ap (λ (k : ℕ). known lists s k d) (sym e) ∙ known_at lists law s.published s.learnt z d node.0 leaf
       ∙ ap (λ (a : Cut). a d) (sym (part_old z (s.learnt z) (sound.learnt_within z node))))
 
+  -- after y published, the cut of a clearing as it was before contains the same number of each node
   pub number_cleared_old : (z j : ℕ) → IsNode lists z → j ≤ clearings s → number lists s' z (cleared s j) ≡ number lists s z (cleared s j)
   number_cleared_old z j node le =
       let at = cleared_is_part lists law s sound z j node le in
       number_kept z (number lists s z (cleared s j)) (cleared s j) node (omega (arith, at.1, sound.learnt_within z node)) at.0
 
+  -- after y published, a clearing from before has the same cut
   pub cleared_old : (j : ℕ) → j ≤ clearings s → cleared s' j ≡ cleared s j
   cleared_old j le = cut_at_old 0 j le
 
+  -- after y published, a clearing from before, as it is now, contains the same number of each node
   pub number_cleared : (z j : ℕ) → IsNode lists z → j ≤ clearings s → number lists s' z (cleared s' j) ≡ number lists s z (cleared s j)
   number_cleared z j node le = ap (number lists s' z) (cleared_old j le) ∙ number_cleared_old z j node le
 
 -- a concentrator's publishing leaves the clearings
 module _ (lists : Lists) (s : State) (y : ℕ) (some_node : 1 ≤ y) where
+  -- what a node other than the auctioneer publishes leaves the cleared cuts as they are
   pub clearings_kept : s.published 0 ≡ (more lists s y).published 0
   clearings_kept = sym (pushed_other s.published y (known lists s y) 0 (λ e. omega arith))
 
+  -- what a node other than the auctioneer publishes leaves which clearings are due to each node
   pub due_kept : (x j : ℕ) → is_due lists (more lists s y) x j ≡ is_due lists s x j
   due_kept x j = ap (λ (l : List Cut). ((eqb (parent lists x) 0 && leb 1 j && leb j (length l))
       || is_one_of (s.passed (parent lists x)) j) && addresses_of lists (cut_at l j) x) (sym clearings_kept)

@@ -15,14 +15,17 @@ use Rattle.pm_market.proofs.Tree.{leaf_node, leaf_of_itself, leaf_of_parent}
 use Rattle.pm_market.proofs.Cuts.{not_same, same_from, is_same_from, entry_zero, newest_leaf, newest_inner, part_leaf, part_inner, known_at, greatest_from}
 use Rattle.pm_laws.proofs.Facts.{last_cases, last_within, window_of}
 
+-- after change 0, which is none, no device is a member
 pub in_zero : (lists : Lists) (d : ℕ) → is_member lists d 0 ≡ false
 unfolding is_member
 in_zero lists d = refl
 
+-- a clearing addresses a device exactly where it is a member at the cut's number
 pub addresses_leaf : (lists : Lists) (cut : Cut) (x : ℕ) → IsLeaf lists x → addresses_of lists cut x ≡ is_member lists x (cut x)
 unfolding addresses_of
 addresses_leaf lists cut x leaf = cond-true (is_leaf lists x) (is_member lists x (cut x)) (not (is_same_on lists x cut no_changes)) leaf
 
+-- a clearing addresses an inner node exactly where its cut is not all zeros on the node's leaves
 pub addresses_inner : (lists : Lists) (cut : Cut) (x : ℕ) → IsInner lists x → addresses_of lists cut x ≡ not (is_same_on lists x cut no_changes)
 unfolding addresses_of
 addresses_inner lists cut x inner = cond-false (is_leaf lists x) (is_member lists x (cut x)) (not (is_same_on lists x cut no_changes)) inner
@@ -57,6 +60,7 @@ addresses_up lists law cut x node h =
           absurd (zeros_address_none lists law cut x (λ d leaf. same d (leaf_of_parent lists law x d leaf)) h)
     ]
 
+-- a clearing that addresses a node has an index above 0
 pub addressed_index : (lists : Lists) → Lawful lists → (s : State) (j x : ℕ) → addresses lists s j x ≡ true → 1 ≤ j
 addressed_index lists law s j x h =
     elim (cases_eq j 0) [

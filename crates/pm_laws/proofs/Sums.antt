@@ -3,11 +3,13 @@ use Rattle.std.proofs.Common.{◌≡◌, ℕ, zero, suc, ◌+◌, ◌*◌, ◌<�
 use Rattle.std.proofs.lemmas.Bool.{cases_eq, cases_Bool, cond-true, cond-false}
 use Rattle.pm_market.specs.State.{sum_to}
 
+-- a sum from 1 to n is at most another one where each of its terms is
 pub sum_le : (n : ℕ) (f g : ℕ → ℕ) → ((x : ℕ) → 1 ≤ x → x ≤ n → f x ≤ g x) → sum_to n f ≤ sum_to n g
 unfolding sum_to
 sum_le zero f g h = omega arith
 sum_le (suc n) f g h = omega (arith, h (suc n) (omega arith) (omega arith), sum_le n f g (λ x one le. h x one (omega arith)))
 
+-- a sum from 1 to n is below another one where no term is above the other's and some term is below
 pub sum_lt : (n : ℕ) (f g : ℕ → ℕ) → ((x : ℕ) → 1 ≤ x → x ≤ n → f x ≤ g x) → (k : ℕ) → 1 ≤ k → k ≤ n → f k < g k →
     sum_to n f < sum_to n g
 unfolding sum_to
@@ -18,6 +20,7 @@ sum_lt (suc n) f g h k one le lt =
       | inr ne ↦ omega (arith, h (suc n) (omega arith) (omega arith), sum_lt n f g (λ x x_one x_le. h x x_one (omega arith)) k one (omega arith) lt)
     ]
 
+-- each term of a sum from 1 to n is at most the sum
 pub sum_at : (n : ℕ) (f : ℕ → ℕ) (k : ℕ) → 1 ≤ k → k ≤ n → f k ≤ sum_to n f
 unfolding sum_to
 sum_at zero f k one le = absurd (omega arith)
@@ -27,11 +30,13 @@ sum_at (suc n) f k one le =
       | inr ne ↦ omega (arith, sum_at n f k one (omega arith))
     ]
 
+-- a sum from 1 to n of two functions added is their two sums added
 pub sum_add : (n : ℕ) (f g : ℕ → ℕ) → sum_to n (λ x. f x + g x) ≡ sum_to n f + sum_to n g
 unfolding sum_to
 sum_add zero f g = omega arith
 sum_add (suc n) f g = omega (arith, sum_add n f g)
 
+-- the sum from 1 to n of one value is n times the value
 pub sum_same : (n v : ℕ) → sum_to n (λ x. v) ≡ n * v
 unfolding sum_to
 sum_same zero v = omega arith
@@ -60,6 +65,7 @@ sum_times (suc n) b v =
     ])
     (sum_times n b v)
 
+-- the sum of m times each term is m times the sum
 pub sum_scaled : (n m : ℕ) (f : ℕ → ℕ) → sum_to n (λ x. m * f x) ≡ m * sum_to n f
 unfolding sum_to
 sum_scaled zero m f = omega arith

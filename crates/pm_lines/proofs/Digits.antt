@@ -11,13 +11,17 @@ use Rattle.std.proofs.lemmas.Bool.{cond-false, ne_eqb, cases_eq}
 use Rattle.std.proofs.lemmas.Str.Parse.{IsNumeralModel, numerals_by_value, tells_digits}
 use Rattle.std.proofs.lemmas.Fmt.{decimal-digits_value, parse-decimal, decimal_nonempty, first_decimal, decimal_digit}
 
+-- decimal digits and the value that they give are a model of numerals
 pub digits : IsNumeralModel (AllDigits 10) (digits_value 10)
 digits = numerals_by_value (AllDigits 10) tells_digits
 
 -- digits as a number is written: there is one, no sign, and no zero in front
 pub record IsPlain (bytes : List ℕ) : Type 0 where
+  -- there is at least one byte
   pub some : 0 < length bytes
+  -- the first byte is no plus
   pub no_plus : get_or bytes 0 0 ≢ 43
+  -- where the first byte is the digit 0, it is the only byte
   pub no_zero : get_or bytes 0 0 ≡ 48 → length bytes ≡ 1
 
 no_plus_same : (bytes : List ℕ) → get_or bytes 0 0 ≢ 43 → without_leading_plus bytes ≡ bytes
@@ -83,12 +87,14 @@ minus_none word digits is none (pos n) small same =
     absurd (omega (arith, first_digit n small, ap (λ (bytes : List ℕ). get_or bytes 0 0) (same ∙ is)))
 minus_none word digits is none (negsuc n) small same = none (suc n) (omega arith) small (ap (drop 1) (same ∙ is))
 
+-- a word whose first byte is a minus is that minus and the bytes behind it
 pub minus_parts : (word : List ℕ) → 0 < length word → get_or word 0 0 ≡ 45 → word ≡ 45 ∷ take (length word - 1) (drop 1 word)
 minus_parts [] some is = absurd (omega arith)
 minus_parts (x ∷ word) some is =
     let all = take_all word (length (x ∷ word) - 1) (omega arith) in
     ap (λ (first : ℕ). first ∷ word) is ∙ ap (λ (rest : List ℕ). 45 ∷ rest) (sym all)
 
+-- a minus and the digits of a number from 1 on of 32 bits are how its negative is written
 pub minus_some : (word : List ℕ) (size : ℕ) (z : ℤ) → 1 ≤ size → size < 2 ^ 32 → z ≡ neg_ℤ (pos size) → word ≡ 45 ∷ decimal size →
     (size_of z < 2 ^ 32) × (signed_decimal z ≡ word)
 minus_some word zero z some small is parts = absurd (omega arith)

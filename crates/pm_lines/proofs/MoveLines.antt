@@ -19,6 +19,7 @@ abbrev key : List ℕ → ℕ
 key bytes = get_or bytes 1 0 + get_or bytes 2 0
 
 module _ (plan : PlanData) (rest : List ℕ) (answer : Option Line) where
+  -- from the reading of a node and a number behind the word change, the reading of the line
   pub reads_change : (read : Option (ℕ × ℕ)) → answer ≡ option_map (λ read. line (Change read.0 read.1) None) read →
       Reads (λ read. (read.0 ≤ length plan.nodes) × (read.1 < 2 ^ 32)) (λ read. text_line (name plan read.0 ∷ decimal read.1 ∷ [])) rest read →
       Reads (IsLineOfRun plan) (move_line plan) (codes "change" ++ 32 ∷ rest) answer
@@ -35,6 +36,7 @@ module _ (plan : PlanData) (rest : List ℕ) (answer : Option Line) where
           reads.none refl (d, n) (fits.of_plan.nodes, fits.number_fits) (first_same (codes "change") (codes "change") _ rest refl refl same).rest
       go what held fits same = let keys = ap key same in absurd (omega (arith, keys))
 
+  -- from the reading of a parent, its child and a number behind the word learn, the reading of the line
   pub reads_learn : (read : Option (ℕ × ℕ)) → answer ≡ option_map (λ read. line (Learn read.0 read.1) None) read →
       Reads (λ read. (1 ≤ read.0) × (read.0 ≤ length plan.nodes) × (read.1 < 2 ^ 32))
       (λ read. text_line (name plan (parent plan read.0) ∷ name plan read.0 ∷ decimal read.1 ∷ [])) rest read →
@@ -51,6 +53,7 @@ module _ (plan : PlanData) (rest : List ℕ) (answer : Option Line) where
           (first_same (codes "learn") (codes "learn") _ rest refl refl same).rest
       go what held fits same = let keys = ap key same in absurd (omega (arith, keys))
 
+  -- from the reading of a node and a number behind the word publish, the reading of the line
   pub reads_publish : (read : Option (ℕ × ℕ)) → answer ≡ option_map (λ read. line (Publish read.0 read.1) None) read →
       Reads (λ read. (read.0 ≤ length plan.nodes) × (read.1 < 2 ^ 32)) (λ read. text_line (name plan read.0 ∷ decimal read.1 ∷ [])) rest read →
       Reads (IsLineOfRun plan) (move_line plan) (codes "publish" ++ 32 ∷ rest) answer
@@ -67,6 +70,7 @@ module _ (plan : PlanData) (rest : List ℕ) (answer : Option Line) where
           reads.none refl (d, n) (fits.of_plan.nodes, fits.number_fits) (first_same (codes "publish") (codes "publish") _ rest refl refl same).rest
       go what held fits same = let keys = ap key same in absurd (omega (arith, keys))
 
+  -- from the reading of a number behind the word clear, the reading of the line
   pub reads_clear : (read : Option ℕ) → answer ≡ option_map (λ read. line (Clear read) None) read →
       Reads (λ read. read < 2 ^ 32) (λ read. text_line (decimal read ∷ [])) rest read →
       Reads (IsLineOfRun plan) (move_line plan) (codes "clear" ++ 32 ∷ rest) answer
@@ -81,6 +85,7 @@ module _ (plan : PlanData) (rest : List ℕ) (answer : Option Line) where
       go (Clear n) held fits same = reads.none refl n fits.number_fits (first_same (codes "clear") (codes "clear") _ rest refl refl same).rest
       go what held fits same = let keys = ap key same in absurd (omega (arith, keys))
 
+  -- from the reading of a number behind the word close, the reading of the line
   pub reads_close : (read : Option ℕ) → answer ≡ option_map (λ read. line (Close read) None) read →
       Reads (λ read. read < 2 ^ 32) (λ read. text_line (decimal read ∷ [])) rest read →
       Reads (IsLineOfRun plan) (move_line plan) (codes "close" ++ 32 ∷ rest) answer
@@ -95,6 +100,7 @@ module _ (plan : PlanData) (rest : List ℕ) (answer : Option Line) where
       go (Close n) held fits same = reads.none refl n fits.number_fits (first_same (codes "close") (codes "close") _ rest refl refl same).rest
       go what held fits same = let keys = ap key same in absurd (omega (arith, keys))
 
+  -- from the reading of a node, an index and what is held behind the word pass, the reading of the line
   pub reads_pass : (read : Option (ℕ × ℕ × Option (ℕ × ℕ))) → answer ≡ option_map (λ read. line (Pass read.0 read.1) read.2) read →
       Reads (IsPassing plan) (λ read. text_line (name plan read.0 ∷ decimal read.1 ∷ device_words (is_leaf plan read.0) plan.basis read.2)) rest read →
       Reads (IsLineOfRun plan) (move_line plan) (codes "pass" ++ 32 ∷ rest) answer
@@ -139,6 +145,7 @@ no_kind plan word rest is change learn publish clear pass close one fits same = 
     go (Pass d n) held same = pass (sym (first_same (codes "pass") word _ rest refl is same).word)
     go (Close n) held same = close (sym (first_same (codes "close") word _ rest refl is same).word)
 
+-- bytes that begin with no word and a blank are the line of no move of a run
 pub no_first : (plan : PlanData) (bytes : List ℕ) → ((word rest : List ℕ) → is_word word ≡ true → bytes ≢ word ++ 32 ∷ rest) →
     (one : Line) → IsLineOfRun plan one → move_line plan one ≢ bytes
 no_first plan bytes none one fits same = go one.what one.held same

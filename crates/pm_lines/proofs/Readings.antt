@@ -8,11 +8,13 @@ use Rattle.pm_basis.specs.Prices.{BasisValue}
 use Rattle.pm_report.specs.Words.{text_line}
 use Rattle.pm_report.specs.Trace.{held_words}
 
+-- a reader that answers none is right where no value is written so
 pub reads_none : {A B : Type 0} (IsValue : A → Type 0) (text_of : A → B) (text : B) (answer : Option A) → answer ≡ None →
     ((value : A) → IsValue value → text_of value ≢ text) → Reads IsValue text_of text answer
 reads_none IsValue text_of text None is none = record { told = tt; none = λ e. none }
 reads_none IsValue text_of text (Some value) is none = absurd cc
 
+-- a reader that answers a value is right where the value is lawful and written so
 pub reads_some : {A B : Type 0} (IsValue : A → Type 0) (text_of : A → B) (text : B) (answer : Option A) (value : A) → answer ≡ Some value →
     IsValue value → text_of value ≡ text → Reads IsValue text_of text answer
 reads_some IsValue text_of text None value is lawful same = absurd cc
@@ -28,6 +30,7 @@ number_word n small = decimal_word n (omega arith)
 pub first_same : (v w r s : List ℕ) → is_word v ≡ true → is_word w ≡ true → v ++ 32 ∷ r ≡ w ++ 32 ∷ s → SameWord v w 32 32 r s
 first_same v w r s v_is w_is same = same_word v w 32 32 r s v_is w_is (omega arith) (omega arith) same
 
+-- two words are the same where they are the same bytes with a line feed behind each
 pub last_same : (v w : List ℕ) → is_word v ≡ true → is_word w ≡ true → v ++ 10 ∷ [] ≡ w ++ 10 ∷ [] → v ≡ w
 last_same v w v_is w_is same = (same_word v w 10 10 [] [] v_is w_is (omega arith) (omega arith) same).word
 

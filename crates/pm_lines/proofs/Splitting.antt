@@ -22,6 +22,7 @@ parted_at [] at inside = absurd (omega arith)
 parted_at (x ∷ xs) zero inside = refl
 parted_at (x ∷ xs) (suc at) inside = ap (λ rest. x ∷ rest) (parted_at xs at (omega arith))
 
+-- some bytes are those before a place, the byte there and those behind it
 pub parted : (bytes : List ℕ) (at : ℕ) → at < length bytes → bytes ≡ take at bytes ++ get_or bytes at 0 ∷ drop (at + 1) bytes
 parted bytes at inside =
     let next : suc at ≡ at + 1 = omega arith in
@@ -41,8 +42,11 @@ take_all (x ∷ xs) (suc n) le = ap (λ rest. x ∷ rest) (take_all xs n (omega 
 
 -- where the first word ends
 pub record EndsAt (bytes : List ℕ) (end : ℕ) : Type 0 where
+  -- the end is not beyond the bytes
   pub within : end ≤ length bytes
+  -- the bytes before the end are a word
   pub word : is_word (take end bytes) ≡ true
+  -- the byte at the end, where there is one, is a blank or below it
   pub low : end < length bytes → get_or bytes end 0 ≤ 32
 
 -- a word with a mark behind it is the first word
@@ -61,12 +65,14 @@ first_word bytes end ends word mark rest low is same =
           absurd (no_word word mark rest low (subst (λ l. is_word l ≡ true) (all ∙ same) ends.word))
     ]
 
+-- bytes without a blank at the end of their first word are no word with a blank behind it
 pub no_blank : (bytes : List ℕ) (end : ℕ) → EndsAt bytes end → (end < length bytes → get_or bytes end 0 ≢ 32) →
     (word rest : List ℕ) → is_word word ≡ true → bytes ≢ word ++ 32 ∷ rest
 no_blank bytes end ends other word rest is same =
     let first = first_word bytes end ends word 32 rest (omega arith) is same in
     other first.0 first.1.mark
 
+-- bytes without a last line feed at the end of their first word are no word with only a line feed behind it
 pub no_feed : (bytes : List ℕ) (end : ℕ) → EndsAt bytes end → (end < length bytes → get_or bytes end 0 ≡ 10 → end + 1 ≢ length bytes) →
     (word : List ℕ) → is_word word ≡ true → bytes ≢ word ++ 10 ∷ []
 no_feed bytes end ends other word is same =

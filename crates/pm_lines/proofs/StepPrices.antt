@@ -50,15 +50,19 @@ rise_within range last k some even within =
 
 -- a basis by its range of prices and its last step
 pub record IsRange (basis : BasisValue) (range last : ℕ) : Type 0 where
+  -- the range is the greatest price less the least
   pub whole : pos range ≡ basis.max -ℤ basis.min
+  -- the basis has one step more than the number of its last step
   pub steps : basis.steps ≡ last + 1
 
+-- the price of step k is the least price plus k * range / last
 pub price_is : (basis : BasisValue) (range last k : ℕ) → IsRange basis range last → price_at basis k ≡ basis.min +ℤ pos (k * range / last)
 price_is basis range last k is =
     let steps : pos basis.steps -ℤ pos 1 ≡ pos last = omega (arith, ints, is.steps) in
     ap (λ z. basis.min +ℤ int_div (pos k *ℤ (basis.max -ℤ basis.min)) z) steps
     ∙ ap (λ z. basis.min +ℤ int_div (pos k *ℤ z) (pos last)) (sym is.whole)
 
+-- the number of the last step divides the range of the prices without a rest
 pub even_range : (basis : BasisValue) → IsBasis basis → (range last : ℕ) → IsRange basis range last → range % last ≡ 0
 even_range basis sound range last is =
     let steps : pos basis.steps -ℤ pos 1 ≡ pos last = omega (arith, ints, is.steps) in
@@ -104,6 +108,7 @@ price_bound basis sound k inside =
     let within = price_between basis sound k inside in
     (omega (arith, ints, within.0, sound.low), omega (arith, ints, within.1, sound.high))
 
+-- the price of each step, without its sign, has 32 bits
 pub price_size : (basis : BasisValue) → IsBasis basis → (k : ℕ) → k < basis.steps → size_of (price_at basis k) < 2 ^ 32
 price_size basis sound k inside = sized (price_at basis k) refl
   where

@@ -13,8 +13,6 @@ mod names;
 mod numbers;
 mod parts;
 mod prices;
-#[cfg(test)]
-mod tests;
 mod words;
 
 pub use line::read_line;

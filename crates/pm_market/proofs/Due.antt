@@ -161,6 +161,7 @@ module _ (lists : Lists) (s : State) (due : ℕ → ℕ) (cut : Cut) (knows : Kn
             (is_one_of_at (s.passed (parent lists x)) j among.0 among.1 among.2)) (reached_at s (parent lists x) j (inr among)) addressed
       ]
 
+  -- once the auctioneer clears a cut, what is due is what `due_after` says for the next index at node 0
   pub knows_cleared : KnowsDue lists (record s { published = updated s.published 0 (s.published 0 ++ cut ∷ []) })
       (due_after lists due 0 (clearings s + 1) cut)
   knows_cleared = record {
@@ -234,6 +235,7 @@ module _ (lists : Lists) (s : State) (due : ℕ → ℕ) (y i : ℕ) (made : i �
         | inr new ↦ omega (arith, new.1, made)
       ]
 
+  -- once a clearing that was made is passed to y, what is due is what `due_after` says for it at y
   pub knows_passed : KnowsDue lists (record s { passed = updated s.passed y (s.passed y ++ i ∷ []) }) (due_after lists due y i (cleared s i))
   knows_passed = record {
     passed_made = made_next;

@@ -15,6 +15,7 @@ use Rattle.pm_market.specs.declared.moves.Move.TheVariants.{Change, Learn, Publi
 use Rattle.pm_market.proofs.Tree.{leaf_past}
 use Rattle.pm_market.proofs.Cuts.{all_to_at}
 
+-- an index that passes the test is in the list
 pub is_one_of_from : (xs : List ℕ) (j : ℕ) → is_one_of xs j ≡ true → Contains xs j
 unfolding is_one_of
 is_one_of_from [] j h = absurd (Rattle.std.proofs.lemmas.Bool.false≢true h)
@@ -24,18 +25,22 @@ is_one_of_from (x ∷ xs) j h =
       | inr e ↦ let r = is_one_of_from xs j e in (suc r.0, omega (arith, r.1), r.2)
     ]
 
+-- an index that stands at some place of a list passes the test of being in it
 pub is_one_of_at : (xs : List ℕ) (j k : ℕ) → k < length xs → get_or xs k j ≡ j → is_one_of xs j ≡ true
 unfolding is_one_of
 is_one_of_at [] j k lt e = absurd (omega arith)
 is_one_of_at (x ∷ xs) j zero lt e = or_left (eqb x j) (is_one_of xs j) (eq-eqb x j e)
 is_one_of_at (x ∷ xs) j (suc k) lt e = or_right (eqb x j) (is_one_of xs j) (is_one_of_at xs j k (omega arith) e)
 
+-- a number that passes the test is that of a device or a concentrator
 pub is_node_from : (lists : Lists) (x : ℕ) → is_node lists x ≡ true → IsNode lists x
 is_node_from lists x h = let p = and_parts (leb 1 x) (leb x (nodes lists)) h in (leb-true 1 x p.0, leb-true x (nodes lists) p.1)
 
+-- the number of a device or a concentrator passes the test
 pub is_node_at : (lists : Lists) (x : ℕ) → IsNode lists x → is_node lists x ≡ true
 is_node_at lists x node = and_from _ _ (le-leb 1 x node.0) (le-leb x (nodes lists) node.1)
 
+-- a clearing that passes the test of having reached a node reached it
 pub reached_from : (s : State) (y j : ℕ) → has_reached s y j ≡ true → Reached s y j
 reached_from s y j h =
     elim (or_cases (eqb y 0 && leb 1 j && leb j (clearings s)) (is_one_of (s.passed y) j) h) [
@@ -46,12 +51,14 @@ reached_from s y j h =
       | inr e ↦ inr (is_one_of_from (s.passed y) j e)
     ]
 
+-- a clearing that reached a node passes the test of having reached it
 pub reached_at : (s : State) (y j : ℕ) → Reached s y j → has_reached s y j ≡ true
 reached_at s y j (inl w) = or_left _ _ (and_from _ _ (and_from _ _ (eq-eqb y 0 w.0) (le-leb 1 j w.1)) (le-leb j (clearings s) w.2))
 reached_at s y j (inr c) = or_right _ _ (is_one_of_at (s.passed y) j c.0 c.1 c.2)
 
 -- each kind of move
 
+-- a Learn that passes its test is legal
 pub learn_from : (lists : Lists) (s : State) (x n : ℕ) → learn_is_legal lists s x n ≡ true → NodeLegal lists s (Learn x n)
 unfolding learn_is_legal
 learn_from lists s x n h =
@@ -59,10 +66,12 @@ learn_from lists s x n h =
     let q = and_parts (is_node lists x) (ltb (s.learnt x) n) p.0 in
     (is_node_from lists x q.0, ltb-true (s.learnt x) n q.1, leb-true n (newest lists s x) p.1)
 
+-- a legal Learn passes its test
 pub learn_at : (lists : Lists) (s : State) (x n : ℕ) → NodeLegal lists s (Learn x n) → learn_is_legal lists s x n ≡ true
 unfolding learn_is_legal
 learn_at lists s x n h = and_from _ _ (and_from _ _ (is_node_at lists x h.0) (lt-ltb (s.learnt x) n h.1)) (le-leb n (newest lists s x) h.2)
 
+-- a Publish that passes its test is legal
 pub publish_from : (lists : Lists) (s : State) (c n : ℕ) → publish_is_legal lists s c n ≡ true → NodeLegal lists s (Publish c n)
 unfolding publish_is_legal
 publish_from lists s c n h =
@@ -80,6 +89,7 @@ publish_from lists s c n h =
       eqb-true n (newest lists s c + 1) a.1,
     )
 
+-- a legal Publish passes its test
 pub publish_at : (lists : Lists) (s : State) (c n : ℕ) → NodeLegal lists s (Publish c n) → publish_is_legal lists s c n ≡ true
 unfolding publish_is_legal
 publish_at lists s c n h =
@@ -87,16 +97,19 @@ publish_at lists s c n h =
     (not_from_false (is_same_on lists c (known lists s c) (part lists s c (newest lists s c))) h.1))
     (lt-ltb (newest lists s c - number lists s c (cleared s (last s c))) window_size h.2)) (eq-eqb n (newest lists s c + 1) h.3)
 
+-- a Clear that passes its test is legal
 pub clear_from : (lists : Lists) (s : State) (j : ℕ) → clear_is_legal lists s j ≡ true → NodeLegal lists s (Clear j)
 unfolding clear_is_legal
 clear_from lists s j h =
     let p = and_parts (not (is_same_on lists 0 (known lists s 0) (cleared s (clearings s)))) (eqb j (clearings s + 1)) h in
     (not-true (is_same_on lists 0 (known lists s 0) (cleared s (clearings s))) p.0, eqb-true j (clearings s + 1) p.1)
 
+-- a legal Clear passes its test
 pub clear_at : (lists : Lists) (s : State) (j : ℕ) → NodeLegal lists s (Clear j) → clear_is_legal lists s j ≡ true
 unfolding clear_is_legal
 clear_at lists s j h = and_from _ _ (not_from_false (is_same_on lists 0 (known lists s 0) (cleared s (clearings s))) h.0) (eq-eqb j (clearings s + 1) h.1)
 
+-- a Pass that passes its test is legal
 pub pass_from : (lists : Lists) (s : State) (x j : ℕ) → pass_is_legal lists s x j ≡ true → NodeLegal lists s (Pass x j)
 unfolding pass_is_legal
 pass_from lists s x j h =
@@ -105,10 +118,12 @@ pass_from lists s x j h =
     let d = and_parts (is_node lists x) (has_reached s (parent lists x) j) b.0 in
     (is_node_from lists x d.0, reached_from s (parent lists x) j d.1, ltb-true (last s x) j b.1, a.1)
 
+-- a legal Pass passes its test
 pub pass_at : (lists : Lists) (s : State) (x j : ℕ) → NodeLegal lists s (Pass x j) → pass_is_legal lists s x j ≡ true
 unfolding pass_is_legal
 pass_at lists s x j h = and_from _ _ (and_from _ _ (and_from _ _ (is_node_at lists x h.0) (reached_at s (parent lists x) j h.1)) (lt-ltb (last s x) j h.2)) h.3
 
+-- in a state that passes the test of idleness each node passes its own, and the next Clear fails its test
 pub idle_parts : (lists : Lists) (s : State) → is_idle lists s ≡ true → ((x : ℕ) → IsNode lists x → is_idle_at lists s x ≡ true)
     × (clear_is_legal lists s (clearings s + 1) ≡ false)
 unfolding is_idle
@@ -118,6 +133,7 @@ idle_parts lists s h =
       not-true (clear_is_legal lists s (clearings s + 1)) p.1,
     )
 
+-- at a node that tests idle the Learn of its newest, its next Publish and each clearing's Pass fail their tests
 pub at_parts : (lists : Lists) (s : State) (x : ℕ) → is_idle_at lists s x ≡ true →
     (learn_is_legal lists s x (newest lists s x) ≡ false) × (publish_is_legal lists s x (newest lists s x + 1) ≡ false)
     × ((j : ℕ) → 1 ≤ j → j ≤ clearings s → pass_is_legal lists s x j ≡ false)
@@ -131,6 +147,7 @@ at_parts lists s x h =
       λ j one le. not-true (pass_is_legal lists s x j) (all_to_at (clearings s) (λ j. not (pass_is_legal lists s x j)) a.1 j one le),
     )
 
+-- a Change that passes its test is the next one of a device and belongs to the open phase
 pub change_from : (lists : Lists) (s : State) (d n : ℕ) → change_is_legal lists s d n ≡ true → (is_leaf lists d ≡ true)
     × (s.closed < phases lists) × (n ≡ s.counts d + 1) × (n ≤ end_count lists (s.closed + 1) d)
 unfolding change_is_legal
@@ -146,15 +163,18 @@ pub legal_change : (lists : Lists) (s : State) (m : Move) (d n : ℕ) → m ≡ 
 unfolding is_legal
 legal_change lists s m d n e h = sym (ap (is_legal lists s) e) ∙ h
 
+-- a move that is a Learn and passes the test of moves passes the test of a Learn
 pub legal_learn : (lists : Lists) (s : State) (m : Move) (x n : ℕ) → m ≡ Learn x n → is_legal lists s m ≡ true → learn_is_legal lists s x n ≡ true
 unfolding is_legal
 legal_learn lists s m x n e h = sym (ap (is_legal lists s) e) ∙ h
 
+-- a move that is a Publish and passes the test of moves passes the test of a Publish
 pub legal_publish : (lists : Lists) (s : State) (m : Move) (c n : ℕ) → m ≡ Publish c n → is_legal lists s m ≡ true →
     publish_is_legal lists s c n ≡ true
 unfolding is_legal
 legal_publish lists s m c n e h = sym (ap (is_legal lists s) e) ∙ h
 
+-- a move that is a Pass and passes the test of moves passes the test of a Pass
 pub legal_pass : (lists : Lists) (s : State) (m : Move) (x j : ℕ) → m ≡ Pass x j → is_legal lists s m ≡ true → pass_is_legal lists s x j ≡ true
 unfolding is_legal
 legal_pass lists s m x j e h = sym (ap (is_legal lists s) e) ∙ h

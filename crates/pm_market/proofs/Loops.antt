@@ -27,11 +27,13 @@ below_zero lists zero x ne = ne_eqb x 0 ne
 below_zero lists (suc levels) x ne = ap (λ (b : Bool). b || is_below_in lists levels x (parent lists 0)) (ne_eqb x 0 ne)
     ∙ ap (is_below_in lists levels x) (parent_zero lists) ∙ below_zero lists levels x ne
 
+-- a node stands at or above itself, within any number of levels
 pub below_here : (lists : Lists) (levels x d : ℕ) → d ≡ x → is_below_in lists levels x d ≡ true
 unfolding is_below_in
 below_here lists zero x d e = eq-eqb x d (sym e)
 below_here lists (suc levels) x d e = ap (λ (b : Bool). b || is_below_in lists levels x (parent lists d)) (eq-eqb x d (sym e))
 
+-- whether x stands above another node is whether it stands at or above its parent, within a level less
 pub below_step : (lists : Lists) (levels more x d : ℕ) → more ≡ levels + 1 → (d ≡ x → ⊥) →
     is_below_in lists more x d ≡ is_below_in lists levels x (parent lists d)
 unfolding is_below_in
@@ -41,6 +43,7 @@ below_step lists levels (suc more) x d e ne =
     ap (λ (b : Bool). b || is_below_in lists more x (parent lists d)) (ne_eqb x d (λ w. ne (sym w)))
     ∙ ap (λ (k : ℕ). is_below_in lists k x (parent lists d)) same
 
+-- on the way up from the auctioneer there is no child of y: the search gives 0
 pub toward_zero : (lists : Lists) (count y : ℕ) → toward lists count y 0 ≡ 0
 toward_zero lists zero y = toward-none lists y 0
 toward_zero lists (suc count) y =
@@ -51,11 +54,13 @@ toward_zero lists (suc count) y =
           ∙ ap (toward lists count y) (parent_zero lists) ∙ toward_zero lists count y
     ]
 
+-- a node whose parent is y is the child of y that a search from it over at least one node gives
 pub toward_here : (lists : Lists) (count more y d : ℕ) → more ≡ count + 1 → parent lists d ≡ y → toward lists more y d ≡ d
 toward_here lists count zero y d e at = absurd (omega arith)
 toward_here lists count (suc more) y d e at =
     toward-suc lists more y d ∙ cond-true (eqb (parent lists d) y) d (toward lists more y (parent lists d)) (eq-eqb (parent lists d) y at)
 
+-- from a node whose parent is not y the search for the child of y goes on at its parent, with a node less
 pub toward_step : (lists : Lists) (count more y d : ℕ) → more ≡ count + 1 → (parent lists d ≡ y → ⊥) →
     toward lists more y d ≡ toward lists count y (parent lists d)
 toward_step lists count zero y d e ne = absurd (omega arith)
@@ -70,12 +75,14 @@ pub cut_at_row : (rows : List (List ℕ)) (i : ℕ) → cut_of (get_or ([] ∷ r
 unfolding cut_at
 cut_at_row rows i = sym (get_or-map cut_of ([] ∷ rows) i [])
 
+-- where the cut stands under number n, above 0, the greatest number up to n with it is n
 pub greatest_here : (lists : Lists) (cuts : List Cut) (x : ℕ) (cut : Cut) (n : ℕ) → 1 ≤ n →
     is_same_on lists x (cut_at cuts n) cut ≡ true → greatest_number lists cuts x cut n ≡ n
 unfolding greatest_number
 greatest_here lists cuts x cut zero one same = absurd (omega arith)
 greatest_here lists cuts x cut (suc n) one same = cond-true (is_same_on lists x (cut_at cuts (suc n)) cut) (suc n) (greatest_number lists cuts x cut n) same
 
+-- where the cut does not stand under number n, the greatest number up to n with it is that up to n - 1
 pub greatest_below : (lists : Lists) (cuts : List Cut) (x : ℕ) (cut : Cut) (n k : ℕ) → n ≡ k + 1 →
     is_same_on lists x (cut_at cuts n) cut ≡ false → greatest_number lists cuts x cut n ≡ greatest_number lists cuts x cut k
 unfolding greatest_number
@@ -131,6 +138,7 @@ known_past lists published learnt y d top inner empty none =
           part_zero lists published 0 d
     ]
 
+-- where change n of a device is a join, the last join among the first n changes is n
 pub join_here : (lists : Lists) (d n : ℕ) → 1 ≤ n → is_member lists d n && not (is_member lists d (n - 1)) ≡ true → last_join lists d n ≡ n
 unfolding last_join
 join_here lists d zero one h = absurd (omega arith)
@@ -139,6 +147,7 @@ join_here lists d (suc n) one h =
     cond-true (is_member lists d (suc n) && not (is_member lists d n)) (suc n) (last_join lists d n)
     (ap (λ (k : ℕ). is_member lists d (suc n) && not (is_member lists d k)) (sym same) ∙ h)
 
+-- where change n of a device is no join, the last join among the first n is that among the first n - 1
 pub join_below : (lists : Lists) (d n k : ℕ) → n ≡ k + 1 → is_member lists d n && not (is_member lists d (n - 1)) ≡ false →
     last_join lists d n ≡ last_join lists d k
 unfolding last_join
@@ -172,6 +181,7 @@ below_ends lists levels x d top =
       | inr ne ↦ ap (is_below_in lists levels x) top ∙ below_zero lists levels x ne ∙ sym (ne_eqb x d (λ e. ne (e ∙ top)))
     ]
 
+-- within no level, x stands at or above d only where it is d
 pub below_last : (lists : Lists) (levels x d : ℕ) → levels ≡ 0 → is_below_in lists levels x d ≡ eqb x d
 unfolding is_below_in
 below_last lists zero x d e = refl
@@ -196,6 +206,7 @@ marked_more n (suc k) p old new e before here =
     let same : n ≡ k = omega arith in
     here ∙ ap (λ (b : Bool). b || not (p (suc k))) (before ∙ ap (λ (m : ℕ). not (all_to m p)) same) ∙ not_and (all_to k p) (p (suc k))
 
+-- a mark that some number so far does not pass stays right where the next number passes
 pub marked_same : (n k : ℕ) (p : ℕ → Bool) (old new : Bool) → k ≡ n + 1 → old ≡ not (all_to n p) → new ≡ old → p k ≡ true →
     new ≡ not (all_to k p)
 marked_same n k p old new e before here passes =
@@ -214,6 +225,7 @@ number_marks lists x d cut leaf some =
     turned true = refl
     turned false = refl
 
+-- a node of which the cut has number 0 passes the test of all zeros on the leaves of x
 pub no_number_passes : (lists : Lists) (x d : ℕ) (cut : Cut) → cut d ≡ 0 → cond (is_leaf_of lists x d) (eqb (cut d) 0) true ≡ true
 no_number_passes lists x d cut none =
     elim (cases_Bool (is_leaf_of lists x d)) [
@@ -221,6 +233,7 @@ no_number_passes lists x d cut none =
       | inr e ↦ cond-false (is_leaf_of lists x d) (eqb (cut d) 0) true e
     ]
 
+-- a node that is no device passes the test of all zeros on the leaves of x
 pub no_leaf_passes : (lists : Lists) (x d : ℕ) (cut : Cut) → is_leaf lists d ≡ false → cond (is_leaf_of lists x d) (eqb (cut d) 0) true ≡ true
 unfolding is_leaf_of
 no_leaf_passes lists x d cut none = ap (λ (b : Bool). cond (b && is_below lists x d) (eqb (cut d) 0) true) none

@@ -31,6 +31,7 @@ state_same counts counts' closed published published' learnt learnt' passed pass
     ap (λ (x : Cut). at x published learnt passed) c ∙ ap (λ (x : ℕ → List Cut). at counts' x learnt passed) p
     ∙ ap (λ (x : ℕ → ℕ). at counts' published' x passed) l ∙ ap (λ (x : ℕ → List ℕ). at counts' published' learnt' x) u
 
+-- what follows from what holds on a success holds on a success too
 pub on_success : {T E : Type 0} (r : Result T E) (P Q : Type 0) → (P → Q) → OnOk r P → OnOk r Q
 on_success (Ok x) P Q f p = f p
 on_success (Err e) P Q f p = tt

@@ -10,22 +10,27 @@ use Rattle.std.proofs.lemmas.List.{get_or_past}
 use Rattle.pm_market.specs.Lists.{Lists, nodes, parent, is_leaf, IsNode, IsLeaf, IsInner, IsLeafOf, is_below_in, is_below, is_leaf_of, way_up}
 use Rattle.pm_market.specs.Lists.{child_at_or_above, Lawful}
 
+-- the parent of the auctioneer is the auctioneer
 pub parent_zero : (lists : Lists) → parent lists 0 ≡ 0
 unfolding parent
 parent_zero lists = refl
 
+-- the auctioneer is no device
 pub leaf_zero : (lists : Lists) → is_leaf lists 0 ≡ false
 unfolding is_leaf
 leaf_zero lists = refl
 
+-- a number past the last node has parent 0
 pub parent_past : (lists : Lists) (d : ℕ) → nodes lists < d → parent lists d ≡ 0
 unfolding parent
 parent_past lists d h = get_or_past (0 ∷ lists.parents) d 0 h
 
+-- a number past the end of the list of leaves is no device
 pub leaf_past : (lists : Lists) (d : ℕ) → length lists.leaves < d → is_leaf lists d ≡ false
 unfolding is_leaf
 leaf_past lists d h = get_or_past (false ∷ lists.leaves) d false h
 
+-- in lawful lists each device is a node
 pub leaf_node : (lists : Lists) → Lawful lists → (d : ℕ) → IsLeaf lists d → IsNode lists d
 leaf_node lists law d leaf = (
   elim (cases_eq d 0) [
@@ -39,6 +44,7 @@ leaf_node lists law d leaf = (
   ],
 )
 
+-- in lawful lists the parent of each number above 0 is smaller than it
 pub parent_smaller : (lists : Lists) → Lawful lists → (d : ℕ) → 1 ≤ d → parent lists d < d
 parent_smaller lists law d one =
     elim (cases_Bool (Rattle.std.proofs.Common.leb d (nodes lists))) [
@@ -51,6 +57,7 @@ pub up : Lists → ℕ → ℕ → ℕ
 up lists zero d = d
 up lists (suc k) d = up lists k (parent lists d)
 
+-- any number of levels above the auctioneer is the auctioneer
 pub up_at_zero : (lists : Lists) (k : ℕ) → up lists k 0 ≡ 0
 unfolding up
 up_at_zero lists zero = refl
@@ -61,6 +68,7 @@ unfolding up
 up_more lists zero d = refl
 up_more lists (suc k) d = up_more lists k (parent lists d)
 
+-- in lawful lists the number of the node k levels above d is at most d
 pub up_le : (lists : Lists) → Lawful lists → (k d : ℕ) → up lists k d ≤ d
 unfolding up
 up_le lists law zero d = omega arith
@@ -93,6 +101,7 @@ below_in_from_up lists law (suc fuel) (suc k) d h =
           omega (arith, parent_smaller lists law d one) in or_right _ _ (below_in_from_up lists law fuel k (parent lists d) small)
     ]
 
+-- where x is found at or above d within some levels, it is some number of levels above d
 pub up_from_below_in : (lists : Lists) (fuel x d : ℕ) → is_below_in lists fuel x d ≡ true → (k : ℕ) × (up lists k d ≡ x)
 unfolding up is_below_in
 up_from_below_in lists zero x d h = (0, sym (eqb-true x d h))
@@ -102,10 +111,12 @@ up_from_below_in lists (suc fuel) x d h =
       | inr e ↦ let r = up_from_below_in lists fuel x (parent lists d) e in (suc r.0, r.1)
     ]
 
+-- in lawful lists d is the node k levels above it or stands below that node
 pub below_from_up : (lists : Lists) → Lawful lists → (k d : ℕ) → is_below lists (up lists k d) d ≡ true
 unfolding is_below
 below_from_up lists law k d = below_in_from_up lists law d k d (omega arith)
 
+-- where d is x or stands below x, x is some number of levels above d
 pub up_from_below : (lists : Lists) (x d : ℕ) → is_below lists x d ≡ true → (k : ℕ) × (up lists k d ≡ x)
 unfolding is_below
 up_from_below lists x d h = up_from_below_in lists d x d h
@@ -116,14 +127,17 @@ leaf_of : (lists : Lists) (x d : ℕ) → IsLeaf lists d → is_below lists x d 
 unfolding is_leaf_of
 leaf_of lists x d leaf below = and_from (is_leaf lists d) (is_below lists x d) leaf below
 
+-- a leaf of x is a device, and is x or stands below x
 pub leaf_of_parts : (lists : Lists) (x d : ℕ) → IsLeafOf lists x d → (is_leaf lists d ≡ true) × (is_below lists x d ≡ true)
 unfolding is_leaf_of
 leaf_of_parts lists x d h = and_parts (is_leaf lists d) (is_below lists x d) h
 
+-- a device is a leaf of itself
 pub leaf_of_itself : (lists : Lists) → Lawful lists → (d : ℕ) → IsLeaf lists d → IsLeafOf lists d d
 unfolding up
 leaf_of_itself lists law d leaf = leaf_of lists d d leaf (below_from_up lists law 0 d)
 
+-- a leaf of a node is a leaf of the node's parent
 pub leaf_of_parent : (lists : Lists) → Lawful lists → (x d : ℕ) → IsLeafOf lists x d → IsLeafOf lists (parent lists x) d
 leaf_of_parent lists law x d h =
     let parts = leaf_of_parts lists x d h in
@@ -131,6 +145,7 @@ leaf_of_parent lists law x d h =
     let e : up lists (suc r.0) d ≡ parent lists x = up_more lists r.0 d ∙ ap (parent lists) r.1 in
     leaf_of lists (parent lists x) d parts.0 (subst (λ (y : ℕ). is_below lists y d ≡ true) e (below_from_up lists law (suc r.0) d))
 
+-- each device is a leaf of the auctioneer
 pub leaf_of_auctioneer : (lists : Lists) → Lawful lists → (d : ℕ) → IsLeaf lists d → IsLeafOf lists 0 d
 leaf_of_auctioneer lists law d leaf =
     leaf_of lists 0 d leaf (subst (λ (y : ℕ). is_below lists y d ≡ true) (up_all lists law d d (omega arith)) (below_from_up lists law d d))
@@ -148,6 +163,7 @@ leaf_above lists law (suc k) x d leaf_x leaf_d e =
           absurd (both_ways (is_leaf lists x) (ap (is_leaf lists) (sym ez) ∙ law.inner z node) leaf_x)
     ]
 
+-- a leaf of a device is the device itself
 pub leaf_of_leaf : (lists : Lists) → Lawful lists → (x d : ℕ) → IsLeaf lists x → IsLeafOf lists x d → d ≡ x
 leaf_of_leaf lists law x d leaf h =
     let parts = leaf_of_parts lists x d h in
@@ -158,10 +174,12 @@ leaf_of_leaf lists law x d leaf h =
 unfoldable pub toward : Lists → ℕ → ℕ → ℕ → ℕ
 toward lists count y d = unwrap_or (find (λ x. parent lists x == y) (way_up lists count d)) 0
 
+-- over the first d nodes from d up the search gives the child of y at or above d
 pub toward_all : (lists : Lists) (y d : ℕ) → toward lists d y d ≡ child_at_or_above lists y d
 unfolding toward child_at_or_above
 toward_all lists y d = refl
 
+-- a search over no node gives 0
 pub toward-none : (lists : Lists) (y d : ℕ) → toward lists 0 y d ≡ 0
 unfolding toward way_up
 toward-none lists y d = refl
@@ -170,6 +188,7 @@ unwrap_or-cond : (b : Bool) (x none : ℕ) (rest : Option ℕ) → unwrap_or (co
 unwrap_or-cond true x none rest = refl
 unwrap_or-cond false x none rest = refl
 
+-- a search over one more node gives d where d's parent is y, and else goes on at d's parent
 pub toward-suc : (lists : Lists) (count y d : ℕ) →
     toward lists (suc count) y d ≡ cond (eqb (parent lists d) y) d (toward lists count y (parent lists d))
 unfolding toward way_up
@@ -198,6 +217,7 @@ toward_is lists law (suc fuel) (suc k) d y x h one e ep =
       ]
     ]
 
+-- of a leaf d of x, above 0, the child of x's parent at or above d is x
 pub child_at_or_above_is : (lists : Lists) → Lawful lists → (x d : ℕ) → 1 ≤ x → IsLeafOf lists x d →
     child_at_or_above lists (parent lists x) d ≡ x
 child_at_or_above_is lists law x d one h =
@@ -214,6 +234,7 @@ child_on lists (suc k) d y one e =
       | inr n ↦ let r = child_on lists k (parent lists d) y (omega arith) e in (suc r.0, r.1, r.2)
     ]
 
+-- a leaf of a node that is no device is a leaf of one of its children
 pub child_of : (lists : Lists) → Lawful lists → (y d : ℕ) → IsInner lists y → IsLeafOf lists y d → (x : ℕ) × IsNode lists x
     × (parent lists x ≡ y) × IsLeafOf lists x d
 unfolding up

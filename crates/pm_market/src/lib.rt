@@ -20,8 +20,6 @@ mod journal;
 mod market;
 mod moves;
 mod rows;
-#[cfg(test)]
-mod tests;
 
 pub use journal::{Journal, Line};
 pub use market::Market;

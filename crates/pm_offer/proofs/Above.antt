@@ -46,6 +46,7 @@ below_in_same lists law (suc n) (suc levels) x (suc z) h l =
     (below_in_same lists law n levels x (parent lists (suc z)) (omega arith) (omega arith)
     ∙ sym (below_in_same lists law n z x (parent lists (suc z)) (omega arith) (omega arith)))
 
+-- the auctioneer is x or stands below x exactly where x is the auctioneer
 pub below_zero : (lists : Lists) (x : ℕ) → is_below lists x 0 ≡ eqb x 0
 unfolding is_below
 below_zero lists x = below_in_zero lists 0 x
@@ -58,12 +59,14 @@ below_up lists law x (suc z) one =
     let small : parent lists (suc z) < suc z = parent_smaller lists law (suc z) one in
     ap (λ b. eqb x (suc z) || b) (below_in_same lists law z z x (parent lists (suc z)) (omega arith) (omega arith))
 
+-- each node stands at or below itself
 pub below_self : (lists : Lists) → Lawful lists → (z : ℕ) → is_below lists z z ≡ true
 below_self lists law z = elim (cases_eq z 0) [
   | inl none ↦ subst (λ (d : ℕ). is_below lists d d ≡ true) (sym none) (below_zero lists 0 ∙ eq-eqb 0 0 refl)
   | inr some ↦ below_up lists law z z (omega arith) ∙ or_left (eqb z z) (is_below lists z (parent lists z)) (eq-eqb z z refl)
 ]
 
+-- a node that is x or stands below x has a number of at least x
 pub below_least : (lists : Lists) → Lawful lists → (x z : ℕ) → is_below lists x z ≡ true → x ≤ z
 below_least lists law x z h = let r = up_from_below lists x z h in omega (arith, up_le lists law r.0 z, r.1)
 
@@ -88,6 +91,7 @@ below_strict lists law x z h other = elim (cases_eq z 0) [
 pub not_below_parent : (lists : Lists) → Lawful lists → (z : ℕ) → 1 ≤ z → is_below lists z (parent lists z) ≡ true → ⊥
 not_below_parent lists law z one h = omega (arith, below_least lists law z (parent lists z) h, parent_smaller lists law z one)
 
+-- each node is the auctioneer or stands below it
 pub below_auctioneer : (lists : Lists) → Lawful lists → (z : ℕ) → is_below lists 0 z ≡ true
 below_auctioneer lists law z = climb lists law (λ (d : ℕ). is_below lists 0 d ≡ true) (below_self lists law 0) (λ d one h. below_parent lists law 0 d h) z
 
@@ -217,6 +221,7 @@ at_children lists law y v z =
         (λ same below. not_below_parent lists law d one (subst (λ (e : ℕ). is_below lists e (parent lists d) ≡ true) (eqb-true x d same) below))
         ∙ ap (λ (w : ℤ). w +ℤ child_term lists y v (parent lists d) x) (moved lists y d x v)
 
+-- v at each child of y that is z or above z adds up to v where z stands below y, else to 0
 pub at_one_child : (lists : Lists) → Lawful lists → (y : ℕ) (v : ℤ) (z : ℕ) → IsNode lists z →
     int_sum_to (nodes lists) (λ x. cond (eqb (parent lists x) y) (cond (is_below lists x z) v (pos 0)) (pos 0))
     ≡ cond (is_below lists y (parent lists z)) v (pos 0)

@@ -202,6 +202,7 @@ children_near plan is y cut step inside =
     subst (IsWithin sum_limit) (sym (children_is plan is y cut step inside))
     (within_from_near _ _ (near_more _ _ _ _ own lim) (all_once plan is y))
 
+-- the sum of the offers of the children of a node that is no leaf is within the limit of a sum
 pub children_within : (plan : PlanData) (y : ℕ) (cut : Cut) → IsPlan plan → IsInner (plan_lists plan) y →
     AllWithinLimit sum_limit (children_sum plan y cut)
 children_within plan y cut is inner step inside =

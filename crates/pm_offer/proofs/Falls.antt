@@ -165,6 +165,7 @@ step_keeps l sum plain k falls inside keeps =
       ceiling = is_not_below l.ceiling (demand_at sum plain) not_above;
     }))
 
+-- limits that a group's sum keeps at a step of the basis it also keeps at any step moved within them
 pub group_keeps : (plan : PlanData) → IsPlan plan → (cut : Cut) (g plain k : ℕ) (l : Limits) → k < plan.basis.steps →
     KeepsLimits l (demand_at (sum_in plan (state plan) cut g) k) →
     KeepsLimits l (demand_at (sum_in plan (state plan) cut g) (step_within l plain (sum_in plan (state plan) cut g)))

@@ -19,17 +19,20 @@ use Rattle.pm_offer.proofs.Above.{climb, below_least, below_self, below_parent, 
 pub nodes_are : (plan : PlanData) → IsPlan plan → nodes (plan_lists plan) ≡ length plan.nodes
 nodes_are plan is = length-parents_of plan.entries ∙ sym is.nodes.one_each
 
+-- the parent of a node of the plan, or of the auctioneer, is no number beyond the last node
 pub parent_inside : (plan : PlanData) → IsPlan plan → (z : ℕ) → z ≤ length plan.nodes → parent (plan_lists plan) z ≤ length plan.nodes
 parent_inside plan is z inside = elim (cases_eq z 0) [
   | inl none ↦ omega (arith, ap (parent (plan_lists plan)) none ∙ parent_zero (plan_lists plan))
   | inr some ↦ let one : 1 ≤ z = omega arith in omega (arith, parent_smaller (plan_lists plan) (lawful plan is) z one)
 ]
 
+-- a node whose parent is a limited concentrator has that parent as its group
 pub group_here : (plan : PlanData) (z : ℕ) → 1 ≤ z → is_limited plan (parent (plan_lists plan) z) ≡ true →
     group plan z ≡ parent (plan_lists plan) z
 unfolding parent
 group_here plan z one h = group_is_parent plan z one h
 
+-- a node whose parent is not limited has the group of its parent
 pub group_on : (plan : PlanData) → IsPlan plan → (z : ℕ) → 1 ≤ z → z ≤ length plan.nodes →
     is_limited plan (parent (plan_lists plan) z) ≡ false →
     group plan z ≡ group plan (parent (plan_lists plan) z)
@@ -92,9 +95,12 @@ group_above plan is z =
 
 -- a limited concentrator that stands above a node: the group is limited, and is that concentrator or stands below it
 pub record IsFound (plan : PlanData) (c z : ℕ) : Type 0 where
+  -- the group of z is a limited concentrator
   pub limited : is_limited plan (group plan z) ≡ true
+  -- the group of z is c or stands below c
   pub below : is_below (plan_lists plan) c (group plan z) ≡ true
 
+-- a node below a limited concentrator c has a limited group that is c or stands below c
 pub group_found : (plan : PlanData) → IsPlan plan → (c : ℕ) → is_limited plan c ≡ true → (z : ℕ) → z ≤ length plan.nodes →
     is_below (plan_lists plan) c (parent (plan_lists plan) z) ≡ true → IsFound plan c z
 group_found plan is c limited z =

@@ -49,6 +49,7 @@ members_alone true true y z same none = same refl
 members_alone true false y z same none = sym (none refl)
 members_alone false member y z same none = refl
 
+-- the powers of a group's members add up to the group's sum at the group's step
 pub powers_group : (plan : PlanData) (g : ℕ) (cut : Cut) → IsPlan plan →
     group_power plan cut g ≡ demand_at (sum_in plan (state plan) cut g) (group_step plan (state plan) cut (plain plan (state plan) cut) g)
 unfolding group_power
@@ -63,6 +64,7 @@ powers_group plan g cut is =
     (λ e. power_in_group plan cut g d (eqb-true (group plan d) g e)) (absent_watts plan cut (step_of plan cut g) d))
     ∙ sym (sum_in_at plan is cut g (step_of plan cut g) (group_step_inside plan cut g is))
 
+-- at a step the total is the sum of group 0 and the announced power of the limited concentrators
 pub powers_total : (plan : PlanData) (cut : Cut) (step : ℕ) → IsPlan plan → step < plan.basis.steps →
     demand_at (total plan (state plan) cut) step ≡ demand_at (sum_in plan (state plan) cut 0) step +ℤ announced_power plan cut step
 unfolding announced_power
@@ -76,6 +78,7 @@ unfolding group_step
 limited_step plan cut g l here =
     sym (ap (λ (own : Option Limits). local_step own (plain plan (state plan) cut) (sum_in plan (state plan) cut g)) here)
 
+-- a group's powers add up within its limits where its sum keeps these at some step of the basis
 pub powers_within : (plan : PlanData) (g : ℕ) (cut : Cut) (l : Limits) (k : ℕ) → IsPlan plan → limits_of (node plan g) ≡ Some l →
     k < plan.basis.steps →
     KeepsLimits l (demand_at (sum_in plan (state plan) cut g) k) → KeepsLimits l (group_power plan cut g)

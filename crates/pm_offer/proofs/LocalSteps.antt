@@ -49,10 +49,12 @@ root_group plan x is here up =
     group_on plan is x here.0 (subst (λ (n : ℕ). x ≤ n) (nodes_are plan is) here.1) (ap (is_limited plan) up)
     ∙ ap (group plan) up ∙ group-zero plan
 
+-- the auctioneer's children take the step at which the sum of their offers clears
 pub local_root : (plan : PlanData) (x : ℕ) (cut : Cut) → IsPlan plan → IsNode (plan_lists plan) x → parent (plan_lists plan) x ≡ 0 →
     local_at plan cut x ≡ clearing_step (children_sum plan 0 cut)
 local_root plan x cut is here up = free_step plan cut x (root_group plan x is here up) ∙ plain_is plan cut is
 
+-- a concentrator's children take its local step, as its limits, if any, move it for the sum of their offers
 pub local_below : (plan : PlanData) (x : ℕ) (cut : Cut) → IsPlan plan →
     IsNode (plan_lists plan) x → IsConcentrator (plan_lists plan) (parent (plan_lists plan) x) →
     local_at plan cut x
@@ -72,9 +74,11 @@ local_below plan x cut is here inner =
 
 -- ---- steps are steps of the basis
 
+-- the first step with a demand of at most a limit is a step of the bid, where the bid has any
 pub first_inside : (limit : ℤ) (bid : List ℤ) → 1 ≤ length bid → first_at_most limit bid < length bid
 first_inside limit bid some = (first_at_most_is_first limit bid some).inside
 
+-- the last step with a demand of at least a limit is a step of the bid, where the bid has any
 pub last_inside : (limit : ℤ) (bid : List ℤ) → 1 ≤ length bid → last_at_least limit bid < length bid
 last_inside limit bid some = (last_at_least_is_last limit bid some).inside
 
@@ -85,6 +89,7 @@ step_inside (Some limits) k sum some inside =
     chosen P (int_lt limits.ceiling (demand_at sum k)) (first_at_most limits.ceiling sum) _ (first_inside limits.ceiling sum some)
     (chosen P (int_lt (demand_at sum k) limits.floor) (last_at_least limits.floor sum) k (last_inside limits.floor sum some) inside)
 
+-- the step of the plain auction is a step of the basis
 pub plain_inside : (plan : PlanData) (cut : Cut) → IsPlan plan → plain plan (state plan) cut < plan.basis.steps
 unfolding plain
 plain_inside plan cut is =
@@ -92,6 +97,7 @@ plain_inside plan cut is =
     subst (λ (n : ℕ). clearing_step (total plan (state plan) cut) < n) long
     (first_inside (pos 0) (total plan (state plan) cut) (let least = is.basis.steps.least in omega arith))
 
+-- the step of a group in the plain auction is a step of the basis
 pub group_step_inside : (plan : PlanData) (cut : Cut) (g : ℕ) → IsPlan plan →
     group_step plan (state plan) cut (plain plan (state plan) cut) g < plan.basis.steps
 unfolding group_step
@@ -101,6 +107,7 @@ group_step_inside plan cut g is =
     subst (λ (n : ℕ). local_step (limits_of (node plan g)) (plain plan (state plan) cut) (sum_in plan (state plan) cut g) < n) long
     (step_inside (limits_of (node plan g)) (plain plan (state plan) cut) (sum_in plan (state plan) cut g) (omega arith) (omega arith))
 
+-- the local step of a node is a step of the basis
 pub local_inside : (plan : PlanData) (x : ℕ) (cut : Cut) → IsPlan plan → local_at plan cut x < plan.basis.steps
 unfolding local
 local_inside plan x cut is = group_step_inside plan cut (group plan x) is

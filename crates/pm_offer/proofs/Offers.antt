@@ -79,6 +79,7 @@ device_at plan is d cut step leaf inside =
     (λ g g_one g_le. cond-false (is_limited_at plan d g) (announced_watts plan cut step g) (pos 0) (none_at_leaf plan is d g leaf g_le)) in
     omega (arith, ints, offer_at plan is d cut step inside, own, lim)
 
+-- the offer of a device is its demand after as many changes as the cut gives it
 pub offer_device : (plan : PlanData) (d : ℕ) (cut : Cut) → IsPlan plan → IsLeaf (plan_lists plan) d → offer plan d cut ≡ device_demand plan d (cut d)
 offer_device plan d cut is leaf =
     let long = offer_length plan is d cut in
@@ -141,6 +142,7 @@ limited_alike plan is x a b same g =
     where_same (is_limited_at plan x g) (announced plan (state plan) a g) (announced plan (state plan) b g) (zeros plan.basis.steps)
     (λ h. announced_alike plan is x g a b same h)
 
+-- the offer of x is the same in two cuts that are the same on the leaves of x
 pub offer_alike : (plan : PlanData) (x : ℕ) (a b : Cut) → IsPlan plan → SameOn (plan_lists plan) x a b → offer plan x a ≡ offer plan x b
 unfolding offer
 offer_alike plan x a b is same =
@@ -249,6 +251,7 @@ in_group true grouped below true v none e h = absurd (cc h)
 in_group true grouped below false v none e h = ap (λ b. cond b v (pos 0)) e
 in_group false grouped below seen v none e h = ap (λ w. cond grouped w (pos 0)) (none refl) ∙ none_where grouped ∙ sym (none_where below)
 
+-- the sum of a limited concentrator's group is the sum of the offers of its children
 pub limited_sum : (plan : PlanData) → IsPlan plan → (y : ℕ) (cut : Cut) → is_limited plan y ≡ true →
     sum_in plan (state plan) cut y ≡ children_sum plan y cut
 limited_sum plan is y cut limited =
@@ -275,6 +278,7 @@ announced_children : (plan : PlanData) → IsPlan plan → (y : ℕ) (cut : Cut)
 unfolding announced
 announced_children plan is y cut limited = ap (within_limits (limits_of (node plan y))) (limited_sum plan is y cut limited)
 
+-- the offer of a concentrator is the sum of its children's offers, within its limits where it has some
 pub offer_inner : (plan : PlanData) (c : ℕ) (cut : Cut) → IsPlan plan → IsConcentrator (plan_lists plan) c →
     offer plan c cut ≡ within_limits (limits_of (node plan c)) (children_sum plan c cut)
 offer_inner plan c cut is inner = elim (cases_Bool (is_limited plan c)) [
@@ -307,6 +311,7 @@ no_group plan is d inside =
           ∙ sym (ap not (and_from (is_limited plan g) (is_below lists 0 (parent lists g)) limited (below_auctioneer lists (lawful plan is) (parent lists g))))
     ]
 
+-- the total of a cut is the sum of the offers of the auctioneer's children
 pub offer_total : (plan : PlanData) (cut : Cut) → IsPlan plan → total plan (state plan) cut ≡ children_sum plan 0 cut
 offer_total plan cut is =
     let lists = plan_lists plan in

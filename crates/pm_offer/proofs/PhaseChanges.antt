@@ -12,6 +12,7 @@ first_after : (plan : PlanData) (p d : ℕ) → end_cut plan p d < change_count 
 unfolding end_cut
 first_after plan p d some = leb-false _ p (prefix_len_stops (is_up_to p) (changes_of (node plan d)) no_change some)
 
+-- a device's changes from its number at the end of phase p up to that at the end of p + 1 are of phase p + 1
 pub phase_between : (plan : PlanData) (p d n : ℕ) → IsPlan plan → end_cut plan p d ≤ n → n < end_cut plan (p + 1) d →
     (change_at plan d n).phase ≡ p + 1
 phase_between plan p d n is from to =

@@ -35,16 +35,19 @@ use Rattle.pm_offer.proofs.GroupNodes.{nodes_are, is_limited_below, child_same}
 
 -- ---- the demand of a device
 
+-- the demand in a cut, by the plan's own states, is that after as many changes as the cut gives the device
 pub demand_is : (plan : PlanData) (cut : Cut) (d : ℕ) → demand_in_cut plan (state plan) cut d ≡ device_demand plan d (cut d)
 unfolding demand_in_cut
 demand_is plan cut d = refl
 
+-- the demand of a node after any number of changes has as many steps as the basis
 pub demand_steps : (plan : PlanData) → IsPlan plan → (d n : ℕ) → length (device_demand plan d n) ≡ plan.basis.steps
 unfolding demand_in_cut
 demand_steps plan is d n =
     chosen (λ (bid : List ℤ). length bid ≡ plan.basis.steps) (is_member plan d n) _ _
     (bid-steps plan (node plan d) (state plan d n) is) (length-zeros plan.basis.steps)
 
+-- a node that is no device is no member after any number of changes
 pub no_member : (plan : PlanData) → IsPlan plan → (d n : ℕ) → is_leaf (plan_lists plan) d ≡ false → is_member plan d n ≡ false
 unfolding is_member
 no_member plan is d n other =
@@ -61,6 +64,7 @@ no_demand plan is d n other = cond-false {A = List ℤ} (is_member plan d n) _ (
 abbrev pub watts : PlanData → Cut → ℕ → ℕ → ℤ
 watts plan cut step d = demand_at (device_demand plan d (cut d)) step
 
+-- a node that is no device has demand 0 at each step
 pub no_watts : (plan : PlanData) → IsPlan plan → (cut : Cut) (step d : ℕ) → is_leaf (plan_lists plan) d ≡ false → watts plan cut step d ≡ pos 0
 no_watts plan is cut step d other = ap (λ bid. demand_at bid step) (no_demand plan is d (cut d) other)
     ∙ zeros-at plan.basis.steps step
@@ -73,6 +77,7 @@ part_steps plan is cut g d =
     chosen (λ (bid : List ℤ). length bid ≡ plan.basis.steps) (eqb (group plan d) g) _ _
     (ap (λ bid. length bid) (demand_is plan cut d) ∙ demand_steps plan is d (cut d)) (length-zeros plan.basis.steps)
 
+-- the sum of a group has as many steps as the basis
 pub sum_steps : (plan : PlanData) → IsPlan plan → (cut : Cut) (g : ℕ) → length (sum_in plan (state plan) cut g) ≡ plan.basis.steps
 unfolding sum_in
 sum_steps plan is cut g =
@@ -85,6 +90,7 @@ part_at plan cut g step d =
     demand_where (eqb (group plan d) g) (demand_in_cut plan (state plan) cut d) plan.basis.steps step
     ∙ ap (λ bid. cond (eqb (group plan d) g) (demand_at bid step) (pos 0)) (demand_is plan cut d)
 
+-- at a step the sum of group g is that of the watts of the nodes whose group is g
 pub sum_in_at : (plan : PlanData) → IsPlan plan → (cut : Cut) (g step : ℕ) → step < plan.basis.steps →
     demand_at (sum_in plan (state plan) cut g) step ≡ int_sum_to (length plan.nodes) (λ d. cond (eqb (group plan d) g) (watts plan cut step d) (pos 0))
 unfolding sum_in
@@ -98,10 +104,12 @@ limits_steps : (steps : ℕ) (l : Option Limits) (bid : List ℤ) → length bid
 limits_steps steps None bid same = same
 limits_steps steps (Some l) bid same = length-clamped l.floor l.ceiling bid ∙ same
 
+-- what a limited concentrator announces has as many steps as the basis
 pub announced_steps : (plan : PlanData) → IsPlan plan → (cut : Cut) (g : ℕ) → length (announced plan (state plan) cut g) ≡ plan.basis.steps
 unfolding announced
 announced_steps plan is cut g = limits_steps plan.basis.steps (limits_of (node plan g)) (sum_in plan (state plan) cut g) (sum_steps plan is cut g)
 
+-- what a limited concentrator announces at a step, in watts
 abbrev pub announced_watts : PlanData → Cut → ℕ → ℕ → ℤ
 announced_watts plan cut step g = demand_at (announced plan (state plan) cut g) step
 
@@ -116,16 +124,19 @@ total_fits plan is cut =
     All-cons (Has plan.basis.steps) (sum_in plan (state plan) cut 0) (map (announced plan (state plan) cut) (limited plan))
     (sum_steps plan is cut 0) (all_steps plan.basis.steps (announced plan (state plan) cut) (limited plan) (announced_steps plan is cut))
 
+-- the total of a cut has as many steps as the basis
 pub total_steps : (plan : PlanData) → IsPlan plan → (cut : Cut) → length (total plan (state plan) cut) ≡ plan.basis.steps
 unfolding total
 total_steps plan is cut = length-sum_of plan.basis.steps (all_sums plan cut) (total_fits plan is cut)
 
+-- at a step the total is the sum of group 0 and the sum of what the limited concentrators announce
 pub total_is : (plan : PlanData) → IsPlan plan → (cut : Cut) (step : ℕ) → step < plan.basis.steps →
     demand_at (total plan (state plan) cut) step
     ≡ demand_at (sum_in plan (state plan) cut 0) step +ℤ total_at (map (announced plan (state plan) cut) (limited plan)) step
 unfolding total
 total_is plan is cut step inside = sum_of-at plan.basis.steps (all_sums plan cut) step (total_fits plan is cut) inside
 
+-- what all limited concentrators announce at a step, as a sum over the nodes with 0 for any other node
 pub announced_sum : (plan : PlanData) (cut : Cut) (step : ℕ) →
     total_at (map (announced plan (state plan) cut) (limited plan)) step
     ≡ int_sum_to (length plan.nodes) (λ g. cond (is_limited plan g) (announced_watts plan cut step g) (pos 0))
@@ -153,6 +164,7 @@ limited_length : (plan : PlanData) → IsPlan plan →
 limited_length plan is x cut =
     length-sum_of plan.basis.steps _ (all_steps plan.basis.steps (limited_part plan x cut) (node_numbers plan) (limited_steps plan is x cut))
 
+-- an offer has as many steps as the basis
 pub offer_length : (plan : PlanData) → IsPlan plan → (x : ℕ) (cut : Cut) → length (offer plan x cut) ≡ plan.basis.steps
 unfolding offer
 offer_length plan is x cut =
@@ -162,6 +174,7 @@ offer_length plan is x cut =
 abbrev pub own_at : PlanData → ℕ → Cut → ℕ → ℕ → ℤ
 own_at plan x cut step d = cond (is_leaf_of (plan_lists plan) x d && not (is_limited_at plan x (group plan d))) (watts plan cut step d) (pos 0)
 
+-- what g adds to the offer of x at a step: what it announces, where it is limited and at or below x
 abbrev pub limited_at : PlanData → ℕ → Cut → ℕ → ℕ → ℤ
 limited_at plan x cut step g = cond (is_limited_at plan x g) (announced_watts plan cut step g) (pos 0)
 
@@ -174,6 +187,7 @@ limited_part_at : (plan : PlanData) (x : ℕ) (cut : Cut) (step g : ℕ) → dem
 unfolding limited_part
 limited_part_at plan x cut step g = demand_where (is_limited_at plan x g) (announced plan (state plan) cut g) plan.basis.steps step
 
+-- at a step the offer of x is what devices add themselves and what limited concentrators add, summed
 pub offer_at : (plan : PlanData) → IsPlan plan → (x : ℕ) (cut : Cut) (step : ℕ) → step < plan.basis.steps →
     demand_at (offer plan x cut) step ≡ int_sum_to (length plan.nodes) (own_at plan x cut step) +ℤ int_sum_to (length plan.nodes)
     (limited_at plan x cut step)
@@ -195,6 +209,7 @@ offer_at plan is x cut step inside =
 
 -- ---- the sum of the children
 
+-- the sum of the offers of the children of a node has as many steps as the basis
 pub children_length : (plan : PlanData) → IsPlan plan → (y : ℕ) (cut : Cut) → length (children_sum plan y cut) ≡ plan.basis.steps
 children_length plan is y cut =
     length-sum_of plan.basis.steps _ (all_steps plan.basis.steps (λ x. offer plan x cut) (children_of plan.entries y) (λ x. offer_length plan is x cut))
@@ -214,10 +229,12 @@ own_below plan y cut step d =
     cond (is_below (plan_lists plan) y (parent (plan_lists plan) d))
     (cond (is_leaf (plan_lists plan) d && not (is_limited_below plan y (group plan d))) (watts plan cut step d) (pos 0)) (pos 0)
 
+-- what g adds at a step to the offers of y's children: what it announces, where it is limited and below y
 abbrev pub limited_below : PlanData → ℕ → Cut → ℕ → ℕ → ℤ
 limited_below plan y cut step g =
     cond (is_below (plan_lists plan) y (parent (plan_lists plan) g)) (cond (is_limited plan g) (announced_watts plan cut step g) (pos 0)) (pos 0)
 
+-- tests of leaf, below and not at choose as below, then leaf and not seen, if at is seen where below holds
 pub own_split : (leaf below at seen : Bool) (v : ℤ) → (below ≡ true → at ≡ seen) →
     cond ((leaf && below) && not at) v (pos 0) ≡ cond below (cond (leaf && not seen) v (pos 0)) (pos 0)
 own_split true true at seen v h = ap (λ b. cond (not b) v (pos 0)) (h refl)
@@ -225,6 +242,7 @@ own_split true false at seen v h = refl
 own_split false true at seen v h = refl
 own_split false false at seen v h = refl
 
+-- tests of limited and below together choose as below first, then limited
 pub limited_split : (limited' below : Bool) (v : ℤ) → cond (limited' && below) v (pos 0) ≡ cond below (cond limited' v (pos 0)) (pos 0)
 limited_split true true v = refl
 limited_split true false v = refl

@@ -11,6 +11,7 @@ use Rattle.pm_plan.specs.Plans.{PlanData, NodeData, node, limits_of, is_member, 
 use Rattle.pm_plan.specs.Auction.{States, node_bid, part_in, sum_in, announced, total, plain, group_step, local, power, limited, demand_in_cut}
 use Rattle.pm_base.specs.Cuts.{Cut}
 
+-- two functions that agree on the numbers of a range map the range to the same list
 pub map_range_same : {X : Type 0} (f g : ℕ → X) (a n : ℕ) → ((k : ℕ) → a ≤ k → k < a + n → f k ≡ g k) →
     map f (range_with_len a n) ≡ map g (range_with_len a n)
 map_range_same f g a zero same = refl
@@ -18,6 +19,7 @@ map_range_same f g a (suc n) same =
     ap (λ x. x ∷ map f (range_with_len (a + 1) n)) (same a (omega arith) (omega arith))
     ∙ ap (λ xs. g a ∷ xs) (map_range_same f g (a + 1) n (λ k low high. same k (omega arith) (omega arith)))
 
+-- two functions that agree everywhere map a list to the same list
 pub map_same : {A X : Type 0} (f g : A → X) (xs : List A) → ((x : A) → f x ≡ g x) → map f xs ≡ map g xs
 map_same f g [] same = refl
 map_same f g (x ∷ xs) same = ap (λ y. y ∷ map f xs) (same x) ∙ ap (λ ys. g x ∷ ys) (map_same f g xs same)
@@ -32,17 +34,20 @@ bid_same plan (Device planned) y z same = ap (node_bid plan (Device planned)) (s
 bid_same plan Concentrator y z same = refl
 bid_same plan (Limited limits) y z same = refl
 
+-- states that agree on a cut give each node the same demand in the cut
 pub demand_same : (plan : PlanData) (s t : States) (cut : Cut) (d : ℕ) → Agree plan cut s t → demand_in_cut plan s cut d ≡ demand_in_cut plan t cut d
 unfolding demand_in_cut
 demand_same plan s t cut d same =
     ap (λ bid. cond (is_member plan d (cut d)) bid (zeros plan.basis.steps)) (bid_same plan (node plan d) (s d (cut d)) (t d (cut d)) (same d))
 
+-- states that agree on a cut give each group the same sum of demands
 pub sum_same : (plan : PlanData) (s t : States) (cut : Cut) (g : ℕ) → Agree plan cut s t → sum_in plan s cut g ≡ sum_in plan t cut g
 unfolding sum_in part_in
 sum_same plan s t cut g same =
     ap (sum_of plan.basis.steps) (map_range_same (part_in plan s cut g) (part_in plan t cut g) 1 (length plan.nodes)
     (λ d low high. ap (λ bid. cond (group plan d == g) bid (zeros plan.basis.steps)) (demand_same plan s t cut d same)))
 
+-- states that agree on a cut give the same total
 pub total_same : (plan : PlanData) (s t : States) (cut : Cut) → Agree plan cut s t → total plan s cut ≡ total plan t cut
 unfolding total announced
 total_same plan s t cut same =
@@ -50,16 +55,19 @@ total_same plan s t cut same =
     ∙ ap (λ bids. sum_of plan.basis.steps (sum_in plan t cut 0 ∷ bids)) (map_same (announced plan s cut) (announced plan t cut) (limited plan)
     (λ g. ap (within_limits (limits_of (node plan g))) (sum_same plan s t cut g same)))
 
+-- states that agree on a cut give the plain auction the same step
 pub plain_same : (plan : PlanData) (s t : States) (cut : Cut) → Agree plan cut s t → plain plan s cut ≡ plain plan t cut
 unfolding plain
 plain_same plan s t cut same = ap clearing_step (total_same plan s t cut same)
 
+-- states that agree on a cut give each node the same step of its group
 pub local_same : (plan : PlanData) (s t : States) (cut : Cut) (x : ℕ) → Agree plan cut s t → local plan s cut x ≡ local plan t cut x
 unfolding local group_step
 local_same plan s t cut x same =
     ap (λ k. local_step (limits_of (node plan (group plan x))) k (sum_in plan s cut (group plan x))) (plain_same plan s t cut same)
     ∙ ap (local_step (limits_of (node plan (group plan x))) (plain plan t cut)) (sum_same plan s t cut (group plan x) same)
 
+-- states that agree on a cut give each node the same power
 pub power_same : (plan : PlanData) (s t : States) (cut : Cut) (d : ℕ) → Agree plan cut s t → power plan s cut d ≡ power plan t cut d
 unfolding power
 power_same plan s t cut d same =

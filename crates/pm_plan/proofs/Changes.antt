@@ -21,15 +21,22 @@ change_in changes n = get_or changes n no_change
 
 -- the changes of a device of this kind, where phase p is the last so far
 pub record ChangesHold (kind : Kind) (p : ℕ) (changes : List Change) : Type 0 where
+  -- each change fits the kind
   pub fit : (n : ℕ) → n < length changes → IsTrue (change_fits kind (get_or changes n no_change).what)
+  -- no change belongs to a phase before phase 1
   pub first : (n : ℕ) → n < length changes → 1 ≤ (get_or changes n no_change).phase
+  -- no change belongs to a phase after phase p
   pub last : (n : ℕ) → n < length changes → (get_or changes n no_change).phase ≤ p
+  -- the phases of the changes never fall from one change to a later one
   pub rise : (m n : ℕ) → m ≤ n → n < length changes → (get_or changes m no_change).phase ≤ (get_or changes n no_change).phase
 
 -- what is planned for a device, where phase p is the last so far
 pub record DeviceHolds (p : ℕ) (planned : DeviceData) : Type 0 where
+  -- the parameters of the device's kind lie within their limits
   pub valid : IsTrue (is_valid planned.kind)
+  -- the device's start is a state that fits its kind
   pub start : IsTrue (state_fits planned.kind planned.start)
+  -- the device's changes hold for its kind, where phase p is the last so far
   pub changes : ChangesHold planned.kind p planned.changes
 
 -- the same of any node
@@ -38,6 +45,7 @@ NodeHolds p Concentrator = Unit {0}
 NodeHolds p (Limited limits) = AreLimits limits
 NodeHolds p (Device planned) = DeviceHolds p planned
 
+-- what is kept of a device's changes holds where there are none, of any kind and any last phase
 pub no_changes-hold : (kind : Kind) (p : ℕ) → ChangesHold kind p []
 no_changes-hold kind p = record {
   fit = λ n h. absurd (omega arith);
@@ -83,6 +91,7 @@ rises_with kind p changes new hold is m n le h =
           ]
     ]
 
+-- changes still hold with one more that fits the kind and is of the last phase, which is 1 or later
 pub one_more_change : (kind : Kind) (p : ℕ) (changes : List Change) (new : Change) → ChangesHold kind p changes → new.phase ≡ p →
     1 ≤ p → IsTrue (change_fits kind new.what) → ChangesHold kind p (changes ++ new ∷ [])
 one_more_change kind p changes new hold is low fits = record {

@@ -19,10 +19,14 @@ device-is (Limited limits) h = absurd (cc h)
 
 -- a node that is a device of this kind
 pub record HasKind (n : NodeData) (kind : Kind) : Type 0 where
+  -- what is planned for the device of this kind
   pub planned : DeviceData
+  -- the node is the device for which this is planned, seen by its kind
   pub is : n ≡ Device planned
+  -- the kind that is planned is this kind
   pub kind_is : planned.kind ≡ kind
 
+-- a node with a kind is a device of that kind
 pub kind_of-tells : (n : NodeData) (kind : Kind) → kind_of n ≡ Some kind → HasKind n kind
 kind_of-tells (Device planned) kind h = record { planned = planned; is = refl; kind_is = cc h }
 kind_of-tells Concentrator kind h = absurd (cc h)
@@ -30,10 +34,14 @@ kind_of-tells (Limited limits) kind h = absurd (cc h)
 
 -- a node that is a device with this start
 pub record HasStart (n : NodeData) (start : ℤ) : Type 0 where
+  -- what is planned for the device with this start
   pub planned : DeviceData
+  -- the node is the device for which this is planned, seen by its start
   pub is : n ≡ Device planned
+  -- the start that is planned is this start
   pub start_is : planned.start ≡ start
 
+-- a node with a start is a device with that start
 pub start_of-tells : (n : NodeData) (start : ℤ) → start_of n ≡ Some start → HasStart n start
 start_of-tells (Device planned) start h = record { planned = planned; is = refl; start_is = cc h }
 start_of-tells Concentrator start h = absurd (cc h)
@@ -63,11 +71,13 @@ is_device-map_device f (Device planned) = refl
 is_device-map_device f Concentrator = refl
 is_device-map_device f (Limited limits) = refl
 
+-- a change of a device leaves which nodes have limits
 pub limited-map_device : (f : DeviceData → DeviceData) (n : NodeData) → is_some (limits_of (map_device f n)) ≡ is_some (limits_of n)
 limited-map_device f (Device planned) = refl
 limited-map_device f Concentrator = refl
 limited-map_device f (Limited limits) = refl
 
+-- at a number beyond the last node a concentrator is read
 pub node-beyond : (nodes : List NodeData) (x : ℕ) → length nodes < x → node_at nodes x ≡ Concentrator
 node-beyond nodes x far = get_or-eq_default (Concentrator ∷ nodes) Concentrator {n = x} (omega arith)
 
@@ -76,6 +86,7 @@ pub device_first : (nodes : List NodeData) (x : ℕ) (planned : DeviceData) → 
 device_first nodes zero planned is = absurd (cc is)
 device_first nodes (suc x) planned is = omega arith
 
+-- the number of a device is at most the count of nodes
 pub device_last : (nodes : List NodeData) (x : ℕ) (planned : DeviceData) → node_at nodes x ≡ Device planned → x ≤ length nodes
 device_last nodes x planned is = elim (cases_lt (length nodes) x) [
   | inl far ↦ absurd (cc (sym (node-beyond nodes x far) ∙ is))

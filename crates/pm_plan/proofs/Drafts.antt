@@ -29,6 +29,7 @@ group_of_parent plan x tree low inside limited =
     sym (group-up plan (length plan.entries) x earlier low inside
     ∙ cond-false {A = ℕ} (is_limited plan (parent plan x)) (parent plan x) (group plan (parent plan x)) limited)
 
+-- a limited concentrator is not the auctioneer: its number is 1 or above
 pub limited_is_no_root : (plan : PlanData) (x : ℕ) → is_limited plan x ≡ true → 1 ≤ x
 limited_is_no_root plan zero limited = absurd (let h : false ≡ true = limited in cc)
 limited_is_no_root plan (suc x) limited = omega arith
@@ -50,6 +51,7 @@ pub map_more : (f : NodeData → NodeData) (xs ys : List NodeData) (i : ℕ) (d 
 map_more f xs ys i d y inside within before made =
     ap (set ys i) made ∙ map_over_more f xs ys i (get_or ys i d) inside before (get_or_default ys i d (get_or ys i d) within)
 
+-- a leaf of the tree is not the auctioneer: its number is 1 or above
 pub device_is_no_root : (entries : List Entry) (x : ℕ) → is_leaf_at entries x ≡ true → 1 ≤ x
 device_is_no_root entries zero leaf = absurd (let h : false ≡ true = leaf in cc)
 device_is_no_root entries (suc x) leaf = omega arith

@@ -24,15 +24,18 @@ prefix_len_more : {X : Type 0} (p q : X → Bool) → ((x : X) → p x ≡ true 
 prefix_len_more p q h [] = omega arith
 prefix_len_more p q h (x ∷ xs) = more_at (p x) (q x) (prefix_len p xs) (prefix_len q xs) (h x) (prefix_len_more p q h xs)
 
+-- the end of a later phase has no fewer changes of a device than that of an earlier one
 pub end-rises : (plan : PlanData) (p q d : ℕ) → p ≤ q → end_cut plan p d ≤ end_cut plan q d
 unfolding end_cut
 end-rises plan p q d within =
     prefix_len_more (is_up_to p) (is_up_to q) (λ c h. le-leb _ q (let below : c.phase ≤ p = leb-true _ p h in omega arith)) (changes_of (node plan d))
 
+-- the end of a phase has no more changes of a device than the device makes
 pub end-within : (plan : PlanData) (p d : ℕ) → end_cut plan p d ≤ change_count plan d
 unfolding end_cut
 end-within plan p d = prefix_len-le-length (is_up_to p) (changes_of (node plan d))
 
+-- the end of the last phase has all changes of a device, where changes lie in the plan's phases
 pub end-last : (plan : PlanData) (d : ℕ) → InPhases plan → end_cut plan (phases plan) d ≡ change_count plan d
 unfolding end_cut
 end-last plan d fits =

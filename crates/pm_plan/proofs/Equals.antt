@@ -17,6 +17,7 @@ use Rattle.pm_plan.specs.contracts.planned.PlannedPartialEq.TheImpl as planned
 fails : {P : Type 0} → (P → false ≡ true) → IsTrue false ↔ P
 fails not = (λ e. absurd (false≢true e), not)
 
+-- the test of the minutes of two phases, or of none, is true exactly where they are the same
 pub same_minutes : (x y : Option ℤ) → IsTrue (option_eq int_eq x y) ↔ (x ≡ y)
 same_minutes None None = (λ _. refl, λ _. refl)
 same_minutes None (Some y) = fails (λ e. absurd (cc e))
@@ -44,9 +45,11 @@ kind_of-key_of Load = refl
 kind_of-key_of Objective = refl
 kind_of-key_of Manual = refl
 
+-- kinds with the same row of numbers are the same
 pub kinds_of_keys : (kind other : Kind) → key_of kind ≡ key_of other → kind ≡ other
 kinds_of_keys kind other e = sym (kind_of-key_of kind) ∙ ap kind_of e ∙ kind_of-key_of other
 
+-- the test of two rows of six numbers is true exactly where the rows are the same
 pub same_keys : (x y : ℕ × ℤ × ℤ × ℤ × ℤ × ℤ) → IsTrue
     (((((eqb x.0 y.0 && int_eq x.1 y.1) && int_eq x.2 y.2) && int_eq x.3 y.3) && int_eq x.4 y.4) && int_eq x.5 y.5) ↔ (x ≡ y)
 same_keys x y =
@@ -76,6 +79,7 @@ same_planned (Tick m) Leave = fails (λ e. absurd (cc e))
 same_planned (Tick m) (Set t) = fails (λ e. absurd (cc e))
 same_planned (Tick m) (Tick n) = Decides-like _ (ap Tick) (λ e. cc e) (Decides-int_eq m n)
 
+-- the test of two changes, by phase and by what is planned, is true exactly where they are the same
 pub same_change : (x y : Change) → IsTrue (eqb x.phase y.phase && planned.eq-value.it x.what y.what) ↔ (x ≡ y)
 same_change x y = Decides-like _ (λ e. λ i. record { phase = e.0 i; what = e.1 i })
     (λ e. (ap (λ (c : Change). c.phase) e, ap (λ (c : Change). c.what) e)) (Decides-and _ _ (Decides-eqb x.phase y.phase) (same_planned x.what y.what))

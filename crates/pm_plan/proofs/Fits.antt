@@ -63,6 +63,7 @@ change-fits plan d n planned is here inside =
     let P : NodeData → Type 0 = λ (m : NodeData). n < length (changes_of m) → IsTrue (change_fits planned.kind (get_or (changes_of m) n no_change).what) in
     subst P (sym here) ((is.within.devices d planned here).changes n no_change) inside
 
+-- the state of a device after its first n changes fits the device's kind
 pub state-fits : (plan : PlanData) (d n : ℕ) (planned : DeviceData) → IsPlan plan → node plan d ≡ Device planned → n ≤ change_count plan d →
     IsTrue (state_fits planned.kind (state plan d n))
 state-fits plan d zero planned is here within = subst (λ z. IsTrue (state_fits planned.kind z)) (sym (state-start plan d planned here))
@@ -76,17 +77,20 @@ state-fits plan d (suc n) planned is here within =
     let valid = (is.within.devices d planned here).kind in
     subst P (sym next) (changed-fits planned.kind (state plan d n) used what valid before (change-fits plan d n planned is here (omega arith)))
 
+-- the bid of a node in any state has as many steps as the plan's basis
 pub bid-steps : (plan : PlanData) (n : NodeData) (z : ℤ) → IsPlan plan → length (node_bid plan n z) ≡ plan.basis.steps
 bid-steps plan Concentrator z is = length-zeros plan.basis.steps
 bid-steps plan (Limited limits) z is = length-zeros plan.basis.steps
 bid-steps plan (Device planned) z is = length-bid_of planned.kind z plan.arrays plan.basis.steps is.arrays.steps
 
+-- the bid of a device after its first n changes lies within the limit of a demand at each step
 pub bid-within : (plan : PlanData) (d n : ℕ) (planned : DeviceData) → IsPlan plan → node plan d ≡ Device planned → n ≤ change_count plan d →
     AllWithinLimit demand_limit (bid_of planned.kind (state plan d n) plan.arrays plan.basis.steps)
 bid-within plan d n planned is here within =
     bid_of-within planned.kind (state plan d n) plan.arrays plan.basis.steps (is.within.devices d planned here).kind
     (state-fits plan d n planned is here within) (λ _. is.arrays.within)
 
+-- the bid of a device in the state after its first n changes never rises from step to step
 pub bid-falls : (plan : PlanData) (d n : ℕ) (planned : DeviceData) → IsPlan plan → node plan d ≡ Device planned →
     NeverRises (bid_of planned.kind (state plan d n) plan.arrays plan.basis.steps)
 bid-falls plan d n planned is here = bid_of-falls planned.kind (state plan d n) plan.arrays plan.basis.steps (is.within.devices d planned here).kind
@@ -100,6 +104,7 @@ node_bid-within plan Concentrator z within = zeros-within demand_limit plan.basi
 node_bid-within plan (Limited limits) z within = zeros-within demand_limit plan.basis.steps
 node_bid-within plan (Device planned) z within = within planned refl
 
+-- a node's demand in a cut, of no more than its changes, lies within the limit of a demand at each step
 pub demand-within : (plan : PlanData) (cut : Cut) (d : ℕ) → IsPlan plan → cut d ≤ change_count plan d →
     AllWithinLimit demand_limit (demand_in_cut plan (state plan) cut d)
 unfolding demand_in_cut
@@ -115,6 +120,7 @@ element-within limit bid k all = elim (cases_lt k (length bid)) [
   | inr beyond ↦ subst (IsWithin limit) (sym (get_or-eq_default bid (pos 0) {n = k} beyond)) (none-within limit)
 ]
 
+-- a node's power in a cut, of no more than its changes, lies within the limit of a demand
 pub power-within : (plan : PlanData) (cut : Cut) (d : ℕ) → IsPlan plan → cut d ≤ change_count plan d →
     IsWithin demand_limit (power plan (state plan) cut d)
 unfolding power

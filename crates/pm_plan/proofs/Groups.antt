@@ -8,6 +8,7 @@ use Rattle.pm_plan.specs.Plans.{PlanData, parent, is_limited, group, group_in, u
 abbrev pub Earlier : PlanData → ℕ → Type 0
 Earlier plan many = (x : ℕ) → 1 ≤ x → x ≤ many → parent plan x < x
 
+-- no limited concentrator is found above the auctioneer, at however many levels
 pub group_in-zero : (plan : PlanData) (levels : ℕ) → group_in plan levels 0 ≡ 0
 unfolding group_in
 group_in-zero plan zero = refl
@@ -37,11 +38,13 @@ group_in-up plan many (suc x) earlier low high =
     let below : y < suc x = earlier (suc x) low high in
     ap (cond (is_limited plan y) y) (same_within plan many x x y earlier (omega arith) (omega arith) (omega arith))
 
+-- a node's group is its parent where that is limited, else its parent's group, if parents come earlier
 pub group-up : (plan : PlanData) (many x : ℕ) → Earlier plan many → 1 ≤ x → x ≤ many →
     group plan x ≡ cond (is_limited plan (parent plan x)) (parent plan x) (group plan (parent plan x))
 unfolding group
 group-up plan many x earlier low high = group_in-up plan many x earlier low high
 
+-- the auctioneer's group is 0
 pub group-zero : (plan : PlanData) → group plan 0 ≡ 0
 unfolding group group_in
 group-zero plan = refl
@@ -50,16 +53,21 @@ group_above-some : (plan : PlanData) (x y : ℕ) → group plan x ≡ y → 1 �
 group_above-some plan x zero is low = absurd (omega arith)
 group_above-some plan x (suc y) is low = ap unless_zero is
 
+-- a node whose group is 0 has no limited concentrator above it
 pub group_above-none : (plan : PlanData) (x : ℕ) → group plan x ≡ 0 → group_above plan x ≡ None
 group_above-none plan x is = ap unless_zero is
 
+-- in a plan the parent of each node is an earlier node
 pub earlier_in : (plan : PlanData) → IsPlan plan → Earlier plan (length plan.nodes)
 earlier_in plan is x low high = is.tree.earlier x low (omega (arith, length-parents_of plan.entries, is.nodes.one_each))
 
 -- the search from x has come to a node
 pub record HasCome (plan : PlanData) (x here : ℕ) : Type 0 where
+  -- the node that the search has come to is not the auctioneer
   pub low : 1 ≤ here
+  -- the number of the node that the search has come to is at most the count of nodes
   pub inside : here ≤ length plan.nodes
+  -- the node that the search has come to has the same group as x
   pub same : group plan x ≡ group plan here
 
 chosen : (b : Bool) (v : Bool) (y g : ℕ) → b ≡ v → cond b y g ≡ cond v y g
@@ -69,6 +77,7 @@ positive : (plan : PlanData) (y : ℕ) → is_limited plan y ≡ true → 1 ≤ 
 positive plan zero limited = absurd (cc limited)
 positive plan (suc y) limited = omega arith
 
+-- where the parent of the node that the search came to is limited, it is the limited concentrator above x
 pub found_above : (plan : PlanData) (x here y : ℕ) → IsPlan plan → HasCome plan x here → y ≡ parent plan here →
     is_limited plan y ≡ true → group_above plan x ≡ Some y
 found_above plan x here y is come up limited =
@@ -77,6 +86,7 @@ found_above plan x here y is come up limited =
     (ap (is_limited plan) (sym up) ∙ limited) in
     group_above-some plan x y (come.same ∙ all ∙ here_is ∙ sym up) (positive plan y limited)
 
+-- where the parent of the node that the search came to is not limited, x has the same group as that parent
 pub go_on : (plan : PlanData) (x here y : ℕ) → IsPlan plan → HasCome plan x here → y ≡ parent plan here → is_limited plan y ≡ false →
     group plan x ≡ group plan y
 go_on plan x here y is come up free =

@@ -32,6 +32,7 @@ nodes_then_phases basis entries nodes phases few =
     ap (λ b. check cause.RunTooLarge Document b >>
     (fold_from 1 add_node (empty_plan basis entries) nodes >>= λ plan. fold_from 1 add_phase plan phases)) (sym (le-leb (length phases) most_phases few))
 
+-- where the phases are few enough, what refuses the nodes refuses the plan
 pub nodes_refused : (basis : BasisValue) (entries : List Entry) (nodes : List NodePart) (phases : List PhasePart)
     (refusal : Option Refusal) → length phases ≤ most_phases →
     Refuses refusal (fold_from 1 add_node (empty_plan basis entries) nodes) → Refuses refusal (checked_plan basis entries nodes phases)
@@ -39,6 +40,7 @@ nodes_refused basis entries nodes phases refusal few fails =
     subst (Refuses refusal) (nodes_then_phases basis entries nodes phases few)
     (Refuses-first refusal (fold_from 1 add_node (empty_plan basis entries) nodes) (λ plan. fold_from 1 add_phase plan phases) fails)
 
+-- where the phases are few enough and the nodes are taken, what refuses the phases refuses the plan
 pub phases_refused : (basis : BasisValue) (entries : List Entry) (nodes : List NodePart) (phases : List PhasePart) (plan : PlanData)
     (refusal : Option Refusal) → length phases ≤ most_phases →
     fold_from 1 add_node (empty_plan basis entries) nodes ≡ Ok plan → Refuses refusal (fold_from 1 add_phase plan phases) →

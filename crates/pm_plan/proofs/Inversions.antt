@@ -7,24 +7,34 @@ use Rattle.pm_plan.specs.declared.refusal.Refusal.{Refusal}
 use Rattle.pm_plan.specs.Refusals.{check}
 use Rattle.pm_base.specs.Outcomes.{◌>>=◌, ◌>>◌, fold_from}
 
+-- two steps gave y: the first gave a value, and the second made y of it
 pub record BindOk {A B : Type 0} (r : Result A Refusal) (f : A → Result B Refusal) (y : B) : Type 0 where
+  -- the value that the first step gave
   pub value : A
+  -- the first step is not refused, and gave this value
   pub first : r ≡ Ok value
+  -- the second step makes y of this value
   pub rest : f value ≡ Ok y
 
+-- where two steps give y, the first gave a value, of which the second makes y
 pub bind-ok : {A B : Type 0} (r : Result A Refusal) (f : A → Result B Refusal) (y : B) → (r >>= f) ≡ Ok y → BindOk r f y
 bind-ok (Ok x) f y h = record { value = x; first = refl; rest = h }
 bind-ok (Err e) f y h = absurd (cc h)
 
+-- a check passed and what follows it gave y
 pub record CheckOk {B : Type 0} (test : Bool) (next : Result B Refusal) (y : B) : Type 0 where
+  -- the test of the check is true
   pub holds : test ≡ true
+  -- what follows the check gives y
   pub rest : next ≡ Ok y
 
+-- where a check and what follows it give y, the test is true and what follows gives y
 pub check-ok : {B : Type 0} (why : Cause) (place : Place) (test : Bool) (next : Result B Refusal) (y : B) →
     (check why place test >> next) ≡ Ok y → CheckOk test next y
 check-ok why place true next y h = record { holds = refl; rest = h }
 check-ok why place false next y h = absurd (cc h)
 
+-- answers without a refusal that are the same have the same value
 pub ok-is : {A : Type 0} (x y : A) → (let r : Result A Refusal = Ok x in r) ≡ Ok y → x ≡ y
 ok-is x y h = cc h
 

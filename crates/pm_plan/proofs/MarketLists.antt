@@ -24,14 +24,17 @@ use Rattle.pm_plan.proofs.DeviceNodes.{changes_of-none}
 use Rattle.pm_tree.proofs.Named.{length-parents_of}
 use Rattle.pm_plan.proofs.Ends.{end-none, end-rises, end-last}
 
+-- in the market's lists of a plan a node has the same parent as in the plan
 pub parent-is : (plan : PlanData) (x : ℕ) → parent (plan_lists plan) x ≡ plans.parent plan x
 unfolding parent
 parent-is plan x = refl
 
+-- in the market's lists of a plan a node is a leaf exactly where it is one in the plan
 pub is_leaf-is : (plan : PlanData) (x : ℕ) → is_leaf (plan_lists plan) x ≡ plans.is_leaf plan x
 unfolding is_leaf
 is_leaf-is plan x = refl
 
+-- in the market's lists of a plan a planned node has as many changes as in the plan
 pub changes-is : (plan : PlanData) (d : ℕ) → 1 ≤ d → d ≤ length plan.nodes → changes (plan_lists plan) d ≡ change_count plan d
 unfolding changes
 changes-is plan zero low high = absurd (omega arith)
@@ -39,6 +42,7 @@ changes-is plan (suc d) low high =
     ap (λ l. length l) (get_or-map-range_with_len (members_of plan) 1 (length plan.nodes) d (suc d) [] (omega arith) (omega arith))
     ∙ length-map-range_with_len (plans.is_member plan (suc d)) 1 (change_count plan (suc d))
 
+-- in the market's lists a planned node is a member after n of its changes exactly where it is in the plan
 pub is_member-is : (plan : PlanData) (d n : ℕ) → 1 ≤ d → d ≤ length plan.nodes → n ≤ change_count plan d →
     is_member (plan_lists plan) d n ≡ plans.is_member plan d n
 unfolding is_member plans.is_member
@@ -48,9 +52,11 @@ is_member-is plan (suc d) (suc n) low high within =
     ap (λ l. get_or l n false) (get_or-map-range_with_len (members_of plan) 1 (length plan.nodes) d (suc d) [] (omega arith) (omega arith))
     ∙ get_or-map-range_with_len (plans.is_member plan (suc d)) 1 (change_count plan (suc d)) n (suc n) false (omega arith) (omega arith)
 
+-- the market's lists of a plan have as many phases as the plan
 pub phases-is : (plan : PlanData) → market.phases (plan_lists plan) ≡ phases plan
 phases-is plan = length-map-range_with_len _ 1 (phases plan)
 
+-- in the market's lists a planned node has as many changes at a phase's end as in the plan
 pub end-is : (plan : PlanData) (p d : ℕ) → 1 ≤ d → d ≤ length plan.nodes → p ≤ phases plan → InPhases plan →
     market.end_count (plan_lists plan) p d ≡ end_cut plan p d
 unfolding market.end_count
@@ -107,6 +113,7 @@ path_depth_in-is plan (suc levels) (suc x) =
     ∙ counted_one (nat_lt 0 (suc x)) leaf (count_by (concentrator_at (leaves_of plan.entries)) rest) (above_zero x)
     ∙ sym (sum_by-cons (λ y. cond (concentrator_at (leaves_of plan.entries) y) 1 0) (suc x) rest))
 
+-- in the market's lists a node has the same depth as in the plan's tree
 pub depth-is : (plan : PlanData) (x : ℕ) → path_depth (plan_lists plan) x ≡ depth_at (parents_of plan.entries) (leaves_of plan.entries) x
 unfolding path_depth depth_at path_at
 depth-is plan x = path_depth_in-is plan x x
@@ -119,6 +126,7 @@ earlier_at : (plan : PlanData) (x : ℕ) → IsPlan plan → IsNode (plan_lists 
 unfolding parent
 earlier_at plan x is h = is.tree.earlier x h.0 h.1
 
+-- the market's lists of a plan are lawful
 pub lawful : (plan : PlanData) → IsPlan plan → Lawful (plan_lists plan)
 lawful plan is = record {
   leaves = is.tree.one_each;
@@ -151,6 +159,7 @@ changes_to plan (suc k) is within =
     ap (λ m. sum_by (λ (n : NodeData). length (changes_of n)) (take m plan.nodes)) (sym (add-one k)) in
     omega (arith, one, before, more, here)
 
+-- the bound on the moves of a run is the same by the market's lists as by the plan
 pub bound-is : (plan : PlanData) → IsPlan plan → market_bound.bound (plan_lists plan) ≡ plan_bound plan
 bound-is plan is =
     let many : nodes (plan_lists plan) ≡ length plan.nodes = length-parents_of plan.entries ∙ sym is.nodes.one_each in

@@ -16,9 +16,11 @@ use Rattle.pm_plan.proofs.Groups.{Earlier, group_in-zero}
 
 -- ---- one more node
 
+-- a plan with one more node keeps each node that it had
 pub node-old : (plan : PlanData) (new : NodeData) (x : ℕ) → x ≤ length plan.nodes → node (with_node plan new) x ≡ node plan x
 node-old plan new x inside = get_or-append (Concentrator ∷ plan.nodes) (new ∷ []) Concentrator x (omega arith)
 
+-- the node added to a plan has the number after the last one
 pub node-new : (plan : PlanData) (new : NodeData) → node (with_node plan new) (length plan.nodes + 1) ≡ new
 node-new plan new =
     ap (λ m. get_or (Concentrator ∷ plan.nodes ++ new ∷ []) m Concentrator)
@@ -40,6 +42,7 @@ each_with_node P plan new all one x = elim (cases_lt (length plan.nodes) x) [
 
 -- ---- one more change of a node
 
+-- the node that gets one more change is, where a device, the old one with that change, and else the old one
 pub node-same : (plan : PlanData) (d p : ℕ) (what : Planned) → 1 ≤ d → d ≤ length plan.nodes →
     node (with_change_of plan d p what) d ≡ map_device (with_change p what) (node plan d)
 unfolding with_change_of
@@ -48,6 +51,7 @@ node-same plan (suc d) p what low high =
     ap (λ i. get_or (set plan.nodes i (map_device (with_change p what) (node plan (suc d)))) d Concentrator) (let e : suc d - 1 ≡ d = omega arith in e)
     ∙ get_or-set_same plan.nodes d (map_device (with_change p what) (node plan (suc d))) Concentrator (omega arith)
 
+-- one more change of a node leaves each other node as it was
 pub node-other : (plan : PlanData) (d p x : ℕ) (what : Planned) → 1 ≤ d → x ≢ d → node (with_change_of plan d p what) x ≡ node plan x
 unfolding with_change_of
 node-other plan zero p x what low other = absurd (omega arith)
@@ -56,6 +60,7 @@ node-other plan (suc d) p (suc x) what low other =
     ap (λ i. get_or (set plan.nodes i (map_device (with_change p what) (node plan (suc d)))) x Concentrator) (let e : suc d - 1 ≡ d = omega arith in e)
     ∙ get_or-set_other plan.nodes d x (map_device (with_change p what) (node plan (suc d))) Concentrator (λ e. other (ap (λ n. suc n) e))
 
+-- what holds of each old node and of the one with a new change holds of each node of the changed plan
 pub each_with_change : (P : NodeData → Type 0) (plan : PlanData) (d p : ℕ) (what : Planned) → 1 ≤ d → d ≤ length plan.nodes →
     ((x : ℕ) → P (node plan x)) → P (map_device (with_change p what) (node plan d)) → (x : ℕ) → P (node (with_change_of plan d p what) x)
 each_with_change P plan d p what low high all one x = elim (cases_eq x d) [
@@ -80,6 +85,7 @@ get_or-map_at f [] i d = refl
 get_or-map_at f (x ∷ xs) zero d = refl
 get_or-map_at f (x ∷ xs) (suc i) d = get_or-map_at f xs i d
 
+-- a node after a tick is, where a device, what the tick makes of the old one, and else the old one
 pub node-ticked : (plan : PlanData) (p : ℕ) (minutes : ℤ) (x : ℕ) → node (with_tick p minutes plan) x ≡ map_device (ticked p minutes) (node plan x)
 node-ticked plan p minutes x = get_or-map_at (map_device (ticked p minutes)) (Concentrator ∷ plan.nodes) x Concentrator
 
@@ -100,6 +106,7 @@ group_in-same plan other many bound (suc levels) (suc x) entries earlier same in
     ∙ ap (λ (b : Bool). cond b y (group_in other levels y)) (same y (omega arith))
     ∙ ap (cond (is_limited plan y) y) (group_in-same plan other many bound levels y entries earlier same (omega arith) (omega arith))
 
+-- a node has the same group in plans of one tree, parents first, where the same earlier nodes are limited
 pub group-same : (plan other : PlanData) (many bound x : ℕ) → other.entries ≡ plan.entries → Earlier plan many →
     ((y : ℕ) → y < bound → is_limited other y ≡ is_limited plan y) → x ≤ many → x ≤ bound → group other x ≡ group plan x
 unfolding group
@@ -117,6 +124,7 @@ group_in-same_all plan other (suc levels) x entries same =
     ∙ ap (λ (b : Bool). cond b y (group_in other levels y)) (same y)
     ∙ ap (cond (is_limited plan y) y) (group_in-same_all plan other levels y entries same)
 
+-- each node has the same group in two plans of one tree where the same nodes are limited
 pub group-same_all : (plan other : PlanData) (x : ℕ) → other.entries ≡ plan.entries →
     ((y : ℕ) → is_limited other y ≡ is_limited plan y) → group other x ≡ group plan x
 unfolding group

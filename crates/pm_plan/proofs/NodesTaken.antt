@@ -36,8 +36,11 @@ use Rattle.pm_plan.proofs.StatesMade.{state-made}
 
 -- what holds of a plan all along, where phase p is the last that may have changes
 pub record Holds (p : ℕ) (plan : PlanData) : Type 0 where
+  -- the basis of the plan is a market basis
   pub basis : IsBasis plan.basis
+  -- each array of the plan is a bid of one device
   pub arrays : AreArrays plan
+  -- what is kept of a node holds of each, where phase p is the last that may have changes
   pub nodes : (x : ℕ) → NodeHolds p (node plan x)
 
 -- each limited node has none above it
@@ -46,18 +49,26 @@ OneLimit plan = (x : ℕ) → x ≤ length plan.entries → is_limited plan x �
 
 -- what holds once these node parts were taken
 pub record NodesTaken (entries : List Entry) (done : List NodePart) (plan : PlanData) : Type 0 where
+  -- the tree of the plan has these entries
   pub same_entries : plan.entries ≡ entries
+  -- the plan has one node for each part taken
   pub many : length plan.nodes ≡ length done
+  -- the plan has no phases so far
   pub no_minutes : plan.minutes ≡ []
+  -- no node of the plan has changes so far
   pub unchanged : (x : ℕ) → changes_of (node plan x) ≡ []
+  -- each node taken so far is a device exactly where its part is one
   pub devices : (x : ℕ) → x < length done → plans.is_device (node plan (x + 1)) ≡ is_device (get_or done x concentrator)
+  -- no limited concentrator stands above a limited one
   pub one_limit : OneLimit plan
+  -- what holds of a plan all along holds, where no phase may have changes yet
   pub holds : Holds 0 plan
 
 nothing_at : (x : ℕ) → node_at [] x ≡ Concentrator
 nothing_at zero = refl
 nothing_at (suc x) = refl
 
+-- in a plan with the entries of a lawful tree the parent of each entry's node is an earlier node
 pub earlier_of : (entries : List Entry) (plan : PlanData) → IsTree (parents_of entries) (leaves_of entries) → plan.entries ≡ entries →
     Earlier plan (length plan.entries)
 earlier_of entries plan tree same x low high =
@@ -67,6 +78,7 @@ earlier_of entries plan tree same x low high =
 no_elements : (P : List ℤ → Type 0) → All P []
 no_elements P = λ k d inside. absurd (omega arith)
 
+-- of the empty plan holds what holds once no node parts were taken
 pub nothing_taken : (basis : BasisValue) (entries : List Entry) → IsBasis basis → NodesTaken entries [] (empty_plan basis entries)
 nothing_taken basis entries sound =
     let plan = empty_plan basis entries in
@@ -220,6 +232,7 @@ add_taken entries tree done plan made (device kind start) before h =
     (node_taken entries done state.value.1 (device kind start) new (earlier_of entries state.value.1 tree middle.same_entries) middle hold refl refl
     (λ has. absurd (cc has)))
 
+-- of the plan that node parts give holds what holds once these were taken
 pub nodes_taken : (basis : BasisValue) (entries : List Entry) (parts : List NodePart) (plan : PlanData) → IsBasis basis →
     IsTree (parents_of entries) (leaves_of entries) → fold_from 1 add_node (empty_plan basis entries) parts ≡ Ok plan → NodesTaken entries parts plan
 nodes_taken basis entries parts plan sound tree h =

@@ -111,13 +111,21 @@ changes_ticked plan p q minutes other = sum_by-map (of_phase q) (map_device (tic
 
 -- what holds of a plan of which k phases are closed, where phase p is the last that may have changes
 pub record OnWay (entries : List Entry) (p k : ℕ) (plan : PlanData) : Type 0 where
+  -- the tree of the plan has these entries
   pub same_entries : plan.entries ≡ entries
+  -- the plan has one node for each entry
   pub many : length plan.nodes ≡ length plan.entries
+  -- a node is a device exactly where it is a leaf of the tree
   pub devices : (x : ℕ) → is_device (node plan x) ≡ is_leaf plan x
+  -- the plan has k phases
   pub closed : phases plan ≡ k
+  -- the minutes of each tick are those that a tick may have
   pub minutes : (q : ℕ) (m : ℤ) → minutes_of plan q ≡ Some m → IsTrue (are_minutes m)
+  -- each phase of events so far has no more changes than the most events of a phase
   pub few_events : (q : ℕ) → 1 ≤ q → q ≤ k → minutes_of plan q ≡ None → changes_in plan.nodes q ≤ most_events
+  -- no limited concentrator stands above a limited one
   pub one_limit : OneLimit plan
+  -- what holds of a plan all along holds, where phase p is the last that may have changes
   pub holds : Holds p plan
 
 limited_with : (plan : PlanData) (d p x : ℕ) (what : Planned) → 1 ≤ d → d ≤ length plan.nodes →
@@ -277,6 +285,7 @@ add_event_taken entries p k n done plan made (state name value) later before h =
 
 -- ---- phases
 
+-- a sum over a list is 0 where it is 0 for each element
 pub sum_none : {X : Type 0} (f : X → ℕ) (xs : List X) → ((i : ℕ) (d : X) → i < length xs → f (get_or xs i d) ≤ 0) → sum_by f xs ≤ 0
 sum_none f xs all = (let le = sum_by-le f 0 xs all in omega arith)
 
@@ -411,7 +420,9 @@ tick_closed entries k plan minutes way fits =
 
 -- what holds once these phases were taken
 pub record PhasesTaken (entries : List Entry) (done : List PhasePart) (plan : PlanData) : Type 0 where
+  -- all phases taken are closed, and what holds on the way through the phases holds of the plan
   pub way : OnWay entries (length done) (length done) plan
+  -- the plan has no more changes than the most changes of a run
   pub few_changes : all_changes plan.nodes ≤ most_changes
 
 phase_taken : (entries : List Entry) (k : ℕ) (plan made : PlanData) (part : PhasePart) → OnWay entries k k plan →
@@ -449,6 +460,7 @@ add_phase_taken entries done plan made part before h =
     } in
     subst (PhasesTaken entries (done ++ part ∷ [])) (ok-is after.value made few.rest) taken
 
+-- of the plan that phases give holds what holds once these were taken, if it held before the first
 pub phases_taken : (entries : List Entry) (parts : List PhasePart) (plan made : PlanData) → PhasesTaken entries [] plan →
     fold_from 1 add_phase plan parts ≡ Ok made → PhasesTaken entries parts made
 phases_taken entries parts plan made start h =

@@ -179,6 +179,7 @@ few_phases basis entries nodes phases plan h =
     let few = check-ok cause.RunTooLarge Document (nat_le (length phases) most_phases) _ plan h in
     leb-true (length phases) most_phases few.holds
 
+-- what a market basis, an accepted tree and its nodes and phases give, where not refused, is a plan
 pub checked_plan-keeps : (basis : BasisValue) (entries : List Entry) (nodes : List NodePart) (phases : List PhasePart)
     (plan : PlanData) → IsBasis basis → checked_tree entries ≡ Ok entries → IsTree (parents_of entries) (leaves_of entries) →
     AreNodesOf entries nodes → checked_plan basis entries nodes phases ≡ Ok plan → IsPlan plan

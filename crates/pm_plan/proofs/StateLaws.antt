@@ -114,6 +114,7 @@ power_in_rows-is plan p d within low high fits =
     ∙ power_same plan (state_by_rows plan (power_rows plan p)) (state plan) (end_cut plan p) d
     (λ e _ _. state_by_rows-is plan p e (end_cut plan p e) (omega arith) (omega arith) fits)
 
+-- the state of a device before its first change is its start
 pub state-start : (plan : PlanData) (d : ℕ) (planned : DeviceData) → node plan d ≡ Device planned → state plan d 0 ≡ planned.start
 unfolding state state_by_rows
 state-start plan d planned is = ap (λ n. node_state n (λ p. power_in_rows (power_rows plan (phases plan)) p d) 0) is
@@ -151,6 +152,7 @@ state-next plan d n planned fits is inside =
     ∙ ap (λ power'. changed_state planned.kind (state plan d n) power' (change_at plan d n).what)
     (power_in_rows-is plan ((change_at plan d n).phase - 1) d (omega arith) low (omega arith) fits)
 
+-- the states of a plan follow its changes, where these lie in the plan's phases
 pub state-follows : (plan : PlanData) → InPhases plan → FollowChanges plan (state plan)
 state-follows plan fits = record {
   start = λ d planned is. state-start plan d planned is;

@@ -31,8 +31,11 @@ use Rattle.pm_plan.proofs.Inversions.{bind-ok, ok-is}
 
 -- a bid of one device
 pub record IsBid (steps : ℕ) (bid : List ℤ) : Type 0 where
+  -- the bid has one demand for each step
   pub many : length bid ≡ steps
+  -- the bid never rises from step to step
   pub falls : NeverRises bid
+  -- the bid lies within the limit of a demand at each step
   pub within : AllWithinLimit demand_limit bid
 
 passed : (at many : ℕ) → nat_lt at many ≡ false → many ≤ at
@@ -101,6 +104,7 @@ points-of basis place given bid (Ok made) sound e h =
     (record { many = length-array_of made basis; falls = array_falls made basis holds sound; within = array_within made basis holds })
 points-of basis place given bid (Err fault) sound e h = absurd (cc h)
 
+-- arrays that are bids of one device each still are with one more such bid among them
 pub one_more_array : (plan : PlanData) (bid : List ℤ) → AreArrays plan → IsBid plan.basis.steps bid → AreArrays (with_array plan bid).1
 one_more_array plan bid all one = record {
   steps = All-push (λ b. length b ≡ plan.basis.steps) plan.arrays bid all.steps one.many;
@@ -110,9 +114,13 @@ one_more_array plan bid all one = record {
 
 -- a state that fits the kind, and the plan with no change but of its arrays
 pub record StateMade (kind : Kind) (plan : PlanData) (made : ℤ × PlanData) : Type 0 where
+  -- the arrays of the plan once the state was made
   pub arrays : List (List ℤ)
+  -- the plan that was made is the old one with these arrays
   pub is : made.1 ≡ record plan { arrays = arrays }
+  -- each of these arrays is a bid of one device
   pub bids : AreArrays (record plan { arrays = arrays })
+  -- the state that was made fits the kind
   pub fits : IsTrue (state_fits kind made.0)
 
 is_number : (n : ℕ) → IsTrue (state_fits Manual (pos n))
@@ -149,6 +157,7 @@ number-made place kind plan (number z) made all h =
 number-made place kind plan (array demands) made all h = absurd (cc h)
 number-made place kind plan (points pairs) made all h = absurd (cc h)
 
+-- a state of a file that is not refused fits the kind and alters of the plan only the arrays, each still a bid
 pub state-made : (place : Place) (kind : Kind) (plan : PlanData) (part : StatePart) (made : ℤ × PlanData) → IsBasis plan.basis →
     AreArrays plan → state_of place kind plan part ≡ Ok made → StateMade kind plan made
 unfolding state_of

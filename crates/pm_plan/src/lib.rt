@@ -38,6 +38,3 @@ pub use parts::{EventSpec, NodeSpec, PhaseSpec, StateSpec};
 pub use plan::Plan;
 pub use planned::Planned;
 pub use refusal::{Cause, Place, PlanFault, Refusal};
-
-#[cfg(test)]
-mod tests;

@@ -23,6 +23,7 @@ pub demand_last : (points : List Point) (place : ℕ) (price : ℤ) → place + 
     demand_from points price (Some place) ≡ demand_of_point (point_at points place)
 demand_last points place price all = grind (arith, nat_tests)
 
+-- from a point on that is not the last, the demand is that on the line to the next point
 pub demand_inside : (points : List Point) (place : ℕ) (price : ℤ) → place + 1 < length points →
     demand_from points price (Some place) ≡ demand_between (point_at points place) (point_at points (place + 1)) price
 demand_inside points place price inside = grind (arith, nat_tests)
@@ -155,6 +156,7 @@ price_rises basis sound step =
           (omega (arith, ints)) (omega (arith, ints)),
     )
 
+-- the array of points has as many steps as the basis
 pub length-array_of : (points : List Point) (basis : BasisValue) → length (array_of_points points basis) ≡ basis.steps
 length-array_of points basis = length-map-range_with_len (λ step. demand_at_price points (price_at basis step)) 0 basis.steps
 
@@ -163,6 +165,7 @@ array_of-at : (points : List Point) (basis : BasisValue) (step : ℕ) → step <
 array_of-at points basis step inside =
     get_or-map-range_with_len (λ step. demand_at_price points (price_at basis step)) 0 basis.steps step step (pos 0) inside (omega arith)
 
+-- the array of a point bid never rises with the step
 pub array_falls : (points : List Point) (basis : BasisValue) → IsPointBid points → IsBasis basis → NeverRises (array_of_points points basis)
 array_falls points basis bid sound = λ step inside.
     let last : step + 1 < basis.steps = omega (arith, length-array_of points basis) in
@@ -171,6 +174,7 @@ array_falls points basis bid sound = λ step inside.
     (subst (λ (z : ℤ). demand_at_price points (price_at basis (step + 1)) ≤ℤ z) (sym (array_of-at points basis step first))
     (demand_falls points bid (price_at basis step) (price_at basis (step + 1)) (price_rises basis sound step)))
 
+-- the array of a point bid is within the limit of one demand
 pub array_within : (points : List Point) (basis : BasisValue) → IsPointBid points → AllWithinLimit demand_limit (array_of_points points basis)
 array_within points basis bid = λ step inside.
     subst (λ (z : ℤ). IsWithin demand_limit z) (sym (array_of-at points basis step (omega (arith, length-array_of points basis))))
@@ -187,9 +191,12 @@ within_line points bid place from to demand inside is_from is_to least greatest 
 
 -- the array as a loop over the steps fills it
 pub record Filled (points : List Point) (basis : BasisValue) (array : List ℤ) (step : ℕ) : Type 0 where
+  -- the array has as many steps as the basis
   pub long : length array ≡ basis.steps
+  -- each step before this one has the demand of the points at its price
   pub done : (k : ℕ) → k < step → get_or array k (pos 0) ≡ demand_at_price points (price_at basis k)
 
+-- an array filled up to a step is filled one step further with the demand at that step's price
 pub filled_more : (points : List Point) (basis : BasisValue) (array : List ℤ) (step : ℕ) (demand : ℤ) → step < basis.steps →
     Filled points basis array step → demand ≡ demand_at_price points (price_at basis step) → Filled points basis (set array step demand) (step + 1)
 filled_more points basis array step demand inside filled is =
@@ -202,6 +209,7 @@ filled_more points basis array step demand inside filled is =
           (rw get_or-set_same is);
     }
 
+-- an array filled up to the number of steps or further is the array of the points
 pub filled_all : (points : List Point) (basis : BasisValue) (array : List ℤ) (step : ℕ) → basis.steps ≤ step →
     Filled points basis array step → array ≡ array_of_points points basis
 filled_all points basis array step all filled =

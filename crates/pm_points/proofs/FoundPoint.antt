@@ -21,6 +21,7 @@ met_by-at test points k inside =
     get_or-zip2 test points (drop 1 points) k (pos 0, pos 0) (pos 0, pos 0) false (omega arith) (omega (arith, length-drop 1 points))
     ∙ ap (λ point. test (point_at points k) point) (get_or-drop 1 points k (pos 0, pos 0) ∙ ap (λ n. point_at points n) (omega arith))
 
+-- a point that meets the test with the one before it, as no earlier one does, is what the search finds
 pub first_after_found : (test : Point → Point → Bool) (points : List Point) (at : ℕ) → 1 ≤ at → at < length points →
     ((k : ℕ) → k + 1 < at → test (point_at points k) (point_at points (k + 1)) ≡ false) →
     test (point_at points (at - 1)) (point_at points at) ≡ true → at ≡ first_after test points
@@ -34,6 +35,7 @@ first_after_found test points at positive inside before found =
           (λ k h. met_by-at test points k (omega arith) ∙ before k (omega arith)) (λ _. met),
     )
 
+-- where no point meets the test with the one before it, the search gives the number of points
 pub first_after_none : (test : Point → Point → Bool) (points : List Point) → 1 ≤ length points →
     ((k : ℕ) → k + 1 < length points → test (point_at points k) (point_at points (k + 1)) ≡ false) → length points ≡ first_after test points
 first_after_none test points positive before =

@@ -17,6 +17,7 @@ inside_price basis price sound inside =
     let high = sound.high in
     record { low = grind (arith, ints); high = grind (arith, ints) }
 
+-- points that are neither none nor too many, and in which no check finds a fault, are a point bid
 pub passed_all : (basis : BasisValue) (points : List Point) → IsBasis basis → 1 ≤ length points → length points ≤ max_points →
     length points ≤ first_price_fall points → length points ≤ first_rise points → length points ≤ first_large_demand points →
     length points ≤ first_outside basis points → IsPointBid points

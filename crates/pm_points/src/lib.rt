@@ -18,6 +18,3 @@ mod search;
 
 pub use fault::PointFault;
 pub use point_bid::PointBid;
-
-#[cfg(test)]
-mod tests;

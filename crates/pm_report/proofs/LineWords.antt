@@ -23,8 +23,11 @@ AreWords (word ∷ next ∷ more) = IsWord word × AreWords (next ∷ more)
 
 -- bytes that begin with a word and a mark behind it
 pub record SameWord (v w : List ℕ) (c d : ℕ) (r s : List ℕ) : Type 0 where
+  -- the words are the same
   pub word : v ≡ w
+  -- the marks behind the words are the same
   pub mark : c ≡ d
+  -- the bytes behind the marks are the same
   pub rest : r ≡ s
 
 above : (x : ℕ) (word : List ℕ) → IsWord (x ∷ word) → 32 < x
@@ -39,6 +42,7 @@ same_first x y v w same = cc
 same_later : (x y : ℕ) (v w : List ℕ) → x ∷ v ≡ y ∷ w → v ≡ w
 same_later x y v w same = cc
 
+-- bytes that begin with a word and a mark up to the blank do so with one word, one mark and one rest
 pub same_word : (v w : List ℕ) (c d : ℕ) (r s : List ℕ) → IsWord v → IsWord w → c ≤ 32 → d ≤ 32 → v ++ c ∷ r ≡ w ++ d ∷ s →
     SameWord v w c d r s
 same_word [] [] c d r s v_is w_is c_low d_low same = record { word = refl; mark = same_first c d r s same; rest = same_later c d r s same }
@@ -57,9 +61,12 @@ same_word (x ∷ v) (y ∷ w) c d r s v_is w_is c_low d_low same =
 
 -- bytes that begin with the line of some words
 pub record SameLine (us ws : List (List ℕ)) (r s : List ℕ) : Type 0 where
+  -- the words of the two lines are the same
   pub words : us ≡ ws
+  -- the bytes behind the two lines are the same
   pub rest : r ≡ s
 
+-- bytes that begin with the line of some words do so with one list of words and one rest
 pub same_line : (us ws : List (List ℕ)) (r s : List ℕ) → AreWords us → AreWords ws → text_line us ++ r ≡ text_line ws ++ s → SameLine us ws r s
 same_line [] ws r s us_are ws_are same = absurd us_are
 same_line (u ∷ us) [] r s us_are ws_are same = absurd ws_are
@@ -89,10 +96,12 @@ same_line (u ∷ v ∷ us) (w ∷ z ∷ ws) r s us_are ws_are same =
 digit_word : (n : ℕ) → n < 10 → IsWord ((48 + n) ∷ [])
 digit_word n small = ap (λ b. b && true) (lt-ltb 32 (48 + n) (omega arith))
 
+-- the decimal text of a number of 64 bits is a word
 pub decimal_word : (n : ℕ) → n < 2 ^ 64 → IsWord (decimal n)
 decimal_word = decimal_by_steps (λ n text. IsWord text) digit_word
     (λ n text large front. list_all-append (nat_lt 32) text ((48 + n % 10) ∷ []) ∙ (λ i. front i && digit_word (n % 10) (omega arith) i))
 
+-- the decimal text of a signed number whose size is below 2^63 is a word
 pub signed_word : (z : ℤ) → mag z < 2 ^ 63 → IsWord (signed_decimal z)
 signed_word (pos n) small = decimal_word n (omega (arith, ints))
 signed_word (negsuc n) small = decimal_word (suc n) (omega (arith, ints))

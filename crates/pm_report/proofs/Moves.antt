@@ -87,6 +87,7 @@ module _ (plan : PlanData) (is : IsPlan plan) where
   )
   are_words (Close phase) held fits = (refl, number_word phase fits.number_fits)
 
+  -- what is written of a line of a run is at least one word, and words only
   pub move_are_words : (one : Line) → IsLineOfRun plan one → AreWords (move_words plan one.what one.held)
   move_are_words one fits = are_words one.what one.held fits
 
@@ -130,6 +131,7 @@ module _ (plan : PlanData) (is : IsPlan plan) where
       (λ i. line (Close (number i)) (held i))
   same a h b k one other words = let keys = ap key words in absurd (omega (arith, keys))
 
+  -- lines of a run that have the same words are the same line
   pub same_move : (one other : Line) → IsLineOfRun plan one → IsLineOfRun plan other →
       move_words plan one.what one.held ≡ move_words plan other.what other.held → one ≡ other
   same_move one other one_is other_is words = same one.what one.held other.what other.held one_is other_is words

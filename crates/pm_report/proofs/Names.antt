@@ -55,7 +55,9 @@ name_word bytes is = formed_word bytes (and_true (has_name_form bytes) (not (byt
 
 -- an entry that is not refused has a lawful name that no entry before it has
 pub record IsNew (before : List Entry) (entry : Entry) : Type 0 where
+  -- the name of the entry is lawful
   pub lawful : is_name entry.name ≡ true
+  -- no node before has the name of the entry
   pub new : node_named before entry.name ≡ None
 
 is_new : (before : List Entry) (entry : Entry) → entry_refusal before entry ≡ None → IsNew before entry
@@ -68,7 +70,9 @@ is_new before entry accepted = by (is_name entry.name) refl (is_some (node_named
 
 -- names, each a word, and no two alike
 pub record AreNames (names : List (List ℕ)) : Type 0 where
+  -- each of the names is a word
   pub words : (k : ℕ) → k < length names → IsWord (get_or names k [])
+  -- names that are alike stand at the same place
   pub differ : (j k : ℕ) → j < length names → k < length names → get_or names j [] ≡ get_or names k [] → j ≡ k
 
 -- where a name of a list with one more stands
@@ -152,6 +156,7 @@ none_of_rest : {A : Type 0} (many : Bool) (x : A) (o : Option A) → cond many (
 none_of_rest true x o none = absurd cc
 none_of_rest false x o none = none
 
+-- a list of entries without a first refusal has no entry that is refused after those before it
 pub none_refused : (entries : List Entry) → first_refusal entries ≡ None → slice_get (refusals_after [] entries) 0 ≡ None
 unfolding first_refusal
 none_refused entries none = none_of_rest (nat_lt most_nodes (length entries)) (TooMany (length entries)) (slice_get (refusals_after [] entries) 0) none
@@ -164,9 +169,11 @@ module _ (plan : PlanData) (is : IsPlan plan) where
   counted : length (names_of plan.entries) ≡ length plan.nodes + 1
   counted = let each = is.nodes.one_each in omega (arith, length-map plan.entries (λ (e : Entry). e.name))
 
+  -- the name of each node of a plan, the auctioneer included, is a word
   pub node_word : (x : ℕ) → x ≤ length plan.nodes → IsWord (name plan x)
   node_word x inside = let count = counted in (tree_names plan.entries is.accepted).words x (omega arith)
 
+  -- nodes of a plan that have the same name, the auctioneer included, are the same node
   pub same_node : (x y : ℕ) → x ≤ length plan.nodes → y ≤ length plan.nodes → name plan x ≡ name plan y → x ≡ y
   same_node x y x_inside y_inside same = let count = counted in (tree_names plan.entries is.accepted).differ x y (omega arith) (omega arith) same
 

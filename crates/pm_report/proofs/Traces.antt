@@ -53,6 +53,7 @@ module _ (plan : PlanData) (is : IsPlan plan) (a_last b_last : List Line) where
       let more = same_lines a b (others (IsLineOfRun plan) one a a_are) (others (IsLineOfRun plan) other b b_are) line.rest in
       (λ i. here i ∷ more i)
 
+-- journals of lines of a plan's runs that have the same trace, with the same ends, are the same
 pub same_journal : (plan : PlanData) (ends : List EndData) (a b : List Line) → IsPlan plan → All (IsLineOfRun plan) a → All (IsLineOfRun plan) b →
     trace_text plan ends a ≡ trace_text plan ends b → a ≡ b
 unfolding trace_text

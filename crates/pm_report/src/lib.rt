@@ -10,8 +10,6 @@ mod law;
 mod refusal;
 mod report;
 mod summary;
-#[cfg(test)]
-mod tests;
 mod trace;
 mod words;
 

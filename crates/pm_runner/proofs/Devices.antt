@@ -60,6 +60,7 @@ pub arrays_fit : (plan : PlanData) → IsPlan plan → (p : PlanData) (arrays : 
 arrays_fit plan is_plan p arrays steps e f g =
     subst (λ (n : ℕ). HaveSteps n arrays) (sym g) (subst (HaveSteps plan.basis.steps) (sym (e ∙ ap (λ (q : PlanData). q.arrays) f)) is_plan.arrays.steps)
 
+-- the arrays of a plan have as many steps as a basis that is the plan's
 pub plan_arrays : (plan : PlanData) (basis : BasisValue) (steps : ℕ) → IsPlan plan → basis ≡ plan.basis → steps ≡ basis.steps →
     HaveSteps steps plan.arrays
 plan_arrays plan basis steps is_plan b s = arrays_fit plan is_plan plan plan.arrays steps refl refl (s ∙ ap (λ (it : BasisValue). it.steps) b)
@@ -86,9 +87,12 @@ agent_is plan d steps kind basis agent k s b e = record {
 
 -- the agents of the devices before a number are in their places
 pub record AreAgentsTo (plan : PlanData) (agents : List (Option Agent)) (n : ℕ) : Type 0 where
+  -- there are as many places as the number says
   pub many : length agents ≡ n
+  -- each device before the number has its agent in its place
   pub each : (d : ℕ) → d < n → IsLeaf (plan_lists plan) d → HasAgent plan agents d
 
+-- the empty list has the agents of the devices before node 0
 pub no_agents : (plan : PlanData) → AreAgentsTo plan [] 0
 no_agents plan = record { many = refl; each = λ d low leaf. absurd (omega arith) }
 
@@ -107,6 +111,7 @@ one_more_at : (plan : PlanData) (agents : List (Option Agent)) (found : Option A
 one_more_at plan agents (Some agent) its none leaf = record { agent = agent; here = at_end agents (Some agent); its = its }
 one_more_at plan agents None its none leaf = absurd (none refl leaf)
 
+-- what is found for node n, its agent unless it is no device, joins the agents of the devices before n
 pub one_more : (plan : PlanData) (agents new : List (Option Agent)) (found : Option Agent) (n : ℕ) → AreAgentsTo plan agents n →
     new ≡ agents ++ found ∷ [] →
     IfSome found (IsAgentOf plan n) → (found ≡ None → IsLeaf (plan_lists plan) n → ⊥) → AreAgentsTo plan new (n + 1)
@@ -134,6 +139,7 @@ agent_here plan agents d now none has e =
     let same : has.agent ≡ now = cc both in
     subst (IsAgentOf plan d) same has.its
 
+-- the agents of the devices up to the last entry are those of all devices of the plan
 pub all_agents : (plan : PlanData) → IsPlan plan → (agents : List (Option Agent)) (n : ℕ) → AreAgentsTo plan agents n →
     n ≡ length plan.entries + 1 → AreAgents plan agents
 all_agents plan is_plan agents n are e d leaf = are.each d (omega (arith, e, leaf_node (plan_lists plan) (lawful plan is_plan) d leaf, nodes_are plan)) leaf

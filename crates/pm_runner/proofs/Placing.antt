@@ -32,6 +32,7 @@ puts_up (l ∷ ls) (p ∷ ps) zero q e h f was =
     ((is, subst (λ (x : Places). IfSome x.down (λ a. a.link ≡ l)) (sym was) h.0.1), h.1)
 puts_up (l ∷ ls) (p ∷ ps) (suc k) q e h f was = (h.0, puts_up ls ps k q e h.1 f was)
 
+-- a parent's end goes into the place of its link, as `down`, where q was
 pub puts_down : (ls : List TableId) (ps : List Places) (k : ℕ) (q : Places) (e : LinkEnd) → ArePlaced ls ps → slice_get ls k ≡ Some e.link
     → q ≡ get_or ps k q → ArePlaced ls (set ps k (record { up = q.up; down = Some e }))
 puts_down [] ps k q e h f was = absurd (cc)

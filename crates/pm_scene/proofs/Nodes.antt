@@ -25,5 +25,6 @@ devices_are_leaves : (nodes : List NamedPart) → map is_device (parts_in nodes)
 unfolding leaves_of
 devices_are_leaves nodes = devices nodes
 
+-- where the entries of some named parts make a tree, these are the parts of the nodes of that tree
 pub are_nodes : (nodes : List NamedPart) (tree : List Entry) → tree_of (entries_in nodes) ≡ Ok tree → AreNodesOf tree (parts_in nodes)
 are_nodes nodes tree h = devices_are_leaves nodes ∙ ap leaves_of (kept (entries_in nodes) tree (first_refusal (entries_in nodes)) h)

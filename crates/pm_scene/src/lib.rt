@@ -18,8 +18,6 @@ mod members;
 mod rows;
 mod scene;
 mod shape;
-#[cfg(test)]
-mod tests;
 mod tree;
 mod values;
 

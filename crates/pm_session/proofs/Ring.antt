@@ -52,8 +52,11 @@ record_other places sent n differs = get_or-set_other places (sent.number % ring
 
 -- what the ring keeps beside the window
 pub record Ring (children : ℕ) (steps : Option ℕ) (places : List Sent) (answered last : ℕ) : Type 0 where
+  -- there is a place for the number answered last and one for each that may be unanswered
   pub size : length places ≡ ring_size
+  -- the record in the place of any number has the window's children, and a sum where the window keeps sums
   pub each : (number : ℕ) → Fits (window_from children steps places answered last) (record_in places number)
+  -- the window that the places give is sound
   pub sound : IsWindow (window_from children steps places answered last)
 
 -- what is read from a place
@@ -65,6 +68,7 @@ no_steps : (sum : Option (List ℤ)) → steps_of sum ≡ None → sum ≡ None
 no_steps None e = refl
 no_steps (Some sum) e = cc
 
+-- what the fields of a window keep is a ring of their places
 pub ring_of : (inside : Inside) → IsRing inside → Ring inside.children inside.steps inside.places.items inside.answered inside.last
 ring_of inside is = record { size = is.size; each = is.each; sound = is.sound }
 
@@ -100,6 +104,7 @@ module _ (children : ℕ) (steps : Option ℕ) (places : List Sent) (answered la
       ∙ record_other places sent n (λ e. other_place n sent.number (omega (arith, next, to)) (omega (arith, next, from, to, is.few)) e)
       ∙ sym (record_kept children steps places answered last n from to)
 
+  -- where the window has room, a record sent under the next number is added, and those that are kept stay
   pub record_sent : RecordSent (window_from children steps places answered last) after sent
   record_sent = record {
     at = newest_at;
@@ -110,6 +115,7 @@ module _ (children : ℕ) (steps : Option ℕ) (places : List Sent) (answered la
     steps = refl;
   }
 
+  -- where the window has room, the ring stays one with a fitting record sent under the next number
   pub ring_sent : Fits (window_from children steps places answered last) sent → Ring children steps (with_record places sent) answered sent.number
   ring_sent fits =
       let fits' : Fits after sent = record { children = fits.children; steps = fits.steps } in
@@ -154,6 +160,7 @@ module _ (children : ℕ) (steps : Option ℕ) (places : List Sent) (answered la
       record_kept children steps places number last n from to
       ∙ sym (record_kept children steps places answered last n (omega (arith, from, keeps.from)) to)
 
+  -- once a number that is kept is answered, the records from it on are still as they were
   pub record_answered : RecordAnswered (window_from children steps places answered last) rest number
   record_answered = record {
     answered = refl;
@@ -163,6 +170,7 @@ module _ (children : ℕ) (steps : Option ℕ) (places : List Sent) (answered la
     steps = refl;
   }
 
+  -- once a number that is kept is answered, the ring stays one with the same places
   pub ring_answered : Ring children steps places number last
   ring_answered =
       let P : Sent → Type 0 = λ r. Fits rest r in
@@ -183,5 +191,6 @@ module _ (children : ℕ) (steps : Option ℕ) (places : List Sent) (answered la
         };
       }
 
+  -- the record in the place of a number that is kept is the window's record of that number
   pub record_given : record_in places number ≡ record_of (window_from children steps places answered last) number
   record_given = sym (record_kept children steps places answered last number keeps.from keeps.to)

@@ -26,6 +26,3 @@ pub use price::{Held, PriceUpdate};
 pub use prices::offer_prices;
 pub use record::Record;
 pub use window::Window;
-
-#[cfg(test)]
-mod tests;

@@ -19,9 +19,11 @@ use Rattle.pm_plan.proofs.MarketLists.{lawful}
 use Rattle.pm_stands.proofs.Passing.{sum_alike}
 
 module _ (plan : PlanData) (is_plan : IsPlan plan) (a b : Cut) (same : SameOn (plan_lists plan) 0 a b) where
+  -- two cuts that are the same on all leaves have the same total
   pub total_alike : total plan (state plan) a ≡ total plan (state plan) b
   total_alike = laws.offer_total plan a is_plan ∙ sum_alike plan is_plan 0 a b same ∙ sym (laws.offer_total plan b is_plan)
 
+  -- two cuts that are the same on all leaves have the same step of the plain auction
   pub plain_alike : plain plan (state plan) a ≡ plain plan (state plan) b
   unfolding plain
   plain_alike = ap clearing_step total_alike
@@ -29,6 +31,7 @@ module _ (plan : PlanData) (is_plan : IsPlan plan) (a b : Cut) (same : SameOn (p
   same_below : (x : ℕ) → SameOn (plan_lists plan) x a b
   same_below x d below = same d (leaf_of_auctioneer (plan_lists plan) (lawful plan is_plan) d (leaf_of_parts (plan_lists plan) x d below).0)
 
+  -- two cuts the same on all leaves give group 0, and each limited concentrator's group, the same step
   pub group_step_alike : (g : ℕ) → (g ≡ 0) ⊎ (is_limited plan g ≡ true) →
       group_step plan (state plan) a (plain plan (state plan) a) g ≡ group_step plan (state plan) b (plain plan (state plan) b) g
   unfolding group_step
@@ -41,6 +44,7 @@ module _ (plan : PlanData) (is_plan : IsPlan plan) (a b : Cut) (same : SameOn (p
       ∙ ap (local_step (limits_of (node plan g)) (plain plan (state plan) b))
       (limited_sum plan is_plan g a limited ∙ sum_alike plan is_plan g a b (same_below g) ∙ sym (limited_sum plan is_plan g b limited))
 
+  -- two cuts that are the same on all leaves give each node the same local step
   pub local_alike : (x : ℕ) → IsNode (plan_lists plan) x → local_at plan a x ≡ local_at plan b x
   unfolding local
   local_alike x here = group_step_alike (group plan x) (group_kind plan is_plan x (omega (arith, here.1, nodes_are plan is_plan)))

@@ -49,6 +49,7 @@ module _ (plan : PlanData) (is_plan : IsPlan plan) (c : Core) (s : State) (stand
       ∙ ap (sum_of plan.basis.steps) (demands_are plan is_plan c s stands y le inner)
       ∙ sum_alike plan is_plan y (known lists s y) s.counts (all_known lists (lawful plan is_plan) s stands.sound idle y inner)
 
+  -- in an idle state the auctioneer's sum is the total over all changes made
   pub total_current : aggregate_of c.auctioneer.cache ≡ total plan (state plan) s.counts
   total_current = ap aggregate_of (sym (cache_root c.auctioneer c.concentrators 0 refl)) ∙ sum_current 0 (omega arith) (leaf_zero lists)
       ∙ sym (laws.offer_total plan s.counts is_plan)
@@ -63,6 +64,7 @@ module _ (plan : PlanData) (is_plan : IsPlan plan) (c : Core) (s : State) (stand
   unfolding plain
   plain_of_sum cut = ap clearing_step (laws.offer_total plan cut is_plan)
 
+  -- in an idle state the auctioneer's step is that of the plain auction over all changes made
   pub step_current : c.auctioneer.step ≡ plain plan (state plan) s.counts
   step_current = elim (cases_eq (clearings s) 0) [
     | inl none ↦
@@ -80,6 +82,7 @@ module _ (plan : PlanData) (is_plan : IsPlan plan) (c : Core) (s : State) (stand
         ∙ plain_alike plan is_plan (cleared s (clearings s)) s.counts same_cleared
   ]
 
+  -- in an idle state each member holds the price of the last clearing, of its local step over all changes made
   pub held_current : (d : ℕ) → IsLeaf lists d → is_member lists d (s.counts d) ≡ true →
       held_price plan s d ≡ Some (record { step = local_at plan s.counts d; number = s.counts d; index = clearings s })
   held_current d leaf member =

@@ -10,25 +10,31 @@ use Rattle.pm_auctioneer.specs.Auctions.{Auction}
 use Rattle.pm_stands.specs.Core.{gathered_in, gathered_at, cache_in}
 use Rattle.pm_stands.specs.Rows.{OneConcentrator, EntryLearnt}
 
+-- the cache of node 0 is the auctioneer's
 pub cache_root : (a : Auction) (cs : List (Option Gathered)) (y : ℕ) → y ≡ 0 → cache_in a cs y ≡ a.cache
 unfolding cache_in
 cache_root a cs y e = cond-true (eqb y 0) a.cache (gathered_at cs y).cache (eq-eqb y 0 e)
 
+-- the cache of any node but node 0 is that of the concentrator in the node's place
 pub cache_inner : (a : Auction) (cs : List (Option Gathered)) (y : ℕ) → (y ≡ 0 → ⊥) → cache_in a cs y ≡ (gathered_at cs y).cache
 unfolding cache_in
 cache_inner a cs y ne = cond-false (eqb y 0) a.cache (gathered_at cs y).cache (ne_eqb y 0 ne)
 
+-- where a concentrator stands in the place of y it is the one that is read of y
 pub gathered_known : (cs : List (Option Gathered)) (y : ℕ) (g : Gathered) → get_or cs y None ≡ Some g → gathered_at cs y ≡ g
 unfolding gathered_at
 gathered_known cs y g e = ap gathered_in e
 
+-- a concentrator that was set in a place of the list is the one that is read there
 pub gathered_same : (cs : List (Option Gathered)) (y : ℕ) (g : Gathered) → y < length cs → gathered_at (set cs y (Some g)) y ≡ g
 gathered_same cs y g lt = gathered_known (set cs y (Some g)) y g (get_or-set_same cs y (Some g) None lt)
 
+-- setting a concentrator in one place leaves what is read of the others
 pub gathered_other : (cs : List (Option Gathered)) (y i : ℕ) (g : Gathered) → (i ≡ y → ⊥) → gathered_at (set cs y (Some g)) i ≡ gathered_at cs i
 unfolding gathered_at
 gathered_other cs y i g ne = ap gathered_in (get_or-set_other cs y i (Some g) None ne)
 
+-- a bid with a greater number than the one kept is entered when it is learnt
 pub learnt_newer : (cache : Cache) (k n : ℕ) (demand : Option (List ℤ)) → kept_number cache k < n → learnt cache k n demand ≡ entered cache k n demand
 learnt_newer cache k n demand newer = cond-false (leb n (kept_number cache k)) cache (entered cache k n demand) (lt-leb n (kept_number cache k) newer)
 
@@ -39,6 +45,7 @@ news_after a k n newer = ap (λ b. a.changed || not b) (lt-leb n (kept_number a.
     or_true true = refl
     or_true false = refl
 
+-- an auctioneer that learnt a newer bid of a child has that entry learnt, and nobody else anything
 pub learnt_root : (a a' : Auction) (cs : List (Option Gathered)) (y k n : ℕ) (demand : Option (List ℤ)) → y ≡ 0 → kept_number (cache_in a cs y) k < n
     → a' ≡ record a { cache = learnt a.cache k n demand; changed = a.changed || not (leb n (kept_number a.cache k)) }
     → EntryLearnt a a' cs cs y k n demand
@@ -58,6 +65,7 @@ learnt_root a a' cs y k n demand e newer is =
       changed = ap (λ (x : Auction). x.changed) is ∙ news_after a k n newer' ∙ sym (cond-true (eqb y 0) true a.changed (eq-eqb y 0 e));
     }
 
+-- a concentrator that learnt a newer bid of a child has that entry learnt, and nobody else anything
 pub learnt_inner : (a : Auction) (cs : List (Option Gathered)) (g g' : Gathered) (y k n : ℕ) (demand : Option (List ℤ)) →
     (y ≡ 0 → ⊥) → y < length cs → get_or cs y None ≡ Some g
     → kept_number (cache_in a cs y) k < n
@@ -100,6 +108,7 @@ learnt_inner a cs g g' y k n demand ne lt at newer is =
       changed = sym (cond-false (eqb y 0) true a.changed (ne_eqb y 0 ne));
     }
 
+-- setting a concentrator in one place of the list changes that of the place alone
 pub one_concentrator : (cs : List (Option Gathered)) (y : ℕ) (g : Gathered) → y < length cs → OneConcentrator cs (set cs y (Some g)) y
 one_concentrator cs y g lt = record {
   all = length-set cs y (Some g);

@@ -41,6 +41,7 @@ module _ (plan : PlanData) (c : Core) (s : State) (d : ℕ) (stands : StandsFor 
   by_given given is = ap (λ (j : Option ℕ). held_by (record { joined = j; given = (seat_of c d).given })) (stands.joined d leaf)
       ∙ ap (answer member join) is
 
+  -- a device's port holds what held_price gives in the state stood for, with no premise on the plan
   pub held_agrees_at : held_by (seat_of c d) ≡ held_price plan s d
   unfolding holds_price
   held_agrees_at = elim (cases_eq (last s d) 0) [

@@ -28,6 +28,7 @@ use Rattle.std.proofs.lemmas.Option.{get_or_from_slice_get, slice_get-get_or}
 use Rattle.std.proofs.Math.Nat.{mul-le-mul_right, suc-mul}
 use Rattle.pm_market.specs.Lists.{phases}
 
+-- limits of a node of a plan have power 0 between them, and are within the limit of a sum
 pub limits_around : (plan : PlanData) → IsPlan plan → (y : ℕ) (l : Limits) → limits_at plan y ≡ Some l → AreLimits l
 limits_around plan is_plan y l e = is_plan.within.limits y l (limits_of-tells (node plan y) l e)
 
@@ -46,6 +47,7 @@ equal_factors a b k same = elim (cases_lt a b) [
   ]
 ]
 
+-- all devices of a plan together make at most as many changes as a run may have
 pub few_changes : (plan : PlanData) → IsPlan plan → change_total (plan_lists plan) ≤ most_changes
 few_changes plan is_plan =
     let count : ℕ = nodes (plan_lists plan) + 14 in
@@ -69,6 +71,7 @@ at_place plan x x_node =
     ap (λ (y : ℕ). slice_get (children_of plan.entries y) (place_of plan.entries x)) (market_lists.parent-is plan x)
     ∙ child_at_place plan.entries x x_node.0 (omega (arith, x_node.1, length-parents_of plan.entries))
 
+-- the place of a node is less than the number of its parent's children
 pub placed : (plan : PlanData) → IsPlan plan → (x : ℕ) → IsNode (plan_lists plan) x →
     place_of plan.entries x < length (children_of plan.entries (parent (plan_lists plan) x))
 placed plan is_plan x x_node = slice_get_inside (children_of plan.entries (parent (plan_lists plan) x)) (place_of plan.entries x) x (at_place plan x x_node)
@@ -78,6 +81,7 @@ placed plan is_plan x x_node = slice_get_inside (children_of plan.entries (paren
     slice_get_inside (y ∷ xs) zero v here = omega arith
     slice_get_inside (y ∷ xs) (suc k) v here = omega (arith, slice_get_inside xs k v here)
 
+-- in a node's place among the children of its parent stands the node
 pub child_in_place : (plan : PlanData) → IsPlan plan → (x : ℕ) → IsNode (plan_lists plan) x →
     child_at plan (parent (plan_lists plan) x) (place_of plan.entries x) ≡ x
 child_in_place plan is_plan x x_node =
@@ -106,6 +110,7 @@ child_inside parents (suc count) y k child here =
       | inr last ↦ (omega (arith, last), omega (arith, last))
     ]
 
+-- what stands in place k among the children of y is a node, with parent y and place k
 pub child_node : (plan : PlanData) → IsPlan plan → (y k : ℕ) → k < length (children_of plan.entries y) →
     IsNode (plan_lists plan) (child_at plan y k) × (parent (plan_lists plan) (child_at plan y k) ≡ y) × (place_of plan.entries (child_at plan y k) ≡ k)
 unfolding children_at
@@ -128,6 +133,7 @@ pub at_node : (plan : PlanData) (x y k : ℕ) (P : ℕ → ℕ → Type 0) → y
     P y k → P (parent (plan_lists plan) x) (place_of plan.entries x)
 at_node plan x y k P e f h = subst (λ (j : ℕ). P (parent (plan_lists plan) x) j) f (subst (λ (i : ℕ). P i k) e h)
 
+-- what holds of the parent and the place of a node holds of any numbers that are the same as these
 pub from_node : (plan : PlanData) (x y k : ℕ) (P : ℕ → ℕ → Type 0) → y ≡ parent (plan_lists plan) x → k ≡ place_of plan.entries x →
     P (parent (plan_lists plan) x) (place_of plan.entries x) → P y k
 from_node plan x y k P e f h = subst (λ (j : ℕ). P y j) (sym f) (subst (λ (i : ℕ). P i (place_of plan.entries x)) (sym e) h)

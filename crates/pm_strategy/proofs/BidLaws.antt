@@ -151,6 +151,7 @@ bid_of-strategy Load state arrays steps other = refl
 bid_of-strategy Objective state arrays steps other = refl
 bid_of-strategy Manual state arrays steps other = absurd (other refl)
 
+-- the bid of a manual device is the array with its state as number
 pub bid_of-manual : (kind : Kind) (state : ℤ) (arrays : List (List ℤ)) (steps : ℕ) → kind ≡ Manual →
     bid_of kind state arrays steps ≡ numbered_array arrays state steps
 unfolding bid_of
@@ -208,8 +209,11 @@ bid_of-falls kind state arrays steps valid all =
 
 -- a solar panel and an objective ask for their state, turned round
 pub record TurnedRound (kind : Kind) (state : ℤ) : Type 0 where
+  -- the state is between the most power of a device, negative, and that power
   pub within : Between (neg_ℤ (pos power_limit)) (pos power_limit) state
+  -- the kind has a strategy: it is not the manual one
   pub strategic : kind ≢ Manual
+  -- at each step the demand of the kind is the state with its sign turned round
   pub each : (last step : ℕ) → strategy_demand kind state last step ≡ neg_ℤ state
 
 wider : (power : ℤ) → Between (pos 0) (pos power_limit) power → Between (neg_ℤ (pos power_limit)) (pos power_limit) power
@@ -224,6 +228,7 @@ unfolding strategy_demand
 turned_round-Objective state fits =
     record { within = is_between-tells (neg_ℤ (pos power_limit)) (pos power_limit) state fits; strategic = λ e. cc; each = λ last step. refl }
 
+-- a solar panel or an objective in a state that fits it has its state turned round as its demand
 pub turned_round : (kind : Kind) (state : ℤ) → IsTrue (state_fits kind state) → (kind ≡ Solar) ⊎ (kind ≡ Objective) → TurnedRound kind state
 turned_round kind state fits is =
     let P : Kind → Type 0 = λ k. TurnedRound k state in

@@ -8,6 +8,7 @@ use Rattle.pm_strategy.specs.Strategies.{around}
 below_next : (step : ℕ) (end : ℤ) → int_lt (pos step) (end +ℤ pos 1) ≡ int_le (pos step) end
 below_next step end = grind (arith, ints)
 
+-- a power at the steps below `end` + 1, and 0 from there on, is that power up to `end`
 pub before-up_to : (power end : ℤ) (step : ℕ) → (if int_lt (pos step) (end +ℤ pos 1) then power else pos 0) ≡ up_to power end step
 before-up_to power end step = rw (below_next step end)
 
@@ -28,6 +29,7 @@ not_above step end h = grind (arith, ints)
 is_above : (step : ℕ) (end : ℤ) → int_lt (pos step) (end +ℤ pos 1) ≡ false → int_lt end (pos step) ≡ true
 is_above step end h = grind (arith, ints)
 
+-- three levels, told apart by where the first and the second end, are a battery's demand round a middle step
 pub around-levels : (middle charge discharge spread : ℤ) (step : ℕ) →
     (if int_lt (pos step) (middle -ℤ spread) then charge else
     (if int_lt (pos step) ((middle +ℤ spread) +ℤ pos 1) then pos 0 else neg_ℤ discharge)) ≡ around middle charge discharge spread step

@@ -15,6 +15,3 @@ mod levels;
 mod shares;
 
 pub use bid::fill_bid;
-
-#[cfg(test)]
-mod tests;

@@ -19,9 +19,11 @@ front_is_least digits n =
     let rest = grows (value_of (take n digits)) (drop n digits) in
     omega (arith, all, rest)
 
+-- the first n + 1 digits write the number of the first n with one digit more
 pub one_digit_more : (digits : List ℕ) (n : ℕ) (d : ℕ) → n < length digits →
     value_of (take (n + 1) digits) ≡ with_digit (value_of (take n digits)) (get_or digits n d)
 one_digit_more digits n d inside = fold_more with_digit 0 digits n d inside
 
+-- digits that write a number above the greatest allowed give none
 pub too_great : (high : ℕ) (digits : List ℕ) → high < value_of digits → value_up_to high digits ≡ None
 too_great high digits above = rw (let no : nat_le (value_of digits) high ≡ false = grind (arith, nat_tests) in no) refl

@@ -21,6 +21,7 @@ pub summary_is_due : (old new : Option (List ℕ)) (command : Option Command) (s
 summary_is_due old new command size number status text asks done is = subst (λ (s : Status). IsDue command old new s text) (sym done)
     (summary size number text asks is)
 
+-- a status that is Done, WriteFault or NoMemory, and neither of the last two, is Done
 pub left_done : (status : Status) → (status ≡ Done) ⊎ (status ≡ WriteFault) ⊎ (status ≡ NoMemory) → status ≢ WriteFault →
     status ≢ NoMemory → status ≡ Done
 left_done status (inl done) no_fault no_failure = done

@@ -70,6 +70,7 @@ limited-step plan cut g is within =
     (sum_fits plan (state plan) cut g fit)
     (let some = is.basis.steps.least in omega arith) (plain-inside plan cut is within)
 
+-- the end over a cut with no more than the plan's changes names nodes and steps of the plan alone
 pub end-is : (plan : PlanData) (cut : Cut) → IsPlan plan → IsCutOf plan cut → IsEndOf plan (end_of plan cut)
 unfolding end_in
 end-is plan cut is within =
@@ -91,11 +92,13 @@ end-is plan cut is within =
           (λ i d inside. limited-step plan cut (get_or (node_numbers plan) i d) is within));
     }
 
+-- the ends of all phases name nodes and steps of the plan alone
 pub ends-are : (plan : PlanData) → IsPlan plan → All (IsEndOf plan) (all_ends plan)
 ends-are plan is =
     All-map (IsEndOf plan) (λ p. end_of plan (end_cut plan p)) (range_with_len 1 (phases plan))
     (λ i d inside. end-is plan (end_cut plan (get_or (range_with_len 1 (phases plan)) i d)) is
     (λ e low. end-within plan (get_or (range_with_len 1 (phases plan)) i d) e))
 
+-- there is one end for each phase of the plan
 pub length-ends : (plan : PlanData) → length (all_ends plan) ≡ phases plan
 length-ends plan = length-map-range_with_len (λ p. end_of plan (end_cut plan p)) 1 (phases plan)

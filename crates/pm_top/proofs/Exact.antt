@@ -63,6 +63,7 @@ kept held old new before r had has same =
     let e : before ≡ before ++ refusal_line r = cc in
     not_grown before (refusal_line r) (not_empty r) e
 
+-- where the sink grew by the whole line of the input's refusal, the status is Refused
 pub exact_refused : {K : Type 0} (asked : FileCommand) (held : K → Option (List ℕ)) (old new : K) (status : Status) (input before : List ℕ) (r : Refusal)
     → length input ≤ input_limit asked → IsRefusalOf asked input r → held old ≡ Some before → held new ≡ Some (before ++ refusal_line r)
     → Answers asked status input
@@ -84,6 +85,7 @@ exact_refused asked held old new status input before r short is_r had has answer
       | inr (inr (inr e)) ↦ absurd (kept held old new before r had has (at_memory e))
     ]
 
+-- the same, where the input is what the source had left before, and nothing of it is left after
 pub exact_refused_at : {K : Type 0} (asked : FileCommand) (held : K → Option (List ℕ)) (old new : K) (left_old left_new : Option (List ℕ))
     (status : Status) (input before : List ℕ) (r : Refusal)
     → length input ≤ input_limit asked → IsRefusalOf asked input r → left_old ≡ Some input → left_new ≡ Some [] → held old ≡ Some before →

@@ -17,6 +17,7 @@ use Rattle.pm_cluster.specs.Acts.{moves_of}
 use Rattle.pm_board.specs.Boards.{IsJournal}
 
 module _ (plan : PlanData) (is_plan : IsPlan plan) where
+  -- each line of a legal journal of the plan is a line of a run
   pub journal_lines : (journal : List Line) → IsJournal plan journal → All (IsLineOfRun plan) journal
   journal_lines journal is = subst (All (IsLineOfRun plan)) (sym is.told)
       (lines_are plan is_plan (moves_of journal) start (sound_start (plan_lists plan) (lawful plan is_plan)) is.legal)
@@ -25,6 +26,7 @@ module _ (plan : PlanData) (is_plan : IsPlan plan) where
 pub of_plan : (plan : PlanData) (journal : List Line) → All (IsLineOfRun plan) journal → All (IsLineOf plan) journal
 of_plan plan journal are i d inside = (are i d inside).of_plan
 
+-- two legal journals of a plan with the same trace are the same
 pub traces_tell : (plan : PlanData) (a b : List Line) → IsPlan plan → IsJournal plan a → IsJournal plan b →
     trace_text plan (all_ends plan) a ≡ trace_text plan (all_ends plan) b → a ≡ b
 traces_tell plan a b is_plan is_a is_b same =

@@ -18,10 +18,12 @@ use Rattle.pm_board.specs.Boards.{BoardValue, board_state}
 use Rattle.pm_runner.specs.Settled.{IsSettled}
 use Rattle.pm_top.specs.Top.{IsCompleteJournal, last_total}
 
+-- the ends that a settled board hands on are those of all phases of its plan
 pub settled_ends : (plan : PlanData) (b : BoardValue) (ends : List EndValue) → b.plan ≡ plan → IsSettled b → ends ≡ b.ends →
     ends_of ends ≡ all_ends plan
 settled_ends plan b ends same settled handed = ap ends_of handed ∙ settled.ends ∙ ap all_ends same
 
+-- the lines that a settled board hands on are a complete journal of its plan
 pub settled_journal : (plan : PlanData) (b : BoardValue) (lines : List Line) → b.plan ≡ plan → IsSettled b → lines ≡ b.lines →
     IsCompleteJournal plan lines
 settled_journal plan b lines same settled handed =

@@ -16,6 +16,3 @@ mod top;
 pub use law::traces_tell_their_runs;
 pub use status::Status;
 pub use top::market;
-
-#[cfg(test)]
-mod tests;

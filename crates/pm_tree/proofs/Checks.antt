@@ -30,15 +30,19 @@ unfolding node_named
 found_named before names nodes index name bytes same found is =
     ap (λ b. position (bytes_eq b) (names_of before)) (sym same) ∙ ap (position (bytes_eq bytes)) (sym index.names_are) ∙ sym is
 
+-- the test whether the most depth is reached says yes at a depth at or above the most
 pub at_least_most : (depth : ℕ) → most_depth ≤ depth → nat_le most_depth depth ≡ true
 at_least_most depth high = grind (arith, nat_tests)
 
+-- the test whether the most depth is reached says no at a depth below the most
 pub below_most : (depth : ℕ) → depth < most_depth → nat_le most_depth depth ≡ false
 below_most depth low = grind (arith, nat_tests)
 
+-- a node that is a leaf adds nothing to a depth
 pub leaf_depth : (leaf : Bool) (depth : ℕ) → leaf ≡ true → depth ≡ depth + (if leaf then 0 else 1)
 leaf_depth leaf depth is = sym (ap (λ b. depth + (if b then 0 else 1)) is ∙ add-zero depth)
 
+-- a node that is no leaf adds one to a depth
 pub concentrator_depth : (leaf : Bool) (depth : ℕ) → leaf ≡ false → depth + 1 ≡ depth + (if leaf then 0 else 1)
 concentrator_depth leaf depth is = sym (ap (λ b. depth + (if b then 0 else 1)) is)
 
@@ -59,6 +63,7 @@ module _ (entries : List TreeEntry) (place : ℕ) (e : TreeEntry) (inside : plac
   none_here : entry_refusal before (entry_of e) ≡ None → entry_refusal before (entry_at (entries_of entries) place) ≡ None
   none_here is = ap (entry_refusal before) (sym entry_here) ∙ is
 
+  -- the entry read at a place is refused for its name where that is no lawful name
   pub bad_name : is_name (string_bytes e.name) ≡ false → entry_refusal before (entry_at (entries_of entries) place) ≡ Some (BadName (place + 1))
   bad_name bad = at_here BadName (refused_name before (entry_of e) bad)
 
@@ -69,6 +74,7 @@ module _ (entries : List TreeEntry) (place : ℕ) (e : TreeEntry) (inside : plac
     taken_is = ap is_some (found_named before names nodes index (string_bytes e.name) name_bytes name_is same_name same_name_is)
         ∙ is_some-option_map (λ (node : NodeId). node.0) same_name
 
+    -- the entry read is refused as named twice where the search finds its lawful name among the names before it
     pub twice : is_some same_name ≡ true → entry_refusal before (entry_at (entries_of entries) place) ≡ Some (Twice (place + 1))
     twice taken = at_here Twice (refused_twice before (entry_of e) good (taken_is ∙ taken))
 
@@ -77,6 +83,7 @@ module _ (entries : List TreeEntry) (place : ℕ) (e : TreeEntry) (inside : plac
       parent_named : node_named before (string_bytes e.parent) ≡ option_map (λ node. node.0) parent
       parent_named = found_named before names nodes index (string_bytes e.parent) parent_bytes parent_bytes_are parent parent_is
 
+      -- the entry read, of a free lawful name, is refused for its parent where the search finds none
       pub no_parent : parent ≡ None → entry_refusal before (entry_at (entries_of entries) place) ≡ Some (NoParent (place + 1))
       no_parent none =
           let orphan : can_be_parent before (string_bytes e.parent) ≡ false =
@@ -90,6 +97,7 @@ module _ (entries : List TreeEntry) (place : ℕ) (e : TreeEntry) (inside : plac
         number_is : number_named before (string_bytes e.parent) ≡ above.0
         number_is = ap (λ o. unwrap_or o 0) named_is
 
+        -- the number of a parent that the search finds lies within the node table
         pub parent_inside : above.0 < length nodes
         parent_inside = omega (
           arith,
@@ -114,18 +122,22 @@ module _ (entries : List TreeEntry) (place : ℕ) (e : TreeEntry) (inside : plac
               nat_le most_depth (depth_of before (number_named before (string_bytes e.parent))) ≡ b
           parent_depth b is = ap (λ n. nat_le most_depth (depth_of before n)) number_is ∙ ap (nat_le most_depth) depth_is ∙ is
 
+          -- the entry read, of a free lawful name, is refused for its parent where the parent found is a leaf
           pub leaf_above : row.leaf ≡ true → entry_refusal before (entry_at (entries_of entries) place) ≡ Some (NoParent (place + 1))
           leaf_above leaf = at_here NoParent (refused_parent before (entry_of e) good (taken_is ∙ free) (parent_kind ∙ ap not leaf))
 
           module _ (no_leaf : row.leaf ≡ false) where
+            -- a leaf read, of a free lawful name, is accepted where the parent found is no leaf
             pub leaf_accepted : e.leaf ≡ true → entry_refusal before (entry_at (entries_of entries) place) ≡ None
             leaf_accepted leaf = none_here (accepted_leaf before (entry_of e) good (taken_is ∙ free) (parent_kind ∙ ap not no_leaf) leaf)
 
+            -- a concentrator read, of a free lawful name, is too deep under a parent, no leaf, of at least the most depth
             pub too_deep : e.leaf ≡ false → nat_le most_depth row.depth ≡ true →
                 entry_refusal before (entry_at (entries_of entries) place) ≡ Some (TooDeep (place + 1))
             too_deep concentrator deep = at_here TooDeep
                 (refused_depth before (entry_of e) good (taken_is ∙ free) (parent_kind ∙ ap not no_leaf) concentrator (parent_depth true deep))
 
+            -- a concentrator read, of a free lawful name, is accepted under a parent, no leaf, less deep than the most
             pub concentrator_accepted : e.leaf ≡ false → nat_le most_depth row.depth ≡ false →
                 entry_refusal before (entry_at (entries_of entries) place) ≡ None
             concentrator_accepted concentrator shallow = none_here

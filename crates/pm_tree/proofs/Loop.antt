@@ -15,6 +15,7 @@ use Rattle.pm_tree.specs.declared.node.Node.{Node}
 use Rattle.pm_tree.proofs.Refusals.{refusals_after-append}
 use Rattle.pm_tree.proofs.Rows.{index-more, lawful-more}
 
+-- the entry without names that is no leaf
 abbrev pub nothing : Entry
 nothing = record { name = []; parent = []; leaf = false }
 
@@ -25,12 +26,14 @@ module _ (entries : List Entry) (place : ℕ) (inside : place < length entries) 
   more : take (place + 1) entries ≡ before ++ entry_at entries place ∷ []
   more = take_more entries place nothing inside
 
+  -- the index of the entries before a place, with the name and the row of the entry there, is that of one more
   pub index_step : (names names' : List (List ℕ)) (nodes nodes' : List Node) (row : Node) → IsIndexOf before names nodes →
       IsTree (parents_of before) (leaves_of before) → IsRowOf before (entry_at entries place) row
       → names' ≡ names ++ (entry_at entries place).name ∷ [] → nodes' ≡ nodes ++ row ∷ [] → IsIndexOf (take (place + 1) entries) names' nodes'
   index_step names names' nodes nodes' row index tree row_is names_are nodes_are =
       rw (more, names_are, nodes_are) (index-more before (entry_at entries place) tree names nodes row index row_is.parent_is_named row_is)
 
+  -- the tree of the entries before a place stays lawful with the entry there, where that has a lawful row
   pub lawful_step : (names : List (List ℕ)) (nodes : List Node) (row : Node) → IsIndexOf before names nodes →
       IsTree (parents_of before) (leaves_of before) → IsRowOf before (entry_at entries place) row →
       IsTree (parents_of (take (place + 1) entries)) (leaves_of (take (place + 1) entries))
@@ -39,6 +42,7 @@ module _ (entries : List Entry) (place : ℕ) (inside : place < length entries) 
       rw more (lawful-more before (entry_at entries place) tree row_is.parent_is_named index.parents_are_named no_leaf
       (omega (arith, row_is.depth_is, row_is.shallow)))
 
+  -- where no entry before a place is refused and the one there is accepted, no entry up to it is refused
   pub accepted_step : refusals_after [] before ≡ [] → entry_refusal before (entry_at entries place) ≡ None →
       refusals_after [] (take (place + 1) entries) ≡ []
   accepted_step none accepted =
@@ -46,6 +50,7 @@ module _ (entries : List Entry) (place : ℕ) (inside : place < length entries) 
       ∙ ap (λ faults. faults ++ (option_to_list (entry_refusal before (entry_at entries place)) ++ [])) none
       ∙ ap (λ o. option_to_list o ++ []) accepted
 
+  -- where no entry before a place is refused, the refusal of the entry there is the first of the entries' refusals
   pub refused_here : (fault : TreeFault) → refusals_after [] before ≡ [] → entry_refusal before (entry_at entries place)
       ≡ Some fault → slice_get (refusals_after [] entries) 0 ≡ Some fault
   refused_here fault none refused =
@@ -62,6 +67,7 @@ pub entry_read : (entries : List TreeEntry) (place : ℕ) (other : TreeEntry) �
     (entry_at (entries_of entries) place).name ≡ string_bytes (get_or entries place other).name
 entry_read entries place other inside = ap (λ (entry : Entry). entry.name) (get_or-map entry_of entries place other nothing inside)
 
+-- the code's entries stand for as many entries as they are
 pub length-entries_of : (entries : List TreeEntry) → length (entries_of entries) ≡ length entries
 length-entries_of entries = length-map entries entry_of
 

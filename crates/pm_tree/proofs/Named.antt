@@ -15,9 +15,11 @@ pub position_or_len-map : {A B : Type 0} (p : B → Bool) (f : A → B) (xs : Li
 position_or_len-map p f [] = refl
 position_or_len-map p f (x ∷ xs) = rw (position_or_len-map p f xs)
 
+-- testing a function's values finds the same place as a search through the mapped list
 pub position-map : {A B : Type 0} (p : B → Bool) (f : A → B) (xs : List A) → position (λ x. p (f x)) xs ≡ position p (map f xs)
 position-map p f xs = rw (position_or_len-map p f xs, length-map)
 
+-- some value of a function passes a test just where some element of the mapped list does
 pub list_any-map : {A B : Type 0} (p : B → Bool) (f : A → B) (xs : List A) → list_any (λ x. p (f x)) xs ≡ list_any p (map f xs)
 list_any-map p f [] = refl
 list_any-map p f (x ∷ xs) = rw (list_any-map p f xs)
@@ -45,6 +47,7 @@ past_none p (x ∷ xs) past = past_cons p x xs (p x) refl past (past_none p xs)
 none_past : {A : Type 0} (p : A → Bool) (xs : List A) → position p xs ≡ None → length xs ≤ position_or_len p xs
 none_past p xs none = grind (arith, nat_tests)
 
+-- where a search finds no place, no element passes its test
 pub list_any-position : {A : Type 0} (p : A → Bool) (xs : List A) → position p xs ≡ None → list_any p xs ≡ false
 list_any-position p xs none = past_none p xs (none_past p xs none)
 
@@ -76,9 +79,11 @@ position-append p xs ys some =
     let same : position_or_len p (xs ++ ys) ≡ position_or_len p xs = position_or_len-append p xs ys low in
     low_position p (xs ++ ys) (omega (arith, same, length-append xs ys)) ∙ ap (λ n. Some n) same ∙ sym (low_position p xs low)
 
+-- the names of entries with more behind them are the names so far, and then those of the further entries
 pub names_of-append : (before more : List Entry) → names_of (before ++ more) ≡ names_of before ++ map (λ (e : Entry). e.name) more
 names_of-append before more = ap (λ names. auctioneer ∷ names) (map-append (λ (e : Entry). e.name) before more)
 
+-- the node that has a name stays the same where more entries follow
 pub node_named-append : (before more : List Entry) (name : List ℕ) → is_some (node_named before name) ≡ true →
     node_named (before ++ more) name ≡ node_named before name
 unfolding node_named
@@ -94,6 +99,7 @@ node_named-inside entries name node found =
     let count : length (map (λ (e : Entry). e.name) entries) ≡ length entries = length-map entries (λ (e : Entry). e.name) in
     omega arith
 
+-- the number of the node with a name, 0 where none has it, is at most the number of entries
 pub number_named-inside : (entries : List Entry) (name : List ℕ) → number_named entries name ≤ length entries
 number_named-inside entries name = by (node_named entries name) refl
   where
@@ -108,6 +114,7 @@ number_named-inside entries name = by (node_named entries name) refl
 abbrev pub are_named : List Entry → List Entry → Bool
 are_named entries some = list_all (λ entry. is_some (node_named entries entry.parent)) some
 
+-- where two flags joined by `and` are true, each of them is
 pub and_true : (a b : Bool) → (a && b) ≡ true → (a ≡ true) × (b ≡ true)
 and_true a b both = grind arith
 
@@ -129,6 +136,7 @@ are_named-append before more (e ∷ some) named =
     let rest = are_named-append before more some both.1 in
     (λ i. first i && rest i)
 
+-- all parents stay named with one entry more whose parent is named among the nodes before it
 pub are_named-more : (before : List Entry) (e : Entry) → are_named before before ≡ true →
     is_some (node_named before e.parent) ≡ true → are_named (before ++ e ∷ []) (before ++ e ∷ []) ≡ true
 are_named-more before e named last =
@@ -137,6 +145,7 @@ are_named-more before e named last =
     ap (λ o. is_some o && true) (node_named-append before (e ∷ []) e.parent last) ∙ ap (λ b. b && true) last in
     list_all-append (λ (entry : Entry). is_some (node_named (before ++ e ∷ []) entry.parent)) before (e ∷ []) ∙ (λ i. first i && here i)
 
+-- with one entry more, and all parents named, the parents are those so far and then the entry's
 pub parents_of-more : (before : List Entry) (e : Entry) → are_named before before ≡ true →
     is_some (node_named before e.parent) ≡ true → parents_of (before ++ e ∷ []) ≡ parents_of before ++ number_named before e.parent ∷ []
 unfolding parents_of
@@ -147,14 +156,17 @@ parents_of-more before e named last =
     ap (λ o. unwrap_or o 0) (node_named-append before (e ∷ []) e.parent last) in
     (λ i. first i ++ here i ∷ []))
 
+-- with one entry more the leaf marks are those so far and then the entry's
 pub leaves_of-more : (before : List Entry) (e : Entry) → leaves_of (before ++ e ∷ []) ≡ leaves_of before ++ e.leaf ∷ []
 unfolding leaves_of
 leaves_of-more before e = map-append (λ (entry : Entry). entry.leaf) before (e ∷ [])
 
+-- there are as many parents as entries
 pub length-parents_of : (entries : List Entry) → length (parents_of entries) ≡ length entries
 unfolding parents_of
 length-parents_of entries = length-map entries (λ (entry : Entry). number_named entries entry.parent)
 
+-- there are as many leaf marks as entries
 pub length-leaves_of : (entries : List Entry) → length (leaves_of entries) ≡ length entries
 unfolding leaves_of
 length-leaves_of entries = length-map entries (λ (entry : Entry). entry.leaf)

@@ -13,6 +13,7 @@ use Rattle.pm_tree.specs.Tables.{added_on_path}
 abbrev pub Falls : List ℕ → Type 0
 Falls parents = (node : ℕ) → 0 < node → parent_at parents node < node
 
+-- the parent at a number past the last node is the auctioneer
 pub parent_at-past : (parents : List ℕ) (node : ℕ) → length parents < node → parent_at parents node ≡ 0
 parent_at-past parents node past = get_or_past (0 ∷ parents) node 0 (omega arith)
 
@@ -20,6 +21,7 @@ falls_by : (parents : List ℕ) (leaves : List Bool) (node : ℕ) → IsTree par
     (node ≤ length parents → parent_at parents node < node) → (length parents < node → parent_at parents node ≡ 0) → parent_at parents node < node
 falls_by parents leaves node tree positive inside past = grind arith
 
+-- in a lawful tree each number above 0, also one past the last node, has a smaller parent
 pub falls : (parents : List ℕ) (leaves : List Bool) → IsTree parents leaves → Falls parents
 falls parents leaves tree node positive =
     falls_by parents leaves node tree positive (λ inside. tree.earlier node (omega arith) inside) (parent_at-past parents node)
@@ -50,6 +52,7 @@ path_within-levels parents down (suc m) (suc n) (suc node) low high =
     ∙ ap (λ rest. suc node ∷ rest) (path_within-levels parents down m n (parent_at parents (suc node)) (omega arith) (omega arith))
     ∙ sym (path_within-suc n parents node)
 
+-- where each parent is earlier, the path of a node but the auctioneer is the node and then its parent's path
 pub path_at-step : (parents : List ℕ) → Falls parents → (node : ℕ) → 0 < node →
     path_at parents node ≡ node ∷ path_at parents (parent_at parents node)
 unfolding path_at
@@ -72,15 +75,18 @@ on_path_within-later parents down (suc levels) (suc below) node later =
     ∙ ap (λ b. b || list_any (λ x. x == node) (path_within levels parents (parent_at parents (suc below)))) differs
     ∙ on_path_within-later parents down levels (parent_at parents (suc below)) node (omega arith)
 
+-- where each parent is earlier, no later node stands on a node's path to the auctioneer
 pub is_on_path-later : (parents : List ℕ) → Falls parents → (below node : ℕ) → below < node → is_on_path parents below node ≡ false
 unfolding is_on_path path_at
 is_on_path-later parents down below node later = on_path_within-later parents down below below node later
 
+-- where parents are earlier, what is on the path of a node above 0 is that node or is on its parent's path
 pub is_on_path-step : (parents : List ℕ) → Falls parents → (below node : ℕ) → 0 < below →
     is_on_path parents below node ≡ ((below == node) || is_on_path parents (parent_at parents below) node)
 unfolding is_on_path
 is_on_path-step parents down below node positive = ap (list_any (λ x. x == node)) (path_at-step parents down below positive)
 
+-- the auctioneer alone stands on the auctioneer's path
 pub is_on_path-auctioneer : (parents : List ℕ) (node : ℕ) → is_on_path parents 0 node ≡ (0 == node)
 unfolding is_on_path path_at
 is_on_path-auctioneer parents node = elim (0 == node) as (λ b. (b || false) ≡ b) [ true ↦ refl | false ↦ refl ]
@@ -90,6 +96,7 @@ added_on_path_by : (at : ℕ) (leaf node : ℕ) (whole rest : Bool) → whole �
     (at ≡ node → rest ≡ false) → (if whole then leaf ∷ [] else []) ≡ (if at == node then leaf ∷ [] else []) ++ (if rest then leaf ∷ [] else [])
 added_on_path_by at leaf node whole rest is later same = grind (arith, nat_tests)
 
+-- where parents are earlier, a leaf added from a node above 0 up joins its list, then those from its parent up
 pub added_on_path-step : (parents : List ℕ) → Falls parents → (leaf at node : ℕ) → 0 < at →
     added_on_path parents leaf at node ≡ (if at == node then leaf ∷ [] else []) ++ added_on_path parents leaf (parent_at parents at) node
 added_on_path-step parents down leaf at node positive =
@@ -99,6 +106,7 @@ added_on_path-step parents down leaf at node positive =
     (λ later. is_on_path-later parents down (parent_at parents at) node (omega arith))
     (λ same. is_on_path-later parents down (parent_at parents at) node (omega arith))
 
+-- a leaf added on the auctioneer's path joins the auctioneer's list alone
 pub added_on_path-auctioneer : (parents : List ℕ) (leaf node : ℕ) → added_on_path parents leaf 0 node ≡ (if 0 == node then leaf ∷ [] else [])
 added_on_path-auctioneer parents leaf node = ap (λ b. if b then leaf ∷ [] else []) (is_on_path-auctioneer parents node)
 
@@ -118,6 +126,7 @@ depth_at-step parents leaves down node positive =
         ≡ above + (if leaf_at leaves node then 0 else 1)
     depth_by leaves node positive above = grind (arith, nat_tests)
 
+-- the depth of the auctioneer is 0
 pub depth_at-auctioneer : (parents : List ℕ) (leaves : List Bool) → depth_at parents leaves 0 ≡ 0
 unfolding depth_at path_at
 depth_at-auctioneer parents leaves = refl
@@ -126,6 +135,7 @@ depth_at-auctioneer parents leaves = refl
 pub parent_at-append : (parents more : List ℕ) (node : ℕ) → node ≤ length parents → parent_at (parents ++ more) node ≡ parent_at parents node
 parent_at-append parents more node inside = get_or_append_left (0 ∷ parents) more 0 node (omega arith)
 
+-- more leaf marks leave those of the earlier nodes as they were
 pub leaf_at-append : (leaves more : List Bool) (node : ℕ) → node ≤ length leaves → leaf_at (leaves ++ more) node ≡ leaf_at leaves node
 leaf_at-append leaves more node inside = get_or_append_left (false ∷ leaves) more false node (omega arith)
 
@@ -151,6 +161,7 @@ depth_within-append parents more leaves marks down same (suc levels) (suc node) 
     ∙ sym (ap (count_by (concentrator_at leaves)) (path_within-suc levels parents node)
     ∙ count_by-cons (concentrator_at leaves) (suc node) (path_within levels parents (parent_at parents (suc node))))
 
+-- more nodes leave the depths of the earlier ones as they were, where each parent is earlier
 pub depth_at-append : (parents more : List ℕ) (leaves marks : List Bool) → Falls parents → length leaves ≡ length parents →
     (node : ℕ) → node ≤ length parents → depth_at (parents ++ more) (leaves ++ marks) node ≡ depth_at parents leaves node
 unfolding depth_at path_at

@@ -67,7 +67,9 @@ child_among parents before (suc more) node inside is =
 
 -- what stands among the children is a child, at its place
 pub record IsChildAt (parents : List ℕ) (node k child : ℕ) : Type 0 where
+  -- the parent of the child is the node
   pub parent_is : parent_at parents child ≡ node
+  -- as many earlier nodes have the child's parent as the place says
   pub place_is : place_at parents child ≡ k
 
 -- of one node more, where that is a child and where it is none

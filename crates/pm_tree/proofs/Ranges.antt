@@ -14,10 +14,12 @@ filter_range-more p count =
     ap (filter p) (range_with_len-more 1 count ∙ ap (λ n. range_with_len 1 count ++ n ∷ []) same)
     ∙ filter-append p (range_with_len 1 count) ((count + 1) ∷ [])
 
+-- a node's children among the first nodes and one more are those so far, and that one if it is a child
 pub children_among-more : (parents : List ℕ) (count node : ℕ) →
     children_among parents (count + 1) node ≡ children_among parents count node ++ (if parent_at parents (count + 1) == node then (count + 1) ∷ [] else [])
 children_among-more parents count node = filter_range-more (λ child. parent_at parents child == node) count
 
+-- a node's leaves among the first nodes and one more are those so far, and that one if it is such a leaf
 pub leaves_among-more : (parents : List ℕ) (leaves : List Bool) (count node : ℕ) → leaves_among parents leaves (count + 1) node
     ≡ leaves_among parents leaves count node ++ (if leaf_at leaves (count + 1) && is_on_path parents (count + 1) node then (count + 1) ∷ [] else [])
 leaves_among-more parents leaves count node = filter_range-more (λ leaf. leaf_at leaves leaf && is_on_path parents leaf node) count

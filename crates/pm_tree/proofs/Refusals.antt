@@ -9,30 +9,36 @@ use Rattle.pm_tree.specs.declared.fault.TreeFault.{TreeFault}
 use Rattle.pm_tree.specs.declared.fault.TreeFault.TheVariants.{BadName, Twice, NoParent, TooDeep}
 
 module _ (before : List Entry) (e : Entry) where
+  -- an entry whose name is no lawful one is refused for its name
   pub refused_name : is_name e.name ≡ false → entry_refusal before e ≡ Some (BadName (length before + 1))
   unfolding entry_refusal
   refused_name bad = rw bad
 
+  -- an entry whose lawful name a node before it has is refused as named twice
   pub refused_twice : is_name e.name ≡ true → is_some (node_named before e.name) ≡ true → entry_refusal before e ≡ Some (Twice (length before + 1))
   unfolding entry_refusal
   refused_twice good taken = rw (good, taken)
 
+  -- an entry of a free lawful name is refused for its parent where no node so named can be a parent
   pub refused_parent : is_name e.name ≡ true → is_some (node_named before e.name) ≡ false → can_be_parent before e.parent ≡ false →
       entry_refusal before e ≡ Some (NoParent (length before + 1))
   unfolding entry_refusal
   refused_parent good free orphan = rw (good, free, orphan)
 
+  -- a concentrator of a free lawful name is refused as too deep under a parent of at least the most depth
   pub refused_depth : is_name e.name ≡ true → is_some (node_named before e.name) ≡ false → can_be_parent before e.parent ≡ true →
       e.leaf ≡ false →
       nat_le most_depth (depth_of before (number_named before e.parent)) ≡ true → entry_refusal before e ≡ Some (TooDeep (length before + 1))
   unfolding entry_refusal
   refused_depth good free below concentrator deep = rw (good, free, below, concentrator, deep)
 
+  -- a leaf of a free lawful name under a node that can be a parent is accepted
   pub accepted_leaf : is_name e.name ≡ true → is_some (node_named before e.name) ≡ false → can_be_parent before e.parent ≡ true →
       e.leaf ≡ true → entry_refusal before e ≡ None
   unfolding entry_refusal
   accepted_leaf good free below leaf = rw (good, free, below, leaf)
 
+  -- a concentrator of a free lawful name is accepted under a possible parent less deep than the most
   pub accepted_concentrator : is_name e.name ≡ true → is_some (node_named before e.name) ≡ false →
       can_be_parent before e.parent ≡ true → e.leaf ≡ false →
       nat_le most_depth (depth_of before (number_named before e.parent)) ≡ false → entry_refusal before e ≡ None

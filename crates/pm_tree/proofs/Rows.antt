@@ -15,22 +15,26 @@ use Rattle.pm_tree.proofs.Named.{parents_of-more, leaves_of-more, are_named-more
 
 -- what a row that is read says
 module _ (parents : List ℕ) (leaves : List Bool) (nodes : List Node) (table : IsNodeTable parents leaves nodes) where
+  -- a node table has a row for each node, and one for the auctioneer
   pub length-table : length nodes ≡ length parents + 1
   length-table =
       let mapped : length (parent_numbers nodes) ≡ length nodes = length-map nodes (λ (row : Node). row.parent.0) in
       let same : length (parent_numbers nodes) ≡ length (0 ∷ parents) = ap length table.parent_is in
       omega arith
 
+  -- the parent in a row of a node table is the parent of its node
   pub row_parent : (node : ℕ) (other : Node) → node < length nodes → (get_or nodes node other).parent.0 ≡ parent_at parents node
   row_parent node other inside =
       sym (get_or-map (λ (r : Node). r.parent.0) nodes node other 0 inside)
       ∙ ap (λ numbers. get_or numbers node 0) table.parent_is
 
+  -- the leaf mark in a row of a node table is that of its node
   pub row_leaf : (node : ℕ) (other : Node) → node < length nodes → (get_or nodes node other).leaf ≡ leaf_at leaves node
   row_leaf node other inside =
       sym (get_or-map (λ (r : Node). r.leaf) nodes node other false inside)
       ∙ ap (λ marks. get_or marks node false) table.leaf_is
 
+  -- the depth in a row of a node table is the depth of its node
   pub row_depth : (node : ℕ) (other : Node) → node < length nodes → (get_or nodes node other).depth ≡ depth_at parents leaves node
   row_depth node other inside =
       sym (get_or-map (λ (r : Node). r.depth) nodes node other 0 inside)
@@ -55,6 +59,7 @@ each_by P count node inside earlier new = by (leb_tells node count)
 
 -- one node more below an earlier concentrator or the auctioneer
 module _ (parents : List ℕ) (leaves : List Bool) (parent : ℕ) (leaf : Bool) (tree : IsTree parents leaves) (inside : parent ≤ length parents) where
+  -- the parent of the new node is the one that it is put under
   pub parent_at-new : parent_at (parents ++ parent ∷ []) (length parents + 1) ≡ parent
   parent_at-new =
       let same : length parents + 1 ≡ length (0 ∷ parents) = omega arith in
@@ -77,10 +82,12 @@ module _ (parents : List ℕ) (leaves : List Bool) (parent : ℕ) (leaf : Bool) 
       inside
       (λ past. parent_at-past (parents ++ parent ∷ []) node (omega (arith, length-new)))
 
+  -- the new node leaves the depths of the earlier nodes as they were
   pub depth_at-earlier : (node : ℕ) → node ≤ length parents → depth_at (parents ++ parent ∷ []) (leaves ++ leaf ∷ []) node
       ≡ depth_at parents leaves node
   depth_at-earlier node low = depth_at-append parents (parent ∷ []) leaves (leaf ∷ []) (falls parents leaves tree) tree.one_each node low
 
+  -- the depth of the new node is that of its parent, and one more where it is no leaf
   pub depth_at-new : depth_at (parents ++ parent ∷ []) (leaves ++ leaf ∷ []) (length parents + 1) ≡ depth_at parents leaves parent +
       (if leaf then 0 else 1)
   depth_at-new =
@@ -140,6 +147,7 @@ module _ (before : List Entry) (e : Entry) (tree : IsTree (parents_of before) (l
   pub row_inside : number_named before e.parent ≤ length (parents_of before)
   row_inside = omega (arith, number_named-inside before e.parent, length-parents_of before)
 
+  -- a lawful tree stays so with an entry under a named parent that is no leaf, where it does not get too deep
   pub lawful-more : is_some (node_named before e.parent) ≡ true → are_named before before ≡ true →
       is_leaf_at before (number_named before e.parent) ≡ false →
       depth_of before (number_named before e.parent) + (if e.leaf then 0 else 1) ≤ most_depth →
@@ -150,6 +158,7 @@ module _ (before : List Entry) (e : Entry) (tree : IsTree (parents_of before) (l
       let more = IsTree-more (parents_of before) (leaves_of before) (number_named before e.parent) e.leaf tree row_inside no_leaf shallow in
       rw (parents, leaves) more
 
+  -- names and nodes with the name and the row of one entry more are the index of one entry more
   pub index-more : (names : List (List ℕ)) (nodes : List Node) (row : Node) → IsIndexOf before names nodes →
       is_some (node_named before e.parent) ≡ true → IsRowOf before e row → IsIndexOf (before ++ e ∷ []) (names ++ e.name ∷ []) (nodes ++ row ∷ [])
   index-more names nodes row index parent_named row_is =
@@ -172,6 +181,7 @@ first_depth node low =
     let top : 0 ≡ node = omega arith in
     subst (λ n. get_or (0 ∷ []) n 0 ≡ depth_at [] [] n) top (sym (depth_at-auctioneer [] []))
 
+-- the auctioneer's name and the auctioneer's row alone are the index of no entries
 pub IsIndexOf-nil : (names : List (List ℕ)) (nodes : List Node) → names ≡ auctioneer ∷ [] → nodes ≡ first_row ∷ [] → IsIndexOf [] names nodes
 unfolding parents_of leaves_of
 IsIndexOf-nil names nodes names_are nodes_are = record {
@@ -184,6 +194,7 @@ IsIndexOf-nil names nodes names_are nodes_are = record {
   };
 }
 
+-- the tree of no entries is lawful
 pub IsTree-nil : IsTree (parents_of []) (leaves_of [])
 unfolding parents_of leaves_of
 IsTree-nil = record {

@@ -38,6 +38,7 @@ get_or-push lists at node x inside = by (eqb_tells at x)
         get_or-set_other lists at x (get_or lists at [] ++ node ∷ []) [] (λ same. other (sym same))
         ∙ sym (append-nil (get_or lists x [])) ∙ ap (λ b. get_or lists x [] ++ (if b then node ∷ [] else [])) (sym is)
 
+-- a table of the lists of one function is one of the lists of any function with the same values
 abbrev pub lists_same : (count : ℕ) (f g : ℕ → List ℕ) (lists : List (List ℕ)) → ((node : ℕ) → f node ≡ g node) →
     AreLists count f lists → AreLists count g lists
 lists_same count f g lists same are = record { count_is = are.count_is; list_is = λ node inside. are.list_is node inside ∙ same node }
@@ -67,6 +68,7 @@ pub place_is : (parents : List ℕ) (number : ℕ) → number - 1 ≤ length par
 unfolding place_at
 place_is parents number inside = length-children_among parents (parent_at parents number) (number - 1) inside
 
+-- the place of the auctioneer is 0
 pub place-auctioneer : (parents : List ℕ) → place_at parents 0 ≡ 0
 unfolding place_at
 place-auctioneer parents = refl
@@ -98,6 +100,7 @@ path_end parents lists lists' first leaf at top inside pushed rest node =
     ∙ ap (λ n. get_or lists node [] ++ added_on_path parents leaf n node) (sym top)
     ∙ rest node
 
+-- a table of lists, read as numbers, has as many lists
 pub length-lists_of : (lists : List (Vec NodeId Global)) → length (node_lists lists) ≡ length lists
 length-lists_of lists = length-map lists (λ (list : Vec NodeId Global). id_numbers list.items)
 
@@ -112,6 +115,7 @@ leaves_next parents leaves number node positive =
     ∙ leaves_among-more parents leaves (number - 1) node
     ∙ ap (λ n. leaves_among parents leaves (number - 1) node ++ (if leaf_at leaves n && is_on_path parents n node then n ∷ [] else [])) last
 
+-- the lists of leaves take in one node more that is a leaf, where each list on its path got it
 pub leaves_step : (parents : List ℕ) (leaves : List Bool) (count number : ℕ) (lists lists' : List (List ℕ)) → 1 ≤ number →
     leaf_at leaves number ≡ true → length lists' ≡ length lists
     → ((node : ℕ) → get_or lists' node [] ≡ get_or lists node [] ++ added_on_path parents number number node)
@@ -124,6 +128,7 @@ leaves_step parents leaves count number lists lists' positive leaf same pushed a
       ∙ ap (λ b. leaves_among parents leaves (number - 1) node ++ (if b && is_on_path parents number node then number ∷ [] else [])) leaf);
 }
 
+-- the lists of leaves take in one node more that is no leaf, and stay as they are
 pub leaves_skip : (parents : List ℕ) (leaves : List Bool) (count number : ℕ) (lists : List (List ℕ)) → 1 ≤ number → leaf_at leaves number ≡ false
     → AreLists count (leaves_among parents leaves (number - 1)) lists → AreLists count (leaves_among parents leaves (number + 1 - 1)) lists
 leaves_skip parents leaves count number lists positive none are = record {
@@ -142,12 +147,14 @@ unfolding leaves_below_at
 leaves_done parents leaves count number lists all are =
     record { count_is = are.count_is; list_is = λ node low. are.list_is node low ∙ ap (λ n. leaves_among parents leaves n node) all }
 
+-- the lists of children among the nodes so far are those of all children once these are all nodes
 pub children_done : (parents : List ℕ) (count number : ℕ) (lists : List (List ℕ)) → number - 1 ≡ length parents →
     AreLists count (children_among parents (number - 1)) lists → AreLists count (children_at parents) lists
 unfolding children_at
 children_done parents count number lists all are =
     record { count_is = are.count_is; list_is = λ node low. are.list_is node low ∙ ap (λ n. children_among parents n node) all }
 
+-- a node table gives as many parents as it has rows behind the auctioneer's
 pub length-shape_parents : (nodes : List Node) → length (shape_parents nodes) ≡ length nodes - 1
 length-shape_parents nodes = length-drop 1 (parent_numbers nodes) ∙ ap (λ n. n - 1) (length-map nodes (λ (row : Node). row.parent.0))
 
@@ -167,6 +174,7 @@ place_step number number_at places place is are = record {
         let same : number ≡ node = omega arith in
         ap (λ n. get_or (places ++ place ∷ []) n 0) last ∙ get_or-append_seam places place [] 0 ∙ is ∙ ap number_at same
 
+-- a table of the place 0 alone gives the places of the auctioneer alone
 pub places_first : (parents : List ℕ) → AreNumbers 1 (place_at parents) (0 ∷ [])
 places_first parents = record {
   count_is = refl;

@@ -16,6 +16,7 @@ use Rattle.pm_tree.proofs.Rows.{length-table}
 above_limit : (n : ℕ) → most_nodes < n → nat_lt most_nodes n ≡ true
 above_limit n high = grind (arith, nat_tests)
 
+-- a list with more entries than the most nodes is refused as too many
 pub too_many : (entries : List Entry) (have : ℕ) → have ≡ length entries → most_nodes < have → Err (TooMany have) ≡ checked_tree entries
 unfolding first_refusal
 too_many entries have is high =
@@ -23,20 +24,24 @@ too_many entries have is high =
     ∙ sym (ap (λ b. tree_unless entries (if b then Some (TooMany (length entries)) else slice_get (refusals_after [] entries) 0))
     (above_limit (length entries) (omega arith)))
 
+-- the first refusal of a list of at most the most nodes is the first of its entries' refusals
 pub first_refusal-few : (entries : List Entry) → length entries ≤ most_nodes → first_refusal entries ≡ slice_get (refusals_after [] entries) 0
 unfolding first_refusal
 first_refusal-few entries few =
     ap (λ b. if b then Some (TooMany (length entries)) else slice_get (refusals_after [] entries) 0) (le-ltb most_nodes (length entries) few)
 
+-- for a list not too long, an error of the first refused entry or of memory is the list's result or of memory
 pub entry_refused : (entries : List Entry) (result : Result (List Entry) TreeFault) (fault : TreeFault) →
     length entries ≤ most_nodes → result ≡ Err fault
     → (slice_get (refusals_after [] entries) 0 ≡ Some fault) ⊎ (fault ≡ NoMemory) → (result ≡ checked_tree entries) ⊎ (result ≡ Err NoMemory)
 entry_refused entries result fault few is (inl first) = inl (is ∙ sym (ap (tree_unless entries) (first_refusal-few entries few ∙ first)))
 entry_refused entries result fault few is (inr memory) = inr (is ∙ ap (λ e. Err e) memory)
 
+-- a list without a refusal is accepted as it is
 pub tree_accepted : (entries : List Entry) → first_refusal entries ≡ None → Ok entries ≡ checked_tree entries
 tree_accepted entries accepted = sym (ap (tree_unless entries) accepted)
 
+-- an index has a node for each entry, and one for the auctioneer
 pub length-index : (entries : List Entry) (names : List (List ℕ)) (nodes : List Node) → IsIndexOf entries names nodes →
     length nodes ≡ length entries + 1
 length-index entries names nodes index = length-table (parents_of entries) (leaves_of entries) nodes index.nodes_are

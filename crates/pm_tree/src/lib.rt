@@ -16,8 +16,6 @@ mod lists;
 mod name;
 mod node;
 mod same;
-#[cfg(test)]
-mod tests;
 mod tree;
 
 pub use entry::TreeEntry;

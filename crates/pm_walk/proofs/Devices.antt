@@ -35,6 +35,7 @@ later plan d p n fits inside behind =
     let above : p < (change_at plan d e).phase = grind (arith, nat_tests) in
     omega arith
 
+-- the power of a device at the end of a phase is within the limit of one demand
 pub used-within : (plan : PlanData) (p d : ℕ) (used : ℤ) → IsPlan plan → used ≡ power plan (state plan) (end_cut plan p) d →
     IsWithin demand_limit used
 used-within plan p d used is used_is =
@@ -46,6 +47,7 @@ planned_at-is [] n inside = absurd (omega arith)
 planned_at-is (c ∷ cs) zero inside = refl
 planned_at-is (c ∷ cs) (suc n) inside = planned_at-is cs n (omega arith)
 
+-- change number n + 1 of a device, where it has so many, is that at place n, counted from 0
 pub planned-is : (plan : PlanData) (d n : ℕ) → n < change_count plan d → planned plan d (n + 1) ≡ Some (change_at plan d n).what
 planned-is plan d n inside = (let e : n + 1 ≡ suc n = omega arith in ap (planned plan d) e) ∙ planned_at-is (changes_of (node plan d)) n inside
 
@@ -103,16 +105,20 @@ reached-fits plan d here kind is leaf reached kind_is =
 
 -- what is known of the next change of a device
 pub record IsNext (plan : PlanData) (d n : ℕ) (found : Option Planned) (what : Planned) : Type 0 where
+  -- what was found is change number n + 1 of the device
   pub found_is : found ≡ planned plan d (n + 1)
+  -- what was found is this change
   pub what_is : found ≡ Some what
 
 some_is : {A : Type 0} (x y : A) → Some x ≡ Some y → x ≡ y
 some_is x y h = cc h
 
+-- the next change that was found is that at place n of the device, counted from 0
 pub next-is : (plan : PlanData) (d n : ℕ) (found : Option Planned) (what : Planned) → n < change_count plan d →
     IsNext plan d n found what → what ≡ (change_at plan d n).what
 next-is plan d n found what inside next = some_is what (change_at plan d n).what (sym next.what_is ∙ next.found_is ∙ planned-is plan d n inside)
 
+-- the next change that was found fits the kind of the device
 pub next-fits : (plan : PlanData) (d n : ℕ) (found : Option Planned) (what : Planned) (kind : Kind) → IsPlan plan → n < change_count plan d →
     IsNext plan d n found what → kind_of (node plan d) ≡ Some kind → IsTrue (change_fits kind what)
 next-fits plan d n found what kind is inside next kind_is =
@@ -128,5 +134,6 @@ few_of [] (suc x) = omega arith
 few_of (n ∷ ns) (suc zero) = omega (arith, sum_by-cons (λ (m : NodeData). length (changes_of m)) n ns)
 few_of (n ∷ ns) (suc (suc x)) = omega (arith, sum_by-cons (λ (m : NodeData). length (changes_of m)) n ns, few_of ns (suc x))
 
+-- no device has more changes than a run may have
 pub few_changes : (plan : PlanData) (d : ℕ) → IsPlan plan → change_count plan d ≤ most_changes
 few_changes plan d is = omega (arith, few_of plan.nodes d, is.within.few_changes)

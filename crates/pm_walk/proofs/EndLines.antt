@@ -26,10 +26,12 @@ unfolding group_step
 limited_step plan s cut k g limits sum l limits_is sum_is l_is =
     l_is ∙ ap (step_within limits k) sum_is ∙ ap (λ own. local_step own k (sum_in plan s cut g)) (sym limits_is)
 
+-- the step of a group without limits is the step of the whole
 pub free_step : (plan : PlanData) (s : States) (cut : Cut) (k g : ℕ) → limits_of (node plan g) ≡ None → k ≡ group_step plan s cut k g
 unfolding group_step
 free_step plan s cut k g free = sym (ap (λ limits. local_step limits k (sum_in plan s cut g)) free)
 
+-- a device's demand in a cut, at the step of its group, is its power
 pub power_is : (plan : PlanData) (s : States) (cut : Cut) (d g l : ℕ) (bid : List ℤ) (z : ℤ) → g ≡ group plan d →
     l ≡ group_step plan s cut (plain plan s cut) g → bid ≡ demand_in_cut plan s cut d → z ≡ demand_at bid l → z ≡ power plan s cut d
 unfolding power local
@@ -37,6 +39,7 @@ power_is plan s cut d g l bid z g_is l_is bid_is z_is =
     z_is ∙ ap (λ b. demand_at b l) bid_is
     ∙ ap (demand_at (demand_in_cut plan s cut d)) (l_is ∙ ap (group_step plan s cut (plain plan s cut)) g_is)
 
+-- a node with the step of its group and the group's sum there makes a limited concentrator's line
 pub limited_line_is : (plan : PlanData) (s : States) (cut : Cut) (g l : ℕ) (sum : List ℤ) (z : ℤ) →
     l ≡ group_step plan s cut (plain plan s cut) g → sum ≡ sum_in plan s cut g → z ≡ demand_at sum l →
     (let x : LimitedLine = record { node = g; step = l; total = z } in x) ≡ limited_line plan s cut g
@@ -66,6 +69,7 @@ listed-yes f p (suc k) low passes =
     ∙ cond-true {A = List ℕ} (p (suc k)) (suc k ∷ []) [] passes)
     ∙ ap (λ n. map f (filter p (range_with_len 1 n)) ++ f (suc k) ∷ []) down
 
+-- at node d, which fails the test, the list of the nodes that pass stays as it is
 pub listed-no : {X : Type 0} (f : ℕ → X) (p : ℕ → Bool) (d : ℕ) → 1 ≤ d → p d ≡ false →
     map f (filter p (range_with_len 1 (d + 1 - 1))) ≡ map f (filter p (range_with_len 1 (d - 1)))
 listed-no f p zero low fails = absurd (omega arith)
@@ -79,26 +83,31 @@ listed-no f p (suc k) low fails =
     ∙ append-nil (map f (filter p (range_with_len 1 k)))
     ∙ ap (λ n. map f (filter p (range_with_len 1 n))) down
 
+-- node d, a member in the cut, adds its line behind the lines of the members before it
 pub members-yes : (plan : PlanData) (cut : Cut) (d : ℕ) → 1 ≤ d → is_member plan d (cut d) ≡ true →
     members_to plan cut (d + 1 - 1) ≡ members_to plan cut (d - 1) ++ member_line plan (state plan) cut d ∷ []
 unfolding members_to
 members-yes plan cut d low h = listed-yes (member_line plan (state plan) cut) (λ e. is_member plan e (cut e)) d low h
 
+-- node d, no member in the cut, leaves the lines of the members as they are
 pub members-no : (plan : PlanData) (cut : Cut) (d : ℕ) → 1 ≤ d → is_member plan d (cut d) ≡ false →
     members_to plan cut (d + 1 - 1) ≡ members_to plan cut (d - 1)
 unfolding members_to
 members-no plan cut d low h = listed-no (member_line plan (state plan) cut) (λ e. is_member plan e (cut e)) d low h
 
+-- limited concentrator d adds its line behind the lines of the limited concentrators before it
 pub limited-yes : (plan : PlanData) (cut : Cut) (d : ℕ) → 1 ≤ d → is_limited plan d ≡ true →
     limited_to plan cut (d + 1 - 1) ≡ limited_to plan cut (d - 1) ++ limited_line plan (state plan) cut d ∷ []
 unfolding limited_to
 limited-yes plan cut d low h = listed-yes (limited_line plan (state plan) cut) (is_limited plan) d low h
 
+-- node d, no limited concentrator, leaves the lines of the limited concentrators as they are
 pub limited-no : (plan : PlanData) (cut : Cut) (d : ℕ) → 1 ≤ d → is_limited plan d ≡ false →
     limited_to plan cut (d + 1 - 1) ≡ limited_to plan cut (d - 1)
 unfolding limited_to
 limited-no plan cut d low h = listed-no (limited_line plan (state plan) cut) (is_limited plan) d low h
 
+-- a node with its power and the number that the cut gives it makes a member's line
 pub member_line_is : (plan : PlanData) (s : States) (cut : Cut) (d n : ℕ) (z : ℤ) → z ≡ power plan s cut d → n ≡ cut d →
     (let x : MemberLine = record { node = d; power = z; number = n } in x) ≡ member_line plan s cut d
 unfolding member_line
@@ -109,6 +118,7 @@ member_line_is plan s cut d n z z_is n_is =
 end_with : ℕ → ℤ → ℤ → List MemberLine → List LimitedLine → EndData
 end_with k p t m l = record { step = k; price = p; total = t; members = m; limited = l }
 
+-- the step of the plain auction, its price, the total there and all lines make the end of the cut
 pub end_is : (plan : PlanData) (cut : Cut) (k : ℕ) (p t : ℤ) (sum : List ℤ) (m : List MemberLine) (l : List LimitedLine) →
     k ≡ plain plan (state plan) cut → p ≡ price_at plan.basis k → t ≡ demand_at sum k → sum ≡ total plan (state plan) cut →
     m ≡ members_to plan cut (length plan.nodes) → l ≡ limited_to plan cut (length plan.nodes) →

@@ -150,6 +150,7 @@ limited_steps : (l : Option Limits) (bid : List ℤ) → length (within_limits l
 limited_steps None bid = refl
 limited_steps (Some l) bid = length-map bid (nearest l.floor l.ceiling)
 
+-- what a group announces has as many steps as the basis, where the demands fit
 pub announced_steps : (plan : PlanData) (s : States) (cut : Cut) (g : ℕ) → Fit plan s cut → length (announced plan s cut g) ≡ plan.basis.steps
 unfolding announced
 announced_steps plan s cut g fit = limited_steps (limits_of (node plan g)) (sum_in plan s cut g) ∙ sum_fits plan s cut g fit
@@ -167,11 +168,13 @@ groups_within plan s cut (g ∷ gs) step is below fit =
     within_more (size (group plan) g 1 (length plan.nodes)) (sizes (group plan) gs 1 (length plan.nodes)) _ _
     (announced_within plan s cut g step is below fit) (groups_within plan s cut gs step is below fit)
 
+-- the total up to node k has as many steps as the basis, where the demands fit
 pub total_to-steps : (plan : PlanData) (s : States) (cut : Cut) (k : ℕ) → Fit plan s cut → length (total_to plan s cut k) ≡ plan.basis.steps
 unfolding total_to
 total_to-steps plan s cut k fit =
     length-sum_of plan.basis.steps (map (announced plan s cut) (groups_to plan k)) (all_announced plan s cut (groups_to plan k) fit)
 
+-- the total up to node k is within the limit of a sum, where the demands fit
 pub total_to-within : (plan : PlanData) (s : States) (cut : Cut) (k : ℕ) → IsPlan plan → Fit plan s cut →
     AllWithinLimit sum_limit (total_to plan s cut k)
 unfolding total_to
@@ -186,10 +189,12 @@ total_to-within plan s cut k is fit step inside =
     (subst (IsWithin (sizes (group plan) gs 1 n * demand_limit))
     (sym (sum_of-at plan.basis.steps (map (announced plan s cut) gs) step all below)) (groups_within plan s cut gs step is below fit))
 
+-- the total up to the last node is the total of the cut
 pub total_to-all : (plan : PlanData) (s : States) (cut : Cut) → total_to plan s cut (length plan.nodes) ≡ total plan s cut
 unfolding total_to total announced
 total_to-all plan s cut = refl
 
+-- the total up to no node is the sum of group 0, where the demands fit
 pub total_to-none : (plan : PlanData) (s : States) (cut : Cut) → Fit plan s cut → total_to plan s cut 0 ≡ sum_in plan s cut 0
 unfolding total_to announced
 total_to-none plan s cut fit = added_zeros plan.basis.steps (sum_in plan s cut 0) (sum_fits plan s cut 0 fit)
@@ -204,6 +209,7 @@ groups-more : (plan : PlanData) (k : ℕ) → groups_to plan (k + 1) ≡ groups_
 groups-more plan k = ap (λ xs. 0 ∷ filter (is_limited plan) xs) (range_with_len-more 1 k)
     ∙ ap (λ xs. 0 ∷ xs) (filter-append (is_limited plan) (range_with_len 1 k) ((1 + k) ∷ []))
 
+-- limited concentrator k + 1 adds what it announces to the total up to node k, where the demands fit
 pub total_to-more : (plan : PlanData) (s : States) (cut : Cut) (k : ℕ) → is_limited plan (1 + k) ≡ true → Fit plan s cut →
     total_to plan s cut (k + 1) ≡ added (total_to plan s cut k) (announced plan s cut (1 + k))
 unfolding total_to
@@ -214,6 +220,7 @@ total_to-more plan s cut k limited fit =
     ∙ sum_of-push plan.basis.steps (map (announced plan s cut) (groups_to plan k)) (announced plan s cut (1 + k))
     (all_announced plan s cut (groups_to plan k) fit) (announced_steps plan s cut (1 + k) fit)
 
+-- node k + 1, no limited concentrator, leaves the total up to node k as it is
 pub total_to-same : (plan : PlanData) (s : States) (cut : Cut) (k : ℕ) → is_limited plan (1 + k) ≡ false →
     total_to plan s cut (k + 1) ≡ total_to plan s cut k
 unfolding total_to
@@ -222,12 +229,14 @@ total_to-same plan s cut k limited =
     (groups-more plan k ∙ ap (λ gs. groups_to plan k ++ gs)
     (cond-false {A = List ℕ} (is_limited plan (1 + k)) ((1 + k) ∷ []) [] limited) ∙ append-nil (groups_to plan k))
 
+-- the sum of a group clamped to the limits of its concentrator is what the concentrator announces
 pub announced_is : (plan : PlanData) (s : States) (cut : Cut) (g : ℕ) (limits : Limits) (x y : List ℤ) → limits_of (node plan g) ≡ Some limits →
     x ≡ sum_in plan s cut g → y ≡ clamped limits.floor limits.ceiling x → y ≡ announced plan s cut g
 unfolding announced
 announced_is plan s cut g limits x y e x_is y_is = y_is ∙ ap (clamped limits.floor limits.ceiling) x_is
     ∙ sym (ap (λ l. within_limits l (sum_in plan s cut g)) e)
 
+-- the total before a limited g, with what g announces added, is the total up to g, where the demands fit
 pub group_added : (plan : PlanData) (s : States) (cut : Cut) (g : ℕ) (limits : Limits) (out x : List ℤ) → Fit plan s cut → 1 ≤ g →
     limits_of (node plan g) ≡ Some limits →
     out ≡ total_to plan s cut (g - 1) → x ≡ announced plan s cut g → added out x ≡ total_to plan s cut g
@@ -241,6 +250,7 @@ group_added plan s cut (suc k) limits out x fit low e before here =
     ∙ ap (added (total_to plan s cut k)) (here ∙ ap (announced plan s cut) same)
     ∙ sym (total_to-more plan s cut k limited' fit) ∙ ap (total_to plan s cut) up
 
+-- the total before node g is the total up to g, where g has no limits
 pub group_passed : (plan : PlanData) (s : States) (cut : Cut) (g : ℕ) (out : List ℤ) → 1 ≤ g → limits_of (node plan g) ≡ None →
     out ≡ total_to plan s cut (g - 1) → out ≡ total_to plan s cut g
 group_passed plan s cut zero out low e before = absurd (omega arith)

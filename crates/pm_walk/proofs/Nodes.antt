@@ -18,16 +18,20 @@ no_changes plan x is other = ap (λ (changes : List Change). length changes) (ch
 no_changes-beyond : (plan : PlanData) (x : ℕ) → length plan.nodes < x → change_count plan x ≡ 0
 no_changes-beyond plan x far = ap (λ (n : NodeData). length (changes_of n)) (node-beyond plan.nodes x far)
 
+-- a node that is no device has no change up to the end of any phase
 pub end-other : (plan : PlanData) (p x : ℕ) → IsPlan plan → is_leaf plan x ≡ false → end_cut plan p x ≡ 0
 end-other plan p x is other = omega (arith, end-within plan p x, no_changes plan x is other)
 
+-- a number beyond the last node has no change up to the end of any phase
 pub end-beyond : (plan : PlanData) (p x : ℕ) → length plan.nodes < x → end_cut plan p x ≡ 0
 end-beyond plan p x far = omega (arith, end-within plan p x, no_changes-beyond plan x far)
 
+-- the auctioneer has no change up to the end of any phase
 pub end-zero : (plan : PlanData) (p : ℕ) → end_cut plan p 0 ≡ 0
 unfolding end_cut
 end-zero plan p = refl
 
+-- the parent of a node of the plan, or of the auctioneer, is no number beyond the last node
 pub parent_inside : (plan : PlanData) (x : ℕ) → IsPlan plan → x ≤ length plan.nodes → parent plan x ≤ length plan.nodes
 parent_inside plan zero is inside = omega arith
 parent_inside plan (suc x) is inside =
@@ -46,6 +50,7 @@ group_in_inside plan (suc levels) x is inside =
     cond_within (is_limited plan (parent plan x)) (parent plan x) (group_in plan levels (parent plan x)) (length plan.nodes) up
     (group_in_inside plan levels (parent plan x) is up)
 
+-- the group of a node of the plan, or of the auctioneer, is no number beyond the last node
 pub group_inside : (plan : PlanData) (x : ℕ) → IsPlan plan → x ≤ length plan.nodes → group plan x ≤ length plan.nodes
 unfolding group
 group_inside plan x is inside = group_in_inside plan x x is inside

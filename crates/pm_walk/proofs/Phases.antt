@@ -22,9 +22,11 @@ use Rattle.pm_walk.specs.Runs.{IsRun, IsAtEnd}
 
 -- ---- before the first phase
 
+-- the cut without any change is the cut at the end of phase 0
 pub none_made : (plan : PlanData) (cut : Cut) → IsPlan plan → ((x : ℕ) → cut x ≡ 0) → cut ≡ end_cut plan 0
 none_made plan cut is none = fun_ext (λ x. none x ∙ sym (end-none plan x is.in_phases))
 
+-- before any change the nodes have made their changes of the phases up to 0, as far as any cut goes
 pub start_stops : (plan : PlanData) (counts : List ℕ) (progress : List Progress) → IsPlan plan → HaveCome plan progress →
     ((x : ℕ) → cut_made progress x ≡ 0) → AreStops plan counts 0 progress
 start_stops plan counts progress is all none = record {
@@ -37,12 +39,14 @@ pub if_both : {A E : Type 0} (P Q R : A → Type 0) → ((x : A) → P x → Q x
 if_both P Q R both (Ok x) first second = both x first second
 if_both P Q R both (Err e) first second = second
 
+-- a sound run whose changes made are those up to the end of phase p is at the end of phase p
 pub run_at : (plan : PlanData) (p : ℕ) (standing : StandingValue) → cut_made standing.progress ≡ end_cut plan p → (run : Run) →
     IsRun plan run → run.standing ≡ standing → IsAtEnd plan p run
 run_at plan p standing cut run sound same = record { sound = sound; cut = ap (λ (s : StandingValue). cut_made s.progress) same ∙ cut }
 
 -- ---- one more phase
 
+-- the end of phase p behind the ends of the phases before it makes the ends of the phases up to p
 pub ends_more : (plan : PlanData) (p : ℕ) (ends : List EndValue) (new : EndValue) → 1 ≤ p →
     map (λ (e : EndValue). e.end) ends ≡ map (λ q. end_of plan (end_cut plan q)) (range_with_len 1 (p - 1)) → new.end ≡ end_of plan (end_cut plan p) →
     map (λ (e : EndValue). e.end) ends ++ new.end ∷ [] ≡ map (λ q. end_of plan (end_cut plan q)) (range_with_len 1 (p + 1 - 1))
@@ -67,6 +71,7 @@ within_at plan counts many planned (suc x) = elim (cases_lt (length plan.nodes) 
   | inr near ↦ planned (suc x) (omega arith) near
 ]
 
+-- a cut of no more changes than are planned is reached at the end of the last phase
 pub cut_reached : (plan : PlanData) (counts : List ℕ) → IsPlan plan → length counts ≡ length plan.nodes → IsPlanned plan counts →
     earlier_cut (file_cut counts) (end_cut plan (phases plan)) ≡ file_cut counts
 cut_reached plan counts is many planned =

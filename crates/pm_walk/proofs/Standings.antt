@@ -25,6 +25,7 @@ use Rattle.pm_walk.proofs.Sums.{Fit, fits, demand_cut, sum_fits, sum_within, sum
 
 -- ---- cuts of changes made
 
+-- no node has made more changes than are planned for it
 pub made-within : (plan : PlanData) (progress : List Progress) → HaveCome plan progress → (x : ℕ) → x ≤ length plan.nodes →
     cut_made progress x ≤ change_count plan x
 made-within plan progress all x inside = (all.reached x inside).within
@@ -33,6 +34,7 @@ made-within plan progress all x inside = (all.reached x inside).within
 pub made-zero : (plan : PlanData) (progress : List Progress) → HaveCome plan progress → cut_made progress 0 ≡ 0
 made-zero plan progress all = omega (arith, (all.reached 0 (omega arith)).within)
 
+-- no change is made by a number beyond the last node
 pub made-beyond : (plan : PlanData) (progress : List Progress) (x : ℕ) → HaveCome plan progress → length plan.nodes < x → cut_made progress x ≡ 0
 made-beyond plan progress x all far = ap (λ (p : Progress). p.count) (get_or-eq_default progress no_progress (omega (arith, all.one_each)))
 
@@ -41,6 +43,7 @@ pub made-other : (plan : PlanData) (progress : List Progress) (x : ℕ) → IsPl
     is_leaf plan x ≡ false → cut_made progress x ≡ 0
 made-other plan progress x is all inside other = omega (arith, (all.reached x inside).within, no_changes plan x is other)
 
+-- in the cut of the changes made, the demands have the basis's steps and keep the limit of one demand
 pub standing_fits : (plan : PlanData) (standing : StandingValue) → IsStanding plan standing → Fit plan (state plan) (cut_made standing.progress)
 standing_fits plan standing stands = fits plan (cut_made standing.progress) stands.sound (made-within plan standing.progress stands.progress)
 
@@ -80,6 +83,7 @@ kept_sum plan old kept g x e stands inside read =
     let there = subst (IsStanding plan) (sym e) stands in
     group_sum_steps plan old g x there (read ∙ get_or_default old.sums g x [] (omega (arith, there.sum_each)) ∙ there.sums g inside)
 
+-- what is read of a node's demand, from what is kept of the plan, has as many steps as the basis
 pub kept_demand : (plan : PlanData) (old kept : StandingValue) (d : ℕ) (x : List ℤ) → old ≡ kept → IsStanding plan kept →
     d ≤ length plan.nodes → x ≡ get_or old.demands d x → length x ≡ plan.basis.steps
 kept_demand plan old kept d x e stands inside read =
@@ -88,13 +92,16 @@ kept_demand plan old kept d x e stands inside read =
 
 -- ---- the changes of a phase, device after device
 
+-- two cuts that are the same for the auctioneer are the same for each number below 1
 pub first_node : (a b : Cut) (x : ℕ) → x < 1 → a 0 ≡ b 0 → a x ≡ b x
 first_node a b zero below same = same
 first_node a b (suc x) below same = absurd (omega arith)
 
 -- the nodes below n have made as many changes as a cut says, those from n on as many as another one says
 pub record AreBetween (n : ℕ) (progress : List Progress) (after before : Cut) : Type 0 where
+  -- the nodes below n have made as many changes as the one cut says
   pub done : (x : ℕ) → x < n → cut_made progress x ≡ after x
+  -- the nodes from n on have made as many changes as the other cut says
   pub left : (x : ℕ) → n ≤ x → cut_made progress x ≡ before x
 
 -- node n has made as many as it has to, and the other nodes stay
@@ -131,6 +138,7 @@ pub all_between : (n : ℕ) (progress : List Progress) (after before : Cut) → 
     ((x : ℕ) → n ≤ x → before x ≡ after x) → cut_made progress ≡ after
 all_between n progress after before between none = fun_ext (between_at n progress after before between none)
 
+-- once n is beyond the last node, the changes made are those up to the end of phase p
 pub all_done : (plan : PlanData) (progress : List Progress) (n p q : ℕ) → AreBetween n progress (end_cut plan p) (end_cut plan q) →
     length plan.nodes < n → cut_made progress ≡ end_cut plan p
 all_done plan progress n p q between all =
@@ -141,6 +149,7 @@ pub made-here : (old new : List Progress) (n : ℕ) (here : Progress) → n < le
 made-here old new n here inside new_is = ap (λ (l : List Progress). cut_made l n) new_is
     ∙ ap (λ (p : Progress). p.count) (get_or-set_same old n here no_progress inside)
 
+-- setting the progress of one node leaves the number of changes made by any other
 pub made-others : (old new : List Progress) (n x : ℕ) (here : Progress) → new ≡ set old n here → x ≢ n → cut_made new x ≡ cut_made old x
 made-others old new n x here new_is other = ap (λ (l : List Progress). cut_made l x) new_is
     ∙ ap (λ (p : Progress). p.count) (get_or-set_other old n x here no_progress other)
@@ -155,6 +164,7 @@ put plan old d here bid = record {
   sums = set old.sums (group plan d) (added (taken_off (get_or old.sums (group plan d) []) (get_or old.demands d [])) bid);
 }
 
+-- with a node's progress set to one that it has come to, all nodes have come as far as the list says
 pub reached-set : (plan : PlanData) (progress : List Progress) (d : ℕ) (here : Progress) → d ≤ length plan.nodes →
     HaveCome plan progress → HasCome plan d here → HaveCome plan (set progress d here)
 reached-set plan progress d here inside all reached = record {
@@ -173,6 +183,7 @@ demand_after-is plan d here leaf reached =
     ap (λ m. cond m (node_bid plan (node plan d) here.state.0) (zeros plan.basis.steps)) reached.member
     ∙ ap (λ z. cond (is_member plan d here.count) (node_bid plan (node plan d) z) (zeros plan.basis.steps)) (reached.state leaf)
 
+-- what is kept is that of the plan again once a device has come so far, with its demand then
 pub stands-put : (plan : PlanData) (old : StandingValue) (d : ℕ) (here : Progress) (bid : List ℤ) → IsPlan plan →
     is_leaf plan d ≡ true → IsStanding plan old → HasCome plan d here →
     bid ≡ demand_come plan d here → length bid ≡ plan.basis.steps → IsStanding plan (put plan old d here bid)
@@ -216,8 +227,11 @@ stands-put plan old d here bid is leaf stands reached bid_is steps =
 
 -- the sum of a group and the demand of a device, read from what is kept
 pub record Read (plan : PlanData) (old : StandingValue) (d g : ℕ) (sum demand : List ℤ) : Type 0 where
+  -- g is the group of device d
   pub group_is : g ≡ group plan d
+  -- the sum is the kept one of g, where one is kept
   pub sum_is : sum ≡ get_or old.sums g sum
+  -- the demand is the kept one of d, where one is kept
   pub demand_is : demand ≡ get_or old.demands d demand
 
 read_sum : (plan : PlanData) (old : StandingValue) (d g : ℕ) (sum demand : List ℤ) → IsPlan plan → is_leaf plan d ≡ true →
@@ -231,6 +245,7 @@ read_demand : (plan : PlanData) (old : StandingValue) (d g : ℕ) (sum demand : 
 read_demand plan old d g sum demand is leaf stands read =
     read.demand_is ∙ get_or_default old.demands d demand [] (omega (arith, stands.demand_each, last_of plan d is leaf))
 
+-- the group's sum and the demand that are read for a device have as many steps as the basis
 pub read_lengths : (plan : PlanData) (old : StandingValue) (d g : ℕ) (sum demand : List ℤ) → IsPlan plan → is_leaf plan d ≡ true →
     IsStanding plan old → Read plan old d g sum demand →
     (length sum ≡ plan.basis.steps) × (length demand ≡ plan.basis.steps)
@@ -251,6 +266,7 @@ exchanged-is plan old d g sum demand bid is leaf stands read =
     ap (λ l. added (taken_off l demand) bid) (read_sum plan old d g sum demand is leaf stands read)
     ∙ ap (λ l. added (taken_off (get_or old.sums (group plan d) []) l) bid) (read_demand plan old d g sum demand is leaf stands read)
 
+-- the sum that is read, with the old demand taken off and the new one added, is within the limit of a sum
 pub read_within : (plan : PlanData) (old : StandingValue) (d g : ℕ) (sum demand bid : List ℤ) (here : Progress) → IsPlan plan →
     is_leaf plan d ≡ true → IsStanding plan old → Read plan old d g sum demand →
     HasCome plan d here → bid ≡ demand_come plan d here → length bid ≡ plan.basis.steps → AllWithinLimit sum_limit (added (taken_off sum demand) bid)
@@ -264,6 +280,7 @@ read_within plan old d g sum demand bid here is leaf stands read reached bid_is 
     subst (AllWithinLimit sum_limit) (sym (exchanged-is plan old d g sum demand bid is leaf stands read ∙ new_is))
     (sum_within plan (state plan) (cut_made next.progress) (group plan d) is.nodes.few (standing_fits plan next stands'))
 
+-- what is kept is that of the plan again with the progress, the demand and the sum made from what was read
 pub read_stands : (plan : PlanData) (old : StandingValue) (d g : ℕ) (sum demand bid : List ℤ) (here : Progress) → IsPlan plan →
     is_leaf plan d ≡ true → IsStanding plan old → Read plan old d g sum demand →
     HasCome plan d here → bid ≡ demand_come plan d here → length bid ≡ plan.basis.steps → (new : List ℤ) →
@@ -310,6 +327,7 @@ reached-start plan x progress none stranger start = record {
   member = stranger ∙ sym (is_member-none plan x) ∙ ap (is_member plan x) (sym none);
 }
 
+-- before the first change zeros for all demands and all sums are what is kept of the plan
 pub start_stands : (plan : PlanData) (progress : List Progress) (demands sums : List (List ℤ)) (n : ℕ) → IsPlan plan →
     n ≡ length plan.nodes + 1 → HaveCome plan progress → ((x : ℕ) → cut_made progress x ≡ 0) →
     demands ≡ replicate n (zeros plan.basis.steps) → sums ≡ replicate n (zeros plan.basis.steps) →

@@ -38,11 +38,13 @@ unfolding demand_in_cut
 demand_cut plan s a b d same =
     ap (λ n. cond (is_member plan d n) (node_bid plan (node plan d) (s d n)) (zeros plan.basis.steps)) same
 
+-- what a device adds to its own group is its demand in the cut
 pub part_own : (plan : PlanData) (s : States) (cut : Cut) (d : ℕ) → part_in plan s cut (group plan d) d ≡ demand_in_cut plan s cut d
 unfolding part_in
 part_own plan s cut d = cond-true {A = List ℤ} (group plan d == group plan d) (demand_in_cut plan s cut d) (zeros plan.basis.steps)
     (eq-eqb (group plan d) (group plan d) refl)
 
+-- what a device adds to a group that is not its own is all zeros
 pub part_other : (plan : PlanData) (s : States) (cut : Cut) (g d : ℕ) → group plan d ≢ g → part_in plan s cut g d ≡ zeros plan.basis.steps
 unfolding part_in
 part_other plan s cut g d other =
@@ -54,7 +56,9 @@ part_cut plan s a b g d same = ap (λ bid. cond (group plan d == g) bid (zeros p
 
 -- the demands of the nodes have the steps of the basis, and lie within the limit of one demand
 pub record Fit (plan : PlanData) (s : States) (cut : Cut) : Type 0 where
+  -- the demand of each node in the cut has as many steps as the basis
   pub steps : (d : ℕ) → 1 ≤ d → d ≤ length plan.nodes → length (demand_in_cut plan s cut d) ≡ plan.basis.steps
+  -- the demand of each node in the cut is within the limit of one demand
   pub bounded : (d : ℕ) → 1 ≤ d → d ≤ length plan.nodes → AllWithinLimit demand_limit (demand_in_cut plan s cut d)
 
 zero_within : (limit steps step : ℕ) → IsWithin limit (demand_at (zeros steps) step)
@@ -81,6 +85,7 @@ part_fits plan s cut g d low high fit = elim (cases_eq (group plan d) g) [
   | inr other ↦ ap (λ bid. length bid) (part_other plan s cut g d other) ∙ length-zeros plan.basis.steps
 ]
 
+-- what a node adds to a group at a step is within the limit of one demand, where the demands fit
 pub part_within : (plan : PlanData) (s : States) (cut : Cut) (g d step : ℕ) → 1 ≤ d → d ≤ length plan.nodes →
     step < plan.basis.steps → Fit plan s cut → Bounded demand_limit step (part_in plan s cut g d)
 part_within plan s cut g d step low high below fit = elim (cases_eq (group plan d) g) [
@@ -89,6 +94,7 @@ part_within plan s cut g d step low high below fit = elim (cases_eq (group plan 
   | inr other ↦ subst (λ bid. Bounded demand_limit step bid) (sym (part_other plan s cut g d other)) (zero_within demand_limit plan.basis.steps step)
 ]
 
+-- what the nodes add to a group has as many steps as the basis, where the demands fit
 pub parts_fit : (plan : PlanData) (s : States) (cut : Cut) (g : ℕ) → Fit plan s cut →
     HaveSteps plan.basis.steps (map (part_in plan s cut g) (node_numbers plan))
 parts_fit plan s cut g fit i d inside =
@@ -98,10 +104,12 @@ parts_fit plan s cut g fit i d inside =
     ap (λ bid. length bid) (get_or-map-range_with_len (part_in plan s cut g) 1 n i (1 + i) d below refl)
     ∙ part_fits plan s cut g (1 + i) (omega arith) (omega arith) fit
 
+-- the sum of a group has as many steps as the basis, where the demands fit
 pub sum_fits : (plan : PlanData) (s : States) (cut : Cut) (g : ℕ) → Fit plan s cut → length (sum_in plan s cut g) ≡ plan.basis.steps
 unfolding sum_in
 sum_fits plan s cut g fit = length-sum_of plan.basis.steps _ (parts_fit plan s cut g fit)
 
+-- the sum of a group is within the limit of a sum, where the demands fit and the nodes are not too many
 pub sum_within : (plan : PlanData) (s : States) (cut : Cut) (g : ℕ) → length plan.nodes ≤ most_nodes → Fit plan s cut →
     AllWithinLimit sum_limit (sum_in plan s cut g)
 unfolding sum_in

@@ -19,8 +19,6 @@ mod rising;
 mod run;
 mod standing;
 mod stops;
-#[cfg(test)]
-mod tests;
 mod totals;
 
 pub use auction::CutAuction;

@@ -68,6 +68,7 @@ bad_due old mid new held holds a b m n count at piece reply serving finds =
       text = fault_text (replies serving.frames) reply frames at found.3 (found.4 ∙ found.1.offset);
     }
 
+-- a piece with a bad frame whose answers and fault are all written ends the service as refused
 pub bad_refused : (old mid new held holds held' : Option (List ℕ)) (a b : Decoding) (m n : Option Market) (count at : ℕ) (piece reply : List ℕ) →
     Serving old mid held holds a m count →
     Consumes mid new piece → FindsBad a m b n piece reply at → Appends holds held' (reply ++ answer_bytes (Fault at)) → IsRefused old new held held'
@@ -82,6 +83,7 @@ bad_refused old mid new held holds held' a b m n count at piece reply serving co
       appends = subst P due.text (Appends-trans held holds held' (replies serving.frames) _ serving.appends appends);
     }
 
+-- with a proper prefix written of the answers and fault of a piece with a bad frame a service is cut short
 pub bad_cut_short : (old mid new held holds held' : Option (List ℕ)) (a b : Decoding) (m n : Option Market) (count at written : ℕ) (piece reply : List
     ℕ) → Serving old mid held holds a m count →
     Consumes mid new piece → FindsBad a m b n piece reply at → written < length (reply ++ answer_bytes (Fault at)) →
@@ -95,6 +97,7 @@ bad_cut_short old mid new held holds held' a b m n count at written piece reply 
 
 -- ---- where no more memory was had
 
+-- where one more piece is taken and nothing more written, the first frames of the bytes taken were answered
 pub begun_by : (old mid new held holds held' : Option (List ℕ)) (a : Decoding) (m : Option Market) (count : ℕ) (piece : List ℕ) →
     Serving old mid held holds a m count →
     Consumes mid new piece → holds ≡ held' → IsBegun old new held held'
@@ -117,6 +120,7 @@ TakesAll old market new after piece reply = (bytes : List ℕ) (frames : List Fr
     (more : List Frame) × AreBehind (bytes ++ piece) (frames ++ more) new after
     × IsUnfinished new.place new.rest × (replies frames ++ reply ≡ replies (frames ++ more))
 
+-- with a proper prefix written of the answers to a piece without a bad frame a service is cut short
 pub piece_cut_short : (old mid new held holds held' : Option (List ℕ)) (a b : Decoding) (m n : Option Market) (count written : ℕ) (piece reply : List
     ℕ) → Serving old mid held holds a m count →
     Consumes mid new piece → TakesAll a m b n piece reply → written < length reply → Appends holds held' (take written reply) →
@@ -129,6 +133,7 @@ piece_cut_short old mid new held holds held' a b m n count written piece reply s
     cut_short old new held holds held' (serving.input ++ piece) (replies serving.frames) reply (replies frames) written
     (Consumes-trans old mid new serving.input piece serving.consumes consumes) serving.appends (answered frames has) found.3 proper appends
 
+-- with a piece without a bad frame, and all its answers written, the service goes on, its bytes counted
 pub serving_more : (old mid new held holds held' : Option (List ℕ)) (a b : Decoding) (m n : Option Market) (count more : ℕ) (piece reply : List ℕ) →
     Serving old mid held holds a m count →
     Consumes mid new piece → length piece ≡ more → TakesAll a m b n piece reply → Appends holds held' reply →
@@ -178,6 +183,7 @@ no_more old mid new input first second =
     let P : List ℕ → Type 0 = λ l. Consumes old new l in
     subst P (append-nil input) (Consumes-trans old mid new input [] first second)
 
+-- an input within the limit that ends within a frame, and whose fault is written, ends as refused
 pub end_refused : (old mid new held holds held' : Option (List ℕ)) (a : Decoding) (m : Option Market) (count : ℕ) (reply : List ℕ) →
     Serving old mid held holds a m count →
     Consumes mid new [] → IsAtEnd new → count ≤ stream_limit → 0 < length a.rest → reply ≡ [] →
@@ -193,6 +199,7 @@ end_refused old mid new held holds held' a m count reply serving consumes at_end
       appends = subst P due.text (Appends-trans held holds held' (replies serving.frames) _ serving.appends appends);
     }
 
+-- with a proper prefix written of the fault of an input that ends within a frame a service is cut short
 pub end_cut_short : (old mid new held holds held' : Option (List ℕ)) (a : Decoding) (m : Option Market) (count written : ℕ) (reply : List ℕ) →
     Serving old mid held holds a m count →
     Consumes mid new [] → IsAtEnd new → count ≤ stream_limit → 0 < length a.rest → reply ≡ [] →
@@ -216,6 +223,7 @@ pub rest_text : (holds held' : Option (List ℕ)) (reply : List ℕ) (count left
 rest_text holds held' reply count left rest is appends = let P : ℕ →
     Type 0 = λ n. Appends holds held' (reply ++ answer_bytes (Fault (count - n))) in subst P is appends
 
+-- a written prefix of answers and fault is one too with the rest's length in place of what is left
 pub rest_prefix : (holds held' : Option (List ℕ)) (reply : List ℕ) (count left written : ℕ) (rest : List ℕ) → left ≡ length rest →
     Appends holds held' (take written (reply ++ answer_bytes (Fault (count - left)))) →
     Appends holds held' (take written (reply ++ answer_bytes (Fault (count - length rest))))
@@ -237,6 +245,7 @@ pub not_failed : {T E : Type 0} (A : Type 0) (r : Result T E) → is_err r ≡ f
 not_failed A (Ok x) is a = a
 not_failed A (Err e) is a = absurd (cc is)
 
+-- a number below the length of answers and fault stays so with the rest's length in place of what is left
 pub rest_proper : (reply : List ℕ) (count left written : ℕ) (rest : List ℕ) → left ≡ length rest →
     written < length (reply ++ answer_bytes (Fault (count - left))) →
     written < length (reply ++ answer_bytes (Fault (count - length rest)))
@@ -249,11 +258,13 @@ pub told_text : (holds held' : Option (List ℕ)) (reply : List ℕ) (told at : 
     Appends holds held' (reply ++ answer_bytes (Fault at))
 told_text holds held' reply told at is appends = let P : ℕ → Type 0 = λ n. Appends holds held' (reply ++ answer_bytes (Fault n)) in subst P is appends
 
+-- a written prefix of answers and the fault told is one of answers and the fault at the equal offset
 pub told_prefix : (holds held' : Option (List ℕ)) (reply : List ℕ) (told at n : ℕ) → told ≡ at →
     Appends holds held' (take n (reply ++ answer_bytes (Fault told))) → Appends holds held' (take n (reply ++ answer_bytes (Fault at)))
 told_prefix holds held' reply told at n is appends = let P : ℕ →
     Type 0 = λ m. Appends holds held' (take n (reply ++ answer_bytes (Fault m))) in subst P is appends
 
+-- a number below the length of answers and the fault told is below that with the fault at the equal offset
 pub told_proper : (reply : List ℕ) (told at n : ℕ) → told ≡ at → n < length (reply ++ answer_bytes (Fault told)) →
     n < length (reply ++ answer_bytes (Fault at))
 told_proper reply told at n is proper = let P : ℕ → Type 0 = λ m. n < length (reply ++ answer_bytes (Fault m)) in subst P is proper

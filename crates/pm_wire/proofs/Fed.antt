@@ -17,6 +17,7 @@ fed_bad place buffer kept after piece start start' false same within is bad =
     let P : List ℕ → Type 0 = λ l. BeginsBadly place l in
     subst P (sym same ∙ ap (drop start') (sym is)) bad
 
+-- the start stays within the bytes kept, whether the piece was added to them or not
 pub fed_within : (kept after piece : List ℕ) (start : ℕ) (ok : Bool) → start ≤ length kept →
     after ≡ (if ok then kept ++ piece else kept) → start ≤ length after
 fed_within kept after piece start true within is = omega (arith, ap length is, length-append kept piece)

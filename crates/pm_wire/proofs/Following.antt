@@ -62,6 +62,7 @@ follows_more bytes piece frames more old new market after reply follows takes =
       knows = takes.knows ∙ ap (λ k. market_behind k more) follows.knows ∙ sym (market_behind-append None frames more);
     }
 
+-- the answers so far and those to the frames that are whole with the piece answer all these frames
 pub follows_replies : (bytes : List ℕ) (frames more : List Frame) (old new : Decoding) (market after : Option Market) (reply : List ℕ) (piece : List ℕ)
     → AreBehind bytes frames old market →
     Takes more (with_piece old piece) new market after reply → replies frames ++ reply ≡ replies (frames ++ more)

@@ -48,6 +48,7 @@ no_power_small steps = λ step h.
 empty_single : (children steps : ℕ) → HasSingleBids (empty_cache children steps)
 empty_single children steps = All-replicate (λ bid. AllWithinLimit demand_limit bid) children (zeros steps) (no_power_small steps)
 
+-- with the empty cache of a basis and an entry for each child a market is sound, whatever its other parts
 pub opened_sound : (children steps index : ℕ) (changed : Bool) (cache : Cache) → children ≡ most_nodes → AreSteps steps →
     cache ≡ empty_cache children steps →
     IsMarket (record { cache = cache; index = index; changed = changed })

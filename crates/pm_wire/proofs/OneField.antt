@@ -62,6 +62,7 @@ demands_more bytes rest behind demand d e e' =
     let one : demand_bytes (demand ++ d ∷ []) ≡ demand_bytes demand ++ signed_bytes d = flat_map-append signed_bytes demand (d ∷ []) in
     e ∙ ap (λ l. demand_bytes demand ++ l) e' ∙ sym (append_assoc (demand_bytes demand) (signed_bytes d) behind) ∙ ap (λ l. l ++ behind) (sym one)
 
+-- where demands have 32 bits and one more has, all of them have, with this one at the end
 pub fit_more : (demand : List ℤ) (d : ℤ) → AllByRecursion (λ z. FitsSigned w32 z) demand → FitsSigned w32 d →
     AllByRecursion (λ z. FitsSigned w32 z) (demand ++ d ∷ [])
 fit_more [] d fit fits = (fits, tt)

@@ -30,6 +30,7 @@ one_list place (h ∷ fs) (k ∷ gs) r s f g stop stop' e =
     let others = one_list (place_after place h) fs gs r s f.1 (subst P (sym first.0) g.1) stop (subst Q (sym first.0) stop') first.1 in
     (ap (λ x. x ∷ fs) first.0 ∙ ap (λ l. k ∷ l) others.0, others.1)
 
+-- two lists of frames that the same bytes begin with are one, and so are their rests, where both stop
 pub same_reading : (bytes : List ℕ) (fs gs : List Frame) (r s : List ℕ) → BeginsWith bytes fs r → Stops (place_behind None fs) r →
     BeginsWith bytes gs s → Stops (place_behind None gs) s → (fs ≡ gs) × (r ≡ s)
 same_reading bytes fs gs r s b stop b' stop' = one_list None fs gs r s b.stand b'.stand stop stop' (sym b.spelled ∙ b'.spelled)
@@ -43,27 +44,33 @@ bad_or_unfinished bytes fs gs r s b bad b' unfinished =
     let Q : List Frame → Type 0 = λ l. BeginsBadly (place_behind None l) r in
     bad_not_unfinished (place_behind None gs) s (subst P same.1 (subst Q same.0 bad)) unfinished
 
+-- bytes have a bad frame at one offset at most
 pub one_offset : (bytes : List ℕ) (m n : ℕ) → HasBadFrame bytes m → HasBadFrame bytes n → m ≡ n
 one_offset bytes m n a b =
     let same = same_reading bytes a.frames b.frames a.rest b.rest a.begins (inr a.bad) b.begins (inr b.bad) in
     a.before ∙ ap (λ l. length (stream_bytes l)) same.0 ∙ sym b.before
 
+-- bytes end within a frame at one offset at most
 pub one_end : (bytes : List ℕ) (m n : ℕ) → EndsWithin bytes m → EndsWithin bytes n → m ≡ n
 one_end bytes m n a b =
     let same = same_reading bytes a.frames b.frames a.rest b.rest a.begins (inl a.unfinished) b.begins (inl b.unfinished) in
     a.before ∙ ap (λ l. length (stream_bytes l)) same.0 ∙ sym b.before
 
+-- bytes that are a list of frames have no bad frame
 pub frames_not_bad : (bytes : List ℕ) (frames : List Frame) (n : ℕ) → AreFrames bytes frames → HasBadFrame bytes n → ⊥
 frames_not_bad bytes frames n are a = bad_or_unfinished bytes a.frames frames a.rest [] a.begins a.bad are tt
 
+-- bytes that are a list of frames do not end within a frame
 pub frames_not_within : (bytes : List ℕ) (frames : List Frame) (n : ℕ) → AreFrames bytes frames → EndsWithin bytes n → ⊥
 frames_not_within bytes frames n are a =
     let same = same_reading bytes a.frames frames a.rest [] a.begins (inl a.unfinished) are (inl tt) in
     a.some same.1
 
+-- bytes that have a bad frame do not end within a frame
 pub bad_not_within : (bytes : List ℕ) (m n : ℕ) → HasBadFrame bytes m → EndsWithin bytes n → ⊥
 bad_not_within bytes m n a b = bad_or_unfinished bytes a.frames b.frames a.rest b.rest a.begins a.bad b.begins b.unfinished
 
+-- bytes with more behind them begin with the same frames, and have more behind the rest
 pub begins_more : (bytes more : List ℕ) (frames : List Frame) (rest : List ℕ) → BeginsWith bytes frames rest →
     BeginsWith (bytes ++ more) frames (rest ++ more)
 begins_more bytes more frames rest b = record {
@@ -71,6 +78,7 @@ begins_more bytes more frames rest b = record {
   spelled = ap (λ l. l ++ more) b.spelled ∙ append_assoc (stream_bytes frames) rest more;
 }
 
+-- a bad frame stays one at its offset, whatever bytes follow
 pub bad_stays : (bytes more : List ℕ) (n : ℕ) → HasBadFrame bytes n → HasBadFrame (bytes ++ more) n
 bad_stays bytes more n a = record {
   frames = a.frames;

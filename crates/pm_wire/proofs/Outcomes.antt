@@ -17,10 +17,15 @@ use Rattle.pm_wire.proofs.Places.{bad_more}
 
 -- what was said of the statuses that tell of the bytes
 pub record Outcomes (old new held holds : Option (List ℕ)) (rose_source rose_sink : Type 0) (result : Served) : Type 0 where
+  -- at Done the input was read to its end, is a list of frames and was answered
   pub done : result ≡ Done → IsDone old new held holds
+  -- at Refused the answers before a bad or unfinished frame were written, and its fault
   pub refused : result ≡ Refused → IsRefused old new held holds
+  -- at TooLong more bytes than the limit were taken, and all their whole frames were answered
   pub too_long : result ≡ TooLong → IsLongStream old new held holds
+  -- at ReadFault the source failed, and all whole frames of the bytes taken were answered
   pub read_fault : result ≡ ReadFault → rose_source × FailsReading old new held holds
+  -- at WriteFault the sink failed
   pub write_fault : result ≡ WriteFault → rose_sink
 
 -- the source had the bytes taken and others
@@ -71,6 +76,7 @@ move_end a b n e ends = let P : List ℕ → Type 0 = λ l. EndsWithin l n in su
 move_frames : (a b : List ℕ) (frames : List Frame) → a ≡ b → AreFrames a frames → AreFrames b frames
 move_frames a b frames e are = let P : List ℕ → Type 0 = λ l. AreFrames l frames in subst P e are
 
+-- where the bytes taken have a bad frame, the service ends with Refused, WriteFault or NoMemory
 pub bad_frame : (all : List ℕ) (new held holds : Option (List ℕ)) (r k : Type 0) (result : Served) (n : ℕ) →
     Outcomes (Some all) new held holds r k result → HasBadFrame (taken (Some all) new) n →
     (result ≡ Refused) ⊎ (result ≡ WriteFault) ⊎ (result ≡ NoMemory)
@@ -97,6 +103,7 @@ refused_long all new held holds d long none =
       | inr ends ↦ omega (arith, ends.1, ap length same, long)
     ]
 
+-- where it took more bytes than the limit and no bad frame, it ends with TooLong, WriteFault or NoMemory
 pub took_more : (all : List ℕ) (new held holds : Option (List ℕ)) (r k : Type 0) (result : Served) → Outcomes (Some all) new held holds r k result →
     stream_limit < length (taken (Some all) new) →
     ((n : ℕ) → HasBadFrame (taken (Some all) new) n → ⊥) → (result ≡ TooLong) ⊎ (result ≡ WriteFault) ⊎ (result ≡ NoMemory)
@@ -121,6 +128,7 @@ refused_frames all new held holds frames d are =
       | inr ends ↦ frames_not_within all frames _ are (move_end _ _ _ (whole all d.input new d.consumes ends.0) ends.2)
     ]
 
+-- an input within the limit that is a list of frames ends with Done, ReadFault, WriteFault or NoMemory
 pub frames : (all : List ℕ) (new held holds : Option (List ℕ)) (r k : Type 0) (result : Served) (list : List Frame) →
     Outcomes (Some all) new held holds r k result → length all ≤ stream_limit →
     AreFrames all list → (result ≡ Done) ⊎ (result ≡ ReadFault) ⊎ (result ≡ WriteFault) ⊎ (result ≡ NoMemory)
@@ -139,6 +147,7 @@ done_refusal all new held holds n d (inl bad) = frames_not_bad all d.frames n (m
 done_refusal all new held holds n d (inr ends) = frames_not_within all d.frames n (move_frames _ _ _ (whole all d.input new d.consumes d.at_end)
     d.are_frames) ends
 
+-- an input within the limit that has a bad frame or ends within one ends with neither Done nor TooLong
 pub refusal : (all : List ℕ) (new held holds : Option (List ℕ)) (r k : Type 0) (result : Served) (n : ℕ) →
     Outcomes (Some all) new held holds r k result → length all ≤ stream_limit →
     HasBadFrame all n ⊎ EndsWithin all n → (result ≡ Refused) ⊎ (result ≡ ReadFault) ⊎ (result ≡ WriteFault) ⊎ (result ≡ NoMemory)
@@ -151,6 +160,7 @@ refusal all new held holds r k ReadFault n out short bad = inr (inl refl)
 refusal all new held holds r k WriteFault n out short bad = inr (inr (inl refl))
 refusal all new held holds r k NoMemory n out short bad = inr (inr (inr refl))
 
+-- an input within the limit ends with Done, Refused or NoMemory where neither source nor sink failed
 pub complete : (all : List ℕ) (new held holds : Option (List ℕ)) (r k : Type 0) (result : Served) → Outcomes (Some all) new held holds r k result →
     length all ≤ stream_limit →
     (r → ⊥) → (k → ⊥) → (result ≡ Done) ⊎ (result ≡ Refused) ⊎ (result ≡ NoMemory)
@@ -171,6 +181,7 @@ same_holds held text text' None kept e a b = absurd a
 same_holds held text text' (Some x) None e a b = absurd b
 same_holds held text text' (Some x) (Some y) e a b = ap (λ l. Some l) (a ∙ ap (λ l. held ++ l) e ∙ sym b)
 
+-- two services of the same input and held bytes that are both done leave the same bytes held
 pub one_done : (all held : List ℕ) (new other holds kept : Option (List ℕ)) → IsDone (Some all) new (Some held) holds →
     IsDone (Some all) other (Some held) kept → holds ≡ kept
 one_done all held new other holds kept a b =
@@ -207,12 +218,14 @@ fault_frames all new other x y fs gs cx cy f g =
     let b = fault_stops all other y gs cy g in
     (same_reading all fs gs a.rest b.rest a.begins a.stops b.begins b.stops).0
 
+-- two services of the same input and held bytes that are both refused leave the same bytes held
 pub one_refused : (all held : List ℕ) (new other holds kept : Option (List ℕ)) → IsRefused (Some all) new (Some held) holds →
     IsRefused (Some all) other (Some held) kept → holds ≡ kept
 one_refused all held new other holds kept a b =
     same_holds held (replies_and_fault a.frames) (replies_and_fault b.frames) holds kept
     (ap (λ l. replies_and_fault l) (fault_frames all new other a.input b.input a.frames b.frames a.consumes b.consumes a.fault b.fault)) a.appends b.appends
 
+-- of the same input no service is done where another is refused
 pub not_both : (all held : List ℕ) (new other holds kept : Option (List ℕ)) → IsDone (Some all) new (Some held) holds →
     IsRefused (Some all) other (Some held) kept → ⊥
 not_both all held new other holds kept a b =

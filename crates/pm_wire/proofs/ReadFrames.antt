@@ -45,6 +45,7 @@ hello_spelled body x y z min max steps many ex ey ez =
     ap (λ l. hello_kind ∷ l) (ex ∙ ap (λ l. signed_bytes min ++ l)
     (ey ∙ ap (λ l. signed_bytes max ++ l) (ez ∙ ap (λ l. to_be_bytes w16 steps ++ l) none)))
 
+-- ten bytes behind the kind of Hello whose fields make a basis are a Hello of that basis
 pub hello_read : (body x y z : List ℕ) (min max : ℤ) (steps : ℕ) (basis : BasisValue) → length body ≡ 10 → body ≡ signed_bytes min ++ x →
     x ≡ signed_bytes max ++ y → y ≡ to_be_bytes w16 steps ++ z →
     FitsSigned w32 min → FitsSigned w32 max → steps < 2 ^ 16 → Ok basis ≡ checked_basis min max (pos steps) →
@@ -58,6 +59,7 @@ hello_read body x y z min max steps basis many ex ey ez low high small is =
       spelled = hello_spelled body x y z min max steps many ex ey ez;
     })
 
+-- ten bytes behind the kind of Hello whose fields make no basis are a refused frame
 pub hello_refused : (body x y z : List ℕ) (min max : ℤ) (steps : ℕ) (fault : BasisFault) → length body ≡ 10 → body ≡ signed_bytes min ++ x →
     x ≡ signed_bytes max ++ y → y ≡ to_be_bytes w16 steps ++ z →
     FitsSigned w32 min → FitsSigned w32 max → steps < 2 ^ 16 → Err fault ≡ checked_basis min max (pos steps) → IsRefused None (hello_kind ∷ body)
@@ -96,6 +98,7 @@ gone_spelled body x y child number many ex ey =
     let none : y ≡ [] = nil_from_length y (omega arith) in
     ap (λ l. gone_kind ∷ l) (ex ∙ ap (λ l. to_be_bytes w16 child ++ l) (ey ∙ ap (λ l. to_be_bytes w32 number ++ l) none))
 
+-- six bytes behind the kind of Gone whose child and number are no sender's are a refused frame
 pub gone_refused : (steps : ℕ) (body x y : List ℕ) (child number : ℕ) → length body ≡ 6 → body ≡ to_be_bytes w16 child ++ x →
     x ≡ to_be_bytes w32 number ++ y →
     child < 2 ^ 16 → number < 2 ^ 32 → (IsSender child number → ⊥) → IsRefused (Some steps) (gone_kind ∷ body)
@@ -106,6 +109,7 @@ gone_refused steps body x y child number many ex ey few small bad = record {
   spelled = gone_spelled body x y child number many ex ey;
 }
 
+-- where a test that each sender passes fails, the child and the number are no sender's
 pub not_sender : (test : Bool) (child number : ℕ) → test ≡ false → (IsSender child number → IsTrue test) → IsSender child number → ⊥
 not_sender test child number fails back sender = let holds : test ≡ true = back sender in cc (fails, holds)
 
@@ -147,6 +151,7 @@ same_check min max z steps low high small is =
     ∙ ap (λ n. checked_basis min max (cast_signed w64 (cast_unsigned w64 n))) is
     ∙ ap (λ n. checked_basis min max n) (wide (pos steps) (fits_signed_from_abs w32 (pos steps) (omega (arith, small))))
 
+-- where the test of having no byte fails, there is at least one byte
 pub not_empty : (bytes : List ℕ) (test : Bool) → test ≡ (length bytes == 0) → test ≡ false → 1 ≤ length bytes
 not_empty [] test is fails = absurd (cc (is, fails))
 not_empty (b ∷ bytes) test is fails = omega arith

@@ -19,18 +19,22 @@ use Rattle.pm_wire.proofs.Places.{frame_length}
 
 -- ---- lists of frames, one behind the other
 
+-- frames that may stand at the place behind others that may stand may stand behind them
 pub all_stand-append : (place : Option ℕ) (fs gs : List Frame) → AllStand place fs → AllStand (place_behind place fs) gs → AllStand place (fs ++ gs)
 all_stand-append place [] gs f g = g
 all_stand-append place (h ∷ fs) gs f g = (f.0, all_stand-append (place_after place h) fs gs f.1 g)
 
+-- the place behind two lists of frames is that behind the second from the place behind the first
 pub place_behind-append : (place : Option ℕ) (fs gs : List Frame) → place_behind place (fs ++ gs) ≡ place_behind (place_behind place fs) gs
 place_behind-append place [] gs = refl
 place_behind-append place (h ∷ fs) gs = place_behind-append (place_after place h) fs gs
 
+-- the market behind two lists of frames is that behind the second from the market behind the first
 pub market_behind-append : (market : Option Market) (fs gs : List Frame) → market_behind market (fs ++ gs) ≡ market_behind (market_behind market fs) gs
 market_behind-append market [] gs = refl
 market_behind-append market (h ∷ fs) gs = market_behind-append (market_after market h) fs gs
 
+-- the answers to two lists of frames are those to the first, then those to the second from its market
 pub answers_behind-append : (market : Option Market) (fs gs : List Frame) →
     answers_behind market (fs ++ gs) ≡ answers_behind market fs ++ answers_behind (market_behind market fs) gs
 answers_behind-append market [] gs = refl
@@ -38,12 +42,14 @@ answers_behind-append market (h ∷ fs) gs =
     ap (λ l. answers_to market h ++ l) (answers_behind-append (market_after market h) fs gs)
     ∙ sym (append_assoc (answers_to market h) (answers_behind (market_after market h) fs) (answers_behind (market_behind (market_after market h) fs) gs))
 
+-- the bytes of the answers to two lists of frames are those of the first, then those of the second
 pub reply_bytes-append : (market : Option Market) (fs gs : List Frame) →
     reply_bytes (answers_behind market (fs ++ gs)) ≡ reply_bytes (answers_behind market fs) ++ reply_bytes (answers_behind (market_behind market fs) gs)
 reply_bytes-append market fs gs =
     ap (λ l. reply_bytes l) (answers_behind-append market fs gs)
     ∙ flat_map-append answer_bytes (answers_behind market fs) (answers_behind (market_behind market fs) gs)
 
+-- the bytes of two lists of frames are those of the first, then those of the second
 pub stream_bytes-append : (fs gs : List Frame) → stream_bytes (fs ++ gs) ≡ stream_bytes fs ++ stream_bytes gs
 stream_bytes-append fs gs = flat_map-append frame_bytes fs gs
 
@@ -140,10 +146,12 @@ clearings_after (Some market) (Bid child number demand) offset stands few = omeg
 clearings_after (Some market) (Gone child number) offset stands few = omega (arith, few)
 clearings_after (Some market) Clear offset stands few = omega (arith, few, cleared_index market market.changed)
 
+-- a market that has at most m clearings has at most n where m is at most n
 pub fewer : (market : Option Market) (m n : ℕ) → m ≤ n → IfSome market (λ known. known.index ≤ m) → IfSome market (λ known. known.index ≤ n)
 fewer None m n le few = tt
 fewer (Some market) m n le few = omega (arith, few)
 
+-- frames that may stand have at least as many bytes as there are frames
 pub stream_length : (fs : List Frame) (place : Option ℕ) → AllStand place fs → length fs ≤ length (stream_bytes fs)
 stream_length [] place all = omega arith
 stream_length (f ∷ fs) place all = omega (
@@ -163,6 +171,7 @@ place_known-behind (f ∷ fs) market all =
     let P : Option ℕ → Type 0 = λ place. AllStand place fs in
     place_known-behind fs (market_after market f) (subst P (sym same) all.1) ∙ ap (λ p. place_behind p fs) same
 
+-- behind frames a market has at most as many more clearings as there are frames
 pub clearings_behind : (fs : List Frame) (market : Option Market) (offset : ℕ) → AllStand (place_known market) fs →
     IfSome market (λ known. known.index ≤ offset) →
     IfSome (market_behind market fs) (λ known. known.index ≤ offset + length fs)
@@ -191,6 +200,7 @@ pub takes_length : (fs : List Frame) (old new : Decoding) (market after : Option
     new.offset + length new.rest ≡ old.offset + length old.rest
 takes_length fs old new market after reply takes = omega (arith, takes.offset, ap length takes.spelled, length-append (stream_bytes fs) new.rest)
 
+-- a market with no more clearings than an offset below 2^31 has fewer than 2^31
 pub few_clearings : (market : Option Market) (offset : ℕ) → offset < 2147483648 → IfSome market (λ known. known.index ≤ offset) →
     IfSome market (λ known. known.index < 2147483648)
 few_clearings None offset small few = tt
@@ -210,6 +220,7 @@ takes_refused fs a b c m n x takes is =
       replied = takes.replied;
     })
 
+-- a decoder that notes the bad frame it found still begins badly, at the same offset
 pub bad_refused : (b c : Decoding) (at : ℕ) → (at ≡ b.offset) × BeginsBadly b.place b.rest × (c ≡ with_refusal b) →
     BeginsBadly c.place c.rest × (at ≡ c.offset)
 bad_refused b c at h =

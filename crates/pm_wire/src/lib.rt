@@ -31,6 +31,3 @@ pub use frame::Frame;
 pub use laws::{replies_are_of_the_bytes, streams_have_one_reading};
 pub use server::Server;
 pub use stream::{STREAM_LIMIT, Served, serve};
-
-#[cfg(test)]
-mod tests;

@@ -1,0 +1,209 @@
+ghost use Rattle.std.specs.Prelude.{◌≡◌, IfOk, map, true};
+ghost use Rattle.pm_tree.specs.Entries.{entries_of, leaves_of};
+ghost use Rattle.pm_tree.specs.Shape.{leaf_at};
+ghost use Rattle.pm_plan.specs.Parts.{is_device, node_part};
+
+use pm_basis::Basis;
+use pm_bill::{Account, Bill, GroupSum, Share, bill_of_run};
+use pm_device::Kind;
+use pm_plan::{EventSpec, NodeSpec, PhaseSpec, Plan, StateSpec};
+use pm_tree::{NodeId, Tree, TreeEntry};
+use pm_walk::all_ends;
+use std::alloc::{AllocError, Global};
+use std::test::Fail;
+
+/// What a node is: a concentrator with its floor and its ceiling, or a manual device with its demand at each step.
+#[derive(Clone, Copy)]
+enum Role {
+    Limited(i64, i64),
+    Device([i64; 10]),
+}
+
+/// A node: its name, its parent's name, and what it is.
+type NodeLine = (&'static str, &'static str, Role);
+
+/// A load and a generator under the auctioneer: they clear at step 4, with 50 watts too many.
+const UNLIMITED: [NodeLine; 2] = [
+    ("load1", "auctioneer", Role::Device([100; 10])),
+    (
+        "gen1",
+        "auctioneer",
+        Role::Device([0, 0, 0, 0, -150, -150, -150, -150, -150, -150]),
+    ),
+];
+
+/// A device under a limited concentrator, and a generator: they clear at step 0, and below the limit at step 3.
+const LIMITED: [NodeLine; 3] = [
+    ("c1", "auctioneer", Role::Limited(-100, 150)),
+    (
+        "flex1",
+        "c1",
+        Role::Device([300, 250, 200, 150, 100, 50, 0, -50, -100, -150]),
+    ),
+    ("gen", "auctioneer", Role::Device([-150; 10])),
+];
+
+/// What a plan takes of a node.
+fn spec_of(alloc: Global, role: Role) -> Result<NodeSpec, AllocError> {
+    Ok(match role {
+        Role::Limited(floor, ceiling) => NodeSpec::Limited { floor, ceiling },
+        Role::Device(demands) => NodeSpec::Device {
+            kind: Kind::Manual,
+            start: StateSpec::Array(Vec::from_array(alloc, demands)?),
+        },
+    })
+}
+
+/// Whether a node is a device.
+fn is_leaf(spec: &NodeSpec) -> bool
+    ensures { result ≡ is_device (node_part spec.now) }
+{
+    matches!(spec, NodeSpec::Device { .. })
+}
+
+/// The entries of a tree, and what a plan takes of them.
+fn parts_of(
+    alloc: Global,
+    lines: &[NodeLine],
+) -> Result<(Vec<TreeEntry>, Vec<NodeSpec>), AllocError>
+    ensures { IfOk result (λ parts. map is_device (map node_part parts.1.items) ≡ leaves_of (entries_of parts.0.items)) }
+{
+    let mut entries = Vec::new(alloc);
+    let mut nodes = Vec::new(alloc);
+    for (name, parent, role) in lines {
+        let spec = spec_of(alloc, *role)?;
+        let entry = TreeEntry {
+            name: String::from_str(alloc, name)?,
+            parent: String::from_str(alloc, parent)?,
+            leaf: is_leaf(&spec),
+        };
+        entries.push(entry)?;
+        nodes.push(spec)?;
+    }
+    Ok((entries, nodes))
+}
+
+/// All devices join; then so many minutes go by.
+fn phases_of(
+    alloc: Global,
+    lines: &[NodeLine],
+    minutes: i64,
+) -> Result<Vec<PhaseSpec>, AllocError> {
+    let mut events = Vec::new(alloc);
+    for (name, _, role) in lines {
+        if let Role::Device(_) = *role {
+            let device = String::from_str(alloc, name)?;
+            events.push(EventSpec::Join { device })?;
+        }
+    }
+    Ok(Vec::from_array(
+        alloc,
+        [PhaseSpec::Events(events), PhaseSpec::Tick { minutes }],
+    )?)
+}
+
+/// The plan of these nodes and so many minutes, over the prices 0 to 9.
+fn plan_of(alloc: Global, lines: &[NodeLine], minutes: i64) -> Result<Plan, Fail> {
+    let (entries, nodes) = parts_of(alloc, lines)?;
+    let tree = Tree::new(alloc, entries)?;
+    let phases = phases_of(alloc, lines, minutes)?;
+    Ok(Plan::new(alloc, Basis::new(0, 9, 10)?, tree, nodes, phases)?)
+}
+
+/// The text of the bill of a plan's run.
+fn billed(alloc: Global, plan: &Plan) -> Result<String, Fail> {
+    let ends = all_ends(alloc, plan)?;
+    let bill = bill_of_run(alloc, plan, &ends)?;
+    Ok(String::from_utf8(bill.text(plan)?)?)
+}
+
+#[test]
+fn runs_are_billed(rt: HostRuntime) -> Result<(), Fail> {
+    let alloc = rt.alloc();
+    assert_eq!(rt;
+        billed(alloc, &plan_of(alloc, &UNLIMITED, 60)?)?.as_str(),
+        "account load1 amount 24000 taken 6000 given 0\n\
+        account gen1 amount -36000 taken 0 given 9000\n\
+        grid amount 12000 taken 3000 given 0\n\
+        ticks 1 minutes 60\n"
+    );
+    assert_eq!(rt;
+        billed(alloc, &plan_of(alloc, &LIMITED, 10)?)?.as_str(),
+        "account flex1 amount 4500 taken 1500 given 0\n\
+        account gen amount 0 taken 0 given 1500\n\
+        grid amount -4500 taken 0 given 0\n\
+        ticks 1 minutes 10\n"
+    );
+    Ok(())
+}
+
+/// Whether a node of the plan is a device.
+fn has_device(plan: &Plan, node: u32) -> bool
+    ensures { result ≡ true → leaf_at (leaves_of plan.now.entries) node ≡ true }
+{
+    node <= plan.tree().len() && plan.tree().is_leaf(NodeId(node))
+}
+
+/// An hour in which node 1 takes 100 watts and node 2 gives 150, both at price 4.
+fn add_hour(bill: &mut Bill)
+    requires first { bill.old.ticks ≡ 0 }
+    requires load { leaf_at bill.old.leaves 1 ≡ true }
+    requires generator { leaf_at bill.old.leaves 2 ≡ true }
+    ensures leaves { bill.new.leaves ≡ bill.old.leaves }
+{
+    let load = Share {
+        node: 1,
+        price: 4,
+        power: 100,
+    };
+    let generator = Share {
+        node: 2,
+        price: 4,
+        power: -150,
+    };
+    let all = GroupSum {
+        price: 4,
+        power: -50,
+    };
+    bill.tick(&[load, generator], &[all], 60);
+}
+
+/// An account of these numbers.
+fn account(amount: i128, taken: i128, given: i128) -> Account {
+    Account {
+        amount,
+        taken,
+        given,
+    }
+}
+
+#[test]
+fn the_grid_takes_what_is_left_over(rt: HostRuntime) -> Result<(), Fail> {
+    let alloc = rt.alloc();
+    let plan = plan_of(alloc, &UNLIMITED, 60)?;
+    let mut bill = Bill::open(alloc, &plan)?;
+    assert_eq!(rt; bill.grid(), account(0, 0, 0));
+    if !has_device(&plan, 1) || !has_device(&plan, 2) {
+        return Err("no devices".into());
+    }
+    add_hour(&mut bill);
+    assert_eq!(rt; bill.account(NodeId(1)), account(24_000, 6000, 0));
+    assert_eq!(rt; bill.account(NodeId(2)), account(-36_000, 0, 9000));
+    assert_eq!(rt; bill.grid(), account(12_000, 3000, 0));
+    Ok(())
+}
+
+fn may_be_shared<T: Send + Sync>(_value: &T) {}
+
+/// Bills, accounts, shares and groups may be sent to threads and shared by them: it is proved here.
+#[test]
+fn bills_may_be_shared(rt: HostRuntime) -> Result<(), Fail> {
+    let alloc = rt.alloc();
+    let bill = Bill::open(alloc, &plan_of(alloc, &UNLIMITED, 1)?)?;
+    may_be_shared(&bill);
+    may_be_shared(&bill.grid());
+    let (node, price, power) = (1, 0, 0);
+    may_be_shared(&Share { node, price, power });
+    may_be_shared(&GroupSum { price, power });
+    Ok(())
+}

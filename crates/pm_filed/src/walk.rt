@@ -1,0 +1,213 @@
+ghost use Rattle.std.specs.Prelude.{◌≡◌, ℕ, ◌≤◌, length, map, true, IfOk};
+ghost use Rattle.pm_tree.specs.Entries.{entries_of, leaves_of};
+ghost use Rattle.pm_plan.specs.Parts.{is_device, node_part};
+ghost use Rattle.pm_plan.specs.Plans.{change_count};
+ghost use Rattle.pm_walk.specs.Cuts.{file_cut};
+
+use pm_basis::Basis;
+use pm_device::Kind;
+use pm_plan::{EventSpec, MemberLine, NodeSpec, PhaseEnd, PhaseSpec, Plan, StateSpec};
+use pm_tree::{NodeId, Tree, TreeEntry};
+use pm_walk::{all_ends, end_of_cut};
+use std::alloc::{AllocError, Global};
+use std::test::Fail;
+
+/// A phase's end in numbers: step, price, total; then node, power and number of each member.
+#[derive(Clone, Copy)]
+struct Due {
+    end: (u32, i64, i64),
+    members: &'static [(u32, i64, u32)],
+}
+
+/// A battery that holds half its charge, and a load of 200 watts: the entries of a tree, and what a plan takes of them.
+fn parts_of(alloc: Global) -> Result<(Vec<TreeEntry>, Vec<NodeSpec>), AllocError>
+    ensures { IfOk result (λ parts. map is_device (map node_part parts.1.items) ≡ leaves_of (entries_of parts.0.items)) }
+{
+    let mut entries = Vec::new(alloc);
+    entries.push(TreeEntry {
+        name: String::from_str(alloc, "battery")?,
+        parent: String::from_str(alloc, "auctioneer")?,
+        leaf: true,
+    })?;
+    entries.push(TreeEntry {
+        name: String::from_str(alloc, "load")?,
+        parent: String::from_str(alloc, "auctioneer")?,
+        leaf: true,
+    })?;
+    let mut nodes = Vec::new(alloc);
+    nodes.push(NodeSpec::Device {
+        kind: Kind::Battery {
+            capacity: 1000,
+            charge: 400,
+            discharge: 400,
+            spread: 1,
+        },
+        start: StateSpec::Number(500),
+    })?;
+    nodes.push(NodeSpec::Device {
+        kind: Kind::Load,
+        start: StateSpec::Number(200),
+    })?;
+    Ok((entries, nodes))
+}
+
+/// The join of the device of this name.
+fn join(alloc: Global, name: &str) -> Result<EventSpec, AllocError> {
+    let device = String::from_str(alloc, name)?;
+    Ok(EventSpec::Join { device })
+}
+
+/// Both join; a quarter of an hour goes by; the load takes 500 watts.
+fn phases_of(alloc: Global) -> Result<Vec<PhaseSpec>, AllocError> {
+    let joins = Vec::from_array(alloc, [join(alloc, "battery")?, join(alloc, "load")?])?;
+    let device = String::from_str(alloc, "load")?;
+    let value = StateSpec::Number(500);
+    let states = Vec::from_array(alloc, [EventSpec::State { device, value }])?;
+    Ok(Vec::from_array(
+        alloc,
+        [
+            PhaseSpec::Events(joins),
+            PhaseSpec::Tick { minutes: 15 },
+            PhaseSpec::Events(states),
+        ],
+    )?)
+}
+
+/// The plan of these parts and phases.
+fn make_plan(alloc: Global, basis: Basis, phases: Vec<PhaseSpec>) -> Result<Plan, Fail> {
+    let (entries, nodes) = parts_of(alloc)?;
+    let tree = Tree::new(alloc, entries)?;
+    Ok(Plan::new(alloc, basis, tree, nodes, phases)?)
+}
+
+/// The plan of a battery and a load over the prices 0 to 9 in 10 steps.
+fn plan_of(alloc: Global) -> Result<Plan, Fail> {
+    make_plan(alloc, Basis::new(0, 9, 10)?, phases_of(alloc)?)
+}
+
+/// Whether an end has these numbers.
+fn is_due(end: &PhaseEnd, due: Due) -> bool {
+    let (step, price, total) = due.end;
+    let mut right = end.step() == step
+        && end.price() == price
+        && end.total() == total
+        && end.members().len() == due.members.len()
+        && end.limited().is_empty();
+    for (line, (node, power, number)) in end.members().iter().zip(due.members) {
+        let wanted = MemberLine {
+            node: *node,
+            power: *power,
+            number: *number,
+        };
+        right = right && *line == wanted;
+    }
+    right
+}
+
+/// 500 watt-hours: 400 watts at steps 0 to 2, -400 from 6. A quarter of an hour at -400 watts leaves 400 watt-hours:
+/// 400 watts at steps 0 to 3, -400 from 7.
+#[test]
+fn the_ends_of_all_phases(rt: HostRuntime) -> Result<(), Fail> {
+    let alloc = rt.alloc();
+    let rows = [
+        Due {
+            end: (6, 6, -200),
+            members: &[(1, -400, 1), (2, 200, 1)],
+        },
+        Due {
+            end: (7, 7, -200),
+            members: &[(1, -400, 2), (2, 200, 1)],
+        },
+        Due {
+            end: (9, 9, 100),
+            members: &[(1, -400, 2), (2, 500, 2)],
+        },
+    ];
+    let plan = plan_of(alloc)?;
+    let ends = all_ends(alloc, &plan)?;
+    assert_eq!(rt; ends.len(), 3);
+    for (end, due) in ends.iter().zip(&rows) {
+        assert!(rt; is_due(end, *due));
+    }
+    Ok(())
+}
+
+/// Whether a node has so many changes.
+fn has_changes(plan: &Plan, node: NodeId, count: u32) -> bool
+    requires { node.0 ≤ length plan.now.nodes }
+    ensures { result ≡ true → count ≤ change_count plan.now node.0 }
+{
+    if count == 0 {
+        return true;
+    }
+    if !plan.tree().is_leaf(node) {
+        return false;
+    }
+    plan.planned(node, count).is_some()
+}
+
+/// Whether a list is a cut of the plan's nodes.
+fn is_cut(plan: &Plan, cut: &[u32]) -> bool
+    ensures one_each { result ≡ true → length cut.now ≡ length plan.now.nodes }
+    ensures planned { result ≡ true → ((x : ℕ) → 1 ≤ x → x ≤ length plan.now.nodes → file_cut cut.now x ≤ change_count plan.now x) }
+{
+    if cut.len() != plan.tree().len() as usize {
+        return false;
+    }
+    for number in 1..plan.tree().len() + 1 {
+        if !has_changes(plan, NodeId(number), cut[number as usize - 1]) {
+            return false;
+        }
+    }
+    true
+}
+
+/// The end over a list that is a cut.
+fn planned_end(alloc: Global, plan: &Plan, cut: &[u32]) -> Result<PhaseEnd, Fail> {
+    if !is_cut(plan, cut) {
+        return Err(Fail::from("no cut"));
+    }
+    Ok(end_of_cut(alloc, plan, cut)?)
+}
+
+/// The battery after its tick or before it, with the load before or after its new state.
+#[test]
+fn the_end_over_a_cut(rt: HostRuntime) -> Result<(), Fail> {
+    let alloc = rt.alloc();
+    let plan = plan_of(alloc)?;
+    let rows: [([u32; 2], Due); 4] = [
+        (
+            [0, 0],
+            Due {
+                end: (0, 0, 0),
+                members: &[],
+            },
+        ),
+        (
+            [0, 1],
+            Due {
+                end: (9, 9, 200),
+                members: &[(2, 200, 1)],
+            },
+        ),
+        (
+            [1, 2],
+            Due {
+                end: (9, 9, 100),
+                members: &[(1, -400, 1), (2, 500, 2)],
+            },
+        ),
+        (
+            [2, 1],
+            Due {
+                end: (7, 7, -200),
+                members: &[(1, -400, 2), (2, 200, 1)],
+            },
+        ),
+    ];
+    for (cut, due) in rows {
+        let end = planned_end(alloc, &plan, &cut)?;
+        assert!(rt; is_due(&end, due));
+    }
+    Ok(())
+}

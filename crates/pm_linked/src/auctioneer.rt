@@ -1,0 +1,77 @@
+ghost use Rattle.std.specs.Prelude.{◌≡◌, length, IfOk};
+ghost use Rattle.pm_bid.specs.Bids.{AllWithinLimit};
+ghost use Rattle.pm_base.specs.Limits.{demand_limit};
+ghost use Rattle.pm_cache.specs.Learning.{HasSingleBids};
+ghost use Rattle.pm_session.specs.Prices.{IsNewIndex};
+
+use pm_auctioneer::{Auctioneer, ClearFault, Cleared};
+use pm_bid::{ArrayBid, Steps};
+use pm_cache::CacheFault;
+use pm_session::Link;
+use std::alloc::Global;
+use std::marker::Brand;
+use std::test::Fail;
+
+/// A load of 100 watts at ten steps.
+fn load(alloc: Global) -> Result<ArrayBid, Fail>
+    ensures steps { IfOk result (λ bid. length bid ≡ 10) }
+    ensures small { IfOk result (λ bid. AllWithinLimit demand_limit bid) }
+{
+    let demands = [100; 10].to_vec(alloc)?;
+    Ok(ArrayBid::new(demands, 10, &mut Steps::<Brand>::start())?)
+}
+
+/// Learns the only child's bid of ten steps under number 1.
+fn learn(auctioneer: &mut Auctioneer, bid: &ArrayBid) -> Result<(), CacheFault>
+    requires child { length auctioneer.old.cache.heads ≡ 1 }
+    requires steps { auctioneer.old.cache.steps ≡ 10 }
+    requires bid_steps { length bid.now ≡ 10 }
+    requires small { AllWithinLimit demand_limit bid.now }
+    requires single { HasSingleBids auctioneer.old.cache }
+    ensures child { length auctioneer.new.cache.heads ≡ 1 }
+    ensures steps { auctioneer.new.cache.steps ≡ 10 }
+    ensures single { HasSingleBids auctioneer.new.cache }
+    ensures index { auctioneer.new.index ≡ auctioneer.old.index }
+{
+    let _heads = auctioneer.cache().heads();
+    auctioneer.learn(0, 1, Some(bid))
+}
+
+/// A link of ten steps on which nothing was offered.
+fn new_downs(alloc: Global) -> Result<[Link; 1], Fail>
+    ensures new { IfOk result (λ downs. IsNewIndex 2 downs × IsNewIndex 1 downs) }
+    ensures one { IfOk result (λ downs. length downs ≡ 1) }
+{
+    Ok([Link::new(alloc, 10)?])
+}
+
+#[test]
+fn the_market_clears_where_something_was_learnt(rt: HostRuntime) -> Result<(), Fail> {
+    let alloc = rt.alloc();
+    let load = load(alloc)?;
+    let mut auctioneer = Auctioneer::new(alloc, 1, 10)?;
+    let mut downs = new_downs(alloc)?;
+    let not_changed = Err(ClearFault::NotChanged);
+    assert_eq!(rt; auctioneer.clear(&mut downs), not_changed);
+    assert_eq!(rt; learn(&mut auctioneer, &load), Ok(()));
+    let cleared = Cleared { index: 1, step: 9 };
+    assert_eq!(rt; auctioneer.clear(&mut downs), Ok(cleared));
+    let price = downs[0].take_price().ok_or("no price")?;
+    assert_eq!(rt; (price.step, price.number, price.index), (9, 1, 1));
+    let mut downs = new_downs(alloc)?;
+    assert_eq!(rt; auctioneer.clear(&mut downs), not_changed);
+    let old = CacheFault::Old { kept: 1 };
+    assert_eq!(rt; learn(&mut auctioneer, &load), Err(old));
+    Ok(())
+}
+
+fn may_be_shared<T: Send + Sync>(_value: &T) {}
+
+/// Auctioneers, clearings and faults may be sent to threads and shared by them: it is proved here.
+#[test]
+fn auctioneers_may_be_shared(rt: HostRuntime) -> Result<(), Fail> {
+    may_be_shared(&Cleared { index: 1, step: 0 });
+    may_be_shared(&ClearFault::NotChanged);
+    may_be_shared(&Auctioneer::new(rt.alloc(), 1, 2)?);
+    Ok(())
+}

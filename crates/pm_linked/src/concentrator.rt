@@ -1,0 +1,174 @@
+ghost use Rattle.std.specs.Prelude.{◌≡◌, ◌+◌, ◌<◌, ◌≤◌, length, IfOk};
+ghost use Rattle.pm_bid.specs.Bids.{AllWithinLimit};
+ghost use Rattle.pm_base.specs.Limits.{demand_limit};
+ghost use Rattle.pm_cache.specs.Learning.{HasSingleBids};
+ghost use Rattle.pm_session.specs.Prices.{IsNewIndex};
+ghost use Rattle.pm_concentrator.specs.Limited.{IsStepOf};
+
+use pm_bid::{ArrayBid, Steps};
+use pm_cache::CacheFault;
+use pm_concentrator::{Concentrator, PublishFault};
+use pm_session::{Link, PriceUpdate};
+use std::alloc::Global;
+use std::marker::Brand;
+use std::process::Abort;
+use std::test::Fail;
+
+/// The bid of these demands at ten steps.
+fn bid_of(alloc: Global, demands: [i64; 10]) -> Result<ArrayBid, Fail>
+    ensures steps { IfOk result (λ bid. length bid ≡ 10) }
+    ensures small { IfOk result (λ bid. AllWithinLimit demand_limit bid) }
+{
+    let demands = demands.to_vec(alloc)?;
+    Ok(ArrayBid::new(demands, 10, &mut Steps::<Brand>::start())?)
+}
+
+/// Learns a child's bid of ten steps.
+fn learn(c: &mut Concentrator, child: usize, number: u32, bid: &ArrayBid) -> Result<(), CacheFault>
+    requires child { child < length c.old.cache.heads }
+    requires steps { c.old.cache.steps ≡ 10 }
+    requires bid_steps { length bid.now ≡ 10 }
+    requires small { AllWithinLimit demand_limit bid.now }
+    requires single { HasSingleBids c.old.cache }
+    ensures children { length c.new.cache.heads ≡ length c.old.cache.heads }
+    ensures steps { c.new.cache.steps ≡ 10 }
+    ensures single { HasSingleBids c.new.cache }
+    ensures window { c.new.window ≡ c.old.window }
+    ensures limits { c.new.limits ≡ c.old.limits }
+{
+    let _heads = c.cache().heads();
+    c.learn(child, number, Some(bid))
+}
+
+/// Learns the only child's bid under the next number, and publishes that number.
+fn publishes(rt: &impl Abort, c: &mut Concentrator, up: &mut Link, number: u32, bid: &ArrayBid)
+    requires number { number ≡ c.old.window.last + 1 }
+    requires few { number < 100 }
+    requires offered { up.old.up.offered ≡ c.old.window.last }
+    requires up_steps { up.old.steps ≡ 10 }
+    requires child { length c.old.cache.heads ≡ 1 }
+    requires steps { c.old.cache.steps ≡ 10 }
+    requires bid_steps { length bid.now ≡ 10 }
+    requires small { AllWithinLimit demand_limit bid.now }
+    requires single { HasSingleBids c.old.cache }
+    ensures last { c.new.window.last ≡ number }
+    ensures offered { up.new.up.offered ≡ number }
+    ensures up_steps { up.new.steps ≡ 10 }
+    ensures child { length c.new.cache.heads ≡ 1 }
+    ensures steps { c.new.cache.steps ≡ 10 }
+    ensures single { HasSingleBids c.new.cache }
+    ensures limits { c.new.limits ≡ c.old.limits }
+{
+    assert_eq!(rt; learn(c, 0, number, bid), Ok(()));
+    assert_eq!(rt; c.publish(up), Ok(number));
+}
+
+/// So many links of ten steps on which nothing was offered.
+fn new_links(alloc: Global, count: usize) -> Result<Vec<Link>, Fail>
+    ensures count { IfOk result (λ links. length links.items ≡ count) }
+    ensures new { IfOk result (λ links. IsNewIndex 1 links.items) }
+{
+    let mut links = Vec::with_capacity(alloc, count)?;
+    for _link in 0..count {
+        links.push(Link::new(alloc, 10)?)?;
+    }
+    Ok(links)
+}
+
+/// Passes a price of this step that answers the number, under index 1, and takes it as child 0.
+fn passed(
+    rt: &impl Abort,
+    c: &mut Concentrator,
+    downs: &mut [Link],
+    step: u32,
+    number: u32,
+) -> Option<PriceUpdate>
+    requires downs { length downs.old ≡ length c.old.cache.heads }
+    requires child { 1 ≤ length downs.old }
+    requires new { IsNewIndex 1 downs.old }
+    requires step { IsStepOf c.old.limits c.old.cache.steps step }
+    ensures cache { c.new.cache ≡ c.old.cache }
+    ensures limits { c.new.limits ≡ c.old.limits }
+    ensures last { c.new.window.last ≡ c.old.window.last }
+{
+    let index = 1;
+    let price = PriceUpdate {
+        step,
+        number,
+        index,
+    };
+    assert!(rt; c.keeps(number));
+    assert_eq!(rt; c.pass(price, downs), Ok(()));
+    downs[0].take_price()
+}
+
+#[test]
+fn a_full_window_publishes_after_a_price(rt: HostRuntime) -> Result<(), Fail> {
+    let alloc = rt.alloc();
+    let load = bid_of(alloc, [100; 10])?;
+    let mut c = Concentrator::new(alloc, 1, 10)?;
+    let mut up = Link::new(alloc, 10)?;
+    assert_eq!(rt; c.publish(&mut up), Err(PublishFault::NotChanged));
+    for number in 1..9 {
+        publishes(&rt, &mut c, &mut up, number, &load);
+    }
+    assert_eq!(rt; c.publish(&mut up), Err(PublishFault::NotChanged));
+    assert_eq!(rt; learn(&mut c, 0, 9, &load), Ok(()));
+    let full = PublishFault::WindowFull { unanswered: 8 };
+    assert_eq!(rt; c.publish(&mut up), Err(full));
+    let mut downs = new_links(alloc, 1)?;
+    let price = passed(&rt, &mut c, &mut downs, 9, 8).ok_or("no price")?;
+    assert_eq!(rt; (price.step, price.number, price.index), (9, 8, 1));
+    assert_eq!(rt; c.publish(&mut up), Ok(9));
+    Ok(())
+}
+
+/// The step that goes down to child 0 of two for a price of this step that answers number 1.
+fn step_below(rt: &impl Abort, alloc: Global, c: &mut Concentrator, step: u32) -> Result<u32, Fail>
+    requires children { length c.old.cache.heads ≡ 2 }
+    requires step { IsStepOf c.old.limits c.old.cache.steps step }
+    ensures children { length c.new.cache.heads ≡ 2 }
+    ensures steps { c.new.cache.steps ≡ c.old.cache.steps }
+    ensures limits { c.new.limits ≡ c.old.limits }
+{
+    let mut downs = new_links(alloc, 2)?;
+    let price = passed(rt, c, &mut downs, step, 1).ok_or("no price")?;
+    Ok(price.step)
+}
+
+/// Publishes under number 1 on a new link.
+fn publishes_first(rt: &impl Abort, alloc: Global, c: &mut Concentrator) -> Result<(), Fail>
+    requires last { c.old.window.last ≡ 0 }
+    requires steps { c.old.cache.steps ≡ 10 }
+    ensures children { length c.new.cache.heads ≡ length c.old.cache.heads }
+    ensures steps { c.new.cache.steps ≡ 10 }
+    ensures limits { c.new.limits ≡ c.old.limits }
+{
+    let mut up = Link::new(alloc, 10)?;
+    assert_eq!(rt; c.publish(&mut up), Ok(1));
+    Ok(())
+}
+
+/// The second child sends nothing: the sum is above the ceiling, below the floor and between them.
+#[test]
+fn the_local_step_is_within_the_limits(rt: HostRuntime) -> Result<(), Fail> {
+    let alloc = rt.alloc();
+    let bid = bid_of(alloc, [300, 250, 200, 150, 100, 50, 0, -50, -100, -150])?;
+    let mut c = Concentrator::limited(alloc, 2, 10, -100, 150)?;
+    assert_eq!(rt; learn(&mut c, 0, 1, &bid), Ok(()));
+    publishes_first(&rt, alloc, &mut c)?;
+    assert_eq!(rt; step_below(&rt, alloc, &mut c, 0)?, 3);
+    assert_eq!(rt; step_below(&rt, alloc, &mut c, 9)?, 8);
+    assert_eq!(rt; step_below(&rt, alloc, &mut c, 5)?, 5);
+    Ok(())
+}
+
+fn may_be_shared<T: Send + Sync>(_value: &T) {}
+
+/// Concentrators and faults may be sent to threads and shared by them: it is proved here.
+#[test]
+fn concentrators_may_be_shared(rt: HostRuntime) -> Result<(), Fail> {
+    may_be_shared(&PublishFault::NotChanged);
+    may_be_shared(&Concentrator::limited(rt.alloc(), 1, 2, 0, 0)?);
+    Ok(())
+}

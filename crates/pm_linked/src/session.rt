@@ -1,0 +1,122 @@
+ghost use Rattle.std.specs.Prelude.{◌≡◌, length, IfOk};
+ghost use Rattle.pm_session.specs.Windows.{Keeps};
+
+use pm_bid::{ArrayBid, Steps};
+use pm_session::{BidHead, Link, Port, PriceUpdate, Window};
+use std::alloc::Global;
+use std::marker::Brand;
+use std::process::Abort;
+use std::test::Fail;
+
+/// A load of 100 watts at ten steps.
+fn load(alloc: Global) -> Result<ArrayBid, Fail>
+    ensures { IfOk result (λ bid. length bid ≡ 10) }
+{
+    let demands = vec![in alloc; 100; 10]?;
+    Ok(ArrayBid::new(demands, 10, &mut Steps::<Brand>::start())?)
+}
+
+#[test]
+fn the_price_that_waits_is_given_once(rt: HostRuntime) -> Result<(), Fail> {
+    let mut link = Link::new(rt.alloc(), 10)?;
+    let price = PriceUpdate {
+        step: 9,
+        number: 1,
+        index: 1,
+    };
+    assert_eq!(rt; link.take_price(), None);
+    assert_eq!(rt; link.offer_price(price), Ok(()));
+    assert_eq!(rt; link.take_price(), Some(price));
+    assert_eq!(rt; link.take_price(), None);
+    Ok(())
+}
+
+#[test]
+fn the_newest_bid_is_given_alone(rt: HostRuntime) -> Result<(), Fail> {
+    let alloc = rt.alloc();
+    let load = load(alloc)?;
+    let mut link = Link::new(alloc, 10)?;
+    let mut taken = ArrayBid::zero(alloc, 10, &mut Steps::<Brand>::start())?;
+    assert_eq!(rt; link.offer_bid(1, Some(&load)), Ok(()));
+    assert_eq!(rt; link.offer_bid(2, None), Ok(()));
+    let gone = BidHead {
+        number: 2,
+        gone: true,
+    };
+    assert_eq!(rt; link.take_bid(&mut taken), Some(gone));
+    assert_eq!(rt; link.take_bid(&mut taken), None);
+    Ok(())
+}
+
+/// Answers number 1 with its record, after which there is room for 8 more.
+fn gives_the_record(rt: &impl Abort, window: &mut Window, head: BidHead)
+    requires kept { Keeps window.old 1 }
+    ensures kept { Keeps window.new 1 }
+{
+    let record = window.answered(1);
+    assert_eq!(rt; record.number(), 1);
+    assert_eq!(rt; record.children(), [head].as_slice());
+    assert!(rt; record.sum().is_none());
+    assert_eq!(rt; window.room(), 8);
+}
+
+#[test]
+fn the_record_that_is_answered_is_kept(rt: HostRuntime) -> Result<(), Fail> {
+    let head = BidHead {
+        number: 1,
+        gone: false,
+    };
+    let mut window = Window::new(rt.alloc(), 1)?;
+    assert_eq!(rt; window.room(), 8);
+    assert_eq!(rt; window.sent(1, &[head]), Ok(()));
+    assert_eq!(rt; window.room(), 7);
+    gives_the_record(&rt, &mut window, head);
+    gives_the_record(&rt, &mut window, head);
+    Ok(())
+}
+
+#[test]
+fn a_port_drops_the_price_of_a_former_session(rt: HostRuntime) -> Result<(), Fail> {
+    let price = |step, number, index| PriceUpdate {
+        step,
+        number,
+        index,
+    };
+    let mut port = Port::new();
+    port.joined(1);
+    port.price(price(9, 1, 1));
+    assert_eq!(rt; port.held().map(|h| (h.step, h.number)), Some((9, 1)));
+    port.left();
+    assert_eq!(rt; port.held(), None);
+    port.joined(3);
+    port.price(price(4, 1, 2));
+    assert_eq!(rt; port.held(), None);
+    port.price(price(4, 3, 3));
+    assert_eq!(rt; port.held().map(|h| (h.step, h.number)), Some((4, 3)));
+    Ok(())
+}
+
+fn may_be_shared<T: Send + Sync>(_value: &T) {}
+
+/// Links, windows, records, ports and prices may be sent to threads and shared by them: it is
+/// proved here.
+#[test]
+fn sessions_may_be_shared(rt: HostRuntime) -> Result<(), Fail> {
+    let alloc = rt.alloc();
+    let price = PriceUpdate {
+        step: 9,
+        number: 1,
+        index: 1,
+    };
+    let mut port = Port::new();
+    port.joined(1);
+    port.price(price);
+    let window = Window::limited(alloc, 1, 2)?;
+    may_be_shared(&price);
+    may_be_shared(&port.held());
+    may_be_shared(&port);
+    may_be_shared(&Link::new(alloc, 2)?);
+    may_be_shared(window.newest());
+    may_be_shared(&window);
+    Ok(())
+}

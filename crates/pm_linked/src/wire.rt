@@ -1,0 +1,165 @@
+ghost use Rattle.std.specs.Prelude.{◌≤◌};
+
+use pm_io::{MemSink, MemSource};
+use pm_wire::{Answer, DecodeFault, Decoder, Frame, Served, Server, serve};
+use std::alloc::Global;
+use std::process::Abort;
+use std::test::Fail;
+
+/// Serves the input in pieces of so many bytes, and compares how it ends and what is answered.
+fn serves_in_pieces(
+    rt: &impl Abort,
+    alloc: Global,
+    chunk: usize,
+    input: &[u8],
+    wanted: (Served, &[u8]),
+) -> Result<(), Fail>
+    requires { 1 ≤ chunk }
+{
+    let mut source = MemSource::new(input.to_vec(alloc)?, chunk, Vec::new(alloc));
+    let mut sink = MemSink::new(alloc, 1_048_576, chunk, Vec::new(alloc))?;
+    let (ended, answers) = wanted;
+    assert_eq!(rt; serve(alloc, &mut source, &mut sink), ended);
+    assert_eq!(rt; sink.bytes(), answers);
+    Ok(())
+}
+
+/// Serves the input in pieces of 1, 7 and 100 bytes.
+fn serves(
+    rt: &impl Abort,
+    alloc: Global,
+    input: &[u8],
+    ended: Served,
+    answers: &[u8],
+) -> Result<(), Fail> {
+    serves_in_pieces(rt, alloc, 1, input, (ended, answers))?;
+    serves_in_pieces(rt, alloc, 7, input, (ended, answers))?;
+    serves_in_pieces(rt, alloc, 100, input, (ended, answers))
+}
+
+/// Hello of two steps: prices 0 and 9.
+const HELLO: [u8; 11] = [1, 0, 0, 0, 0, 0, 0, 0, 9, 0, 2];
+
+/// A bid of child 1 under number 1: 5 watts at step 0, and -3 at step 1.
+const BID: [u8; 15] = [2, 0, 1, 0, 0, 0, 1, 0, 0, 0, 5, 255, 255, 255, 253];
+
+/// The input of these parts.
+fn input_of(alloc: Global, parts: &[&[u8]]) -> Result<Vec<u8>, Fail> {
+    let mut input = Vec::new(alloc);
+    for part in parts {
+        input.extend_from_slice(part)?;
+    }
+    Ok(input)
+}
+
+/// The price of the first clearing, and that of the second one.
+const PRICE: [u8; 13] = [5, 0, 1, 0, 0, 0, 1, 0, 0, 0, 1, 0, 1];
+
+const SECOND: [u8; 13] = [5, 0, 1, 0, 0, 0, 1, 0, 0, 0, 2, 0, 1];
+
+/// A market that is cleared twice without a change between.
+#[test]
+fn a_second_clear_finds_nothing_changed(rt: HostRuntime) -> Result<(), Fail> {
+    let alloc = rt.alloc();
+    let input = input_of(alloc, &[&HELLO, &BID, &[4, 4]])?;
+    let answers = input_of(alloc, &[&PRICE, &[6]])?;
+    serves(&rt, alloc, &input, Served::Done, &answers)
+}
+
+/// An input that ends within a frame, and an empty one.
+#[test]
+fn an_end_within_a_frame_is_refused(rt: HostRuntime) -> Result<(), Fail> {
+    let alloc = rt.alloc();
+    let input = input_of(alloc, &[&HELLO, &[2, 0]])?;
+    let fault = [8, 0, 0, 0, 0, 0, 0, 0, 11];
+    serves(&rt, alloc, &input, Served::Refused, &fault)?;
+    serves(&rt, alloc, &[], Served::Done, &[])
+}
+
+/// A bid that comes again is old, and a child that is gone gets no price.
+#[test]
+fn an_old_bid_is_answered(rt: HostRuntime) -> Result<(), Fail> {
+    let alloc = rt.alloc();
+    let input = input_of(alloc, &[&HELLO, &BID, &BID, &[3, 0, 2, 0, 0, 0, 7, 4]])?;
+    let answers = input_of(alloc, &[&[7, 0, 1, 0, 0, 0, 1], &PRICE])?;
+    serves(&rt, alloc, &input, Served::Done, &answers)
+}
+
+/// A child that goes is a change, also where it moves no sum; behind the prices the frame of an unknown kind is bad.
+#[test]
+fn a_change_without_a_new_sum_is_cleared(rt: HostRuntime) -> Result<(), Fail> {
+    let alloc = rt.alloc();
+    let gone = [3, 0, 2, 0, 0, 0, 8];
+    let input = input_of(alloc, &[&HELLO, &BID, &[4], &gone, &[4], &[9]])?;
+    let fault = [8, 0, 0, 0, 0, 0, 0, 0, 35];
+    let answers = input_of(alloc, &[&PRICE, &SECOND, &fault])?;
+    serves(&rt, alloc, &input, Served::Refused, &answers)
+}
+
+/// A source that fails at its third call, and a sink that fails at its second one.
+#[test]
+fn failures_end_the_service(rt: HostRuntime) -> Result<(), Fail> {
+    let alloc = rt.alloc();
+    let input = input_of(alloc, &[&HELLO, &BID, &[4, 4, 4, 4]])?;
+    let fails = [3].to_vec(alloc)?;
+    let mut source = MemSource::new(input, 27, fails);
+    let mut sink = MemSink::new(alloc, 100, 100, Vec::new(alloc))?;
+    assert_eq!(rt; serve(alloc, &mut source, &mut sink), Served::ReadFault);
+    assert_eq!(rt;
+        sink.bytes(),
+        [5, 0, 1, 0, 0, 0, 1, 0, 0, 0, 1, 0, 1, 6, 6, 6].as_slice()
+    );
+
+    let input = input_of(alloc, &[&HELLO, &BID, &[4, 4, 4, 4]])?;
+    let mut source = MemSource::new(input, 27, Vec::new(alloc));
+    let fails = [2].to_vec(alloc)?;
+    let mut sink = MemSink::new(alloc, 100, 100, fails)?;
+    assert_eq!(rt; serve(alloc, &mut source, &mut sink), Served::WriteFault);
+    assert_eq!(rt;
+        sink.bytes(),
+        [5, 0, 1, 0, 0, 0, 1, 0, 0, 0, 1, 0, 1].as_slice()
+    );
+    Ok(())
+}
+
+/// Pieces of any size give the frames, and the bytes of frames given are let go.
+#[test]
+fn frames_come_in_pieces(rt: HostRuntime) -> Result<(), Fail> {
+    let alloc = rt.alloc();
+    let mut decoder = Decoder::new(alloc);
+    decoder.feed(&HELLO)?;
+    decoder.feed(&BID)?;
+    decoder.feed(&[4, 9])?;
+    assert_eq!(rt; decoder.rest(), 28);
+    assert!(rt; matches!(decoder.next()?, Some(Frame::Hello { .. })));
+    assert!(rt;
+        matches!(
+            decoder.next()?,
+            Some(Frame::Bid {
+                child: 1,
+                number: 1,
+                ..
+            })
+        )
+    );
+    assert!(rt; matches!(decoder.next()?, Some(Frame::Clear)));
+    assert_eq!(rt; decoder.rest(), 1);
+    assert!(rt; matches!(decoder.next(), Err(DecodeFault::Bad { at: 27 })));
+    decoder.feed(&[4])?;
+    assert!(rt; matches!(decoder.next(), Err(DecodeFault::Bad { at: 27 })));
+    Ok(())
+}
+
+fn may_be_shared<T: Send + Sync>(_value: &T) {}
+
+/// The types of the crate may be sent to threads and shared by them: it is proved here.
+#[test]
+fn all_may_be_shared(rt: HostRuntime) {
+    let alloc = rt.alloc();
+    may_be_shared(&Frame::Clear);
+    may_be_shared(&Answer::NotChanged);
+    may_be_shared(&Served::Done);
+    may_be_shared(&DecodeFault::NoMemory);
+    may_be_shared(&Decoder::new(alloc));
+    may_be_shared(&Server::new(alloc));
+}

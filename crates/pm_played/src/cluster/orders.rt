@@ -1,0 +1,174 @@
+//! Phases that are driven by acts alone, in three orders: each order comes to the ends of the plain auction.
+
+use super::files::{BOTH_SIDES, CEILING, FLOOR, VILLAGE, plan_of};
+use super::hand::{End, act_at, act_count, close, ends_so, make, open};
+use pm_cluster::Cluster;
+use pm_market::Act;
+use pm_plan::Plan;
+use std::alloc::Global;
+use std::test::Fail;
+
+/// Whose acts are made first: those of the lowest node that has one, of the highest, or of each node in turn.
+#[derive(Clone, Copy, Debug, PartialEq, Eq)]
+enum Order {
+    LowestFirst,
+    HighestFirst,
+    RoundRobin,
+}
+
+/// Tries each act once, but for the turns of all nodes only up to the first that is legal; whether one was.
+fn try_acts(alloc: Global, cluster: &mut Cluster, order: Order) -> Result<bool, Fail> {
+    let many = act_count(cluster);
+    let mut moved = false;
+    for place in 0..many {
+        let place = if order == Order::HighestFirst {
+            many - 1 - place
+        } else {
+            place
+        };
+        if make(alloc, cluster, act_at(place))?.is_some() {
+            moved = true;
+            if order != Order::RoundRobin {
+                return Ok(true);
+            }
+        }
+    }
+    Ok(moved)
+}
+
+/// Makes acts until none is legal.
+fn settle(alloc: Global, cluster: &mut Cluster, order: Order) -> Result<(), Fail> {
+    for _turn in 0..10_000u32 {
+        if !try_acts(alloc, cluster, order)? {
+            return Ok(());
+        }
+    }
+    Err(Fail::from("there is always an act"))
+}
+
+/// Whether a phase cannot be closed before its changes are made, ends so, and can then be closed, by the call or an act.
+fn runs_phase(alloc: Global, cluster: &mut Cluster, order: Order, due: End) -> Result<bool, Fail> {
+    let early = close(cluster);
+    settle(alloc, cluster, order)?;
+    let right = ends_so(alloc, cluster, due)?;
+    let closed = if order == Order::RoundRobin {
+        make(alloc, cluster, Act::Close)?.is_some()
+    } else {
+        close(cluster)
+    };
+    Ok(!early && right && closed)
+}
+
+/// The place of the first phase that ends otherwise.
+fn first_wrong(
+    alloc: Global,
+    plan: &Plan,
+    order: Order,
+    ends: &[End],
+) -> Result<Option<usize>, Fail> {
+    let mut cluster = open(alloc, plan)?;
+    for (place, due) in ends.iter().enumerate() {
+        if !runs_phase(alloc, &mut cluster, order, *due)? {
+            return Ok(Some(place));
+        }
+    }
+    Ok(None)
+}
+
+const ORDERS: [Order; 3] = [Order::LowestFirst, Order::HighestFirst, Order::RoundRobin];
+
+/// The two loads rest from step 6 on; the device would take 300 watts where the whole balances; it would deliver 150 there.
+const PARTS: [(&str, End); 3] = [
+    (
+        CEILING,
+        (
+            (0, 0, 0),
+            (&[2, 3, 4], &[0, 0, -150], &[1, 1, 1]),
+            &[(1, 6, 0)],
+        ),
+    ),
+    (
+        FLOOR,
+        ((0, 0, 0), (&[2, 3], &[150, -150], &[1, 1]), &[(1, 3, 150)]),
+    ),
+    (
+        BOTH_SIDES,
+        (
+            (9, 9, 300),
+            (&[2, 3], &[-100, 400], &[1, 1]),
+            &[(1, 8, -100)],
+        ),
+    ),
+];
+
+#[test]
+fn a_limited_part_keeps_to_its_limits_in_each_order(rt: HostRuntime) -> Result<(), Fail> {
+    let alloc = rt.alloc();
+    for (part, (file, end)) in PARTS.iter().enumerate() {
+        let plan = plan_of(alloc, *file)?;
+        for order in ORDERS {
+            let wrong = first_wrong(alloc, &plan, order, &[*end])?;
+            assert_eq!(rt; wrong, None, "part {part}, {order:?}");
+        }
+    }
+    Ok(())
+}
+
+const VILLAGE_ENDS: [End; 5] = [
+    (
+        (40, 40, 0),
+        (
+            &[3, 4, 5, 6, 7, 8, 9],
+            &[200, 0, 1000, -2000, -800, 1200, 400],
+            &[1, 1, 1, 1, 1, 1, 1],
+        ),
+        &[],
+    ),
+    (
+        (47, 47, -1270),
+        (
+            &[3, 4, 5, 6, 7, 8, 9],
+            &[0, 0, 0, -2000, -800, 1200, 330],
+            &[2, 2, 2, 2, 1, 1, 1],
+        ),
+        &[],
+    ),
+    (
+        (50, 50, -800),
+        (
+            &[3, 4, 5, 6, 7, 8, 9, 10],
+            &[0, 0, -1000, -2000, -300, 1200, 300, 1000],
+            &[2, 2, 2, 2, 2, 1, 1, 1],
+        ),
+        &[],
+    ),
+    (
+        (60, 60, -900),
+        (
+            &[3, 4, 5, 6, 7, 8, 9, 10],
+            &[0, 0, -1000, -2000, -300, 1200, 200, 1000],
+            &[3, 3, 3, 3, 2, 1, 1, 1],
+        ),
+        &[],
+    ),
+    (
+        (53, 53, -2330),
+        (
+            &[3, 4, 5, 6, 7, 9],
+            &[0, 0, 0, -2000, -300, -30],
+            &[3, 3, 3, 3, 2, 2],
+        ),
+        &[],
+    ),
+];
+
+#[test]
+fn a_village_comes_to_its_ends_in_each_order(rt: HostRuntime) -> Result<(), Fail> {
+    let alloc = rt.alloc();
+    let plan = plan_of(alloc, VILLAGE)?;
+    for order in ORDERS {
+        let wrong = first_wrong(alloc, &plan, order, &VILLAGE_ENDS)?;
+        assert_eq!(rt; wrong, None, "{order:?}");
+    }
+    Ok(())
+}

@@ -1,0 +1,11 @@
+//! Markets, clusters and boards that are driven move by move.
+//!
+//! A crate of tests alone: the crates that it tests are proved without them.
+#![tactic(auto)]
+
+#[cfg(test)]
+mod board;
+#[cfg(test)]
+mod cluster;
+#[cfg(test)]
+mod market;

@@ -1,0 +1,7 @@
+//! The work of the whole program, over sources and sinks in memory.
+//!
+//! A crate of tests alone: the crates that it tests are proved without them.
+#![tactic(auto)]
+
+#[cfg(test)]
+mod top;
