@@ -70,29 +70,36 @@ fn make_round(alloc: Global, cluster: &mut Cluster<'_>) -> Result<(), DriveFault
     Ok(())
 }
 
-/// Each node sends its bid, and its parent learns it. A parent stands before its children, so the last node comes first.
+/// Each node that has a new bid sends it, and its parent learns it. A parent stands before its children, so the last node
+/// comes first.
 fn send_bids(alloc: Global, cluster: &mut Cluster<'_>) -> Result<(), DriveFault> {
     let tree = cluster.plan().tree();
     for after in 0..tree.len() {
         let node = tree.len() - after;
-        if tree.is_leaf(NodeId(node)) {
-            change_device(alloc, cluster, node)?;
+        let sent = if tree.is_leaf(NodeId(node)) {
+            change_device(alloc, cluster, node)?
         } else {
-            try_act(alloc, cluster, Act::Publish { node })?;
+            try_act(alloc, cluster, Act::Publish { node })?
+        };
+        if sent {
+            try_act(alloc, cluster, Act::Learn { child: node })?;
         }
-        try_act(alloc, cluster, Act::Learn { child: node })?;
     }
     Ok(())
 }
 
-/// Makes the changes of a device until it has no more in the open phase.
-fn change_device(alloc: Global, cluster: &mut Cluster<'_>, device: u32) -> Result<(), DriveFault> {
-    for _ in 0..MOST_CHANGES {
+/// Makes the changes of a device until it has no more in the open phase, and tells whether it made any.
+fn change_device(
+    alloc: Global,
+    cluster: &mut Cluster<'_>,
+    device: u32,
+) -> Result<bool, DriveFault> {
+    for made in 0..MOST_CHANGES {
         if !try_act(alloc, cluster, Act::Change { device })? {
-            break;
+            return Ok(0 < made);
         }
     }
-    Ok(())
+    Ok(true)
 }
 
 /// Each node takes the price that waits for it, parents before their children.
