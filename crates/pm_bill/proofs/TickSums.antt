@@ -43,3 +43,6 @@ pub all_minutes : (leaves : List Bool) (ticks : List TickData) (bill : BillData)
 all_minutes leaves [] bill is = ap (λ (b : BillData). b.minutes) is
 all_minutes leaves (tick ∷ earlier) bill is =
     omega (arith, ints, is.1.1.minutes, all_minutes leaves earlier is.0 is.1.0)
+
+-- what accounts are after any list of ticks
+pub ruleset tick_sums = (account_is, grid_is, tick_count, all_minutes)

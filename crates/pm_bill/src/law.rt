@@ -7,7 +7,7 @@ ghost use Rattle.pm_bill.specs.Ticks.{TickData, IsAfterTicks};
 /// A law: after any list of ticks, each of which does to the bill what [`crate::Bill::tick`] does, the account of each node
 /// is the sum of its shares, that of the grid the sum of what it is due, and the bill tells how many ticks and how many
 /// minutes there were.
-#[tactic(auto, using(crate::proofs::TickSums::account_is, crate::proofs::TickSums::grid_is, crate::proofs::TickSums::tick_count, crate::proofs::TickSums::all_minutes))]
+#[tactic(auto, using(crate::proofs::TickSums::tick_sums))]
 pub fn accounts_are_sums()
     ensures account { (leaves : List Bool) (ticks : List TickData) (bill : BillData) (node : ℕ) → IsAfterTicks leaves ticks bill →
         account_at bill.accounts node ≡ account_total (map (λ tick. account_of_shares tick.minutes (shares_of node tick.shares)) ticks) }

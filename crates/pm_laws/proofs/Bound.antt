@@ -463,3 +463,6 @@ counts_end lists s law sound = counted_bound lists law s sound
 -- no newest number of a node is above the number of all changes, with state and node before the premises
 pub newest_end : (lists : Lists) (s : State) (x : ℕ) → Lawful lists → Sound lists s → IsNode lists x → newest lists s x ≤ change_total lists
 newest_end lists s x law sound node = newest_small lists law s sound x node
+
+-- the bound of a journal and what its proof rests on
+pub ruleset bound_laws = (journal_bound, move_counts, counts_end, newest_end)

@@ -101,6 +101,50 @@ journal_from lists law (m ∷ ms) s sound h =
       | inr e ↦ absurd (omega (arith, h, cond-false (is_legal lists s m) (suc (first_illegal lists (step lists s m) ms)) 0 e))
     ]
 
+-- moves with one that is not legal behind them are all legal where that one's place is the first that is not legal
+pub illegal_from : (lists : Lists) → Lawful lists → (before : List Move) (s : State) → Sound lists s → (m : Move) (rest : List Move) →
+    first_illegal lists s (before ++ m ∷ rest) ≡ length before →
+    LegalFrom lists s before × (Legal lists (after_from lists s before) m → ⊥)
+unfolding first_illegal
+illegal_from lists law [] s sound m rest h =
+    elim (cases_Bool (is_legal lists s m)) [
+      | inl e ↦ absurd (omega (arith, h, cond-true (is_legal lists s m) (suc (first_illegal lists (step lists s m) rest)) 0 e))
+      | inr e ↦ (tt, λ legal. both_ways (is_legal lists s m) e (legal_to lists s m legal))
+    ]
+illegal_from lists law (b ∷ before) s sound m rest h =
+    let place = first_illegal lists (step lists s b) (before ++ m ∷ rest) in
+    elim (cases_Bool (is_legal lists s b)) [
+      | inl e ↦
+          let legal = legal_from lists law s sound b e in
+          let same : place ≡ length before = omega (arith, h, cond-true (is_legal lists s b) (suc place) 0 e) in
+          let more = illegal_from lists law before (step lists s b) (sound_step lists law s sound b legal) m rest same in
+          ((legal, more.0), more.1)
+      | inr e ↦ absurd (omega (arith, h, cond-false (is_legal lists s b) (suc place) 0 e))
+    ]
+
+-- the place of a move that is not legal behind legal ones is the first that is not legal
+pub illegal_to : (lists : Lists) → Lawful lists → (before : List Move) (s : State) → Sound lists s → (m : Move) (rest : List Move) →
+    LegalFrom lists s before → (Legal lists (after_from lists s before) m → ⊥) →
+    first_illegal lists s (before ++ m ∷ rest) ≡ length before
+unfolding first_illegal
+illegal_to lists law [] s sound m rest legal illegal =
+    cond-false (is_legal lists s m) (suc (first_illegal lists (step lists s m) rest)) 0
+    (false_from_ne_true (is_legal lists s m) (λ e. illegal (legal_from lists law s sound m e)))
+illegal_to lists law (b ∷ before) s sound m rest legal illegal =
+    let place = first_illegal lists (step lists s b) (before ++ m ∷ rest) in
+    let more : place ≡ length before =
+    illegal_to lists law before (step lists s b) (sound_step lists law s sound b legal.0) m rest legal.1 illegal in
+    omega (arith, more, cond-true (is_legal lists s b) (suc place) 0 (legal_to lists s b legal.0))
+
+-- a place of a list of moves is the first that is not legal exactly where those before it are a legal journal and its move is not legal
+pub illegal_tested : (lists : Lists) (before : List Move) (m : Move) (rest : List Move) → Lawful lists →
+    (first_illegal lists start (before ++ m ∷ rest) ≡ length before)
+    ↔ (LegalJournal lists before × (Legal lists (after lists before) m → ⊥))
+illegal_tested lists before m rest law = (
+  illegal_from lists law before start (sound_start lists law) m rest,
+  λ parts. illegal_to lists law before start (sound_start lists law) m rest parts.0 parts.1,
+)
+
 -- where it is not idle there is a move
 
 node_move_at : (lists : Lists) (s : State) (x : ℕ) → is_idle_at lists s x ≡ false → (m : Move) × NodeLegal lists s m
@@ -180,3 +224,6 @@ first_illegal_to lists (m ∷ ms) s h =
 pub first_tested : (lists : Lists) (journal : List Move) → Lawful lists → (first_illegal lists start journal ≡ length journal)
     ↔ LegalJournal lists journal
 first_tested lists journal law = (journal_from lists law journal start (sound_start lists law), first_illegal_to lists journal start)
+
+-- what the tests of legality and of idleness decide
+pub ruleset legality_tests = (legal_tested, idle_tested, journal_tested, first_tested, illegal_tested, are_legal_push, not_idle_move)

@@ -171,3 +171,6 @@ pub due_cleared : (lists : Lists) (s : State) (k x j : ℕ) → Lawful lists →
     (is_due lists (step lists s (Clear k)) x j ≡ true)
     ↔ ((is_due lists s x j ≡ true) ⊎ ((parent lists x ≡ 0) × (j ≡ clearings s + 1) × (addresses_of lists (known lists s 0) x ≡ true)))
 due_cleared lists s k x j law sound legal = (cleared_from lists law s sound k legal x j, cleared_to lists law s sound k legal x j)
+
+-- what is known once one bid more is learnt
+pub ruleset learning_laws = (learning_here, learning_beside, learning_elsewhere, learning_differs)

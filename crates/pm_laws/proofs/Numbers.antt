@@ -146,3 +146,6 @@ cleared_number_rises lists s law sound x i j node later within =
         number_rises lists law s sound x i j node inner later within,
       )
     ]
+
+-- what numbers say of cuts
+pub ruleset number_laws = (number_of_known, number_down, addressed_number, known_heads, cleared_number_rises)

@@ -67,7 +67,7 @@ pub fn complete_journals_end_quiet()
 /// node is at most the changes of the devices at or below it, since its cuts rise strictly, and each device stands at or
 /// below itself and at most 6 concentrators; so newest numbers add up to at most 7 times the changes, and numbers learnt
 /// to no more; there are at most as many clearings as changes, each passed to a node at most once.
-#[tactic(auto, using(crate::proofs::Bound::journal_bound, crate::proofs::Bound::move_counts, crate::proofs::Bound::counts_end, crate::proofs::Bound::newest_end))]
+#[tactic(auto, using(crate::proofs::Bound::bound_laws))]
 pub fn journals_are_bounded()
     ensures rises { (lists : Lists) (s : State) (m : Move) → Lawful lists → Legal lists s m → counted lists s < counted lists (step lists s m) }
     ensures within { (lists : Lists) (s : State) → Lawful lists → Sound lists s → counted lists s ≤ bound lists }
@@ -76,13 +76,17 @@ pub fn journals_are_bounded()
 {}
 
 /// Legality and idleness are decided by tests, and where a state is not idle some node's move is legal.
-#[tactic(auto, using(crate::proofs::Legality::legal_tested, crate::proofs::Legality::idle_tested, crate::proofs::Legality::journal_tested, crate::proofs::Legality::first_tested, crate::proofs::Legality::are_legal_push, crate::proofs::Legality::not_idle_move))]
+#[tactic(auto, using(crate::proofs::Legality::legality_tests))]
 pub fn legality_is_decided()
     ensures legal { (lists : Lists) (s : State) (m : Move) → Lawful lists → Sound lists s → (is_legal lists s m ≡ true) ↔ Legal lists s m }
     ensures idle { (lists : Lists) (s : State) → Sound lists s → (is_idle lists s ≡ true) ↔ Idle lists s }
     ensures journal { (lists : Lists) (journal : List Move) → Lawful lists → (are_legal lists start journal ≡ true) ↔ LegalJournal lists journal }
     ensures first { (lists : Lists) (journal : List Move) → Lawful lists → (first_illegal lists start journal ≡ length journal)
         ↔ LegalJournal lists journal }
+    // A place is the first illegal one exactly where the moves before it are a legal journal, and its own is not legal there.
+    ensures illegal { (lists : Lists) (before : List Move) (m : Move) (rest : List Move) → Lawful lists →
+        (first_illegal lists start (before ++ m ∷ rest) ≡ length before)
+        ↔ (LegalJournal lists before × (Legal lists (after lists before) m → ⊥)) }
     ensures pushed { (lists : Lists) (journal : List Move) (m : Move) → are_legal lists start journal ≡ true →
         Legal lists (after lists journal) m → are_legal lists start (journal ++ m ∷ []) ≡ true }
     ensures busy { (lists : Lists) (s : State) → is_idle lists s ≡ false → (m : Move) × NodeLegal lists s m }
@@ -95,7 +99,7 @@ pub fn some_move_is_legal()
 {}
 
 /// Why numbers are enough: what a core that keeps numbers alone needs of the cuts.
-#[tactic(auto, using(crate::proofs::Numbers::number_of_known, crate::proofs::Numbers::number_down, crate::proofs::Numbers::addressed_number, crate::proofs::Numbers::known_heads, crate::proofs::Numbers::cleared_number_rises))]
+#[tactic(auto, using(crate::proofs::Numbers::number_laws))]
 pub fn numbers_stand_for_cuts()
     // What a node knows contains of each child the number that was learnt of it.
     ensures known { (lists : Lists) (s : State) → Lawful lists → Sound lists s → (x : ℕ) → IsNode lists x →

@@ -18,7 +18,7 @@ pub fn what_is_known_is_added()
 
 /// A learning changes what the parent knows of that child's devices, and nothing else that anybody knows; it then knows
 /// something other than it published or cleared last.
-#[tactic(auto, using(crate::proofs::MoveLaws::learning_here, crate::proofs::MoveLaws::learning_beside, crate::proofs::MoveLaws::learning_elsewhere, crate::proofs::MoveLaws::learning_differs))]
+#[tactic(auto, using(crate::proofs::MoveLaws::learning_laws))]
 pub fn one_part_is_learnt()
     ensures here { (lists : Lists) (s : State) (x n d : ℕ) → Lawful lists → IsNode lists x → IsLeafOf lists x d →
         known lists (step lists s (Move.Learn x n)) (parent lists x) d ≡ part lists s x n d }

@@ -97,3 +97,6 @@ pub plans : (basis : BasisValue) (entries : List Entry) (nodes : List NodePart) 
     IsBasis basis → checked_tree entries ≡ Ok entries → IsTree (parents_of entries) (leaves_of entries) → AreNodesOf entries nodes →
     checked_plan basis entries nodes phases ≡ Ok plan → IsPlan plan
 plans basis entries nodes phases plan sound accepted tree fit h = checked_plan-keeps basis entries nodes phases plan sound accepted tree fit h
+
+-- what the lists of a plan are
+pub ruleset list_laws = (lawful_lists, parents, leaves, members, changes, phase_count, ends, bounds)

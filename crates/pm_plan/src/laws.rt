@@ -47,7 +47,7 @@ pub fn states_fit()
 
 /// A law: the lists that a plan stands for are lawful in the market of cuts, say what the plan does of parents, leaves,
 /// members, changes, phases and their ends, and have the plan's bound of moves.
-#[tactic(auto, using(crate::proofs::PublicLaws::lawful_lists, crate::proofs::PublicLaws::parents, crate::proofs::PublicLaws::leaves, crate::proofs::PublicLaws::members, crate::proofs::PublicLaws::changes, crate::proofs::PublicLaws::phase_count, crate::proofs::PublicLaws::ends, crate::proofs::PublicLaws::bounds))]
+#[tactic(auto, using(crate::proofs::PublicLaws::list_laws))]
 pub fn lists_are_lawful()
     ensures lawful { (plan : PlanData) → IsPlan plan → Lawful (plan_lists plan) }
     ensures parents { (plan : PlanData) (x : ℕ) → market_parent (plan_lists plan) x ≡ parent plan x }
