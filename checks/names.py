@@ -1,5 +1,6 @@
 #!/usr/bin/env python3
-"""Whether each concept has one home: one meaning a name, one place a lemma, one name a limit.
+"""Whether each concept has one home: one meaning a name, one place a lemma, one name a limit. And whether what is written
+can be read: no line above a limit, a comment on each public lemma.
 
 Looks at the sources, definitions and proofs of all crates, tests and comments left out. Prints a line for each finding
 and ends with 'N passed, M failed'.
@@ -14,6 +15,12 @@ CRATES = Path(__file__).resolve().parent.parent / "crates"
 
 # Names that two crates use for one thing: of a plan, and of the lists of the market of cuts that it stands for.
 OF_PLAN_AND_LISTS = {"is_leaf", "is_member", "parent", "phases"}
+
+# The crates of tests alone.
+TESTS = {"pm_filed", "pm_linked", "pm_played", "pm_whole", "pm_worked"}
+
+# The most bytes of a line of sources, definitions and proofs.
+LINE_LIMIT = 160
 
 # The limits that stand in pm_base: steps and phases, nodes, the window and its ring, events, changes, demands, sums.
 LIMITS = {"8", "9", "256", "999", "1000", "4096", "20000", "1000000000", "256000000000"}
@@ -39,10 +46,15 @@ LEMMA = re.compile(r"^(?:pub )?([^\s:({]+) : (.*?)(?=\n\S|\Z)", re.M | re.S)
 NUMBER = re.compile(r"(?<![\w.\-])\d[\d_]*(?![\w.])")
 
 
+def is_test(parts):
+    """Whether a file has tests: it stands in a crate of tests alone, or below a module of that name."""
+    return parts[0] in TESTS or any(it.removesuffix(".rt") == "tests" for it in parts)
+
+
 def files(*kinds):
     for path in sorted(CRATES.rglob("*")):
         parts = path.relative_to(CRATES).parts
-        if path.suffix in (".rt", ".antt") and parts[1] in kinds and "tests" not in path.name and "tests" not in parts:
+        if path.suffix in (".rt", ".antt") and parts[1] in kinds and not is_test(parts):
             yield parts[0], "/".join(parts), path.read_text()
 
 
@@ -90,9 +102,24 @@ def bare_limits():
                 yield f"a limit without its name in {path}: {line.strip()[:100]}"
 
 
+def long_lines():
+    for _, path, text in files("src", "specs", "proofs"):
+        for number, line in enumerate(text.split("\n"), 1):
+            if len(line.encode()) > LINE_LIMIT:
+                yield f"a line above {LINE_LIMIT} bytes in {path}: {number}"
+
+
+def lemmas_without_words():
+    for _, path, text in files("proofs"):
+        if path.count("/") == 2:
+            for before, name in re.findall(r"(?m)^(.*)\n\s*pub ([^\s:({]+) : ", text):
+                if not before.lstrip().startswith("--"):
+                    yield f"a public lemma without a comment in {path}: {name}"
+
+
 def main():
     passed, failed = 0, 0
-    for check in (names_with_two_homes, lemmas_with_two_homes, bare_limits):
+    for check in (names_with_two_homes, lemmas_with_two_homes, bare_limits, long_lines, lemmas_without_words):
         findings = list(check())
         for it in findings:
             print(it)
