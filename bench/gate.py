@@ -1,0 +1,99 @@
+#!/usr/bin/env python3
+"""Where the gate's time goes: runs `rt ci` at the top and prints processor seconds by crate and by kind of work.
+
+    python3 bench/gate.py [WORDS OF rt ci]
+
+Once a second it reads the times of all processes that the gate has started, from /proc, so what begins and ends between two
+looks is not counted. Kinds are told by how `rt` starts its prover: the proof of a crate, that of its tests, and the tries of
+its must-fail edits, with the check of the crate that these begin with. What the gate says is printed on standard error,
+and the table at the end on standard output. The status is that of the gate.
+"""
+
+import os
+import subprocess
+import sys
+import time
+from collections import defaultdict
+from pathlib import Path
+
+TOP = Path(__file__).resolve().parent.parent
+TICKS = os.sysconf("SC_CLK_TCK")
+KINDS = ("code", "tests", "edits")
+
+
+def processes():
+    """The parent, the start and the processor seconds of each process, by its number."""
+    found = {}
+    for folder in Path("/proc").iterdir():
+        if folder.name.isdigit():
+            try:
+                fields = (folder / "stat").read_text().rpartition(") ")[2].split()
+            except OSError:
+                continue
+            found[int(folder.name)] = (int(fields[1]), fields[19], (int(fields[11]) + int(fields[12])) / TICKS)
+    return found
+
+
+def descendants(found, root):
+    """The numbers of the processes below one."""
+    below = defaultdict(list)
+    for number, (parent, _, _) in found.items():
+        below[parent].append(number)
+    waiting = [root]
+    while waiting:
+        for number in below[waiting.pop()]:
+            waiting.append(number)
+            yield number
+
+
+def work_of(number):
+    """The crate and the kind that a process of the prover works at; none of another process."""
+    try:
+        words = Path(f"/proc/{number}/cmdline").read_bytes().split(b"\0")
+        folder = os.readlink(f"/proc/{number}/cwd")
+    except OSError:
+        return None
+    if b"--crate-name" not in words:
+        return None
+    crate = words[words.index(b"--crate-name") + 1].decode()
+    kind = "edits" if "/rt-edit" in folder else "tests" if b"--test" in words else "code"
+    return crate, kind
+
+
+def run(words):
+    """Runs the gate; gives its status, its minutes, and the seconds of each process with what it worked at."""
+    began = time.monotonic()
+    gate = subprocess.Popen(["rt", "ci", *words], cwd=TOP, stdout=sys.stderr)
+    works, seconds = {}, {}
+    while gate.poll() is None:
+        found = processes()
+        for number in descendants(found, gate.pid):
+            _, start, spent = found[number]
+            key = number, start
+            if works.get(key) is None:
+                works[key] = work_of(number)
+            seconds[key] = spent
+        time.sleep(1)
+    table = defaultdict(lambda: dict.fromkeys(KINDS, 0.0))
+    for key, spent in seconds.items():
+        if works[key]:
+            crate, kind = works[key]
+            table[crate][kind] += spent
+    return gate.returncode, (time.monotonic() - began) / 60, table
+
+
+def main():
+    status, minutes, table = run(sys.argv[1:])
+    order = [line.split(":")[0] for line in (TOP / "crates.txt").read_text().split("\n") if ":" in line]
+    print("| Crate | Its proof s | That of its tests s | Its edits s |")
+    print("|---|---|---|---|")
+    for crate in sorted(table, key=lambda it: order.index(it) if it in order else len(order)):
+        print(f"| `{crate}` | " + " | ".join(f"{table[crate][kind]:.0f}" for kind in KINDS) + " |")
+    sums = [sum(row[kind] for row in table.values()) for kind in KINDS]
+    print("| all | " + " | ".join(f"{it:.0f}" for it in sums) + " |")
+    print(f"\n{sum(sums) / 60:.0f} processor minutes in {minutes:.0f} minutes, status {status}")
+    return status
+
+
+if __name__ == "__main__":
+    sys.exit(main())
