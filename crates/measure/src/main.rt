@@ -1,35 +1,71 @@
-//! The program `measure`: finds the ends of a cluster file's phases in one of several ways, so that a script can compare
-//! their times, their memory and their texts.
+//! The program `measure`: does work of the market in one of several ways, so that a script can compare their times, their
+//! memory and their texts. Its arguments name the way.
 //!
-//! Its one argument is the way, and the file is standard input. Each way prints the same text, but for `read`, which
-//! stops once the plan is made. The status is 0 where the text was written, and else 1.
+//! `read`, `walk` and `drive` read a cluster file on standard input, and `walk` and `drive` find the ends of its phases;
+//! they print the same text, and `read` stops once the plan is made. `judge` reads an envelope of a cluster file and of a
+//! trace, makes the moves of the trace on a market of cuts, and prints their number. `link cells COUNT` and `link mutex
+//! COUNT` read nothing: two threads pass COUNT bids, up to 120,000, and as many prices over one link, of cells without a
+//! lock or of slots behind locks, and the number of messages taken is printed.
+//!
+//! The status is 0 where the text was written, and else 1.
 #![tactic(auto)]
 
+ghost use Rattle.std.specs.Prelude.{◌≤◌};
+
 mod drive;
+mod judge;
+mod link;
+mod lists;
+mod task;
 mod text;
 mod way;
 
-use crate::way::{Way, way_of};
+use crate::judge::judged_moves;
+use crate::link::passed_messages;
+use crate::task::{Task, task_of};
+use crate::text::{messages_text, moves_text};
 use anyhow::Context;
+use pm_envelope::FILE_LIMIT;
 use pm_io::{StdSink, StdSource, read_all, write_all};
 use pm_scene::read_scene;
 use std::env;
 
-/// The most bytes of a cluster file.
-const INPUT_LIMIT: usize = 4_194_304;
+/// The most bytes of an envelope of a cluster file and of a trace.
+const ENVELOPE_LIMIT: usize = 536_870_912;
 
-/// The way that the arguments ask for.
-fn asked_way(rt: &HostRuntime) -> anyhow::Result<Way> {
+const USAGE: &str =
+    "usage: measure read | measure walk | measure drive | measure judge | measure link cells COUNT | measure link mutex COUNT";
+
+/// The task that the arguments ask for.
+fn asked_task(rt: &HostRuntime) -> anyhow::Result<Task> {
     let arguments: Vec<String> = env::args(rt)?.skip(1).collect(rt.alloc())?;
-    way_of(&arguments).context("usage: measure read | measure walk | measure drive")
+    task_of(&arguments).context(USAGE)
+}
+
+/// Standard input to its end, of at most so many bytes.
+fn read_input(rt: &HostRuntime, limit: usize) -> anyhow::Result<Vec<u8>>
+    requires { limit ≤ 1073741824 }
+{
+    Ok(read_all(rt.alloc(), &mut StdSource::new(rt.stdin()), limit)?)
 }
 
 fn main(rt: HostRuntime) -> anyhow::Result<()> {
-    let way = asked_way(&rt)?;
+    let task = asked_task(&rt)?;
     let alloc = rt.alloc();
-    let bytes = read_all(alloc, &mut StdSource::new(rt.stdin()), INPUT_LIMIT)?;
-    let plan = read_scene(alloc, &bytes)?;
-    let text = way.text(alloc, &plan)?;
+    let text = match task {
+        Task::Ends(way) => {
+            let file = read_input(&rt, FILE_LIMIT as usize)?;
+            let plan = read_scene(alloc, &file)?;
+            way.text(alloc, &plan)?
+        }
+        Task::Judge => {
+            let input = read_input(&rt, ENVELOPE_LIMIT)?;
+            moves_text(alloc, judged_moves(alloc, &input)?)?
+        }
+        Task::Pass { kind, bids } => {
+            messages_text(alloc, passed_messages(&rt, alloc, kind, bids)?)?
+        }
+    };
     write_all(&mut StdSink::new(rt.stdout()), text.as_bytes())?;
     Ok(())
 }

@@ -17,6 +17,16 @@ pub(crate) fn ends_text(alloc: Global, ends: &[PhaseEnd]) -> Result<String, Allo
     Ok(text)
 }
 
+/// The line of so many moves.
+pub(crate) fn moves_text(alloc: Global, moves: u64) -> Result<String, AllocError> {
+    format!(in alloc; "moves {moves}\n")
+}
+
+/// The line of so many messages.
+pub(crate) fn messages_text(alloc: Global, messages: u64) -> Result<String, AllocError> {
+    format!(in alloc; "messages {messages}\n")
+}
+
 /// Writes the line of an end.
 fn push_line(text: &mut String, phase: usize, end: &PhaseEnd) -> Result<(), AllocError> {
     let price = end.price();

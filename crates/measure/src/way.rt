@@ -15,16 +15,6 @@ pub(crate) enum Way {
     Drive,
 }
 
-/// The way that the arguments name, where they name one.
-pub(crate) fn way_of(arguments: &[String]) -> Option<Way> {
-    match arguments {
-        [word] if word.as_str() == "read" => Some(Way::Read),
-        [word] if word.as_str() == "walk" => Some(Way::Walk),
-        [word] if word.as_str() == "drive" => Some(Way::Drive),
-        _ => None,
-    }
-}
-
 impl Way {
     /// What the program prints of a plan.
     pub(crate) fn text(self, alloc: Global, plan: &Plan) -> anyhow::Result<String> {

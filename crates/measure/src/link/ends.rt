@@ -1,0 +1,14 @@
+/// An end of a link. No call waits for the other end to do its part.
+pub(crate) trait End {
+    /// What it puts.
+    type Put: Drop;
+
+    /// What it takes.
+    type Taken: Drop;
+
+    /// Puts a message, in place of one that was not taken; where the slot cannot be had now it is handed back.
+    fn put(&mut self, message: Self::Put) -> Result<(), Self::Put>;
+
+    /// Takes the message that waits, where there is one and the slot can be had now.
+    fn take(&mut self) -> Option<Self::Taken>;
+}
