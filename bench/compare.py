@@ -5,13 +5,14 @@
 
 MARKET and MEASURE are the programs, PLAIN and PLAIN_SERVE are the plain programs of `bench/plain` and `bench/plain_serve`, and
 COUNTER is the library of `bench/count.c`; each of these three may be `-`, and then what needs it is left out. FOLDER has the
-files and the stream of bids.
+files, the stream of bids and the long trace of `make_trace.py`.
 
 Each way runs RUNS times on a file, in turn with the others, and the least time of the whole process counts. The time of the
 processors is told beside it, which other work on the machine disturbs less. A run before these gives the memory and the
 text, and one after them the counts. On the largest files only the times of `market run` and of the plain program are taken,
 and of the demo cluster also that of `market ask` with many targets; further that of `market check` on a trace of one of the
-largest files, and of `market serve` beside its plain program on the stream.
+largest files and, beside the plain judge, on the long trace, of `market serve` beside its plain program on the stream, and of
+messages over one link without a lock and with locks.
 The status is 1 where a text differs or a run fails or hangs, else 2 where a goal is missed, else 0.
 """
 
@@ -47,6 +48,13 @@ ASKED, TARGETS = "demo", 100_000
 ASK_GOAL, ASK_SECONDS = 2, 0.050
 # The file of which a trace is judged.
 JUDGED = "1000_phases"
+# How often longer than the plain judge `market check` may take on the long trace, in so many runs of each in turn, and how many
+# megabytes more than the input has.
+LONG_TRACE, LONG_RUNS = "star.check", 3
+JUDGE_GOAL, JUDGE_MEGABYTES = 3, 200
+# How many bids two threads pass over one link, each with a price that answers it: as many as a link is measured with.
+LINK, LINK_BIDS = "one link", 120_000
+LINK_KINDS = ["cells", "mutex"]
 # How often more memory than the walk `market run` and the driven cluster may take.
 MEMORY_GOAL = 3
 # How often longer than the walk the driven cluster may take, the reading taken off both.
@@ -275,6 +283,37 @@ def measured_trace(market, runs, folder, path):
     return [line + f"{moves / seconds:,.0f} moves a second"], False
 
 
+def measured_judge(market, measure, path):
+    """The lines of the long trace, judged with and without all that `market check` does beside the moves, and whether a goal is
+    missed."""
+    check, judge = "market check", "measure judge"
+    ways = {check: [market, "check"], judge: [measure, "judge"]}
+    megabytes, verdict = peak(ways[check], path)
+    counted_moves = text_of(ways[judge], path)
+    if verdict != b"valid " + counted_moves:
+        raise Failed("the judges do not count the same moves")
+    moves, size = moves_of(counted_moves), os.path.getsize(path)
+    taken = runs_of(ways, LONG_RUNS, path)
+    least = {way: min(it.seconds for it in taken[way]) for way in ways}
+    ratio, is_slow = beside(quotient(least[check], least[judge]), JUDGE_GOAL)
+    memory, is_large = beside(megabytes - size / 1024 ** 2, JUDGE_MEGABYTES)
+    return [f"{name_of(path)}: {moves:,} moves in {size:,} bytes, {check} {least[check]:.3f} s, {judge} {least[judge]:.3f} s, "
+            f"{moves / least[check]:,.0f} and {moves / least[judge]:,.0f} moves a second",
+            f"    {check} / {judge}: time {ratio}; peak of memory of {check} beyond the input in MB {memory}"], is_slow or is_large
+
+
+def measured_links(measure, runs, name):
+    """The line of messages over one link, of which each was taken; no goal is set for it. The program reads nothing."""
+    told = []
+    for kind in LINK_KINDS:
+        command = [measure, "link", kind, str(LINK_BIDS)]
+        if text_of(command, os.devnull) != b"messages %d\n" % (2 * LINK_BIDS):
+            raise Failed(f"not each message over a link of {kind} was taken")
+        seconds = least_seconds(command, os.devnull, runs)
+        told.append(f"{kind} {seconds:.3f} s, {2 * LINK_BIDS / seconds:,.0f} messages a second")
+    return [f"{name}: {2 * LINK_BIDS:,} messages, " + "; ".join(told)], False
+
+
 def measured_stream(market, plain, runs, path):
     """The line of the stream of bids; no goal is set for it."""
     ways = {"market serve": [market, "serve"]} | ({"plain serve": [plain]} if plain else {})
@@ -321,6 +360,8 @@ def main(runs, market, measure, plain, plain_serve, counter, folder):
     statuses.append(tried(measured_targets, market, int(runs), folder, asked))
     judged = os.path.join(folder, "largest", JUDGED + ".json")
     statuses.append(tried(measured_trace, market, int(runs), folder, judged))
+    statuses.append(tried(measured_judge, market, measure, os.path.join(folder, LONG_TRACE)))
+    statuses.append(tried(measured_links, measure, int(runs), LINK))
     statuses.append(tried(measured_stream, market, plain_serve, int(runs), os.path.join(folder, "stream")))
     print(load())
     return 1 if 1 in statuses else max(statuses)

@@ -1,7 +1,8 @@
 #!/usr/bin/env bash
 # Makes cluster files and measures on them the ways to run a cluster (compare.py): `market run`, the ways of `measure`,
 # where there is `rustc` the plain program of `bench/plain`, and where there is `gcc` counts of what `market run` does; and
-# further `market ask` on many targets, `market check` on a trace, and `market serve` on a stream of bids of 407 MB, where there is
+# further `market ask` on many targets, `market check` on a trace and on one of 4,000,000 moves (make_trace.py), there beside
+# `measure judge`, messages over one link by `measure link`, and `market serve` on a stream of bids of 407 MB, where there is
 # `rustc` beside the plain program of `bench/plain_serve`.
 #
 #     bench/run.sh [RUNS]
@@ -48,6 +49,7 @@ check_plain() {
 folder="$(mktemp -d)" || exit 1
 trap 'rm -rf "$folder"' EXIT
 python3 bench/make_files.py "$folder" || exit 1
+python3 bench/make_trace.py "$folder" || exit 1
 python3 bench/make_stream.py > "$folder/stream" || exit 1
 build market && build measure || exit 1
 plain="$(build_with rustc "$folder/plain" -O --edition 2021 bench/plain/plain.rs)" || exit 1
