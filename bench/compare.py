@@ -31,7 +31,7 @@ from dataclasses import dataclass
 LONGEST_SECONDS = 60
 
 # The files that are compared, in their order.
-COMPARED = ["demo", "wide", "deep", "chain", "calm"]
+COMPARED = ["demo", "wide", "deep", "bursts", "chain", "calm"]
 
 # The ways, by their names; `plain read` and `measure read` stop once the plan is made.
 MARKET = "market run"
@@ -42,7 +42,7 @@ DRIVE = "measure drive"
 READING = "measure read"
 
 # How often longer than the plain program `market run` may take, by the file.
-MARKET_GOALS = {"demo": 12, "wide": 5.5, "deep": 2, "calm": 2}
+MARKET_GOALS = {"demo": 12, "wide": 5.5, "deep": 2, "bursts": 2, "calm": 2}
 # How many targets are asked of the total of a file, how often longer than `market run` that may take, and by how much.
 ASKED, TARGETS = "demo", 100_000
 ASK_GOAL, ASK_SECONDS = 2, 0.050
