@@ -1,5 +1,5 @@
 -- What is due to each node, before and after a move.
-use Rattle.std.proofs.Common.{◌≡◌, ◌≢◌, ℕ, zero, suc, ◌+◌, ◌<◌, ◌≤◌, Bool, true, false, not, eqb, leb, ltb, ◌&&◌, ◌||◌}
+use Rattle.std.proofs.Common.{◌≡◌, ◌≢◌, ℕ, zero, suc, ◌+◌, ◌<◌, ◌≤◌, Bool, true, false, not, eqb, leb, ltb, ◌&&◌}
 use Rattle.std.proofs.Common.{◌⊎◌, inl, inr, List, [], ◌∷◌, ◌++◌, length, get_or, refl, sym, ◌∙◌, ap, subst, arith}
 use Rattle.std.proofs.lemmas.Bool.{cases_eq, cases_lt, cases_Bool, cond-true, cond-false, eqb-true, eq-eqb, ltb-true, lt-ltb, and_parts, and_from, or_cases}
 use Rattle.std.proofs.lemmas.Bool.{or_left, or_right, leb-true, le-leb, not-true, not_from_false, both_ways, false_from_ne_true}
@@ -8,7 +8,7 @@ use Rattle.pm_market.specs.Lists.{Lists, nodes, parent, IsNode}
 use Rattle.pm_market.specs.State.{State, updated, all_to, cut_at, last, clearings, cleared, addresses, addresses_of}
 use Rattle.pm_market.specs.Legality.{is_one_of, is_node, has_reached, pass_is_legal}
 use Rattle.pm_market.specs.Due.{KnowsDue, AreParents, due_after}
-use Rattle.pm_market.proofs.Cuts.{pushed, pushed_same, pushed_other, pushed_cut_at_kept, pushed_length_same, cut_at_new, all_to_at, all_to_from}
+use Rattle.pm_market.proofs.Cuts.{pushed_same, pushed_other, pushed_cut_at_kept, pushed_length_same, cut_at_new, all_to_at, all_to_from}
 use Rattle.pm_market.proofs.Legality.{reached_from, reached_at, is_one_of_at, is_node_from, is_node_at, pass_from, pass_at}
 use Rattle.pm_market.proofs.Loops.{same_tests}
 
@@ -98,23 +98,6 @@ reached_made lists s due knows y j h =
       | inl top ↦ top.2
       | inr among ↦ knows.passed_made y j (is_one_of_at (s.passed y) j among.0 among.1 among.2)
     ]
-
--- a concentrator publishes
-pub knows_published : (lists : Lists) (s : State) (due : ℕ → ℕ) (c : ℕ) (cut : Cut) → 1 ≤ c → KnowsDue lists s due →
-    KnowsDue lists (record s { published = updated s.published c (s.published c ++ cut ∷ []) }) due
-knows_published lists s due c cut one knows =
-    let t : State = record s { published = pushed s.published c cut } in
-    let top : t.published 0 ≡ s.published 0 = pushed_other s.published c cut 0 (λ e. absurd (omega (arith, e, one))) in
-    let made : clearings t ≡ clearings s = ap length top in
-    let reaches : (y j : ℕ) → has_reached t y j ≡ has_reached s y j =
-    λ y j. ap (λ (l : List Cut). (eqb y 0 && leb 1 j && leb j (length l)) || is_one_of (s.passed y) j) top in
-    let addressed : (x j : ℕ) → addresses lists t j x ≡ addresses lists s j x =
-    λ x j. ap (λ (l : List Cut). addresses_of lists (cut_at l j) x) top in record {
-      passed_made = λ x j among. omega (arith, knows.passed_made x j among, made);
-      reached = λ x node one. reaches (parent lists x) (due x) ∙ knows.reached x node one;
-      addressed = λ x node one. addressed x (due x) ∙ knows.addressed x node one;
-      greatest = λ x j node r a. knows.greatest x j node (sym (reaches (parent lists x) j) ∙ r) (sym (addressed x j) ∙ a);
-    }
 
 -- the auctioneer clears
 module _ (lists : Lists) (s : State) (due : ℕ → ℕ) (cut : Cut) (knows : KnowsDue lists s due) where

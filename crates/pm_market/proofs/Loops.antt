@@ -16,9 +16,24 @@ unfolding all_to
 all_to_more n zero p e here h = absurd (omega arith)
 all_to_more n (suc k) p e here h = let same : k ≡ n = omega arith in and_from (p (suc k)) (all_to k p) here (ap (λ (m : ℕ). all_to m p) same ∙ h)
 
--- one number does not pass
-pub all_to_false : (n d : ℕ) (p : ℕ → Bool) → 1 ≤ d → d ≤ n → p d ≡ false → all_to n p ≡ false
-all_to_false n d p one le h = false_from_ne_true (all_to n p) (λ e. both_ways (p d) h (all_to_at n p e d one le))
+-- a test that is not passed
+pub refused : (b : Bool) → (b ≡ true → ⊥) → false ≡ b
+refused b h = sym (false_from_ne_true b h)
+
+-- the number after those that pass does not, so not all do
+pub all_to_stops : (n k : ℕ) (p : ℕ → Bool) → all_to k p ≡ true → k + 1 ≤ n → p (k + 1) ≡ false → false ≡ all_to n p
+all_to_stops n k p before le h = refused (all_to n p) (λ e. both_ways (p (k + 1)) h (all_to_at n p e (k + 1) (omega arith) le))
+
+-- what fails, fails beside any other test
+pub fails_beside : (a b : Bool) → false ≡ a → false ≡ a && b
+fails_beside a b e = ap (λ (x : Bool). x && b) e
+
+-- all numbers pass once as many do as there are
+pub all_to_whole : (n k : ℕ) (p : ℕ → Bool) → n ≡ k → all_to k p ≡ true → true ≡ all_to n p
+all_to_whole n k p e h = sym (ap (λ (m : ℕ). all_to m p) e ∙ h)
+
+-- the turns of a loop that ends early at a number that does not pass
+pub ruleset all_to_turns = (all_to_more, all_to_whole)
 
 -- nothing stands above the auctioneer
 pub below_zero : (lists : Lists) (levels x : ℕ) → (x ≡ 0 → ⊥) → is_below_in lists levels x 0 ≡ false
@@ -33,15 +48,21 @@ unfolding is_below_in
 below_here lists zero x d e = eq-eqb x d (sym e)
 below_here lists (suc levels) x d e = ap (λ (b : Bool). b || is_below_in lists levels x (parent lists d)) (eq-eqb x d (sym e))
 
--- whether x stands above another node is whether it stands at or above its parent, within a level less
-pub below_step : (lists : Lists) (levels more x d : ℕ) → more ≡ levels + 1 → (d ≡ x → ⊥) →
-    is_below_in lists more x d ≡ is_below_in lists levels x (parent lists d)
+-- within no level, x stands at or above d only where it is d
+pub below_last : (lists : Lists) (levels x d : ℕ) → levels ≡ 0 → is_below_in lists levels x d ≡ eqb x d
 unfolding is_below_in
-below_step lists levels zero x d e ne = absurd (omega arith)
-below_step lists levels (suc more) x d e ne =
-    let same : more ≡ levels = omega arith in
-    ap (λ (b : Bool). b || is_below_in lists more x (parent lists d)) (ne_eqb x d (λ w. ne (sym w)))
-    ∙ ap (λ (k : ℕ). is_below_in lists k x (parent lists d)) same
+below_last lists zero x d e = refl
+below_last lists (suc levels) x d e = absurd (omega arith)
+
+-- whether x stands above another node is whether it stands at or above its parent, within a level less
+pub below_step : (lists : Lists) (levels x d : ℕ) → 1 ≤ levels → (d ≡ x → ⊥) →
+    is_below_in lists levels x d ≡ is_below_in lists (levels - 1) x (parent lists d)
+unfolding is_below_in
+below_step lists zero x d one ne = absurd (omega arith)
+below_step lists (suc levels) x d one ne =
+    let less : levels ≡ suc levels - 1 = omega arith in
+    ap (λ (b : Bool). b || is_below_in lists levels x (parent lists d)) (ne_eqb x d (λ w. ne (sym w)))
+    ∙ ap (λ (k : ℕ). is_below_in lists k x (parent lists d)) less
 
 -- on the way up from the auctioneer there is no child of y: the search gives 0
 pub toward_zero : (lists : Lists) (count y : ℕ) → toward lists count y 0 ≡ 0
@@ -55,20 +76,24 @@ toward_zero lists (suc count) y =
     ]
 
 -- a node whose parent is y is the child of y that a search from it over at least one node gives
-pub toward_here : (lists : Lists) (count more y d : ℕ) → more ≡ count + 1 → parent lists d ≡ y → toward lists more y d ≡ d
-toward_here lists count zero y d e at = absurd (omega arith)
-toward_here lists count (suc more) y d e at =
-    toward-suc lists more y d ∙ cond-true (eqb (parent lists d) y) d (toward lists more y (parent lists d)) (eq-eqb (parent lists d) y at)
+pub toward_here : (lists : Lists) (count y d : ℕ) → 1 ≤ count → parent lists d ≡ y → toward lists count y d ≡ d
+toward_here lists zero y d one at = absurd (omega arith)
+toward_here lists (suc count) y d one at =
+    toward-suc lists count y d ∙ cond-true (eqb (parent lists d) y) d (toward lists count y (parent lists d)) (eq-eqb (parent lists d) y at)
 
 -- from a node whose parent is not y the search for the child of y goes on at its parent, with a node less
-pub toward_step : (lists : Lists) (count more y d : ℕ) → more ≡ count + 1 → (parent lists d ≡ y → ⊥) →
-    toward lists more y d ≡ toward lists count y (parent lists d)
-toward_step lists count zero y d e ne = absurd (omega arith)
-toward_step lists count (suc more) y d e ne =
-    let same : more ≡ count = omega arith in
-    toward-suc lists more y d
-    ∙ cond-false (eqb (parent lists d) y) d (toward lists more y (parent lists d)) (ne_eqb (parent lists d) y ne)
-    ∙ ap (λ (k : ℕ). toward lists k y (parent lists d)) same
+pub toward_step : (lists : Lists) (count y d : ℕ) → 1 ≤ count → (parent lists d ≡ y → ⊥) →
+    toward lists count y d ≡ toward lists (count - 1) y (parent lists d)
+toward_step lists zero y d one ne = absurd (omega arith)
+toward_step lists (suc count) y d one ne =
+    let less : count ≡ suc count - 1 = omega arith in
+    toward-suc lists count y d
+    ∙ cond-false (eqb (parent lists d) y) d (toward lists count y (parent lists d)) (ne_eqb (parent lists d) y ne)
+    ∙ ap (λ (k : ℕ). toward lists k y (parent lists d)) less
+
+-- a search for the child of y over no node gives 0
+pub toward_last : (lists : Lists) (count y d : ℕ) → count ≡ 0 → toward lists count y d ≡ 0
+toward_last lists count y d none = ap (λ (k : ℕ). toward lists k y d) none ∙ toward-none lists y d
 
 -- the cut of a row
 pub cut_at_row : (rows : List (List ℕ)) (i : ℕ) → cut_of (get_or ([] ∷ rows) i []) ≡ cut_at (map cut_of rows) i
@@ -83,17 +108,13 @@ greatest_here lists cuts x cut zero one same = absurd (omega arith)
 greatest_here lists cuts x cut (suc n) one same = cond-true (is_same_on lists x (cut_at cuts (suc n)) cut) (suc n) (greatest_number lists cuts x cut n) same
 
 -- where the cut does not stand under number n, the greatest number up to n with it is that up to n - 1
-pub greatest_below : (lists : Lists) (cuts : List Cut) (x : ℕ) (cut : Cut) (n k : ℕ) → n ≡ k + 1 →
-    is_same_on lists x (cut_at cuts n) cut ≡ false → greatest_number lists cuts x cut n ≡ greatest_number lists cuts x cut k
+pub greatest_below : (lists : Lists) (cuts : List Cut) (x : ℕ) (cut : Cut) (n : ℕ) → 1 ≤ n →
+    is_same_on lists x (cut_at cuts n) cut ≡ false → greatest_number lists cuts x cut n ≡ greatest_number lists cuts x cut (n - 1)
 unfolding greatest_number
-greatest_below lists cuts x cut zero k e same = absurd (omega arith)
-greatest_below lists cuts x cut (suc n) k e same =
-    let at : n ≡ k = omega arith in
-    cond-false (is_same_on lists x (cut_at cuts (suc n)) cut) (suc n) (greatest_number lists cuts x cut n) same ∙ ap (greatest_number lists cuts x cut) at
-
--- a test that is not passed
-pub refused : (b : Bool) → (b ≡ true → ⊥) → false ≡ b
-refused b h = sym (false_from_ne_true b h)
+greatest_below lists cuts x cut zero one same = absurd (omega arith)
+greatest_below lists cuts x cut (suc n) one same =
+    let less : n ≡ suc n - 1 = omega arith in
+    cond-false (is_same_on lists x (cut_at cuts (suc n)) cut) (suc n) (greatest_number lists cuts x cut n) same ∙ ap (greatest_number lists cuts x cut) less
 
 -- two tests that are passed together
 pub same_tests : (a b : Bool) → (a ≡ true → b ≡ true) → (b ≡ true → a ≡ true) → a ≡ b
@@ -148,15 +169,26 @@ join_here lists d (suc n) one h =
     (ap (λ (k : ℕ). is_member lists d (suc n) && not (is_member lists d k)) (sym same) ∙ h)
 
 -- where change n of a device is no join, the last join among the first n is that among the first n - 1
-pub join_below : (lists : Lists) (d n k : ℕ) → n ≡ k + 1 → is_member lists d n && not (is_member lists d (n - 1)) ≡ false →
-    last_join lists d n ≡ last_join lists d k
+pub join_below : (lists : Lists) (d n : ℕ) → 1 ≤ n → is_member lists d n && not (is_member lists d (n - 1)) ≡ false →
+    last_join lists d n ≡ last_join lists d (n - 1)
 unfolding last_join
-join_below lists d zero k e h = absurd (omega arith)
-join_below lists d (suc n) k e h =
-    let same : suc n - 1 ≡ n = omega arith in
-    let at : n ≡ k = omega arith in
+join_below lists d zero one h = absurd (omega arith)
+join_below lists d (suc n) one h =
+    let less : n ≡ suc n - 1 = omega arith in
     cond-false (is_member lists d (suc n) && not (is_member lists d n)) (suc n) (last_join lists d n)
-    (ap (λ (j : ℕ). is_member lists d (suc n) && not (is_member lists d j)) (sym same) ∙ h) ∙ ap (last_join lists d) at
+    (ap (λ (j : ℕ). is_member lists d (suc n) && not (is_member lists d j)) less ∙ h) ∙ ap (last_join lists d) less
+
+-- the turns of a walk up the tree that asks whether a node stands on the way
+pub ruleset below_turns = (below_zero, below_here, below_step, below_last)
+
+-- the turns of a walk up the tree that seeks the child of a node
+pub ruleset toward_turns = (toward_zero, toward_here, toward_step, toward_all)
+
+-- the turns of a search for the greatest number of a cut
+pub ruleset greatest_turns = (greatest_here, greatest_below)
+
+-- the turns of a search for the last join
+pub ruleset join_turns = (join_here, join_below)
 
 or_turned : (a b c : Bool) → a || b || c ≡ a || (b || c)
 or_turned true b c = refl
@@ -181,12 +213,6 @@ below_ends lists levels x d top =
       | inr ne ↦ ap (is_below_in lists levels x) top ∙ below_zero lists levels x ne ∙ sym (ne_eqb x d (λ e. ne (e ∙ top)))
     ]
 
--- within no level, x stands at or above d only where it is d
-pub below_last : (lists : Lists) (levels x d : ℕ) → levels ≡ 0 → is_below_in lists levels x d ≡ eqb x d
-unfolding is_below_in
-below_last lists zero x d e = refl
-below_last lists (suc levels) x d e = absurd (omega arith)
-
 not_and : (a b : Bool) → not a || not b ≡ not (b && a)
 not_and true true = refl
 not_and true false = refl
@@ -206,11 +232,9 @@ marked_more n (suc k) p old new e before here =
     let same : n ≡ k = omega arith in
     here ∙ ap (λ (b : Bool). b || not (p (suc k))) (before ∙ ap (λ (m : ℕ). not (all_to m p)) same) ∙ not_and (all_to k p) (p (suc k))
 
--- a mark that some number so far does not pass stays right where the next number passes
-pub marked_same : (n k : ℕ) (p : ℕ → Bool) (old new : Bool) → k ≡ n + 1 → old ≡ not (all_to n p) → new ≡ old → p k ≡ true →
-    new ≡ not (all_to k p)
-marked_same n k p old new e before here passes =
-    marked_more n k p old new e before (here ∙ sym (or_none old) ∙ ap (λ (b : Bool). old || not b) (sym passes))
+-- a mark stays where the next number passes
+pub marked_none : (old passes : Bool) → passes ≡ true → old ≡ old || not passes
+marked_none old passes e = sym (ap (λ (b : Bool). old || not b) e ∙ or_none old)
 
 -- a number above 0 is one of the leaves of each node above the device
 pub number_marks : (lists : Lists) (x d : ℕ) (cut : Cut) → is_leaf lists d ≡ true → 1 ≤ cut d →

@@ -2,10 +2,13 @@
 use Rattle.std.proofs.Common.{◌≡◌, ℕ, ◌<◌, inl, inr, List, [], ◌∷◌, ◌++◌, length, get_or, set, sym, ◌∙◌, ap}
 use Rattle.std.specs.Prelude.{Result, Ok, Err, OnErr, OnOk}
 use Rattle.std.proofs.lemmas.Bool.{cases_eq}
-use Rattle.std.proofs.Common.{get_or-set_same, get_or-set_other}
+use Rattle.std.proofs.Common.{get_or-set_same, get_or-set_other, Vec, Global, map, replicate, refl, arith}
+use Rattle.std.proofs.lemmas.List.{with_items_is, length-map, map-append}
+use Rattle.std.specs.Vec.{with_items}
 use Rattle.std.proofs.Math.Path.{fun_ext}
 use Rattle.pm_market.specs.State.{State, updated}
-use Rattle.pm_base.specs.Cuts.{Cut}
+use Rattle.pm_base.specs.Cuts.{Cut, cut_of}
+use Rattle.pm_base.proofs.Lists.{get_or-replicate_same}
 use Rattle.pm_market.proofs.Cuts.{updated_same, updated_other}
 
 -- what holds at all holds on an error
@@ -44,8 +47,12 @@ number_set xs at v lt = fun_ext (λ (k : ℕ). elim (cases_eq k at) [
   | inr ne ↦ get_or-set_other xs at k v 0 ne ∙ sym (updated_other (λ (j : ℕ). get_or xs j 0) at v k ne)
 ])
 
+-- a list that repeats one item has it at each place, and gives it past its end
+pub all_one : {X : Type 0} (xs : List X) (n : ℕ) (x : X) → xs ≡ replicate n x → (k : ℕ) → get_or xs k x ≡ x
+all_one {X} xs n x e k = ap (λ (l : List X). get_or l k x) e ∙ get_or-replicate_same n k x
+
 -- an item joins a row; h is what the rows stand for
-pub row_pushed : {X Y : Type 0} (h : List X → List Y) (old new : List (List X)) (at : ℕ) (item : X) (y : Y) →
+row_pushed : {X Y : Type 0} (h : List X → List Y) (old new : List (List X)) (at : ℕ) (item : X) (y : Y) →
     new ≡ set old at (get_or old at [] ++ item ∷ []) → at < length old → ((rows : List X) → h (rows ++ item ∷ []) ≡ h rows ++ y ∷ []) →
     (λ (k : ℕ). h (get_or new k [])) ≡ updated (λ (k : ℕ). h (get_or old k [])) at (h (get_or old at []) ++ y ∷ [])
 row_pushed {X} {Y} h old new at item y e lt more = fun_ext (λ (k : ℕ).
@@ -57,10 +64,46 @@ row_pushed {X} {Y} h old new at item y e lt more = fun_ext (λ (k : ℕ).
       | inr ne ↦ ap h (get_or-set_other old at k row [] ne) ∙ sym (updated_other f at (h (get_or old at []) ++ y ∷ []) k ne)
     ])
 
--- an item joins a row of a table that was lent
-pub lent_row_pushed : {X Y : Type 0} (h : List X → List Y) (old lent new : List (List X)) (at : ℕ) (item : X) (y : Y) →
-    lent ≡ old → new ≡ set lent at (get_or lent at [] ++ item ∷ []) → at < length old →
+-- where an item joins a row of the table that a Vec lends, it joins what that row stands for
+row_joined : {X Y : Type 0} (h : List X → List Y) (table : Vec (Vec X Global) Global) (lent new : List (Vec X Global)) (at : ℕ) (item : X) (y : Y) →
+    lent ≡ table.items → length new ≡ table.len → at < length table.items →
+    map (λ row. row.items) new ≡ set (map (λ row. row.items) lent) at (get_or (map (λ row. row.items) lent) at [] ++ item ∷ []) →
     ((rows : List X) → h (rows ++ item ∷ []) ≡ h rows ++ y ∷ []) →
-    (λ (k : ℕ). h (get_or new k [])) ≡ updated (λ (k : ℕ). h (get_or old k [])) at (h (get_or old at []) ++ y ∷ [])
-lent_row_pushed {X} {Y} h old lent new at item y same e lt more =
-    row_pushed h old new at item y (e ∙ ap (λ (rows : List (List X)). set rows at (get_or rows at [] ++ item ∷ [])) same) lt more
+    (λ (k : ℕ). h (get_or (map (λ row. row.items) (with_items table new).items) k []))
+    ≡ updated (λ (k : ℕ). h (get_or (map (λ row. row.items) table.items) k [])) at (h (get_or (map (λ row. row.items) table.items) at []) ++ y ∷ [])
+row_joined {X} {Y} h table lent new at item y same size within e more =
+    let rows : List (Vec X Global) → List (List X) = map (λ (row : Vec X Global). row.items) in
+    row_pushed h (rows table.items) (rows (with_items table new).items) at item y
+    (ap rows (with_items_is table new size) ∙ e ∙ ap (λ (old : List (Vec X Global)). set (rows old) at (get_or (rows old) at [] ++ item ∷ [])) same)
+    (omega (arith, within, length-map table.items (λ (row : Vec X Global). row.items))) more
+
+-- where the rows of a table that a Vec lends stay, those of the Vec do
+pub rows_kept : {X : Type 0} (table : Vec (Vec X Global) Global) (lent new : List (Vec X Global)) → lent ≡ table.items → length new ≡ table.len →
+    map (λ row. row.items) new ≡ map (λ row. row.items) lent →
+    map (λ row. row.items) (with_items table new).items ≡ map (λ row. row.items) table.items
+rows_kept {X} table lent new same size kept =
+    let rows : List (Vec X Global) → List (List X) = map (λ (row : Vec X Global). row.items) in
+    ap rows (with_items_is table new size) ∙ kept ∙ ap rows same
+
+-- where a row joins those of a node in the table that a Vec lends, its cut joins the cuts of the node
+pub cut_joined : (table : Vec (Vec (Vec ℕ Global) Global) Global) (lent new : List (Vec (Vec ℕ Global) Global))
+    (at : ℕ) (row : Vec ℕ Global) (cut : Cut) →
+    cut_of row.items ≡ cut → lent ≡ table.items → length new ≡ table.len → at < length table.items →
+    map (λ rows. rows.items) new ≡ set (map (λ rows. rows.items) lent) at (get_or (map (λ rows. rows.items) lent) at [] ++ row ∷ []) →
+    let cuts : Vec (Vec (Vec ℕ Global) Global) Global → ℕ → List Cut =
+    λ t c. map cut_of (map (λ row. row.items) (get_or (map (λ rows. rows.items) t.items) c [])) in
+    cuts (with_items table new) ≡ updated (cuts table) at (cuts table at ++ cut ∷ [])
+cut_joined table lent new at row cut is same size within e =
+    row_joined (λ (rows : List (Vec ℕ Global)). map cut_of (map (λ row. row.items) rows)) table lent new at row cut same size within e
+    (λ rows. ap (map cut_of) (map-append (λ (row : Vec ℕ Global). row.items) rows (row ∷ []))
+    ∙ map-append cut_of (map (λ row. row.items) rows) (row.items ∷ [])
+    ∙ ap (λ (a : Cut). map cut_of (map (λ row. row.items) rows) ++ a ∷ []) is)
+
+-- where an index joins those of a node in the table that a Vec lends, it joins the indices of the node
+pub index_joined : (table : Vec (Vec ℕ Global) Global) (lent new : List (Vec ℕ Global)) (at index : ℕ) →
+    lent ≡ table.items → length new ≡ table.len → at < length table.items →
+    map (λ row. row.items) new ≡ set (map (λ row. row.items) lent) at (get_or (map (λ row. row.items) lent) at [] ++ index ∷ []) →
+    let indices : Vec (Vec ℕ Global) Global → ℕ → List ℕ = λ t x. get_or (map (λ row. row.items) t.items) x [] in
+    indices (with_items table new) ≡ updated (indices table) at (indices table at ++ index ∷ [])
+index_joined table lent new at index same size within e =
+    row_joined (λ (row : List ℕ). row) table lent new at index index same size within e (λ row. refl)

@@ -98,6 +98,7 @@ impl Market {
     }
 
     /// Whether a node is this one or stands below it.
+    #[tactic(auto, using(crate::proofs::Loops::below_turns), unfolding(crate::specs::Lists::is_below))]
     fn is_below(&self, node: usize, below: usize) -> bool
         ensures { result ≡ is_below (market_lists self.now) node below }
     {
@@ -124,6 +125,7 @@ impl Market {
 
     /// The child of a node at or above another: of the nodes from that one up the first whose parent is the node, and 0
     /// where there is none.
+    #[tactic(auto, using(crate::proofs::Loops::toward_turns))]
     fn child_at_or_above(&self, node: usize, below: usize) -> usize
         ensures { result ≡ child_at_or_above (market_lists self.now) node below }
     {
@@ -149,6 +151,7 @@ impl Market {
     }
 
     /// Whether two cuts are the same on the leaves of a node.
+    #[tactic(auto, using(crate::proofs::Loops::all_to_turns), unfolding(crate::specs::State::all_to, crate::specs::State::is_same_on))]
     fn is_same_on(&self, node: usize, one: &[u32], other: &[u32]) -> bool
         ensures { result ≡ is_same_on (market_lists self.now) node (cut_of one.now) (cut_of other.now) }
     {
@@ -165,7 +168,7 @@ impl Market {
 impl Market {
     ghost use Rattle.std.specs.Prelude.{◌≡◌, ◌==◌, ◌+◌, ◌-◌, ◌≤◌, true, if◌then◌else◌, length};
     ghost use Rattle.pm_market.specs.Lists.{is_leaf_of};
-    ghost use Rattle.pm_market.specs.State.{cut_at, is_same_on, newest, known, number, greatest_number, last, clearings, cleared, addresses};
+    ghost use Rattle.pm_market.specs.State.{cut_at, is_same_on, part, newest, known, number, greatest_number, last, clearings, cleared, addresses};
     ghost use Rattle.pm_market.specs.Legality.{has_reached, is_node, is_one_of};
     ghost use Rattle.pm_market.specs.Market.{market_lists, market_state};
     ghost use Rattle.pm_base.specs.Cuts.{cut_of};
@@ -212,17 +215,25 @@ impl Market {
         item_from_one(indices, indices.len(), 0)
     }
 
+    /// What a number of a node stands for at a device.
+    #[tactic(auto, unfolding(crate::specs::State::part_of))]
+    fn part_at(&self, node: usize, number: u32, device: usize) -> u32
+        ensures { result ≡ part (market_lists self.now) (market_state self.now) node number device }
+    {
+        if self.is_leaf(node) {
+            number
+        } else {
+            item_at(self.cut_row(node, number as usize), device, 0)
+        }
+    }
+
     /// What a node knows of a device below it. It walks up the tree, seven levels at most.
+    #[tactic(auto, unfolding(crate::specs::State::known_of))]
     fn known_number(&self, node: usize, device: usize) -> u32
         ensures { result ≡ known (market_lists self.now) (market_state self.now) node device }
     {
         let child = self.child_at_or_above(node, device);
-        let number = self.learnt(child);
-        if self.is_leaf(child) {
-            number
-        } else {
-            item_at(self.cut_row(child, number as usize), device, 0)
-        }
+        self.part_at(child, self.learnt(child), device)
     }
 
     /// Whether a node knows of a device what it published or cleared last, or the device is no leaf of it.
@@ -237,6 +248,7 @@ impl Market {
     }
 
     /// Whether a node knows just what it published or cleared last.
+    #[tactic(auto, using(crate::proofs::Loops::all_to_turns), unfolding(crate::specs::State::all_to, crate::specs::State::is_same_on))]
     fn knows_same(&self, node: usize) -> bool
         ensures { result ≡ is_same_on (market_lists self.now) node (known (market_lists self.now) (market_state self.now) node)
             (cut_at ((market_state self.now).published node) (length ((market_state self.now).published node))) }
@@ -249,7 +261,15 @@ impl Market {
         true
     }
 
+    /// Whether a node published this cut under a number.
+    fn is_published_as(&self, node: usize, number: usize, cut: &[u32]) -> bool
+        ensures { result ≡ is_same_on (market_lists self.now) node (cut_at ((market_state self.now).published node) number) (cut_of cut.now) }
+    {
+        self.is_same_on(node, self.cut_row(node, number), cut)
+    }
+
     /// The greatest number under which a node published a cut, 0 where there is none.
+    #[tactic(auto, using(crate::proofs::Loops::greatest_turns), unfolding(crate::specs::State::greatest_number))]
     fn greatest_number(&self, node: usize, cut: &[u32]) -> usize
         ensures { result ≡ greatest_number (market_lists self.now) ((market_state self.now).published node) node (cut_of cut.now)
             (length ((market_state self.now).published node)) }
@@ -257,7 +277,7 @@ impl Market {
         let newest = self.published_by(node);
         for back in 0..newest {
             let number = newest - back;
-            if self.is_same_on(node, self.cut_row(node, number), cut) {
+            if self.is_published_as(node, number, cut) {
                 return number;
             }
         }

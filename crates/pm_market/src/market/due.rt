@@ -4,8 +4,9 @@ use std::alloc::AllocError;
 
 /// Which clearings are due to a node: those that reached its parent and address it.
 impl Market {
-    ghost use Rattle.std.specs.Prelude.{◌≡◌, ◌+◌, ◌<◌, ◌≤◌, ◌||◌, ℕ, not, false, length, vec_len, slice_index_or, IfOk};
-    ghost use Rattle.pm_market.specs.Lists.{nodes, is_below};
+    ghost use Rattle.std.specs.Prelude.{◌≡◌, ◌==◌, ◌+◌, ◌<◌, ◌≤◌, ◌||◌, ℕ, not, true, false, if◌then◌else◌, length};
+    ghost use Rattle.std.specs.Prelude.{vec_len, slice_index_or, IfOk};
+    ghost use Rattle.pm_market.specs.Lists.{nodes, is_below, is_leaf_of};
     ghost use Rattle.pm_market.specs.State.{is_same_on, no_changes, clearings};
     ghost use Rattle.pm_market.specs.Due.{due_after};
     ghost use Rattle.pm_market.specs.Market.{market_lists, market_state, market_due};
@@ -42,6 +43,17 @@ impl Market {
         mark(marks, at);
     }
 
+    /// Marks each node that a device is or stands below, where a cut has a number above 0 of the device.
+    fn mark_leaf(&self, marks: &mut [bool], cut: &[u32], device: usize)
+        ensures length { length marks.new ≡ length marks.old }
+        ensures marks { (x : ℕ) → x < length marks.old → slice_index_or marks.new x false ≡ (slice_index_or marks.old x false
+            || not (if is_leaf_of (market_lists self.now) x device then cut_of cut.now device == 0 else true)) }
+    {
+        if self.is_leaf(device) && item_at(cut, device, 0) > 0 {
+            self.mark_above(marks, device);
+        }
+    }
+
     /// For each node, the auctioneer first, whether a cut has a number above 0 of one of its leaves.
     fn cut_marks(&self, cut: &[u32]) -> Result<Vec<bool>, AllocError>
         ensures { IfOk result (λ marks. (x : ℕ) → x ≤ nodes (market_lists self.now) →
@@ -49,10 +61,7 @@ impl Market {
     {
         let mut marks = vec![in self.alloc; false; self.due.len()]?;
         for before in 0..self.parents.len() {
-            let device = before + 1;
-            if self.is_leaf(device) && item_at(cut, device, 0) > 0 {
-                self.mark_above(&mut marks, device);
-            }
+            self.mark_leaf(&mut marks, cut, before + 1);
         }
         Ok(marks)
     }

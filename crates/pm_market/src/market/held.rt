@@ -40,6 +40,7 @@ impl Market {
     }
 
     /// The number of the last join of a device among so many changes, 0 where there is none.
+    #[tactic(auto, using(crate::proofs::Loops::join_turns), unfolding(crate::specs::Held::last_join))]
     fn last_join(&self, device: usize, changes: usize) -> usize
         ensures { result ≡ last_join (market_lists self.now) device changes }
     {

@@ -27,23 +27,22 @@ impl Market {
         ensures { result ≡ publish_is_legal (market_lists self.now) (market_state self.now) node
             (newest (market_lists self.now) (market_state self.now) node + 1) }
     {
-        if !self.is_node(node) || self.is_leaf(node) || self.knows_same(node) {
-            return false;
-        }
-        self.unanswered(node) < WINDOW_SIZE as usize
+        self.is_node(node)
+            && !self.is_leaf(node)
+            && !self.knows_same(node)
+            && self.unanswered(node) < WINDOW_SIZE as usize
     }
 
     /// Whether a concentrator may publish under a number.
+    #[tactic(auto, unfolding(crate::specs::Legality::publish_is_legal))]
     fn may_publish_as(&self, node: usize, number: usize) -> bool
         ensures { result ≡ publish_is_legal (market_lists self.now) (market_state self.now) node number }
     {
-        if number == 0 || number - 1 != self.newest(node) {
-            return false;
-        }
-        self.may_publish(node)
+        number > 0 && number - 1 == self.newest(node) && self.may_publish(node)
     }
 
     /// Whether the auctioneer may clear, under its next index.
+    #[tactic(auto, unfolding(crate::specs::Legality::clear_is_legal))]
     fn may_clear(&self) -> bool
         ensures { result ≡ clear_is_legal (market_lists self.now) (market_state self.now) (clearings (market_state self.now) + 1) }
     {
@@ -51,23 +50,22 @@ impl Market {
     }
 
     /// Whether the auctioneer may clear under an index.
+    #[tactic(auto, unfolding(crate::specs::Legality::clear_is_legal))]
     fn may_clear_as(&self, index: usize) -> bool
         ensures { result ≡ clear_is_legal (market_lists self.now) (market_state self.now) index }
     {
-        if index == 0 || index - 1 != self.published_by(0) {
-            return false;
-        }
-        self.may_clear()
+        index > 0 && index - 1 == self.published_by(0) && self.may_clear()
     }
 
     /// Whether a clearing may be passed to a node.
+    #[tactic(auto, unfolding(crate::specs::Legality::pass_is_legal))]
     fn may_pass(&self, node: usize, index: usize) -> bool
         ensures { result ≡ pass_is_legal (market_lists self.now) (market_state self.now) node index }
     {
-        if !self.is_node(node) || index <= self.last(node) || !self.is_addressed(node, index) {
-            return false;
-        }
-        self.has_reached(self.parent(node), index)
+        self.is_node(node)
+            && self.last(node) < index
+            && self.is_addressed(node, index)
+            && self.has_reached(self.parent(node), index)
     }
 
     /// Whether no clearing may be passed to a node.
@@ -88,6 +86,7 @@ impl Market {
     }
 
     /// Whether no node move is legal.
+    #[tactic(auto, using(crate::proofs::Loops::all_to_turns), unfolding(crate::specs::State::all_to, crate::specs::Legality::is_idle))]
     fn is_idle(&self) -> bool
         ensures { result ≡ is_idle (market_lists self.now) (market_state self.now) }
     {
@@ -120,6 +119,7 @@ impl Market {
     }
 
     /// Whether just the changes of the phases up to this one are made.
+    #[tactic(auto, using(crate::proofs::Loops::all_to_turns), unfolding(crate::specs::State::all_to, crate::specs::Legality::are_made))]
     fn are_made(&self, phase: usize) -> bool
         ensures { result ≡ are_made (market_lists self.now) (market_state self.now) phase }
     {

@@ -1,8 +1,9 @@
-use Rattle.pm_market.proofs.Tables.{state_same, number_set}
-use Rattle.std.proofs.Common.{refl, arith, ◌<◌, length}
+use Rattle.std.proofs.Common.{ap, arith, ℕ}
+use Rattle.pm_market.specs.Market.{market_state}
+use Rattle.pm_market.proofs.Tables.{number_set}
 use Rattle.pm_market.proofs.market.Market.count.Goals as goal
 
 pub returns-clause-state : goal.returns-clause-state
 returns-clause-state c =
-    let inside : c.args.device < length c.args.self.now.counts.items = omega arith in
-    state_same _ _ _ _ _ _ _ _ _ (number_set c.args.self.now.counts.items c.args.device c.args.number inside) refl refl refl
+    let m = c.args.self.now in
+    ap (λ (counts : ℕ → ℕ). record (market_state m) { counts = counts }) (number_set m.counts.items c.args.device c.args.number (omega arith))

@@ -1,33 +1,8 @@
-use Rattle.std.proofs.Common.{◌≡◌, ◌+◌, ℕ, Bool, true, cond, eqb, refl, sym, ◌∙◌, arith, ap}
-use Rattle.pm_market.specs.Lists.{nodes, is_leaf_of}
-use Rattle.pm_market.specs.State.{all_to, is_same_on}
-use Rattle.pm_market.specs.Market.{market_lists}
-use Rattle.pm_base.specs.Cuts.{cut_of}
-use Rattle.pm_market.proofs.Loops.{all_to_more, all_to_false}
+use Rattle.std.proofs.Common.{sym, ◌∙◌, arith}
+use Rattle.pm_market.specs.State.{is_same_on}
+use Rattle.pm_market.proofs.Loops.{all_to_stops}
 use Rattle.pm_market.proofs.market.Market.is_same_on.Goals as goal
-
-pub loop-before-init : goal.loop-before-init
-unfolding all_to
-loop-before-init c = refl
 
 pub returns-then-not-is_same_at : goal.returns-then-not-is_same_at
 unfolding is_same_on
-returns-then-not-is_same_at c =
-    let p : ℕ → Bool =
-    λ d. cond (is_leaf_of (market_lists c.args.self.now) c.args.node d) (eqb (cut_of c.args.one.now d) (cut_of c.args.other.now d)) true in
-    sym (all_to_false (nodes (market_lists c.args.self.now)) (c.loop-before.before + 1) p (omega arith) (omega arith)
-    (sym c.is_same_at.ensures ∙ c.if-not-is_same_at.true))
-
-pub loop-before-preserved : goal.loop-before-preserved
-loop-before-preserved c =
-    let p : ℕ → Bool =
-    λ d. cond (is_leaf_of (market_lists c.args.self.now) c.args.node d) (eqb (cut_of c.args.one.now d) (cut_of c.args.other.now d)) true in
-    all_to_more c.loop-before.before (c.loop-before.before + 1) p refl (sym c.is_same_at.ensures ∙ c.if-not-is_same_at.false) c.loop-before.invariant
-
-pub returns : goal.returns
-unfolding is_same_on
-returns c =
-    let p : ℕ → Bool =
-    λ d. cond (is_leaf_of (market_lists c.args.self.now) c.args.node d) (eqb (cut_of c.args.one.now d) (cut_of c.args.other.now d)) true in
-    let all : nodes (market_lists c.args.self.now) ≡ c.loop-before.before = omega arith in
-    sym (ap (λ (n : ℕ). all_to n p) all ∙ c.loop-before.invariant)
+returns-then-not-is_same_at c = all_to_stops _ _ _ c.loop-before.invariant (omega arith) (sym c.is_same_at.ensures ∙ c.if-not-is_same_at.true)

@@ -1,8 +1,9 @@
-use Rattle.pm_market.proofs.Tables.{state_same, number_set}
-use Rattle.std.proofs.Common.{refl, arith, ◌<◌, length}
+use Rattle.std.proofs.Common.{ap, arith, ℕ}
+use Rattle.pm_market.specs.Market.{market_state}
+use Rattle.pm_market.proofs.Tables.{number_set}
 use Rattle.pm_market.proofs.market.Market.learn.Goals as goal
 
 pub returns-clause-state : goal.returns-clause-state
 returns-clause-state c =
-    let inside : c.args.child < length c.args.self.now.learnt.items = omega arith in
-    state_same _ _ _ _ _ _ _ _ _ refl refl (number_set c.args.self.now.learnt.items c.args.child c.args.number inside) refl
+    let m = c.args.self.now in
+    ap (λ (learnt : ℕ → ℕ). record (market_state m) { learnt = learnt }) (number_set m.learnt.items c.args.child c.args.number (omega arith))
