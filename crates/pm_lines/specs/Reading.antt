@@ -24,6 +24,12 @@ pub record IsHolding (basis : BasisValue) (held : Option (ℕ × ℕ)) : Type 0 
   pub step : IfSome held (λ one. one.0 < basis.steps)
   pub number : IfSome held (λ one. one.1 < 2 ^ 32)
 
+-- an index of 32 bits, and something held only where the node is a device
+pub record IsPassed (plan : PlanData) (node : ℕ) (read : ℕ × Option (ℕ × ℕ)) : Type 0 where
+  pub index : read.0 < 2 ^ 32
+  pub held : IsHolding plan.basis read.1
+  pub holder : is_leaf plan node ≡ false → read.1 ≡ None
+
 -- a node that is not the auctioneer, an index of 32 bits, and something held where the node is a device
 pub record IsPassing (plan : PlanData) (read : ℕ × ℕ × Option (ℕ × ℕ)) : Type 0 where
   pub first : 1 ≤ read.0

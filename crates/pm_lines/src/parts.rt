@@ -1,15 +1,16 @@
 ghost use Rattle.std.specs.Prelude.{◌≡◌, ◌<◌, ◌≤◌, ◌^◌, ◌∷◌, [], codes, decimal, length, Some};
-ghost use Rattle.pm_basis.specs.Prices.{IsBasis};
+ghost use Rattle.std.specs.Fmt.{signed_decimal};
+ghost use Rattle.pm_basis.specs.Prices.{IsBasis, price_at};
 ghost use Rattle.pm_plan.specs.Kept.{IsPlan};
 ghost use Rattle.pm_plan.specs.Plans.{parent, is_leaf};
 ghost use Rattle.pm_report.specs.Words.{name, text_line};
 ghost use Rattle.pm_report.specs.Trace.{held_words, device_words};
-ghost use Rattle.pm_lines.specs.Reading.{Reads, IsHolding, IsPassing};
+ghost use Rattle.pm_lines.specs.Reading.{Reads, IsHolding, IsPassed, IsPassing};
 
 use crate::names::read_node;
 use crate::numbers::{read_last_number, read_number};
 use crate::prices::read_step;
-use crate::words::{is_same, split_word};
+use crate::words::{after_word, is_same, split_word};
 use pm_basis::Basis;
 use pm_plan::Plan;
 use pm_tree::NodeId;
@@ -49,18 +50,28 @@ fn read_price(basis: &Basis, rest: &[u8]) -> Option<(u32, u32)>
     requires { IsBasis basis.now }
     ensures { Reads (λ read. (read.0 < basis.now.steps) × (read.1 < 2 ^ 32)) (λ read. text_line (held_words basis.now (Some read))) rest.now result }
 {
-    let (first, rest) = split_word(rest)?;
+    let rest = after_word(rest, b"price".as_slice())?;
+    read_priced(basis, rest)
+}
+
+/// The step of a price, and the number of the bid behind it.
+fn read_priced(basis: &Basis, rest: &[u8]) -> Option<(u32, u32)>
+    requires { IsBasis basis.now }
+    ensures { Reads (λ read. (read.0 < basis.now.steps) × (read.1 < 2 ^ 32))
+        (λ read. text_line (signed_decimal (price_at basis.now read.0) ∷ codes "bid" ∷ decimal read.1 ∷ [])) rest.now result }
+{
     let (price, rest) = split_word(rest)?;
-    let (third, rest) = split_word(rest)?;
-    if !is_same(first, b"price".as_slice()) {
-        return None;
-    }
-    if !is_same(third, b"bid".as_slice()) {
-        return None;
-    }
     let step = read_step(basis, price)?;
-    let number = read_last_number(rest)?;
+    let number = read_bid(rest)?;
     Some((step, number))
+}
+
+/// The number of a bid, behind the word for it.
+fn read_bid(rest: &[u8]) -> Option<u32>
+    ensures { Reads (λ n. n < 2 ^ 32) (λ n. text_line (codes "bid" ∷ decimal n ∷ [])) rest.now result }
+{
+    let rest = after_word(rest, b"bid".as_slice())?;
+    read_last_number(rest)
 }
 
 /// What a device holds.
@@ -87,6 +98,27 @@ fn read_device_pass(basis: &Basis, rest: &[u8]) -> Option<(u32, Option<(u32, u32
     Some((index, held))
 }
 
+/// The index of the clearing that is passed to a node, and what a device then holds.
+fn read_passed(
+    plan: &Plan,
+    basis: &Basis,
+    node: u32,
+    rest: &[u8],
+) -> Option<(u32, Option<(u32, u32)>)>
+    requires plan { IsPlan plan.now }
+    requires basis { basis.now ≡ plan.now.basis }
+    requires inside { node ≤ length plan.now.nodes }
+    ensures { Reads (IsPassed plan.now node) (λ read.
+        text_line (decimal read.0 ∷ device_words (is_leaf plan.now node) plan.now.basis read.1)) rest.now result }
+{
+    if plan.tree().is_leaf(NodeId(node)) {
+        read_device_pass(basis, rest)
+    } else {
+        let index = read_last_number(rest)?;
+        Some((index, None))
+    }
+}
+
 /// A node, the index of the clearing that is passed to it, and what a device then holds.
 pub(crate) fn read_passing(
     plan: &Plan,
@@ -103,10 +135,6 @@ pub(crate) fn read_passing(
     if node == 0 {
         return None;
     }
-    if !plan.tree().is_leaf(NodeId(node)) {
-        let index = read_last_number(rest)?;
-        return Some((node, index, None));
-    }
-    let (index, held) = read_device_pass(basis, rest)?;
+    let (index, held) = read_passed(plan, basis, node, rest)?;
     Some((node, index, held))
 }

@@ -30,6 +30,19 @@ pub(crate) fn split_word(bytes: &[u8]) -> Option<(&[u8], &[u8])>
     }
 }
 
+/// What follows this word and the blank behind it; none exactly where the bytes do not begin with the word and a blank.
+pub(crate) fn after_word<'a>(bytes: &'a [u8], word: &[u8]) -> Option<&'a [u8]>
+    ensures told { IfSome result (λ rest. bytes.now ≡ word.now ++ 32 ∷ rest.now) }
+    ensures none { IsNone result → is_word word.now ≡ true → (rest : List ℕ) → bytes.now ≢ word.now ++ 32 ∷ rest }
+{
+    let (first, rest) = split_word(bytes)?;
+    if is_same(first, word) {
+        Some(rest)
+    } else {
+        None
+    }
+}
+
 /// The word that a line feed ends; none exactly where the bytes are not one word and a line feed.
 pub(crate) fn last_word(bytes: &[u8]) -> Option<&[u8]>
     ensures told { IfSome result (λ word. (is_word word.now ≡ true) × (bytes.now ≡ word.now ++ 10 ∷ [])) }
