@@ -76,6 +76,13 @@ node_demand_steps : (plan : PlanData) (standing : StandingValue) (x : ℕ) (dema
     x ≤ length plan.nodes → demand ≡ demand_in_cut plan (state plan) (cut_made standing.progress) x → length demand ≡ plan.basis.steps
 node_demand_steps plan standing x demand stands inside demand_is = ap (λ l. length l) demand_is ∙ demand_steps-at plan standing x stands inside
 
+-- what is kept of the plan has a place for the auctioneer and one for each node
+pub kept_places : (plan : PlanData) (old kept : StandingValue) → old ≡ kept → IsStanding plan kept →
+    (length old.progress ≡ length plan.nodes + 1) × (length old.demands ≡ length plan.nodes + 1) × (length old.sums ≡ length plan.nodes + 1)
+kept_places plan old kept e stands =
+    let there = subst (IsStanding plan) (sym e) stands in
+    (there.progress.one_each, there.demand_each, there.sum_each)
+
 -- what is read of a group and of a node has the steps of the basis
 pub kept_sum : (plan : PlanData) (old kept : StandingValue) (g : ℕ) (x : List ℤ) → old ≡ kept → IsStanding plan kept →
     g ≤ length plan.nodes → x ≡ get_or old.sums g x → length x ≡ plan.basis.steps
@@ -225,79 +232,65 @@ stands-put plan old d here bid is leaf stands reached bid_is steps =
 
 -- ---- what is read before a device comes further
 
--- the sum of a group and the demand of a device, read from what is kept
-pub record Read (plan : PlanData) (old : StandingValue) (d g : ℕ) (sum demand : List ℤ) : Type 0 where
+-- device d comes so far, with the demand bid; of what is kept the sum of its group g and its demand before are read
+pub record IsExchange (plan : PlanData) (old : StandingValue) (d g : ℕ) (here : Progress) (sum demand bid : List ℤ) : Type 0 where
+  -- what is kept is that of the plan
+  pub stands : IsStanding plan old
+  -- d is a device
+  pub leaf : is_leaf plan d ≡ true
+  -- the device has come so far
+  pub reached : HasCome plan d here
+  -- the demand is what the device then has
+  pub bid_is : bid ≡ demand_come plan d here
+  -- the demand has the steps of the basis
+  pub steps : length bid ≡ plan.basis.steps
   -- g is the group of device d
   pub group_is : g ≡ group plan d
   -- the sum is the kept one of g, where one is kept
   pub sum_is : sum ≡ get_or old.sums g sum
-  -- the demand is the kept one of d, where one is kept
+  -- the demand before is the kept one of d, where one is kept
   pub demand_is : demand ≡ get_or old.demands d demand
 
-read_sum : (plan : PlanData) (old : StandingValue) (d g : ℕ) (sum demand : List ℤ) → IsPlan plan → is_leaf plan d ≡ true →
-    IsStanding plan old → Read plan old d g sum demand → sum ≡ get_or old.sums (group plan d) []
-read_sum plan old d g sum demand is leaf stands read =
-    read.sum_is ∙ get_or_default old.sums g sum []
-    (omega (arith, stands.sum_each, read.group_is, group_inside plan d is (last_of plan d is leaf))) ∙ ap (λ h. get_or old.sums h []) read.group_is
+module _ {plan : PlanData} {old : StandingValue} {d g : ℕ} {here : Progress} {sum demand bid : List ℤ}
+    (exchange : IsExchange plan old d g here sum demand bid) where
+  inside : group plan d ≤ length plan.nodes
+  inside = group_inside plan d exchange.stands.sound (last_of plan d exchange.stands.sound exchange.leaf)
 
-read_demand : (plan : PlanData) (old : StandingValue) (d g : ℕ) (sum demand : List ℤ) → IsPlan plan → is_leaf plan d ≡ true →
-    IsStanding plan old → Read plan old d g sum demand → demand ≡ get_or old.demands d []
-read_demand plan old d g sum demand is leaf stands read =
-    read.demand_is ∙ get_or_default old.demands d demand [] (omega (arith, stands.demand_each, last_of plan d is leaf))
+  -- the sum of the device's group after the exchange
+  abbrev exchanged : List ℤ
+  exchanged = added (taken_off (get_or old.sums (group plan d) []) (get_or old.demands d [])) bid
 
--- the group's sum and the demand that are read for a device have as many steps as the basis
-pub read_lengths : (plan : PlanData) (old : StandingValue) (d g : ℕ) (sum demand : List ℤ) → IsPlan plan → is_leaf plan d ≡ true →
-    IsStanding plan old → Read plan old d g sum demand →
-    (length sum ≡ plan.basis.steps) × (length demand ≡ plan.basis.steps)
-read_lengths plan old d g sum demand is leaf stands read =
-    let low = first_of plan d is leaf in
-    let high = last_of plan d is leaf in
-    let fit = standing_fits plan old stands in (
-      ap (λ l. length l) (read_sum plan old d g sum demand is leaf stands read
-          ∙ stands.sums (group plan d) (group_inside plan d is high)) ∙ sum_fits plan (state plan) (cut_made old.progress) (group plan d) fit,
-      ap (λ l. length l) (read_demand plan old d g sum demand is leaf stands read ∙ stands.demands d high) ∙ fit.steps d low high,
-    )
+  -- it is made of the sum and the demand that are read
+  exchanged-is : added (taken_off sum demand) bid ≡ exchanged
+  exchanged-is =
+      let sum_is : sum ≡ get_or old.sums (group plan d) [] =
+      exchange.sum_is ∙ get_or_default old.sums g sum [] (omega (arith, exchange.stands.sum_each, exchange.group_is, inside))
+      ∙ ap (λ h. get_or old.sums h []) exchange.group_is in
+      let demand_is : demand ≡ get_or old.demands d [] = exchange.demand_is ∙ get_or_default old.demands d demand []
+      (omega (arith, exchange.stands.demand_each, last_of plan d exchange.stands.sound exchange.leaf)) in
+      λ i. added (taken_off (sum_is i) (demand_is i)) bid
 
--- the sum that the exchange makes
-exchanged-is : (plan : PlanData) (old : StandingValue) (d g : ℕ) (sum demand bid : List ℤ) → IsPlan plan → is_leaf plan d ≡ true →
-    IsStanding plan old → Read plan old d g sum demand →
-    added (taken_off sum demand) bid ≡ added (taken_off (get_or old.sums (group plan d) []) (get_or old.demands d [])) bid
-exchanged-is plan old d g sum demand bid is leaf stands read =
-    ap (λ l. added (taken_off l demand) bid) (read_sum plan old d g sum demand is leaf stands read)
-    ∙ ap (λ l. added (taken_off (get_or old.sums (group plan d) []) l) bid) (read_demand plan old d g sum demand is leaf stands read)
+  put_stands : IsStanding plan (put plan old d here bid)
+  put_stands = stands-put plan old d here bid exchange.stands.sound exchange.leaf exchange.stands exchange.reached exchange.bid_is exchange.steps
 
--- the sum that is read, with the old demand taken off and the new one added, is within the limit of a sum
-pub read_within : (plan : PlanData) (old : StandingValue) (d g : ℕ) (sum demand bid : List ℤ) (here : Progress) → IsPlan plan →
-    is_leaf plan d ≡ true → IsStanding plan old → Read plan old d g sum demand →
-    HasCome plan d here → bid ≡ demand_come plan d here → length bid ≡ plan.basis.steps → AllWithinLimit sum_limit (added (taken_off sum demand) bid)
-read_within plan old d g sum demand bid here is leaf stands read reached bid_is steps =
-    let next = put plan old d here bid in
-    let stands' = stands-put plan old d here bid is leaf stands reached bid_is steps in
-    let inside = group_inside plan d is (last_of plan d is leaf) in
-    let new = added (taken_off (get_or old.sums (group plan d) []) (get_or old.demands d [])) bid in
-    let new_is : new ≡ sum_in plan (state plan) (cut_made next.progress) (group plan d) =
-    sym (get_or-set_same old.sums (group plan d) new [] (omega (arith, stands.sum_each, inside))) ∙ stands'.sums (group plan d) inside in
-    subst (AllWithinLimit sum_limit) (sym (exchanged-is plan old d g sum demand bid is leaf stands read ∙ new_is))
-    (sum_within plan (state plan) (cut_made next.progress) (group plan d) is.nodes.few (standing_fits plan next stands'))
+  -- the sum that is read, with the old demand taken off and the new one added, is within the limit of a sum
+  pub read_within : AllWithinLimit sum_limit (added (taken_off sum demand) bid)
+  read_within =
+      let next = put plan old d here bid in
+      let new_is : exchanged ≡ sum_in plan (state plan) (cut_made next.progress) (group plan d) =
+      sym (get_or-set_same old.sums (group plan d) exchanged [] (omega (arith, exchange.stands.sum_each, inside))) ∙ put_stands.sums (group plan d) inside in
+      subst (AllWithinLimit sum_limit) (sym (exchanged-is ∙ new_is))
+      (sum_within plan (state plan) (cut_made next.progress) (group plan d) exchange.stands.sound.nodes.few (standing_fits plan next put_stands))
 
--- what is kept is that of the plan again with the progress, the demand and the sum made from what was read
-pub read_stands : (plan : PlanData) (old : StandingValue) (d g : ℕ) (sum demand bid : List ℤ) (here : Progress) → IsPlan plan →
-    is_leaf plan d ≡ true → IsStanding plan old → Read plan old d g sum demand →
-    HasCome plan d here → bid ≡ demand_come plan d here → length bid ≡ plan.basis.steps → (new : List ℤ) →
-    new ≡ added (taken_off sum demand) bid → (copy : List ℤ) → copy ≡ bid →
-    IsStanding plan (record { progress = set old.progress d here; demands = set old.demands d copy; sums = set old.sums g new })
-read_stands plan old d g sum demand bid here is leaf stands read reached bid_is steps new new_is copy copy_is =
-    let kept_with = λ (h : ℕ) (l m : List ℤ). (let x : StandingValue = record {
-      progress = set old.progress d here;
-      demands = set old.demands d m;
-      sums = set old.sums h l;
-    } in x) in
-    let made_is = exchanged-is plan old d g sum demand bid is leaf stands read in
-    subst (λ (h : ℕ). IsStanding plan (kept_with h new copy)) (sym read.group_is)
-    (subst (λ (l : List ℤ). IsStanding plan (kept_with (group plan d) l copy)) (sym (new_is ∙ made_is))
-    (subst (λ (m : List ℤ). IsStanding plan
-    (kept_with (group plan d) (added (taken_off (get_or old.sums (group plan d) []) (get_or old.demands d [])) bid) m)) (sym copy_is)
-    (stands-put plan old d here bid is leaf stands reached bid_is steps)))
+  -- what is kept is that of the plan again with the progress, the demand and the sum made from what was read
+  pub read_stands : (new : List ℤ) → new ≡ added (taken_off sum demand) bid → (copy : List ℤ) → copy ≡ bid →
+      IsStanding plan (record { progress = set old.progress d here; demands = set old.demands d copy; sums = set old.sums g new })
+  read_stands new new_is copy copy_is =
+      let group_is = exchange.group_is in
+      let sum_is = new_is ∙ exchanged-is in
+      subst (λ (kept : StandingValue). IsStanding plan kept)
+      (sym (λ i. record { progress = set old.progress d here; demands = set old.demands d (copy_is i); sums = set old.sums (group_is i) (sum_is i) }))
+      put_stands
 
 -- ---- before the first change
 

@@ -113,10 +113,9 @@ impl Standing {
     {
         let at = device.0 as usize;
         let group = group_of(plan, device);
-        let mut counter = Steps::<Brand>::start();
         self.progress[at] = here;
-        self.sums[group].exchange(&self.demands[at], demand, &mut counter);
-        demand.copy_into(&mut self.demands[at], &mut counter);
+        self.sums[group].exchange(&self.demands[at], demand, &mut Steps::<Brand>::start());
+        demand.copy_into(&mut self.demands[at], &mut Steps::<Brand>::start());
     }
 
     /// Makes the changes of a device in a phase, where `used` is its power at the end of the phase before. Tells
