@@ -1,5 +1,5 @@
 -- What a cluster keeps, through a move.
-use Rattle.std.proofs.Common.{◌≡◌, ◌∙◌, sym, ap, subst, ℕ, ◌+◌, ◌<◌, ◌≤◌, None, is_some, true, get_or, arith}
+use Rattle.std.proofs.Common.{◌≡◌, ◌∙◌, sym, ap, subst, ℕ, ◌+◌, ◌<◌, ◌≤◌, None, is_some, true, get_or, length, arith}
 use Rattle.std.proofs.Math.Logic.{∥∥₁_map, ∥∥₁_elim}
 use Rattle.std.proofs.Props.{props}
 use Rattle.pm_market.specs.Lists.{nodes, parent, IsNode, IsLeaf, IsInner}
@@ -16,7 +16,7 @@ use Rattle.pm_stands.specs.Core.{Core}
 use Rattle.pm_stands.specs.Stands.{StandsFor, Stands, MakesMove}
 use Rattle.pm_plan.proofs.MarketLists.{lawful}
 use Rattle.pm_cluster.specs.Clusters.{ClusterValue}
-use Rattle.pm_cluster.specs.ClusterFields.{HasPlaces, core_of, cluster_of}
+use Rattle.pm_cluster.specs.ClusterFields.{AreClusterFields, HasPlaces, core_of, cluster_of}
 use Rattle.pm_cluster.specs.declared.cluster.Cluster.TheInside.{Inside}
 
 -- a cluster that stands for some state has all the places that the code reads
@@ -44,6 +44,33 @@ pub stands_after : (plan : PlanData) (c new : Core) (m : Move) → ((s : State) 
     ∥ Stands plan c ∥₁ → ∥ Stands plan new ∥₁
 stands_after plan c new m makes stands =
     ∥∥₁_map stands (λ st. record { state = step (plan_lists plan) st.state m; is = (makes st.state st.is).stands })
+
+-- a cluster after a move that changes its links and the ends of links alone
+abbrev pub sent : Inside → Inside → Inside
+sent old new = record old {
+  links = new.links;
+  concentrators = new.concentrators;
+  auctioneer = new.auctioneer;
+  ports = new.ports;
+  spare = new.spare;
+}
+
+-- what a cluster keeps is kept by a move that changes its links and the ends of links alone, and no length of the spare bid
+pub moved : (old new : Inside) (m : Move) → AreClusterFields old → length new.spare ≡ length old.spare →
+    ((s : State) → StandsFor old.plan.now (core_of old) s → MakesMove old.plan.now (core_of (sent old new)) s m) →
+    AreClusterFields (sent old new)
+moved old new m kept same_length makes =
+    let now = stands_after old.plan.now (core_of old) (core_of (sent old new)) m makes kept.stands in
+    record {
+      is_plan = kept.is_plan;
+      places = places_of _ _ now;
+      same_members = kept.same_members;
+      members = kept.members;
+      same_due = kept.same_due;
+      due = kept.due;
+      spare = same_length ∙ kept.spare;
+      stands = now;
+    }
 
 -- what holds of the plan of the value holds of the plan of the fields
 pub of_fields : (inside : Inside) (v : ClusterValue) → cluster_of inside ≡ v → (P : PlanData → Type 0) → P v.plan → P inside.plan.now

@@ -7,7 +7,7 @@ use Rattle.pm_stands.proofs.Made.{clear_did}
 use Rattle.pm_stands.proofs.MayClear.{may_clear}
 use Rattle.pm_cluster.specs.declared.cluster.Cluster.TheInside.{Inside}
 use Rattle.pm_cluster.specs.ClusterFields.{core_of}
-use Rattle.pm_cluster.proofs.Kept.{places_of, stands_after, of_value}
+use Rattle.pm_cluster.proofs.Kept.{moved, of_value}
 use Rattle.pm_cluster.proofs.cluster.Cluster.clear.Goals as goal
 use Rattle.pm_cluster.proofs.cluster.Cluster.clear.Goals.{In-Some}
 
@@ -24,20 +24,7 @@ clear-requires-clause-index c =
     (may_clear c.self.inside.plan.now c.self.invariant.is_plan (core_of c.self.inside) c.self.invariant.stands).index
 
 abbrev after : (c : In-Some) → Inside
-after c = record {
-  plan = c.self.inside.plan;
-  counts = c.self.inside.counts;
-  states = c.self.inside.states;
-  members = c.self.inside.members;
-  due = c.self.inside.due;
-  powers = c.self.inside.powers;
-  closed = c.self.inside.closed;
-  links = c.clear.new.links;
-  concentrators = c.self.inside.concentrators;
-  auctioneer = c.clear.new.auctioneer;
-  ports = c.self.inside.ports;
-  spare = c.self.inside.spare;
-}
+after c = record c.self.inside { links = c.clear.new.links; auctioneer = c.clear.new.auctioneer }
 
 did : (c : In-Some) → DidClear (core_of c.self.inside) (core_of (after c)).links c.clear.new.auctioneer c.in-Some.cleared.index c.in-Some.cleared.step
 did c = record { made = c.in-Some.ensures.cleared; row = c.in-Some.ensures.row refl }
@@ -47,18 +34,7 @@ makes : (c : In-Some) (s : State) → StandsFor c.self.inside.plan.now (core_of 
 makes c s stands = clear_did c.self.inside.plan.now c.self.invariant.is_plan (core_of c.self.inside) s stands _ _ _ _ (did c)
 
 pub invariant_of-self-2 : goal.invariant_of-self-2
-invariant_of-self-2 c =
-    let now = stands_after c.self.inside.plan.now (core_of c.self.inside) _ _ (makes c) c.self.invariant.stands in
-    record {
-      is_plan = c.self.invariant.is_plan;
-      places = places_of _ _ now;
-      same_members = c.self.invariant.same_members;
-      members = c.self.invariant.members;
-      same_due = c.self.invariant.same_due;
-      due = c.self.invariant.due;
-      spare = c.self.invariant.spare;
-      stands = now;
-    }
+invariant_of-self-2 c = moved c.self.inside (after c) _ c.self.invariant refl (makes c)
 
 pub returns-clause-made : goal.returns-clause-made
 returns-clause-made c =

@@ -13,7 +13,7 @@ use Rattle.pm_stands.specs.Stands.{StandsFor, MakesMove}
 use Rattle.pm_stands.proofs.Made.{learn_did, can_learn_at, newer_at, cannot_learn}
 use Rattle.pm_cluster.specs.declared.cluster.Cluster.TheInside.{Inside}
 use Rattle.pm_cluster.specs.ClusterFields.{core_of}
-use Rattle.pm_cluster.proofs.Kept.{places_of, parent_there, stands_after, of_fields, of_value}
+use Rattle.pm_cluster.proofs.Kept.{parent_there, moved, of_fields, of_value}
 use Rattle.pm_cluster.proofs.cluster.Cluster.learn.Goals as goal
 use Rattle.pm_cluster.proofs.cluster.Cluster.learn.Goals.{After-unless_gone-demand, After-learn}
 
@@ -45,18 +45,10 @@ learn-requires-clause-can c =
     (the_bid at) _ c.in-Some.ensures.taken)
 
 abbrev after : (c : After-learn) → Inside
-after c = record {
-  plan = c.self.inside.plan;
-  counts = c.self.inside.counts;
-  states = c.self.inside.states;
-  members = c.self.inside.members;
-  due = c.self.inside.due;
-  powers = c.self.inside.powers;
-  closed = c.self.inside.closed;
+after c = record c.self.inside {
   links = c.take_bid.new.links;
   concentrators = c.learn.new.concentrators;
   auctioneer = c.learn.new.auctioneer;
-  ports = c.self.inside.ports;
   spare = c.take_bid.new.into;
 }
 
@@ -78,18 +70,7 @@ makes c s stands =
     c.parent_of-parent.result c.place_in_row-place.result node c.parent_of-parent.ensures.parent c.place_in_row-place.ensures.place _ _ _ _ (did c)
 
 pub invariant_of-self-2 : goal.invariant_of-self-2
-invariant_of-self-2 c =
-    let now = stands_after c.self.inside.plan.now (core_of c.self.inside) _ _ (makes c) c.self.invariant.stands in
-    record {
-      is_plan = c.self.invariant.is_plan;
-      places = places_of _ _ now;
-      same_members = c.self.invariant.same_members;
-      members = c.self.invariant.members;
-      same_due = c.self.invariant.same_due;
-      due = c.self.invariant.due;
-      spare = c.in-Some.ensures.same_length ∙ c.self.invariant.spare;
-      stands = now;
-    }
+invariant_of-self-2 c = moved c.self.inside (after c) _ c.self.invariant c.in-Some.ensures.same_length (makes c)
 
 pub returns-clause-made : goal.returns-clause-made
 returns-clause-made c =

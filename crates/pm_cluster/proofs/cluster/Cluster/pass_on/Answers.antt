@@ -1,61 +1,41 @@
-use Rattle.std.proofs.Common.{ℕ, map}
+use Rattle.std.proofs.Common.{refl, ℕ, map}
 use Rattle.pm_market.specs.State.{State}
 use Rattle.pm_market.specs.Lists.{IsConcentrator}
 use Rattle.pm_market.specs.Moves.{Legal}
 use Rattle.pm_market.specs.declared.moves.Move.TheVariants.{Pass}
 use Rattle.pm_plan.specs.Market.{plan_lists}
-use Rattle.pm_stands.specs.Made.{DidPass}
+use Rattle.pm_stands.specs.Made.{DidPass, MayPass}
 use Rattle.pm_stands.specs.Stands.{StandsFor, MakesMove}
 use Rattle.pm_stands.proofs.MayPass.{may_pass, pass_did, cannot_pass}
 use Rattle.pm_cluster.specs.declared.cluster.Cluster.TheInside.{Inside}
 use Rattle.pm_cluster.specs.ClusterFields.{core_of}
-use Rattle.pm_cluster.proofs.Kept.{places_of, stands_after, of_fields, of_value}
+use Rattle.pm_cluster.proofs.Kept.{moved, of_fields, of_value}
 use Rattle.pm_cluster.proofs.cluster.Cluster.pass_on.Goals as goal
-use Rattle.pm_cluster.proofs.cluster.Cluster.pass_on.Goals.{After-pass}
+use Rattle.pm_cluster.proofs.cluster.Cluster.pass_on.Goals.{In-Some, After-pass}
+
+concentrator_at : (c : In-Some) → IsConcentrator (plan_lists c.self.inside.plan.now) c.args.node.0
+concentrator_at c = of_fields c.self.inside _ c.self.view_is (λ plan. IsConcentrator (plan_lists plan) c.args.node.0) c.requires.concentrator
+
+may : (c : In-Some) → MayPass (core_of c.self.inside) c.args.node.0 (map (λ row. row.items) c.take_price.new.links.items) c.in-Some.price
+may c =
+    may_pass c.self.inside.plan.now c.self.invariant.is_plan (core_of c.self.inside) c.self.invariant.stands c.args.node.0
+    c.parent_of-parent.result c.place_in_row-place.result (concentrator_at c) c.parent_of-parent.ensures.parent c.place_in_row-place.ensures.place
+    (map (λ row. row.items) c.take_price.new.links.items) c.in-Some.price c.in-Some.ensures.taken c.in-Some.ensures.one
 
 pub pass-requires-clause-kept : goal.pass-requires-clause-kept
-pass-requires-clause-kept c =
-    let concentrator = of_fields c.self.inside _ c.self.view_is (λ plan. IsConcentrator (plan_lists plan) c.args.node.0) c.requires.concentrator in
-    (may_pass c.self.inside.plan.now c.self.invariant.is_plan (core_of c.self.inside) c.self.invariant.stands c.args.node.0
-    c.parent_of-parent.result c.place_in_row-place.result concentrator c.parent_of-parent.ensures.parent c.place_in_row-place.ensures.place
-    (map (λ row. row.items) c.take_price.new.links.items) c.in-Some.price c.in-Some.ensures.taken c.in-Some.ensures.one).keeps
+pass-requires-clause-kept c = (may (goal.at.pass-requires-clause-kept c).In-Some).keeps
 
 pub pass-requires-clause-same_length : goal.pass-requires-clause-same_length
-pass-requires-clause-same_length c =
-    let concentrator = of_fields c.self.inside _ c.self.view_is (λ plan. IsConcentrator (plan_lists plan) c.args.node.0) c.requires.concentrator in
-    (may_pass c.self.inside.plan.now c.self.invariant.is_plan (core_of c.self.inside) c.self.invariant.stands c.args.node.0
-    c.parent_of-parent.result c.place_in_row-place.result concentrator c.parent_of-parent.ensures.parent c.place_in_row-place.ensures.place
-    (map (λ row. row.items) c.take_price.new.links.items) c.in-Some.price c.in-Some.ensures.taken c.in-Some.ensures.one).row_length
+pass-requires-clause-same_length c = (may (goal.at.pass-requires-clause-same_length c).In-Some).row_length
 
 pub pass-requires-clause-index : goal.pass-requires-clause-index
-pass-requires-clause-index c =
-    let concentrator = of_fields c.self.inside _ c.self.view_is (λ plan. IsConcentrator (plan_lists plan) c.args.node.0) c.requires.concentrator in
-    (may_pass c.self.inside.plan.now c.self.invariant.is_plan (core_of c.self.inside) c.self.invariant.stands c.args.node.0
-    c.parent_of-parent.result c.place_in_row-place.result concentrator c.parent_of-parent.ensures.parent c.place_in_row-place.ensures.place
-    (map (λ row. row.items) c.take_price.new.links.items) c.in-Some.price c.in-Some.ensures.taken c.in-Some.ensures.one).index
+pass-requires-clause-index c = (may (goal.at.pass-requires-clause-index c).In-Some).index
 
 pub pass-requires-clause-step : goal.pass-requires-clause-step
-pass-requires-clause-step c =
-    let concentrator = of_fields c.self.inside _ c.self.view_is (λ plan. IsConcentrator (plan_lists plan) c.args.node.0) c.requires.concentrator in
-    (may_pass c.self.inside.plan.now c.self.invariant.is_plan (core_of c.self.inside) c.self.invariant.stands c.args.node.0
-    c.parent_of-parent.result c.place_in_row-place.result concentrator c.parent_of-parent.ensures.parent c.place_in_row-place.ensures.place
-    (map (λ row. row.items) c.take_price.new.links.items) c.in-Some.price c.in-Some.ensures.taken c.in-Some.ensures.one).step
+pass-requires-clause-step c = (may (goal.at.pass-requires-clause-step c).In-Some).step
 
 abbrev after : (c : After-pass) → Inside
-after c = record {
-  plan = c.self.inside.plan;
-  counts = c.self.inside.counts;
-  states = c.self.inside.states;
-  members = c.self.inside.members;
-  due = c.self.inside.due;
-  powers = c.self.inside.powers;
-  closed = c.self.inside.closed;
-  links = c.pass.new.links;
-  concentrators = c.pass.new.concentrators;
-  auctioneer = c.self.inside.auctioneer;
-  ports = c.self.inside.ports;
-  spare = c.self.inside.spare;
-}
+after c = record c.self.inside { links = c.pass.new.links; concentrators = c.pass.new.concentrators }
 
 did : (c : After-pass) → DidPass (core_of c.self.inside) c.args.node.0 (map (λ row. row.items) c.take_price.new.links.items) (core_of (after c)).links
     c.pass.new.concentrators.items c.in-Some.price c.parent_of-parent.result c.place_in_row-place.result
@@ -76,18 +56,7 @@ makes c s stands =
     c.parent_of-parent.result c.place_in_row-place.result concentrator c.parent_of-parent.ensures.parent c.place_in_row-place.ensures.place _ _ _ _ (did c)
 
 pub invariant_of-self-2 : goal.invariant_of-self-2
-invariant_of-self-2 c =
-    let now = stands_after c.self.inside.plan.now (core_of c.self.inside) _ _ (makes c) c.self.invariant.stands in
-    record {
-      is_plan = c.self.invariant.is_plan;
-      places = places_of _ _ now;
-      same_members = c.self.invariant.same_members;
-      members = c.self.invariant.members;
-      same_due = c.self.invariant.same_due;
-      due = c.self.invariant.due;
-      spare = c.self.invariant.spare;
-      stands = now;
-    }
+invariant_of-self-2 c = moved c.self.inside (after c) _ c.self.invariant refl (makes c)
 
 pub returns-clause-made : goal.returns-clause-made
 returns-clause-made c =

@@ -1,57 +1,44 @@
-use Rattle.std.proofs.Common.{arith, ℕ}
+use Rattle.std.proofs.Common.{◌≡◌, ◌≤◌, refl, arith, ℕ}
 use Rattle.pm_market.specs.State.{State}
 use Rattle.pm_market.specs.Lists.{IsConcentrator}
 use Rattle.pm_market.specs.Moves.{Legal}
 use Rattle.pm_market.specs.declared.moves.Move.TheVariants.{Publish}
 use Rattle.pm_plan.specs.Market.{plan_lists}
+use Rattle.pm_base.specs.Limits.{most_changes}
+use Rattle.pm_stands.specs.Core.{concentrator_of, link_at}
 use Rattle.pm_stands.specs.Made.{DidPublish}
 use Rattle.pm_stands.specs.Stands.{StandsFor, MakesMove}
 use Rattle.pm_stands.proofs.Made.{publish_did, may_publish_at, cannot_publish}
 use Rattle.pm_cluster.specs.declared.cluster.Cluster.TheInside.{Inside}
 use Rattle.pm_cluster.specs.ClusterFields.{core_of}
-use Rattle.pm_cluster.proofs.Kept.{places_of, stands_after, of_fields, of_value}
+use Rattle.pm_cluster.proofs.Kept.{moved, of_fields, of_value}
 use Rattle.pm_cluster.proofs.cluster.Cluster.publish.Goals as goal
-use Rattle.pm_cluster.proofs.cluster.Cluster.publish.Goals.{In-Some}
+use Rattle.pm_cluster.proofs.cluster.Cluster.publish.Goals.{After-place_in_row-place, In-Some}
+
+concentrator_at : (c : After-place_in_row-place) → IsConcentrator (plan_lists c.self.inside.plan.now) c.args.node.0
+concentrator_at c = of_fields c.self.inside _ c.self.view_is (λ plan. IsConcentrator (plan_lists plan) c.args.node.0) c.requires.concentrator
+
+may : (c : After-place_in_row-place) →
+    ((link_at (core_of c.self.inside).links c.parent_of-parent.result c.place_in_row-place.result).steps
+    ≡ (concentrator_of (core_of c.self.inside) c.args.node.0).cache.steps)
+    × ((concentrator_of (core_of c.self.inside) c.args.node.0).window.last ≤ most_changes)
+    × ((link_at (core_of c.self.inside).links c.parent_of-parent.result c.place_in_row-place.result).up.offered
+    ≤ (concentrator_of (core_of c.self.inside) c.args.node.0).window.last)
+may c =
+    may_publish_at c.self.inside.plan.now c.self.invariant.is_plan (core_of c.self.inside) c.self.invariant.stands c.args.node.0
+    c.parent_of-parent.result c.place_in_row-place.result (concentrator_at c) c.parent_of-parent.ensures.parent c.place_in_row-place.ensures.place
 
 pub publish-requires-clause-steps : goal.publish-requires-clause-steps
-publish-requires-clause-steps c =
-    let concentrator = of_fields c.self.inside _ c.self.view_is (λ plan. IsConcentrator (plan_lists plan) c.args.node.0) c.requires.concentrator in
-    let may =
-    may_publish_at c.self.inside.plan.now c.self.invariant.is_plan (core_of c.self.inside) c.self.invariant.stands c.args.node.0
-    c.parent_of-parent.result c.place_in_row-place.result concentrator c.parent_of-parent.ensures.parent c.place_in_row-place.ensures.place in
-    may.0
+publish-requires-clause-steps c = (may (goal.at.publish-requires-clause-steps c).After-place_in_row-place).0
 
 pub publish-requires-clause-last : goal.publish-requires-clause-last
-publish-requires-clause-last c =
-    let concentrator = of_fields c.self.inside _ c.self.view_is (λ plan. IsConcentrator (plan_lists plan) c.args.node.0) c.requires.concentrator in
-    let may =
-    may_publish_at c.self.inside.plan.now c.self.invariant.is_plan (core_of c.self.inside) c.self.invariant.stands c.args.node.0
-    c.parent_of-parent.result c.place_in_row-place.result concentrator c.parent_of-parent.ensures.parent c.place_in_row-place.ensures.place in
-    omega (arith, may.1)
+publish-requires-clause-last c = omega (arith, (may (goal.at.publish-requires-clause-last c).After-place_in_row-place).1)
 
 pub publish-requires-clause-number : goal.publish-requires-clause-number
-publish-requires-clause-number c =
-    let concentrator = of_fields c.self.inside _ c.self.view_is (λ plan. IsConcentrator (plan_lists plan) c.args.node.0) c.requires.concentrator in
-    let may =
-    may_publish_at c.self.inside.plan.now c.self.invariant.is_plan (core_of c.self.inside) c.self.invariant.stands c.args.node.0
-    c.parent_of-parent.result c.place_in_row-place.result concentrator c.parent_of-parent.ensures.parent c.place_in_row-place.ensures.place in
-    may.2
+publish-requires-clause-number c = (may (goal.at.publish-requires-clause-number c).After-place_in_row-place).2
 
 abbrev after : (c : In-Some) → Inside
-after c = record {
-  plan = c.self.inside.plan;
-  counts = c.self.inside.counts;
-  states = c.self.inside.states;
-  members = c.self.inside.members;
-  due = c.self.inside.due;
-  powers = c.self.inside.powers;
-  closed = c.self.inside.closed;
-  links = c.publish.new.links;
-  concentrators = c.publish.new.concentrators;
-  auctioneer = c.self.inside.auctioneer;
-  ports = c.self.inside.ports;
-  spare = c.self.inside.spare;
-}
+after c = record c.self.inside { links = c.publish.new.links; concentrators = c.publish.new.concentrators }
 
 did : (c : In-Some) → DidPublish (core_of c.self.inside) c.args.node.0 (core_of (after c)).links c.publish.new.concentrators.items c.in-Some.number
     c.parent_of-parent.result c.place_in_row-place.result
@@ -65,18 +52,7 @@ makes c s stands =
     c.parent_of-parent.result c.place_in_row-place.result concentrator c.parent_of-parent.ensures.parent c.place_in_row-place.ensures.place _ _ _ (did c)
 
 pub invariant_of-self-2 : goal.invariant_of-self-2
-invariant_of-self-2 c =
-    let now = stands_after c.self.inside.plan.now (core_of c.self.inside) _ _ (makes c) c.self.invariant.stands in
-    record {
-      is_plan = c.self.invariant.is_plan;
-      places = places_of _ _ now;
-      same_members = c.self.invariant.same_members;
-      members = c.self.invariant.members;
-      same_due = c.self.invariant.same_due;
-      due = c.self.invariant.due;
-      spare = c.self.invariant.spare;
-      stands = now;
-    }
+invariant_of-self-2 c = moved c.self.inside (after c) _ c.self.invariant refl (makes c)
 
 pub returns-clause-made : goal.returns-clause-made
 returns-clause-made c =

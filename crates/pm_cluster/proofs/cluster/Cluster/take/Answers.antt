@@ -1,4 +1,4 @@
-use Rattle.std.proofs.Common.{arith, ℕ, sym, ap, ◌∙◌, ◌<◌, length, Some}
+use Rattle.std.proofs.Common.{refl, arith, ℕ, sym, ap, ◌∙◌, ◌<◌, length, Some}
 use Rattle.std.proofs.Math.ListN.{length-set}
 use Rattle.std.specs.Vec.{with_item}
 use Rattle.pm_market.specs.State.{State}
@@ -13,7 +13,7 @@ use Rattle.pm_stands.proofs.MayPass.{cannot_pass}
 use Rattle.pm_stands.proofs.Taking.{take_did}
 use Rattle.pm_cluster.specs.declared.cluster.Cluster.TheInside.{Inside}
 use Rattle.pm_cluster.specs.ClusterFields.{core_of}
-use Rattle.pm_cluster.proofs.Kept.{places_of, stands_after, of_fields, of_value, leaf_is_node}
+use Rattle.pm_cluster.proofs.Kept.{moved, of_fields, of_value, leaf_is_node}
 use Rattle.pm_cluster.proofs.Seats.{seat_set, seat_other, seat_read}
 use Rattle.pm_cluster.proofs.cluster.Cluster.take.Goals as goal
 use Rattle.pm_cluster.proofs.cluster.Cluster.take.Goals.{After-index_mut, After-price}
@@ -35,20 +35,7 @@ inside_ports c =
     omega (arith, node.1, c.self.invariant.places.all_ports)
 
 abbrev after : (c : After-price) → Inside
-after c = record {
-  plan = c.self.inside.plan;
-  counts = c.self.inside.counts;
-  states = c.self.inside.states;
-  members = c.self.inside.members;
-  due = c.self.inside.due;
-  powers = c.self.inside.powers;
-  closed = c.self.inside.closed;
-  links = c.take_price.new.links;
-  concentrators = c.self.inside.concentrators;
-  auctioneer = c.self.inside.auctioneer;
-  ports = with_item c.self.inside.ports c.args.device.0 c.price.new.self;
-  spare = c.self.inside.spare;
-}
+after c = record c.self.inside { links = c.take_price.new.links; ports = with_item c.self.inside.ports c.args.device.0 c.price.new.self }
 
 did : (c : After-price) → DidTake (core_of c.self.inside) c.args.device.0 (core_of (after c)).links (core_of (after c)).ports c.in-Some.price
     c.parent_of-parent.result c.place_in_row-place.result
@@ -70,18 +57,7 @@ makes c s stands =
     c.parent_of-parent.result c.place_in_row-place.result leaf c.parent_of-parent.ensures.parent c.place_in_row-place.ensures.place _ _ _ (did c)
 
 pub invariant_of-self-2 : goal.invariant_of-self-2
-invariant_of-self-2 c =
-    let now = stands_after c.self.inside.plan.now (core_of c.self.inside) _ _ (makes (goal.at.invariant_of-self-2 c).After-price) c.self.invariant.stands in
-    record {
-      is_plan = c.self.invariant.is_plan;
-      places = places_of _ _ now;
-      same_members = c.self.invariant.same_members;
-      members = c.self.invariant.members;
-      same_due = c.self.invariant.same_due;
-      due = c.self.invariant.due;
-      spare = c.self.invariant.spare;
-      stands = now;
-    }
+invariant_of-self-2 c = moved c.self.inside (after (goal.at.invariant_of-self-2 c).After-price) _ c.self.invariant refl (makes (goal.at.invariant_of-self-2 c).After-price)
 
 pub returns-clause-made : goal.returns-clause-made
 returns-clause-made c =
