@@ -1,52 +1,96 @@
 -- The checks of an entry that is read from the list.
 use Rattle.std.proofs.Common.{◌≡◌, ℕ, ◌+◌, ◌<◌, ◌≤◌, Bool, true, false, ◌&&◌, not, if◌then◌else◌, List, [], length, get_or}
-use Rattle.std.proofs.Common.{take, Option, Some, None, is_some, unwrap_or, sym, ap, subst, ◌∙◌, arith, nat_le, string_bytes, length-take-le, add-zero}
+use Rattle.std.proofs.Common.{take, Option, Some, None, is_some, unwrap_or, refl, sym, ap, subst, ◌∙◌, arith, nat_le, string_bytes, length-take-le}
 use Rattle.std.specs.List.{position}
-use Rattle.std.specs.Option.{option_map}
+use Rattle.std.specs.Option.{option_or}
 use Rattle.std.specs.Str.{bytes_eq}
-use Rattle.std.proofs.lemmas.Bool.Decides.{nat_tests}
 use Rattle.std.proofs.lemmas.List.{length-map, get_or-map}
 use Rattle.pm_base.specs.Limits.{most_depth}
-use Rattle.pm_base.proofs.Options.{is_some-option_map, none_of}
+use Rattle.pm_base.proofs.Options.{none_of}
 use Rattle.pm_tree.specs.Names.{is_name}
 use Rattle.pm_tree.specs.Shape.{IsTree}
-use Rattle.pm_tree.specs.Entries.{Entry, entry_of, entries_of, entry_at, names_of, node_named, number_named, parents_of, leaves_of, is_leaf_at, depth_of}
+use Rattle.pm_tree.specs.Entries.{Entry, entry_of, entries_of, entry_at, node_named, number_named, parents_of, leaves_of, is_leaf_at, depth_of}
 use Rattle.pm_tree.specs.Entries.{can_be_parent, entry_refusal}
+use Rattle.pm_tree.specs.Stages.{leaf_in, depth_in, name_refusal, parent_refusal, depth_refusal, refusal_in, IsParent, IsRowBelow}
 use Rattle.pm_tree.specs.Tables.{IsRowOf, IsIndexOf}
 use Rattle.pm_tree.specs.declared.entry.TreeEntry.{TreeEntry}
 use Rattle.pm_tree.specs.declared.fault.TreeFault.{TreeFault}
 use Rattle.pm_tree.specs.declared.fault.TreeFault.TheVariants.{BadName, Twice, NoParent, TooDeep}
 use Rattle.pm_tree.specs.declared.node.Node.{Node}
-use Rattle.pm_tree.specs.declared.node.NodeId.{NodeId}
-use Rattle.pm_tree.proofs.Refusals.{refused_name, refused_twice, refused_parent, refused_depth, accepted_leaf, accepted_concentrator}
-use Rattle.pm_tree.proofs.Rows.{row_leaf, row_depth, length-table}
-use Rattle.pm_tree.proofs.Named.{node_named-inside, length-parents_of}
+use Rattle.pm_tree.proofs.Rows.{length-table}
+use Rattle.pm_tree.proofs.Named.{number_named-inside, length-parents_of}
 
--- what a search through the names of an index finds
-pub found_named : (before : List Entry) (names : List (List ℕ)) (nodes : List Node) → IsIndexOf before names nodes →
-    (name bytes : List ℕ) → bytes ≡ name → (found : Option NodeId) →
-    option_map (λ node. node.0) found ≡ position (bytes_eq bytes) names → node_named before name ≡ option_map (λ node. node.0) found
-unfolding node_named
-found_named before names nodes index name bytes same found is =
-    ap (λ b. position (bytes_eq b) (names_of before)) (sym same) ∙ ap (position (bytes_eq bytes)) (sym index.names_are) ∙ sym is
+-- four checks in turn are the first two and then the others
+in_turn : (bad taken orphan deep : Bool) (at : ℕ) →
+    (if bad then Some (BadName at)
+    else (if taken then Some (Twice at) else (if orphan then Some (NoParent at) else (if deep then Some (TooDeep at) else None))))
+    ≡ option_or (if bad then Some (BadName at) else (if taken then Some (Twice at) else None))
+    (option_or (if orphan then Some (NoParent at) else None) (if deep then Some (TooDeep at) else None))
+in_turn true taken orphan deep at = refl
+in_turn false true orphan deep at = refl
+in_turn false false true deep at = refl
+in_turn false false false deep at = refl
 
--- the test whether the most depth is reached says yes at a depth at or above the most
-pub at_least_most : (depth : ℕ) → most_depth ≤ depth → nat_le most_depth depth ≡ true
-at_least_most depth high = grind (arith, nat_tests)
+free_by : (bad taken : Bool) (at : ℕ) → (if bad then Some (BadName at) else (if taken then Some (Twice at) else None)) ≡ None → taken ≡ false
+free_by true taken at none = absurd (cc none)
+free_by false true at none = absurd (cc none)
+free_by false false at none = refl
 
--- the test whether the most depth is reached says no at a depth below the most
-pub below_most : (depth : ℕ) → depth < most_depth → nat_le most_depth depth ≡ false
-below_most depth low = grind (arith, nat_tests)
+shallow_by : (leaf : Bool) (above depth : ℕ) → above ≤ most_depth → depth ≡ above + (if leaf then 0 else 1) →
+    (leaf ≡ false → depth ≤ most_depth) → depth ≤ most_depth
+shallow_by true above depth low is concentrator = omega arith
+shallow_by false above depth low is concentrator = concentrator refl
 
--- a node that is a leaf adds nothing to a depth
-pub leaf_depth : (leaf : Bool) (depth : ℕ) → leaf ≡ true → depth ≡ depth + (if leaf then 0 else 1)
-leaf_depth leaf depth is = sym (ap (λ b. depth + (if b then 0 else 1)) is ∙ add-zero depth)
+-- what the tables of some entries tell
+module _ (before : List Entry) (names : List (List ℕ)) (nodes : List Node) (index : IsIndexOf before names nodes) where
+  -- an index has as many rows as names
+  pub as_many_rows : length nodes ≡ length names
+  as_many_rows = omega (
+    arith,
+    length-table (parents_of before) (leaves_of before) nodes index.nodes_are,
+    length-parents_of before,
+    ap length index.names_are,
+    length-map before (λ (e : Entry). e.name),
+  )
 
--- a node that is no leaf adds one to a depth
-pub concentrator_depth : (leaf : Bool) (depth : ℕ) → leaf ≡ false → depth + 1 ≡ depth + (if leaf then 0 else 1)
-concentrator_depth leaf depth is = sym (ap (λ b. depth + (if b then 0 else 1)) is)
+  named_is : (name : List ℕ) → position (bytes_eq name) names ≡ node_named before name
+  unfolding node_named
+  named_is name = ap (position (bytes_eq name)) index.names_are
 
-module _ (entries : List TreeEntry) (place : ℕ) (e : TreeEntry) (inside : place < length entries) (read : e ≡ get_or entries place e) where
+  leaf_is : (node : ℕ) → leaf_in nodes node ≡ is_leaf_at before node
+  leaf_is node = ap (λ marks. get_or marks node false) index.nodes_are.leaf_is
+
+  depth_is : (name : List ℕ) → depth_in nodes (number_named before name) ≡ depth_of before (number_named before name)
+  depth_is name = index.nodes_are.depth_is (number_named before name) (omega (arith, number_named-inside before name, length-parents_of before))
+
+  -- the refusal of an entry after some entries is its refusal by their tables
+  in_tables : (e : Entry) → entry_refusal before e ≡ refusal_in names nodes e (length before + 1)
+  unfolding entry_refusal
+  in_tables e = rw (named_is e.name, named_is e.parent, leaf_is (number_named before e.parent), depth_is e.parent)
+      (in_turn (not (is_name e.name)) (is_some (node_named before e.name)) (not (can_be_parent before e.parent))
+      (not e.leaf && nat_le most_depth (depth_of before (number_named before e.parent))) (length before + 1))
+
+  -- a row below the parent of an accepted entry is that entry's
+  row_of : (e : Entry) (at parent : ℕ) (row : Node) → IsTree (parents_of before) (leaves_of before) →
+      name_refusal names e.name at ≡ None → IsParent names nodes e.parent parent → IsRowBelow nodes parent e.leaf row → IsRowOf before e row
+  row_of e at parent row tree free is_parent below =
+      let found : node_named before e.parent ≡ Some parent = sym (named_is e.parent) ∙ is_parent.named in
+      let number : parent ≡ number_named before e.parent = sym (ap (λ o. unwrap_or o 0) found) in
+      let depth : depth_in nodes parent ≡ depth_of before (number_named before e.parent) = ap (depth_in nodes) number ∙ depth_is e.parent in
+      let low = tree.shallow (number_named before e.parent) (omega (arith, number_named-inside before e.parent, length-parents_of before)) in
+      record {
+        name_is_new = none_of (node_named before e.name) (ap is_some (sym (named_is e.name)) ∙ free_by (not (is_name e.name)) _ at free);
+        parent_is_named = ap is_some found;
+        parent_is = below.parent_is ∙ number;
+        parent_is_no_leaf = ap (is_leaf_at before) below.parent_is ∙ sym (leaf_is parent) ∙ is_parent.no_leaf;
+        leaf_is = below.leaf_is;
+        depth_is = below.depth_is ∙ ap (λ n. n + (if e.leaf then 0 else 1)) depth;
+        shallow = shallow_by e.leaf (depth_in nodes parent) row.depth (omega (arith, depth, low)) below.depth_is below.concentrator_is_shallow;
+      }
+
+-- the entry read at a place, after the entries before it
+module _ (entries : List TreeEntry) (place : ℕ) (e : TreeEntry) (inside : place < length entries) (read : e ≡ get_or entries place e)
+    (names : List (List ℕ)) (nodes : List Node) (index : IsIndexOf (take place (entries_of entries)) names nodes) where
   abbrev before : List Entry
   before = take place (entries_of entries)
 
@@ -56,110 +100,32 @@ module _ (entries : List TreeEntry) (place : ℕ) (e : TreeEntry) (inside : plac
   entry_here : entry_of e ≡ entry_at (entries_of entries) place
   entry_here = ap entry_of read ∙ sym (get_or-map entry_of entries place e (record { name = []; parent = []; leaf = false }) inside)
 
-  at_here : (fault : ℕ → TreeFault) → entry_refusal before (entry_of e) ≡ Some (fault (length before + 1)) →
-      entry_refusal before (entry_at (entries_of entries) place) ≡ Some (fault (place + 1))
-  at_here fault is = ap (entry_refusal before) (sym entry_here) ∙ is ∙ ap (λ n. Some (fault (n + 1))) length-before
+  -- the refusal of the entry read is its refusal by the tables
+  refusal_here : entry_refusal before (entry_at (entries_of entries) place) ≡ refusal_in names nodes (entry_of e) (place + 1)
+  refusal_here =
+      ap (entry_refusal before) (sym entry_here) ∙ in_tables before names nodes index (entry_of e)
+      ∙ ap (λ n. refusal_in names nodes (entry_of e) (n + 1)) length-before
 
-  none_here : entry_refusal before (entry_of e) ≡ None → entry_refusal before (entry_at (entries_of entries) place) ≡ None
-  none_here is = ap (entry_refusal before) (sym entry_here) ∙ is
+  -- the entry read is refused as its name is
+  pub name_refused : (fault : TreeFault) → name_refusal names (string_bytes e.name) (place + 1) ≡ Some fault →
+      entry_refusal before (entry_at (entries_of entries) place) ≡ Some fault
+  name_refused fault refused = refusal_here ∙ rw refused
 
-  -- the entry read at a place is refused for its name where that is no lawful name
-  pub bad_name : is_name (string_bytes e.name) ≡ false → entry_refusal before (entry_at (entries_of entries) place) ≡ Some (BadName (place + 1))
-  bad_name bad = at_here BadName (refused_name before (entry_of e) bad)
+  module _ (free : name_refusal names (string_bytes e.name) (place + 1) ≡ None) where
+    -- the entry read, of a free lawful name, is refused as its parent is
+    pub parent_refused : (fault : TreeFault) → parent_refusal names nodes (string_bytes e.parent) (place + 1) ≡ Some fault →
+        entry_refusal before (entry_at (entries_of entries) place) ≡ Some fault
+    parent_refused fault refused = refusal_here ∙ rw (free, refused)
 
-  module _ (names : List (List ℕ)) (nodes : List Node) (index : IsIndexOf before names nodes) (good : is_name (string_bytes e.name) ≡ true)
-      (name_bytes : List ℕ) (name_is : name_bytes ≡ string_bytes e.name) (same_name : Option NodeId)
-      (same_name_is : option_map (λ node. node.0) same_name ≡ position (bytes_eq name_bytes) names) where
-    taken_is : is_some (node_named before (string_bytes e.name)) ≡ is_some same_name
-    taken_is = ap is_some (found_named before names nodes index (string_bytes e.name) name_bytes name_is same_name same_name_is)
-        ∙ is_some-option_map (λ (node : NodeId). node.0) same_name
+    module _ (parent : ℕ) (is_parent : IsParent names nodes (string_bytes e.parent) parent) where
+      -- the entry read, of a free lawful name and with a parent, is accepted or refused as its depth is
+      pub refusal_below : (refusal : Option TreeFault) → depth_refusal nodes parent e.leaf (place + 1) ≡ refusal →
+          entry_refusal before (entry_at (entries_of entries) place) ≡ refusal
+      refusal_below refusal is = refusal_here ∙ rw (free, is_parent.named, is_parent.no_leaf) is
 
-    -- the entry read is refused as named twice where the search finds its lawful name among the names before it
-    pub twice : is_some same_name ≡ true → entry_refusal before (entry_at (entries_of entries) place) ≡ Some (Twice (place + 1))
-    twice taken = at_here Twice (refused_twice before (entry_of e) good (taken_is ∙ taken))
-
-    module _ (free : is_some same_name ≡ false) (parent_bytes : List ℕ) (parent_bytes_are : parent_bytes ≡ string_bytes e.parent) (parent : Option NodeId)
-        (parent_is : option_map (λ node. node.0) parent ≡ position (bytes_eq parent_bytes) names) where
-      parent_named : node_named before (string_bytes e.parent) ≡ option_map (λ node. node.0) parent
-      parent_named = found_named before names nodes index (string_bytes e.parent) parent_bytes parent_bytes_are parent parent_is
-
-      -- the entry read, of a free lawful name, is refused for its parent where the search finds none
-      pub no_parent : parent ≡ None → entry_refusal before (entry_at (entries_of entries) place) ≡ Some (NoParent (place + 1))
-      no_parent none =
-          let orphan : can_be_parent before (string_bytes e.parent) ≡ false =
-          ap (λ o. is_some o && not (is_leaf_at before (unwrap_or o 0))) (parent_named ∙ ap (option_map (λ (node : NodeId). node.0)) none) in
-          at_here NoParent (refused_parent before (entry_of e) good (taken_is ∙ free) orphan)
-
-      module _ (above : NodeId) (some : parent ≡ Some above) where
-        named_is : node_named before (string_bytes e.parent) ≡ Some above.0
-        named_is = parent_named ∙ ap (option_map (λ (node : NodeId). node.0)) some
-
-        number_is : number_named before (string_bytes e.parent) ≡ above.0
-        number_is = ap (λ o. unwrap_or o 0) named_is
-
-        -- the number of a parent that the search finds lies within the node table
-        pub parent_inside : above.0 < length nodes
-        parent_inside = omega (
-          arith,
-          node_named-inside before (string_bytes e.parent) above.0 named_is,
-          length-table (parents_of before) (leaves_of before) nodes index.nodes_are,
-          length-parents_of before,
-        )
-
-        module _ (row : Node) (row_read : row ≡ get_or nodes above.0 row) where
-          leaf_is : is_leaf_at before above.0 ≡ row.leaf
-          leaf_is = sym (ap (λ (r : Node). r.leaf) row_read
-              ∙ row_leaf (parents_of before) (leaves_of before) nodes index.nodes_are above.0 row parent_inside)
-
-          depth_is : depth_of before above.0 ≡ row.depth
-          depth_is = sym (ap (λ (r : Node). r.depth) row_read
-              ∙ row_depth (parents_of before) (leaves_of before) nodes index.nodes_are above.0 row parent_inside)
-
-          parent_kind : can_be_parent before (string_bytes e.parent) ≡ not row.leaf
-          parent_kind = ap (λ o. is_some o && not (is_leaf_at before (unwrap_or o 0))) named_is ∙ ap not leaf_is
-
-          parent_depth : (b : Bool) → nat_le most_depth row.depth ≡ b →
-              nat_le most_depth (depth_of before (number_named before (string_bytes e.parent))) ≡ b
-          parent_depth b is = ap (λ n. nat_le most_depth (depth_of before n)) number_is ∙ ap (nat_le most_depth) depth_is ∙ is
-
-          -- the entry read, of a free lawful name, is refused for its parent where the parent found is a leaf
-          pub leaf_above : row.leaf ≡ true → entry_refusal before (entry_at (entries_of entries) place) ≡ Some (NoParent (place + 1))
-          leaf_above leaf = at_here NoParent (refused_parent before (entry_of e) good (taken_is ∙ free) (parent_kind ∙ ap not leaf))
-
-          module _ (no_leaf : row.leaf ≡ false) where
-            -- a leaf read, of a free lawful name, is accepted where the parent found is no leaf
-            pub leaf_accepted : e.leaf ≡ true → entry_refusal before (entry_at (entries_of entries) place) ≡ None
-            leaf_accepted leaf = none_here (accepted_leaf before (entry_of e) good (taken_is ∙ free) (parent_kind ∙ ap not no_leaf) leaf)
-
-            -- a concentrator read, of a free lawful name, is too deep under a parent, no leaf, of at least the most depth
-            pub too_deep : e.leaf ≡ false → nat_le most_depth row.depth ≡ true →
-                entry_refusal before (entry_at (entries_of entries) place) ≡ Some (TooDeep (place + 1))
-            too_deep concentrator deep = at_here TooDeep
-                (refused_depth before (entry_of e) good (taken_is ∙ free) (parent_kind ∙ ap not no_leaf) concentrator (parent_depth true deep))
-
-            -- a concentrator read, of a free lawful name, is accepted under a parent, no leaf, less deep than the most
-            pub concentrator_accepted : e.leaf ≡ false → nat_le most_depth row.depth ≡ false →
-                entry_refusal before (entry_at (entries_of entries) place) ≡ None
-            concentrator_accepted concentrator shallow = none_here
-                (accepted_concentrator before (entry_of e) good (taken_is ∙ free) (parent_kind ∙ ap not no_leaf) concentrator (parent_depth false shallow))
-
-            -- a leaf is no deeper than its parent
-            pub row_shallow : IsTree (parents_of before) (leaves_of before) → row.depth ≤ most_depth
-            row_shallow tree =
-                let low : above.0 ≤ length (parents_of before) =
-                omega (arith, parent_inside, length-table (parents_of before) (leaves_of before) nodes index.nodes_are) in
-                omega (arith, depth_is, tree.shallow above.0 low)
-
-            -- the new row
-            pub row_is : (new : Node) → new.parent ≡ above → new.leaf ≡ e.leaf → new.depth ≡ row.depth + (if e.leaf then 0 else 1) →
-                new.depth ≤ most_depth →
-                IsRowOf before (entry_at (entries_of entries) place) new
-            row_is new parent_same leaf_same depth_same shallow = subst (λ entry. IsRowOf before entry new) entry_here (record {
-              name_is_new = none_of (node_named before (string_bytes e.name)) (taken_is ∙ free);
-              parent_is_named = ap is_some named_is;
-              parent_is = ap (λ (n : NodeId). n.0) parent_same ∙ sym number_is;
-              parent_is_no_leaf = ap (λ (n : NodeId). is_leaf_at before n.0) parent_same ∙ leaf_is ∙ no_leaf;
-              leaf_is = leaf_same;
-              depth_is = depth_same ∙ ap (λ n. n + (if e.leaf then 0 else 1)) (sym (ap (depth_of before) number_is ∙ depth_is));
-              shallow = shallow;
-            })
+      -- the row below the parent of the entry read is the row of that entry
+      pub row_is : IsTree (parents_of before) (leaves_of before) → (row : Node) → IsRowBelow nodes parent e.leaf row →
+          IsRowOf before (entry_at (entries_of entries) place) row
+      row_is tree row below =
+          subst (λ entry. IsRowOf before entry row) entry_here
+          (row_of before names nodes index (entry_of e) (place + 1) parent row tree free is_parent below)

@@ -1,12 +1,11 @@
 -- When an entry is refused, and the first refusal of a list.
-use Rattle.std.proofs.Common.{◌≡◌, ◌+◌, true, false, List, [], ◌∷◌, ◌++◌, length, Some, None, is_some, sym, ap, ◌∙◌, nat_le}
+use Rattle.std.proofs.Common.{◌≡◌, ◌+◌, true, false, List, [], ◌∷◌, ◌++◌, length, Some, None, is_some, sym, ap, ◌∙◌}
 use Rattle.std.proofs.Common.{append_assoc, append-nil}
 use Rattle.std.specs.Option.{option_to_list}
-use Rattle.pm_base.specs.Limits.{most_depth}
 use Rattle.pm_tree.specs.Names.{is_name}
-use Rattle.pm_tree.specs.Entries.{Entry, node_named, number_named, depth_of, can_be_parent, entry_refusal, refusals_after}
+use Rattle.pm_tree.specs.Entries.{Entry, node_named, can_be_parent, entry_refusal, refusals_after}
 use Rattle.pm_tree.specs.declared.fault.TreeFault.{TreeFault}
-use Rattle.pm_tree.specs.declared.fault.TreeFault.TheVariants.{BadName, Twice, NoParent, TooDeep}
+use Rattle.pm_tree.specs.declared.fault.TreeFault.TheVariants.{BadName, Twice}
 
 module _ (before : List Entry) (e : Entry) where
   -- an entry whose name is no lawful one is refused for its name
@@ -19,31 +18,11 @@ module _ (before : List Entry) (e : Entry) where
   unfolding entry_refusal
   refused_twice good taken = rw (good, taken)
 
-  -- an entry of a free lawful name is refused for its parent where no node so named can be a parent
-  pub refused_parent : is_name e.name ≡ true → is_some (node_named before e.name) ≡ false → can_be_parent before e.parent ≡ false →
-      entry_refusal before e ≡ Some (NoParent (length before + 1))
-  unfolding entry_refusal
-  refused_parent good free orphan = rw (good, free, orphan)
-
-  -- a concentrator of a free lawful name is refused as too deep under a parent of at least the most depth
-  pub refused_depth : is_name e.name ≡ true → is_some (node_named before e.name) ≡ false → can_be_parent before e.parent ≡ true →
-      e.leaf ≡ false →
-      nat_le most_depth (depth_of before (number_named before e.parent)) ≡ true → entry_refusal before e ≡ Some (TooDeep (length before + 1))
-  unfolding entry_refusal
-  refused_depth good free below concentrator deep = rw (good, free, below, concentrator, deep)
-
   -- a leaf of a free lawful name under a node that can be a parent is accepted
   pub accepted_leaf : is_name e.name ≡ true → is_some (node_named before e.name) ≡ false → can_be_parent before e.parent ≡ true →
       e.leaf ≡ true → entry_refusal before e ≡ None
   unfolding entry_refusal
   accepted_leaf good free below leaf = rw (good, free, below, leaf)
-
-  -- a concentrator of a free lawful name is accepted under a possible parent less deep than the most
-  pub accepted_concentrator : is_name e.name ≡ true → is_some (node_named before e.name) ≡ false →
-      can_be_parent before e.parent ≡ true → e.leaf ≡ false →
-      nat_le most_depth (depth_of before (number_named before e.parent)) ≡ false → entry_refusal before e ≡ None
-  unfolding entry_refusal
-  accepted_concentrator good free below concentrator shallow = rw (good, free, below, concentrator, shallow)
 
 -- the refusals of a list, and then of what comes after it
 pub refusals_after-append : (before first rest : List Entry) → refusals_after before (first ++ rest) ≡ refusals_after before first

@@ -1,17 +1,17 @@
 -- The tree of a list that is accepted, and the refusals of a list.
-use Rattle.std.proofs.Common.{◌≡◌, ℕ, ◌+◌, ◌<◌, ◌≤◌, true, if◌then◌else◌, List, [], length, drop, Some, None, Result, Ok, Err, sym}
-use Rattle.std.proofs.Common.{ap, subst, ◌∙◌, arith, nat_lt, slice_get, ◌⊎◌, inl, inr}
+use Rattle.std.proofs.Common.{◌≡◌, ℕ, ◌+◌, ◌<◌, ◌≤◌, true, if◌then◌else◌, List, [], length, get_or, drop, Some, None, Result, Ok}
+use Rattle.std.proofs.Common.{Err, sym, ap, subst, ◌∙◌, arith, nat_lt, slice_get, ◌⊎◌, inl, inr}
 use Rattle.std.proofs.lemmas.Bool.Decides.{nat_tests}
 use Rattle.std.proofs.lemmas.Bool.{le-ltb}
 use Rattle.pm_base.specs.Limits.{most_nodes}
 use Rattle.pm_tree.specs.Shape.{children_at, leaves_below_at, place_at, IsTree}
-use Rattle.pm_tree.specs.Entries.{Entry, parents_of, leaves_of, refusals_after, first_refusal, tree_unless, checked_tree}
+use Rattle.pm_tree.specs.Entries.{Entry, parents_of, leaves_of, parent_of, is_leaf_at, depth_of, refusals_after, first_refusal, tree_unless, checked_tree}
 use Rattle.pm_tree.specs.Tables.{shape_parents, shape_leaves, AreLists, AreNumbers, IsIndexOf, AreTables}
 use Rattle.pm_tree.specs.declared.fault.TreeFault.{TreeFault}
 use Rattle.pm_tree.specs.declared.fault.TreeFault.TheVariants.{TooMany, NoMemory}
 use Rattle.pm_tree.specs.declared.node.Node.{Node}
 use Rattle.pm_tree.proofs.Named.{length-parents_of}
-use Rattle.pm_tree.proofs.Rows.{length-table}
+use Rattle.pm_tree.proofs.Rows.{length-table, row_parent, row_leaf, row_depth}
 
 above_limit : (n : ℕ) → most_nodes < n → nat_lt most_nodes n ≡ true
 above_limit n high = grind (arith, nat_tests)
@@ -46,6 +46,27 @@ pub length-index : (entries : List Entry) (names : List (List ℕ)) (nodes : Lis
     length nodes ≡ length entries + 1
 length-index entries names nodes index = length-table (parents_of entries) (leaves_of entries) nodes index.nodes_are
     ∙ ap (λ n. n + 1) (length-parents_of entries)
+
+-- the row of a node, as it is read from an index
+module _ (entries : List Entry) (names : List (List ℕ)) (nodes : List Node) (index : IsIndexOf entries names nodes) (node : ℕ)
+    (low : node ≤ length entries) where
+  -- a node has a row
+  pub row_inside : node < length nodes
+  row_inside = omega (arith, length-index entries names nodes index)
+
+  module _ (row : Node) (read : row ≡ get_or nodes node row) where
+    -- the parent in the row is that of the node
+    pub row_tells_parent : row.parent.0 ≡ parent_of entries node
+    row_tells_parent =
+        ap (λ (r : Node). r.parent.0) read ∙ row_parent (parents_of entries) (leaves_of entries) nodes index.nodes_are node row row_inside
+
+    -- the leaf mark in the row is that of the node
+    pub row_tells_leaf : row.leaf ≡ is_leaf_at entries node
+    row_tells_leaf = ap (λ (r : Node). r.leaf) read ∙ row_leaf (parents_of entries) (leaves_of entries) nodes index.nodes_are node row row_inside
+
+    -- the depth in the row is that of the node
+    pub row_tells_depth : row.depth ≡ depth_of entries node
+    row_tells_depth = ap (λ (r : Node). r.depth) read ∙ row_depth (parents_of entries) (leaves_of entries) nodes index.nodes_are node row row_inside
 
 -- the tables that were collected are those of the entries
 pub kept_all : (entries : List Entry) (names : List (List ℕ)) (nodes : List Node) (children : List (List ℕ)) (places : List ℕ)

@@ -4,6 +4,7 @@ ghost use Rattle.std.specs.Str.{bytes_eq};
 ghost use Rattle.pm_base.specs.Limits.{most_nodes};
 ghost use Rattle.pm_tree.specs.Entries.{entries_of, entry_at, entry_refusal, refusals_after, parents_of, leaves_of};
 ghost use Rattle.pm_tree.specs.Shape.{IsTree};
+ghost use Rattle.pm_tree.specs.Stages.{name_refusal, parent_refusal, depth_refusal, IsParent, IsRowBelow};
 ghost use Rattle.pm_tree.specs.Tables.{IsIndexOf, IsRowOf};
 
 use crate::entry::TreeEntry;
@@ -73,12 +74,38 @@ impl Index {
     {
         let entry = &entries[place];
         let at = place as u32 + 1;
+        self.check_name(entry, at)?;
+        let parent = self.find_parent(entry, at)?;
+        self.make_row(entry, parent, at)
+    }
+
+    /// Checks the name of an entry, which is number `at`: that it is a name, and no node so far has it.
+    fn check_name(&self, entry: &TreeEntry, at: u32) -> Result<(), TreeFault>
+        requires { length self.now.names.keys ≤ most_nodes + 1 }
+        ensures accepted { let names = map string_bytes self.now.names.keys in
+            OnOk result (name_refusal names (string_bytes entry.now.name) at ≡ None) }
+        ensures refused { let names = map string_bytes self.now.names.keys in
+            IfErr result (λ fault. name_refusal names (string_bytes entry.now.name) at ≡ Some fault) }
+    {
         if !is_name(entry.name.as_str()) {
             return Err(TreeFault::BadName { at });
         }
         if find_node(&self.names, entry.name.as_str()).is_some() {
             return Err(TreeFault::Twice { at });
         }
+        Ok(())
+    }
+
+    /// Finds the parent of an entry, which is number `at`: a node so far that is no leaf.
+    fn find_parent(&self, entry: &TreeEntry, at: u32) -> Result<NodeId, TreeFault>
+        requires few { length self.now.names.keys ≤ most_nodes + 1 }
+        requires rows { length self.now.nodes.items ≡ length self.now.names.keys }
+        ensures parent { let names = map string_bytes self.now.names.keys in
+            IfOk result (λ parent. IsParent names self.now.nodes.items (string_bytes entry.now.parent) parent.0) }
+        ensures inside { IfOk result (λ parent. parent.0 < length self.now.nodes.items) }
+        ensures refused { let names = map string_bytes self.now.names.keys in IfErr result (λ fault.
+            parent_refusal names self.now.nodes.items (string_bytes entry.now.parent) at ≡ Some fault) }
+    {
         let Some(parent) = find_node(&self.names, entry.parent.as_str()) else {
             return Err(TreeFault::NoParent { at });
         };
@@ -86,6 +113,18 @@ impl Index {
         if above.leaf {
             return Err(TreeFault::NoParent { at });
         }
+        Ok(parent)
+    }
+
+    /// Makes the row of an entry, which is number `at`, below its parent.
+    fn make_row(&self, entry: &TreeEntry, parent: NodeId, at: u32) -> Result<Node, TreeFault>
+        requires { parent.0 < length self.now.nodes.items }
+        ensures row { IfOk result (IsRowBelow self.now.nodes.items parent.0 entry.now.leaf) }
+        ensures accepted { OnOk result (depth_refusal self.now.nodes.items parent.0 entry.now.leaf at ≡ None) }
+        ensures refused { IfErr result (λ fault.
+            depth_refusal self.now.nodes.items parent.0 entry.now.leaf at ≡ Some fault) }
+    {
+        let above = self.nodes[parent.0 as usize];
         if entry.leaf {
             return Ok(Node {
                 parent,

@@ -1,67 +1,31 @@
-use Rattle.std.proofs.Common.{◌∙◌, ap, sym, refl, arith}
-use Rattle.pm_tree.specs.Names.{is_name}
-use Rattle.pm_tree.proofs.Checks.{bad_name, twice, no_parent, parent_inside, leaf_above, leaf_accepted, too_deep, concentrator_accepted, row_is, row_shallow}
-use Rattle.pm_tree.proofs.Checks.{at_least_most, below_most, leaf_depth, concentrator_depth}
+use Rattle.std.proofs.Common.{Some, None, arith, string_bytes}
+use Rattle.std.proofs.lemmas.List.{length-map}
+use Rattle.std.proofs.lemmas.Result.{err_from_is_err_and, IfOk-weaker, IfErr-weaker, on_ok_weaker}
+use Rattle.pm_tree.proofs.Checks.{as_many_rows, name_refused, parent_refused, refusal_below, row_is}
 use Rattle.pm_tree.proofs.index.Index.check.Goals as goal
 
-pub returns-then-not-is_name-clause-refused : goal.returns-then-not-is_name-clause-refused
-returns-then-not-is_name-clause-refused c = bad_name _ _ _ c.requires.inside c.index-entries-place.is
-    (ap is_name (sym c.as_str.ensures.value) ∙ sym c.is_name.ensures ∙ c.if-not-is_name.true)
+pub returns-in_err-check_name-clause-refused : goal.returns-in_err-check_name-clause-refused
+returns-in_err-check_name-clause-refused c =
+    let p = err_from_is_err_and c.from_residual.result c.from_residual.ensures.1 in
+    rw (p.1, p.2) (name_refused _ _ _ c.requires.inside c.index-entries-place.is _ _ c.requires.index _ c.in_err-check_name.ensures.refused)
 
-pub returns-then-is_some-clause-refused : goal.returns-then-is_some-clause-refused
-returns-then-is_some-clause-refused c = twice _ _ _ c.requires.inside c.index-entries-place.is _ _ c.requires.index
-    (ap is_name (sym c.as_str.ensures.value) ∙ sym c.is_name.ensures ∙ c.if-not-is_name.false) _ c.as_str-2.ensures.value _
-    c.find_node.ensures (sym c.is_some.ensures ∙ c.if-is_some.true)
+pub find_parent-requires-clause-rows : goal.find_parent-requires-clause-rows
+find_parent-requires-clause-rows c =
+    omega (arith, as_many_rows _ _ _ c.requires.index, length-map c.args.self.now.names.keys string_bytes)
 
-pub returns-in_default-clause-refused : goal.returns-in_default-clause-refused
-returns-in_default-clause-refused c = no_parent _ _ _ c.requires.inside c.index-entries-place.is _ _ c.requires.index
-    (ap is_name (sym c.as_str.ensures.value) ∙ sym c.is_name.ensures ∙ c.if-not-is_name.false) _ c.as_str-2.ensures.value _
-    c.find_node.ensures (sym c.is_some.ensures ∙ c.if-is_some.false) _ c.as_str-3.ensures.value _ c.find_node-2.ensures c.in_default.is
+pub returns-in_err-parent-clause-refused : goal.returns-in_err-parent-clause-refused
+returns-in_err-parent-clause-refused c =
+    let p = err_from_is_err_and c.from_residual-in_err-parent.result c.from_residual-in_err-parent.ensures.1 in
+    rw (p.1, p.2) (parent_refused _ _ _ c.requires.inside c.index-entries-place.is _ _ c.requires.index
+    c.in_ok-check_name.ensures.accepted _ c.in_err-parent.ensures.refused)
 
-pub index-above-requires : goal.index-above-requires
-index-above-requires c = let inside = parent_inside _ _ _ c.requires.inside c.index-entries-place.is _ _ c.requires.index
-    (ap is_name (sym c.as_str.ensures.value) ∙ sym c.is_name.ensures ∙ c.if-not-is_name.false) _ c.as_str-2.ensures.value _
-    c.find_node.ensures (sym c.is_some.ensures ∙ c.if-is_some.false) _ c.as_str-3.ensures.value _ c.find_node-2.ensures _
-    c.in-Some.is in omega (arith, inside, c.args.self.now.nodes.ok)
-
-pub returns-then-above-clause-refused : goal.returns-then-above-clause-refused
-returns-then-above-clause-refused c = leaf_above _ _ _ c.requires.inside c.index-entries-place.is _ _ c.requires.index
-    (ap is_name (sym c.as_str.ensures.value) ∙ sym c.is_name.ensures ∙ c.if-not-is_name.false) _ c.as_str-2.ensures.value _
-    c.find_node.ensures (sym c.is_some.ensures ∙ c.if-is_some.false) _ c.as_str-3.ensures.value _ c.find_node-2.ensures _ c.in-Some.is
-    _ c.index-above.ensures c.if-above.true
-
-pub returns-then-entry-clause-accepted : goal.returns-then-entry-clause-accepted
-returns-then-entry-clause-accepted c = leaf_accepted _ _ _ c.requires.inside c.index-entries-place.is _ _ c.requires.index
-    (ap is_name (sym c.as_str.ensures.value) ∙ sym c.is_name.ensures ∙ c.if-not-is_name.false) _ c.as_str-2.ensures.value _
-    c.find_node.ensures (sym c.is_some.ensures ∙ c.if-is_some.false) _ c.as_str-3.ensures.value _ c.find_node-2.ensures _ c.in-Some.is
-    _ c.index-above.ensures c.if-above.false c.if-entry.true
-
-pub returns-then-entry-clause-row : goal.returns-then-entry-clause-row
-returns-then-entry-clause-row c = row_is _ _ _ c.requires.inside c.index-entries-place.is _ _ c.requires.index
-    (ap is_name (sym c.as_str.ensures.value) ∙ sym c.is_name.ensures ∙ c.if-not-is_name.false) _ c.as_str-2.ensures.value _
-    c.find_node.ensures (sym c.is_some.ensures ∙ c.if-is_some.false) _ c.as_str-3.ensures.value _ c.find_node-2.ensures _ c.in-Some.is
-    _ c.index-above.ensures c.if-above.false _ refl (sym c.if-entry.true) (leaf_depth _ _ c.if-entry.true)
-    (row_shallow _ _ _ c.requires.inside c.index-entries-place.is _ _ c.requires.index (ap is_name (sym c.as_str.ensures.value)
-    ∙ sym c.is_name.ensures ∙ c.if-not-is_name.false) _ c.as_str-2.ensures.value _ c.find_node.ensures
-    (sym c.is_some.ensures ∙ c.if-is_some.false) _ c.as_str-3.ensures.value _ c.find_node-2.ensures _ c.in-Some.is _
-    c.index-above.ensures c.if-above.false c.requires.lawful)
-
-pub returns-then-above-ge-MOST_DEPTH-clause-refused : goal.returns-then-above-ge-MOST_DEPTH-clause-refused
-returns-then-above-ge-MOST_DEPTH-clause-refused c =
-    too_deep _ _ _ c.requires.inside c.index-entries-place.is _ _ c.requires.index
-    (ap is_name (sym c.as_str.ensures.value) ∙ sym c.is_name.ensures ∙ c.if-not-is_name.false) _ c.as_str-2.ensures.value _ c.find_node.ensures
-    (sym c.is_some.ensures ∙ c.if-is_some.false) _ c.as_str-3.ensures.value _ c.find_node-2.ensures _ c.in-Some.is _ c.index-above.ensures c.if-above.false
-    c.if-entry.false (at_least_most _ c.if-above-ge-MOST_DEPTH.true)
-
-pub returns-clause-accepted : goal.returns-clause-accepted
-returns-clause-accepted c =
-    concentrator_accepted _ _ _ c.requires.inside c.index-entries-place.is _ _ c.requires.index
-    (ap is_name (sym c.as_str.ensures.value) ∙ sym c.is_name.ensures ∙ c.if-not-is_name.false) _ c.as_str-2.ensures.value _ c.find_node.ensures
-    (sym c.is_some.ensures ∙ c.if-is_some.false) _ c.as_str-3.ensures.value _ c.find_node-2.ensures _ c.in-Some.is _ c.index-above.ensures c.if-above.false
-    c.if-entry.false (below_most _ c.if-above-ge-MOST_DEPTH.false)
-
-pub returns-clause-row : goal.returns-clause-row
-returns-clause-row c = row_is _ _ _ c.requires.inside c.index-entries-place.is _ _ c.requires.index
-    (ap is_name (sym c.as_str.ensures.value) ∙ sym c.is_name.ensures ∙ c.if-not-is_name.false) _ c.as_str-2.ensures.value _
-    c.find_node.ensures (sym c.is_some.ensures ∙ c.if-is_some.false) _ c.as_str-3.ensures.value _ c.find_node-2.ensures _ c.in-Some.is
-    _ c.index-above.ensures c.if-above.false _ refl (sym c.if-entry.false) (concentrator_depth _ _ c.if-entry.false) (omega arith)
+pub returns : goal.returns
+returns c =
+    let below = refusal_below _ _ _ c.requires.inside c.index-entries-place.is _ _ c.requires.index c.in_ok-check_name.ensures.accepted
+    c.in_ok-parent.parent.0 c.in_ok-parent.ensures.parent in
+    record {
+      accepted = on_ok_weaker c.make_row.result (below None) c.make_row.ensures.accepted;
+      row = IfOk-weaker c.make_row.result _ _ (row_is _ _ _ c.requires.inside c.index-entries-place.is _ _ c.requires.index
+          c.in_ok-check_name.ensures.accepted c.in_ok-parent.parent.0 c.in_ok-parent.ensures.parent c.requires.lawful) c.make_row.ensures.row;
+      refused = IfErr-weaker c.make_row.result _ _ (λ fault. below (Some fault)) c.make_row.ensures.refused;
+    }
