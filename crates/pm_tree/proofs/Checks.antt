@@ -11,7 +11,7 @@ use Rattle.pm_tree.specs.Names.{is_name}
 use Rattle.pm_tree.specs.Shape.{IsTree}
 use Rattle.pm_tree.specs.Entries.{Entry, entry_of, entries_of, entry_at, node_named, number_named, parents_of, leaves_of, is_leaf_at, depth_of}
 use Rattle.pm_tree.specs.Entries.{can_be_parent, entry_refusal}
-use Rattle.pm_tree.specs.Stages.{leaf_in, depth_in, name_refusal, parent_refusal, depth_refusal, refusal_in, IsParent, IsRowBelow}
+use Rattle.pm_tree.specs.Stages.{leaf_in, depth_in, name_refusal, parent_refusal, depth_refusal, refusal_by_tables, IsParent, IsRowBelow}
 use Rattle.pm_tree.specs.Tables.{IsRowOf, IsIndexOf}
 use Rattle.pm_tree.specs.declared.entry.TreeEntry.{TreeEntry}
 use Rattle.pm_tree.specs.declared.fault.TreeFault.{TreeFault}
@@ -64,7 +64,7 @@ module _ (before : List Entry) (names : List (List ℕ)) (nodes : List Node) (in
   depth_is name = index.nodes_are.depth_is (number_named before name) (omega (arith, number_named-inside before name, length-parents_of before))
 
   -- the refusal of an entry after some entries is its refusal by their tables
-  in_tables : (e : Entry) → entry_refusal before e ≡ refusal_in names nodes e (length before + 1)
+  in_tables : (e : Entry) → entry_refusal before e ≡ refusal_by_tables names nodes e (length before + 1)
   unfolding entry_refusal
   in_tables e = rw (named_is e.name, named_is e.parent, leaf_is (number_named before e.parent), depth_is e.parent)
       (in_turn (not (is_name e.name)) (is_some (node_named before e.name)) (not (can_be_parent before e.parent))
@@ -101,10 +101,10 @@ module _ (entries : List TreeEntry) (place : ℕ) (e : TreeEntry) (inside : plac
   entry_here = ap entry_of read ∙ sym (get_or-map entry_of entries place e (record { name = []; parent = []; leaf = false }) inside)
 
   -- the refusal of the entry read is its refusal by the tables
-  refusal_here : entry_refusal before (entry_at (entries_of entries) place) ≡ refusal_in names nodes (entry_of e) (place + 1)
+  refusal_here : entry_refusal before (entry_at (entries_of entries) place) ≡ refusal_by_tables names nodes (entry_of e) (place + 1)
   refusal_here =
       ap (entry_refusal before) (sym entry_here) ∙ in_tables before names nodes index (entry_of e)
-      ∙ ap (λ n. refusal_in names nodes (entry_of e) (n + 1)) length-before
+      ∙ ap (λ n. refusal_by_tables names nodes (entry_of e) (n + 1)) length-before
 
   -- the entry read is refused as its name is
   pub name_refused : (fault : TreeFault) → name_refusal names (string_bytes e.name) (place + 1) ≡ Some fault →

@@ -37,8 +37,8 @@ depth_refusal nodes parent leaf at =
     if not leaf && nat_le most_depth (depth_in nodes parent) then Some (TooDeep at) else None
 
 -- the first of these checks that an entry fails
-abbrev pub refusal_in : List (List ℕ) → List Node → Entry → ℕ → Option TreeFault
-refusal_in names nodes entry at =
+abbrev pub refusal_by_tables : List (List ℕ) → List Node → Entry → ℕ → Option TreeFault
+refusal_by_tables names nodes entry at =
     let parent = unwrap_or (position (bytes_eq entry.parent) names) 0 in
     option_or (name_refusal names entry.name at)
     (option_or (parent_refusal names nodes entry.parent at) (depth_refusal nodes parent entry.leaf at))

@@ -57,7 +57,8 @@ makes c s stands =
     c.parent_of-parent.result c.place_in_row-place.result leaf c.parent_of-parent.ensures.parent c.place_in_row-place.ensures.place _ _ _ (did c)
 
 pub invariant_of-self-2 : goal.invariant_of-self-2
-invariant_of-self-2 c = moved c.self.inside (after (goal.at.invariant_of-self-2 c).After-price) _ c.self.invariant refl (makes (goal.at.invariant_of-self-2 c).After-price)
+invariant_of-self-2 c =
+    moved c.self.inside (after (goal.at.invariant_of-self-2 c).After-price) _ c.self.invariant refl (makes (goal.at.invariant_of-self-2 c).After-price)
 
 pub returns-clause-made : goal.returns-clause-made
 returns-clause-made c =
