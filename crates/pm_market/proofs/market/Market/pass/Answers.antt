@@ -9,7 +9,7 @@ pub pass_to_last-requires-clause-childless : goal.pass_to_last-requires-clause-c
 pass_to_last-requires-clause-childless c =
     let m = c.args.self.now in
     childless_from (market_lists m) m.has_child.items c.args.node m.parents_marked
-    (sym (c.item_at.ensures ∙ ap (λ marks. get_or marks c.args.node true) c.deref.ensures.value) ∙ c.if-not-item_at.true)
+    (cc (c.item_at.ensures, ap (λ marks. get_or marks c.args.node true) c.deref.ensures.value))
 
 pub invariant_of-self-2-clause-greatest_due : goal.invariant_of-self-2-clause-greatest_due
 invariant_of-self-2-clause-greatest_due c =
