@@ -1,0 +1,151 @@
+use super::trial::Trial;
+use crate::call::{Fault, Outcome, Side, Surroundings, called, words_of};
+use crate::every::Every;
+use crate::form::Form;
+use crate::judge::judged;
+use crate::piece::{PIECES, Piece};
+use crate::tally::Tally;
+use crate::wrong::is_answer;
+use pm_runner::OpenGate;
+use std::alloc::{AllocError, Global};
+use std::sync::Wait;
+use std::thread::Threads;
+
+/// A command with an input, and what is due.
+#[derive(Drop)]
+pub(crate) struct Command<'a> {
+    alloc: Global,
+    every: Every,
+    words: &'a [String],
+    form: Form,
+    input: &'a [u8],
+    due: Outcome,
+}
+
+/// What is due for an input of the command of these words: what comes where nothing disturbs it. Of a trace that is the
+/// outcome of `run`.
+fn due_of<R: Threads + Wait + Sync>(
+    rt: &R,
+    alloc: Global,
+    words: &[String],
+    input: &[u8],
+) -> Result<Outcome, AllocError> {
+    let around = Surroundings::in_pieces(Piece::All);
+    match Form::of(words) {
+        Form::Trace => called(
+            rt,
+            alloc,
+            &words_of(alloc, "run")?,
+            input,
+            around,
+            &OpenGate,
+        ),
+        Form::Text | Form::Stream => called(rt, alloc, words, input, around, &OpenGate),
+    }
+}
+
+impl<'a> Command<'a> {
+    /// Makes the undisturbed call, which must not come to a fault.
+    pub(crate) fn new<R: Threads + Wait + Sync>(
+        rt: &R,
+        alloc: Global,
+        every: Every,
+        words: &'a [String],
+        input: &'a [u8],
+    ) -> anyhow::Result<Command<'a>> {
+        let due = due_of(rt, alloc, words, input)?;
+        is_answer(&due)?;
+        Ok(Command {
+            alloc,
+            every,
+            words,
+            form: Form::of(words),
+            input,
+            due,
+        })
+    }
+
+    /// What the command comes to.
+    fn outcome<R: Threads + Wait + Sync>(
+        &self,
+        rt: &R,
+        input: &[u8],
+        around: Surroundings,
+    ) -> Result<Outcome, AllocError> {
+        called(rt, self.alloc, self.words, input, around, &OpenGate)
+    }
+
+    /// Tries all of the input in pieces, with no fault, and gives what came.
+    pub(crate) fn try_piece<R: Threads + Wait + Sync + Print>(
+        &self,
+        rt: &R,
+        piece: Piece,
+        tally: &mut Tally,
+    ) -> anyhow::Result<Outcome> {
+        let around = Surroundings::in_pieces(piece);
+        let outcome = self.outcome(rt, self.input, around)?;
+        let verdict = judged(rt, self.alloc, self.form, self.input, &outcome, &self.due)?;
+        let fault = Fault::Nothing;
+        tally.count(rt, &Trial::Whole { piece, fault }, verdict)?;
+        Ok(outcome)
+    }
+
+    /// Tries each of so many calls of the source or the sink as one that fails, and one more, which is not made.
+    pub(crate) fn try_failing<R: Threads + Wait + Sync + Print>(
+        &self,
+        rt: &R,
+        piece: Piece,
+        side: Side,
+        calls: u64,
+        tally: &mut Tally,
+    ) -> anyhow::Result<()> {
+        let last = calls.saturating_add(1);
+        for before in 0..last {
+            let number = before + 1;
+            if self.every.takes(number, last) {
+                let fault = side.fault(number);
+                let outcome = self.outcome(rt, self.input, Surroundings { piece, fault })?;
+                let verdict = self.form.is_due_under(fault, &outcome, &self.due);
+                tally.count(rt, &Trial::Whole { piece, fault }, verdict)?;
+            }
+        }
+        Ok(())
+    }
+
+    /// Tries the input without its last bytes, for each shorter length.
+    pub(crate) fn try_cuts<R: Threads + Wait + Sync + Print>(
+        &self,
+        rt: &R,
+        tally: &mut Tally,
+    ) -> anyhow::Result<()> {
+        let whole = self.input.len();
+        for length in 0..whole {
+            if self.every.takes(length as u64, whole as u64)
+                && let Some(cut) = self.input.get(..length)
+            {
+                self.try_cut(rt, cut, tally)?;
+            }
+        }
+        Ok(())
+    }
+
+    /// Tries an input that was cut: in whatever pieces it comes, the outcome is the same, and it is no fault.
+    fn try_cut<R: Threads + Wait + Sync + Print>(
+        &self,
+        rt: &R,
+        cut: &[u8],
+        tally: &mut Tally,
+    ) -> anyhow::Result<()> {
+        let due = due_of(rt, self.alloc, self.words, cut)?;
+        for piece in PIECES {
+            let outcome = self.outcome(rt, cut, Surroundings::in_pieces(piece))?;
+            let verdict = match is_answer(&outcome) {
+                Ok(()) => judged(rt, self.alloc, self.form, cut, &outcome, &due)?,
+                Err(wrong) => Err(wrong),
+            };
+            let length = cut.len();
+            tally.count(rt, &Trial::Cut { piece, length }, verdict)?;
+        }
+        Ok(())
+    }
+}
