@@ -1,34 +1,23 @@
-ghost use Rattle.std.specs.Prelude.{◌≡◌, IfOk, map, true};
-ghost use Rattle.pm_tree.specs.Entries.{entries_of, leaves_of};
+ghost use Rattle.std.specs.Prelude.{◌≡◌, true};
+ghost use Rattle.pm_tree.specs.Entries.{leaves_of};
 ghost use Rattle.pm_tree.specs.Shape.{leaf_at};
-ghost use Rattle.pm_plan.specs.Parts.{is_device, node_part};
 
+use crate::plans::{NodeLine, Role, joins, plan_of_parts};
 use pm_basis::Basis;
 use pm_bill::{Account, Bill, GroupSum, Share, bill_of_run};
-use pm_device::Kind;
-use pm_plan::{EventSpec, NodeSpec, PhaseSpec, Plan, StateSpec};
-use pm_tree::{NodeId, Tree, TreeEntry};
+use pm_plan::{PhaseSpec, Plan};
+use pm_tree::NodeId;
 use pm_walk::all_ends;
-use std::alloc::{AllocError, Global};
+use std::alloc::Global;
 use std::test::Fail;
-
-/// What a node is: a concentrator with its floor and its ceiling, or a manual device with its demand at each step.
-#[derive(Clone, Copy)]
-enum Role {
-    Limited(i64, i64),
-    Device([i64; 10]),
-}
-
-/// A node: its name, its parent's name, and what it is.
-type NodeLine = (&'static str, &'static str, Role);
 
 /// A load and a generator under the auctioneer: they clear at step 4, with 50 watts too many.
 const UNLIMITED: [NodeLine; 2] = [
-    ("load1", "auctioneer", Role::Device([100; 10])),
+    ("load1", "auctioneer", Role::Manual([100; 10])),
     (
         "gen1",
         "auctioneer",
-        Role::Device([0, 0, 0, 0, -150, -150, -150, -150, -150, -150]),
+        Role::Manual([0, 0, 0, 0, -150, -150, -150, -150, -150, -150]),
     ),
 ];
 
@@ -38,76 +27,15 @@ const LIMITED: [NodeLine; 3] = [
     (
         "flex1",
         "c1",
-        Role::Device([300, 250, 200, 150, 100, 50, 0, -50, -100, -150]),
+        Role::Manual([300, 250, 200, 150, 100, 50, 0, -50, -100, -150]),
     ),
-    ("gen", "auctioneer", Role::Device([-150; 10])),
+    ("gen", "auctioneer", Role::Manual([-150; 10])),
 ];
 
-/// What a plan takes of a node.
-fn spec_of(alloc: Global, role: Role) -> Result<NodeSpec, AllocError> {
-    Ok(match role {
-        Role::Limited(floor, ceiling) => NodeSpec::Limited { floor, ceiling },
-        Role::Device(demands) => NodeSpec::Device {
-            kind: Kind::Manual,
-            start: StateSpec::Array(Vec::from_array(alloc, demands)?),
-        },
-    })
-}
-
-/// Whether a node is a device.
-fn is_leaf(spec: &NodeSpec) -> bool
-    ensures { result ≡ is_device (node_part spec.now) }
-{
-    matches!(spec, NodeSpec::Device { .. })
-}
-
-/// The entries of a tree, and what a plan takes of them.
-fn parts_of(
-    alloc: Global,
-    lines: &[NodeLine],
-) -> Result<(Vec<TreeEntry>, Vec<NodeSpec>), AllocError>
-    ensures { IfOk result (λ parts. map is_device (map node_part parts.1.items) ≡ leaves_of (entries_of parts.0.items)) }
-{
-    let mut entries = Vec::new(alloc);
-    let mut nodes = Vec::new(alloc);
-    for (name, parent, role) in lines {
-        let spec = spec_of(alloc, *role)?;
-        let entry = TreeEntry {
-            name: String::from_str(alloc, name)?,
-            parent: String::from_str(alloc, parent)?,
-            leaf: is_leaf(&spec),
-        };
-        entries.push(entry)?;
-        nodes.push(spec)?;
-    }
-    Ok((entries, nodes))
-}
-
-/// All devices join; then so many minutes go by.
-fn phases_of(
-    alloc: Global,
-    lines: &[NodeLine],
-    minutes: i64,
-) -> Result<Vec<PhaseSpec>, AllocError> {
-    let mut events = Vec::new(alloc);
-    for (name, _, role) in lines {
-        if let Role::Device(_) = *role {
-            let device = String::from_str(alloc, name)?;
-            events.push(EventSpec::Join { device })?;
-        }
-    }
-    Ok(Vec::from_array(
-        alloc,
-        [PhaseSpec::Events(events), PhaseSpec::Tick { minutes }],
-    )?)
-}
-
-/// The plan of these nodes and so many minutes, over the prices 0 to 9.
+/// The plan of these nodes over the prices 0 to 9: all devices join, and then so many minutes go by.
 fn plan_of(alloc: Global, lines: &[NodeLine], minutes: i64) -> Result<Plan, Fail> {
-    let (entries, nodes) = parts_of(alloc, lines)?;
-    let tree = Tree::new(alloc, entries)?;
-    let phases = phases_of(alloc, lines, minutes)?;
-    Ok(Plan::new(alloc, Basis::new(0, 9, 10)?, tree, nodes, phases)?)
+    let phases = Vec::from_array(alloc, [joins(alloc, lines)?, PhaseSpec::Tick { minutes }])?;
+    plan_of_parts(alloc, Basis::new(0, 9, 10)?, lines, phases)
 }
 
 /// The text of the bill of a plan's run.

@@ -5,27 +5,21 @@
 
 #[cfg(test)]
 mod ask;
-
 #[cfg(test)]
 mod bill;
-
+#[cfg(test)]
+mod demo;
 #[cfg(test)]
 mod envelope;
-
-#[cfg(test)]
-mod gen;
-
 #[cfg(test)]
 mod lines;
-
 #[cfg(test)]
 mod plan;
-
+#[cfg(test)]
+mod plans;
 #[cfg(test)]
 mod report;
-
 #[cfg(test)]
 mod scene;
-
 #[cfg(test)]
 mod walk;

@@ -1,59 +1,14 @@
-ghost use Rattle.std.specs.Prelude.{◌≡◌, IfOk, map};
-ghost use Rattle.pm_tree.specs.Entries.{entries_of, leaves_of};
-ghost use Rattle.pm_plan.specs.Parts.{is_device, node_part};
-
+use crate::plans::{CHAIN, joined_plan};
 use pm_basis::Basis;
-use pm_device::Kind;
 use pm_lines::read_line;
 use pm_market::{Line, Move};
-use pm_plan::{EventSpec, NodeSpec, PhaseSpec, Plan, StateSpec};
-use pm_tree::{Tree, TreeEntry};
-use std::alloc::{AllocError, Global};
+use pm_plan::Plan;
+use std::alloc::Global;
 use std::test::Fail;
 
-/// The entry of a node.
-fn entry(alloc: Global, name: &str, parent: &str, leaf: bool) -> Result<TreeEntry, AllocError>
-    ensures { IfOk result (λ entry. entry.leaf ≡ leaf) }
-{
-    Ok(TreeEntry {
-        name: String::from_str(alloc, name)?,
-        parent: String::from_str(alloc, parent)?,
-        leaf,
-    })
-}
-
-/// Node 1 is the concentrator c1, and node 2 the load load1 under it.
-fn nodes(alloc: Global) -> Result<(Vec<TreeEntry>, Vec<NodeSpec>), AllocError>
-    ensures { IfOk result (λ parts. map is_device (map node_part parts.1.items) ≡ leaves_of (entries_of parts.0.items)) }
-{
-    let mut entries = Vec::new(alloc);
-    let mut nodes = Vec::new(alloc);
-    entries.push(entry(alloc, "c1", "auctioneer", false)?)?;
-    nodes.push(NodeSpec::Concentrator)?;
-    entries.push(entry(alloc, "load1", "c1", true)?)?;
-    nodes.push(NodeSpec::Device {
-        kind: Kind::Load,
-        start: StateSpec::Number(100),
-    })?;
-    Ok((entries, nodes))
-}
-
-/// One phase in which the load joins.
-fn joined(alloc: Global) -> Result<Vec<PhaseSpec>, AllocError> {
-    let mut events = Vec::new(alloc);
-    events.push(EventSpec::Join {
-        device: String::from_str(alloc, "load1")?,
-    })?;
-    let mut phases = Vec::new(alloc);
-    phases.push(PhaseSpec::Events(events))?;
-    Ok(phases)
-}
-
-/// The plan of these nodes over the prices -20, -10, 0, 10 and 20.
+/// The plan of a load under a concentrator over the prices -20, -10, 0, 10 and 20: nodes 2 and 1.
 fn plan_of(alloc: Global) -> Result<Plan, Fail> {
-    let (entries, nodes) = nodes(alloc)?;
-    let tree = Tree::new(alloc, entries)?;
-    Ok(Plan::new(alloc, Basis::new(-20, 20, 5)?, tree, nodes, joined(alloc)?)?)
+    joined_plan(alloc, Basis::new(-20, 20, 5)?, &CHAIN)
 }
 
 /// The line of a move after which nothing is held.

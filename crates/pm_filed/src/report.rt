@@ -4,102 +4,17 @@ ghost use Rattle.pm_plan.specs.Parts.{is_device, node_part};
 ghost use Rattle.pm_report.specs.Report.{IsEndOf, ends_of};
 ghost use Rattle.pm_report.specs.Trace.{IsLineOf};
 
+use crate::plans::{CHAIN, LONE, NodeLine, joined_plan};
 use pm_basis::Basis;
-use pm_device::Kind;
 use pm_market::{Journal, Line, Move};
-use pm_plan::{
-    Cause, EventSpec, MemberLine, NodeSpec, PhaseEnd, PhaseSpec, Place, Plan, Refusal, StateSpec,
-};
+use pm_plan::{Cause, MemberLine, PhaseEnd, Place, Plan, Refusal};
 use pm_report::{phase_text, refusal_line, report_text, summary_text, trace_text};
-use pm_tree::{Tree, TreeEntry};
 use std::alloc::{AllocError, Global};
 use std::test::Fail;
 
-/// What a node is: a load takes 100 watts.
-#[derive(Clone, Copy)]
-enum Role {
-    Concentrator,
-    Load,
-}
-
-/// A node: its name, its parent's name, and what it is.
-type NodeLine = (&'static str, &'static str, Role);
-
-/// A lone load.
-const LONE: [NodeLine; 1] = [("load1", "auctioneer", Role::Load)];
-
-/// A load under a concentrator.
-const CHAIN: [NodeLine; 2] = [
-    ("c1", "auctioneer", Role::Concentrator),
-    ("load1", "c1", Role::Load),
-];
-
-/// What a plan takes of a node.
-fn spec_of(role: Role) -> NodeSpec {
-    match role {
-        Role::Concentrator => NodeSpec::Concentrator,
-        Role::Load => NodeSpec::Device {
-            kind: Kind::Load,
-            start: StateSpec::Number(100),
-        },
-    }
-}
-
-/// Whether a node is a device.
-fn is_leaf(spec: &NodeSpec) -> bool
-    ensures { result ≡ is_device (node_part spec.now) }
-{
-    matches!(spec, NodeSpec::Device { .. })
-}
-
-/// The entries of a tree, and what a plan takes of them.
-fn parts_of(
-    alloc: Global,
-    lines: &[NodeLine],
-) -> Result<(Vec<TreeEntry>, Vec<NodeSpec>), AllocError>
-    ensures { IfOk result (λ parts. map is_device (map node_part parts.1.items) ≡ leaves_of (entries_of parts.0.items)) }
-{
-    let mut entries = Vec::new(alloc);
-    let mut nodes = Vec::new(alloc);
-    for (name, parent, role) in lines {
-        let spec = spec_of(*role);
-        let entry = TreeEntry {
-            name: String::from_str(alloc, name)?,
-            parent: String::from_str(alloc, parent)?,
-            leaf: is_leaf(&spec),
-        };
-        entries.push(entry)?;
-        nodes.push(spec)?;
-    }
-    Ok((entries, nodes))
-}
-
-/// One phase in which the load joins.
-fn joined(alloc: Global) -> Result<Vec<PhaseSpec>, AllocError> {
-    let mut events = Vec::new(alloc);
-    events.push(EventSpec::Join {
-        device: String::from_str(alloc, "load1")?,
-    })?;
-    let mut phases = Vec::new(alloc);
-    phases.push(PhaseSpec::Events(events))?;
-    Ok(phases)
-}
-
-/// The plan of the nodes and the phases.
-fn make_plan(
-    alloc: Global,
-    basis: Basis,
-    lines: &[NodeLine],
-    phases: Vec<PhaseSpec>,
-) -> Result<Plan, Fail> {
-    let (entries, nodes) = parts_of(alloc, lines)?;
-    let tree = Tree::new(alloc, entries)?;
-    Ok(Plan::new(alloc, basis, tree, nodes, phases)?)
-}
-
 /// The plan of the nodes over the prices 0 to 9, with one phase in which the load joins.
 fn plan_of(alloc: Global, lines: &[NodeLine]) -> Result<Plan, Fail> {
-    make_plan(alloc, Basis::new(0, 9, 10)?, lines, joined(alloc)?)
+    joined_plan(alloc, Basis::new(0, 9, 10)?, lines)
 }
 
 /// The end of that phase: the total never balances.

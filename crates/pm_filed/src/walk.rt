@@ -1,13 +1,12 @@
-ghost use Rattle.std.specs.Prelude.{◌≡◌, ℕ, ◌≤◌, length, map, true, IfOk};
-ghost use Rattle.pm_tree.specs.Entries.{entries_of, leaves_of};
-ghost use Rattle.pm_plan.specs.Parts.{is_device, node_part};
+ghost use Rattle.std.specs.Prelude.{◌≡◌, ℕ, ◌≤◌, length, true};
 ghost use Rattle.pm_plan.specs.Plans.{change_count};
 ghost use Rattle.pm_walk.specs.Cuts.{file_cut};
 
+use crate::plans::{NodeLine, Role, joins, plan_of_parts};
 use pm_basis::Basis;
 use pm_device::Kind;
-use pm_plan::{EventSpec, MemberLine, NodeSpec, PhaseEnd, PhaseSpec, Plan, StateSpec};
-use pm_tree::{NodeId, Tree, TreeEntry};
+use pm_plan::{EventSpec, MemberLine, PhaseEnd, PhaseSpec, Plan, StateSpec};
+use pm_tree::NodeId;
 use pm_walk::{all_ends, end_of_cut};
 use std::alloc::{AllocError, Global};
 use std::test::Fail;
@@ -19,70 +18,43 @@ struct Due {
     members: &'static [(u32, i64, u32)],
 }
 
-/// A battery that holds half its charge, and a load of 200 watts: the entries of a tree, and what a plan takes of them.
-fn parts_of(alloc: Global) -> Result<(Vec<TreeEntry>, Vec<NodeSpec>), AllocError>
-    ensures { IfOk result (λ parts. map is_device (map node_part parts.1.items) ≡ leaves_of (entries_of parts.0.items)) }
-{
-    let mut entries = Vec::new(alloc);
-    entries.push(TreeEntry {
-        name: String::from_str(alloc, "battery")?,
-        parent: String::from_str(alloc, "auctioneer")?,
-        leaf: true,
-    })?;
-    entries.push(TreeEntry {
-        name: String::from_str(alloc, "load")?,
-        parent: String::from_str(alloc, "auctioneer")?,
-        leaf: true,
-    })?;
-    let mut nodes = Vec::new(alloc);
-    nodes.push(NodeSpec::Device {
-        kind: Kind::Battery {
-            capacity: 1000,
-            charge: 400,
-            discharge: 400,
-            spread: 1,
-        },
-        start: StateSpec::Number(500),
-    })?;
-    nodes.push(NodeSpec::Device {
-        kind: Kind::Load,
-        start: StateSpec::Number(200),
-    })?;
-    Ok((entries, nodes))
-}
+/// A battery that holds half its charge, and a load of 200 watts.
+const NODES: [NodeLine; 2] = [
+    (
+        "battery",
+        "auctioneer",
+        Role::Device(
+            Kind::Battery {
+                capacity: 1000,
+                charge: 400,
+                discharge: 400,
+                spread: 1,
+            },
+            500,
+        ),
+    ),
+    ("load", "auctioneer", Role::Device(Kind::Load, 200)),
+];
 
-/// The join of the device of this name.
-fn join(alloc: Global, name: &str) -> Result<EventSpec, AllocError> {
-    let device = String::from_str(alloc, name)?;
-    Ok(EventSpec::Join { device })
-}
-
-/// Both join; a quarter of an hour goes by; the load takes 500 watts.
-fn phases_of(alloc: Global) -> Result<Vec<PhaseSpec>, AllocError> {
-    let joins = Vec::from_array(alloc, [join(alloc, "battery")?, join(alloc, "load")?])?;
+/// The load takes 500 watts.
+fn load_rises(alloc: Global) -> Result<PhaseSpec, AllocError> {
     let device = String::from_str(alloc, "load")?;
     let value = StateSpec::Number(500);
-    let states = Vec::from_array(alloc, [EventSpec::State { device, value }])?;
-    Ok(Vec::from_array(
+    let events = Vec::from_array(alloc, [EventSpec::State { device, value }])?;
+    Ok(PhaseSpec::Events(events))
+}
+
+/// The plan of the nodes over the prices 0 to 9: both join, a quarter of an hour goes by, and the load rises.
+fn plan_of(alloc: Global) -> Result<Plan, Fail> {
+    let phases = Vec::from_array(
         alloc,
         [
-            PhaseSpec::Events(joins),
+            joins(alloc, &NODES)?,
             PhaseSpec::Tick { minutes: 15 },
-            PhaseSpec::Events(states),
+            load_rises(alloc)?,
         ],
-    )?)
-}
-
-/// The plan of these parts and phases.
-fn make_plan(alloc: Global, basis: Basis, phases: Vec<PhaseSpec>) -> Result<Plan, Fail> {
-    let (entries, nodes) = parts_of(alloc)?;
-    let tree = Tree::new(alloc, entries)?;
-    Ok(Plan::new(alloc, basis, tree, nodes, phases)?)
-}
-
-/// The plan of a battery and a load over the prices 0 to 9 in 10 steps.
-fn plan_of(alloc: Global) -> Result<Plan, Fail> {
-    make_plan(alloc, Basis::new(0, 9, 10)?, phases_of(alloc)?)
+    )?;
+    plan_of_parts(alloc, Basis::new(0, 9, 10)?, &NODES, phases)
 }
 
 /// Whether an end has these numbers.

@@ -5,7 +5,7 @@ use Rattle.pm_tree.specs.Entries.{entry_of, entries_of, leaves_of}
 use Rattle.pm_tree.proofs.Named.{leaves_of-more}
 use Rattle.pm_plan.specs.Parts.{is_device, node_part}
 use Rattle.pm_plan.specs.declared.parts.NodeSpec.{NodeSpec}
-use Rattle.pm_filed.proofs.bill.parts_of.Goals as goal
+use Rattle.pm_filed.proofs.plans.parts_of.Goals as goal
 
 -- one more node
 more : (nodes new_nodes : List NodeSpec) (entries new_entries : List TreeEntry) (spec : NodeSpec) (entry : TreeEntry) →
