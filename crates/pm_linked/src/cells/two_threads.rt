@@ -12,6 +12,16 @@ use std::thread::{Threads, join};
 
 const TURNS: u32 = 2000;
 
+/// Takes a price, where one waits.
+fn take_waiting(link: &FreeLink, end: &mut ChildEnd)
+    requires { end.old.link ≡ link.now }
+    ensures { end.new.link ≡ end.old.link }
+{
+    if end.takes().len() < end.room() {
+        let _taken = take_price(link, end).is_ok();
+    }
+}
+
 /// Puts the next bid, and takes a price.
 fn child_turn(link: &FreeLink, end: &mut ChildEnd)
     requires { end.old.link ≡ link.now }
@@ -21,9 +31,7 @@ fn child_turn(link: &FreeLink, end: &mut ChildEnd)
     if end.puts().len() < end.room() && newest < TURNS {
         let _put = put_bid(link, end, gone(newest + 1)).is_ok();
     }
-    if end.takes().len() < end.room() {
-        let _taken = take_price(link, end).is_ok();
-    }
+    take_waiting(link, end);
 }
 
 /// Takes a bid, and puts the next price for the newest bid taken.
@@ -93,13 +101,15 @@ fn drive<R: Threads + Sync>(
     )
 }
 
-/// Whatever the two threads did, what is left on the link is the newest bid and the newest price, and both are taken then.
+/// Whatever the two threads did, what is left on the link is the newest bid and the newest price, and both are taken then. A
+/// thread that was put aside within a call kept the other from the slot, so each end has one more turn when both are back.
 #[test]
 fn a_link_between_two_threads(rt: HostRuntime) -> Result<(), Fail> {
     let (link, child, parent) = open_link(rt.alloc(), TURNS as usize + 1)?;
     let (mut child, mut parent) = drive(&rt, &link, child, parent);
-    parent_turn(&link, &mut parent);
     child_turn(&link, &mut child);
+    parent_turn(&link, &mut parent);
+    take_waiting(&link, &mut child);
     let log = close_link(link, child, parent);
     assert!(rt; !log.bid_puts.is_empty() && !log.price_puts.is_empty());
     assert_eq!(rt; log.bid_takes.last(), log.bid_puts.last());
