@@ -58,7 +58,7 @@ LINK_KINDS = ["cells", "mutex"]
 # How often more memory than the walk `market run` and the driven cluster may take.
 MEMORY_GOAL = 3
 # How often longer than the walk the driven cluster may take, the reading taken off both.
-DRIVE_GOAL = 2
+DRIVE_GOALS = {"demo": 2, "wide": 2, "deep": 2, "bursts": 2, "calm": 2}
 
 
 class Failed(Exception):
@@ -166,7 +166,7 @@ def ratio_lines(name, least, processors, peaks):
     lines.append(f"{MARKET} / {WALK}: memory {told(quotient(peaks[MARKET], peaks[WALK]), MEMORY_GOAL)}")
     drive, walk = ((least[way] - least[READING]) for way in (DRIVE, WALK))
     computing = quotient(*(processors[way] - processors[READING] for way in (DRIVE, WALK)))
-    lines.append(f"{DRIVE} / {WALK}: time without the reading {told(quotient(drive, walk), DRIVE_GOAL)}, "
+    lines.append(f"{DRIVE} / {WALK}: time without the reading {told(quotient(drive, walk), DRIVE_GOALS.get(name))}, "
                  f"time of processors {told(computing)}, memory {told(quotient(peaks[DRIVE], peaks[WALK]), MEMORY_GOAL)}")
     return lines, any(misses)
 
