@@ -1,3 +1,4 @@
+pub mod Readers
 pub mod Lists
 pub mod Documents
 pub mod Nodes

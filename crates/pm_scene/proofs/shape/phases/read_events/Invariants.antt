@@ -1,13 +1,14 @@
-use Rattle.std.proofs.Common.{◌≡◌, take, map, min, Ok}
+use Rattle.std.proofs.Common.{◌≡◌}
 use Rattle.serde_json.specs.View.{view}
-use Rattle.serde_json.specs.declared.value.Value.{Value}
 use Rattle.pm_plan.specs.Parts.{event_part}
-use Rattle.pm_base.specs.Outcomes.{each_from}
-use Rattle.pm_scene.specs.Phases.{numbered_event}
+use Rattle.pm_plan.specs.declared.refusal.Place.TheVariants.{Event}
+use Rattle.pm_scene.specs.Nodes.{place_number}
+use Rattle.pm_scene.specs.Phases.{event_shape}
+use Rattle.pm_scene.proofs.Readers.{HaveRead}
 use Rattle.pm_scene.proofs.shape.phases.read_events.Given as goal
 
 abbrev pub invariant-loop-value : goal.invariant-loop-value
 invariant-loop-value l = record {
-  number : l.number ≡ min l.value-index 4294967295;
-  read : each_from 1 (λ n (v : Value). numbered_event l.phase n (view v)) (take l.value-index l.values) ≡ Ok (map event_part l.events.items);
+  number : l.number ≡ place_number l.value-index;
+  read : HaveRead (λ n. event_shape (Event l.phase n)) view event_part l.values l.value-index l.events.items;
 }

@@ -1,40 +1,27 @@
-use Rattle.std.proofs.Common.{◌≡◌, ◌+◌, ◌∙◌, sym, ap, map, min, Ok, take_all, subst, arith, ℕ}
-use Rattle.std.proofs.lemmas.List.{map-append}
+use Rattle.std.proofs.Common.{arith}
 use Rattle.serde_json.specs.View.{view}
-use Rattle.serde_json.specs.declared.value.Value.{Value}
-use Rattle.pm_base.specs.Outcomes.{each_from, Refuses}
-use Rattle.pm_plan.specs.Parts.{phase_part}
-use Rattle.pm_scene.specs.Phases.{numbered_phase, phases_of, phase_shape}
-use Rattle.pm_plan.specs.Refusals.{refusal_in}
-use Rattle.pm_base.proofs.NumberedLists.{each_from_more, each_from-map, Refuses-each_from}
 use Rattle.pm_base.proofs.Outcomes.{Gives-err}
+use Rattle.pm_plan.specs.Refusals.{refusal_in}
+use Rattle.pm_plan.specs.Parts.{phase_part}
+use Rattle.pm_scene.specs.Phases.{phase_shape, phases_of}
+use Rattle.pm_scene.proofs.Readers.{HaveRead-next, HaveRead-refuses, HaveRead-all}
 use Rattle.pm_scene.proofs.shape.phases.read_phases.Goals as goal
 
 pub returns-in_err-read_phase : goal.returns-in_err-read_phase
 unfolding phases_of
 returns-in_err-read_phase c =
-    let f = λ (n : ℕ) (v : Value). numbered_phase n (view v) in
-    let number : c.saturating_add-number.result ≡ min (1 + c.loop-value.value-index) 4294967295 = omega (arith, c.saturating_add-number.ensures) in
-    let here = subst (λ (v : Value). Refuses (refusal_in c.in_err-read_phase.field-0.0)
-    (numbered_phase (1 + c.loop-value.value-index) (view v))) c.value-item.is
-    (subst (λ (n : ℕ). Refuses (refusal_in c.in_err-read_phase.field-0.0) (phase_shape n (view c.value-item.result))) number c.in_err-read_phase.ensures) in
-    Gives-err refusal_in _ _ _ _ c.from_residual.ensures.1 (subst (Refuses (refusal_in c.in_err-read_phase.field-0.0)) (each_from-map 1 numbered_phase view _)
-    (Refuses-each_from 1 f _ _ _ _ _ c.loop-value-test.true c.loop-value.invariant.read here))
+    Gives-err refusal_in _ _ _ _ c.from_residual.ensures.1
+    (HaveRead-refuses phase_shape view phase_part _ _ _ _ _ _ _ c.loop-value.invariant.read c.loop-value-test.true
+    c.value-item.is (omega (arith, c.saturating_add-number.ensures)) c.in_err-read_phase.ensures)
 
 pub loop-value-preserved : goal.loop-value-preserved
-loop-value-preserved c =
-    let f = λ (n : ℕ) (v : Value). numbered_phase n (view v) in
-    let number : c.saturating_add-number.result ≡ min (1 + c.loop-value.value-index) 4294967295 = omega (arith, c.saturating_add-number.ensures) in
-    record {
-      number = omega (arith, c.saturating_add-number.ensures);
-      read =
-          each_from_more 1 f _ _ _ _ _ c.loop-value-test.true c.loop-value.invariant.read
-          (ap (f (1 + c.loop-value.value-index)) (sym c.value-item.is)
-          ∙ ap (λ (n : ℕ). phase_shape n (view c.value-item.result)) (sym number) ∙ c.in_ok-read_phase.ensures)
-          ∙ ap Ok (sym (ap (map phase_part) c.in_ok-push.ensures.items ∙ map-append phase_part _ _));
-    }
+loop-value-preserved c = record {
+  number = omega (arith, c.saturating_add-number.ensures);
+  read =
+      HaveRead-next phase_shape view phase_part _ _ _ _ _ _ _ _ c.loop-value.invariant.read c.loop-value-test.true
+      c.value-item.is (omega (arith, c.saturating_add-number.ensures)) c.in_ok-read_phase.ensures c.in_ok-push.ensures.items;
+}
 
 pub returns : goal.returns
 unfolding phases_of
-returns c = sym (each_from-map 1 numbered_phase view _)
-    ∙ ap (each_from 1 (λ n (v : Value). numbered_phase n (view v))) (sym (take_all _ _ c.loop-value-test.false)) ∙ c.loop-value.invariant.read
+returns c = HaveRead-all phase_shape view phase_part _ _ _ c.loop-value.invariant.read c.loop-value-test.false
