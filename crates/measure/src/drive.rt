@@ -5,7 +5,7 @@ use pm_base::MOST_CHANGES;
 use pm_cluster::{ActFault, Cluster};
 use pm_market::Act;
 use pm_plan::{PhaseEnd, Plan};
-use pm_tree::NodeId;
+use pm_tree::{NodeId, Tree};
 use std::alloc::{AllocError, Global};
 use thiserror::Error;
 
@@ -73,19 +73,29 @@ fn make_round(alloc: Global, cluster: &mut Cluster<'_>) -> Result<(), DriveFault
 /// Each node that has a new bid sends it, and its parent learns it. A parent stands before its children, so the last node
 /// comes first.
 fn send_bids(alloc: Global, cluster: &mut Cluster<'_>) -> Result<(), DriveFault> {
-    let tree = cluster.plan().tree();
-    for after in 0..tree.len() {
-        let node = tree.len() - after;
-        let sent = if tree.is_leaf(NodeId(node)) {
-            change_device(alloc, cluster, node)?
-        } else {
-            try_act(alloc, cluster, Act::Publish { node })?
-        };
-        if sent {
-            try_act(alloc, cluster, Act::Learn { child: node })?;
-        }
+    let nodes = cluster.plan().tree().len();
+    for after in 0..nodes {
+        send_bid(alloc, cluster, nodes - after)?;
     }
     Ok(())
+}
+
+/// A node sends its bid, if it has a new one, and its parent learns it.
+fn send_bid(alloc: Global, cluster: &mut Cluster<'_>, node: u32) -> Result<(), DriveFault> {
+    let sent = if is_device(cluster.plan().tree(), node) {
+        change_device(alloc, cluster, node)?
+    } else {
+        try_act(alloc, cluster, Act::Publish { node })?
+    };
+    if sent {
+        try_act(alloc, cluster, Act::Learn { child: node })?;
+    }
+    Ok(())
+}
+
+/// Whether a number is that of a device.
+fn is_device(tree: &Tree, node: u32) -> bool {
+    node <= tree.len() && tree.is_leaf(NodeId(node))
 }
 
 /// Makes the changes of a device until it has no more in the open phase, and tells whether it made any.

@@ -1,7 +1,7 @@
 //! The market of cuts that a plan stands for, made of the plan by loops, without a contract that says so.
 
-ghost use Rattle.std.specs.Prelude.{◌≡◌, true};
-ghost use Rattle.pm_plan.specs.Plans.{is_leaf};
+ghost use Rattle.std.specs.Prelude.{◌≡◌, ◌≤◌, true};
+ghost use Rattle.pm_plan.specs.Plans.{is_leaf, phases};
 
 use pm_base::MOST_CHANGES;
 use pm_market::Market;
@@ -48,14 +48,19 @@ fn push_memberships(row: &mut Vec<bool>, plan: &Plan, device: NodeId) -> Result<
         let Some(what) = plan.planned(device, before + 1) else {
             break;
         };
-        member = match what {
-            Planned::Join => true,
-            Planned::Leave => false,
-            Planned::Set { .. } | Planned::Tick { .. } => member,
-        };
+        member = is_member_after(what, member);
         row.push(member)?;
     }
     Ok(())
+}
+
+/// Whether a device is a member after a change, where it was one before it or not.
+fn is_member_after(what: Planned, before: bool) -> bool {
+    match what {
+        Planned::Join => true,
+        Planned::Leave => false,
+        Planned::Set { .. } | Planned::Tick { .. } => before,
+    }
 }
 
 /// How many changes of each node are made at the end of each phase.
@@ -64,15 +69,24 @@ fn ends_of(alloc: Global, plan: &Plan) -> Result<Vec<Vec<u32>>, AllocError> {
     let mut made: Vec<u32> = vec![in alloc; 0; tree.len() as usize]?;
     let mut rows = Vec::with_capacity(alloc, plan.phases() as usize)?;
     for closed in 0..plan.phases() {
-        for before in 0..tree.len() {
-            let node = NodeId(before + 1);
-            if tree.is_leaf(node)
-                && let Some(count) = made.get_mut(before as usize)
-            {
-                *count = count.saturating_add(plan.changes_of(closed + 1, node));
-            }
-        }
+        add_changes(made.as_mut_slice(), plan, closed + 1);
         rows.push(made.clone()?)?;
     }
     Ok(rows)
+}
+
+/// Adds to the counts of all nodes the changes of a phase.
+fn add_changes(made: &mut [u32], plan: &Plan, phase: u32)
+    requires first { 1 ≤ phase }
+    requires last { phase ≤ phases plan.now }
+{
+    let tree = plan.tree();
+    for before in 0..tree.len() {
+        let node = NodeId(before + 1);
+        if tree.is_leaf(node)
+            && let Some(count) = made.get_mut(before as usize)
+        {
+            *count = count.saturating_add(plan.changes_of(phase, node));
+        }
+    }
 }
