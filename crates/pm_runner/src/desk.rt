@@ -1,5 +1,3 @@
-use crate::lines::newest_line;
-use crate::one_thread::next_of;
 use crate::pending::Pending;
 use pm_agent::Made;
 use pm_board::Board;
@@ -7,6 +5,7 @@ use pm_device::Next;
 use pm_market::Line;
 use pm_plan::Plan;
 use pm_tree::NodeId;
+use pm_turns::{newest_line, next_of};
 
 /// What lies behind the lock.
 #[derive(Drop)]

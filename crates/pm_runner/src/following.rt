@@ -1,13 +1,12 @@
 //! How the pending work follows the moves that are made.
 
-use crate::one_thread::next_of;
 use crate::pending::Pending;
-use crate::plans::is_device;
 use pm_board::Board;
 use pm_device::Next;
 use pm_market::Move;
 use pm_plan::Plan;
 use pm_tree::NodeId;
+use pm_turns::{is_device, next_of};
 
 impl Pending {
     /// A phase was opened: which devices change in it, and who owes whom.

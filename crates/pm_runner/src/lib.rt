@@ -4,32 +4,23 @@
 //! moves, one call of the board a turn. What comes out of a lock is known by its type alone, and the type of a board keeps
 //! that its journal is legal and that its ends are those of its closed phases. So once the threads are joined the caller
 //! compares the board's plan with its own, and makes itself whatever moves the board does not show: that all phases are
-//! closed rests on no thread, no wake-up and no fairness.
+//! closed rests on no thread, no wake-up and no fairness. These are its two stages: [`run_threads`] and [`complete`].
 //!
 //! [`settle_free`] finds the same ends with threads whose messages pass links without a lock.
 //!
 //! [`Gate`] is told of each turn.
 #![tactic(auto)]
 
-mod agents;
 mod bells;
 mod desk;
 mod following;
-mod free;
-mod gate;
-mod lines;
 mod node_work;
-mod one_thread;
 mod pending;
-mod plans;
 mod rotation;
 mod sleeping;
 mod threads;
 mod worker;
 
-pub use free::settle_free;
-pub use gate::{Gate, OpenGate};
-pub use threads::settle;
-
-#[cfg(test)]
-mod tests;
+pub use pm_free::settle_free;
+pub use pm_turns::{Gate, OpenGate};
+pub use threads::{complete, run_threads, settle};

@@ -1,5 +1,5 @@
-use crate::gate::Gate;
 use crate::worker::{Shared, Turn, give_up, take_turn};
+use pm_turns::Gate;
 use std::sync::Wait;
 
 /// Makes the turns of the nodes whose threads could not be started, in rotation, until the run is over.

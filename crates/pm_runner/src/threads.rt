@@ -1,24 +1,22 @@
 ghost use Rattle.std.specs.Prelude.{◌≡◌, IfOk};
-ghost use Rattle.pm_runner.specs.Settled.{IsSettled};
+ghost use Rattle.pm_turns.specs.Settled.{IsSettled};
 
-use crate::agents::make_agents;
 use crate::bells::{Bells, make_bells};
 use crate::desk::Desk;
-use crate::gate::Gate;
-use crate::one_thread::{drain, finish};
 use crate::pending::Pending;
 use crate::rotation::serve_in_rotation;
 use crate::worker::{Shared, Worker, give_up, serve_node};
 use pm_board::Board;
 use pm_plan::Plan;
 use pm_tree::NodeId;
+use pm_turns::{Gate, drain, finish, make_agents};
 use std::alloc::{AllocError, Global};
 use std::sync::{Mutex, Wait};
 use std::thread;
 use std::thread::{Builder, Threads};
 
 /// The stack of a node's thread, in bytes.
-pub(crate) const STACK: usize = 262_144;
+const STACK: usize = 262_144;
 
 /// Makes all moves of a plan's run, with a thread for each node, and tells the gate of each turn.
 ///
@@ -34,26 +32,15 @@ pub fn settle<'p, R: Threads + Wait + Sync, G: Gate>(
     ensures plan { IfOk result (λ b. b.plan ≡ plan.now) }
     ensures settled { IfOk result IsSettled }
 {
-    settle_on(rt, alloc, plan, gate, STACK)
-}
-
-/// As `settle`, with threads of this stack. A size that no thread can have leaves all nodes to the caller.
-pub(crate) fn settle_on<'p, R: Threads + Wait + Sync, G: Gate>(
-    rt: &R,
-    alloc: Global,
-    plan: &'p Plan,
-    gate: &G,
-    stack: usize,
-) -> Result<Board<'p>, AllocError>
-    ensures plan { IfOk result (λ b. b.plan ≡ plan.now) }
-    ensures settled { IfOk result IsSettled }
-{
-    let board = run_threads(rt, alloc, plan, gate, stack)?;
+    let board = run_threads(rt, alloc, plan, gate, STACK)?;
     complete(alloc, board, plan, gate)
 }
 
-/// The board as the threads leave it.
-pub(crate) fn run_threads<'p, R: Threads + Wait + Sync, G: Gate>(
+/// The first stage of [`settle`]: the board as the threads leave it, each with a stack of so many bytes.
+///
+/// A stack that no thread can have leaves all nodes to the caller's thread. The board comes out of a lock, so no clause says
+/// which plan it runs or what was made: [`complete`] looks.
+pub fn run_threads<'p, R: Threads + Wait + Sync, G: Gate>(
     rt: &R,
     alloc: Global,
     plan: &'p Plan,
@@ -104,8 +91,9 @@ fn serve_all<R: Threads + Wait + Sync, G: Gate>(
     });
 }
 
-/// What the threads left, completed on this thread; where their board runs another plan, a new board.
-pub(crate) fn complete<'p, G: Gate>(
+/// The second stage of [`settle`]: what the threads left, completed on this thread; where their board runs another plan, a
+/// new board. It is an error only for want of memory.
+pub fn complete<'p, G: Gate>(
     alloc: Global,
     board: Board<'p>,
     plan: &'p Plan,

@@ -1,13 +1,7 @@
-ghost use Rattle.std.specs.Prelude.{◌≡◌, true, IsTrue};
-ghost use Rattle.pm_bid.specs.Bids.{HaveSteps};
-ghost use Rattle.pm_device.specs.Kinds.{state_fits};
-
 use crate::desk::{Desk, Job, Task};
-use crate::gate::Gate;
 use pm_agent::DeviceAgent;
-use pm_device::Next;
 use pm_market::Line;
-use pm_plan::Plan;
+use pm_turns::{Gate, can_work};
 use std::sync::{Condvar, Mutex, MutexGuard, Wait};
 use std::thread;
 
@@ -165,22 +159,6 @@ fn change<'p, R: Wait>(
     let mut desk = shared.desk.lock(rt);
     let line = desk.post(made);
     end_turn(shared, rings, node, desk, line)
-}
-
-/// Whether a change is one of the agent's device, in a state of its kind, and of its steps.
-#[tactic(auto, using(crate::proofs::Devices::plan_arrays))]
-pub(crate) fn can_work(agent: &DeviceAgent, next: Next, plan: &Plan) -> bool
-    ensures device { result ≡ true → next.device ≡ agent.now.device }
-    ensures fits { result ≡ true → IsTrue (state_fits agent.now.kind next.state.0) }
-    ensures arrays { result ≡ true → HaveSteps agent.now.steps plan.now.arrays }
-{
-    if next.device != agent.device() {
-        return false;
-    }
-    if agent.steps() != plan.basis().steps() {
-        return false;
-    }
-    agent.kind().fits(next.state)
 }
 
 /// Ends the turn of a node. The lock is free afterwards.

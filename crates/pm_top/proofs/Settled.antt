@@ -15,7 +15,7 @@ use Rattle.pm_offer.proofs.GroupNodes.{nodes_are}
 use Rattle.pm_offer.proofs.Laws.{total_alike}
 use Rattle.pm_report.specs.Report.{ends_of}
 use Rattle.pm_board.specs.Boards.{BoardValue, board_state}
-use Rattle.pm_runner.specs.Settled.{IsSettled}
+use Rattle.pm_turns.specs.Settled.{IsSettled}
 use Rattle.pm_top.specs.Top.{IsCompleteJournal, last_total}
 
 -- the ends that a settled board hands on are those of all phases of its plan

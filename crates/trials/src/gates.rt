@@ -1,8 +1,6 @@
 //! A cluster file under gates that hold the threads of its nodes back.
 
-mod drawing;
 mod holding;
-mod meeting;
 mod schedule;
 mod trial;
 mod tried;

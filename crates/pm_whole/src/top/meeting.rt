@@ -1,93 +1,17 @@
 //! A gate under which two threads meet, and what is told to it.
 
+use pm_gates::{MeetingGate, Moment, TellingGate};
 use pm_io::{MemSink, MemSource};
 use pm_market::{Line, Move};
 use pm_runner::Gate;
 use pm_top::{Status, market};
 use std::alloc::Global;
-use std::sync::atomic::{AtomicU64, Ordering};
-use std::sync::{Mutex, Wait};
+use std::sync::Wait;
 use std::test::Fail;
-use std::thread;
+use std::thread::Threads;
 
 /// How often a node looks for the other at most.
-const LOOKS: u32 = 20_000_000;
-
-/// The first line of one node waits until that of the other has begun, and the other way round; or their first turns, where
-/// no lines are told. It keeps every line.
-#[derive(Drop)]
-pub(super) struct MeetingGate<'r, R: Wait> {
-    rt: &'r R,
-    nodes: (u32, u32),
-    by_turns: bool,
-    first: AtomicU64,
-    second: AtomicU64,
-    met: AtomicU64,
-    lines: Mutex<Vec<Line>>,
-}
-
-impl<'r, R: Wait> MeetingGate<'r, R> {
-    pub(super) fn new(
-        rt: &'r R,
-        alloc: Global,
-        nodes: (u32, u32),
-        by_turns: bool,
-    ) -> MeetingGate<'r, R> {
-        MeetingGate {
-            rt,
-            nodes,
-            by_turns,
-            first: AtomicU64::new(0),
-            second: AtomicU64::new(0),
-            met: AtomicU64::new(0),
-            lines: Mutex::new(Vec::new(alloc)),
-        }
-    }
-
-    /// How many of the two found that the other has begun.
-    pub(super) fn met(&self) -> u64 {
-        self.met.load(Ordering::SeqCst)
-    }
-
-    fn come(&self, node: u32) {
-        if node == self.nodes.0 {
-            self.meet(&self.first, &self.second);
-        } else if node == self.nodes.1 {
-            self.meet(&self.second, &self.first);
-        }
-    }
-
-    fn meet(&self, me: &AtomicU64, other: &AtomicU64) {
-        if me.swap(1, Ordering::SeqCst) != 0 {
-            return;
-        }
-        for _ in 0..LOOKS {
-            if other.load(Ordering::SeqCst) != 0 {
-                self.met.fetch_add(1, Ordering::SeqCst);
-                return;
-            }
-            thread::yield_now();
-        }
-    }
-}
-
-impl<'r, R: Wait + Sync> Gate for MeetingGate<'r, R> {
-    fn before(&self, node: u32) {
-        if self.by_turns {
-            self.come(node);
-        }
-    }
-
-    fn after(&self, node: u32, line: Option<Line>) {
-        let Some(line) = line else {
-            return;
-        };
-        let _ = self.lines.lock(self.rt).push(line);
-        if !self.by_turns {
-            self.come(node);
-        }
-    }
-}
+pub(super) const LOOKS: u32 = 20_000_000;
 
 /// The name of a node of the two manual bids.
 fn name(node: u32) -> &'static str {
@@ -122,7 +46,7 @@ fn trace_line(alloc: Global, line: Line) -> Result<String, Fail> {
 }
 
 /// What a call answers under a gate, and what the sink then holds.
-pub(super) fn ran<R: thread::Threads + Wait + Sync, G: Gate>(
+pub(super) fn ran<R: Threads + Wait + Sync, G: Gate>(
     rt: &R,
     alloc: Global,
     line: &str,
@@ -186,13 +110,19 @@ fn status_of(line: &str) -> Status {
 #[test]
 fn two_nodes_meet(rt: HostRuntime) -> Result<(), Fail> {
     for line in ["run", "trace", "demo 2 7", "check", "bill", "ask", "free"] {
-        let gate = MeetingGate::new(&rt, rt.alloc(), (1, 2), line == "free");
+        let moment = if line == "free" {
+            Moment::Turn
+        } else {
+            Moment::Line
+        };
+        let meeting = MeetingGate::new((1, 2), moment, LOOKS);
+        let gate = TellingGate::new(&rt, rt.alloc(), meeting);
         let input = input_of(rt.alloc(), line)?;
         let (status, text) = ran(&rt, rt.alloc(), line, &input, &gate)?;
         assert_eq!(rt; status, status_of(line), "at {line}");
-        assert_eq!(rt; gate.met(), 2, "at {line}");
+        assert_eq!(rt; gate.gate().met(), 2, "at {line}");
         if line == "trace" {
-            let told = gate.lines.into_inner();
+            let told = gate.into_lines();
             let moves = text.strip_prefix(super::TWO_BIDS_TEXT).ok_or("no report")?;
             assert!(rt; are_told(rt.alloc(), moves, &told)?);
         }

@@ -1,10 +1,9 @@
 //! A village under gates that hold some of its nodes back.
 
-use super::meeting::{MeetingGate, ran};
-use pm_market::Line;
-use pm_runner::{Gate, OpenGate};
+use super::meeting::{LOOKS, ran};
+use pm_gates::{HoldingGate, MeetingGate, Moment};
+use pm_runner::OpenGate;
 use pm_top::Status;
-use std::sync::atomic::{AtomicU64, Ordering};
 use std::test::Fail;
 
 /// Eight devices of all kinds below two concentrators, over five phases.
@@ -71,41 +70,20 @@ const VILLAGE_TEXT: &str = "\
     member flex power -30 bid 2\n\
     end phases 5 changes 20\n";
 
-/// Looks at an atomic so many times before each turn of the nodes that it holds back.
-#[derive(Drop)]
-struct SlowGate {
-    nodes: &'static [u32],
-    looks: u32,
-    word: AtomicU64,
-}
+/// Nodes 0 to 10, of which some are held back.
+type Yields = [u32; 11];
 
-impl SlowGate {
-    fn new(nodes: &'static [u32], looks: u32) -> SlowGate {
-        let word = AtomicU64::new(0);
-        SlowGate { nodes, looks, word }
-    }
-}
+const EVEN: Yields = [100, 0, 100, 0, 100, 0, 100, 0, 100, 0, 100];
 
-impl Gate for SlowGate {
-    fn before(&self, node: u32) {
-        if self.nodes.contains(&node) {
-            for _ in 0..self.looks {
-                let _seen = self.word.load(Ordering::SeqCst);
-            }
-        }
-    }
+const LOAD1: Yields = [0, 0, 0, 0, 0, 0, 0, 0, 1000, 0, 0];
 
-    fn after(&self, _node: u32, _line: Option<Line>) {}
-}
-
-/// The nodes with an even number.
-const EVEN: &[u32] = &[0, 2, 4, 6, 8, 10];
+const BOTH_CONCENTRATORS: Yields = [0, 1000, 1000, 0, 0, 0, 0, 0, 0, 0, 0];
 
 /// Whichever nodes are slow, the text is the same.
 #[test]
 fn slow_nodes_change_no_text(rt: HostRuntime) -> Result<(), Fail> {
-    for (nodes, looks) in [(EVEN, 1000), (&[8], 100_000), (&[1, 2], 100_000)] {
-        let gate = SlowGate::new(nodes, looks);
+    for yields in [EVEN, LOAD1, BOTH_CONCENTRATORS] {
+        let gate = HoldingGate::new(Vec::from_array(rt.alloc(), yields)?);
         let (status, text) = ran(&rt, rt.alloc(), "run", VILLAGE, &gate)?;
         assert_eq!(rt; (status, text.as_str()), (Status::Done, VILLAGE_TEXT));
     }
@@ -115,7 +93,7 @@ fn slow_nodes_change_no_text(rt: HostRuntime) -> Result<(), Fail> {
 /// The lower concentrator and a device beside it meet, and the text is that of a run that nothing holds back.
 #[test]
 fn a_concentrator_and_a_device_meet(rt: HostRuntime) -> Result<(), Fail> {
-    let gate = MeetingGate::new(&rt, rt.alloc(), (2, 6), false);
+    let gate = MeetingGate::new((2, 6), Moment::Line, LOOKS);
     let (status, text) = ran(&rt, rt.alloc(), "run", VILLAGE, &gate)?;
     assert_eq!(rt; (status, text.as_str()), (Status::Done, VILLAGE_TEXT));
     assert_eq!(rt; gate.met(), 2);

@@ -1,8 +1,7 @@
-use pm_market::Line;
-use pm_runner::Gate;
+use pm_gates::HoldingGate;
 use pm_tree::{NodeId, Tree};
 use std::alloc::{AllocError, Global};
-use std::{fmt, thread};
+use std::fmt;
 
 /// How often a node that is held yields the processor before each turn.
 const YIELDS: u32 = 100;
@@ -36,35 +35,20 @@ impl fmt::Display for Held {
     }
 }
 
-/// Some nodes wait before each of their turns.
-#[derive(Drop)]
-pub(crate) struct HoldingGate {
-    /// How often each node yields, by its number.
-    yields: Vec<u32>,
-}
-
-impl HoldingGate {
-    pub(crate) fn new(alloc: Global, tree: &Tree, held: Held) -> Result<HoldingGate, AllocError> {
-        let yields = match held {
-            Held::First => yields_of_node(alloc, tree, 1)?,
-            Held::Last => yields_of_node(alloc, tree, tree.len())?,
-            Held::Auctioneer => yields_of_node(alloc, tree, 0)?,
-            Held::Subtree => yields_below(alloc, tree, first_concentrator(tree))?,
-            Held::Depth => yields_by_depth(alloc, tree)?,
-        };
-        Ok(HoldingGate { yields })
-    }
-}
-
-impl Gate for HoldingGate {
-    fn before(&self, node: u32) {
-        let yields = self.yields.get(node as usize).copied().unwrap_or(0);
-        for _ in 0..yields {
-            thread::yield_now();
-        }
-    }
-
-    fn after(&self, _node: u32, _line: Option<Line>) {}
+/// A gate that holds these nodes of a tree back.
+pub(crate) fn holding_gate(
+    alloc: Global,
+    tree: &Tree,
+    held: Held,
+) -> Result<HoldingGate, AllocError> {
+    let yields = match held {
+        Held::First => yields_of_node(alloc, tree, 1)?,
+        Held::Last => yields_of_node(alloc, tree, tree.len())?,
+        Held::Auctioneer => yields_of_node(alloc, tree, 0)?,
+        Held::Subtree => yields_below(alloc, tree, first_concentrator(tree))?,
+        Held::Depth => yields_by_depth(alloc, tree)?,
+    };
+    Ok(HoldingGate::new(yields))
 }
 
 /// How often a node yields that is held or not.

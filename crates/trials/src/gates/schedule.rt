@@ -1,17 +1,22 @@
-use super::drawing::DrawingGate;
-use super::holding::{Held, HoldingGate};
-use super::meeting::{MeetingGate, Moment};
+use super::holding::{Held, holding_gate};
 use super::tried::TriedGate;
-use pm_tree::Tree;
+use pm_gates::{DrawingGate, MeetingGate, Moment};
+use pm_tree::{NodeId, Tree};
 use std::alloc::{AllocError, Global};
 use std::fmt;
+
+/// How often a device looks for the other at most. Where they are in no phase together, both give up.
+const LOOKS: u32 = 5_000;
+
+/// A drawn turn yields the processor less often than this.
+const MOST_YIELDS: u64 = 50;
 
 /// How threads are held back.
 #[derive(Clone, Copy)]
 pub(crate) enum Schedule {
     /// None is.
     Open,
-    /// Two devices wait for each other.
+    /// The first device and the last one wait for each other.
     Meeting(Moment),
     /// Some nodes wait before each turn.
     Held(Held),
@@ -39,12 +44,22 @@ impl Schedule {
     pub(crate) fn gate(self, alloc: Global, tree: &Tree) -> Result<TriedGate, AllocError> {
         let gate = match self {
             Schedule::Open => TriedGate::Open,
-            Schedule::Meeting(moment) => TriedGate::Meeting(MeetingGate::new(tree, moment)),
-            Schedule::Held(held) => TriedGate::Holding(HoldingGate::new(alloc, tree, held)?),
-            Schedule::Drawn { seed } => TriedGate::Drawing(DrawingGate::new(seed)),
+            Schedule::Meeting(moment) => {
+                TriedGate::Meeting(MeetingGate::new(outer_devices(tree), moment, LOOKS))
+            }
+            Schedule::Held(held) => TriedGate::Holding(holding_gate(alloc, tree, held)?),
+            Schedule::Drawn { seed } => TriedGate::Drawing(DrawingGate::new(seed, MOST_YIELDS)),
         };
         Ok(gate)
     }
+}
+
+/// The first device of a tree and the last one.
+fn outer_devices(tree: &Tree) -> (u32, u32) {
+    let devices = tree.leaves_below(NodeId(0));
+    let first = devices.first().map_or(0, |device| device.0);
+    let last = devices.last().map_or(0, |device| device.0);
+    (first, last)
 }
 
 impl fmt::Display for Schedule {

@@ -1,6 +1,4 @@
-use super::drawing::DrawingGate;
-use super::holding::HoldingGate;
-use super::meeting::MeetingGate;
+use pm_gates::{DrawingGate, HoldingGate, MeetingGate};
 use pm_market::Line;
 use pm_runner::Gate;
 

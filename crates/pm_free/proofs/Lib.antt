@@ -1,0 +1,2 @@
+mod MayLearn
+mod Placing

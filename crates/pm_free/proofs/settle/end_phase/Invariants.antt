@@ -1,0 +1,5 @@
+use Rattle.std.proofs.Common.{◌≡◌}
+use Rattle.pm_free.proofs.settle.end_phase.Given as goal
+
+abbrev pub invariant-loop : goal.invariant-loop
+invariant-loop l = (l.board.plan ≡ l.fn.board.plan) × (l.agents ≡ l.fn.agents)

@@ -1,4 +1,0 @@
-pub mod Devices
-pub mod Finishing
-mod Learning
-mod Placing

@@ -1,8 +1,0 @@
-use Rattle.std.proofs.Common.{◌≡◌, ◌∙◌, ap, length, arith}
-use Rattle.pm_runner.proofs.Devices.{one_more, all_agents}
-use Rattle.pm_runner.proofs.agents.make_agents.Goals as goal
-
-pub loop-number-preserved : goal.loop-number-preserved
-loop-number-preserved c =
-    one_more c.args.plan.now c.loop-number.agents.items c.push.new.self.items _ c.loop-number.number c.loop-number.invariant c.in_ok-push.ensures.items
-    c.in_ok-agent_of.ensures.agent c.in_ok-agent_of.ensures.none

@@ -1,5 +1,0 @@
-use Rattle.pm_runner.proofs.Devices.{AreAgentsTo}
-use Rattle.pm_runner.proofs.agents.make_agents.Given as goal
-
-abbrev pub invariant-loop-number : goal.invariant-loop-number
-invariant-loop-number l = AreAgentsTo l.plan l.agents.items l.number

@@ -1,6 +1,0 @@
-use Rattle.std.proofs.Common.{All}
-use Rattle.pm_runner.specs.FreeEnds.{IsDownOf, ArePlaced}
-use Rattle.pm_runner.proofs.free.closing.take_ends.Given as goal
-
-abbrev pub invariant-loop-down : goal.invariant-loop-down
-invariant-loop-down l = All (IsDownOf l.links) l.down-iterator.rest.items × ArePlaced l.links l.places.items

@@ -1,9 +1,0 @@
-use Rattle.std.proofs.Common.{All, ◌-◌, length}
-use Rattle.pm_runner.specs.FreeEnds.{IsDownOf}
-use Rattle.pm_runner.proofs.free.node.children_turn.Given as goal
-
-abbrev pub invariant-loop-place : goal.invariant-loop-place
-invariant-loop-place l = All (IsDownOf l.links) l.downs.items
-
-abbrev pub decreases-loop-place : goal.decreases-loop-place
-decreases-loop-place l = length l.downs.items - l.place

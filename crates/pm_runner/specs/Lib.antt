@@ -1,4 +1,0 @@
-pub mod Settled
-pub mod Alone
-pub mod FreeEnds
-pub mod FreeLearning

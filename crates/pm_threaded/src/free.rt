@@ -1,0 +1,68 @@
+//! Runs over links without a lock.
+
+use crate::runs::{REJOINS, TWO_BIDS, are_right};
+use pm_board::Board;
+use pm_free::{run_free, settle_free};
+use pm_gates::{DrawingGate, MeetingGate, Moment, TellingGate};
+use pm_gen::make_plan;
+use pm_plan::Plan;
+use pm_runner::{Gate, OpenGate};
+use pm_scene::read_scene;
+use pm_tree::NodeId;
+use pm_turns::is_device;
+use std::alloc::Global;
+use std::sync::Wait;
+use std::test::Fail;
+use std::thread::Threads;
+
+/// The two devices' threads meet, each at its first turn, and no turn is told with a line.
+#[test]
+fn the_meeting_of_turns(rt: HostRuntime) -> Result<(), Fail> {
+    let alloc = rt.alloc();
+    let plan = read_scene(alloc, TWO_BIDS)?;
+    let gate = TellingGate::new(
+        &rt,
+        alloc,
+        MeetingGate::new((1, 2), Moment::Turn, 20_000_000),
+    );
+    let ends = settle_free(&rt, alloc, &plan, &gate)?;
+    assert_eq!(rt; gate.gate().met(), 2);
+    assert!(rt; gate.into_lines().is_empty());
+    assert!(rt; are_right(alloc, &plan, &ends)?);
+    Ok(())
+}
+
+/// Whether each device holds over the links what it holds on the board: the step, and the number of its bid.
+fn hold_the_same(held: &[Option<(u32, u32)>], board: &Board) -> bool {
+    let mut same = held.len() as u64 == board.plan().tree().len() as u64 + 1;
+    for number in 0..held.len() as u32 {
+        if is_device(board.plan(), number) {
+            let due = board.held(NodeId(number));
+            same = same && held[number as usize] == due.map(|held| (held.step, held.number));
+        }
+    }
+    same
+}
+
+/// Whether the messages over the links come to the prices of the board, and the ends are right.
+fn are_carried<R: Threads + Wait + Sync, G: Gate>(
+    rt: &R,
+    alloc: Global,
+    plan: &Plan,
+    gate: &G,
+) -> Result<bool, Fail> {
+    let run = run_free(rt, alloc, plan, gate)?;
+    let same = hold_the_same(&run.held, &run.board);
+    Ok(same && are_right(alloc, plan, run.board.ends())?)
+}
+
+/// Whoever is slow, the messages over the links come to the prices of the plain auction.
+#[test]
+fn the_links_carry_the_market(rt: HostRuntime) -> Result<(), Fail> {
+    let alloc = rt.alloc();
+    for plan in [read_scene(alloc, REJOINS)?, make_plan(alloc, 20, 7)?] {
+        assert!(rt; are_carried(&rt, alloc, &plan, &OpenGate)?);
+        assert!(rt; are_carried(&rt, alloc, &plan, &DrawingGate::new(1, 30))?);
+    }
+    Ok(())
+}

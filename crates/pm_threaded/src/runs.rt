@@ -1,0 +1,59 @@
+//! The files that are run, and what is due of a run.
+
+use pm_gates::HoldingGate;
+use pm_plan::{PhaseEnd, Plan};
+use pm_walk::all_ends;
+use std::alloc::{AllocError, Global};
+use std::test::Fail;
+
+/// A load of 100 at all steps, and a generator of 150 from step 4.
+pub(crate) const TWO_BIDS: &[u8] =
+    b"{\"version\":1,\"basis\":{\"min\":0,\"max\":9,\"steps\":10},\"nodes\":[
+    {\"name\":\"load1\",\"kind\":\"manual\",\"parent\":\"auctioneer\",\"demand\":[100,100,100,100,100,100,100,100,100,100]},
+    {\"name\":\"gen1\",\"kind\":\"manual\",\"parent\":\"auctioneer\",\"demand\":[0,0,0,0,-150,-150,-150,-150,-150,-150]}],
+    \"phases\":[{\"events\":[{\"join\":\"load1\"},{\"join\":\"gen1\"}]}]}";
+
+/// Three levels, one of them limited; devices that join and leave in one phase, empty phases, and a device that never joins.
+pub(crate) const REJOINS: &[u8] =
+    b"{\"version\":2,\"basis\":{\"min\":0,\"max\":9,\"steps\":10},\"nodes\":[
+    {\"name\":\"c1\",\"kind\":\"concentrator\",\"parent\":\"auctioneer\"},
+    {\"name\":\"c2\",\"kind\":\"limited\",\"parent\":\"c1\",\"floor\":-100,\"ceiling\":150},
+    {\"name\":\"c3\",\"kind\":\"concentrator\",\"parent\":\"c2\"},
+    {\"name\":\"a\",\"kind\":\"load\",\"parent\":\"c3\",\"start\":100},
+    {\"name\":\"b\",\"kind\":\"solar\",\"parent\":\"c2\",\"start\":70},
+    {\"name\":\"c\",\"kind\":\"battery\",\"parent\":\"c1\",\"capacity\":1000,\"charge\":400,\"discharge\":400,\"spread\":1,\"start\":500},
+    {\"name\":\"d\",\"kind\":\"load\",\"parent\":\"auctioneer\",\"start\":10},
+    {\"name\":\"e\",\"kind\":\"load\",\"parent\":\"c3\",\"start\":10}],
+    \"phases\":[{\"events\":[]},
+    {\"events\":[{\"join\":\"a\"},{\"leave\":\"a\"},{\"join\":\"a\"},{\"join\":\"b\"},{\"leave\":\"b\"}]},
+    {\"tick\":15},
+    {\"events\":[{\"join\":\"c\"},{\"join\":\"d\"},{\"leave\":\"a\"}]},
+    {\"tick\":30},{\"tick\":30},{\"events\":[]},
+    {\"events\":[{\"join\":\"a\"},{\"state\":\"a\",\"value\":101},{\"state\":\"a\",\"value\":102},{\"leave\":\"d\"},{\"leave\":\"c\"}]},
+    {\"events\":[{\"join\":\"b\"},{\"leave\":\"a\"},{\"leave\":\"b\"}]},{\"events\":[]}]}";
+
+/// Whether two ends are the same.
+fn is_same(end: &PhaseEnd, due: &PhaseEnd) -> bool {
+    (end.step(), end.price(), end.total()) == (due.step(), due.price(), due.total())
+        && end.members() == due.members()
+        && end.limited() == due.limited()
+}
+
+/// Whether the ends are those of the plain program.
+pub(crate) fn are_right(alloc: Global, plan: &Plan, ends: &[PhaseEnd]) -> Result<bool, Fail> {
+    let due = all_ends(alloc, plan)?;
+    Ok(ends.len() == due.len() && ends.iter().zip(&due).all(|(end, due)| is_same(end, due)))
+}
+
+/// A gate that holds back, of the first eleven nodes, those whose number has this rest by `divisor`.
+pub(crate) fn holding(alloc: Global, divisor: u32, rest: u32) -> Result<HoldingGate, AllocError> {
+    let mut yields = Vec::with_capacity(alloc, 11)?;
+    for node in 0..11 {
+        yields.push(if node % divisor.max(1) == rest {
+            100
+        } else {
+            0
+        })?;
+    }
+    Ok(HoldingGate::new(yields))
+}

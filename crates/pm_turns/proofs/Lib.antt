@@ -1,0 +1,2 @@
+pub mod Devices
+mod Finishing

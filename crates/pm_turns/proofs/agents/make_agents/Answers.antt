@@ -1,0 +1,7 @@
+use Rattle.pm_turns.proofs.Devices.{one_more}
+use Rattle.pm_turns.proofs.agents.make_agents.Goals as goal
+
+pub loop-number-preserved : goal.loop-number-preserved
+loop-number-preserved c =
+    one_more c.args.plan.now c.loop-number.agents.items c.push.new.self.items _ c.loop-number.number c.loop-number.invariant c.in_ok-push.ensures.items
+    c.in_ok-agent_of.ensures.agent c.in_ok-agent_of.ensures.none

@@ -1,0 +1,10 @@
+use Rattle.std.proofs.Common.{◌≡◌, sym, subst, false, rules}
+use Rattle.pm_board.specs.Boards.{BoardValue, board_state}
+use Rattle.pm_market.specs.Moves.{Idle}
+use Rattle.pm_plan.specs.Market.{plan_lists}
+use Rattle.pm_turns.proofs.one_thread.make_move.Goals as goal
+
+pub close-requires-clause-idle : goal.close-requires-clause-idle
+close-requires-clause-idle g c κs within =
+    let off : c.take_turn.result ≡ false = search rules in
+    subst (λ (b : BoardValue). Idle (plan_lists b.plan) (board_state b)) (sym (c.take_turn.ensures.same off)) (c.take_turn.ensures.idle off)

@@ -1,0 +1,58 @@
+ghost use Rattle.std.specs.Prelude.{◌≡◌, true, false, None, IfOk, IfSome, IsTrue};
+ghost use Rattle.pm_bid.specs.Bids.{HaveSteps};
+ghost use Rattle.pm_device.specs.Kinds.{state_fits};
+ghost use Rattle.pm_market.specs.Lists.{IsLeaf};
+ghost use Rattle.pm_plan.specs.Market.{plan_lists};
+ghost use Rattle.pm_turns.specs.Alone.{AreAgents, IsAgentOf};
+
+use crate::plans::is_device;
+use pm_agent::DeviceAgent;
+use pm_device::Next;
+use pm_plan::Plan;
+use pm_tree::NodeId;
+use std::alloc::{AllocError, Global};
+
+/// The agents of the devices of a plan, each in the place of its node; none elsewhere.
+#[tactic(auto, using(crate::proofs::Devices::no_agents, crate::proofs::Devices::all_agents))]
+pub fn make_agents(alloc: Global, plan: &Plan) -> Result<Vec<Option<DeviceAgent>>, AllocError>
+    ensures { IfOk result (λ agents. AreAgents plan.now agents.items) }
+{
+    let nodes = plan.tree().len();
+    let mut agents = Vec::with_capacity(alloc, nodes as usize + 1)?;
+    for number in 0..nodes + 1 {
+        agents.push(agent_of(alloc, plan, number)?)?;
+    }
+    Ok(agents)
+}
+
+/// The agent of a device; none of another node.
+#[tactic(auto, using(crate::proofs::Devices::leaf_of_plan, crate::proofs::Devices::kind_valid, crate::proofs::Devices::agent_is))]
+pub fn agent_of(alloc: Global, plan: &Plan, number: u32) -> Result<Option<DeviceAgent>, AllocError>
+    ensures agent { IfOk result (λ agent. IfSome agent (IsAgentOf plan.now number)) }
+    ensures none { IfOk result (λ agent. agent ≡ None → IsLeaf (plan_lists plan.now) number → ⊥) }
+{
+    if !is_device(plan, number) {
+        return Ok(None);
+    }
+    let kind = plan.kind(NodeId(number));
+    let agent = DeviceAgent::new(alloc, kind, number, plan.basis().steps())?;
+    Ok(Some(agent))
+}
+
+/// Whether a change is one of the agent's device, in a state of its kind, and of its steps.
+#[tactic(auto, using(crate::proofs::Devices::plan_arrays))]
+pub fn can_work(agent: &DeviceAgent, next: Next, plan: &Plan) -> bool
+    ensures device { result ≡ true → next.device ≡ agent.now.device }
+    ensures fits { result ≡ true → IsTrue (state_fits agent.now.kind next.state.0) }
+    ensures arrays { result ≡ true → HaveSteps agent.now.steps plan.now.arrays }
+    ensures refused { result ≡ false → next.device ≡ agent.now.device → agent.now.steps ≡ plan.now.basis.steps →
+        IsTrue (state_fits agent.now.kind next.state.0) → ⊥ }
+{
+    if next.device != agent.device() {
+        return false;
+    }
+    if agent.steps() != plan.basis().steps() {
+        return false;
+    }
+    agent.kind().fits(next.state)
+}
