@@ -3,11 +3,10 @@ use Rattle.std.proofs.Common.{◌≡◌, ℕ, zero, suc, ◌<◌, List, [], ◌�
 use Rattle.std.proofs.Common.{arith, All}
 use Rattle.std.specs.Prelude.{slice_get, IfSome}
 use Rattle.pm_cells.specs.Ends.{TableId, LinkEnd}
-use Rattle.pm_free.specs.Ends.{IsUpOf, IsDownOf, AreOf, IsPlaced, ArePlaced}
+use Rattle.pm_free.specs.Ends.{IsUpOf, AreOf, IsPlaced, ArePlaced}
 use Rattle.pm_free.specs.declared.closing.Places.{Places}
 use Rattle.pm_free.specs.declared.node.FreeNode.{FreeNode}
 use Rattle.pm_free.specs.declared.ends.UpEnd.{UpEnd}
-use Rattle.pm_free.specs.declared.ends.DownEnd.{DownEnd}
 
 -- there are as many places as links
 pub same_length : (ls : List TableId) (ps : List Places) → ArePlaced ls ps → length ps ≡ length ls

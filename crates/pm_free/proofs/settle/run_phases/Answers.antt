@@ -1,4 +1,4 @@
-use Rattle.std.proofs.Common.{sym, ap, subst}
+use Rattle.std.proofs.Common.{sym, subst}
 use Rattle.pm_plan.specs.Plans.{PlanData}
 use Rattle.pm_turns.specs.Alone.{AreAgents}
 use Rattle.pm_free.proofs.settle.run_phases.Goals as goal

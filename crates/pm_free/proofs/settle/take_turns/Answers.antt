@@ -1,4 +1,4 @@
-use Rattle.std.proofs.Common.{◌≡◌, ℕ, length, ap, arith}
+use Rattle.std.proofs.Common.{length, ap, arith}
 use Rattle.pm_plan.specs.Plans.{PlanData}
 use Rattle.pm_turns.proofs.Devices.{nodes_are}
 use Rattle.pm_free.proofs.settle.take_turns.Goals as goal
