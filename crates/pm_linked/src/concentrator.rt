@@ -15,7 +15,8 @@ use std::process::Abort;
 use std::test::Fail;
 
 /// The bid of these demands at ten steps.
-fn bid_of(alloc: Global, demands: [i64; 10]) -> Result<ArrayBid, Fail>
+fn bid_of(alloc: Global, demands: &[i64]) -> Result<ArrayBid, Fail>
+    requires { length demands.now ≡ 10 }
     ensures steps { IfOk result (λ bid. length bid ≡ 10) }
     ensures small { IfOk result (λ bid. AllWithinLimit demand_limit bid) }
 {
@@ -105,7 +106,7 @@ fn passed(
 #[test]
 fn a_full_window_publishes_after_a_price(rt: HostRuntime) -> Result<(), Fail> {
     let alloc = rt.alloc();
-    let load = bid_of(alloc, [100; 10])?;
+    let load = bid_of(alloc, &[100; 10])?;
     let mut c = Concentrator::new(alloc, 1, 10)?;
     let mut up = Link::new(alloc, 10)?;
     assert_eq!(rt; c.publish(&mut up), Err(PublishFault::NotChanged));
@@ -153,7 +154,7 @@ fn publishes_first(rt: &impl Abort, alloc: Global, c: &mut Concentrator) -> Resu
 #[test]
 fn the_local_step_is_within_the_limits(rt: HostRuntime) -> Result<(), Fail> {
     let alloc = rt.alloc();
-    let bid = bid_of(alloc, [300, 250, 200, 150, 100, 50, 0, -50, -100, -150])?;
+    let bid = bid_of(alloc, &[300, 250, 200, 150, 100, 50, 0, -50, -100, -150])?;
     let mut c = Concentrator::limited(alloc, 2, 10, -100, 150)?;
     assert_eq!(rt; learn(&mut c, 0, 1, &bid), Ok(()));
     publishes_first(&rt, alloc, &mut c)?;
