@@ -32,16 +32,25 @@ fn the_meeting_of_turns(rt: HostRuntime) -> Result<(), Fail> {
     Ok(())
 }
 
-/// Whether each device holds over the links what it holds on the board: the step, and the number of its bid.
+/// Whether each device holds over the links what it holds on the board: the step, and the number of its bid. Other nodes hold
+/// nothing.
 fn hold_the_same(held: &[Option<(u32, u32)>], board: &Board) -> bool {
-    let mut same = held.len() as u64 == board.plan().tree().len() as u64 + 1;
-    for number in 0..held.len() as u32 {
-        if is_device(board.plan(), number) {
-            let due = board.held(NodeId(number));
-            same = same && held[number as usize] == due.map(|held| (held.step, held.number));
-        }
+    let mut number: u32 = 0;
+    let mut same = true;
+    for over_links in held {
+        same = same && *over_links == held_by(board, number);
+        number = number.saturating_add(1);
     }
-    same
+    same && number == board.plan().tree().len().saturating_add(1)
+}
+
+/// What a device holds on the board; none where the number is that of another node.
+fn held_by(board: &Board, number: u32) -> Option<(u32, u32)> {
+    if !is_device(board.plan(), number) {
+        return None;
+    }
+    let held = board.held(NodeId(number))?;
+    Some((held.step, held.number))
 }
 
 /// Whether the messages over the links come to the prices of the board, and the ends are right.
