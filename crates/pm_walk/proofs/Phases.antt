@@ -6,6 +6,7 @@ use Rattle.std.proofs.Math.ListN.{get_or-eq_default}
 use Rattle.std.specs.Prelude.{Result, Ok, Err, IfOk, min}
 use Rattle.std.specs.List.{range_with_len}
 use Rattle.std.proofs.lemmas.Bool.{cases_lt}
+use Rattle.std.proofs.lemmas.List.{map-append}
 use Rattle.std.proofs.lemmas.List.FromFn.{map-range_with_len_more}
 use Rattle.pm_plan.specs.Plans.{PlanData, phases, change_count, end_cut}
 use Rattle.pm_plan.specs.Kept.{IsPlan}
@@ -18,7 +19,7 @@ use Rattle.pm_walk.specs.declared.changes.Progress.{Progress}
 use Rattle.pm_walk.specs.declared.run.Run.{Run}
 use Rattle.pm_walk.specs.Cuts.{AreStops, file_cut, earlier_cut}
 use Rattle.pm_walk.specs.Standing.{StandingValue, HaveCome, cut_made}
-use Rattle.pm_walk.specs.Runs.{IsRun, IsAtEnd}
+use Rattle.pm_walk.specs.Runs.{IsRun, IsAtEnd, AreEnds}
 
 -- ---- before the first phase
 
@@ -47,14 +48,14 @@ run_at plan p standing cut run sound same = record { sound = sound; cut = ap (λ
 -- ---- one more phase
 
 -- the end of phase p behind the ends of the phases before it makes the ends of the phases up to p
-pub ends_more : (plan : PlanData) (p : ℕ) (ends : List EndValue) (new : EndValue) → 1 ≤ p →
-    map (λ (e : EndValue). e.end) ends ≡ map (λ q. end_of plan (end_cut plan q)) (range_with_len 1 (p - 1)) → new.end ≡ end_of plan (end_cut plan p) →
-    map (λ (e : EndValue). e.end) ends ++ new.end ∷ [] ≡ map (λ q. end_of plan (end_cut plan q)) (range_with_len 1 (p + 1 - 1))
+pub ends_more : (plan : PlanData) (p : ℕ) (ends : List EndValue) (new : EndValue) → 1 ≤ p → AreEnds plan (p - 1) ends →
+    new.end ≡ end_of plan (end_cut plan p) → AreEnds plan p (ends ++ new ∷ [])
 ends_more plan p ends new low before new_is =
     let f = λ (q : ℕ). end_of plan (end_cut plan q) in
-    ap (λ xs. xs ++ new.end ∷ []) before
+    map-append (λ (e : EndValue). e.end) ends (new ∷ [])
+    ∙ ap (λ xs. xs ++ new.end ∷ []) before
     ∙ ap (λ (x : EndData). map f (range_with_len 1 (p - 1)) ++ x ∷ []) new_is
-    ∙ sym ((let e : p + 1 - 1 ≡ (p - 1) + 1 = omega arith in ap (λ n. map f (range_with_len 1 n)) e)
+    ∙ sym ((let e : p ≡ (p - 1) + 1 = omega arith in ap (λ n. map f (range_with_len 1 n)) e)
     ∙ map-range_with_len_more f 1 (p - 1) p (omega arith))
 
 -- ---- after the last phase

@@ -1,10 +1,11 @@
-ghost use Rattle.std.specs.Prelude.{◌≡◌, ℕ, ◌-◌, ◌≤◌, length, map, IfOk};
+ghost use Rattle.std.specs.Prelude.{◌≡◌, ℕ, ◌-◌, ◌≤◌, length, map, IfOk, OnOk};
 ghost use Rattle.pm_plan.specs.Plans.{phases, change_count};
 ghost use Rattle.pm_plan.specs.States.{end_of, all_ends};
-ghost use Rattle.pm_walk.specs.Cuts.{file_cut};
+ghost use Rattle.pm_walk.specs.Cuts.{file_cut, AreStops};
 ghost use Rattle.pm_walk.specs.Standing.{IsStanding, cut_made};
-ghost use Rattle.pm_walk.specs.Runs.{IsRun, IsAtEnd};
+ghost use Rattle.pm_walk.specs.Runs.{IsRun, IsAtEnd, AreEnds};
 
+use crate::changes::Progress;
 use crate::clearing::Clearing;
 use crate::lines::end_of;
 use crate::standing::{Standing, starts};
@@ -71,6 +72,39 @@ impl Run {
     {
         end_of(alloc, plan, &self.standing, &self.clearing)
     }
+
+    /// Makes the changes of the next phase, and puts the end over them behind the ends of the phases before.
+    fn add_end(
+        &mut self,
+        alloc: Global,
+        plan: &Plan,
+        phase: u32,
+        ends: &mut Vec<PhaseEnd>,
+    ) -> Result<(), AllocError>
+        requires first { 1 ≤ phase }
+        requires last { phase ≤ phases plan.now }
+        requires before { IsAtEnd plan.now (phase - 1) self.old }
+        requires ends { AreEnds plan.now (phase - 1) ends.old.items }
+        ensures run { IsAtEnd plan.now phase self.new }
+        ensures ends { OnOk result (AreEnds plan.now phase ends.new.items) }
+    {
+        self.pass(plan, phase);
+        ends.push(self.end(alloc, plan)?)?;
+        Ok(())
+    }
+
+    /// Goes through all phases, and makes in each the changes of the devices as far as the cut goes.
+    fn stop_at(&mut self, plan: &Plan, cut: &[u32], stops: &mut [Progress])
+        requires run { IsAtEnd plan.now 0 self.old }
+        requires one_each { length cut.now ≡ length plan.now.nodes }
+        requires stops { AreStops plan.now cut.now 0 stops.old }
+        ensures { AreStops plan.now cut.now (phases plan.now) stops.new }
+    {
+        for phase in 1..plan.phases() + 1 {
+            change_stops(plan, phase, &self.clearing.powers, cut, stops);
+            self.pass(plan, phase);
+        }
+    }
 }
 
 /// The ends of all phases of a plan, from the first to the last, each by the plain auction over the changes of the
@@ -81,8 +115,7 @@ pub fn all_ends(alloc: Global, plan: &Plan) -> Result<Vec<PhaseEnd>, AllocError>
     let mut run = Run::start(alloc, plan)?;
     let mut ends = Vec::new(alloc);
     for phase in 1..plan.phases() + 1 {
-        run.pass(plan, phase);
-        ends.push(run.end(alloc, plan)?)?;
+        run.add_end(alloc, plan, phase, &mut ends)?;
     }
     Ok(ends)
 }
@@ -97,12 +130,19 @@ pub fn end_of_cut(alloc: Global, plan: &Plan, cut: &[u32]) -> Result<PhaseEnd, A
     requires planned { (x : ℕ) → 1 ≤ x → x ≤ length plan.now.nodes → file_cut cut.now x ≤ change_count plan.now x }
     ensures { IfOk result (λ e. e.end ≡ end_of plan.now (file_cut cut.now)) }
 {
+    let standing = standing_at(alloc, plan, cut)?;
+    Run::over(alloc, plan, standing)?.end(alloc, plan)
+}
+
+/// The standing in which each node has made as many changes as the cut says.
+fn standing_at(alloc: Global, plan: &Plan, cut: &[u32]) -> Result<Standing, AllocError>
+    requires one_each { length cut.now ≡ length plan.now.nodes }
+    requires planned { (x : ℕ) → 1 ≤ x → x ≤ length plan.now.nodes → file_cut cut.now x ≤ change_count plan.now x }
+    ensures stands { IfOk result (IsStanding plan.now) }
+    ensures cut { IfOk result (λ s. cut_made s.progress ≡ file_cut cut.now) }
+{
     let mut run = Run::start(alloc, plan)?;
     let mut stops = starts(alloc, plan)?;
-    for phase in 1..plan.phases() + 1 {
-        change_stops(plan, phase, &run.clearing.powers, cut, &mut stops);
-        run.pass(plan, phase);
-    }
-    let standing = Standing::over(alloc, plan, &stops)?;
-    Run::over(alloc, plan, standing)?.end(alloc, plan)
+    run.stop_at(plan, cut, &mut stops);
+    Standing::over(alloc, plan, &stops)
 }
