@@ -8,7 +8,8 @@ use Rattle.pm_plan.specs.Refusals.{refusal_in, Makes}
 use Rattle.pm_plan.specs.declared.refusal.Refusal.{Refusal}
 use Rattle.pm_plan.specs.declared.refusal.PlanFault.{PlanFault}
 
-Makes-err : {Y : Type 0} (r : Result ⊤ PlanFault) (e : PlanFault) (new : Y) (read : Result Y Refusal) → IsErrAnd r (λ y. y ≡ e) →
+-- what the exit by an error returns
+pub Makes-err : {Y : Type 0} (r : Result ⊤ PlanFault) (e : PlanFault) (new : Y) (read : Result Y Refusal) → IsErrAnd r (λ y. y ≡ e) →
     Refuses (refusal_in e) read → Makes r new read
 Makes-err (Ok x) e new read h f = absurd h
 Makes-err (Err y) e new read h f = subst (λ z. Refuses (refusal_in z) read) (sym h) f

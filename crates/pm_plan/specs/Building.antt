@@ -61,6 +61,12 @@ points_or_refuse basis place (Err fault) = refuse_item cause.BadPoints place (it
 abbrev pub with_array : PlanData → List ℤ → ℤ × PlanData
 with_array plan bid = (pos (length plan.arrays), record plan { arrays = plan.arrays ++ bid ∷ [] })
 
+-- the bid that is written for a manual device
+abbrev pub manual_bid : Place → BasisValue → StatePart → Result (List ℤ) Refusal
+manual_bid place basis (number z) = refuse cause.UnfitState place
+manual_bid place basis (array demands) = array_or_refuse place (checked_bid basis.steps demands)
+manual_bid place basis (points pairs) = points_or_refuse basis place (checked_points basis pairs)
+
 unfoldable pub manual_state : Place → PlanData → StatePart → Result (ℤ × PlanData) Refusal
 manual_state place plan (number z) = refuse cause.UnfitState place
 manual_state place plan (array demands) = do
@@ -196,6 +202,10 @@ add_phase p plan part = do
 
 abbrev pub empty_plan : BasisValue → List Entry → PlanData
 empty_plan basis entries = record { basis = basis; entries = entries; nodes = []; arrays = []; minutes = [] }
+
+-- a plan with these nodes and then these phases, or the first refusal
+abbrev pub nodes_and_phases : PlanData → List NodePart → List PhasePart → Result PlanData Refusal
+nodes_and_phases plan nodes phases = fold_from 1 add_node plan nodes >>= λ made. fold_from 1 add_phase made phases
 
 -- the plan of a basis, a tree, its nodes and the phases, or the first refusal
 unfoldable pub checked_plan : BasisValue → List Entry → List NodePart → List PhasePart → Result PlanData Refusal

@@ -1,5 +1,5 @@
 ghost use Rattle.std.specs.Prelude.{◌≡◌, ◌+◌, ◌<◌, ◌≤◌, ◌^◌, true, length, map, OnOk, IfOk, IfSome};
-ghost use Rattle.pm_plan.specs.Parts.{event_part};
+ghost use Rattle.pm_plan.specs.Parts.{event_part, state_part, join, state, leave};
 ghost use Rattle.pm_plan.specs.Plans.{node as planned_node, is_device};
 ghost use Rattle.pm_plan.specs.Building.{add_event, event_of, device_named, member_named, stranger_named};
 ghost use Rattle.pm_plan.specs.Refusals.{Makes};
@@ -8,7 +8,7 @@ ghost use Rattle.pm_base.specs.Limits.{most_events};
 
 use crate::building::states::take_state;
 use crate::draft::Draft;
-use crate::parts::EventSpec;
+use crate::parts::{EventSpec, StateSpec};
 use crate::planned::Planned;
 use crate::refusal::{Cause, Place, PlanFault, Refusal};
 use pm_device::DeviceState;
@@ -39,7 +39,6 @@ pub(crate) fn add_events(
 }
 
 /// Takes one event of a phase.
-#[tactic(auto, unfolding(crate::specs::Building::event_of))]
 fn add_event(
     alloc: Global,
     draft: &mut Draft,
@@ -55,22 +54,62 @@ fn add_event(
     ensures arrays { OnOk result (length draft.new.arrays ≤ length draft.old.arrays + 1) }
 {
     match spec {
-        EventSpec::Join { device } => {
-            let device = stranger_named(draft, place, device.as_str())?;
-            Ok(draft.plan(device, phase, Planned::Join)?)
-        }
+        EventSpec::Join { device } => add_join(draft, place, phase, device.as_str()),
         EventSpec::State { device, value } => {
-            let device = member_named(draft, place, device.as_str())?;
-            let kind = draft.kind(device);
-            let number = take_state(alloc, draft, place, kind, value)?;
-            let state = DeviceState(number);
-            Ok(draft.plan(device, phase, Planned::Set { state })?)
+            add_state(alloc, draft, place, phase, device.as_str(), value)
         }
-        EventSpec::Leave { device } => {
-            let device = member_named(draft, place, device.as_str())?;
-            Ok(draft.plan(device, phase, Planned::Leave)?)
-        }
+        EventSpec::Leave { device } => add_leave(draft, place, phase, device.as_str()),
     }
+}
+
+/// Takes the join of a device.
+#[tactic(auto, unfolding(crate::specs::Building::event_of))]
+fn add_join(draft: &mut Draft, place: Place, phase: u32, name: &str) -> Result<(), PlanFault>
+    requires whole { length draft.old.nodes ≡ length draft.old.entries }
+    ensures made { Makes result draft.new (event_of place phase draft.old (join name.now)) }
+    ensures entries { draft.new.entries ≡ draft.old.entries }
+    ensures nodes { length draft.new.nodes ≡ length draft.old.nodes }
+    ensures arrays { draft.new.arrays ≡ draft.old.arrays }
+{
+    let device = stranger_named(draft, place, name)?;
+    Ok(draft.plan(device, phase, Planned::Join)?)
+}
+
+/// Takes the leave of a device.
+#[tactic(auto, unfolding(crate::specs::Building::event_of))]
+fn add_leave(draft: &mut Draft, place: Place, phase: u32, name: &str) -> Result<(), PlanFault>
+    requires whole { length draft.old.nodes ≡ length draft.old.entries }
+    ensures made { Makes result draft.new (event_of place phase draft.old (leave name.now)) }
+    ensures entries { draft.new.entries ≡ draft.old.entries }
+    ensures nodes { length draft.new.nodes ≡ length draft.old.nodes }
+    ensures arrays { draft.new.arrays ≡ draft.old.arrays }
+{
+    let device = member_named(draft, place, name)?;
+    Ok(draft.plan(device, phase, Planned::Leave)?)
+}
+
+/// Takes the state that is set for a device.
+#[tactic(auto, unfolding(crate::specs::Building::event_of))]
+fn add_state(
+    alloc: Global,
+    draft: &mut Draft,
+    place: Place,
+    phase: u32,
+    name: &str,
+    value: &StateSpec,
+) -> Result<(), PlanFault>
+    requires whole { length draft.old.nodes ≡ length draft.old.entries }
+    requires few { length draft.old.arrays < 2 ^ 63 }
+    ensures made { Makes result draft.new (event_of place phase draft.old (state name.now (state_part value.now))) }
+    ensures entries { OnOk result (draft.new.entries ≡ draft.old.entries) }
+    ensures nodes { OnOk result (length draft.new.nodes ≡ length draft.old.nodes) }
+    ensures arrays { OnOk result (length draft.new.arrays ≤ length draft.old.arrays + 1) }
+{
+    let device = member_named(draft, place, name)?;
+    let kind = draft.kind(device);
+    let number = take_state(alloc, draft, place, kind, value)?;
+    let state = DeviceState(number);
+    Ok(draft.plan(device, phase, Planned::Set { state })?)
 }
 
 /// The device of a name, which has to be a member.

@@ -1,12 +1,13 @@
-ghost use Rattle.std.specs.Prelude.{◌≡◌, Ok, map, length, OnOk, IfOk};
+ghost use Rattle.std.specs.Prelude.{◌≡◌, ◌≤◌, Ok, map, length, OnOk, IfOk};
 ghost use Rattle.pm_plan.specs.Plans.{phases as phase_count};
 ghost use Rattle.pm_basis.specs.Prices.{IsBasis};
 ghost use Rattle.pm_tree.specs.Entries.{checked_tree, parents_of, leaves_of};
 ghost use Rattle.pm_tree.specs.Shape.{IsTree};
 ghost use Rattle.pm_plan.specs.Parts.{AreNodesOf, node_part, phase_part};
-ghost use Rattle.pm_plan.specs.Building.{checked_plan};
+ghost use Rattle.pm_plan.specs.Building.{checked_plan, nodes_and_phases};
+ghost use Rattle.pm_base.specs.Limits.{most_nodes, most_phases};
 ghost use Rattle.pm_base.specs.Outcomes.{Gives};
-ghost use Rattle.pm_plan.specs.Refusals.{refusal_in};
+ghost use Rattle.pm_plan.specs.Refusals.{Makes, refusal_in};
 
 use crate::building::nodes::add_nodes;
 use crate::building::phases::add_phases;
@@ -74,7 +75,25 @@ fn build(
         return Err(PlanFault::Refused(Refusal::at(Cause::RunTooLarge, Place::Document)));
     }
     let mut draft = Draft::new(alloc, basis, tree)?;
-    add_nodes(alloc, &mut draft, nodes)?;
-    add_phases(alloc, &mut draft, phases)?;
+    add_parts(alloc, &mut draft, nodes, phases)?;
     Ok(draft)
+}
+
+/// Takes the nodes in order, and then the phases.
+fn add_parts(
+    alloc: Global,
+    draft: &mut Draft,
+    nodes: &[NodeSpec],
+    phases: &[PhaseSpec],
+) -> Result<(), PlanFault>
+    requires lawful { IsTree (parents_of draft.old.entries) (leaves_of draft.old.entries) }
+    requires first { length draft.old.nodes ≡ 0 }
+    requires one_each { length nodes.now ≡ length draft.old.entries }
+    requires few_nodes { length nodes.now ≤ most_nodes }
+    requires few_phases { length phases.now ≤ most_phases }
+    requires arrays { length draft.old.arrays ≡ 0 }
+    ensures { Makes result draft.new (nodes_and_phases draft.old (map node_part nodes.now) (map phase_part phases.now)) }
+{
+    add_nodes(alloc, draft, nodes)?;
+    add_phases(alloc, draft, phases)
 }

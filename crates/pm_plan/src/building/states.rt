@@ -2,7 +2,7 @@ ghost use Rattle.std.specs.Prelude.{◌≡◌, ◌+◌, ◌<◌, ◌≤◌, ◌^
 ghost use Rattle.pm_bid.specs.Checks.{checked_bid};
 ghost use Rattle.pm_points.specs.Checks.{checked_points};
 ghost use Rattle.pm_plan.specs.Parts.{state_part};
-ghost use Rattle.pm_plan.specs.Building.{item_of_bid, item_of_points, array_or_refuse, points_or_refuse, manual_state, is_manual, state_of};
+ghost use Rattle.pm_plan.specs.Building.{item_of_bid, item_of_points, array_or_refuse, points_or_refuse, manual_bid, manual_state, is_manual, state_of};
 ghost use Rattle.pm_plan.specs.Refusals.{MakesValue, refusal_in};
 ghost use Rattle.pm_base.specs.Outcomes.{Gives};
 
@@ -59,7 +59,6 @@ fn is_manual(kind: Kind) -> bool
 }
 
 /// The number of a manual device's bid, which joins the arrays.
-#[tactic(auto, unfolding(crate::specs::Building::manual_state))]
 fn take_manual(
     alloc: Global,
     draft: &mut Draft,
@@ -72,16 +71,23 @@ fn take_manual(
     ensures entries { OnOk result (draft.new.entries ≡ draft.old.entries) }
     ensures arrays { OnOk result (length draft.new.arrays ≤ length draft.old.arrays + 1) }
 {
+    let bid = manual_bid(alloc, &draft.basis, place, spec)?;
+    Ok(draft.push_array(bid)?)
+}
+
+/// The bid that is written for a manual device.
+fn manual_bid(
+    alloc: Global,
+    basis: &Basis,
+    place: Place,
+    spec: &StateSpec,
+) -> Result<ArrayBid, PlanFault>
+    ensures { Gives refusal_in (λ bid. bid) result (manual_bid place basis.now (state_part spec.now)) }
+{
     match spec {
         StateSpec::Number(_) => Err(PlanFault::Refused(Refusal::at(Cause::UnfitState, place))),
-        StateSpec::Array(demands) => {
-            let bid = bid_of_demands(alloc, &draft.basis, place, demands)?;
-            Ok(draft.push_array(bid)?)
-        }
-        StateSpec::Points(points) => {
-            let bid = bid_of_points(alloc, &draft.basis, place, points)?;
-            Ok(draft.push_array(bid)?)
-        }
+        StateSpec::Array(demands) => bid_of_demands(alloc, basis, place, demands),
+        StateSpec::Points(points) => bid_of_points(alloc, basis, place, points),
     }
 }
 

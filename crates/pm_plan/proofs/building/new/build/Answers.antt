@@ -1,36 +1,40 @@
-use Rattle.std.proofs.Common.{◌≡◌, ◌∙◌, sym, ap, arith, subst, length, map, List, Ok}
+use Rattle.std.proofs.Common.{◌≡◌, ◌∙◌, ◌≤◌, sym, ap, arith, subst, length, map, List}
 use Rattle.std.proofs.lemmas.List.{length-map}
+use Rattle.pm_base.specs.Limits.{most_phases}
+use Rattle.pm_basis.specs.Prices.{BasisValue}
+use Rattle.pm_tree.specs.Entries.{Entry}
+use Rattle.pm_plan.specs.declared.parts.PhaseSpec.{PhaseSpec}
 use Rattle.pm_plan.specs.Plans.{PlanData}
-use Rattle.pm_plan.specs.Parts.{NodePart, PhasePart, node_part, phase_part}
-use Rattle.pm_plan.specs.Building.{add_node}
+use Rattle.pm_plan.specs.Parts.{NodePart, node_part, phase_part}
+use Rattle.pm_plan.specs.Building.{checked_plan, empty_plan, nodes_and_phases}
 use Rattle.pm_plan.specs.Refusals.{refusal_in}
-use Rattle.pm_base.specs.Outcomes.{fold_from, Refuses}
+use Rattle.pm_base.specs.Outcomes.{Refuses}
 use Rattle.pm_base.proofs.Outcomes.{Gives-err}
-use Rattle.pm_plan.proofs.InOrder.{one_part_each, nodes_refused, phases_refused}
+use Rattle.pm_plan.proofs.InOrder.{one_part_each, nodes_then_phases}
 use Rattle.pm_plan.proofs.building.new.build.Goals as goal
 
-pub add_nodes-requires-clause-one_each : goal.add_nodes-requires-clause-one_each
-add_nodes-requires-clause-one_each c =
+pub add_parts-requires-clause-one_each : goal.add_parts-requires-clause-one_each
+add_parts-requires-clause-one_each c =
     one_part_each c.args.tree c.args.nodes.now c.requires.nodes ∙ ap (λ (plan : PlanData). length plan.entries) (sym c.in_ok-draft.ensures.draft)
 
-pub add_nodes-requires-clause-few : goal.add_nodes-requires-clause-few
-add_nodes-requires-clause-few c = omega (arith, one_part_each c.args.tree c.args.nodes.now c.requires.nodes, c.in_ok-draft.ensures.few)
+pub add_parts-requires-clause-few_nodes : goal.add_parts-requires-clause-few_nodes
+add_parts-requires-clause-few_nodes c = omega (arith, one_part_each c.args.tree c.args.nodes.now c.requires.nodes, c.in_ok-draft.ensures.few)
 
-pub returns-in_err-add_nodes-clause-draft : goal.returns-in_err-add_nodes-clause-draft
-returns-in_err-add_nodes-clause-draft c =
-    let parts : List NodePart = map node_part c.args.nodes.now in
-    let later : List PhasePart = map phase_part c.args.phases.now in
-    Gives-err refusal_in _ _ _ _ c.from_residual-in_err-add_nodes.ensures.1
-    (nodes_refused c.args.basis c.args.tree parts later (refusal_in c.in_err-add_nodes.field-0.0) (omega (arith, length-map c.args.phases.now phase_part))
-    (subst (λ (plan : PlanData). Refuses (refusal_in c.in_err-add_nodes.field-0.0) (fold_from 1 add_node plan parts))
-    c.in_ok-draft.ensures.draft c.in_err-add_nodes.ensures.made))
+-- taking the parts of the plan before its first node gives the plan of them all
+parts_of_all : (basis : BasisValue) (entries : List Entry) (empty : PlanData) (nodes : List NodePart) (phases : List PhaseSpec) →
+    length phases ≤ most_phases → empty ≡ empty_plan basis entries →
+    nodes_and_phases empty nodes (map phase_part phases) ≡ checked_plan basis entries nodes (map phase_part phases)
+parts_of_all basis entries empty nodes phases few is = ap (λ (plan : PlanData). nodes_and_phases plan nodes (map phase_part phases)) is
+    ∙ nodes_then_phases basis entries nodes (map phase_part phases) (omega (arith, length-map phases phase_part))
 
-pub returns-in_err-add_phases-clause-draft : goal.returns-in_err-add_phases-clause-draft
-returns-in_err-add_phases-clause-draft c =
-    let parts : List NodePart = map node_part c.args.nodes.now in
-    let later : List PhasePart = map phase_part c.args.phases.now in
-    Gives-err refusal_in _ _ _ _ c.from_residual-in_err-add_phases.ensures.1
-    (phases_refused c.args.basis c.args.tree parts later c.add_nodes.new.draft (refusal_in c.in_err-add_phases.field-0.0)
-    (omega (arith, length-map c.args.phases.now phase_part))
-    (subst (λ (plan : PlanData). fold_from 1 add_node plan parts ≡ Ok c.add_nodes.new.draft) c.in_ok-draft.ensures.draft c.in_ok-add_nodes.ensures.made)
-    c.in_err-add_phases.ensures)
+pub returns-in_err-add_parts-clause-draft : goal.returns-in_err-add_parts-clause-draft
+returns-in_err-add_parts-clause-draft c =
+    Gives-err refusal_in _ _ _ _ c.from_residual-in_err-add_parts.ensures.1
+    (subst (Refuses (refusal_in c.in_err-add_parts.field-0.0))
+    (parts_of_all c.args.basis c.args.tree _ (map node_part c.args.nodes.now) c.args.phases.now (omega arith) c.in_ok-draft.ensures.draft)
+    c.in_err-add_parts.ensures)
+
+pub returns-clause-draft : goal.returns-clause-draft
+returns-clause-draft c =
+    sym (parts_of_all c.args.basis c.args.tree _ (map node_part c.args.nodes.now) c.args.phases.now (omega arith) c.in_ok-draft.ensures.draft)
+    ∙ c.in_ok-add_parts.ensures
