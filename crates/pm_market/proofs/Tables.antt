@@ -1,9 +1,9 @@
 -- Tables of rows, and states whose parts are the same.
-use Rattle.std.proofs.Common.{◌≡◌, ℕ, ◌<◌, inl, inr, List, [], ◌∷◌, ◌++◌, length, get_or, set, sym, ◌∙◌, ap}
+use Rattle.std.proofs.Common.{◌≡◌, ℕ, ◌+◌, ◌<◌, inl, inr, List, [], ◌∷◌, ◌++◌, length, get_or, set, sym, ◌∙◌, ap}
 use Rattle.std.specs.Prelude.{Result, Ok, Err, OnErr, OnOk}
 use Rattle.std.proofs.lemmas.Bool.{cases_eq}
 use Rattle.std.proofs.Common.{get_or-set_same, get_or-set_other, Vec, Global, map, replicate, refl, arith}
-use Rattle.std.proofs.lemmas.List.{with_items_is, length-map, map-append}
+use Rattle.std.proofs.lemmas.List.{with_items_is, length-map, length-replicate, map-append, replicate-append-replicate}
 use Rattle.std.specs.Vec.{with_items}
 use Rattle.std.proofs.Math.Path.{fun_ext}
 use Rattle.pm_market.specs.State.{State, updated}
@@ -50,6 +50,23 @@ number_set xs at v lt = fun_ext (λ (k : ℕ). elim (cases_eq k at) [
 -- a list that repeats one item has it at each place, and gives it past its end
 pub all_one : {X : Type 0} (xs : List X) (n : ℕ) (x : X) → xs ≡ replicate n x → (k : ℕ) → get_or xs k x ≡ x
 all_one {X} xs n x e k = ap (λ (l : List X). get_or l k x) e ∙ get_or-replicate_same n k x
+
+-- one more empty row
+pub empty_more : {X : Type 0} (old new : List (Vec X Global)) (row : Vec X Global) (n : ℕ) → new ≡ old ++ row ∷ [] → row.items ≡ [] →
+    map (λ row. row.items) old ≡ replicate n [] → map (λ row. row.items) new ≡ replicate (n + 1) []
+empty_more {X} old new row n is empty before =
+    ap (map (λ (row : Vec X Global). row.items)) is ∙ map-append (λ (row : Vec X Global). row.items) old (row ∷ [])
+    ∙ ap (λ (rows : List (List X)). rows ++ row.items ∷ []) before
+    ∙ ap (λ (last : List X). replicate n [] ++ last ∷ []) empty
+    ∙ replicate-append-replicate n 1 []
+
+-- a table of so many empty rows has so many rows
+pub empty_long : {X : Type 0} (table : Vec (Vec X Global) Global) (n : ℕ) → map (λ row. row.items) table.items ≡ replicate n [] → table.len ≡ n
+empty_long {X} table n empty =
+    let rows = length-map table.items (λ (row : Vec X Global). row.items) in
+    let many = ap (λ (rows : List (List X)). length rows) empty in
+    let long = length-replicate {A = List X} n [] in
+    omega (arith, table.ok, rows, many, long)
 
 -- an item joins a row; h is what the rows stand for
 row_pushed : {X Y : Type 0} (h : List X → List Y) (old new : List (List X)) (at : ℕ) (item : X) (y : Y) →
