@@ -46,15 +46,17 @@ impl Index {
     fn new(alloc: Global) -> Result<Index, AllocError>
         ensures { IfOk result (λ index. IsIndexOf [] (map string_bytes index.names.keys) index.nodes.items) }
     {
-        let mut names = IndexSet::new(alloc);
-        names.insert(String::from_str(alloc, AUCTIONEER)?)?;
-        let mut nodes = Vec::new(alloc);
-        nodes.push(Node {
+        let mut index = Index {
+            names: IndexSet::new(alloc),
+            nodes: Vec::new(alloc),
+        };
+        let row = Node {
             parent: NodeId(0),
             leaf: false,
             depth: 0,
-        })?;
-        Ok(Index { names, nodes })
+        };
+        index.push(alloc, AUCTIONEER, row)?;
+        Ok(index)
     }
 
     /// Checks the entry at a place after the entries before it, and gives its row.
