@@ -42,6 +42,21 @@ is_version version = int_eq version (pos 1) || int_eq version (pos 2)
 abbrev pub knows_limited : ℤ → Bool
 knows_limited version = int_eq version (pos 2)
 
+-- the basis of a document; its members and its version are checked first
+abbrev pub head_of : Data → Result BasisValue Refusal
+head_of d = do
+  members_check document_row Document d
+  check cause.UnknownVersion Document (is_version (whole_at (codes "version") d))
+  prices ← need cause.MissingMember Document (get (codes "basis") d)
+  basis_of prices
+
+-- the shape of a document with this basis
+abbrev pub shape_on : Data → BasisValue → Result ShapeValue Refusal
+shape_on d basis = do
+  nodes ← nodes_of (knows_limited (whole_at (codes "version") d)) (elements_at (codes "nodes") d)
+  phases ← phases_of (elements_at (codes "phases") d)
+  Ok (record { basis = basis; nodes = nodes; phases = phases })
+
 unfoldable pub shape_of : Data → Result ShapeValue Refusal
 shape_of d = do
   members_check document_row Document d

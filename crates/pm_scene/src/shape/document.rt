@@ -4,7 +4,7 @@ ghost use Rattle.serde_json.specs.Find.{get};
 ghost use Rattle.pm_plan.specs.Refusals.{need, check, refusal_in};
 ghost use Rattle.pm_plan.specs.declared.refusal.Place.TheVariants.{Document};
 ghost use Rattle.pm_base.specs.Outcomes.{Gives};
-ghost use Rattle.pm_scene.specs.Shape.{is_version, shape_of, shape_value};
+ghost use Rattle.pm_scene.specs.Shape.{is_version, head_of, shape_of, shape_value};
 
 use super::basis::read_basis;
 use super::nodes::{NamedNode, read_nodes};
@@ -46,15 +46,21 @@ fn check_version(version: i64) -> Result<(), Refusal>
     }
 }
 
+/// Checks the members and the version of a document, and gives its basis.
+fn read_head(value: &Value) -> Result<Basis, PlanFault>
+    ensures { Gives refusal_in (λ basis. basis) result (head_of (view value.now)) }
+{
+    check_members(value, document_row(), Place::Document)?;
+    check_version(whole_at(value, "version"))?;
+    read_basis(member_at(value, "basis")?)
+}
+
 /// The shape of a document.
-#[tactic(auto, unfolding(crate::specs::Shape::shape_of))]
 pub(crate) fn read_shape(alloc: Global, value: &Value) -> Result<Shape, PlanFault>
     ensures { Gives refusal_in shape_value result (shape_of (view value.now)) }
 {
-    check_members(value, document_row(), Place::Document)?;
+    let basis = read_head(value)?;
     let version = whole_at(value, "version");
-    check_version(version)?;
-    let basis = read_basis(member_at(value, "basis")?)?;
     let nodes = read_nodes(alloc, version == 2, elements_at(value, "nodes"))?;
     let phases = read_phases(alloc, elements_at(value, "phases"))?;
     Ok(Shape {
