@@ -1,10 +1,13 @@
 ghost use Rattle.std.specs.Prelude.{◌≡◌, ◌↔◌, ◌⊎◌, ℕ, ◌∷◌, List, [], codes, decimal, IsTrue, IfOk, IfErr};
+ghost use Rattle.pm_market.specs.State.{start};
+ghost use Rattle.pm_market.specs.Market.{market_state};
 ghost use Rattle.pm_plan.specs.Plans.{PlanData};
 ghost use Rattle.pm_plan.specs.Kept.{IsPlan};
 ghost use Rattle.pm_report.specs.Words.{text_line};
 ghost use Rattle.pm_check.specs.Lines.{AreLinesOf};
 ghost use Rattle.pm_check.specs.Traces.{IsValidTrace, IsBadLine, IsFaultOfTrace};
 ghost use Rattle.pm_check.specs.Reading.{IsReported};
+ghost use Rattle.pm_check.specs.Judges.{IsJudge};
 
 use crate::fault::CheckFault;
 use crate::judge::Judge;
@@ -81,6 +84,24 @@ fn check_moves(
     ensures bad { IfErr result (IsFaultOfTrace plan.now report.now trace.now) }
 {
     let mut judge = Judge::start(alloc, plan)?;
+    check_lines(alloc, plan, report, trace, reported, &mut judge)
+}
+
+/// Judges the lines behind the report by a judge before its first move.
+fn check_lines(
+    alloc: Global,
+    plan: &Plan,
+    report: &[u8],
+    trace: &[u8],
+    reported: Reported<'_>,
+    judge: &mut Judge,
+) -> Result<u64, CheckFault>
+    requires reported { IsReported report.now trace.now reported.lines reported.rest.now }
+    requires judge { IsJudge plan.now judge.old }
+    requires start { market_state judge.old.market ≡ start }
+    ensures valid { IfOk result (IsValidTrace plan.now report.now trace.now) }
+    ensures bad { IfErr result (IsFaultOfTrace plan.now report.now trace.now) }
+{
     let mut rest = reported.rest;
     let mut moves = 0;
     while let Some((line, more)) = split_whole_line(rest) {

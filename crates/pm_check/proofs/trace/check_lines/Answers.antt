@@ -2,12 +2,12 @@ use Rattle.std.proofs.Common.{◌≡◌, ◌≢◌, ap, length, arith}
 use Rattle.std.proofs.lemmas.Bool.Decides.{nat_tests}
 use Rattle.std.proofs.lemmas.List.{nil_from_length}
 use Rattle.pm_check.proofs.Judging.{judging_start, above_small, cut_short, not_a_move, not_the_count, not_the_end, is_valid, judging_next}
-use Rattle.pm_check.proofs.trace.check_moves.Goals as goal
+use Rattle.pm_check.proofs.trace.check_lines.Goals as goal
 
 pub loop-line-init : goal.loop-line-init
 loop-line-init c =
-    judging_start c.args.plan.now c.args.report.now c.args.trace.now c.args.reported.lines c.in_ok-judge.judge c.args.reported.rest.now c.requires
-    c.in_ok-judge.ensures.judge c.in_ok-judge.ensures.start
+    judging_start c.args.plan.now c.args.report.now c.args.trace.now c.args.reported.lines c.args.judge.now c.args.reported.rest.now c.requires.reported
+    c.requires.judge c.requires.start
 
 pub overflow_add-at : goal.overflow_add-at
 overflow_add-at c = omega (

@@ -1,6 +1,6 @@
 use Rattle.std.proofs.Common.{length}
 use Rattle.pm_check.specs.Reading.{IsJudging}
-use Rattle.pm_check.proofs.trace.check_moves.Given as goal
+use Rattle.pm_check.proofs.trace.check_lines.Given as goal
 
 abbrev pub invariant-loop-line : goal.invariant-loop-line
 invariant-loop-line l = IsJudging l.plan l.report l.trace l.reported.lines l.judge l.moves l.rest
