@@ -1,8 +1,9 @@
-ghost use Rattle.std.specs.Prelude.{◌≡◌, ◌≢◌, ◌⊎◌, Some, ◌<◌, ◌≤◌, ◌++◌, ℕ, List, [], length, take, OnOk, IfErr};
+ghost use Rattle.std.specs.Prelude.{◌≡◌, ◌≢◌, ◌⊎◌, None, Some, ◌<◌, ◌≤◌, ◌++◌, ℕ, List, [], length, take, OnOk, IfErr};
 ghost use Rattle.std.specs.Io.KnownBytes.{Appends};
 ghost use Rattle.pm_io.specs.Causes.{Rose};
 ghost use Rattle.pm_io.specs.Taken.{taken};
 ghost use Rattle.pm_wire.specs.declared.frame.Frame.{Frame};
+ghost use Rattle.pm_wire.specs.Decoding.{nothing_fed};
 ghost use Rattle.pm_wire.specs.Frames.{AreFrames, HasBadFrame, EndsWithin};
 ghost use Rattle.pm_wire.specs.declared.answer.Answer.TheVariants.{Fault};
 ghost use Rattle.pm_wire.specs.Answers.{answer_bytes};
@@ -74,8 +75,17 @@ fn refuse<K: Sink>(sink: &mut K, out: &mut Vec<u8>, offset: u64) -> Served
     }
 }
 
-/// Serves the stream, and tells how it ended.
-fn run<S: Source, K: Sink>(alloc: Global, source: &mut S, sink: &mut K) -> Served
+/// Serves the stream by a decoder and a server that took nothing, and tells how it ended.
+fn run<S: Source, K: Sink>(
+    source: &mut S,
+    sink: &mut K,
+    decoder: &mut Decoder,
+    server: &mut Server,
+    out: &mut Vec<u8>,
+) -> Served
+    requires decoder { decoder.old ≡ nothing_fed }
+    requires server { server.old ≡ None }
+    requires out { out.old.items ≡ [] }
     ensures done { result ≡ Served.Done
         → IsDone (S.left source.old) (S.left source.new) (K.held sink.old) (K.held sink.new) }
     ensures refused { result ≡ Served.Refused
@@ -91,9 +101,6 @@ fn run<S: Source, K: Sink>(alloc: Global, source: &mut S, sink: &mut K) -> Serve
     ensures source_count { S.faults source.old ≤ S.faults source.new }
     ensures sink_count { K.faults sink.old ≤ K.faults sink.new }
 {
-    let mut decoder = Decoder::new(alloc);
-    let mut server = Server::new(alloc);
-    let mut out = Vec::new(alloc);
     let mut piece = [0u8; PIECE];
     let mut taken = 0;
     while taken <= STREAM_LIMIT {
@@ -104,17 +111,17 @@ fn run<S: Source, K: Sink>(alloc: Global, source: &mut S, sink: &mut K) -> Serve
         if count == 0 {
             let rest = decoder.rest();
             if rest > 0 {
-                return refuse(sink, &mut out, (taken - rest) as u64);
+                return refuse(sink, out, (taken - rest) as u64);
             }
             return Served::Done;
         }
         taken += count;
-        match take_piece(&mut decoder, &mut server, &piece[..count], &mut out) {
+        match take_piece(decoder, server, &piece[..count], out) {
             Ok(()) => {}
-            Err(DecodeFault::Bad { at }) => return refuse(sink, &mut out, at),
+            Err(DecodeFault::Bad { at }) => return refuse(sink, out, at),
             Err(DecodeFault::NoMemory) => return Served::NoMemory,
         }
-        if flush(sink, &mut out).is_err() {
+        if flush(sink, out).is_err() {
             return Served::WriteFault;
         }
     }
@@ -167,5 +174,8 @@ pub fn serve<S: Source, K: Sink>(alloc: Global, source: &mut S, sink: &mut K) ->
     ensures source_count { S.faults source.old ≤ S.faults source.new }
     ensures sink_count { K.faults sink.old ≤ K.faults sink.new }
 {
-    run(alloc, source, sink)
+    let mut decoder = Decoder::new(alloc);
+    let mut server = Server::new(alloc);
+    let mut out = Vec::new(alloc);
+    run(source, sink, &mut decoder, &mut server, &mut out)
 }
