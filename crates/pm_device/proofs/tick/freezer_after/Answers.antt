@@ -11,3 +11,10 @@ returns-clause-after c =
     let change = simp to_z-of_z at c.change_if.ensures.change in
     let small = is_change-tells c.change_if.result c.change_if.ensures.fits in
     omega (arith, ints, clamps)
+
+pub overflow_sub-temperature : goal.overflow_sub-temperature
+overflow_sub-temperature c =
+    let temperature = is_temperature-tells c.args.temperature c.requires.temperature in
+    let warm = is_change-tells c.args.warm c.requires.warm in
+    let small = is_change-tells c.change_if.result c.change_if.ensures.fits in
+    omega (arith, ints)

@@ -11,3 +11,10 @@ returns-clause-after c =
     let change = simp to_z-of_z at c.change_if.ensures.change in
     let small = is_change-tells c.change_if.result c.change_if.ensures.fits in
     omega (arith, ints, clamps)
+
+pub overflow_add-temperature : goal.overflow_add-temperature
+overflow_add-temperature c =
+    let temperature = is_temperature-tells c.args.temperature c.requires.temperature in
+    let loss = is_change-tells c.args.loss c.requires.loss in
+    let small = is_change-tells c.change_if.result c.change_if.ensures.fits in
+    omega (arith, ints)
