@@ -1,12 +1,13 @@
+use crate::same::same;
 use pm_bid::{ArrayBid, BidFault, BidHead, Steps};
 use std::alloc::Global;
 use std::marker::Brand;
 use std::test::Fail;
 
-/// The bid of these demands, or its fault, by a basis of three steps.
-fn bid_of(alloc: Global, demands: &[i64]) -> Result<Result<ArrayBid, BidFault>, Fail> {
+/// The fault of these demands, if they are no bid of three steps.
+fn fault_of(alloc: Global, demands: &[i64]) -> Result<Option<BidFault>, Fail> {
     let demands = demands.to_vec(alloc)?;
-    Ok(ArrayBid::new(demands, 3, &mut Steps::<Brand>::start()))
+    Ok(ArrayBid::new(demands, 3, &mut Steps::<Brand>::start()).err())
 }
 
 #[test]
@@ -15,27 +16,27 @@ fn a_market_without_bids_has_no_power_and_clears_at_the_first_step(
 ) -> Result<(), Fail> {
     let mut counter = Steps::<Brand>::start();
     let bid = ArrayBid::zero(rt.alloc(), 10, &mut counter)?;
-    assert_eq!(rt; bid.first_not_positive(&mut counter), 0);
+    same(&rt, "clears", bid.first_not_positive(&mut counter), 0);
     for step in 0..bid.steps() {
-        assert_eq!(rt; bid.at(step, &mut counter), 0);
+        same(&rt, step, bid.at(step, &mut counter), 0);
     }
     Ok(())
 }
 
 /// A wrong length comes before a rise, and a rise before a demand that is too large.
+const FAULTS: [(&[i64], Option<BidFault>); 5] = [
+    (&[5, 6], Some(BidFault::WrongLength { have: 2 })),
+    (&[1_000_000_001, 5, 6], Some(BidFault::Rising { at: 2 })),
+    (&[1_000_000_001, 0, 0], Some(BidFault::TooLarge { at: 0 })),
+    (&[0, 0, -1_000_000_001], Some(BidFault::TooLarge { at: 2 })),
+    (&[1_000_000_000, 0, -1_000_000_000], None),
+];
+
 #[test]
 fn the_first_fault_is_named(rt: HostRuntime) -> Result<(), Fail> {
-    let alloc = rt.alloc();
-    let short = bid_of(alloc, &[5, 6])?;
-    assert_eq!(rt; short.err(), Some(BidFault::WrongLength { have: 2 }));
-    let rising = bid_of(alloc, &[1_000_000_001, 5, 6])?;
-    assert_eq!(rt; rising.err(), Some(BidFault::Rising { at: 2 }));
-    let large = bid_of(alloc, &[1_000_000_001, 0, 0])?;
-    assert_eq!(rt; large.err(), Some(BidFault::TooLarge { at: 0 }));
-    let small = bid_of(alloc, &[0, 0, -1_000_000_001])?;
-    assert_eq!(rt; small.err(), Some(BidFault::TooLarge { at: 2 }));
-    let widest = bid_of(alloc, &[1_000_000_000, 0, -1_000_000_000])?;
-    assert!(rt; widest.is_ok());
+    for (demands, fault) in FAULTS {
+        same(&rt, demands, fault_of(rt.alloc(), demands)?, fault);
+    }
     Ok(())
 }
 

@@ -1,44 +1,7 @@
+use crate::kinds::{battery, cogeneration, freezer, heat_pump};
+use crate::same::same;
 use pm_device::{DeviceState, Kind, Next, advance};
 use std::process::Abort;
-
-fn freezer(low: i64, high: i64, power: i64, warm: i64, cool: i64) -> Kind {
-    Kind::Freezer {
-        low,
-        high,
-        power,
-        warm,
-        cool,
-    }
-}
-
-fn heat_pump(low: i64, high: i64, power: i64, loss: i64, gain: i64) -> Kind {
-    Kind::HeatPump {
-        low,
-        high,
-        power,
-        loss,
-        gain,
-    }
-}
-
-fn cogeneration(low: i64, high: i64, power: i64, loss: i64, gain: i64) -> Kind {
-    Kind::Cogeneration {
-        low,
-        high,
-        power,
-        loss,
-        gain,
-    }
-}
-
-fn battery(capacity: i64, charge: i64, discharge: i64, spread: i64) -> Kind {
-    Kind::Battery {
-        capacity,
-        charge,
-        discharge,
-        spread,
-    }
-}
 
 /// A tick whose state after it was worked by hand.
 fn tick_is<R: Abort>(rt: &R, kind: Kind, before: i64, power: i64, minutes: i64, after: i64) {
@@ -47,18 +10,20 @@ fn tick_is<R: Abort>(rt: &R, kind: Kind, before: i64, power: i64, minutes: i64, 
     assert!(rt; kind.fits(state));
     assert!(rt; -1_000_000_000 <= power && power <= 1_000_000_000);
     assert!(rt; 1 <= minutes && minutes <= 1440);
-    assert_eq!(rt;
+    let case = (kind, before, power);
+    same(
+        rt,
+        case,
         advance(&kind, state, power, minutes),
         DeviceState(after),
-        "{kind:?} at {before}, {power} W"
     );
 }
 
 #[test]
 fn temperatures_follow_the_table(rt: HostRuntime) {
-    let freezer = freezer(-2200, -1800, 200, 30, 80);
-    let pump = heat_pump(1900, 2200, 1500, 20, 60);
-    let unit = cogeneration(5000, 8000, 2000, 200, 500);
+    let freezer = freezer!(-2200, -1800, 200, 30, 80);
+    let pump = heat_pump!(1900, 2200, 1500, 20, 60);
+    let unit = cogeneration!(5000, 8000, 2000, 200, 500);
     // (kind, before, power, minutes, after): the sum, then the nearest within ±1,000,000
     let cases = [
         (freezer, -2000, 200, 15, -2050), // -2000 + 30 - 80
@@ -89,9 +54,9 @@ fn temperatures_follow_the_table(rt: HostRuntime) {
 
 #[test]
 fn charges_follow_the_table(rt: HostRuntime) {
-    let small = battery(1000, 400, 400, 1);
-    let home = battery(5000, 1000, 1000, 5);
-    let large = battery(1_000_000_000, 0, 0, 0);
+    let small = battery!(1000, 400, 400, 1);
+    let home = battery!(5000, 1000, 1000, 5);
+    let large = battery!(1_000_000_000, 0, 0, 0);
     // (kind, before, power, minutes, after): power * minutes / 60 rounded down, then within 0..=capacity
     let cases = [
         (small, 500, -400, 15, 400), // -100
@@ -123,67 +88,85 @@ fn charges_follow_the_table(rt: HostRuntime) {
     }
 }
 
+/// A kind, and whether its parameters are within their limits.
+const VALID: [(Kind, bool); 24] = [
+    (
+        freezer!(-1_000_000, 1_000_000, 1_000_000_000, 1_000_000, 1_000_000),
+        true,
+    ),
+    (freezer!(0, 1, 0, 0, 0), true),
+    (freezer!(1, 1, 0, 0, 0), false),
+    (freezer!(2, 1, 0, 0, 0), false),
+    (freezer!(-1_000_001, 0, 0, 0, 0), false),
+    (freezer!(0, 1_000_001, 0, 0, 0), false),
+    (freezer!(0, 1, -1, 0, 0), false),
+    (freezer!(0, 1, 1_000_000_001, 0, 0), false),
+    (freezer!(0, 1, 0, -1, 0), false),
+    (freezer!(0, 1, 0, 0, 1_000_001), false),
+    (heat_pump!(0, 1, 0, 1_000_000, 0), true),
+    (heat_pump!(0, 1, 0, 1_000_001, 0), false),
+    (heat_pump!(0, 1, 0, 0, -1), false),
+    (cogeneration!(0, 1, 1_000_000_000, 0, 1_000_000), true),
+    (cogeneration!(0, 1, 1_000_000_001, 0, 0), false),
+    (battery!(1, 0, 0, 0), true),
+    (
+        battery!(1_000_000_000, 1_000_000_000, 1_000_000_000, 1000),
+        true,
+    ),
+    (battery!(0, 0, 0, 0), false),
+    (battery!(1_000_000_001, 0, 0, 0), false),
+    (battery!(1, -1, 0, 0), false),
+    (battery!(1, 0, 1_000_000_001, 0), false),
+    (battery!(1, 0, 0, -1), false),
+    (battery!(1, 0, 0, 1001), false),
+    (Kind::Manual, true),
+];
+
 #[test]
 fn limits_are_those_of_the_profile(rt: HostRuntime) {
-    let valid = [
-        (
-            freezer(-1_000_000, 1_000_000, 1_000_000_000, 1_000_000, 1_000_000),
-            true,
-        ),
-        (freezer(0, 1, 0, 0, 0), true),
-        (freezer(1, 1, 0, 0, 0), false),
-        (freezer(2, 1, 0, 0, 0), false),
-        (freezer(-1_000_001, 0, 0, 0, 0), false),
-        (freezer(0, 1_000_001, 0, 0, 0), false),
-        (freezer(0, 1, -1, 0, 0), false),
-        (freezer(0, 1, 1_000_000_001, 0, 0), false),
-        (freezer(0, 1, 0, -1, 0), false),
-        (freezer(0, 1, 0, 0, 1_000_001), false),
-        (heat_pump(0, 1, 0, 1_000_000, 0), true),
-        (heat_pump(0, 1, 0, 1_000_001, 0), false),
-        (heat_pump(0, 1, 0, 0, -1), false),
-        (cogeneration(0, 1, 1_000_000_000, 0, 1_000_000), true),
-        (cogeneration(0, 1, 1_000_000_001, 0, 0), false),
-        (battery(1, 0, 0, 0), true),
-        (
-            battery(1_000_000_000, 1_000_000_000, 1_000_000_000, 1000),
-            true,
-        ),
-        (battery(0, 0, 0, 0), false),
-        (battery(1_000_000_001, 0, 0, 0), false),
-        (battery(1, -1, 0, 0), false),
-        (battery(1, 0, 1_000_000_001, 0), false),
-        (battery(1, 0, 0, -1), false),
-        (battery(1, 0, 0, 1001), false),
-        (Kind::Manual, true),
-    ];
-    for (kind, want) in valid {
-        assert_eq!(&rt; kind.valid(), want, "{kind:?}");
+    for (kind, valid) in VALID {
+        same(&rt, kind, kind.valid(), valid);
     }
-    // (kind, the least state that fits, the greatest)
-    let fits = [
-        (freezer(0, 1, 0, 0, 0), -1_000_000, 1_000_000),
-        (heat_pump(0, 1, 0, 0, 0), -1_000_000, 1_000_000),
-        (cogeneration(0, 1, 0, 0, 0), -1_000_000, 1_000_000),
-        (battery(700, 0, 0, 0), 0, 700),
-        (Kind::Solar, 0, 1_000_000_000),
-        (Kind::Load, 0, 1_000_000_000),
-        (Kind::Objective, -1_000_000_000, 1_000_000_000),
-    ];
-    for (kind, least, greatest) in fits {
-        assert!(&rt;
-            kind.fits(DeviceState(least)) && kind.fits(DeviceState(greatest)),
-            "{kind:?}"
-        );
-        let outside = [least.saturating_sub(1), greatest.saturating_add(1)];
-        for number in outside {
-            assert!(&rt; !kind.fits(DeviceState(number)), "{kind:?} at {number}");
-        }
+}
+
+/// A kind, the least state that fits, and the greatest.
+const FITS: [(Kind, i64, i64); 7] = [
+    (freezer!(0, 1, 0, 0, 0), -1_000_000, 1_000_000),
+    (heat_pump!(0, 1, 0, 0, 0), -1_000_000, 1_000_000),
+    (cogeneration!(0, 1, 0, 0, 0), -1_000_000, 1_000_000),
+    (battery!(700, 0, 0, 0), 0, 700),
+    (Kind::Solar, 0, 1_000_000_000),
+    (Kind::Load, 0, 1_000_000_000),
+    (Kind::Objective, -1_000_000_000, 1_000_000_000),
+];
+
+fn fits_is<R: Abort>(rt: &R, kind: Kind, number: i64, fits: bool) {
+    same(rt, (kind, number), kind.fits(DeviceState(number)), fits);
+}
+
+#[test]
+fn states_fit_between_their_ends(rt: HostRuntime) {
+    for (kind, least, greatest) in FITS {
+        fits_is(&rt, kind, least, true);
+        fits_is(&rt, kind, greatest, true);
+        fits_is(&rt, kind, least.saturating_sub(1), false);
+        fits_is(&rt, kind, greatest.saturating_add(1), false);
     }
-    assert!(&rt; Kind::Manual.fits(DeviceState(i64::MAX)));
-    assert!(&rt; !Kind::Manual.fits(DeviceState(-1)));
-    assert!(&rt; battery(1, 0, 0, 0).ticks() && heat_pump(0, 1, 0, 0, 0).ticks());
-    assert!(&rt; !Kind::Solar.ticks() && !Kind::Manual.ticks());
+    fits_is(&rt, Kind::Manual, i64::MAX, true);
+    fits_is(&rt, Kind::Manual, -1, false);
+}
+
+#[test]
+fn some_kinds_tick(rt: HostRuntime) {
+    let kinds = [
+        (battery!(1, 0, 0, 0), true),
+        (heat_pump!(0, 1, 0, 0, 0), true),
+        (Kind::Solar, false),
+        (Kind::Manual, false),
+    ];
+    for (kind, ticks) in kinds {
+        same(&rt, kind, kind.ticks(), ticks);
+    }
 }
 
 fn is_shared<T: Send + Sync>(_value: &T) {}

@@ -14,7 +14,11 @@ mod bid;
 #[cfg(test)]
 mod device;
 #[cfg(test)]
+mod kinds;
+#[cfg(test)]
 mod points;
+#[cfg(test)]
+mod same;
 #[cfg(test)]
 mod strategy;
 #[cfg(test)]

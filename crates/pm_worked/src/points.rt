@@ -1,8 +1,10 @@
+use crate::same::same;
 use pm_basis::Basis;
 use pm_bid::Steps;
 use pm_points::{PointBid, PointFault};
 use std::alloc::Global;
 use std::marker::Brand;
+use std::process::Abort;
 use std::test::Fail;
 
 fn may_be_shared<T: Send + Sync>(_value: &T) {}
@@ -13,35 +15,28 @@ fn fault_of(alloc: Global, points: &[(i64, i64)]) -> Result<Option<PointFault>, 
     Ok(PointBid::new(points.to_vec(alloc)?, &basis).err())
 }
 
+const FAULTS: [(&[(i64, i64)], Option<PointFault>); 8] = [
+    (&[], Some(PointFault::NoPoints)),
+    (&[(0, 0); 65], Some(PointFault::TooMany { have: 65 })),
+    (&[(0, 0); 64], None),
+    (&[(5, 10), (4, 0)], Some(PointFault::PriceFalls { at: 1 })),
+    (&[(0, 5), (1, 6)], Some(PointFault::Rising { at: 1 })),
+    (
+        &[(0, 6), (1, 7), (0, 5)],
+        Some(PointFault::PriceFalls { at: 2 }),
+    ),
+    (
+        &[(0, 0), (1, -1_000_000_001)],
+        Some(PointFault::TooLarge { at: 1 }),
+    ),
+    (&[(0, 5), (10, 4)], Some(PointFault::PriceOutside { at: 1 })),
+];
+
 #[test]
 fn the_first_fault_is_named(rt: HostRuntime) -> Result<(), Fail> {
-    let alloc = rt.alloc();
-    assert_eq!(rt; fault_of(alloc, &[])?, Some(PointFault::NoPoints));
-    assert_eq!(rt;
-        fault_of(alloc, &[(0, 0); 65])?,
-        Some(PointFault::TooMany { have: 65 })
-    );
-    assert_eq!(rt; fault_of(alloc, &[(0, 0); 64])?, None);
-    assert_eq!(rt;
-        fault_of(alloc, &[(5, 10), (4, 0)])?,
-        Some(PointFault::PriceFalls { at: 1 })
-    );
-    assert_eq!(rt;
-        fault_of(alloc, &[(0, 5), (1, 6)])?,
-        Some(PointFault::Rising { at: 1 })
-    );
-    assert_eq!(rt;
-        fault_of(alloc, &[(0, 6), (1, 7), (0, 5)])?,
-        Some(PointFault::PriceFalls { at: 2 })
-    );
-    assert_eq!(rt;
-        fault_of(alloc, &[(0, 0), (1, -1_000_000_001)])?,
-        Some(PointFault::TooLarge { at: 1 })
-    );
-    assert_eq!(rt;
-        fault_of(alloc, &[(0, 5), (10, 4)])?,
-        Some(PointFault::PriceOutside { at: 1 })
-    );
+    for (points, fault) in FAULTS {
+        same(&rt, points, fault_of(rt.alloc(), points)?, fault);
+    }
     Ok(())
 }
 
@@ -64,50 +59,65 @@ fn has_array(
     Ok(same)
 }
 
-/// Rounding towards zero would give 10, 7, 4 for the second of these bids.
+/// The points, and the demands step by step. Rounding towards zero would give 10, 7, 4 for the second of these bids.
+const LINES: [(&[(i64, i64)], &[i64]); 3] = [
+    (&[(4, 100), (4, 0)], &[100, 100, 100, 100, 0, 0, 0, 0, 0, 0]),
+    (&[(0, 10), (3, 0)], &[10, 6, 3, 0, 0, 0, 0, 0, 0, 0]),
+    (
+        &[(0, 300), (9, -150)],
+        &[300, 250, 200, 150, 100, 50, 0, -50, -100, -150],
+    ),
+];
+
 #[test]
 fn the_demand_lies_on_the_lines(rt: HostRuntime) -> Result<(), Fail> {
-    let alloc = rt.alloc();
     let basis = Basis::new(0, 9, 10)?;
-    let level = [100, 100, 100, 100, 0, 0, 0, 0, 0, 0];
-    assert!(rt; has_array(alloc, &[(4, 100), (4, 0)], &basis, &level)?);
-    let down = [10, 6, 3, 0, 0, 0, 0, 0, 0, 0];
-    assert!(rt; has_array(alloc, &[(0, 10), (3, 0)], &basis, &down)?);
-    let across = [300, 250, 200, 150, 100, 50, 0, -50, -100, -150];
-    assert!(rt; has_array(alloc, &[(0, 300), (9, -150)], &basis, &across)?);
+    for (points, demands) in LINES {
+        let has = has_array(rt.alloc(), points, &basis, demands)?;
+        same(&rt, points, has, true);
+    }
     Ok(())
 }
 
-/// On the prices 0 to 99: 600 up to price 20, then 10 less for each price, and 0 from price 80; and
-/// 500 less 10 for each price.
+/// On the prices 0 to 99: 600 up to price 20, then 10 less for each price, and 0 from price 80.
+const LEVEL_THEN_DOWN: [(u8, i64); 7] = [
+    (0, 600),
+    (20, 600),
+    (21, 590),
+    (50, 300),
+    (79, 10),
+    (80, 0),
+    (99, 0),
+];
+
+/// On the same prices: 500 less 10 for each price.
+const DOWN: [(u8, i64); 6] = [
+    (0, 500),
+    (1, 490),
+    (50, 0),
+    (51, -10),
+    (98, -480),
+    (99, -490),
+];
+
+/// The bid of the points on the prices 0 to 99 has these demands at these prices.
+fn demands_are(
+    rt: &impl Abort,
+    alloc: Global,
+    points: [(i64, i64); 2],
+    demands: &[(u8, i64)],
+) -> Result<(), Fail> {
+    let bid = PointBid::new(points.to_vec(alloc)?, &Basis::new(0, 99, 100)?)?;
+    may_be_shared(&bid);
+    for (price, demand) in demands {
+        same(rt, *price, bid.demand_at(i64::from(*price)), *demand);
+    }
+    Ok(())
+}
+
 #[test]
 fn bids_of_a_hundred_steps(rt: HostRuntime) -> Result<(), Fail> {
-    let alloc = rt.alloc();
-    let basis = Basis::new(0, 99, 100)?;
-    let bid = PointBid::new([(20, 600), (80, 0)].to_vec(alloc)?, &basis)?;
-    for (price, demand) in [
-        (0, 600),
-        (20, 600),
-        (21, 590),
-        (50, 300),
-        (79, 10),
-        (80, 0),
-        (99, 0),
-    ] {
-        assert_eq!(rt; bid.demand_at(price), demand);
-    }
-    let bid = PointBid::new([(0, 500), (99, -490)].to_vec(alloc)?, &basis)?;
-    for (price, demand) in [
-        (0, 500),
-        (1, 490),
-        (50, 0),
-        (51, -10),
-        (98, -480),
-        (99, -490),
-    ] {
-        assert_eq!(rt; bid.demand_at(price), demand);
-    }
-    may_be_shared(&bid);
     may_be_shared(&PointFault::NoPoints);
-    Ok(())
+    demands_are(&rt, rt.alloc(), [(20, 600), (80, 0)], &LEVEL_THEN_DOWN)?;
+    demands_are(&rt, rt.alloc(), [(0, 500), (99, -490)], &DOWN)
 }

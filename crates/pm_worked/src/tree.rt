@@ -1,5 +1,8 @@
+use crate::same::same;
 use pm_tree::{NodeId, Tree, TreeEntry, TreeFault};
 use std::alloc::{AllocError, Global};
+use std::process::Abort;
+use std::test::Fail;
 
 /// A name, its parent's name, and whether the node is a leaf.
 type Line = (&'static str, &'static str, bool);
@@ -37,147 +40,184 @@ const TWO: [Line; 5] = [
 
 fn may_be_shared<T: Send + Sync>(_value: &T) {}
 
+fn entry(alloc: Global, name: &str, parent: &str, leaf: bool) -> Result<TreeEntry, AllocError> {
+    Ok(TreeEntry {
+        name: String::from_str(alloc, name)?,
+        parent: String::from_str(alloc, parent)?,
+        leaf,
+    })
+}
+
 fn listed(alloc: Global, lines: &[Line]) -> Result<Vec<TreeEntry>, AllocError> {
     let mut entries = Vec::new(alloc);
     for (name, parent, leaf) in lines {
-        entries.push(TreeEntry {
-            name: String::from_str(alloc, name)?,
-            parent: String::from_str(alloc, parent)?,
-            leaf: *leaf,
-        })?;
+        entries.push(entry(alloc, name, parent, *leaf)?)?;
     }
     Ok(entries)
 }
 
+fn tree_of(alloc: Global, lines: &[Line]) -> Result<Tree, TreeFault> {
+    Tree::new(alloc, listed(alloc, lines)?)
+}
+
 /// How many entries the tree of the lines has.
 fn size(alloc: Global, lines: &[Line]) -> Result<u32, TreeFault> {
-    let tree = Tree::new(alloc, listed(alloc, lines)?)?;
-    Ok(tree.len())
+    tree_of(alloc, lines).map(|tree| tree.len())
+}
+
+/// So many loads under the auctioneer.
+fn loads(alloc: Global, count: usize) -> Result<Vec<TreeEntry>, AllocError> {
+    let mut entries = Vec::new(alloc);
+    for number in 0..count {
+        let name = format!(in alloc; "load{number}")?;
+        entries.push(entry(alloc, name.as_str(), "auctioneer", true)?)?;
+    }
+    Ok(entries)
 }
 
 /// How many entries the tree of so many loads under the auctioneer has.
 fn size_of_loads(alloc: Global, count: usize) -> Result<u32, TreeFault> {
-    let mut entries = Vec::new(alloc);
-    for number in 0..count {
-        entries
-            .push(TreeEntry {
-                name: format!(in alloc; "load{number}")?,
-                parent: String::from_str(alloc, "auctioneer")?,
-                leaf: true,
-            })
-            .map_err(|_| TreeFault::NoMemory)?;
-    }
-    let tree = Tree::new(alloc, entries)?;
-    Ok(tree.len())
+    Tree::new(alloc, loads(alloc, count)?).map(|tree| tree.len())
 }
+
+/// Lists of entries, and the sizes of their trees or the faults: of the first entry that fails, its first check.
+const CASES: [(&[Line], Result<u32, TreeFault>); 15] = [
+    (&[], Ok(0)),
+    (&CHAIN, Ok(7)),
+    (&DEEP, Err(TreeFault::TooDeep { at: 7 })),
+    (
+        &[("1load", "auctioneer", true)],
+        Err(TreeFault::BadName { at: 1 }),
+    ),
+    (
+        &[("", "auctioneer", true)],
+        Err(TreeFault::BadName { at: 1 }),
+    ),
+    (
+        &[("auctioneer", "auctioneer", true)],
+        Err(TreeFault::BadName { at: 1 }),
+    ),
+    (
+        &[("abcdefghijklmnopqrstuvwxyzabcdef", "auctioneer", true)],
+        Ok(1),
+    ),
+    (
+        &[("abcdefghijklmnopqrstuvwxyzabcdefg", "auctioneer", true)],
+        Err(TreeFault::BadName { at: 1 }),
+    ),
+    (
+        &[("load", "auctioneer", true), ("load", "auctioneer", true)],
+        Err(TreeFault::Twice { at: 2 }),
+    ),
+    (&[("load", "c1", true)], Err(TreeFault::NoParent { at: 1 })),
+    (
+        &[("l1", "auctioneer", true), ("l2", "l1", true)],
+        Err(TreeFault::NoParent { at: 2 }),
+    ),
+    (
+        &[("load", "c1", true), ("c1", "auctioneer", false)],
+        Err(TreeFault::NoParent { at: 1 }),
+    ),
+    // One entry that fails two checks: the first of them counts.
+    (&[("1load", "c1", true)], Err(TreeFault::BadName { at: 1 })),
+    (
+        &[("load", "auctioneer", true), ("load", "c1", true)],
+        Err(TreeFault::Twice { at: 2 }),
+    ),
+    // Two entries that fail: the earlier one counts, whatever its check.
+    (
+        &[("load", "c1", true), ("1load", "auctioneer", true)],
+        Err(TreeFault::NoParent { at: 1 }),
+    ),
+];
 
 #[test]
 fn a_list_is_accepted_or_refused_by_the_first_check_of_the_first_entry(rt: HostRuntime) {
-    let alloc = rt.alloc();
-    let cases: [(&[Line], Result<u32, TreeFault>); 15] = [
-        (&[], Ok(0)),
-        (&CHAIN, Ok(7)),
-        (&DEEP, Err(TreeFault::TooDeep { at: 7 })),
-        (
-            &[("1load", "auctioneer", true)],
-            Err(TreeFault::BadName { at: 1 }),
-        ),
-        (
-            &[("", "auctioneer", true)],
-            Err(TreeFault::BadName { at: 1 }),
-        ),
-        (
-            &[("auctioneer", "auctioneer", true)],
-            Err(TreeFault::BadName { at: 1 }),
-        ),
-        (
-            &[("abcdefghijklmnopqrstuvwxyzabcdef", "auctioneer", true)],
-            Ok(1),
-        ),
-        (
-            &[("abcdefghijklmnopqrstuvwxyzabcdefg", "auctioneer", true)],
-            Err(TreeFault::BadName { at: 1 }),
-        ),
-        (
-            &[("load", "auctioneer", true), ("load", "auctioneer", true)],
-            Err(TreeFault::Twice { at: 2 }),
-        ),
-        (&[("load", "c1", true)], Err(TreeFault::NoParent { at: 1 })),
-        (
-            &[("l1", "auctioneer", true), ("l2", "l1", true)],
-            Err(TreeFault::NoParent { at: 2 }),
-        ),
-        (
-            &[("load", "c1", true), ("c1", "auctioneer", false)],
-            Err(TreeFault::NoParent { at: 1 }),
-        ),
-        // One entry that fails two checks: the first of them counts.
-        (&[("1load", "c1", true)], Err(TreeFault::BadName { at: 1 })),
-        (
-            &[("load", "auctioneer", true), ("load", "c1", true)],
-            Err(TreeFault::Twice { at: 2 }),
-        ),
-        // Two entries that fail: the earlier one counts, whatever its check.
-        (
-            &[("load", "c1", true), ("1load", "auctioneer", true)],
-            Err(TreeFault::NoParent { at: 1 }),
-        ),
-    ];
-    for (place, (lines, expected)) in cases.iter().enumerate() {
-        assert_eq!(&rt; size(alloc, lines), *expected, "case {place}");
+    for (lines, expected) in CASES {
+        same(&rt, lines, size(rt.alloc(), lines), expected);
     }
-    assert_eq!(&rt; size_of_loads(alloc, 256), Ok(256));
-    assert_eq!(&rt;
-        size_of_loads(alloc, 257),
-        Err(TreeFault::TooMany { have: 257 })
-    );
 }
 
 #[test]
-fn look_ups_answer_by_the_list(rt: HostRuntime) {
-    let alloc = rt.alloc();
-    let entries = listed(alloc, &TWO).expect(&rt, "memory");
-    may_be_shared(&entries);
-    let tree = Tree::new(alloc, entries).expect(&rt, "a tree");
-    may_be_shared(&tree);
-    may_be_shared(&NodeId(0));
-    may_be_shared(&TreeFault::NoMemory);
-    assert_eq!(&rt; tree.len(), 5);
-    assert!(&rt; !tree.is_empty());
-    let names = ["auctioneer", "c1", "l1", "c2", "l2", "l3"];
-    let leaves = [false, false, true, false, true, true];
-    let depths = [0, 1, 1, 2, 2, 0];
-    let children: [&[NodeId]; 6] = [
+fn a_tree_has_at_most_256_entries(rt: HostRuntime) {
+    same(&rt, 256, size_of_loads(rt.alloc(), 256), Ok(256));
+    let too_many = Err(TreeFault::TooMany { have: 257 });
+    same(&rt, 257, size_of_loads(rt.alloc(), 257), too_many);
+}
+
+/// A node of `TWO`: its name, whether it is a leaf, its depth, its children, and the leaves below it.
+type Row = (
+    &'static str,
+    bool,
+    u32,
+    &'static [NodeId],
+    &'static [NodeId],
+);
+
+const ROWS: [Row; 6] = [
+    (
+        "auctioneer",
+        false,
+        0,
         &[NodeId(1), NodeId(5)],
-        &[NodeId(2), NodeId(3)],
-        &[],
-        &[NodeId(4)],
-        &[],
-        &[],
-    ];
-    let below: [&[NodeId]; 6] = [
         &[NodeId(2), NodeId(4), NodeId(5)],
+    ),
+    (
+        "c1",
+        false,
+        1,
+        &[NodeId(2), NodeId(3)],
         &[NodeId(2), NodeId(4)],
-        &[NodeId(2)],
-        &[NodeId(4)],
-        &[NodeId(4)],
-        &[NodeId(5)],
-    ];
-    for node in 0..6u32 {
-        let at = node as usize;
-        assert_eq!(&rt; tree.find(names[at]), Some(NodeId(node)));
-        assert!(&rt; tree.name(NodeId(node)) == names[at]);
-        assert_eq!(&rt; tree.is_leaf(NodeId(node)), leaves[at]);
-        assert_eq!(&rt; tree.depth(NodeId(node)), depths[at]);
-        assert_eq!(&rt; tree.children(NodeId(node)), children[at]);
-        assert_eq!(&rt; tree.leaves_below(NodeId(node)), below[at]);
+    ),
+    ("l1", true, 1, &[], &[NodeId(2)]),
+    ("c2", false, 2, &[NodeId(4)], &[NodeId(4)]),
+    ("l2", true, 2, &[], &[NodeId(4)]),
+    ("l3", true, 0, &[], &[NodeId(5)]),
+];
+
+/// The look-ups of a node are those of the row.
+fn node_is<R: Abort>(rt: &R, tree: &Tree, node: NodeId, row: &Row) {
+    let (name, leaf, depth, children, below) = *row;
+    assert!(rt; node.0 <= tree.len());
+    same(rt, name, tree.find(name), Some(node));
+    same(rt, name, tree.name(node), name);
+    same(rt, name, tree.is_leaf(node), leaf);
+    same(rt, name, tree.depth(node), depth);
+    same(rt, name, tree.children(node), children);
+    same(rt, name, tree.leaves_below(node), below);
+}
+
+fn nodes_are<R: Abort>(rt: &R, tree: &Tree) {
+    for (place, row) in ROWS.iter().enumerate() {
+        node_is(rt, tree, NodeId(place as u32), row);
     }
-    assert_eq!(&rt; tree.find("l4"), None);
-    let parents = [0, 1, 1, 3, 0];
-    let places = [0, 0, 1, 0, 1];
-    for node in 1..6u32 {
-        let at = node as usize - 1;
-        assert_eq!(&rt; tree.parent(NodeId(node)), NodeId(parents[at]));
-        assert_eq!(&rt; tree.place(NodeId(node)), places[at]);
+}
+
+/// A node, its parent, and its place among the children of its parent.
+const PLACES: [(u32, u32, usize); 5] = [(1, 0, 0), (2, 1, 0), (3, 1, 1), (4, 3, 0), (5, 0, 1)];
+
+fn places_are<R: Abort>(rt: &R, tree: &Tree) {
+    for (node, parent, place) in PLACES {
+        assert!(rt; 1 <= node && node <= tree.len());
+        let node = NodeId(node);
+        same(rt, node, tree.parent(node), NodeId(parent));
+        same(rt, node, tree.place(node), place);
     }
+}
+
+#[test]
+fn look_ups_answer_by_the_list(rt: HostRuntime) -> Result<(), Fail> {
+    let tree = tree_of(rt.alloc(), &TWO)?;
+    same(&rt, "nodes", (tree.len(), tree.is_empty()), (5, false));
+    same(&rt, "l4", tree.find("l4"), None);
+    nodes_are(&rt, &tree);
+    places_are(&rt, &tree);
+    Ok(())
+}
+
+#[test]
+fn trees_may_be_shared(rt: HostRuntime) {
+    may_be_shared(&listed(rt.alloc(), &TWO));
+    may_be_shared(&tree_of(rt.alloc(), &TWO));
+    may_be_shared(&NodeId(0));
 }
