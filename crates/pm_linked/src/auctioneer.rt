@@ -1,13 +1,13 @@
-ghost use Rattle.std.specs.Prelude.{◌≡◌, length, IfOk};
+ghost use Rattle.std.specs.Prelude.{◌≡◌, ◌+◌, ◌≤◌, length, IfOk};
 ghost use Rattle.pm_bid.specs.Bids.{AllWithinLimit};
 ghost use Rattle.pm_base.specs.Limits.{demand_limit};
 ghost use Rattle.pm_cache.specs.Learning.{HasSingleBids};
-ghost use Rattle.pm_session.specs.Prices.{IsNewIndex};
 
+use crate::same::same;
 use pm_auctioneer::{Auctioneer, ClearFault, Cleared};
 use pm_bid::{ArrayBid, Steps};
 use pm_cache::CacheFault;
-use pm_session::Link;
+use pm_session::{Link, PriceUpdate};
 use std::alloc::Global;
 use std::marker::Brand;
 use std::test::Fail;
@@ -37,12 +37,19 @@ fn learn(auctioneer: &mut Auctioneer, bid: &ArrayBid) -> Result<(), CacheFault>
     auctioneer.learn(0, 1, Some(bid))
 }
 
-/// A link of ten steps on which nothing was offered.
-fn new_downs(alloc: Global) -> Result<[Link; 1], Fail>
-    ensures new { IfOk result (λ downs. IsNewIndex 2 downs × IsNewIndex 1 downs) }
-    ensures one { IfOk result (λ downs. length downs ≡ 1) }
+/// The answer of a clearing on a new link, and the price that the only child then takes from it.
+fn clear(
+    alloc: Global,
+    auctioneer: &mut Auctioneer,
+) -> Result<(Result<Cleared, ClearFault>, Option<PriceUpdate>), Fail>
+    requires child { length auctioneer.old.cache.heads ≡ 1 }
+    requires index { auctioneer.old.index ≤ 2 }
+    ensures cache { auctioneer.new.cache ≡ auctioneer.old.cache }
+    ensures index { auctioneer.new.index ≤ auctioneer.old.index + 1 }
 {
-    Ok([Link::new(alloc, 10)?])
+    let mut downs = [Link::new(alloc, 10)?];
+    let answer = auctioneer.clear(&mut downs);
+    Ok((answer, downs[0].take_price()))
 }
 
 #[test]
@@ -50,18 +57,19 @@ fn the_market_clears_where_something_was_learnt(rt: HostRuntime) -> Result<(), F
     let alloc = rt.alloc();
     let load = load(alloc)?;
     let mut auctioneer = Auctioneer::new(alloc, 1, 10)?;
-    let mut downs = new_downs(alloc)?;
-    let not_changed = Err(ClearFault::NotChanged);
-    assert_eq!(rt; auctioneer.clear(&mut downs), not_changed);
-    assert_eq!(rt; learn(&mut auctioneer, &load), Ok(()));
-    let cleared = Cleared { index: 1, step: 9 };
-    assert_eq!(rt; auctioneer.clear(&mut downs), Ok(cleared));
-    let price = downs[0].take_price().ok_or("no price")?;
-    assert_eq!(rt; (price.step, price.number, price.index), (9, 1, 1));
-    let mut downs = new_downs(alloc)?;
-    assert_eq!(rt; auctioneer.clear(&mut downs), not_changed);
+    let not_changed = (Err(ClearFault::NotChanged), None);
+    same(&rt, "no bid", clear(alloc, &mut auctioneer)?, not_changed);
+    same(&rt, "a bid", learn(&mut auctioneer, &load), Ok(()));
+    let price = PriceUpdate {
+        step: 9,
+        number: 1,
+        index: 1,
+    };
+    let cleared = (Ok(Cleared { index: 1, step: 9 }), Some(price));
+    same(&rt, "one bid", clear(alloc, &mut auctioneer)?, cleared);
+    same(&rt, "no more", clear(alloc, &mut auctioneer)?, not_changed);
     let old = CacheFault::Old { kept: 1 };
-    assert_eq!(rt; learn(&mut auctioneer, &load), Err(old));
+    same(&rt, "again", learn(&mut auctioneer, &load), Err(old));
     Ok(())
 }
 

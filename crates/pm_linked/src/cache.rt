@@ -4,7 +4,8 @@ ghost use Rattle.pm_bid.specs.Bids.{AllWithinLimit};
 ghost use Rattle.pm_base.specs.Limits.{demand_limit, sum_limit};
 ghost use Rattle.pm_cache.specs.Learning.{HasSingleBids, offered};
 
-use pm_bid::{ArrayBid, Steps};
+use crate::same::same;
+use pm_bid::{ArrayBid, BidHead, Steps};
 use pm_cache::{BidCache, CacheFault};
 use std::alloc::{AllocError, Global};
 use std::marker::Brand;
@@ -12,12 +13,12 @@ use std::process::Abort;
 use std::test::Fail;
 
 /// The bid of these two demands.
-fn bid_of(alloc: Global, demands: [i64; 2]) -> Result<ArrayBid, Fail>
-    ensures steps { IfOk result (λ bid. length bid ≡ 2) }
-    ensures small { IfOk result (λ bid. AllWithinLimit demand_limit bid) }
+fn bid_of(rt: &impl Abort, alloc: Global, demands: [i64; 2]) -> ArrayBid
+    ensures steps { length result ≡ 2 }
+    ensures small { AllWithinLimit demand_limit result }
 {
-    let demands = demands.to_vec(alloc)?;
-    Ok(ArrayBid::new(demands, 2, &mut Steps::<Brand>::start())?)
+    let demands = demands.to_vec(alloc).expect(rt, "memory");
+    ArrayBid::new(demands, 2, &mut Steps::<Brand>::start()).expect(rt, "a bid")
 }
 
 /// Hands a child's bid to the cache, or removes the child where there is none.
@@ -53,62 +54,82 @@ fn steps_of_a_newer_bid(alloc: Global, bid: &ArrayBid) -> Result<Steps<Brand>, A
     Ok(counter)
 }
 
-/// Makes the call of [`learn`], and compares its answer and the aggregate after it.
+/// Makes the call of [`learn`] for a bid of these demands, and compares its answer and the aggregate after it.
 fn learns(
     rt: &impl Abort,
+    alloc: Global,
     cache: &mut BidCache,
     child: usize,
     number: u32,
-    bid: Option<&ArrayBid>,
+    demands: Option<[i64; 2]>,
     wanted: (Result<(), CacheFault>, [i64; 2]),
 )
     requires child { child < length cache.old.heads }
     requires steps { cache.old.steps ≡ 2 }
-    requires length { length (offered cache.old (option_copied bid)) ≡ 2 }
-    requires small { AllWithinLimit demand_limit (offered cache.old (option_copied bid)) }
     requires single { HasSingleBids cache.old }
     ensures steps { cache.new.steps ≡ 2 }
     ensures children { length cache.new.heads ≡ length cache.old.heads }
     ensures single { HasSingleBids cache.new }
 {
-    let (answer, sum) = wanted;
-    assert_eq!(rt; learn(cache, child, number, bid), answer);
+    let answer = match demands {
+        Some(demands) => learn(cache, child, number, Some(&bid_of(rt, alloc, demands))),
+        None => learn(cache, child, number, None),
+    };
+    same(rt, (child, number), answer, wanted.0);
     let mut counter = Steps::<Brand>::start();
     let aggregate = cache.aggregate();
-    assert_eq!(rt; aggregate.at(0, &mut counter), sum[0]);
-    assert_eq!(rt; aggregate.at(1, &mut counter), sum[1]);
+    let sum = [aggregate.at(0, &mut counter), aggregate.at(1, &mut counter)];
+    same(rt, (child, number), sum, wanted.1);
+}
+
+/// A child's newer bid takes the place of its older one, and an old one changes nothing.
+fn bids_are_learnt(rt: &impl Abort, alloc: Global, cache: &mut BidCache)
+    requires children { length cache.old.heads ≡ 2 }
+    requires steps { cache.old.steps ≡ 2 }
+    requires single { HasSingleBids cache.old }
+{
+    let old = |kept| Err(CacheFault::Old { kept });
+    learns(rt, alloc, cache, 0, 1, Some([5, 3]), (Ok(()), [5, 3]));
+    learns(rt, alloc, cache, 1, 1, Some([2, -4]), (Ok(()), [7, -1]));
+    learns(rt, alloc, cache, 0, 1, Some([9, 9]), (old(1), [7, -1]));
+    learns(rt, alloc, cache, 0, 2, None, (Ok(()), [2, -4]));
+    learns(rt, alloc, cache, 0, 2, None, (old(2), [2, -4]));
+    let mut counter = Steps::<Brand>::start();
+    same(rt, "demand", cache.demand(1, 1, &mut counter), -4);
 }
 
 #[test]
 fn the_aggregate_follows_the_newest_bids(rt: HostRuntime) -> Result<(), Fail> {
     let alloc = rt.alloc();
-    let falling = bid_of(alloc, [5, 3])?;
-    let crossing = bid_of(alloc, [2, -4])?;
-    let level = bid_of(alloc, [9, 9])?;
-    let old = |kept| Err(CacheFault::Old { kept });
     let mut cache = BidCache::new(alloc, 2, 2, &mut Steps::<Brand>::start())?;
-    learns(&rt, &mut cache, 0, 1, Some(&falling), (Ok(()), [5, 3]));
-    learns(&rt, &mut cache, 1, 1, Some(&crossing), (Ok(()), [7, -1]));
-    learns(&rt, &mut cache, 0, 1, Some(&level), (old(1), [7, -1]));
-    learns(&rt, &mut cache, 0, 2, None, (Ok(()), [2, -4]));
-    learns(&rt, &mut cache, 0, 2, None, (old(2), [2, -4]));
-    let heads = cache.heads();
-    assert_eq!(rt; heads.len(), 2);
-    assert_eq!(rt; (heads[0].number, heads[0].gone), (2, true));
-    assert_eq!(rt; (heads[1].number, heads[1].gone), (1, false));
-    assert_eq!(rt; cache.demand(1, 1, &mut Steps::<Brand>::start()), -4);
+    bids_are_learnt(&rt, alloc, &mut cache);
+    let heads = [
+        BidHead {
+            number: 2,
+            gone: true,
+        },
+        BidHead {
+            number: 1,
+            gone: false,
+        },
+    ];
+    same(&rt, "heads", cache.heads(), heads.as_slice());
     Ok(())
 }
 
 fn may_be_shared<T: Send + Sync>(_value: &T) {}
 
-/// Caches and faults may be sent to threads and shared by them: it is proved here.
 #[test]
-fn caches_may_be_shared(rt: HostRuntime) -> Result<(), Fail> {
+fn a_newer_bid_of_a_thousand_steps_is_counted(rt: HostRuntime) -> Result<(), Fail> {
     let alloc = rt.alloc();
     let widest = ArrayBid::zero(alloc, 1000, &mut Steps::<Brand>::start())?;
     let _steps = steps_of_a_newer_bid(alloc, &widest)?;
-    may_be_shared(&CacheFault::Old { kept: 1 });
-    may_be_shared(&BidCache::new(alloc, 2, 2, &mut Steps::<Brand>::start())?);
     Ok(())
+}
+
+/// Caches and faults may be sent to threads and shared by them: it is proved here.
+#[test]
+fn caches_may_be_shared(rt: HostRuntime) {
+    may_be_shared(&CacheFault::Old { kept: 1 });
+    may_be_shared(&BidCache::new(rt.alloc(), 2, 2, &mut Steps::<Brand>::start()));
 }

@@ -2,6 +2,7 @@ ghost use Rattle.std.specs.Prelude.{◌≡◌};
 
 mod two_threads;
 
+use crate::same::same;
 use pm_cells::{
     ChildEnd, FreeLink, ParentEnd, PriceUpdate, UpMessage, close_link, open_link, put_bid,
     put_price, take_bid, take_price,
@@ -79,12 +80,13 @@ fn bids_go_up(
     ensures child { child.new.link ≡ child.old.link }
     ensures parent { parent.new.link ≡ parent.old.link }
 {
-    assert_eq!(rt; take_number(link, parent)?, None);
+    same(rt, "none", take_number(link, parent)?, None);
     put_number(link, child, 1)?;
     put_number(link, child, 2)?;
-    assert_eq!(rt; take_number(link, parent)?, Some(2));
-    assert_eq!(rt; take_number(link, parent)?, None);
-    assert_eq!(rt; (child.newest_put(), parent.newest_taken()), (2, 2));
+    same(rt, "first", take_number(link, parent)?, Some(2));
+    same(rt, "second", take_number(link, parent)?, None);
+    let newest = (child.newest_put(), parent.newest_taken());
+    same(rt, "newest", newest, (2, 2));
     Ok(())
 }
 
@@ -106,9 +108,10 @@ fn prices_come_down(
         index: 1,
     };
     put_update(link, parent, price)?;
-    assert_eq!(rt; take_update(link, child)?, Some(price));
-    assert_eq!(rt; take_update(link, child)?, None);
-    assert_eq!(rt; (parent.newest_put(), child.newest_taken()), (1, 1));
+    same(rt, "first", take_update(link, child)?, Some(price));
+    same(rt, "second", take_update(link, child)?, None);
+    let newest = (parent.newest_put(), child.newest_taken());
+    same(rt, "newest", newest, (1, 1));
     Ok(())
 }
 
@@ -118,10 +121,15 @@ fn the_newest_message_is_taken_once(rt: HostRuntime) -> Result<(), Fail> {
     bids_go_up(&rt, &link, &mut child, &mut parent)?;
     prices_come_down(&rt, &link, &mut child, &mut parent)?;
     let log = close_link(link, child, parent);
-    assert_eq!(rt; log.bid_puts.as_slice(), [1, 2].as_slice());
-    assert_eq!(rt; log.bid_takes.as_slice(), [2].as_slice());
-    assert_eq!(rt; log.price_puts.as_slice(), [1].as_slice());
-    assert_eq!(rt; log.price_takes.as_slice(), [1].as_slice());
+    same(&rt, "bids", log.bid_puts.as_slice(), [1, 2].as_slice());
+    same(&rt, "bids taken", log.bid_takes.as_slice(), [2].as_slice());
+    same(&rt, "prices", log.price_puts.as_slice(), [1].as_slice());
+    same(
+        &rt,
+        "prices taken",
+        log.price_takes.as_slice(),
+        [1].as_slice(),
+    );
     Ok(())
 }
 

@@ -1,10 +1,11 @@
-ghost use Rattle.std.specs.Prelude.{◌≡◌, ◌+◌, ◌<◌, ◌≤◌, length, IfOk};
+ghost use Rattle.std.specs.Prelude.{◌≡◌, ◌+◌, ◌<◌, ◌≤◌, length, IfOk, None};
 ghost use Rattle.pm_bid.specs.Bids.{AllWithinLimit};
 ghost use Rattle.pm_base.specs.Limits.{demand_limit};
 ghost use Rattle.pm_cache.specs.Learning.{HasSingleBids};
 ghost use Rattle.pm_session.specs.Prices.{IsNewIndex};
 ghost use Rattle.pm_concentrator.specs.Limited.{IsStepOf};
 
+use crate::same::same;
 use pm_bid::{ArrayBid, Steps};
 use pm_cache::CacheFault;
 use pm_concentrator::{Concentrator, PublishFault};
@@ -103,25 +104,83 @@ fn passed(
     downs[0].take_price()
 }
 
+/// Publishes nothing, for this reason.
+fn refuses(rt: &impl Abort, c: &mut Concentrator, up: &mut Link, fault: PublishFault)
+    requires number { up.old.up.offered < c.old.window.last + 1 }
+    requires few { c.old.window.last < 100 }
+    requires up_steps { up.old.steps ≡ c.old.cache.steps }
+    ensures unchanged { (c.new ≡ c.old) × (up.new ≡ up.old) }
+{
+    match c.publish(up) {
+        Ok(number) => panic!(rt; "published under {number}"),
+        Err(have) => same(rt, "refused", have, fault),
+    }
+}
+
+/// Publishes numbers 1 to 8 of the only child's bid.
+fn fills_the_window(rt: &impl Abort, c: &mut Concentrator, up: &mut Link, bid: &ArrayBid)
+    requires last { c.old.window.last ≡ 0 }
+    requires offered { up.old.up.offered ≡ 0 }
+    requires up_steps { up.old.steps ≡ 10 }
+    requires child { length c.old.cache.heads ≡ 1 }
+    requires steps { c.old.cache.steps ≡ 10 }
+    requires bid_steps { length bid.now ≡ 10 }
+    requires small { AllWithinLimit demand_limit bid.now }
+    requires single { HasSingleBids c.old.cache }
+    ensures last { c.new.window.last ≡ 8 }
+    ensures offered { up.new.up.offered ≡ 8 }
+    ensures up_steps { up.new.steps ≡ 10 }
+    ensures child { length c.new.cache.heads ≡ 1 }
+    ensures steps { c.new.cache.steps ≡ 10 }
+    ensures single { HasSingleBids c.new.cache }
+    ensures limits { c.new.limits ≡ c.old.limits }
+{
+    for number in 1..9 {
+        publishes(rt, c, up, number, bid);
+    }
+}
+
+/// With eight numbers published, the ninth follows where a price answers one of them.
+fn publishes_the_ninth(
+    rt: &impl Abort,
+    alloc: Global,
+    c: &mut Concentrator,
+    up: &mut Link,
+    bid: &ArrayBid,
+) -> Result<(), Fail>
+    requires last { c.old.window.last ≡ 8 }
+    requires offered { up.old.up.offered ≡ 8 }
+    requires up_steps { up.old.steps ≡ 10 }
+    requires child { length c.old.cache.heads ≡ 1 }
+    requires steps { c.old.cache.steps ≡ 10 }
+    requires limits { c.old.limits ≡ None }
+    requires bid_steps { length bid.now ≡ 10 }
+    requires small { AllWithinLimit demand_limit bid.now }
+    requires single { HasSingleBids c.old.cache }
+{
+    same(rt, "a ninth bid", learn(c, 0, 9, bid), Ok(()));
+    refuses(rt, c, up, PublishFault::WindowFull { unanswered: 8 });
+    let mut downs = new_links(alloc, 1)?;
+    let price = PriceUpdate {
+        step: 9,
+        number: 8,
+        index: 1,
+    };
+    same(rt, "price", passed(rt, c, &mut downs, 9, 8), Some(price));
+    same(rt, "published", c.publish(up), Ok(9));
+    Ok(())
+}
+
 #[test]
 fn a_full_window_publishes_after_a_price(rt: HostRuntime) -> Result<(), Fail> {
     let alloc = rt.alloc();
     let load = bid_of(alloc, &[100; 10])?;
     let mut c = Concentrator::new(alloc, 1, 10)?;
     let mut up = Link::new(alloc, 10)?;
-    assert_eq!(rt; c.publish(&mut up), Err(PublishFault::NotChanged));
-    for number in 1..9 {
-        publishes(&rt, &mut c, &mut up, number, &load);
-    }
-    assert_eq!(rt; c.publish(&mut up), Err(PublishFault::NotChanged));
-    assert_eq!(rt; learn(&mut c, 0, 9, &load), Ok(()));
-    let full = PublishFault::WindowFull { unanswered: 8 };
-    assert_eq!(rt; c.publish(&mut up), Err(full));
-    let mut downs = new_links(alloc, 1)?;
-    let price = passed(&rt, &mut c, &mut downs, 9, 8).ok_or("no price")?;
-    assert_eq!(rt; (price.step, price.number, price.index), (9, 8, 1));
-    assert_eq!(rt; c.publish(&mut up), Ok(9));
-    Ok(())
+    refuses(&rt, &mut c, &mut up, PublishFault::NotChanged);
+    fills_the_window(&rt, &mut c, &mut up, &load);
+    refuses(&rt, &mut c, &mut up, PublishFault::NotChanged);
+    publishes_the_ninth(&rt, alloc, &mut c, &mut up, &load)
 }
 
 /// The step that goes down to child 0 of two for a price of this step that answers number 1.
@@ -150,18 +209,26 @@ fn publishes_first(rt: &impl Abort, alloc: Global, c: &mut Concentrator) -> Resu
     Ok(())
 }
 
-/// The second child sends nothing: the sum is above the ceiling, below the floor and between them.
+/// The steps below for prices whose sums are above the ceiling, below the floor and between them.
+fn steps_are_within(rt: &impl Abort, alloc: Global, c: &mut Concentrator) -> Result<(), Fail>
+    requires children { length c.old.cache.heads ≡ 2 }
+    requires steps { c.old.cache.steps ≡ 10 }
+{
+    same(rt, "above", step_below(rt, alloc, c, 0)?, 3);
+    same(rt, "below", step_below(rt, alloc, c, 9)?, 8);
+    same(rt, "between", step_below(rt, alloc, c, 5)?, 5);
+    Ok(())
+}
+
+/// The second child sends nothing.
 #[test]
 fn the_local_step_is_within_the_limits(rt: HostRuntime) -> Result<(), Fail> {
     let alloc = rt.alloc();
     let bid = bid_of(alloc, &[300, 250, 200, 150, 100, 50, 0, -50, -100, -150])?;
     let mut c = Concentrator::limited(alloc, 2, 10, -100, 150)?;
-    assert_eq!(rt; learn(&mut c, 0, 1, &bid), Ok(()));
+    same(&rt, "learnt", learn(&mut c, 0, 1, &bid), Ok(()));
     publishes_first(&rt, alloc, &mut c)?;
-    assert_eq!(rt; step_below(&rt, alloc, &mut c, 0)?, 3);
-    assert_eq!(rt; step_below(&rt, alloc, &mut c, 9)?, 8);
-    assert_eq!(rt; step_below(&rt, alloc, &mut c, 5)?, 5);
-    Ok(())
+    steps_are_within(&rt, alloc, &mut c)
 }
 
 fn may_be_shared<T: Send + Sync>(_value: &T) {}

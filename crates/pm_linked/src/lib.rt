@@ -12,6 +12,8 @@ mod cells;
 #[cfg(test)]
 mod concentrator;
 #[cfg(test)]
+mod same;
+#[cfg(test)]
 mod session;
 #[cfg(test)]
 mod wire;

@@ -1,6 +1,7 @@
 ghost use Rattle.std.specs.Prelude.{◌≡◌, length, IfOk};
 ghost use Rattle.pm_session.specs.Windows.{Keeps};
 
+use crate::same::same;
 use pm_bid::{ArrayBid, Steps};
 use pm_session::{BidHead, Link, Port, PriceUpdate, Window};
 use std::alloc::Global;
@@ -24,10 +25,10 @@ fn the_price_that_waits_is_given_once(rt: HostRuntime) -> Result<(), Fail> {
         number: 1,
         index: 1,
     };
-    assert_eq!(rt; link.take_price(), None);
-    assert_eq!(rt; link.offer_price(price), Ok(()));
-    assert_eq!(rt; link.take_price(), Some(price));
-    assert_eq!(rt; link.take_price(), None);
+    same(&rt, "none", link.take_price(), None);
+    same(&rt, "offered", link.offer_price(price), Ok(()));
+    same(&rt, "first", link.take_price(), Some(price));
+    same(&rt, "second", link.take_price(), None);
     Ok(())
 }
 
@@ -37,14 +38,14 @@ fn the_newest_bid_is_given_alone(rt: HostRuntime) -> Result<(), Fail> {
     let load = load(alloc)?;
     let mut link = Link::new(alloc, 10)?;
     let mut taken = ArrayBid::zero(alloc, 10, &mut Steps::<Brand>::start())?;
-    assert_eq!(rt; link.offer_bid(1, Some(&load)), Ok(()));
-    assert_eq!(rt; link.offer_bid(2, None), Ok(()));
+    same(&rt, "load", link.offer_bid(1, Some(&load)), Ok(()));
+    same(&rt, "gone", link.offer_bid(2, None), Ok(()));
     let gone = BidHead {
         number: 2,
         gone: true,
     };
-    assert_eq!(rt; link.take_bid(&mut taken), Some(gone));
-    assert_eq!(rt; link.take_bid(&mut taken), None);
+    same(&rt, "first", link.take_bid(&mut taken), Some(gone));
+    same(&rt, "second", link.take_bid(&mut taken), None);
     Ok(())
 }
 
@@ -54,10 +55,10 @@ fn gives_the_record(rt: &impl Abort, window: &mut Window, head: BidHead)
     ensures kept { Keeps window.new 1 }
 {
     let record = window.answered(1);
-    assert_eq!(rt; record.number(), 1);
-    assert_eq!(rt; record.children(), [head].as_slice());
+    same(rt, "number", record.number(), 1);
+    same(rt, "children", record.children(), [head].as_slice());
     assert!(rt; record.sum().is_none());
-    assert_eq!(rt; window.room(), 8);
+    same(rt, "room", window.room(), 8);
 }
 
 #[test]
@@ -67,12 +68,17 @@ fn the_record_that_is_answered_is_kept(rt: HostRuntime) -> Result<(), Fail> {
         gone: false,
     };
     let mut window = Window::new(rt.alloc(), 1)?;
-    assert_eq!(rt; window.room(), 8);
-    assert_eq!(rt; window.sent(1, &[head]), Ok(()));
-    assert_eq!(rt; window.room(), 7);
+    same(&rt, "room", window.room(), 8);
+    same(&rt, "sent", window.sent(1, &[head]), Ok(()));
+    same(&rt, "room", window.room(), 7);
     gives_the_record(&rt, &mut window, head);
     gives_the_record(&rt, &mut window, head);
     Ok(())
+}
+
+/// The step and the number of the price that the port holds.
+fn held(port: &Port) -> Option<(u32, u32)> {
+    port.held().map(|held| (held.step, held.number))
 }
 
 #[test]
@@ -85,14 +91,14 @@ fn a_port_drops_the_price_of_a_former_session(rt: HostRuntime) -> Result<(), Fai
     let mut port = Port::new();
     port.joined(1);
     port.price(price(9, 1, 1));
-    assert_eq!(rt; port.held().map(|h| (h.step, h.number)), Some((9, 1)));
+    same(&rt, "joined", held(&port), Some((9, 1)));
     port.left();
-    assert_eq!(rt; port.held(), None);
+    same(&rt, "left", held(&port), None);
     port.joined(3);
     port.price(price(4, 1, 2));
-    assert_eq!(rt; port.held(), None);
+    same(&rt, "former", held(&port), None);
     port.price(price(4, 3, 3));
-    assert_eq!(rt; port.held().map(|h| (h.step, h.number)), Some((4, 3)));
+    same(&rt, "newest", held(&port), Some((4, 3)));
     Ok(())
 }
 

@@ -1,10 +1,25 @@
-ghost use Rattle.std.specs.Prelude.{◌≤◌};
+ghost use Rattle.std.specs.Prelude.{◌≡◌, ◌+◌, ◌≤◌, length};
 
+use crate::same::same;
 use pm_io::{MemSink, MemSource};
 use pm_wire::{Answer, DecodeFault, Decoder, Frame, Served, Server, serve};
 use std::alloc::Global;
 use std::process::Abort;
 use std::test::Fail;
+
+/// Serves the source, and compares how it ends and what the sink has then.
+fn served_is(
+    rt: &impl Abort,
+    alloc: Global,
+    source: MemSource,
+    sink: MemSink,
+    wanted: (Served, &[u8]),
+) {
+    let mut source = source;
+    let mut sink = sink;
+    same(rt, "end", serve(alloc, &mut source, &mut sink), wanted.0);
+    same(rt, "answers", sink.bytes(), wanted.1);
+}
 
 /// Serves the input in pieces of so many bytes, and compares how it ends and what is answered.
 fn serves_in_pieces(
@@ -16,11 +31,9 @@ fn serves_in_pieces(
 ) -> Result<(), Fail>
     requires { 1 ≤ chunk }
 {
-    let mut source = MemSource::new(input.to_vec(alloc)?, chunk, Vec::new(alloc));
-    let mut sink = MemSink::new(alloc, 1_048_576, chunk, Vec::new(alloc))?;
-    let (ended, answers) = wanted;
-    assert_eq!(rt; serve(alloc, &mut source, &mut sink), ended);
-    assert_eq!(rt; sink.bytes(), answers);
+    let source = MemSource::new(input.to_vec(alloc)?, chunk, Vec::new(alloc));
+    let sink = MemSink::new(alloc, 1_048_576, chunk, Vec::new(alloc))?;
+    served_is(rt, alloc, source, sink, wanted);
     Ok(())
 }
 
@@ -96,58 +109,76 @@ fn a_change_without_a_new_sum_is_cleared(rt: HostRuntime) -> Result<(), Fail> {
     serves(&rt, alloc, &input, Served::Refused, &answers)
 }
 
-/// A source that fails at its third call, and a sink that fails at its second one.
+/// A source that fails at its third call.
 #[test]
-fn failures_end_the_service(rt: HostRuntime) -> Result<(), Fail> {
+fn a_source_that_fails_ends_the_service(rt: HostRuntime) -> Result<(), Fail> {
     let alloc = rt.alloc();
     let input = input_of(alloc, &[&HELLO, &BID, &[4, 4, 4, 4]])?;
-    let fails = [3].to_vec(alloc)?;
-    let mut source = MemSource::new(input, 27, fails);
-    let mut sink = MemSink::new(alloc, 100, 100, Vec::new(alloc))?;
-    assert_eq!(rt; serve(alloc, &mut source, &mut sink), Served::ReadFault);
-    assert_eq!(rt;
-        sink.bytes(),
-        [5, 0, 1, 0, 0, 0, 1, 0, 0, 0, 1, 0, 1, 6, 6, 6].as_slice()
-    );
+    let source = MemSource::new(input, 27, [3].to_vec(alloc)?);
+    let sink = MemSink::new(alloc, 100, 100, Vec::new(alloc))?;
+    let answers = [5, 0, 1, 0, 0, 0, 1, 0, 0, 0, 1, 0, 1, 6, 6, 6];
+    served_is(&rt, alloc, source, sink, (Served::ReadFault, &answers));
+    Ok(())
+}
 
+/// A sink that fails at its second call.
+#[test]
+fn a_sink_that_fails_ends_the_service(rt: HostRuntime) -> Result<(), Fail> {
+    let alloc = rt.alloc();
     let input = input_of(alloc, &[&HELLO, &BID, &[4, 4, 4, 4]])?;
-    let mut source = MemSource::new(input, 27, Vec::new(alloc));
-    let fails = [2].to_vec(alloc)?;
-    let mut sink = MemSink::new(alloc, 100, 100, fails)?;
-    assert_eq!(rt; serve(alloc, &mut source, &mut sink), Served::WriteFault);
-    assert_eq!(rt;
-        sink.bytes(),
-        [5, 0, 1, 0, 0, 0, 1, 0, 0, 0, 1, 0, 1].as_slice()
-    );
+    let source = MemSource::new(input, 27, Vec::new(alloc));
+    let sink = MemSink::new(alloc, 100, 100, [2].to_vec(alloc)?)?;
+    served_is(&rt, alloc, source, sink, (Served::WriteFault, &PRICE));
+    Ok(())
+}
+
+/// The kind of a frame, with the child and the number of a bid.
+fn kind_of(frame: Frame) -> (u8, u16, u32) {
+    match frame {
+        Frame::Hello { .. } => (1, 0, 0),
+        Frame::Bid { child, number, .. } => (2, child, number),
+        Frame::Gone { child, number } => (3, child, number),
+        Frame::Clear => (4, 0, 0),
+    }
+}
+
+/// The kind of the next frame.
+fn next_kind(decoder: &mut Decoder) -> Result<Option<(u8, u16, u32)>, DecodeFault>
+    requires { decoder.old.offset + length decoder.old.rest ≤ 4294967296 }
+    ensures { decoder.new.offset + length decoder.new.rest ≡ decoder.old.offset + length decoder.old.rest }
+{
+    match decoder.next() {
+        Ok(Some(frame)) => Ok(Some(kind_of(frame))),
+        Ok(None) => Ok(None),
+        Err(DecodeFault::Bad { at }) => Err(DecodeFault::Bad { at }),
+        Err(DecodeFault::NoMemory) => Err(DecodeFault::NoMemory),
+    }
+}
+
+/// The frames are a hello, a bid, a clearing and a bad one, which stays bad.
+fn frames_are(rt: &impl Abort, decoder: &mut Decoder) -> Result<(), Fail>
+    requires { decoder.old.offset + length decoder.old.rest ≤ 28 }
+{
+    same(rt, "hello", next_kind(decoder), Ok(Some((1, 0, 0))));
+    same(rt, "bid", next_kind(decoder), Ok(Some((2, 1, 1))));
+    same(rt, "clear", next_kind(decoder), Ok(Some((4, 0, 0))));
+    same(rt, "rest", decoder.rest(), 1);
+    let bad = Err(DecodeFault::Bad { at: 27 });
+    same(rt, "bad", next_kind(decoder), bad);
+    decoder.feed(&[4])?;
+    same(rt, "still bad", next_kind(decoder), bad);
     Ok(())
 }
 
 /// Pieces of any size give the frames, and the bytes of frames given are let go.
 #[test]
 fn frames_come_in_pieces(rt: HostRuntime) -> Result<(), Fail> {
-    let alloc = rt.alloc();
-    let mut decoder = Decoder::new(alloc);
+    let mut decoder = Decoder::new(rt.alloc());
     decoder.feed(&HELLO)?;
     decoder.feed(&BID)?;
     decoder.feed(&[4, 9])?;
-    assert_eq!(rt; decoder.rest(), 28);
-    assert!(rt; matches!(decoder.next()?, Some(Frame::Hello { .. })));
-    assert!(rt;
-        matches!(
-            decoder.next()?,
-            Some(Frame::Bid {
-                child: 1,
-                number: 1,
-                ..
-            })
-        )
-    );
-    assert!(rt; matches!(decoder.next()?, Some(Frame::Clear)));
-    assert_eq!(rt; decoder.rest(), 1);
-    assert!(rt; matches!(decoder.next(), Err(DecodeFault::Bad { at: 27 })));
-    decoder.feed(&[4])?;
-    assert!(rt; matches!(decoder.next(), Err(DecodeFault::Bad { at: 27 })));
-    Ok(())
+    same(&rt, "rest", decoder.rest(), 28);
+    frames_are(&rt, &mut decoder)
 }
 
 fn may_be_shared<T: Send + Sync>(_value: &T) {}

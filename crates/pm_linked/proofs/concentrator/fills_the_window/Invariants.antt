@@ -1,6 +1,6 @@
 use Rattle.std.proofs.Common.{◌≡◌, ◌+◌, length}
 use Rattle.pm_cache.specs.Learning.{HasSingleBids}
-use Rattle.pm_linked.proofs.concentrator.a_full_window_publishes_after_a_price.Given as goal
+use Rattle.pm_linked.proofs.concentrator.fills_the_window.Given as goal
 
 abbrev pub invariant-loop-number : goal.invariant-loop-number
 invariant-loop-number g l = record {
@@ -10,4 +10,5 @@ invariant-loop-number g l = record {
   child : length l.c.cache.heads ≡ 1;
   steps : l.c.cache.steps ≡ 10;
   single : HasSingleBids l.c.cache;
+  limits : l.c.limits ≡ l.initial.c.limits;
 }
