@@ -1,6 +1,7 @@
 ghost use Rattle.std.specs.Prelude.{◌≡◌, length, IfOk};
 ghost use Rattle.pm_base.specs.Limits.{AreSteps};
 
+use crate::same::same;
 use pm_ask::{
     Answer, Break, Curve, CurveFault, MOST_TARGETS, TargetsFault, ask_text, read_targets,
 };
@@ -55,7 +56,8 @@ fn each_target_has_its_step(rt: HostRuntime) -> Result<(), Fail> {
     let curve = Curve::new(rt.alloc(), &total)?;
     let mut counter = Steps::<Brand>::start();
     for (target, step, total) in [(0, 4, -50), (100, 0, 0), (-60, 9, 10), (99, 4, -149)] {
-        assert_eq!(rt; curve.answer(target, &mut counter), Answer { step, total });
+        let answer = curve.answer(target, &mut counter);
+        same(&rt, target, answer, Answer { step, total });
     }
     Ok(())
 }
@@ -74,10 +76,10 @@ fn steps_with_targets_have_breaks(rt: HostRuntime) -> Result<(), Fail> {
 #[test]
 fn a_total_that_rises_has_no_curve(rt: HostRuntime) -> Result<(), Fail> {
     let alloc = rt.alloc();
-    let rising = Curve::new(alloc, &total_of(alloc, &[5, 6])?);
-    assert_eq!(rt; rising.err(), Some(CurveFault::Rising { at: 1 }));
-    let later = Curve::new(alloc, &total_of(alloc, &[5, 5, 4, 6, 7])?);
-    assert_eq!(rt; later.err(), Some(CurveFault::Rising { at: 3 }));
+    let rising = Curve::new(alloc, &total_of(alloc, &[5, 6])?).err();
+    same(&rt, "at once", rising, Some(CurveFault::Rising { at: 1 }));
+    let later = Curve::new(alloc, &total_of(alloc, &[5, 5, 4, 6, 7])?).err();
+    same(&rt, "later", later, Some(CurveFault::Rising { at: 3 }));
     Ok(())
 }
 
@@ -85,11 +87,9 @@ fn a_total_that_rises_has_no_curve(rt: HostRuntime) -> Result<(), Fail> {
 fn lists_of_targets_are_read(rt: HostRuntime) -> Result<(), Fail> {
     let text = b"0\n100\n-60\n1000000000\n-1000000000\n".as_slice();
     let targets = read_targets(rt.alloc(), text)?;
-    assert_eq!(rt;
-        targets.as_slice(),
-        [0, 100, -60, 1000000000, -1000000000].as_slice()
-    );
-    assert!(rt; read_targets(rt.alloc(), b"")?.is_empty());
+    let numbers = [0, 100, -60, 1000000000, -1000000000];
+    same(&rt, "five", targets.as_slice(), numbers.as_slice());
+    same(&rt, "none", read_targets(rt.alloc(), b"")?.len(), 0);
     Ok(())
 }
 
@@ -112,7 +112,7 @@ fn the_first_bad_line_is_told(rt: HostRuntime) -> Result<(), Fail> {
         ("-01\n", 1),
     ] {
         let read = read_targets(rt.alloc(), text.as_bytes());
-        assert_eq!(rt; read.err(), Some(TargetsFault::Bad { line }));
+        same(&rt, text, read.err(), Some(TargetsFault::Bad { line }));
     }
     Ok(())
 }
@@ -123,10 +123,16 @@ fn a_list_has_an_end(rt: HostRuntime) -> Result<(), Fail> {
     for _ in 0..MOST_TARGETS {
         text.extend_from_slice(b"7\n")?;
     }
-    assert_eq!(rt; read_targets(rt.alloc(), &text)?.len(), MOST_TARGETS);
+    let most = read_targets(rt.alloc(), &text)?.len();
+    same(&rt, "most", most, MOST_TARGETS);
     text.extend_from_slice(b"7\n")?;
-    let read = read_targets(rt.alloc(), &text);
-    assert_eq!(rt; read.err(), Some(TargetsFault::Bad { line: 100_001 }));
+    let fault = read_targets(rt.alloc(), &text).err();
+    same(
+        &rt,
+        "one more",
+        fault,
+        Some(TargetsFault::Bad { line: 100_001 }),
+    );
     Ok(())
 }
 
@@ -144,7 +150,7 @@ target 0 price 4 step 4 total -50
 target 100 price 0 step 0 total 0
 target -60 price 9 step 9 total 10
 ";
-    assert_eq!(rt; text.as_slice(), lines.as_bytes());
+    same(&rt, "text", text.as_slice(), lines.as_bytes());
     Ok(())
 }
 

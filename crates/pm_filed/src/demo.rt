@@ -1,3 +1,4 @@
+use crate::same::same;
 use pm_device::{DeviceState, Kind};
 use pm_gen::{GenFault, make_plan};
 use pm_plan::Plan;
@@ -53,7 +54,7 @@ fn a_size_has_its_counts_or_is_refused(rt: HostRuntime) {
             }),
             Err(fault) => Err(fault),
         };
-        assert_eq!(&rt; count(alloc, size, number), expected, "{size} {number}");
+        same(&rt, (size, number), count(alloc, size, number), expected);
     }
 }
 
@@ -61,11 +62,6 @@ fn a_size_has_its_counts_or_is_refused(rt: HostRuntime) {
 fn the_devices_have_the_drawn_kinds_and_starts(rt: HostRuntime) {
     let alloc = rt.alloc();
     let plan = make_plan(alloc, 21, 7).expect(&rt, "a plan");
-    assert_eq!(&rt; device(&plan, NodeId(2)), None);
-    assert_eq!(&rt;
-        device(&plan, NodeId(3)),
-        Some((Kind::Load, DeviceState(2000)))
-    );
     let second = Kind::Cogeneration {
         low: 5000,
         high: 8000,
@@ -73,11 +69,15 @@ fn the_devices_have_the_drawn_kinds_and_starts(rt: HostRuntime) {
         loss: 100,
         gain: 300,
     };
-    assert_eq!(&rt; device(&plan, NodeId(4)), Some((second, DeviceState(6058))));
-    assert_eq!(&rt;
-        device(&plan, NodeId(5)),
-        Some((Kind::Solar, DeviceState(1900)))
-    );
+    let devices = [
+        (2, None),
+        (3, Some((Kind::Load, DeviceState(2000)))),
+        (4, Some((second, DeviceState(6058)))),
+        (5, Some((Kind::Solar, DeviceState(1900)))),
+    ];
+    for (node, due) in devices {
+        same(&rt, node, device(&plan, NodeId(node)), due);
+    }
 }
 
 fn may_be_shared<T: Send + Sync>(_value: &T) {}

@@ -1,3 +1,4 @@
+use crate::same::same;
 use pm_envelope::{FILE_LIMIT, number_up_to, open_envelope, split_line};
 use std::test::Fail;
 
@@ -17,7 +18,7 @@ fn an_envelope_has_a_file_and_a_rest(rt: HostRuntime) -> Result<(), Fail> {
         ("10\n\n123456789", "\n123456789", ""),
         ("0\n", "", ""),
     ] {
-        assert!(rt; opens_as(input, file, rest));
+        same(&rt, input, opens_as(input, file, rest), true);
     }
     Ok(())
 }
@@ -37,7 +38,8 @@ fn other_inputs_are_no_envelopes(rt: HostRuntime) -> Result<(), Fail> {
         "-0\n",
         "4194305\n",
     ] {
-        assert!(rt; open_envelope(input.as_bytes()).is_none());
+        let opens = open_envelope(input.as_bytes()).is_some();
+        same(&rt, input, opens, false);
     }
     Ok(())
 }
@@ -51,10 +53,11 @@ fn numbers_are_read_to_their_limit(rt: HostRuntime) -> Result<(), Fail> {
         ("0", Some(0)),
         ("00", None),
     ] {
-        assert_eq!(rt; number_up_to(FILE_LIMIT, text.as_bytes()), number);
+        same(&rt, text, number_up_to(FILE_LIMIT, text.as_bytes()), number);
     }
-    assert_eq!(rt; number_up_to(u32::MAX, b"4294967295"), Some(u32::MAX));
-    assert_eq!(rt; number_up_to(u32::MAX, b"4294967296"), None);
+    let greatest = number_up_to(u32::MAX, b"4294967295");
+    same(&rt, "greatest", greatest, Some(u32::MAX));
+    same(&rt, "above", number_up_to(u32::MAX, b"4294967296"), None);
     Ok(())
 }
 
@@ -68,8 +71,9 @@ fn splits_into(text: &str, line: &str, rest: &str) -> bool {
 
 #[test]
 fn a_line_ends_at_the_first_line_feed(rt: HostRuntime) -> Result<(), Fail> {
-    assert!(rt; split_line(b"no end").is_none());
-    assert!(rt; splits_into("one\ntwo\n", "one", "two\n"));
-    assert!(rt; splits_into("\n", "", ""));
+    same(&rt, "no end", split_line(b"no end").is_none(), true);
+    let splits = splits_into("one\ntwo\n", "one", "two\n");
+    same(&rt, "two lines", splits, true);
+    same(&rt, "no text", splits_into("\n", "", ""), true);
     Ok(())
 }

@@ -20,6 +20,8 @@ mod plans;
 #[cfg(test)]
 mod report;
 #[cfg(test)]
+mod same;
+#[cfg(test)]
 mod scene;
 #[cfg(test)]
 mod walk;

@@ -5,11 +5,13 @@ ghost use Rattle.pm_report.specs.Report.{IsEndOf, ends_of};
 ghost use Rattle.pm_report.specs.Trace.{IsLineOf};
 
 use crate::plans::{CHAIN, LONE, NodeLine, joined_plan};
+use crate::same::same;
 use pm_basis::Basis;
 use pm_market::{Journal, Line, Move};
 use pm_plan::{Cause, MemberLine, PhaseEnd, Place, Plan, Refusal};
 use pm_report::{phase_text, refusal_line, report_text, summary_text, trace_text};
 use std::alloc::{AllocError, Global};
+use std::process::Abort;
 use std::test::Fail;
 
 /// The plan of the nodes over the prices 0 to 9, with one phase in which the load joins.
@@ -130,13 +132,17 @@ fn trace(alloc: Global, plan: &Plan, ends: &[PhaseEnd], lines: &[Line]) -> Resul
     Ok(String::from_utf8(trace_text(alloc, plan, ends, &journal)?)?)
 }
 
-/// The trace of the plan of these nodes by these moves, where the load holds step 9 and number 1 after each pass to it.
-fn trace_of(alloc: Global, nodes: &[NodeLine], moves: &[Move]) -> Result<String, Fail> {
-    let plan = plan_of(alloc, nodes)?;
+/// The trace of a plan by these moves, where the load holds step 9 and number 1 after each pass to it.
+fn trace_by(alloc: Global, plan: &Plan, moves: &[Move]) -> Result<String, Fail> {
     let device = plan.tree().len();
     let ends = end_of(alloc, plan.basis(), device)?;
     let lines = lines_of(alloc, moves, device)?;
-    trace(alloc, &plan, &ends, &lines)
+    trace(alloc, plan, &ends, &lines)
+}
+
+/// The trace of the plan of these nodes by these moves.
+fn trace_of(alloc: Global, nodes: &[NodeLine], moves: &[Move]) -> Result<String, Fail> {
+    trace_by(alloc, &plan_of(alloc, nodes)?, moves)
 }
 
 /// The only trace of a lone load.
@@ -155,9 +161,12 @@ fn a_lone_load_has_its_trace(rt: HostRuntime) -> Result<(), Fail> {
         Move::Pass { node: 1, index: 1 },
         Move::Close { phase: 1 },
     ];
-    assert_eq!(rt;
-        trace_of(rt.alloc(), &LONE, &moves)?.as_str(),
-        "phase 1 price 9 step 9 total 100 members 1\nmember load1 power 100 bid 1\nend phases 1 changes 1\nchange load1 1\nlearn auctioneer load1 1\nclear 1\npass load1 1 price 9 bid 1\nclose 1\nmoves 5\n"
+    let text = trace_of(rt.alloc(), &LONE, &moves)?;
+    same(
+        &rt,
+        "trace",
+        text.as_str(),
+        "phase 1 price 9 step 9 total 100 members 1\nmember load1 power 100 bid 1\nend phases 1 changes 1\nchange load1 1\nlearn auctioneer load1 1\nclear 1\npass load1 1 price 9 bid 1\nclose 1\nmoves 5\n",
     );
     Ok(())
 }
@@ -184,9 +193,12 @@ fn a_load_under_a_concentrator_has_its_trace(rt: HostRuntime) -> Result<(), Fail
         Move::Pass { node: 2, index: 1 },
         Move::Close { phase: 1 },
     ];
-    assert_eq!(rt;
-        trace_of(rt.alloc(), &CHAIN, &moves)?.as_str(),
-        "phase 1 price 9 step 9 total 100 members 1\nmember load1 power 100 bid 1\nend phases 1 changes 1\nchange load1 1\nlearn c1 load1 1\npublish c1 1\nlearn auctioneer c1 1\nclear 1\npass c1 1\npass load1 1 price 9 bid 1\nclose 1\nmoves 8\n"
+    let text = trace_of(rt.alloc(), &CHAIN, &moves)?;
+    same(
+        &rt,
+        "trace",
+        text.as_str(),
+        "phase 1 price 9 step 9 total 100 members 1\nmember load1 power 100 bid 1\nend phases 1 changes 1\nchange load1 1\nlearn c1 load1 1\npublish c1 1\nlearn auctioneer c1 1\nclear 1\npass c1 1\npass load1 1 price 9 bid 1\nclose 1\nmoves 8\n",
     );
     Ok(())
 }
@@ -199,36 +211,38 @@ fn phase(alloc: Global, plan: &Plan, end: &PhaseEnd) -> Result<String, Fail> {
     Ok(String::from_utf8(phase_text(alloc, plan, 1, end)?)?)
 }
 
+const PHASE: &str = "phase 1 price 9 step 9 total 100 members 1\nmember load1 power 100 bid 1\n";
+
+const REPORT: &str =
+    "phase 1 price 9 step 9 total 100 members 1\nmember load1 power 100 bid 1\nend phases 1 changes 1\n";
+
+const SUMMARY: &str =
+    "demo size 1 number 7 nodes 1 phases 1 changes 1\nprices 9 totals 100\nlast price 9 total 100 members 1\n";
+
 /// The text of a phase, the report and the summary of a lone load.
+fn texts_are(rt: &impl Abort, alloc: Global, plan: &Plan, ends: &[PhaseEnd]) -> Result<(), Fail> {
+    let [end] = ends else {
+        return Err(Fail::from("not one end"));
+    };
+    same(rt, "phase", phase(alloc, plan, end)?.as_str(), PHASE);
+    same(rt, "report", report(alloc, plan, ends)?.as_str(), REPORT);
+    let summary = summary_text(alloc, 1, 7, plan, ends)?;
+    same(rt, "summary", summary.as_slice(), SUMMARY.as_bytes());
+    Ok(())
+}
+
 #[test]
 fn a_lone_load_has_its_texts(rt: HostRuntime) -> Result<(), Fail> {
-    let alloc = rt.alloc();
-    let plan = plan_of(alloc, &LONE)?;
-    let ends = end_of(alloc, plan.basis(), 1)?;
-    assert_eq!(rt;
-        report(alloc, &plan, &ends)?.as_str(),
-        "phase 1 price 9 step 9 total 100 members 1\nmember load1 power 100 bid 1\nend phases 1 changes 1\n"
-    );
-    if ends.len() == 1 {
-        assert_eq!(rt;
-            phase(alloc, &plan, &ends[0])?.as_str(),
-            "phase 1 price 9 step 9 total 100 members 1\nmember load1 power 100 bid 1\n"
-        );
-        assert_eq!(rt;
-            summary_text(alloc, 1, 7, &plan, &ends)?.as_slice(),
-            "demo size 1 number 7 nodes 1 phases 1 changes 1\nprices 9 totals 100\nlast price 9 total 100 members 1\n".as_bytes()
-        );
-    }
-    assert_eq!(rt; ends.len(), 1);
-    Ok(())
+    let plan = plan_of(rt.alloc(), &LONE)?;
+    let ends = end_of(rt.alloc(), plan.basis(), 1)?;
+    texts_are(&rt, rt.alloc(), &plan, &ends)
 }
 
 #[test]
 fn a_refusal_has_its_line(rt: HostRuntime) -> Result<(), Fail> {
     let refusal = Refusal::of_item(Cause::BadArray, Place::Node { number: 1 }, 2);
-    assert_eq!(rt;
-        refusal_line(rt.alloc(), &refusal)?.as_slice(),
-        "refused 17 node 1 item 2\n".as_bytes()
-    );
+    let line = refusal_line(rt.alloc(), &refusal)?;
+    let due = "refused 17 node 1 item 2\n".as_bytes();
+    same(&rt, "line", line.as_slice(), due);
     Ok(())
 }

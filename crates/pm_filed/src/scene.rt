@@ -1,22 +1,33 @@
 use crate::plans::{LONE, joined_plan};
+use crate::same::same;
 use pm_basis::Basis;
-use pm_plan::{Cause, PhaseEnd, Place, Refusal};
+use pm_plan::{Cause, PhaseEnd, Place, Plan, Refusal};
 use pm_scene::{SceneFault, read_scene};
+use std::alloc::Global;
 use std::test::Fail;
 
 /// One load, which is joined.
 const LONE_LOAD: &str =
     r#"{"version":1,"basis":{"min":0,"max":9,"steps":10},"nodes":[{"name":"load1","kind":"load","parent":"auctioneer","start":100}],"phases":[{"events":[{"join":"load1"}]}]}"#;
 
+/// Whether the plan is that of the lone load's parts.
+fn is_of_parts(alloc: Global, plan: &Plan) -> Result<bool, Fail> {
+    let parts = joined_plan(alloc, Basis::new(0, 9, 10)?, &LONE)?;
+    Ok(plan.same(&parts))
+}
+
+/// How many members the vacant end of a plan has.
+fn vacant_members(alloc: Global, plan: &Plan) -> Result<usize, Fail> {
+    let end = PhaseEnd::vacant(alloc, plan)?;
+    Ok(end.members().len())
+}
+
 /// A file's plan is that of its parts.
 #[test]
 fn a_file_has_the_plan_of_its_parts(rt: HostRuntime) -> Result<(), Fail> {
-    let alloc = rt.alloc();
-    let plan = read_scene(alloc, LONE_LOAD.as_bytes())?;
-    let parts = joined_plan(alloc, Basis::new(0, 9, 10)?, &LONE)?;
-    assert!(rt; plan.same(&parts));
-    let end = PhaseEnd::vacant(alloc, &plan)?;
-    assert_eq!(rt; end.members().len(), 0);
+    let plan = read_scene(rt.alloc(), LONE_LOAD.as_bytes())?;
+    same(&rt, "plan", is_of_parts(rt.alloc(), &plan)?, true);
+    same(&rt, "members", vacant_members(rt.alloc(), &plan)?, 0);
     Ok(())
 }
 
@@ -24,7 +35,8 @@ fn a_file_has_the_plan_of_its_parts(rt: HostRuntime) -> Result<(), Fail> {
 #[test]
 fn a_cut_file_is_refused(rt: HostRuntime) {
     let refused = SceneFault::Refused(Refusal::at(Cause::Unreadable, Place::Document));
-    assert_eq!(rt; read_scene(rt.alloc(), b"{").err(), Some(refused));
+    let read = read_scene(rt.alloc(), b"{").err();
+    same(&rt, "read", read, Some(refused));
 }
 
 fn may_be_shared<T: Send + Sync>(_value: &T) {}

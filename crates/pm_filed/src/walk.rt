@@ -3,12 +3,14 @@ ghost use Rattle.pm_plan.specs.Plans.{change_count};
 ghost use Rattle.pm_walk.specs.Cuts.{file_cut};
 
 use crate::plans::{NodeLine, Role, joins, plan_of_parts};
+use crate::same::same;
 use pm_basis::Basis;
 use pm_device::Kind;
 use pm_plan::{EventSpec, MemberLine, PhaseEnd, PhaseSpec, Plan, StateSpec};
 use pm_tree::NodeId;
 use pm_walk::{all_ends, end_of_cut};
 use std::alloc::{AllocError, Global};
+use std::process::Abort;
 use std::test::Fail;
 
 /// A phase's end in numbers: step, price, total; then node, power and number of each member.
@@ -78,29 +80,32 @@ fn is_due(end: &PhaseEnd, due: Due) -> bool {
 
 /// 500 watt-hours: 400 watts at steps 0 to 2, -400 from 6. A quarter of an hour at -400 watts leaves 400 watt-hours:
 /// 400 watts at steps 0 to 3, -400 from 7.
+const ENDS: [Due; 3] = [
+    Due {
+        end: (6, 6, -200),
+        members: &[(1, -400, 1), (2, 200, 1)],
+    },
+    Due {
+        end: (7, 7, -200),
+        members: &[(1, -400, 2), (2, 200, 1)],
+    },
+    Due {
+        end: (9, 9, 100),
+        members: &[(1, -400, 2), (2, 500, 2)],
+    },
+];
+
+fn ends_are(rt: &impl Abort, ends: &[PhaseEnd]) {
+    same(rt, "ends", ends.len(), 3);
+    for (end, due) in ends.iter().zip(&ENDS) {
+        same(rt, due.end, is_due(end, *due), true);
+    }
+}
+
 #[test]
 fn the_ends_of_all_phases(rt: HostRuntime) -> Result<(), Fail> {
-    let alloc = rt.alloc();
-    let rows = [
-        Due {
-            end: (6, 6, -200),
-            members: &[(1, -400, 1), (2, 200, 1)],
-        },
-        Due {
-            end: (7, 7, -200),
-            members: &[(1, -400, 2), (2, 200, 1)],
-        },
-        Due {
-            end: (9, 9, 100),
-            members: &[(1, -400, 2), (2, 500, 2)],
-        },
-    ];
-    let plan = plan_of(alloc)?;
-    let ends = all_ends(alloc, &plan)?;
-    assert_eq!(rt; ends.len(), 3);
-    for (end, due) in ends.iter().zip(&rows) {
-        assert!(rt; is_due(end, *due));
-    }
+    let plan = plan_of(rt.alloc())?;
+    ends_are(&rt, &all_ends(rt.alloc(), &plan)?);
     Ok(())
 }
 
@@ -143,43 +148,47 @@ fn planned_end(alloc: Global, plan: &Plan, cut: &[u32]) -> Result<PhaseEnd, Fail
 }
 
 /// The battery after its tick or before it, with the load before or after its new state.
-#[test]
-fn the_end_over_a_cut(rt: HostRuntime) -> Result<(), Fail> {
-    let alloc = rt.alloc();
-    let plan = plan_of(alloc)?;
-    let rows: [([u32; 2], Due); 4] = [
-        (
-            [0, 0],
-            Due {
-                end: (0, 0, 0),
-                members: &[],
-            },
-        ),
-        (
-            [0, 1],
-            Due {
-                end: (9, 9, 200),
-                members: &[(2, 200, 1)],
-            },
-        ),
-        (
-            [1, 2],
-            Due {
-                end: (9, 9, 100),
-                members: &[(1, -400, 1), (2, 500, 2)],
-            },
-        ),
-        (
-            [2, 1],
-            Due {
-                end: (7, 7, -200),
-                members: &[(1, -400, 2), (2, 200, 1)],
-            },
-        ),
-    ];
-    for (cut, due) in rows {
-        let end = planned_end(alloc, &plan, &cut)?;
-        assert!(rt; is_due(&end, due));
+const CUTS: [([u32; 2], Due); 4] = [
+    (
+        [0, 0],
+        Due {
+            end: (0, 0, 0),
+            members: &[],
+        },
+    ),
+    (
+        [0, 1],
+        Due {
+            end: (9, 9, 200),
+            members: &[(2, 200, 1)],
+        },
+    ),
+    (
+        [1, 2],
+        Due {
+            end: (9, 9, 100),
+            members: &[(1, -400, 1), (2, 500, 2)],
+        },
+    ),
+    (
+        [2, 1],
+        Due {
+            end: (7, 7, -200),
+            members: &[(1, -400, 2), (2, 200, 1)],
+        },
+    ),
+];
+
+fn cuts_have_their_ends(rt: &impl Abort, alloc: Global, plan: &Plan) -> Result<(), Fail> {
+    for (cut, due) in CUTS {
+        let end = planned_end(alloc, plan, &cut)?;
+        same(rt, cut, is_due(&end, due), true);
     }
     Ok(())
+}
+
+#[test]
+fn the_end_over_a_cut(rt: HostRuntime) -> Result<(), Fail> {
+    let plan = plan_of(rt.alloc())?;
+    cuts_have_their_ends(&rt, rt.alloc(), &plan)
 }
