@@ -1,4 +1,5 @@
-ghost use Rattle.std.specs.Prelude.{◌≡◌, All, IfOk, []};
+ghost use Rattle.std.specs.Prelude.{◌≡◌, All, IfOk, [], ◌∷◌, ◌++◌};
+ghost use Rattle.pm_cells.specs.Ends.{TableId};
 ghost use Rattle.pm_free.specs.Ends.{AreOf, IsUpOf, IsDownOf, ArePlaced};
 
 use crate::closing::Places;
@@ -27,19 +28,34 @@ pub(crate) fn open_links(
     let mut links = Vec::with_capacity(alloc, nodes.len())?;
     let mut places = Vec::with_capacity(alloc, nodes.len())?;
     for number in 1..plan.tree().len() + 1 {
-        let (link, child, parent) = open_link(alloc, room)?;
-        let at = links.len();
-        links.push(link)?;
-        places.push(Places {
-            up: None,
-            down: None,
-        })?;
+        let (up, down) = add_link(alloc, room, &mut links, &mut places)?;
         let above = plan.tree().parent(NodeId(number)).0;
-        let up = UpEnd { at, end: child };
-        let down = DownEnd { at, end: parent };
         hand_out(&links, &mut nodes, number, above, up, down)?;
     }
     Ok((links, places, nodes))
+}
+
+/// Adds a new link, with empty places for its ends; the two ends.
+fn add_link(
+    alloc: Global,
+    room: usize,
+    links: &mut Vec<FreeLink>,
+    places: &mut Vec<Places>,
+) -> Result<(UpEnd, DownEnd), AllocError>
+    requires places { ArePlaced links.old.items places.old.items }
+    ensures up { IfOk result (λ ends. IsUpOf links.new.items ends.0) }
+    ensures down { IfOk result (λ ends. IsDownOf links.new.items ends.1) }
+    ensures one_more { IfOk result (λ _. (link : TableId) × (links.new.items ≡ links.old.items ++ link ∷ [])) }
+    ensures places { IfOk result (λ _. ArePlaced links.new.items places.new.items) }
+{
+    let (link, child, parent) = open_link(alloc, room)?;
+    let at = links.len();
+    links.push(link)?;
+    places.push(Places {
+        up: None,
+        down: None,
+    })?;
+    Ok((UpEnd { at, end: child }, DownEnd { at, end: parent }))
 }
 
 /// The nodes before they have ends.

@@ -22,18 +22,12 @@ impl ParentWork {
     pub(crate) fn new(alloc: Global, plan: &Plan, node: u32) -> Result<ParentWork, AllocError> {
         let part = Part::of(alloc, plan, node)?;
         let children = part.cache().heads().len();
-        let mut prices = Vec::with_capacity(alloc, children)?;
-        let mut learnt = Vec::with_capacity(alloc, children)?;
-        for _ in 0..children {
-            prices.push(None)?;
-            learnt.push(None)?;
-        }
         Ok(ParentWork {
             part,
             bid: None,
             price: None,
-            prices,
-            learnt,
+            prices: nothing_each(alloc, children)?,
+            learnt: nothing_each(alloc, children)?,
         })
     }
 
@@ -90,4 +84,13 @@ fn keep_prices(links: Vec<Link>, prices: &mut Vec<Option<PriceUpdate>>) {
             *waiting = Some(price);
         }
     }
+}
+
+/// Nothing for each of so many children.
+fn nothing_each<T: Drop>(alloc: Global, children: usize) -> Result<Vec<Option<T>>, AllocError> {
+    let mut each = Vec::with_capacity(alloc, children)?;
+    for _ in 0..children {
+        each.push(None)?;
+    }
+    Ok(each)
 }

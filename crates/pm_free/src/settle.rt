@@ -55,11 +55,17 @@ pub fn run_free<'p, R: Threads + Wait + Sync, G: Gate>(
     ensures settled { IfOk result (λ run. IsSettled run.board) }
 {
     let (board, works) = run_phases(rt, alloc, plan, gate)?;
+    let held = held_by(alloc, works.as_slice())?;
+    Ok(FreeRun { board, held })
+}
+
+/// What each node came to hold over the links.
+fn held_by(alloc: Global, works: &[NodeWork]) -> Result<Vec<Option<(u32, u32)>>, AllocError> {
     let mut held = Vec::with_capacity(alloc, works.len())?;
     for work in works {
         held.push(work.held())?;
     }
-    Ok(FreeRun { board, held })
+    Ok(held)
 }
 
 /// The caller's board after all phases, and what the nodes own then.
@@ -73,34 +79,50 @@ fn run_phases<'p, R: Threads + Wait + Sync, G: Gate>(
     ensures settled { IfOk result (λ run. IsSettled run.0) }
 {
     let mut board = Board::open(alloc, plan)?;
-    let mut agents = make_agents(alloc, board.plan())?;
-    let works = make_phases(rt, alloc, gate, &mut board, agents.as_mut_slice())?;
-    finish(alloc, &mut board, &OpenGate)?;
+    let works = make_phases(rt, alloc, gate, &mut board)?;
     Ok((board, works))
 }
 
-/// Makes the phases, each on the board and over links; what the nodes own then.
+/// Makes all phases of a new board, each on the board and over links; what the nodes own then.
 fn make_phases<R: Threads + Wait + Sync, G: Gate>(
     rt: &R,
     alloc: Global,
     gate: &G,
     board: &mut Board,
+) -> Result<Vec<NodeWork>, AllocError>
+    ensures plan { board.new.plan ≡ board.old.plan }
+    ensures settled { IfOk result (λ _. IsSettled board.new) }
+{
+    let mut agents = make_agents(alloc, board.plan())?;
+    let mut works = make_works(alloc, board.plan())?;
+    for _ in 0..board.plan().phases() {
+        works = make_phase(rt, alloc, gate, board, agents.as_mut_slice(), works)?;
+    }
+    finish(alloc, board, &OpenGate)?;
+    Ok(works)
+}
+
+/// Makes the open phase, on the board and over links; what the nodes own then.
+fn make_phase<R: Threads + Wait + Sync, G: Gate>(
+    rt: &R,
+    alloc: Global,
+    gate: &G,
+    board: &mut Board,
     agents: &mut [Option<DeviceAgent>],
+    works: Vec<NodeWork>,
 ) -> Result<Vec<NodeWork>, AllocError>
     requires agents { AreAgents board.old.plan agents.old }
     ensures plan { board.new.plan ≡ board.old.plan }
+    ensures agents { AreAgents board.new.plan agents.new }
 {
     let plan = board.plan();
-    let mut works = make_works(alloc, plan)?;
-    for _ in 0..plan.phases() {
-        let mut changes = no_changes(alloc, plan)?;
-        let count = make_changes(board, agents, &mut changes)?;
-        if count > 0 {
-            works = run_phase(rt, alloc, plan, gate, works, changes.as_slice(), count)?;
-        }
-        end_phase(board, agents);
+    let mut changes = no_changes(alloc, plan)?;
+    let count = make_changes(board, agents, &mut changes)?;
+    end_phase(board, agents);
+    if count == 0 {
+        return Ok(works);
     }
-    Ok(works)
+    run_phase(rt, alloc, plan, gate, works, changes.as_slice(), count)
 }
 
 /// The nodes of a plan, before the first phase.
