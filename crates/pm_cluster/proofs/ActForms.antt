@@ -12,6 +12,7 @@ use Rattle.pm_market.specs.State.{State}
 use Rattle.pm_market.specs.Moves.{Legal, act_of}
 use Rattle.pm_market.specs.declared.moves.Move.{Move}
 use Rattle.pm_market.specs.declared.moves.Move.TheVariants.{Change, Learn, Publish, Clear, Pass, Close}
+use Rattle.pm_market.specs.declared.moves.Act.{Act}
 use Rattle.pm_market.specs.declared.moves.Act.TheVariants as act
 use Rattle.std.proofs.Common.{cond}
 use Rattle.pm_market.specs.State.{last, cleared}
@@ -37,65 +38,29 @@ use Rattle.pm_cluster.proofs.NextChanges.{end_of_market}
 
 -- ---- no move of a form
 
--- where Change x n is legal for no number n, no legal move has the act Change x
-pub no_change : (lists : Lists) (s : State) (x : ℕ) → ((n : ℕ) → Legal lists s (Change x n) → ⊥) → (m : Move) →
-    act_of m ≡ act.Change x → Legal lists s m → ⊥
-no_change lists s x none (Change y n) e legal = let same : y ≡ x = cc e in none n (subst (λ (z : ℕ). Legal lists s (Change z n)) same legal)
-no_change lists s x none (Learn y n) e legal = cc e
-no_change lists s x none (Publish y n) e legal = cc e
-no_change lists s x none (Clear n) e legal = cc e
-no_change lists s x none (Pass y n) e legal = cc e
-no_change lists s x none (Close n) e legal = cc e
+-- the move of an act's form with this number
+abbrev pub numbered : Act → ℕ → Move
+numbered (act.Change d) n = Change d n
+numbered (act.Learn x) n = Learn x n
+numbered (act.Publish x) n = Publish x n
+numbered act.Clear n = Clear n
+numbered (act.Pass x) n = Pass x n
+numbered act.Close n = Close n
 
--- where Learn x n is legal for no number n, no legal move has the act Learn x
-pub no_learn : (lists : Lists) (s : State) (x : ℕ) → ((n : ℕ) → Legal lists s (Learn x n) → ⊥) → (m : Move) → act_of m ≡ act.Learn x →
+number_of : (m : Move) → (n : ℕ) × (numbered (act_of m) n ≡ m)
+number_of (Change d n) = (n, refl)
+number_of (Learn x n) = (n, refl)
+number_of (Publish x n) = (n, refl)
+number_of (Clear n) = (n, refl)
+number_of (Pass x n) = (n, refl)
+number_of (Close n) = (n, refl)
+
+-- where the move of an act's form is legal under no number, no legal move has that form
+pub no_form : (lists : Lists) (s : State) (a : Act) → ((n : ℕ) → Legal lists s (numbered a n) → ⊥) → (m : Move) → act_of m ≡ a →
     Legal lists s m → ⊥
-no_learn lists s x none (Learn y n) e legal = let same : y ≡ x = cc e in none n (subst (λ (z : ℕ). Legal lists s (Learn z n)) same legal)
-no_learn lists s x none (Change y n) e legal = cc e
-no_learn lists s x none (Publish y n) e legal = cc e
-no_learn lists s x none (Clear n) e legal = cc e
-no_learn lists s x none (Pass y n) e legal = cc e
-no_learn lists s x none (Close n) e legal = cc e
-
--- where Publish x n is legal for no number n, no legal move has the act Publish x
-pub no_publish : (lists : Lists) (s : State) (x : ℕ) → ((n : ℕ) → Legal lists s (Publish x n) → ⊥) → (m : Move) →
-    act_of m ≡ act.Publish x → Legal lists s m → ⊥
-no_publish lists s x none (Publish y n) e legal = let same : y ≡ x = cc e in none n (subst (λ (z : ℕ). Legal lists s (Publish z n)) same legal)
-no_publish lists s x none (Change y n) e legal = cc e
-no_publish lists s x none (Learn y n) e legal = cc e
-no_publish lists s x none (Clear n) e legal = cc e
-no_publish lists s x none (Pass y n) e legal = cc e
-no_publish lists s x none (Close n) e legal = cc e
-
--- where Clear n is legal for no index n, no legal move has the act Clear
-pub no_clear : (lists : Lists) (s : State) → ((n : ℕ) → Legal lists s (Clear n) → ⊥) → (m : Move) → act_of m ≡ act.Clear →
-    Legal lists s m → ⊥
-no_clear lists s none (Clear n) e legal = none n legal
-no_clear lists s none (Change y n) e legal = cc e
-no_clear lists s none (Learn y n) e legal = cc e
-no_clear lists s none (Publish y n) e legal = cc e
-no_clear lists s none (Pass y n) e legal = cc e
-no_clear lists s none (Close n) e legal = cc e
-
--- where Pass x n is legal for no index n, no legal move has the act Pass x
-pub no_pass : (lists : Lists) (s : State) (x : ℕ) → ((n : ℕ) → Legal lists s (Pass x n) → ⊥) → (m : Move) → act_of m ≡ act.Pass x →
-    Legal lists s m → ⊥
-no_pass lists s x none (Pass y n) e legal = let same : y ≡ x = cc e in none n (subst (λ (z : ℕ). Legal lists s (Pass z n)) same legal)
-no_pass lists s x none (Change y n) e legal = cc e
-no_pass lists s x none (Learn y n) e legal = cc e
-no_pass lists s x none (Publish y n) e legal = cc e
-no_pass lists s x none (Clear n) e legal = cc e
-no_pass lists s x none (Close n) e legal = cc e
-
--- where Close n is legal for no phase n, no legal move has the act Close
-pub no_close : (lists : Lists) (s : State) → ((n : ℕ) → Legal lists s (Close n) → ⊥) → (m : Move) → act_of m ≡ act.Close →
-    Legal lists s m → ⊥
-no_close lists s none (Close n) e legal = none n legal
-no_close lists s none (Change y n) e legal = cc e
-no_close lists s none (Learn y n) e legal = cc e
-no_close lists s none (Publish y n) e legal = cc e
-no_close lists s none (Clear n) e legal = cc e
-no_close lists s none (Pass y n) e legal = cc e
+no_form lists s a none m form legal =
+    let (n, same) = number_of m in
+    none n (subst (λ (b : Act). Legal lists s (numbered b n)) form (subst (Legal lists s) (sym same) legal))
 
 -- what is said where there is none
 pub at_none : {A : Type 0} (found : Option A) (P Q : Type 0) (R : A → Type 0) → (P → Q) → MatchOption found P R → MatchOption found Q R

@@ -16,6 +16,7 @@ mod Readers
 pub mod ClosesLegally
 mod EndsAlike
 pub mod NextChanges
+mod DeviceFields
 mod Making
 pub mod ActForms
 mod SameNext

@@ -1,7 +1,7 @@
 -- The next change of a device, and what it makes of it.
 use Rattle.std.proofs.Common.{◌≡◌, ◌∙◌, sym, ap, subst, ℕ, ◌+◌, ◌-◌, ◌<◌, ◌≤◌, ℤ, pos}
-use Rattle.std.proofs.Common.{Bool, true, false, cond, [], ◌∷◌, length, take, arith, refl, inl, inr}
-use Rattle.std.specs.Prelude.{Option, Some, IsTrue, slice_index_or}
+use Rattle.std.proofs.Common.{Bool, true, false, cond, [], ◌∷◌, length, take, arith, inl, inr}
+use Rattle.std.specs.Prelude.{Some, IsTrue, slice_index_or}
 use Rattle.std.proofs.Math.Logic.{∥∥₁_elim}
 use Rattle.std.proofs.Props.{props}
 use Rattle.std.proofs.lemmas.Bool.{cases_lt, cond-true, cond-false}
@@ -22,7 +22,7 @@ use Rattle.pm_plan.specs.declared.planned.Change.{Change as PlannedChange}
 use Rattle.pm_plan.specs.declared.planned.Planned.{Planned}
 use Rattle.pm_plan.specs.declared.planned.Planned.TheVariants.{Tick}
 use Rattle.pm_plan.specs.Devices.{is_member_after, member_after}
-use Rattle.pm_plan.specs.Plans.{PlanData, NodeData, node, kind_of, changes_of, is_member, change_count, planned, end_cut, phases}
+use Rattle.pm_plan.specs.Plans.{PlanData, NodeData, node, kind_of, changes_of, is_member, change_count, end_cut, phases}
 use Rattle.pm_walk.proofs.Devices.{planned-is}
 use Rattle.pm_plan.specs.Kept.{IsPlan, no_change, change_at, change_fits}
 use Rattle.pm_plan.specs.Auction.{power, node_bid, demand_in_cut, local}
@@ -40,8 +40,8 @@ use Rattle.pm_stands.specs.Stands.{StandsFor, Stands}
 use Rattle.pm_plan.proofs.MarketLists.{lawful}
 use Rattle.pm_cluster.proofs.Parents as parents
 use Rattle.pm_cluster.proofs.Kept.{leaf_of_plan}
-use Rattle.pm_device.specs.declared.state.DeviceState.{DeviceState}
-use Rattle.pm_cluster.specs.Next.{count_of, HasNoNext, IsNext}
+use Rattle.pm_base.specs.Cuts.{Cut}
+use Rattle.pm_cluster.specs.Next.{count_of, HasNoNext, IsDue}
 
 -- what a cluster that stands for a state keeps of a device, in the words of the plan
 pub record KeepsDevice (plan : PlanData) (c : Core) (d : ℕ) : Type 0 where
@@ -137,10 +137,18 @@ state_next plan is_plan d n p kind kind_is from to =
     ∙ ap (λ (q : ℕ). changed_state has.planned.kind (state plan d n) (power plan (state plan) (end_cut plan q) d) (change_at plan d n).what) before
     ∙ ap (λ (k : Kind). changed_state k (state plan d n) (power plan (state plan) (end_cut plan p) d) (change_at plan d n).what) has.kind_is
 
--- what was found is that change
-pub what_is : (plan : PlanData) (d n : ℕ) (found : Option Planned) (what : Planned) → n < change_count plan d →
-    found ≡ planned plan d (n + 1) → found ≡ Some what → what ≡ (change_at plan d n).what
-what_is plan d n found what inside e f = let same : Some what ≡ Some (change_at plan d n).what = sym f ∙ e ∙ planned-is plan d n inside in cc same
+-- the change that is due is the plan's after those that the device made, of which the plan has more
+pub due_inside : (plan : PlanData) (closed : ℕ) (counts : Cut) (d : ℕ) (what : Planned) → IsDue plan closed counts d what →
+    counts d < change_count plan d
+due_inside plan closed counts d what due = omega (arith, due.of_phase, end-within plan (closed + 1) d)
+
+-- and it is that change
+pub due_is : (plan : PlanData) (closed : ℕ) (counts : Cut) (d : ℕ) (what : Planned) → IsDue plan closed counts d what →
+    what ≡ (change_at plan d (counts d)).what
+due_is plan closed counts d what due =
+    let same : Some what ≡ Some (change_at plan d (counts d)).what =
+    sym due.planned ∙ planned-is plan d (counts d) (due_inside plan closed counts d what due) in
+    cc same
 
 -- it fits the device's kind
 pub what_fits : (plan : PlanData) → IsPlan plan → (d n : ℕ) (kind : Kind) (what : Planned) → kind_of (node plan d) ≡ Some kind →
@@ -202,42 +210,26 @@ has_kind plan is_plan d leaf =
     let has = device-is (node plan d) (is_plan.nodes.devices d ∙ leaf_of_plan plan d leaf) in
     (has.0.kind, ap kind_of has.1)
 
--- what is found of the next change of a device: the count, and the change
-pub record FoundNext (plan : PlanData) (c : Core) (d count : ℕ) (what : Planned) : Type 0 where
-  -- a phase is open
-  pub open_phase : c.closed < phases plan
-  -- count is how many changes the device made
-  pub counted : count ≡ count_of c d
-  -- the device made fewer changes than it has up to the end of the open phase
-  pub inside : count < end_cut plan (c.closed + 1) d
-  -- what was found is the planned change that follows the first count changes of the device
-  pub found : what ≡ (change_at plan d count).what
+-- whether a device is a member after the change that is due, where that is what the change makes of it
+pub member_after_due : (plan : PlanData) (closed : ℕ) (counts : Cut) (d : ℕ) (what : Planned) → IsDue plan closed counts d what →
+    (member : Bool) → member ≡ member_after (is_member plan d (counts d)) what → member ≡ is_member plan d (counts d + 1)
+member_after_due plan closed counts d what due member is =
+    is ∙ ap (member_after (is_member plan d (counts d))) (due_is plan closed counts d what due)
+    ∙ member_next plan d (counts d) (due_inside plan closed counts d what due)
 
--- the next change, where what it makes of the device is what that change makes of it
-pub is_next : (plan : PlanData) → IsPlan plan → (c : Core) → ∥ Stands plan c ∥₁ → (d count : ℕ) (what : Planned) →
-    IsLeaf (plan_lists plan) d →
-    FoundNext plan c d count what → (member : Bool) (made : DeviceState) → member ≡ member_after (is_member plan d count) what →
-    ((kind : Kind) → kind_of (node plan d) ≡ Some kind →
-    made.0 ≡ changed_state kind (slice_index_or c.states d (pos 0)) (power plan (state plan) (end_cut plan c.closed) d) what) →
-    IsNext plan c.closed (count_of c) d (record { device = d; number = count + 1; member = member; state = made })
-is_next plan is_plan c stands d count what leaf found member made member_is state_is =
+-- the state of a device after the change that is due, where that is what the change makes of the state that is kept
+pub state_after_due : (plan : PlanData) → IsPlan plan → (c : Core) → ∥ Stands plan c ∥₁ → (d : ℕ) (what : Planned) → IsLeaf (plan_lists plan) d →
+    IsDue plan c.closed (count_of c) d what → (z : ℤ) → ((kind : Kind) → kind_of (node plan d) ≡ Some kind →
+    z ≡ changed_state kind (slice_index_or c.states d (pos 0)) (power plan (state plan) (end_cut plan c.closed) d) what) →
+    z ≡ state plan d (count_of c d + 1)
+state_after_due plan is_plan c stands d what leaf due z is =
     let keeps = keeps_device plan is_plan c stands d leaf in
     let kind = has_kind plan is_plan d leaf in
-    let inside : count < change_count plan d = omega (arith, found.inside, end-within plan (c.closed + 1) d) in
-    let from : end_cut plan c.closed d ≤ count = omega (arith, found.counted, keeps.from) in
-    record {
-      device = refl;
-      open_phase = found.open_phase;
-      number = omega (arith, found.counted);
-      of_phase = omega (arith, found.inside);
-      member = member_is ∙ ap (member_after (is_member plan d count)) found.found ∙ member_next plan d count inside;
-      state =
-          state_is kind.0 kind.1
-          ∙ ap (λ (z : ℤ). changed_state kind.0 z (power plan (state plan) (end_cut plan c.closed) d) what)
-          (keeps.has_state ∙ ap (state plan d) (sym found.counted))
-          ∙ ap (changed_state kind.0 (state plan d count) (power plan (state plan) (end_cut plan c.closed) d)) found.found
-          ∙ sym (state_next plan is_plan d count c.closed kind.0 kind.1 from found.inside);
-    }
+    let before = power plan (state plan) (end_cut plan c.closed) d in
+    is kind.0 kind.1
+    ∙ ap (λ (y : ℤ). changed_state kind.0 y before what) keeps.has_state
+    ∙ ap (changed_state kind.0 (state plan d (count_of c d)) before) (due_is plan c.closed (count_of c) d what due)
+    ∙ sym (state_next plan is_plan d (count_of c d) c.closed kind.0 kind.1 keeps.from due.of_phase)
 
 -- the minutes of a tick
 pub minutes_valid : (plan : PlanData) → IsPlan plan → (d n : ℕ) (kind : Kind) (minutes : ℤ) → kind_of (node plan d) ≡ Some kind →

@@ -1,5 +1,5 @@
 -- When next changes and kinds are the same.
-use Rattle.std.proofs.Common.{◌≡◌, ap, Bool, true, false, not, refl, IsTrue, ◌↔◌, Option, Some, None}
+use Rattle.std.proofs.Common.{◌≡◌, ◌∙◌, sym, ap, ℤ, pos, int_eq, ◌&&◌, Bool, true, false, not, refl, IsTrue, ◌↔◌, Option, Some, None}
 use Rattle.std.specs.Bool.{beq}
 use Rattle.std.specs.Option.{option_eq}
 use Rattle.std.proofs.lemmas.Bool.{false≢true}
@@ -20,24 +20,35 @@ same_bool true false = fails (λ e. cc e)
 same_bool false true = fails (λ e. cc e)
 same_bool false false = (λ _. refl, λ _. refl)
 
+-- five parameters
+abbrev Five : Type 0
+Five = ℤ × (ℤ × (ℤ × (ℤ × ℤ)))
+
+-- the parameters of a kind that has five
+abbrev five_of : Kind → Five
+five_of (Freezer a b c d e) = (a, (b, (c, (d, e))))
+five_of (HeatPump a b c d e) = (a, (b, (c, (d, e))))
+five_of (Cogeneration a b c d e) = (a, (b, (c, (d, e))))
+five_of (Battery a b c d) = (a, (b, (c, (d, pos 0))))
+five_of Solar = (pos 0, (pos 0, (pos 0, (pos 0, pos 0))))
+five_of Load = (pos 0, (pos 0, (pos 0, (pos 0, pos 0))))
+five_of Objective = (pos 0, (pos 0, (pos 0, (pos 0, pos 0))))
+five_of Manual = (pos 0, (pos 0, (pos 0, (pos 0, pos 0))))
+
+-- a sort of kind with five parameters: two of the sort are the same exactly where all five are
+same_five : (sort : Five → Kind) → ((p : Five) → five_of (sort p) ≡ p) → (p q : Five) →
+    IsTrue (int_eq p.0 q.0 && (int_eq p.1.0 q.1.0 && (int_eq p.1.1.0 q.1.1.0 && (int_eq p.1.1.1.0 q.1.1.1.0 && int_eq p.1.1.1.1 q.1.1.1.1))))
+    ↔ (sort p ≡ sort q)
+same_five sort has p q = Decides-like _ (λ e. λ i. sort (e.0 i, (e.1.0 i, (e.1.1.0 i, (e.1.1.1.0 i, e.1.1.1.1 i)))))
+    (λ h. let same : p ≡ q = sym (has p) ∙ ap five_of h ∙ has q in
+    (ap (λ t. t.0) same, (ap (λ t. t.1.0) same, (ap (λ t. t.1.1.0) same, (ap (λ t. t.1.1.1.0) same, ap (λ t. t.1.1.1.1) same)))))
+    (Decides-and _ _ (Decides-int_eq p.0 q.0) (Decides-and _ _ (Decides-int_eq p.1.0 q.1.0) (Decides-and _ _ (Decides-int_eq p.1.1.0 q.1.1.0)
+    (Decides-and _ _ (Decides-int_eq p.1.1.1.0 q.1.1.1.0) (Decides-int_eq p.1.1.1.1 q.1.1.1.1)))))
+
 -- the code's test whether two kinds of device are equal holds exactly where they are the same
 pub same_kind : (x y : Kind) → IsTrue (kinds.eq-value.it x y) ↔ (x ≡ y)
-same_kind (Freezer a b c d e) (Freezer a' b' c' d' e') = Decides-like _ (λ p. λ i. Freezer (p.0 i) (p.1.0 i) (p.1.1.0 i) (p.1.1.1.0 i) (p.1.1.1.1 i))
-    (λ h. (
-      (let s : a ≡ a' = cc h in s),
-      (
-        (let s : b ≡ b' = cc h in s),
-        (
-          (let s : c ≡ c' = cc h in s),
-          (
-            (let s : d ≡ d' = cc h in s),
-            (let s : e ≡ e' = cc h in s),
-          ),
-        ),
-      ),
-    ))
-    (Decides-and _ _ (Decides-int_eq a a') (Decides-and _ _ (Decides-int_eq b b') (Decides-and _ _ (Decides-int_eq c c') (Decides-and _ _
-    (Decides-int_eq d d') (Decides-int_eq e e')))))
+same_kind (Freezer a b c d e) (Freezer a' b' c' d' e') =
+    same_five (λ p. Freezer p.0 p.1.0 p.1.1.0 p.1.1.1.0 p.1.1.1.1) (λ p. refl) (a, (b, (c, (d, e)))) (a', (b', (c', (d', e'))))
 same_kind (Freezer a b c d e) (HeatPump a' b' c' d' e') = fails (λ h. absurd (cc h))
 same_kind (Freezer a b c d e) (Cogeneration a' b' c' d' e') = fails (λ h. absurd (cc h))
 same_kind (Freezer a b c d e) (Battery a' b' c' d') = fails (λ h. absurd (cc h))
@@ -46,22 +57,8 @@ same_kind (Freezer a b c d e) Load = fails (λ h. absurd (cc h))
 same_kind (Freezer a b c d e) Objective = fails (λ h. absurd (cc h))
 same_kind (Freezer a b c d e) Manual = fails (λ h. absurd (cc h))
 same_kind (HeatPump a b c d e) (Freezer a' b' c' d' e') = fails (λ h. absurd (cc h))
-same_kind (HeatPump a b c d e) (HeatPump a' b' c' d' e') = Decides-like _ (λ p. λ i. HeatPump (p.0 i) (p.1.0 i) (p.1.1.0 i) (p.1.1.1.0 i) (p.1.1.1.1 i))
-    (λ h. (
-      (let s : a ≡ a' = cc h in s),
-      (
-        (let s : b ≡ b' = cc h in s),
-        (
-          (let s : c ≡ c' = cc h in s),
-          (
-            (let s : d ≡ d' = cc h in s),
-            (let s : e ≡ e' = cc h in s),
-          ),
-        ),
-      ),
-    ))
-    (Decides-and _ _ (Decides-int_eq a a') (Decides-and _ _ (Decides-int_eq b b') (Decides-and _ _ (Decides-int_eq c c') (Decides-and _ _
-    (Decides-int_eq d d') (Decides-int_eq e e')))))
+same_kind (HeatPump a b c d e) (HeatPump a' b' c' d' e') =
+    same_five (λ p. HeatPump p.0 p.1.0 p.1.1.0 p.1.1.1.0 p.1.1.1.1) (λ p. refl) (a, (b, (c, (d, e)))) (a', (b', (c', (d', e'))))
 same_kind (HeatPump a b c d e) (Cogeneration a' b' c' d' e') = fails (λ h. absurd (cc h))
 same_kind (HeatPump a b c d e) (Battery a' b' c' d') = fails (λ h. absurd (cc h))
 same_kind (HeatPump a b c d e) Solar = fails (λ h. absurd (cc h))
@@ -70,23 +67,8 @@ same_kind (HeatPump a b c d e) Objective = fails (λ h. absurd (cc h))
 same_kind (HeatPump a b c d e) Manual = fails (λ h. absurd (cc h))
 same_kind (Cogeneration a b c d e) (Freezer a' b' c' d' e') = fails (λ h. absurd (cc h))
 same_kind (Cogeneration a b c d e) (HeatPump a' b' c' d' e') = fails (λ h. absurd (cc h))
-same_kind (Cogeneration a b c d e) (Cogeneration a' b' c' d' e') = Decides-like _ (λ p. λ i. Cogeneration (p.0 i) (p.1.0 i) (p.1.1.0 i) (p.1.1.1.0 i)
-    (p.1.1.1.1 i))
-    (λ h. (
-      (let s : a ≡ a' = cc h in s),
-      (
-        (let s : b ≡ b' = cc h in s),
-        (
-          (let s : c ≡ c' = cc h in s),
-          (
-            (let s : d ≡ d' = cc h in s),
-            (let s : e ≡ e' = cc h in s),
-          ),
-        ),
-      ),
-    ))
-    (Decides-and _ _ (Decides-int_eq a a') (Decides-and _ _ (Decides-int_eq b b') (Decides-and _ _ (Decides-int_eq c c') (Decides-and _ _
-    (Decides-int_eq d d') (Decides-int_eq e e')))))
+same_kind (Cogeneration a b c d e) (Cogeneration a' b' c' d' e') =
+    same_five (λ p. Cogeneration p.0 p.1.0 p.1.1.0 p.1.1.1.0 p.1.1.1.1) (λ p. refl) (a, (b, (c, (d, e)))) (a', (b', (c', (d', e'))))
 same_kind (Cogeneration a b c d e) (Battery a' b' c' d') = fails (λ h. absurd (cc h))
 same_kind (Cogeneration a b c d e) Solar = fails (λ h. absurd (cc h))
 same_kind (Cogeneration a b c d e) Load = fails (λ h. absurd (cc h))

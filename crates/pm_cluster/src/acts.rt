@@ -1,7 +1,7 @@
-ghost use Rattle.std.specs.Prelude.{◌≡◌, ℕ, ◌+◌, ◌<◌, ◌≤◌, if◌then◌else◌, length, map, Ok, Some, None, IfOk, IfErr, IfSome};
+ghost use Rattle.std.specs.Prelude.{◌≡◌, ℕ, ◌+◌, ◌<◌, ◌≤◌, if◌then◌else◌, [], length, map, Ok, Some, None, IfOk, IfErr, IfSome};
 ghost use Rattle.std.specs.Prelude.{MatchOption};
 ghost use Rattle.pm_market.specs.Lists.{nodes, is_leaf, IsLeaf};
-ghost use Rattle.pm_market.specs.State.{State};
+ghost use Rattle.pm_market.specs.State.{State, start};
 ghost use Rattle.pm_market.specs.Moves.{act_of};
 ghost use Rattle.pm_plan.specs.Market.{plan_lists};
 ghost use Rattle.pm_plan.specs.Plans.{plan_bound};
@@ -204,13 +204,30 @@ impl<'p> Cluster<'p> {
     {
         let mut cluster = Cluster::open(alloc, plan)?;
         let mut journal = Journal::new(alloc);
+        cluster.act_each(alloc, acts, &mut journal)?;
+        Ok((cluster, journal))
+    }
+
+    /// Makes acts in their order on a cluster that was just opened, and adds their lines to a journal without lines.
+    fn act_each(
+        &mut self,
+        alloc: Global,
+        acts: &[Act],
+        journal: &mut Journal,
+    ) -> Result<(), ApplyFault>
+        requires opened { StandsFor self.old.plan self.old.core start }
+        requires no_lines { journal.old.lines ≡ [] }
+        ensures plan { self.new.plan ≡ self.old.plan }
+        ensures made { IfOk result (λ _. IsRunOf self.old.plan acts.now self.new.core journal.new.lines) }
+        ensures illegal { IfErr result (λ fault. AreRefused self.old.plan acts.now fault) }
+    {
         for (at, act) in acts.iter().enumerate() {
-            match cluster.act(alloc, *act) {
+            match self.act(alloc, *act) {
                 Ok(line) => journal.push(line)?,
                 Err(ActFault::Illegal) => return Err(ApplyFault::Illegal { at }),
                 Err(ActFault::NoMemory) => return Err(ApplyFault::NoMemory),
             }
         }
-        Ok((cluster, journal))
+        Ok(())
     }
 }

@@ -18,7 +18,7 @@ ghost use Rattle.pm_stands.specs.Stands.{StandsFor, MakesMove};
 ghost use Rattle.pm_stands.specs.Core.{row_at, link_at};
 ghost use Rattle.pm_stands.specs.Rows.{OneLink};
 ghost use Rattle.pm_stands.specs.Made.{seat_after, bid_demand};
-ghost use Rattle.pm_cluster.specs.Next.{count_of, HasNoNext, IsNext};
+ghost use Rattle.pm_cluster.specs.Next.{count_of, IsNext};
 ghost use Rattle.pm_cluster.specs.Acts.{Follows, NotChanged};
 
 use crate::cluster::Cluster;
@@ -27,60 +27,14 @@ use crate::links::offer_bid;
 use crate::tree::{is_device, parent_of, place_in_row};
 use pm_agent::Made;
 use pm_bid::ArrayBid;
-use pm_device::{Kind, Next, advance};
+use pm_device::{Kind, Next};
 use pm_market::Move;
-use pm_plan::{Plan, Planned};
+use pm_plan::Plan;
 use pm_session::{Link, Port};
 use pm_strategy::fill_bid;
 use pm_tree::NodeId;
 
 impl<'p> Cluster<'p> {
-    /// What the next change of a device makes of it; none exactly where no phase is open, or the device made all its
-    /// changes of the open phase.
-    pub fn next(&self, device: NodeId) -> Option<Next>
-        requires leaf { IsLeaf (plan_lists self.now.plan) device.0 }
-        ensures next { MatchOption result (HasNoNext self.now.plan self.now.core.closed (count_of self.now.core) device.0)
-            (IsNext self.now.plan self.now.core.closed (count_of self.now.core) device.0) }
-    {
-        let at = device.0 as usize;
-        let count = self.counts[at];
-        if self.plan.phases() <= self.closed || self.due[at] <= count {
-            return None;
-        }
-        let before = self.states[at];
-        let Some(what) = self.plan.planned(device, count + 1) else {
-            return None;
-        };
-        let (state, member) = match what {
-            Planned::Join => (before, true),
-            Planned::Leave => (before, false),
-            Planned::Set { state } => (state, self.members[at]),
-            Planned::Tick { minutes } => {
-                let kind = self.plan.kind(device);
-                let power = self.power_before(device);
-                (advance(&kind, before, power, minutes), self.members[at])
-            }
-        };
-        Some(Next {
-            device: device.0,
-            number: count + 1,
-            member,
-            state,
-        })
-    }
-
-    /// The power of a device in watts before the changes of the open phase: at the end of the phase before, and none before
-    /// the first.
-    fn power_before(&self, device: NodeId) -> i64
-        requires leaf { IsLeaf (plan_lists self.now.plan) device.0 }
-        ensures power { result ≡ power self.now.plan (state self.now.plan) (end_cut self.now.plan self.now.core.closed) device.0 }
-    {
-        if self.closed == 0 {
-            return 0;
-        }
-        self.powers[device.0 as usize]
-    }
-
     /// Makes the next change of a device and offers its bid to the device's parent.
     ///
     /// `NotNext` comes exactly where what was made is of no device of the plan, is not the device's next change, or is

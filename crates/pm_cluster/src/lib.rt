@@ -15,6 +15,7 @@ mod cluster;
 mod ends;
 mod fault;
 mod links;
+mod next;
 mod node_moves;
 mod opening;
 mod parts;

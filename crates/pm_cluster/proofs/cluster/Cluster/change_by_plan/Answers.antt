@@ -5,7 +5,8 @@ use Rattle.pm_plan.specs.Market.{plan_lists}
 use Rattle.pm_cluster.specs.Clusters.{ClusterValue}
 use Rattle.pm_cluster.proofs.Parents.{nodes_are}
 use Rattle.pm_cluster.proofs.Kept.{leaf_of_plan}
-use Rattle.pm_cluster.proofs.ActForms.{far_leaf, no_leaf, no_change, none_legal}
+use Rattle.pm_cluster.proofs.ActForms.{far_leaf, no_leaf, no_form, none_legal}
+use Rattle.pm_market.specs.declared.moves.Act.TheVariants as act
 use Rattle.pm_cluster.proofs.cluster.Cluster.change_by_plan.Goals as goal
 use Rattle.pm_cluster.proofs.cluster.Cluster.change_by_plan.Goals.{After-next}
 use Rattle.pm_cluster.proofs.cluster.Cluster.change_by_plan.Goals.{then-len-device-via-then-len-device, then-len-device-via-else-len-device+then-not-is_device}
@@ -22,7 +23,7 @@ returns-then-len-device-clause-made c s stands =
           far_leaf c.self.inside.plan.now c.self.invariant.is_plan x (omega (arith, w.if-len-device.true, c.len.ensures.len, ap length c.tree.ensures.tree))
       | then-len-device-via-else-len-device+then-not-is_device w ↦ sym w.is_device.ensures ∙ (let off : w.is_device.result ≡ false = search rules in off)
     ] in
-    no_change (plan_lists c.args.self.now.plan) s x (no_leaf c.args.self.now.plan s x (subst Claim c.self.view_is none))
+    no_form (plan_lists c.args.self.now.plan) s (act.Change x) (no_leaf c.args.self.now.plan s x (subst Claim c.self.view_is none))
 
 leaf : (c : After-next) → IsLeaf (plan_lists c.self.inside.plan.now) c.args.device.0
 leaf c = sym c.is_device.ensures ∙ (let on : c.is_device.result ≡ true = search rules in on)
@@ -33,7 +34,7 @@ is_plan c = subst (λ (v : ClusterValue). IsPlan v.plan) c.self.view_is c.self.i
 pub returns-in_default-clause-made : goal.returns-in_default-clause-made
 returns-in_default-clause-made c s stands =
     let p = (goal.at.returns-in_default-clause-made c).After-next in
-    no_change (plan_lists c.args.self.now.plan) s c.args.device.0
+    no_form (plan_lists c.args.self.now.plan) s (act.Change c.args.device.0)
     (none_legal c.args.self.now.plan (is_plan p) c.args.self.now.core s stands c.args.device.0 c.in_default.ensures.next)
 
 pub kind-requires : goal.kind-requires

@@ -4,7 +4,8 @@ use Rattle.pm_plan.specs.Market.{plan_lists}
 use Rattle.pm_stands.specs.Stands.{MakesMove}
 use Rattle.pm_cluster.specs.Clusters.{ClusterValue}
 use Rattle.pm_cluster.specs.ClusterFields.{core_of}
-use Rattle.pm_cluster.proofs.ActForms.{no_close, few_closed}
+use Rattle.pm_cluster.proofs.ActForms.{no_form, few_closed}
+use Rattle.pm_market.specs.declared.moves.Act.TheVariants as act
 use Rattle.pm_cluster.proofs.cluster.Cluster.close_phase.Goals as goal
 
 pub overflow_add-phase : goal.overflow_add-phase
@@ -13,7 +14,7 @@ overflow_add-phase c = omega (arith, few_closed c.self.inside.plan.now c.self.in
 pub returns-then-not-close-clause-made : goal.returns-then-not-close-clause-made
 returns-then-not-close-clause-made c s stands =
     let off : c.close.result ≡ false = search rules in
-    no_close (plan_lists c.args.self.now.plan) s (c.close.ensures.refused off s stands)
+    no_form (plan_lists c.args.self.now.plan) s act.Close (c.close.ensures.refused off s stands)
 
 pub returns-clause-made : goal.returns-clause-made
 returns-clause-made c s stands =

@@ -1,4 +1,4 @@
-use Rattle.std.proofs.Common.{ℕ, sym, subst, ◌∙◌}
+use Rattle.std.proofs.Common.{ℕ, sym, subst}
 use Rattle.pm_market.specs.State.{State}
 use Rattle.pm_market.specs.Lists.{IsNode}
 use Rattle.pm_market.specs.Moves.{Legal}

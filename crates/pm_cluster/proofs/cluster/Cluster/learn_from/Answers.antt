@@ -3,7 +3,8 @@ use Rattle.pm_market.specs.Lists.{nodes, IsNode}
 use Rattle.pm_plan.specs.Market.{plan_lists}
 use Rattle.pm_cluster.specs.Clusters.{ClusterValue}
 use Rattle.pm_cluster.proofs.Parents.{nodes_are}
-use Rattle.pm_cluster.proofs.ActForms.{no_learn, at_none}
+use Rattle.pm_cluster.proofs.ActForms.{no_form, at_none}
+use Rattle.pm_market.specs.declared.moves.Act.TheVariants as act
 use Rattle.pm_cluster.proofs.cluster.Cluster.learn_from.Goals as goal
 use Rattle.pm_cluster.proofs.cluster.Cluster.learn_from.Goals.{then-child-eq0-via-then-child-eq0, then-child-eq0-via-else-child-eq0+then-len-child}
 
@@ -17,7 +18,7 @@ returns-then-child-eq0-clause-made c s stands =
       | then-child-eq0-via-else-child-eq0+then-len-child w ↦
           omega (arith, w.if-len-child.true, at.1, w.len.ensures.len, nodes_are plan, ap length w.tree.ensures.tree)
     ] in
-    no_learn (plan_lists c.args.self.now.plan) s x (λ n legal. subst Claim c.self.view_is none legal.0)
+    no_form (plan_lists c.args.self.now.plan) s (act.Learn x) (λ n legal. subst Claim c.self.view_is none legal.0)
 
 pub learn-requires : goal.learn-requires
 learn-requires c =
@@ -32,4 +33,4 @@ returns-clause-form c = c.learn.ensures.form
 
 pub returns-clause-made : goal.returns-clause-made
 returns-clause-made c s stands =
-    at_none c.learn.result _ _ _ (no_learn (plan_lists c.args.self.now.plan) s c.args.child.0) (c.learn.ensures.made s stands)
+    at_none c.learn.result _ _ _ (no_form (plan_lists c.args.self.now.plan) s (act.Learn c.args.child.0)) (c.learn.ensures.made s stands)

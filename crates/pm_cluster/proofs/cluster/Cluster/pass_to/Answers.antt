@@ -3,7 +3,8 @@ use Rattle.pm_market.specs.Lists.{nodes, IsNode, IsLeaf, IsConcentrator}
 use Rattle.pm_plan.specs.Market.{plan_lists}
 use Rattle.pm_cluster.specs.Clusters.{ClusterValue}
 use Rattle.pm_cluster.proofs.Parents.{nodes_are}
-use Rattle.pm_cluster.proofs.ActForms.{no_pass, at_none}
+use Rattle.pm_cluster.proofs.ActForms.{no_form, at_none}
+use Rattle.pm_market.specs.declared.moves.Act.TheVariants as act
 use Rattle.pm_cluster.proofs.cluster.Cluster.pass_to.Goals as goal
 use Rattle.pm_cluster.proofs.cluster.Cluster.pass_to.Goals.{then-node-eq0-via-then-node-eq0, then-node-eq0-via-else-node-eq0+then-len-node}
 
@@ -20,7 +21,7 @@ returns-then-node-eq0-clause-made c s stands =
       | then-node-eq0-via-else-node-eq0+then-len-node w ↦
           omega (arith, w.if-len-node.true, at.1, w.len.ensures.len, nodes_are plan, ap length w.tree.ensures.tree)
     ] in
-    no_pass (plan_lists c.args.self.now.plan) s x (λ n legal. subst Claim c.self.view_is none legal.0)
+    no_form (plan_lists c.args.self.now.plan) s (act.Pass x) (λ n legal. subst Claim c.self.view_is none legal.0)
 
 pub take-requires : goal.take-requires
 take-requires c =
@@ -33,7 +34,7 @@ returns-then-is_device-clause-form c = c.take.ensures.form
 
 pub returns-then-is_device-clause-made : goal.returns-then-is_device-clause-made
 returns-then-is_device-clause-made c s stands =
-    at_none c.take.result _ _ _ (no_pass (plan_lists c.args.self.now.plan) s c.args.node.0) (c.take.ensures.made s stands)
+    at_none c.take.result _ _ _ (no_form (plan_lists c.args.self.now.plan) s (act.Pass c.args.node.0)) (c.take.ensures.made s stands)
 
 pub pass_on-requires : goal.pass_on-requires
 pass_on-requires c =
@@ -49,4 +50,4 @@ returns-clause-form c = c.pass_on.ensures.form
 
 pub returns-clause-made : goal.returns-clause-made
 returns-clause-made c s stands =
-    at_none c.pass_on.result _ _ _ (no_pass (plan_lists c.args.self.now.plan) s c.args.node.0) (c.pass_on.ensures.made s stands)
+    at_none c.pass_on.result _ _ _ (no_form (plan_lists c.args.self.now.plan) s (act.Pass c.args.node.0)) (c.pass_on.ensures.made s stands)

@@ -4,7 +4,8 @@ use Rattle.pm_market.specs.Lists.{nodes, is_leaf, IsConcentrator}
 use Rattle.pm_plan.specs.Market.{plan_lists}
 use Rattle.pm_cluster.specs.Clusters.{ClusterValue}
 use Rattle.pm_cluster.proofs.Parents.{nodes_are}
-use Rattle.pm_cluster.proofs.ActForms.{no_publish, at_none}
+use Rattle.pm_cluster.proofs.ActForms.{no_form, at_none}
+use Rattle.pm_market.specs.declared.moves.Act.TheVariants as act
 use Rattle.pm_cluster.proofs.cluster.Cluster.publish_at.Goals as goal
 use Rattle.pm_cluster.proofs.cluster.Cluster.publish_at.Goals.{then-node-eq0-via-then-node-eq0}
 use Rattle.pm_cluster.proofs.cluster.Cluster.publish_at.Goals.{then-node-eq0-via-else-node-eq0+then-len-node}
@@ -26,7 +27,7 @@ returns-then-node-eq0-clause-made c s stands =
           let on : w.is_device.result ≡ true = search rules in
           both_ways (is_leaf (plan_lists plan) x) at.2 (sym w.is_device.ensures ∙ on)
     ] in
-    no_publish (plan_lists c.args.self.now.plan) s x (λ n legal. subst Claim c.self.view_is none legal.0)
+    no_form (plan_lists c.args.self.now.plan) s (act.Publish x) (λ n legal. subst Claim c.self.view_is none legal.0)
 
 pub publish-requires : goal.publish-requires
 publish-requires c =
@@ -42,4 +43,4 @@ returns-clause-form c = c.publish.ensures.form
 
 pub returns-clause-made : goal.returns-clause-made
 returns-clause-made c s stands =
-    at_none c.publish.result _ _ _ (no_publish (plan_lists c.args.self.now.plan) s c.args.node.0) (c.publish.ensures.made s stands)
+    at_none c.publish.result _ _ _ (no_form (plan_lists c.args.self.now.plan) s (act.Publish c.args.node.0)) (c.publish.ensures.made s stands)
