@@ -74,13 +74,6 @@ is_thermal-tells low high power drift effect h =
     let each = both_true (is_band low high) (is_power power) front.0 in
     record { ends = each.0; rated = each.1 }
 
--- what passes as the parameters of a device that keeps a temperature has two changes of it
-pub is_thermal-changes : (low high power drift effect : ℤ) → IsTrue (is_thermal low high power drift effect) →
-    IsTrue (is_change drift) × IsTrue (is_change effect)
-is_thermal-changes low high power drift effect h =
-    let front = both_true (is_band low high && is_power power) (are_changes drift effect) h in
-    both_true (is_change drift) (is_change effect) front.1
-
 -- the parameters of a battery
 pub record Battery (capacity charge discharge spread : ℤ) : Type 0 where
   -- the capacity lies between 1 and its limit
@@ -106,15 +99,6 @@ is_battery-tells capacity charge discharge spread h =
       discharge_within = is_power-tells discharge three.1;
       spread_within = is_between-tells (pos 0) (pos spread_limit) spread all.1;
     }
-
--- what passes as the parameters of a battery has a capacity within its limits
-pub is_battery-capacity : (capacity charge discharge spread : ℤ) → IsTrue (is_battery capacity charge discharge spread) →
-    IsTrue (is_between (pos 1) (pos capacity_limit) capacity)
-is_battery-capacity capacity charge discharge spread h =
-    let first = is_between (pos 1) (pos capacity_limit) capacity in
-    let three = both_true (first && is_power charge && is_power discharge) (is_between (pos 0) (pos spread_limit) spread) h in
-    let two = both_true (first && is_power charge) (is_power discharge) three.0 in
-    (both_true first (is_power charge) two.0).0
 
 -- a test that comes last, after two that are true
 pub last_of_three : (a b last r : Bool) → a ≡ true → b ≡ true → r ≡ last → r ≡ (a && b && last)
