@@ -1,11 +1,13 @@
 -- Tables of lists.
 use Rattle.std.proofs.Common.{◌≡◌, ℕ, ◌+◌, ◌<◌, ◌≤◌, Bool, true, false, if◌then◌else◌, List, [], ◌∷◌, ◌++◌, length}
 use Rattle.std.proofs.Common.{get_or, set, refl, sym, ap, subst, ◌∙◌, arith, Vec, ◌==◌, append-nil, append_assoc, eqb, ◌⊎◌, inl, inr, ◌≢◌}
-use Rattle.std.proofs.Common.{◌-◌, ◌&&◌, leb, suc, length-append}
+use Rattle.std.proofs.Common.{◌-◌, ◌&&◌, leb, suc, length-append, replicate}
 use Rattle.std.specs.declared.alloc.Global.{Global}
 use Rattle.std.proofs.lemmas.Bool.Decides.{eqb_tells, leb_tells}
 use Rattle.std.proofs.lemmas.List.{length-map, map-append, get_or-map, get_or_append_left, get_or-set_same, get_or-set_other, map-set, length-set, length-drop}
+use Rattle.std.proofs.lemmas.List.{length-replicate, replicate-append-replicate}
 use Rattle.std.proofs.Math.Seq.{get_or-append_seam}
+use Rattle.pm_base.proofs.Lists.{get_or-replicate_same}
 use Rattle.pm_tree.specs.Shape.{parent_at, leaf_at, is_on_path, children_among, leaves_among, children_at, leaves_below_at, place_at}
 use Rattle.pm_tree.proofs.Ranges.{children_among-more, leaves_among-more, length-children_among}
 use Rattle.pm_tree.specs.Tables.{parent_numbers, shape_parents, added_on_path, AreLists, AreNumbers, node_lists, id_numbers}
@@ -42,6 +44,22 @@ get_or-push lists at node x inside = by (eqb_tells at x)
 abbrev pub lists_same : (count : ℕ) (f g : ℕ → List ℕ) (lists : List (List ℕ)) → ((node : ℕ) → f node ≡ g node) →
     AreLists count f lists → AreLists count g lists
 lists_same count f g lists same are = record { count_is = are.count_is; list_is = λ node inside. are.list_is node inside ∙ same node }
+
+-- one more empty list
+pub none_more : (old new : List (Vec NodeId Global)) (list : Vec NodeId Global) (count : ℕ) → new ≡ old ++ list ∷ [] → list.items ≡ [] →
+    node_lists old ≡ replicate count [] → node_lists new ≡ replicate (count + 1) []
+none_more old new list count is empty before =
+    ap node_lists is ∙ map-append (λ (list : Vec NodeId Global). id_numbers list.items) old (list ∷ [])
+    ∙ ap (λ (lists : List (List ℕ)). lists ++ id_numbers list.items ∷ []) before
+    ∙ ap (λ (nodes : List NodeId). replicate count [] ++ id_numbers nodes ∷ []) empty
+    ∙ replicate-append-replicate count 1 []
+
+-- a table of so many empty lists
+pub all_empty : (count : ℕ) (lists : List (List ℕ)) → lists ≡ replicate count [] → AreLists count (λ _. []) lists
+all_empty count lists is = record {
+  count_is = ap (λ (lists : List (List ℕ)). length lists) is ∙ length-replicate count [];
+  list_is = λ node inside. ap (λ (lists : List (List ℕ)). get_or lists node []) is ∙ get_or-replicate_same count node [];
+}
 
 -- one node more in the children's lists
 pub children_step : (parents : List ℕ) (count number parent : ℕ) (lists : List (List ℕ)) → 1 ≤ number →
