@@ -68,12 +68,8 @@ manual_bid place basis (array demands) = array_or_refuse place (checked_bid basi
 manual_bid place basis (points pairs) = points_or_refuse basis place (checked_points basis pairs)
 
 unfoldable pub manual_state : Place → PlanData → StatePart → Result (ℤ × PlanData) Refusal
-manual_state place plan (number z) = refuse cause.UnfitState place
-manual_state place plan (array demands) = do
-  bid ← array_or_refuse place (checked_bid plan.basis.steps demands)
-  Ok (with_array plan bid)
-manual_state place plan (points pairs) = do
-  bid ← points_or_refuse plan.basis place (checked_points plan.basis pairs)
+manual_state place plan part = do
+  bid ← manual_bid place plan.basis part
   Ok (with_array plan bid)
 
 -- every other kind has a number that fits it

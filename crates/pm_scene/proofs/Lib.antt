@@ -2,4 +2,3 @@ pub mod Readers
 pub mod Lists
 pub mod Documents
 pub mod Nodes
-pub mod Shapes

@@ -59,10 +59,5 @@ shape_on d basis = do
 
 unfoldable pub shape_of : Data → Result ShapeValue Refusal
 shape_of d = do
-  members_check document_row Document d
-  check cause.UnknownVersion Document (is_version (whole_at (codes "version") d))
-  prices ← need cause.MissingMember Document (get (codes "basis") d)
-  basis ← basis_of prices
-  nodes ← nodes_of (knows_limited (whole_at (codes "version") d)) (elements_at (codes "nodes") d)
-  phases ← phases_of (elements_at (codes "phases") d)
-  Ok (record { basis = basis; nodes = nodes; phases = phases })
+  basis ← head_of d
+  shape_on d basis

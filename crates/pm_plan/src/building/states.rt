@@ -59,6 +59,7 @@ fn is_manual(kind: Kind) -> bool
 }
 
 /// The number of a manual device's bid, which joins the arrays.
+#[tactic(auto, unfolding(crate::specs::Building::manual_state))]
 fn take_manual(
     alloc: Global,
     draft: &mut Draft,

@@ -56,6 +56,7 @@ fn read_head(value: &Value) -> Result<Basis, PlanFault>
 }
 
 /// The shape of a document.
+#[tactic(auto, unfolding(crate::specs::Shape::shape_of))]
 pub(crate) fn read_shape(alloc: Global, value: &Value) -> Result<Shape, PlanFault>
     ensures { Gives refusal_in shape_value result (shape_of (view value.now)) }
 {
