@@ -102,10 +102,12 @@ pub fn complete<'p, G: Gate>(
     ensures plan { IfOk result (λ b. b.plan ≡ plan.now) }
     ensures settled { IfOk result IsSettled }
 {
-    let mut board = board;
     if !board.plan().same(plan) {
+        // Before memory is taken for another.
+        drop(board);
         return drain(alloc, plan, gate);
     }
+    let mut board = board;
     finish(alloc, &mut board, gate)?;
     Ok(board)
 }

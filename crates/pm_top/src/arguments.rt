@@ -50,23 +50,17 @@ pub(crate) fn command_of(arguments: &[String]) -> Option<Command>
 fn single_of(argument: &str) -> Option<Command>
     ensures { result ≡ single_of argument.now }
 {
-    if argument == "run" {
-        Some(Command::File(FileCommand::Run))
-    } else if argument == "trace" {
-        Some(Command::File(FileCommand::Trace))
-    } else if argument == "check" {
-        Some(Command::File(FileCommand::Check))
-    } else if argument == "bill" {
-        Some(Command::File(FileCommand::Bill))
-    } else if argument == "serve" {
-        Some(Command::Serve)
-    } else if argument == "ask" {
-        Some(Command::File(FileCommand::Ask))
-    } else if argument == "free" {
-        Some(Command::File(FileCommand::Free))
-    } else {
-        None
-    }
+    let command = match argument {
+        "run" => Command::File(FileCommand::Run),
+        "trace" => Command::File(FileCommand::Trace),
+        "check" => Command::File(FileCommand::Check),
+        "bill" => Command::File(FileCommand::Bill),
+        "serve" => Command::Serve,
+        "ask" => Command::File(FileCommand::Ask),
+        "free" => Command::File(FileCommand::Free),
+        _ => return None,
+    };
+    Some(command)
 }
 
 /// The demo of these two arguments, where they are numbers within its limits.

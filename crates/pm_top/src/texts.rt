@@ -1,5 +1,6 @@
 ghost use Rattle.std.specs.Prelude.{◌≡◌, ◌≢◌, ◌≤◌, All, IfOk, length};
 ghost use Rattle.pm_base.specs.Limits.{most_phases, IsWithin, demand_limit};
+ghost use Rattle.pm_bid.specs.Bids.{NeverRises};
 ghost use Rattle.pm_plan.specs.Plans.{phases};
 ghost use Rattle.pm_plan.specs.States.{all_ends};
 ghost use Rattle.pm_report.specs.Report.{IsEndOf, ends_of};
@@ -9,6 +10,7 @@ ghost use Rattle.pm_top.specs.Top.{last_total, IsTextOf, IsCompleteJournal, IsSu
 
 use crate::arguments::FileCommand;
 use pm_ask::{Curve, CurveFault, ask_text};
+use pm_bid::ArrayBid;
 use pm_bill::bill_of_run;
 use pm_gen::{GenFault, make_plan};
 use pm_market::Journal;
@@ -66,7 +68,15 @@ fn last_curve<R: Threads + Wait + Sync, G: Gate>(
 {
     let _basis = plan.basis();
     let board = settle(rt, alloc, plan, gate)?;
-    match Curve::new(alloc, board.aggregate()) {
+    curve_of(alloc, board.aggregate())
+}
+
+/// The curve of a total that never rises.
+fn curve_of(alloc: Global, total: &ArrayBid) -> Result<Curve, AllocError>
+    requires falls { NeverRises total.now }
+    ensures { IfOk result (λ curve. curve ≡ total.now) }
+{
+    match Curve::new(alloc, total) {
         Ok(curve) => Ok(curve),
         Err(CurveFault::NoMemory) => Err(AllocError),
         Err(CurveFault::Rising { .. }) => unreachable!(),

@@ -1,9 +1,8 @@
-use Rattle.std.proofs.Common.{◌≡◌, ◌∙◌, sym, subst}
+use Rattle.std.proofs.Common.{◌≡◌, sym, subst, List, ℤ, IfOk}
 use Rattle.pm_bid.specs.Bids.{NeverRises}
 use Rattle.pm_plan.specs.Plans.{phases, end_cut}
 use Rattle.pm_offer.proofs.Laws.{total_falls}
 use Rattle.pm_top.specs.Top.{last_total}
-use Rattle.pm_top.proofs.Answering.{never_refused}
 use Rattle.pm_top.proofs.Settled.{settled_total}
 use Rattle.pm_top.proofs.texts.last_curve.Given.{Over}
 use Rattle.pm_top.proofs.texts.last_curve.Goals as goal
@@ -14,13 +13,13 @@ sum_is g c =
     settled_total c.args.plan.now c.in_ok-board.board c.aggregate.result.now c.basis-basis.ensures.sound c.in_ok-board.ensures.plan
     c.in_ok-board.ensures.settled c.aggregate.ensures.current
 
-pub returns-in-Ok : goal.returns-in-Ok
-returns-in-Ok g c = c.in-Ok.ensures.total ∙ sum_is g (goal.at.returns-in-Ok g c).After-aggregate
-
-pub unreachable-requires : goal.unreachable-requires
+pub curve_of-requires : goal.curve_of-requires
 unfolding last_total
-unreachable-requires g c =
-    let plan = c.args.plan.now in
-    let falls = subst NeverRises (sym (sum_is g (goal.at.unreachable-requires g c).After-aggregate))
-    (total_falls plan (end_cut plan (phases plan)) c.basis-basis.ensures.sound) in
-    never_refused c.aggregate.result.now c.in-Err-Rising.field-0 c.in-Err-Rising.field-0-0 falls c.in-Err-Rising.field-0-is c.in-Err-Rising.ensures.rising
+curve_of-requires g c = record {
+  falls = subst NeverRises (sym (sum_is g (goal.at.curve_of-requires g c).After-aggregate))
+      (total_falls c.args.plan.now (end_cut c.args.plan.now (phases c.args.plan.now)) c.basis-basis.ensures.sound);
+}
+
+pub returns : goal.returns
+returns g c =
+    subst (λ (t : List ℤ). IfOk c.curve_of.result (λ curve. curve ≡ t)) (sum_is g (goal.at.returns g c).After-aggregate) c.curve_of.ensures
