@@ -5,11 +5,12 @@ use pm_board::Board;
 use pm_gates::{DrawingGate, MeetingGate, Moment, TellingGate};
 use pm_gen::make_plan;
 use pm_market::{Journal, Line};
-use pm_plan::{MemberLine, Plan};
+use pm_plan::{MemberLine, PhaseEnd, Plan};
 use pm_runner::{Gate, OpenGate, complete, run_threads, settle};
 use pm_scene::read_scene;
 use pm_turns::drain;
-use std::alloc::Global;
+use std::alloc::{AllocError, Global};
+use std::process::Abort;
 use std::sync::Wait;
 use std::test::Fail;
 use std::thread::Threads;
@@ -18,7 +19,7 @@ use std::thread::Threads;
 const STACK: usize = 262_144;
 
 /// Whether a board has the ends of the plain program, and a journal within the bound of the plan.
-fn is_right(alloc: Global, plan: &Plan, board: Board) -> Result<bool, Fail> {
+fn is_right(alloc: Global, plan: &Plan, board: &Board) -> Result<bool, Fail> {
     let bounded = board.journal().len() as u64 <= plan.bound();
     Ok(bounded && are_right(alloc, plan, board.ends())?)
 }
@@ -37,20 +38,8 @@ fn are_told(lines: &[Line], journal: &Journal) -> bool {
     told
 }
 
-/// A load takes 100 and a generator gives 150 at step 4. The two devices' threads meet, and every line is told once.
-#[test]
-fn the_meeting_gate(rt: HostRuntime) -> Result<(), Fail> {
-    let alloc = rt.alloc();
-    let plan = read_scene(alloc, TWO_BIDS)?;
-    let gate = TellingGate::new(
-        &rt,
-        alloc,
-        MeetingGate::new((1, 2), Moment::Line, 20_000_000),
-    );
-    let board = settle(&rt, alloc, &plan, &gate)?;
-    assert_eq!(rt; gate.gate().met(), 2);
-    assert!(rt; are_told(&gate.into_lines(), board.journal()));
-    let (_journal, ends) = board.into_parts();
+/// A load takes 100 and a generator gives 150 at step 4.
+fn must_be_the_end<R: Abort>(rt: &R, ends: &[PhaseEnd]) -> Result<(), Fail> {
     assert_eq!(rt; ends.len(), 1);
     let end = ends.first().ok_or("no end")?;
     assert_eq!(rt; (end.step(), end.price(), end.total()), (4, 4, -50));
@@ -68,36 +57,107 @@ fn the_meeting_gate(rt: HostRuntime) -> Result<(), Fail> {
     Ok(())
 }
 
+/// The two devices' threads meet, and every line is told once.
+#[test]
+fn the_meeting_gate(rt: HostRuntime) -> Result<(), Fail> {
+    let plan = read_scene(rt.alloc(), TWO_BIDS)?;
+    lines_meet(&rt, rt.alloc(), &plan)
+}
+
+fn lines_meet<R: Threads + Wait + Sync + Abort>(
+    rt: &R,
+    alloc: Global,
+    plan: &Plan,
+) -> Result<(), Fail> {
+    let gate = TellingGate::new(
+        rt,
+        alloc,
+        MeetingGate::new((1, 2), Moment::Line, 20_000_000),
+    );
+    let board = settle(rt, alloc, plan, &gate)?;
+    assert_eq!(rt; gate.gate().met(), 2);
+    assert!(rt; are_told(&gate.into_lines(), board.journal()));
+    let (_journal, ends) = board.into_parts();
+    must_be_the_end(rt, &ends)
+}
+
 /// Of two nodes that one thread serves the second finds that the first has begun, and no more.
 #[test]
 fn one_thread_never_meets(rt: HostRuntime) -> Result<(), Fail> {
-    let alloc = rt.alloc();
-    let plan = read_scene(alloc, TWO_BIDS)?;
-    for by_threads in [false, true] {
-        let gate = TellingGate::new(&rt, alloc, MeetingGate::new((1, 2), Moment::Line, 1000));
-        let board = if by_threads {
-            run_threads(&rt, alloc, &plan, &gate, usize::MAX)?
-        } else {
-            drain(alloc, &plan, &gate)?
-        };
-        assert_eq!(rt; gate.gate().met(), 1);
-        assert!(rt; are_told(&gate.into_lines(), board.journal()));
-        assert!(rt; is_right(alloc, &plan, board)?);
-    }
+    let plan = read_scene(rt.alloc(), TWO_BIDS)?;
+    assert!(rt; nobody_meets(&rt, rt.alloc(), &plan)?);
     Ok(())
+}
+
+fn nobody_meets<R: Threads + Wait + Sync + Abort>(
+    rt: &R,
+    alloc: Global,
+    plan: &Plan,
+) -> Result<bool, Fail> {
+    Ok(one_begins(rt, alloc, plan, false)? && one_begins(rt, alloc, plan, true)?)
+}
+
+/// Whether a board that one thread makes is right, where the second node finds that the first has begun.
+fn one_begins<R: Threads + Wait + Sync + Abort>(
+    rt: &R,
+    alloc: Global,
+    plan: &Plan,
+    by_threads: bool,
+) -> Result<bool, Fail> {
+    let gate = TellingGate::new(rt, alloc, MeetingGate::new((1, 2), Moment::Line, 1000));
+    let board = made_alone(rt, alloc, plan, &gate, by_threads)?;
+    assert_eq!(rt; gate.gate().met(), 1);
+    assert!(rt; are_told(&gate.into_lines(), board.journal()));
+    is_right(alloc, plan, &board)
+}
+
+/// A board that one thread makes: the caller's, since no other can start, or the caller's without others.
+fn made_alone<'p, R: Threads + Wait + Sync, G: Gate>(
+    rt: &R,
+    alloc: Global,
+    plan: &'p Plan,
+    gate: &G,
+    by_threads: bool,
+) -> Result<Board<'p>, AllocError> {
+    if by_threads {
+        run_threads(rt, alloc, plan, gate, usize::MAX)
+    } else {
+        drain(alloc, plan, gate)
+    }
 }
 
 /// What the threads leave is completed where it runs an equal plan; where the plan differs a new board is.
 #[test]
 fn boards_of_both_plans_are_completed(rt: HostRuntime) -> Result<(), Fail> {
-    let alloc = rt.alloc();
-    let plan = make_plan(alloc, 3, 7)?;
-    for (size, number) in [(3, 7), (3, 8)] {
-        let other = make_plan(alloc, size, number)?;
-        let board = complete(alloc, Board::open(alloc, &other)?, &plan, &OpenGate)?;
-        assert!(rt; is_right(alloc, &plan, board)?);
-    }
+    let plan = make_plan(rt.alloc(), 3, 7)?;
+    assert!(rt; are_completed(rt.alloc(), &plan)?);
     Ok(())
+}
+
+fn are_completed(alloc: Global, plan: &Plan) -> Result<bool, Fail> {
+    Ok(
+        is_completed(alloc, plan, make_plan(alloc, 3, 7)?)?
+            && is_completed(alloc, plan, make_plan(alloc, 3, 8)?)?,
+    )
+}
+
+/// Whether a board of another plan is completed as one of the plan.
+fn is_completed(alloc: Global, plan: &Plan, other: Plan) -> Result<bool, Fail> {
+    complete_right(alloc, plan, &other)
+}
+
+fn complete_right(alloc: Global, plan: &Plan, other: &Plan) -> Result<bool, Fail> {
+    let board = complete_from(alloc, plan, other)?;
+    is_right(alloc, plan, &board)
+}
+
+fn complete_from<'p>(
+    alloc: Global,
+    plan: &'p Plan,
+    other: &'p Plan,
+) -> Result<Board<'p>, AllocError> {
+    let board = Board::open(alloc, other)?;
+    complete(alloc, board, plan, &OpenGate)
 }
 
 /// Whether the threads, each with such a stack, leave nothing to the caller, and the ends are right.
@@ -109,45 +169,86 @@ fn are_done<R: Threads + Wait + Sync, G: Gate>(
     stack: usize,
 ) -> Result<bool, Fail> {
     let board = run_threads(rt, alloc, plan, gate, stack)?;
+    is_done(alloc, plan, &board)
+}
+
+fn is_done(alloc: Global, plan: &Plan, board: &Board) -> Result<bool, Fail> {
     Ok(board.done() && is_right(alloc, plan, board)?)
 }
 
 /// No thread can have so large a stack, so the caller serves all nodes, and leaves nothing to make afterwards.
 #[test]
 fn no_thread_starts(rt: HostRuntime) -> Result<(), Fail> {
-    let alloc = rt.alloc();
-    for plan in [read_scene(alloc, REJOINS)?, make_plan(alloc, 40, 7)?] {
-        assert!(rt; are_done(&rt, alloc, &plan, &OpenGate, usize::MAX)?);
-    }
+    let plan = read_scene(rt.alloc(), REJOINS)?;
+    assert!(rt; are_done(&rt, rt.alloc(), &plan, &OpenGate, usize::MAX)?);
+    Ok(())
+}
+
+/// The same for forty devices.
+#[test]
+fn no_thread_of_forty_starts(rt: HostRuntime) -> Result<(), Fail> {
+    let plan = make_plan(rt.alloc(), 40, 7)?;
+    assert!(rt; are_done(&rt, rt.alloc(), &plan, &OpenGate, usize::MAX)?);
     Ok(())
 }
 
 /// Whoever is slow, the threads leave nothing to the caller, and the ends are the same.
 #[test]
 fn slow_nodes_change_nothing(rt: HostRuntime) -> Result<(), Fail> {
-    let alloc = rt.alloc();
-    for plan in [read_scene(alloc, REJOINS)?, make_plan(alloc, 20, 7)?] {
-        for (divisor, rest) in [(11, 0), (11, 1), (11, 4), (2, 0), (2, 1)] {
-            let gate = holding(alloc, divisor, rest)?;
-            assert!(rt;
-                are_done(&rt, alloc, &plan, &gate, STACK)?,
-                "at {divisor} {rest}"
-            );
-        }
-        for (seed, most) in [(1, 30), (2, 300)] {
-            let gate = DrawingGate::new(seed, most);
-            assert!(rt; are_done(&rt, alloc, &plan, &gate, STACK)?, "at {seed}");
-        }
+    let plan = read_scene(rt.alloc(), REJOINS)?;
+    must_stay_right(&rt, rt.alloc(), &plan)
+}
+
+/// The same for twenty devices.
+#[test]
+fn slow_nodes_of_twenty_change_nothing(rt: HostRuntime) -> Result<(), Fail> {
+    let plan = make_plan(rt.alloc(), 20, 7)?;
+    must_stay_right(&rt, rt.alloc(), &plan)
+}
+
+fn must_stay_right<R: Threads + Wait + Sync + Abort>(
+    rt: &R,
+    alloc: Global,
+    plan: &Plan,
+) -> Result<(), Fail> {
+    for (divisor, rest) in [(11, 0), (11, 1), (11, 4), (2, 0), (2, 1)] {
+        assert!(rt;
+            are_done_held(rt, alloc, plan, divisor, rest)?,
+            "at {divisor} {rest}"
+        );
+    }
+    for (seed, most) in [(1, 30), (2, 300)] {
+        let gate = DrawingGate::new(seed, most);
+        assert!(rt; are_done(rt, alloc, plan, &gate, STACK)?, "at {seed}");
     }
     Ok(())
+}
+
+/// Whether they are done where the gate holds some of the nodes back.
+fn are_done_held<R: Threads + Wait + Sync>(
+    rt: &R,
+    alloc: Global,
+    plan: &Plan,
+    divisor: u32,
+    rest: u32,
+) -> Result<bool, Fail> {
+    let gate = holding(alloc, divisor, rest)?;
+    are_done(rt, alloc, plan, &gate, STACK)
 }
 
 /// More than two hundred threads.
 #[test]
 fn many_nodes(rt: HostRuntime) -> Result<(), Fail> {
-    let alloc = rt.alloc();
-    let plan = make_plan(alloc, 200, 7)?;
-    let board = settle(&rt, alloc, &plan, &OpenGate)?;
-    assert!(rt; is_right(alloc, &plan, board)?);
+    let plan = make_plan(rt.alloc(), 200, 7)?;
+    assert!(rt; is_settled_right(&rt, rt.alloc(), &plan)?);
     Ok(())
+}
+
+fn is_settled_right<R: Threads + Wait + Sync>(
+    rt: &R,
+    alloc: Global,
+    plan: &Plan,
+) -> Result<bool, Fail> {
+    let board = settle(rt, alloc, plan, &OpenGate)?;
+    is_right(alloc, plan, &board)
 }

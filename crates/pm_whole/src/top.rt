@@ -2,6 +2,7 @@ use pm_io::{MemSink, MemSource};
 use pm_runner::OpenGate;
 use pm_top::{Status, market};
 use std::alloc::Global;
+use std::process::Abort;
 use std::sync::Wait;
 use std::test::Fail;
 use std::thread::Threads;
@@ -56,53 +57,66 @@ fn ran<R: Threads + Wait + Sync>(
     Ok((status, text))
 }
 
-/// A fault of the source or the sink at each of their calls, by its number, where 0 stands for none. The file has 326
-/// bytes, so a run without faults reads five times; its text has 124 bytes, so it writes three times. A service of the
-/// stream reads twice and writes once.
+/// A call: its arguments, its input, the read and the write that fail, where 0 stands for none; and what it answers and writes.
+type Row = (&'static str, &'static str, u64, u64, Status, &'static str);
+
+/// A fault of the source or the sink at each of their calls. The file has 326 bytes, so a run without faults reads five times;
+/// its text has 124 bytes, so it writes three times. A service of the stream reads twice and writes once.
+const ROWS: [Row; 23] = [
+    ("run", TWO_BIDS, 0, 0, Status::Done, TWO_BIDS_TEXT),
+    ("run", TWO_BIDS, 1, 0, Status::ReadFault, ""),
+    ("run", TWO_BIDS, 2, 0, Status::ReadFault, ""),
+    ("run", TWO_BIDS, 3, 0, Status::ReadFault, ""),
+    ("run", TWO_BIDS, 4, 0, Status::ReadFault, ""),
+    ("run", TWO_BIDS, 5, 0, Status::ReadFault, ""),
+    ("run", TWO_BIDS, 6, 4, Status::Done, TWO_BIDS_TEXT),
+    ("run", TWO_BIDS, 0, 1, Status::WriteFault, TWO_BIDS_TEXT),
+    ("run", TWO_BIDS, 0, 2, Status::WriteFault, TWO_BIDS_TEXT),
+    ("run", TWO_BIDS, 0, 3, Status::WriteFault, TWO_BIDS_TEXT),
+    ("run", "{", 0, 0, Status::Refused, REFUSED),
+    ("run", "{", 0, 1, Status::WriteFault, REFUSED),
+    ("free", TWO_BIDS, 0, 0, Status::Done, TWO_BIDS_TEXT),
+    ("free", TWO_BIDS, 1, 0, Status::ReadFault, ""),
+    ("free", TWO_BIDS, 0, 1, Status::WriteFault, TWO_BIDS_TEXT),
+    ("check", TWO_BIDS, 0, 0, Status::Refused, NO_ENVELOPE),
+    ("serve", STREAM, 0, 0, Status::Done, PRICE),
+    ("serve", STREAM, 1, 0, Status::ReadFault, ""),
+    ("serve", STREAM, 2, 0, Status::ReadFault, PRICE),
+    ("serve", STREAM, 0, 1, Status::WriteFault, PRICE),
+    ("serve", "run", 0, 0, Status::Refused, FAULT),
+    ("run now", TWO_BIDS, 1, 0, Status::Usage, USAGE),
+    ("run now", TWO_BIDS, 1, 1, Status::WriteFault, USAGE),
+];
+
+/// A call answers as its row says, and has written the text, or a part of it where a write failed.
+fn must_answer<R: Threads + Wait + Sync + Abort>(
+    rt: &R,
+    alloc: Global,
+    row: &Row,
+) -> Result<(), Fail> {
+    let (line, input, bad_read, bad_write, status, text) = *row;
+    let ended = ran(rt, alloc, line, input, bad_read, bad_write)?;
+    assert_eq!(rt;
+        ended.0,
+        status,
+        "at {line}, read {bad_read}, write {bad_write}"
+    );
+    assert!(rt;
+        text.starts_with(ended.1.as_str()),
+        "at {line}, read {bad_read}, write {bad_write}"
+    );
+    assert_eq!(rt;
+        ended.1.len() == text.len(),
+        status != Status::WriteFault,
+        "at {line}, read {bad_read}, write {bad_write}"
+    );
+    Ok(())
+}
+
 #[test]
 fn each_fault_has_its_answer(rt: HostRuntime) -> Result<(), Fail> {
-    let alloc = rt.alloc();
-    let rows = [
-        ("run", TWO_BIDS, 0, 0, Status::Done, TWO_BIDS_TEXT),
-        ("run", TWO_BIDS, 1, 0, Status::ReadFault, ""),
-        ("run", TWO_BIDS, 2, 0, Status::ReadFault, ""),
-        ("run", TWO_BIDS, 3, 0, Status::ReadFault, ""),
-        ("run", TWO_BIDS, 4, 0, Status::ReadFault, ""),
-        ("run", TWO_BIDS, 5, 0, Status::ReadFault, ""),
-        ("run", TWO_BIDS, 6, 4, Status::Done, TWO_BIDS_TEXT),
-        ("run", TWO_BIDS, 0, 1, Status::WriteFault, TWO_BIDS_TEXT),
-        ("run", TWO_BIDS, 0, 2, Status::WriteFault, TWO_BIDS_TEXT),
-        ("run", TWO_BIDS, 0, 3, Status::WriteFault, TWO_BIDS_TEXT),
-        ("run", "{", 0, 0, Status::Refused, REFUSED),
-        ("run", "{", 0, 1, Status::WriteFault, REFUSED),
-        ("free", TWO_BIDS, 0, 0, Status::Done, TWO_BIDS_TEXT),
-        ("free", TWO_BIDS, 1, 0, Status::ReadFault, ""),
-        ("free", TWO_BIDS, 0, 1, Status::WriteFault, TWO_BIDS_TEXT),
-        ("check", TWO_BIDS, 0, 0, Status::Refused, NO_ENVELOPE),
-        ("serve", STREAM, 0, 0, Status::Done, PRICE),
-        ("serve", STREAM, 1, 0, Status::ReadFault, ""),
-        ("serve", STREAM, 2, 0, Status::ReadFault, PRICE),
-        ("serve", STREAM, 0, 1, Status::WriteFault, PRICE),
-        ("serve", "run", 0, 0, Status::Refused, FAULT),
-        ("run now", TWO_BIDS, 1, 0, Status::Usage, USAGE),
-        ("run now", TWO_BIDS, 1, 1, Status::WriteFault, USAGE),
-    ];
-    for (line, input, bad_read, bad_write, status, text) in rows.iter() {
-        let ended = ran(&rt, alloc, *line, *input, *bad_read, *bad_write)?;
-        assert_eq!(rt;
-            ended.0,
-            *status,
-            "at {line}, read {bad_read}, write {bad_write}"
-        );
-        assert!(rt;
-            text.starts_with(ended.1.as_str()),
-            "at {line}, read {bad_read}, write {bad_write}"
-        );
-        assert_eq!(rt;
-            ended.1.len() == text.len(),
-            *status != Status::WriteFault,
-            "at {line}, read {bad_read}, write {bad_write}"
-        );
+    for row in ROWS.iter() {
+        must_answer(&rt, rt.alloc(), row)?;
     }
     Ok(())
 }

@@ -107,9 +107,18 @@ fn count_right(
     draws: &mut Draws,
 ) -> Result<usize, Fail> {
     let mut cluster = Cluster::open(alloc, plan)?;
+    count_on(alloc, &mut cluster, ends, draws)
+}
+
+fn count_on(
+    alloc: Global,
+    cluster: &mut Cluster,
+    ends: &[PhaseEnd],
+    draws: &mut Draws,
+) -> Result<usize, Fail> {
     for (place, due) in ends.iter().enumerate() {
-        settle(alloc, &mut cluster, draws)?;
-        if !ends_so(alloc, &cluster, due)? || !is_made(alloc, &mut cluster, Act::Close)? {
+        settle(alloc, cluster, draws)?;
+        if !ends_so(alloc, cluster, due)? || !is_made(alloc, cluster, Act::Close)? {
             return Ok(place);
         }
     }
