@@ -1,6 +1,7 @@
 //! A board that is driven call by call. Each call stands in a function that promises nothing, so that no fact of a call
 //! follows a test around.
 
+use crate::same::same;
 use pm_agent::DeviceAgent;
 use pm_board::Board;
 use pm_device::{DeviceState, Kind, Next};
@@ -176,7 +177,7 @@ fn only_run(alloc: Global, plan: &Plan) -> Result<(Option<usize>, bool), Fail> {
 #[test]
 fn a_lone_load_has_one_run(rt: HostRuntime) -> Result<(), Fail> {
     let plan = read_scene(rt.alloc(), LONE_LOAD)?;
-    assert_eq!(rt; only_run(rt.alloc(), &plan)?, (None, true));
+    same(&rt, "run", only_run(rt.alloc(), &plan)?, (None, true));
     Ok(())
 }
 

@@ -9,3 +9,5 @@ mod board;
 mod cluster;
 #[cfg(test)]
 mod market;
+#[cfg(test)]
+mod same;

@@ -1,3 +1,4 @@
+use crate::same::same;
 use pm_market::{Act, Journal, Line, Move};
 use std::test::Fail;
 
@@ -133,9 +134,9 @@ fn a_journal_is_its_lines(rt: HostRuntime) -> Result<(), Fail> {
     assert!(rt; journal.is_empty());
     journal.reserve(1)?;
     journal.push(line)?;
-    assert_eq!(rt; journal.len(), 1);
-    assert!(rt; journal.get(0) == Some(line));
-    assert!(rt; journal.get(1).is_none());
+    same(&rt, "length", journal.len(), 1);
+    same(&rt, 0, journal.get(0), Some(line));
+    same(&rt, 1, journal.get(1), None);
     is_shared(&journal);
     is_shared(&line);
     is_shared(&Act::Clear);
@@ -147,36 +148,40 @@ fn a_journal_is_its_lines(rt: HostRuntime) -> Result<(), Fail> {
 fn a_price_of_a_former_membership_is_not_held(rt: HostRuntime) -> Result<(), Fail> {
     let mut market = market_of(rt.alloc(), &[(0, true, &[true, false, true])])?;
     is_shared(&market);
-    assert_eq!(rt; play(&mut market, &REJOINS)?, 6);
-    assert_eq!(rt; market.last_passed(1), 1);
-    assert_eq!(rt; market.cleared(1).get(1).copied(), Some(1));
-    assert!(rt; !market.holds_price(1));
-    assert_eq!(rt; play(&mut market, &ENDS)?, 4);
-    assert!(rt; market.holds_price(1));
-    assert!(rt; market.is_complete());
+    same(&rt, "rejoins", play(&mut market, &REJOINS)?, 6);
+    same(&rt, "passed", market.last_passed(1), 1);
+    let cleared = market.cleared(1).get(1).copied();
+    same(&rt, "cleared", cleared, Some(1));
+    same(&rt, "held before", market.holds_price(1), false);
+    same(&rt, "ends", play(&mut market, &ENDS)?, 4);
+    same(&rt, "held", market.holds_price(1), true);
+    same(&rt, "complete", market.is_complete(), true);
     Ok(())
 }
 
 /// Eight rounds of three moves are legal, then a change and a learning, and the ninth publishing is not: place 26, with
-/// one device of nine changes and with nine devices of one. A price of number 8 opens the window. Of two levels, 44
-/// moves fill both windows (8 rounds of 5, and two rounds of 2), and then the auctioneer alone moves.
+/// one device of nine changes and with nine devices of one. A price of number 8 opens the window.
 #[test]
 fn a_window_holds_eight_numbers(rt: HostRuntime) -> Result<(), Fail> {
     for devices in [1, 9] {
         let (mut market, moves) = nine_rounds(rt.alloc(), devices)?;
-        assert_eq!(rt; play(&mut market, &moves)?, 26);
-        assert_eq!(rt; play(&mut market, &OPENS)?, 4);
+        same(&rt, devices, play(&mut market, &moves)?, 26);
+        same(&rt, devices, play(&mut market, &OPENS)?, 4);
     }
+    Ok(())
+}
+
+/// Of two levels, 44 moves fill both windows (8 rounds of 5, and two rounds of 2), and then the auctioneer alone moves.
+#[test]
+fn two_windows_hold_eight_numbers_each(rt: HostRuntime) -> Result<(), Fail> {
     let (mut market, moves) = two_levels(rt.alloc())?;
-    assert_eq!(rt; play(&mut market, &moves)?, 44);
-    assert!(rt; !market.is_legal(Move::Publish { node: 2, number: 9 }));
-    assert!(rt; !market.is_legal(Move::Publish { node: 1, number: 9 }));
-    assert!(rt;
-        market.is_legal(Move::Learn {
-            child: 1,
-            number: 8
-        })
-    );
+    same(&rt, "fill", play(&mut market, &moves)?, 44);
+    let lower = market.is_legal(Move::Publish { node: 2, number: 9 });
+    let upper = market.is_legal(Move::Publish { node: 1, number: 9 });
+    same(&rt, "publish", (lower, upper), (false, false));
+    let (child, number) = (1, 8);
+    let learns = market.is_legal(Move::Learn { child, number });
+    same(&rt, "learn", learns, true);
     Ok(())
 }
 
@@ -198,7 +203,12 @@ fn every_journal_ends_complete_within_the_bound(rt: HostRuntime) -> Result<(), F
         (1, true, device),
         (1, true, device),
     ];
-    assert_eq!(rt; count_journals(rt.alloc(), &flat, 35)?, Some(88));
+    same(
+        &rt,
+        "flat",
+        count_journals(rt.alloc(), &flat, 35)?,
+        Some(88),
+    );
     assert!(rt; count_journals(rt.alloc(), &gathered, 37)?.is_some());
     Ok(())
 }
@@ -224,6 +234,6 @@ fn every_journal_of_four_changes_ends_complete_within_the_bound(
         (1, true, leaves),
     ];
     let longest = longest_journal(rt.alloc(), &nodes, 73, &paths)?;
-    assert_eq!(rt; longest, Some((31, 2)));
+    same(&rt, "longest", longest, Some((31, 2)));
     Ok(())
 }

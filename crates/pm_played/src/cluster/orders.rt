@@ -2,6 +2,7 @@
 
 use super::files::{BOTH_SIDES, CEILING, FLOOR, VILLAGE, plan_of};
 use super::hand::{End, act_at, act_count, close, ends_so, make, open};
+use crate::same::same;
 use pm_cluster::Cluster;
 use pm_market::Act;
 use pm_plan::Plan;
@@ -108,7 +109,7 @@ fn a_limited_part_keeps_to_its_limits_in_each_order(rt: HostRuntime) -> Result<(
         let plan = plan_of(alloc, *file)?;
         for order in ORDERS {
             let wrong = first_wrong(alloc, &plan, order, &[*end])?;
-            assert_eq!(rt; wrong, None, "part {part}, {order:?}");
+            same(&rt, (part, order), wrong, None);
         }
     }
     Ok(())
@@ -168,7 +169,7 @@ fn a_village_comes_to_its_ends_in_each_order(rt: HostRuntime) -> Result<(), Fail
     let plan = plan_of(alloc, VILLAGE)?;
     for order in ORDERS {
         let wrong = first_wrong(alloc, &plan, order, &VILLAGE_ENDS)?;
-        assert_eq!(rt; wrong, None, "{order:?}");
+        same(&rt, order, wrong, None);
     }
     Ok(())
 }

@@ -2,6 +2,7 @@
 
 use super::files::{BESIDE, LONE, NINE, NINE_CHANGES, REJOINS, TWO_BIDS, TWO_LEVELS, plan_of};
 use super::hand::{End, close, ends_so, held, line_of, make, next_node, rest, step};
+use crate::same::same;
 use pm_bid::Steps;
 use pm_cluster::{ApplyFault, Cluster};
 use pm_market::{Act, Journal};
@@ -215,7 +216,7 @@ fn scripts_have_their_answers(rt: HostRuntime) -> Result<(), Fail> {
     for (name, file, rows) in SCRIPTS.iter() {
         let plan = plan_of(alloc, *file)?;
         let wrong = first_wrong_after(alloc, &plan, &[], *rows)?;
-        assert_eq!(rt; wrong, None, "{name}");
+        same(&rt, *name, wrong, None);
     }
     Ok(())
 }
@@ -257,13 +258,14 @@ fn a_full_window_waits_for_a_price(rt: HostRuntime) -> Result<(), Fail> {
     let alloc = rt.alloc();
     let plan = plan_of(alloc, NINE_CHANGES)?;
     let mut acts = rounds(alloc, &[2; 9])?;
-    assert_eq!(rt; refused_at(alloc, &plan, &acts)?, Some(26));
+    same(&rt, "act", refused_at(alloc, &plan, &acts)?, Some(26));
     acts.pop();
     let journal = journal_of(alloc, &plan, &acts)?;
-    assert_eq!(rt; journal.len(), 26);
+    same(&rt, "length", journal.len(), 26);
     let last = line_of(Act::Learn { child: 2 }, 9, None);
-    assert!(rt; journal.get(25) == Some(last));
-    assert_eq!(rt; first_wrong_after(alloc, &plan, &acts, &OPENS)?, None);
+    same(&rt, "last", journal.get(25), Some(last));
+    let wrong = first_wrong_after(alloc, &plan, &acts, &OPENS)?;
+    same(&rt, "row", wrong, None);
     Ok(())
 }
 
@@ -273,7 +275,7 @@ fn nine_devices_share_one_window(rt: HostRuntime) -> Result<(), Fail> {
     let alloc = rt.alloc();
     let plan = plan_of(alloc, NINE)?;
     let acts = rounds(alloc, &[2, 3, 4, 5, 6, 7, 8, 9, 10])?;
-    assert_eq!(rt; refused_at(alloc, &plan, &acts)?, Some(26));
+    same(&rt, "act", refused_at(alloc, &plan, &acts)?, Some(26));
     Ok(())
 }
 
@@ -312,9 +314,7 @@ fn two_full_windows_come_to_rest(rt: HostRuntime) -> Result<(), Fail> {
     let alloc = rt.alloc();
     let plan = plan_of(alloc, TWO_LEVELS)?;
     let acts = filling(alloc)?;
-    assert_eq!(rt;
-        first_wrong_after(alloc, &plan, &acts, &COMES_TO_REST)?,
-        None
-    );
+    let wrong = first_wrong_after(alloc, &plan, &acts, &COMES_TO_REST)?;
+    same(&rt, "row", wrong, None);
     Ok(())
 }
