@@ -1,4 +1,4 @@
-ghost use Rattle.std.specs.Prelude.{◌≡◌, ◌↔◌, ◌⊎◌, ℕ, ◌∷◌, List, [], codes, decimal, IsTrue, IfOk, IfErr};
+ghost use Rattle.std.specs.Prelude.{◌≡◌, ◌↔◌, ℕ, ◌∷◌, List, [], codes, decimal, IsTrue, IfOk, IfErr};
 ghost use Rattle.pm_market.specs.State.{start};
 ghost use Rattle.pm_market.specs.Market.{market_state};
 ghost use Rattle.pm_plan.specs.Plans.{PlanData};

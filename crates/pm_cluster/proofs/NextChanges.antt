@@ -14,7 +14,7 @@ use Rattle.pm_device.specs.Kinds.{is_valid, state_fits, minutes_limit}
 use Rattle.pm_device.specs.declared.kind.Kind.{Kind}
 use Rattle.pm_device.proofs.Between.{Between, is_between-tells}
 use Rattle.pm_strategy.specs.Strategies.{bid_of}
-use Rattle.pm_market.specs.Lists.{nodes, IsNode, IsLeaf, end_count, changes}
+use Rattle.pm_market.specs.Lists.{nodes, IsLeaf, end_count, changes}
 use Rattle.pm_market.specs.Lists as market
 use Rattle.pm_market.specs.State.{State}
 use Rattle.pm_market.proofs.Tree.{leaf_node}
@@ -41,7 +41,7 @@ use Rattle.pm_plan.proofs.MarketLists.{lawful}
 use Rattle.pm_cluster.proofs.Parents as parents
 use Rattle.pm_cluster.proofs.Kept.{leaf_of_plan}
 use Rattle.pm_base.specs.Cuts.{Cut}
-use Rattle.pm_cluster.specs.Next.{count_of, HasNoNext, IsDue}
+use Rattle.pm_cluster.specs.Next.{count_of, HasNoNext, IsDueChange}
 
 -- what a cluster that stands for a state keeps of a device, in the words of the plan
 pub record KeepsDevice (plan : PlanData) (c : Core) (d : ℕ) : Type 0 where
@@ -138,12 +138,12 @@ state_next plan is_plan d n p kind kind_is from to =
     ∙ ap (λ (k : Kind). changed_state k (state plan d n) (power plan (state plan) (end_cut plan p) d) (change_at plan d n).what) has.kind_is
 
 -- the change that is due is the plan's after those that the device made, of which the plan has more
-pub due_inside : (plan : PlanData) (closed : ℕ) (counts : Cut) (d : ℕ) (what : Planned) → IsDue plan closed counts d what →
+pub due_inside : (plan : PlanData) (closed : ℕ) (counts : Cut) (d : ℕ) (what : Planned) → IsDueChange plan closed counts d what →
     counts d < change_count plan d
 due_inside plan closed counts d what due = omega (arith, due.of_phase, end-within plan (closed + 1) d)
 
 -- and it is that change
-pub due_is : (plan : PlanData) (closed : ℕ) (counts : Cut) (d : ℕ) (what : Planned) → IsDue plan closed counts d what →
+pub due_is : (plan : PlanData) (closed : ℕ) (counts : Cut) (d : ℕ) (what : Planned) → IsDueChange plan closed counts d what →
     what ≡ (change_at plan d (counts d)).what
 due_is plan closed counts d what due =
     let same : Some what ≡ Some (change_at plan d (counts d)).what =
@@ -211,15 +211,16 @@ has_kind plan is_plan d leaf =
     (has.0.kind, ap kind_of has.1)
 
 -- whether a device is a member after the change that is due, where that is what the change makes of it
-pub member_after_due : (plan : PlanData) (closed : ℕ) (counts : Cut) (d : ℕ) (what : Planned) → IsDue plan closed counts d what →
+pub member_after_due : (plan : PlanData) (closed : ℕ) (counts : Cut) (d : ℕ) (what : Planned) → IsDueChange plan closed counts d what →
     (member : Bool) → member ≡ member_after (is_member plan d (counts d)) what → member ≡ is_member plan d (counts d + 1)
 member_after_due plan closed counts d what due member is =
     is ∙ ap (member_after (is_member plan d (counts d))) (due_is plan closed counts d what due)
     ∙ member_next plan d (counts d) (due_inside plan closed counts d what due)
 
 -- the state of a device after the change that is due, where that is what the change makes of the state that is kept
-pub state_after_due : (plan : PlanData) → IsPlan plan → (c : Core) → ∥ Stands plan c ∥₁ → (d : ℕ) (what : Planned) → IsLeaf (plan_lists plan) d →
-    IsDue plan c.closed (count_of c) d what → (z : ℤ) → ((kind : Kind) → kind_of (node plan d) ≡ Some kind →
+pub state_after_due : (plan : PlanData) → IsPlan plan → (c : Core) → ∥ Stands plan c ∥₁ → (d : ℕ) (what : Planned) →
+    IsLeaf (plan_lists plan) d →
+    IsDueChange plan c.closed (count_of c) d what → (z : ℤ) → ((kind : Kind) → kind_of (node plan d) ≡ Some kind →
     z ≡ changed_state kind (slice_index_or c.states d (pos 0)) (power plan (state plan) (end_cut plan c.closed) d) what) →
     z ≡ state plan d (count_of c d + 1)
 state_after_due plan is_plan c stands d what leaf due z is =

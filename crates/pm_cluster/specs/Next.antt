@@ -18,7 +18,7 @@ HasNoNext plan closed counts d = (phases plan ≤ closed) ⊎ (counts d ≡ end_
 
 -- the change that a device makes next: a phase is open, the device made fewer changes than it has up to the end of that phase,
 -- and the plan's change after those that it made is this one
-pub record IsDue (plan : PlanData) (closed : ℕ) (counts : Cut) (d : ℕ) (what : Planned) : Type 0 where
+pub record IsDueChange (plan : PlanData) (closed : ℕ) (counts : Cut) (d : ℕ) (what : Planned) : Type 0 where
   pub open_phase : closed < phases plan
   pub of_phase : counts d < end_cut plan (closed + 1) d
   pub planned : planned plan d (counts d + 1) ≡ Some what

@@ -1,6 +1,6 @@
-ghost use Rattle.std.specs.Prelude.{◌≡◌, ℕ, ◌+◌, ◌<◌, ◌≤◌, if◌then◌else◌, [], length, map, Ok, Some, None, IfOk, IfErr, IfSome};
+ghost use Rattle.std.specs.Prelude.{◌≡◌, ◌+◌, ◌<◌, ◌≤◌, if◌then◌else◌, [], length, Ok, Some, None, IfOk, IfErr, IfSome};
 ghost use Rattle.std.specs.Prelude.{MatchOption};
-ghost use Rattle.pm_market.specs.Lists.{nodes, is_leaf, IsLeaf};
+ghost use Rattle.pm_market.specs.Lists.{nodes, is_leaf};
 ghost use Rattle.pm_market.specs.State.{State, start};
 ghost use Rattle.pm_market.specs.Moves.{act_of};
 ghost use Rattle.pm_plan.specs.Market.{plan_lists};

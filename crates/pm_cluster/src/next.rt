@@ -1,13 +1,13 @@
 //! The next change of a device, and what it makes of the device.
 
-ghost use Rattle.std.specs.Prelude.{◌≡◌, ℕ, ◌+◌, MatchOption};
+ghost use Rattle.std.specs.Prelude.{◌≡◌, ◌+◌, MatchOption};
 ghost use Rattle.pm_market.specs.Lists.{IsLeaf};
 ghost use Rattle.pm_plan.specs.Market.{plan_lists};
 ghost use Rattle.pm_plan.specs.Plans.{end_cut, is_member};
 ghost use Rattle.pm_plan.specs.Auction.{power};
 ghost use Rattle.pm_plan.specs.States.{state};
 ghost use Rattle.pm_plan.specs.declared.planned.Planned.{Planned};
-ghost use Rattle.pm_cluster.specs.Next.{count_of, HasNoNext, IsDue, IsNext};
+ghost use Rattle.pm_cluster.specs.Next.{count_of, HasNoNext, IsDueChange, IsNext};
 
 use crate::cluster::Cluster;
 use pm_device::{DeviceState, Next, advance};
@@ -37,7 +37,7 @@ impl<'p> Cluster<'p> {
     fn due_change(&self, device: NodeId) -> Option<Planned>
         requires leaf { IsLeaf (plan_lists self.now.plan) device.0 }
         ensures due { MatchOption result (HasNoNext self.now.plan self.now.core.closed (count_of self.now.core) device.0)
-            (IsDue self.now.plan self.now.core.closed (count_of self.now.core) device.0) }
+            (IsDueChange self.now.plan self.now.core.closed (count_of self.now.core) device.0) }
     {
         let at = device.0 as usize;
         let count = self.counts[at];
@@ -50,7 +50,7 @@ impl<'p> Cluster<'p> {
     /// Whether a device is a member after its next change.
     fn member_after(&self, device: NodeId, what: Planned) -> bool
         requires leaf { IsLeaf (plan_lists self.now.plan) device.0 }
-        requires due { IsDue self.now.plan self.now.core.closed (count_of self.now.core) device.0 what }
+        requires due { IsDueChange self.now.plan self.now.core.closed (count_of self.now.core) device.0 what }
         ensures member { result ≡ is_member self.now.plan device.0 (count_of self.now.core device.0 + 1) }
     {
         match what {
@@ -63,7 +63,7 @@ impl<'p> Cluster<'p> {
     /// The state of a device after its next change.
     fn state_after(&self, device: NodeId, what: Planned) -> DeviceState
         requires leaf { IsLeaf (plan_lists self.now.plan) device.0 }
-        requires due { IsDue self.now.plan self.now.core.closed (count_of self.now.core) device.0 what }
+        requires due { IsDueChange self.now.plan self.now.core.closed (count_of self.now.core) device.0 what }
         ensures state { result.0 ≡ state self.now.plan device.0 (count_of self.now.core device.0 + 1) }
     {
         match what {
@@ -76,7 +76,7 @@ impl<'p> Cluster<'p> {
     /// The state of a device after its next change, which is a tick of so many minutes.
     fn state_after_tick(&self, device: NodeId, minutes: i64) -> DeviceState
         requires leaf { IsLeaf (plan_lists self.now.plan) device.0 }
-        requires due { IsDue self.now.plan self.now.core.closed (count_of self.now.core) device.0 (Planned.Tick minutes) }
+        requires due { IsDueChange self.now.plan self.now.core.closed (count_of self.now.core) device.0 (Planned.Tick minutes) }
         ensures state { result.0 ≡ state self.now.plan device.0 (count_of self.now.core device.0 + 1) }
     {
         let kind = self.plan.kind(device);

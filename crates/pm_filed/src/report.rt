@@ -1,6 +1,4 @@
-ghost use Rattle.std.specs.Prelude.{◌≡◌, All, IfOk, IsTrue, map};
-ghost use Rattle.pm_tree.specs.Entries.{entries_of, leaves_of};
-ghost use Rattle.pm_plan.specs.Parts.{is_device, node_part};
+ghost use Rattle.std.specs.Prelude.{◌≡◌, All, IfOk, IsTrue};
 ghost use Rattle.pm_report.specs.Report.{IsEndOf, ends_of};
 ghost use Rattle.pm_report.specs.Trace.{IsLineOf};
 

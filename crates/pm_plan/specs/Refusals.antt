@@ -1,5 +1,5 @@
 -- Step by step: a value, or the first refusal.
-use Rattle.std.specs.Prelude.{◌≡◌, ℕ, [], Bool, true, false, Option, Some, None, Result, Ok, Err, ⊤}
+use Rattle.std.specs.Prelude.{◌≡◌, ℕ, Bool, true, false, Option, Some, None, Result, Ok, Err, ⊤}
 use Rattle.pm_base.specs.Outcomes.{Refuses}
 use Rattle.pm_plan.specs.Causes.{cause_code}
 use Rattle.pm_plan.specs.declared.refusal.Cause.{Cause}

@@ -1,4 +1,5 @@
 use super::{StdSink, StdSource};
+use crate::tests::same;
 use crate::{Failed, Sink, Source, read_all, write_all};
 use std::io;
 use std::io::{ErrorKind, Read, Write};
@@ -10,15 +11,13 @@ fn the_bytes_are_those_of_the_reader(rt: HostRuntime) -> Result<(), Fail> {
     let text = b"balance".as_slice();
     let mut source = StdSource::new(text);
     let mut piece = [0; 3];
-    assert_eq!(rt; source.read(&mut piece), Ok(3));
-    assert_eq!(rt; piece.as_slice(), b"bal".as_slice());
-    assert_eq!(rt; source.read(&mut piece), Ok(3));
-    assert_eq!(rt; piece.as_slice(), b"anc".as_slice());
-    assert_eq!(rt; source.read(&mut piece), Ok(1));
-    assert_eq!(rt; piece[0], b'e');
-    assert_eq!(rt; source.read(&mut piece), Ok(0));
+    let pieces: [&[u8]; 4] = [b"bal", b"anc", b"e", b""];
+    for bytes in pieces {
+        same(&rt, bytes, source.read(&mut piece), Ok(bytes.len()));
+        same(&rt, bytes, piece.starts_with(bytes), true);
+    }
     let read = read_all(rt.alloc(), &mut StdSource::new(text), 10)?;
-    assert_eq!(rt; read.as_slice(), text);
+    same(&rt, "all", read.as_slice(), text);
     Ok(())
 }
 
@@ -26,9 +25,10 @@ fn the_bytes_are_those_of_the_reader(rt: HostRuntime) -> Result<(), Fail> {
 #[test]
 fn the_writer_gets_the_bytes(rt: HostRuntime) -> Result<(), Fail> {
     let mut sink = StdSink::new(Vec::new(rt.alloc()));
-    assert_eq!(rt; sink.write(b"bal"), Ok(3));
-    assert_eq!(rt; write_all(&mut sink, b"ance"), Ok(()));
-    assert_eq!(rt; sink.writer.as_slice(), b"balance".as_slice());
+    same(&rt, "first", sink.write(b"bal"), Ok(3));
+    same(&rt, "rest", write_all(&mut sink, b"ance"), Ok(()));
+    let written = sink.writer.as_slice();
+    same(&rt, "written", written, b"balance".as_slice());
     Ok(())
 }
 
@@ -79,8 +79,8 @@ fn an_error_of_the_reader_counts_one(rt: HostRuntime) {
         (Ok(1), 1),
     ];
     for (answer, faults) in calls {
-        assert_eq!(rt; source.read(&mut piece), answer);
-        assert_eq!(rt; source.faults, faults);
+        same(&rt, faults, source.read(&mut piece), answer);
+        same(&rt, answer, source.faults, faults);
     }
 }
 
@@ -97,9 +97,9 @@ fn an_error_of_the_writer_counts_one(rt: HostRuntime) {
         (Ok(1), 2),
     ];
     for (answer, faults) in calls {
-        assert_eq!(rt; sink.write(b"abc"), answer);
-        assert_eq!(rt; sink.faults, faults);
+        same(&rt, faults, sink.write(b"abc"), answer);
+        same(&rt, answer, sink.faults, faults);
     }
-    assert_eq!(rt; sink.write(b""), Ok(0));
-    assert_eq!(rt; sink.faults, 2);
+    same(&rt, "empty", sink.write(b""), Ok(0));
+    same(&rt, "faults", sink.faults, 2);
 }

@@ -6,7 +6,7 @@ use Rattle.pm_plan.proofs.Ends.{end-within}
 use Rattle.pm_walk.proofs.Devices.{planned-is}
 use Rattle.pm_cluster.specs.Clusters.{ClusterValue}
 use Rattle.pm_cluster.specs.ClusterFields.{core_of}
-use Rattle.pm_cluster.specs.Next.{HasNoNext, IsDue, count_of}
+use Rattle.pm_cluster.specs.Next.{HasNoNext, IsDueChange, count_of}
 use Rattle.pm_cluster.proofs.Kept.{leaf_in, leaf_of_plan}
 use Rattle.pm_cluster.proofs.NextChanges.{keeps_device, no_next}
 use Rattle.pm_cluster.proofs.DeviceFields.{placed, count_read, due_read}
@@ -63,9 +63,9 @@ returns c =
     let inside : n < change_count plan d = omega (arith, below, end-within plan (c.self.inside.closed + 1) d) in
     let found = c.planned.ensures ∙ planned-is plan d n inside in
     let Claim : ClusterValue → Type 0 =
-    λ v. MatchOption c.planned.result (HasNoNext v.plan v.core.closed (count_of v.core) d) (IsDue v.plan v.core.closed (count_of v.core) d) in
+    λ v. MatchOption c.planned.result (HasNoNext v.plan v.core.closed (count_of v.core) d) (IsDueChange v.plan v.core.closed (count_of v.core) d) in
     let Found : Option Planned → Type 0 = λ found. MatchOption found (HasNoNext plan c.self.inside.closed (count_of (core_of c.self.inside)) d)
-    (IsDue plan c.self.inside.closed (count_of (core_of c.self.inside)) d) in
+    (IsDueChange plan c.self.inside.closed (count_of (core_of c.self.inside)) d) in
     record {
       due = subst Claim c.self.view_is (subst Found (sym found) (record {
         open_phase = omega (arith, open_phase, c.phases.ensures.phases);

@@ -13,7 +13,7 @@ use Rattle.pm_plan.specs.Plans.{NodeData, node, kind_of, end_cut}
 use Rattle.pm_plan.specs.States.{state}
 use Rattle.pm_cluster.specs.Clusters.{ClusterValue}
 use Rattle.pm_cluster.specs.ClusterFields.{core_of}
-use Rattle.pm_cluster.specs.Next.{IsDue, count_of}
+use Rattle.pm_cluster.specs.Next.{IsDueChange, count_of}
 use Rattle.pm_cluster.proofs.Kept.{leaf_in}
 use Rattle.pm_cluster.proofs.NextChanges.{keeps_device, kind_valid, state_valid, power_valid, minutes_valid, due_inside, due_is}
 use Rattle.pm_cluster.proofs.DeviceFields.{state_read, state_made, due_in}
@@ -23,13 +23,14 @@ use Rattle.pm_cluster.proofs.cluster.Cluster.state_after_tick.Goals.{After-power
 -- what was read and found before the tick, in the fields' words
 record Ticks (c : After-power_before) : Type 0 where
   -- the change that is due
-  due : IsDue c.self.inside.plan.now c.self.inside.closed (count_of (core_of c.self.inside)) c.args.device.0 (Tick c.args.minutes)
+  due : IsDueChange c.self.inside.plan.now c.self.inside.closed (count_of (core_of c.self.inside)) c.args.device.0 (Tick c.args.minutes)
   -- the state before
   before : c.index-before.result.now.0 ≡ slice_index_or (core_of c.self.inside).states c.args.device.0 (pos 0)
   -- that state by the plan
   has_state : c.index-before.result.now.0 ≡ state c.self.inside.plan.now c.args.device.0 (count_of (core_of c.self.inside) c.args.device.0)
   -- the power before
-  power : c.power_before.result ≡ power c.self.inside.plan.now (state c.self.inside.plan.now) (end_cut c.self.inside.plan.now c.self.inside.closed) c.args.device.0
+  power : c.power_before.result ≡ power c.self.inside.plan.now (state c.self.inside.plan.now)
+      (end_cut c.self.inside.plan.now c.self.inside.closed) c.args.device.0
   -- the limits of that power
   power_within : IsWithin demand_limit c.power_before.result
   -- the limits of the minutes
