@@ -68,8 +68,17 @@ fn first_wrong(
     ends: &[End],
 ) -> Result<Option<usize>, Fail> {
     let mut cluster = open(alloc, plan)?;
+    first_wrong_of(alloc, &mut cluster, order, ends)
+}
+
+fn first_wrong_of(
+    alloc: Global,
+    cluster: &mut Cluster,
+    order: Order,
+    ends: &[End],
+) -> Result<Option<usize>, Fail> {
     for (place, due) in ends.iter().enumerate() {
-        if !runs_phase(alloc, &mut cluster, order, *due)? {
+        if !runs_phase(alloc, cluster, order, *due)? {
             return Ok(Some(place));
         }
     }

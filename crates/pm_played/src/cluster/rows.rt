@@ -9,6 +9,7 @@ use pm_market::{Act, Journal};
 use pm_plan::Plan;
 use std::alloc::Global;
 use std::marker::Brand;
+use std::process::Abort;
 use std::test::Fail;
 
 /// A row of a script.
@@ -255,17 +256,25 @@ const OPENS: [Row; 6] = [
 /// After eight numbers that no price answered the ninth waits for a price.
 #[test]
 fn a_full_window_waits_for_a_price(rt: HostRuntime) -> Result<(), Fail> {
-    let alloc = rt.alloc();
-    let plan = plan_of(alloc, NINE_CHANGES)?;
+    let plan = plan_of(rt.alloc(), NINE_CHANGES)?;
+    window_waits(&rt, rt.alloc(), &plan)
+}
+
+fn window_waits<R: Abort>(rt: &R, alloc: Global, plan: &Plan) -> Result<(), Fail> {
     let mut acts = rounds(alloc, &[2; 9])?;
-    same(&rt, "act", refused_at(alloc, &plan, &acts)?, Some(26));
+    let refused = refused_at(alloc, plan, &acts)?;
+    same(rt, "act", refused, Some(26));
     acts.pop();
-    let journal = journal_of(alloc, &plan, &acts)?;
-    same(&rt, "length", journal.len(), 26);
+    window_is_full(rt, alloc, plan, &acts)
+}
+
+fn window_is_full<R: Abort>(rt: &R, alloc: Global, plan: &Plan, acts: &[Act]) -> Result<(), Fail> {
+    let wrong = first_wrong_after(alloc, plan, acts, &OPENS)?;
+    same(rt, "row", wrong, None);
+    let journal = journal_of(alloc, plan, acts)?;
+    same(rt, "length", journal.len(), 26);
     let last = line_of(Act::Learn { child: 2 }, 9, None);
-    same(&rt, "last", journal.get(25), Some(last));
-    let wrong = first_wrong_after(alloc, &plan, &acts, &OPENS)?;
-    same(&rt, "row", wrong, None);
+    same(rt, "last", journal.get(25), Some(last));
     Ok(())
 }
 
