@@ -14,6 +14,7 @@ time between two files is the time of the later one. What the names say:
     specs.S     definitions of specs/S.antt, and contracts
 
 A long run is proved by copies of the prover, some functions at a time; what begins a copy stands at the module that comes first.
+So compare seconds of one run, and check what is dear alone: `python3 bench/profile.py CRATE --only PATH`.
 With the word --test the tests of the crate are proved as well. The libraries below must have been checked once.
 """
 
@@ -32,6 +33,8 @@ KINDS = ("Proof", "Answers", "Lts", "Tie", "Goals", "Reads", "Kinds", "Mir", "Co
 def module_of(crate, path):
     """The name of the module that a kept file has, without what all names of the crate share."""
     name = path.name.removesuffix(".oantt").removesuffix(".decls")
+    if name == f"Rattle-{crate}":
+        return "(before the first)"
     for start, mark in ((f"Rattle-{crate}-proofs.", ""), (f"Rattle-{crate}-specs.", "specs."), (f"Rattle-{crate}.", "")):
         if name.startswith(start):
             return mark + name[len(start) :]
@@ -53,10 +56,11 @@ def main():
         print(__doc__.strip())
         return 2
     crate, words = sys.argv[1], sys.argv[2:]
-    kept = TOP / "crates" / crate / "out" / "incremental"
+    folder = TOP / "crates" / crate
+    kept = folder / "out" / "incremental"
     shutil.rmtree(kept, ignore_errors=True)
     began = time.time()
-    check = subprocess.run(["rt", "check", crate, "--jobs", "1", *words], cwd=TOP, stdout=subprocess.DEVNULL)
+    check = subprocess.run(["rt", "check", "--jobs", "1", *words], cwd=folder, stdout=subprocess.DEVNULL)
     found = seconds_of(crate, kept, began)
     sums = defaultdict(float)
     for module, spent in found.items():
