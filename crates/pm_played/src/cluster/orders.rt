@@ -7,6 +7,7 @@ use pm_cluster::Cluster;
 use pm_market::Act;
 use pm_plan::Plan;
 use std::alloc::Global;
+use std::process::Abort;
 use std::test::Fail;
 
 /// Whose acts are made first: those of the lowest node that has one, of the highest, or of each node in turn.
@@ -111,15 +112,36 @@ const PARTS: [(&str, End); 3] = [
     ),
 ];
 
+/// The phases of a plan have these ends in each order; the part is named where one has not.
+fn ends_are<R: Abort>(
+    rt: &R,
+    alloc: Global,
+    part: usize,
+    plan: &Plan,
+    ends: &[End],
+) -> Result<(), Fail> {
+    for order in ORDERS {
+        let wrong = first_wrong(alloc, plan, order, ends)?;
+        same(rt, (part, order), wrong, None);
+    }
+    Ok(())
+}
+
+fn ends_of_file_are<R: Abort>(
+    rt: &R,
+    alloc: Global,
+    part: usize,
+    file: &str,
+    ends: &[End],
+) -> Result<(), Fail> {
+    let plan = plan_of(alloc, file)?;
+    ends_are(rt, alloc, part, &plan, ends)
+}
+
 #[test]
 fn a_limited_part_keeps_to_its_limits_in_each_order(rt: HostRuntime) -> Result<(), Fail> {
-    let alloc = rt.alloc();
     for (part, (file, end)) in PARTS.iter().enumerate() {
-        let plan = plan_of(alloc, *file)?;
-        for order in ORDERS {
-            let wrong = first_wrong(alloc, &plan, order, &[*end])?;
-            same(&rt, (part, order), wrong, None);
-        }
+        ends_of_file_are(&rt, rt.alloc(), part, *file, &[*end])?;
     }
     Ok(())
 }
@@ -174,11 +196,5 @@ const VILLAGE_ENDS: [End; 5] = [
 
 #[test]
 fn a_village_comes_to_its_ends_in_each_order(rt: HostRuntime) -> Result<(), Fail> {
-    let alloc = rt.alloc();
-    let plan = plan_of(alloc, VILLAGE)?;
-    for order in ORDERS {
-        let wrong = first_wrong(alloc, &plan, order, &VILLAGE_ENDS)?;
-        same(&rt, order, wrong, None);
-    }
-    Ok(())
+    ends_of_file_are(&rt, rt.alloc(), 0, VILLAGE, &VILLAGE_ENDS)
 }

@@ -114,19 +114,23 @@ fn refuses_all(alloc: Global, cluster: &mut Cluster) -> Result<bool, Fail> {
     Ok(taken.is_none() && ends_so(alloc, cluster, ONE_MEMBER)?)
 }
 
-fn makes_only_the_next(alloc: Global, plan: &Plan) -> Result<bool, Fail> {
-    let mut cluster = open(alloc, plan)?;
+fn makes_only_the_next(alloc: Global, cluster: &mut Cluster) -> Result<bool, Fail> {
     Ok(
-        refuses_others(alloc, &mut cluster)?
-            && is_made_once(alloc, &mut cluster)?
-            && refuses_all(alloc, &mut cluster)?,
+        refuses_others(alloc, cluster)?
+            && is_made_once(alloc, cluster)?
+            && refuses_all(alloc, cluster)?,
     )
+}
+
+fn next_alone_is_made(alloc: Global, plan: &Plan) -> Result<bool, Fail> {
+    let mut cluster = open(alloc, plan)?;
+    makes_only_the_next(alloc, &mut cluster)
 }
 
 #[test]
 fn only_the_next_change_is_made(rt: HostRuntime) -> Result<(), Fail> {
     let plan = plan_of(rt.alloc(), LONE)?;
-    assert!(rt; makes_only_the_next(rt.alloc(), &plan)?);
+    assert!(rt; next_alone_is_made(rt.alloc(), &plan)?);
     Ok(())
 }
 
@@ -188,14 +192,18 @@ fn is_over(cluster: &mut Cluster) -> Result<bool, Fail> {
     )
 }
 
+fn makes_the_journal(alloc: Global, cluster: &mut Cluster) -> Result<bool, Fail> {
+    Ok(
+        no_steps(cluster)?
+            && first_wrong(alloc, cluster)?.is_none()
+            && others_are_illegal(alloc, cluster, Act::Close)?
+            && is_over(cluster)?,
+    )
+}
+
 fn has_one_journal(alloc: Global, plan: &Plan) -> Result<bool, Fail> {
     let mut cluster = open(alloc, plan)?;
-    Ok(
-        no_steps(&mut cluster)?
-            && first_wrong(alloc, &mut cluster)?.is_none()
-            && others_are_illegal(alloc, &mut cluster, Act::Close)?
-            && is_over(&mut cluster)?,
-    )
+    makes_the_journal(alloc, &mut cluster)
 }
 
 #[test]
@@ -207,15 +215,19 @@ fn every_other_act_is_illegal(rt: HostRuntime) -> Result<(), Fail> {
 
 fn may_be_shared<T: Send + Sync>(_value: &T) {}
 
+fn cluster_may_be_shared(alloc: Global, plan: &Plan) -> Result<(), Fail> {
+    may_be_shared(&open(alloc, plan)?);
+    Ok(())
+}
+
 /// Clusters and faults may be sent to threads and shared by them: it is proved here.
 #[test]
 fn clusters_may_be_shared(rt: HostRuntime) -> Result<(), Fail> {
-    let plan = plan_of(rt.alloc(), LONE)?;
-    may_be_shared(&open(rt.alloc(), &plan)?);
     may_be_shared(&(
         ActFault::Illegal,
         ApplyFault::NoMemory,
         ChangeFault::NoMemory,
     ));
-    Ok(())
+    let plan = plan_of(rt.alloc(), LONE)?;
+    cluster_may_be_shared(rt.alloc(), &plan)
 }

@@ -211,12 +211,16 @@ fn first_wrong_after(
     first_wrong(alloc, &mut cluster, rows)
 }
 
+/// The place of the first row that is wrong on a new cluster of this file.
+fn first_wrong_in(alloc: Global, file: &str, rows: &[Row]) -> Result<Option<usize>, Fail> {
+    let plan = plan_of(alloc, file)?;
+    first_wrong_after(alloc, &plan, &[], rows)
+}
+
 #[test]
 fn scripts_have_their_answers(rt: HostRuntime) -> Result<(), Fail> {
-    let alloc = rt.alloc();
     for (name, file, rows) in SCRIPTS.iter() {
-        let plan = plan_of(alloc, *file)?;
-        let wrong = first_wrong_after(alloc, &plan, &[], *rows)?;
+        let wrong = first_wrong_in(rt.alloc(), *file, *rows)?;
         same(&rt, *name, wrong, None);
     }
     Ok(())
@@ -281,11 +285,16 @@ fn window_is_full<R: Abort>(rt: &R, alloc: Global, plan: &Plan, acts: &[Act]) ->
 /// The window counts the concentrator's numbers, and not those of each child.
 #[test]
 fn nine_devices_share_one_window(rt: HostRuntime) -> Result<(), Fail> {
-    let alloc = rt.alloc();
-    let plan = plan_of(alloc, NINE)?;
-    let acts = rounds(alloc, &[2, 3, 4, 5, 6, 7, 8, 9, 10])?;
-    same(&rt, "act", refused_at(alloc, &plan, &acts)?, Some(26));
+    let plan = plan_of(rt.alloc(), NINE)?;
+    let refused = refused_of_nine(rt.alloc(), &plan)?;
+    same(&rt, "act", refused, Some(26));
     Ok(())
+}
+
+/// The place of the first act that is illegal, where each of nine devices is heard of in turn.
+fn refused_of_nine(alloc: Global, plan: &Plan) -> Result<Option<usize>, Fail> {
+    let acts = rounds(alloc, &[2, 3, 4, 5, 6, 7, 8, 9, 10])?;
+    refused_at(alloc, plan, &acts)
 }
 
 /// Fills both windows, and lets each concentrator learn one bid more.
@@ -320,10 +329,13 @@ const COMES_TO_REST: [Row; 7] = [
 /// The auctioneer has a move, and from it on all comes to rest.
 #[test]
 fn two_full_windows_come_to_rest(rt: HostRuntime) -> Result<(), Fail> {
-    let alloc = rt.alloc();
-    let plan = plan_of(alloc, TWO_LEVELS)?;
-    let acts = filling(alloc)?;
-    let wrong = first_wrong_after(alloc, &plan, &acts, &COMES_TO_REST)?;
+    let plan = plan_of(rt.alloc(), TWO_LEVELS)?;
+    let wrong = first_wrong_when_full(rt.alloc(), &plan)?;
     same(&rt, "row", wrong, None);
     Ok(())
+}
+
+fn first_wrong_when_full(alloc: Global, plan: &Plan) -> Result<Option<usize>, Fail> {
+    let acts = filling(alloc)?;
+    first_wrong_after(alloc, plan, &acts, &COMES_TO_REST)
 }
