@@ -1,9 +1,9 @@
 //! Runs over links without a lock.
 
-use crate::runs::{REJOINS, TWO_BIDS, are_right};
+use crate::runs::{LOOKS, REJOINS, TWO_BIDS, are_right, meeting};
 use pm_board::Board;
 use pm_free::{FreeRun, run_free, settle_free};
-use pm_gates::{DrawingGate, MeetingGate, Moment, TellingGate};
+use pm_gates::{DrawingGate, Moment};
 use pm_gen::make_plan;
 use pm_plan::{PhaseEnd, Plan};
 use pm_runner::{Gate, OpenGate};
@@ -28,11 +28,7 @@ fn turns_meet<R: Threads + Wait + Sync + Abort>(
     alloc: Global,
     plan: &Plan,
 ) -> Result<(), Fail> {
-    let gate = TellingGate::new(
-        rt,
-        alloc,
-        MeetingGate::new((1, 2), Moment::Turn, 20_000_000),
-    );
+    let gate = meeting(rt, alloc, Moment::Turn, LOOKS);
     let ends = settle_free(rt, alloc, plan, &gate)?;
     assert_eq!(rt; gate.gate().met(), 2);
     assert!(rt; gate.into_lines().is_empty());

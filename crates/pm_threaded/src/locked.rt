@@ -1,8 +1,8 @@
 //! Runs over one board behind a lock.
 
-use crate::runs::{REJOINS, TWO_BIDS, are_right, holding};
+use crate::runs::{LOOKS, REJOINS, TWO_BIDS, are_right, holding, meeting};
 use pm_board::Board;
-use pm_gates::{DrawingGate, MeetingGate, Moment, TellingGate};
+use pm_gates::{DrawingGate, Moment};
 use pm_gen::make_plan;
 use pm_market::{Journal, Line};
 use pm_plan::{MemberLine, PhaseEnd, Plan};
@@ -69,11 +69,7 @@ fn lines_meet<R: Threads + Wait + Sync + Abort>(
     alloc: Global,
     plan: &Plan,
 ) -> Result<(), Fail> {
-    let gate = TellingGate::new(
-        rt,
-        alloc,
-        MeetingGate::new((1, 2), Moment::Line, 20_000_000),
-    );
+    let gate = meeting(rt, alloc, Moment::Line, LOOKS);
     let board = settle(rt, alloc, plan, &gate)?;
     assert_eq!(rt; gate.gate().met(), 2);
     assert!(rt; are_told(&gate.into_lines(), board.journal()));
@@ -104,7 +100,7 @@ fn one_begins<R: Threads + Wait + Sync + Abort>(
     plan: &Plan,
     by_threads: bool,
 ) -> Result<bool, Fail> {
-    let gate = TellingGate::new(rt, alloc, MeetingGate::new((1, 2), Moment::Line, 1000));
+    let gate = meeting(rt, alloc, Moment::Line, 1000);
     let board = made_alone(rt, alloc, plan, &gate, by_threads)?;
     assert_eq!(rt; gate.gate().met(), 1);
     assert!(rt; are_told(&gate.into_lines(), board.journal()));

@@ -1,9 +1,10 @@
 //! The files that are run, and what is due of a run.
 
-use pm_gates::HoldingGate;
+use pm_gates::{HoldingGate, MeetingGate, Moment, TellingGate};
 use pm_plan::{PhaseEnd, Plan};
 use pm_walk::all_ends;
 use std::alloc::{AllocError, Global};
+use std::sync::Wait;
 use std::test::Fail;
 
 /// A load of 100 at all steps, and a generator of 150 from step 4.
@@ -56,4 +57,17 @@ pub(crate) fn holding(alloc: Global, divisor: u32, rest: u32) -> Result<HoldingG
         })?;
     }
     Ok(HoldingGate::new(yields))
+}
+
+/// How often a node looks for the other at most.
+pub(crate) const LOOKS: u32 = 20_000_000;
+
+/// A gate under which the nodes 1 and 2 meet at this moment, and which keeps what it is told.
+pub(crate) fn meeting<R: Wait + Sync>(
+    rt: &R,
+    alloc: Global,
+    moment: Moment,
+    looks: u32,
+) -> TellingGate<'_, R, MeetingGate> {
+    TellingGate::new(rt, alloc, MeetingGate::new((1, 2), moment, looks))
 }
