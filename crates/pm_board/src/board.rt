@@ -26,7 +26,6 @@ use std::marker::Model;
 /// A cluster that runs a plan, with the journal of its moves and the ends of its closed phases.
 ///
 /// Contracts see it as the plan, the lines and the ends; what they say of the market is over the state after the lines.
-#[derive(Drop)]
 pub struct Board<'p> {
     pub(crate) cluster: Cluster<'p>,
     pub(crate) journal: Journal,
@@ -48,6 +47,17 @@ impl<'p> Model for Board<'p> {
     } };
 
     ghost invariant = { λ b. IsBoard b.cluster.plan b.cluster.core b.journal b.ends.items };
+}
+
+/// Its owner lets go of it in one step, where a derived drop would be one for each part.
+impl Drop for Board<'_> {
+    fn drop(self) {
+        let Board {
+            cluster: _,
+            journal: _,
+            ends: _,
+        } = self;
+    }
 }
 
 impl<'p> Board<'p> {

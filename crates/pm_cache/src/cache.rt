@@ -16,7 +16,6 @@ use std::sync::ledger::Ledger;
 /// Contracts see it as its entries: for each child the head of its newest bid and the demand in
 /// watts at each step, all zeros where the child is gone. Children count from 0. The last
 /// parameter of each call that touches demands is the counter of touched elements.
-#[derive(Drop)]
 pub struct BidCache {
     heads: Vec<BidHead>,
     demands: Vec<ArrayBid>,
@@ -35,6 +34,17 @@ impl Model for BidCache {
     ghost view = { cache_of };
 
     ghost invariant = { KeepsSum };
+}
+
+/// Its owner lets go of it in one step, where a derived drop would be one for each part.
+impl Drop for BidCache {
+    fn drop(self) {
+        let BidCache {
+            heads: _,
+            demands: _,
+            aggregate: _,
+        } = self;
+    }
 }
 
 impl BidCache {

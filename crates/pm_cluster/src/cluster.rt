@@ -15,7 +15,6 @@ use std::marker::Model;
 /// A cluster that runs a plan.
 ///
 /// Its type keeps that there is a state of the market of cuts that it stands for.
-#[derive(Drop)]
 pub struct Cluster<'p> {
     pub(crate) plan: &'p Plan,
     /// By the node: of a device how many changes it made, its state, and whether it is a member.
@@ -46,6 +45,26 @@ impl<'p> Model for Cluster<'p> {
     ghost view = { cluster_of };
 
     ghost invariant = { AreClusterFields };
+}
+
+/// Its owner lets go of it in one step, where a derived drop would be one for each part.
+impl Drop for Cluster<'_> {
+    fn drop(self) {
+        let Cluster {
+            plan: _,
+            counts: _,
+            states: _,
+            members: _,
+            due: _,
+            powers: _,
+            closed: _,
+            links: _,
+            concentrators: _,
+            auctioneer: _,
+            ports: _,
+            spare: _,
+        } = self;
+    }
 }
 
 impl<'p> Cluster<'p> {

@@ -25,7 +25,6 @@ use std::marker::{Brand, Model};
 ///
 /// Contracts see the entries of its children (see [`BidCache`]), the records of what it published
 /// (see [`Window`]), and its limits where it has some.
-#[derive(Drop)]
 pub struct Concentrator {
     cache: BidCache,
     window: Window,
@@ -42,6 +41,17 @@ impl Model for Concentrator {
     ghost view = { gathered_of };
 
     ghost invariant = { AreConcentratorFields };
+}
+
+/// Its owner lets go of it in one step, where a derived drop would be one for each part.
+impl Drop for Concentrator {
+    fn drop(self) {
+        let Concentrator {
+            cache: _,
+            window: _,
+            limited: _,
+        } = self;
+    }
 }
 
 impl Concentrator {

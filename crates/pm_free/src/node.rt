@@ -25,10 +25,16 @@ pub(crate) struct FreeNode {
 }
 
 /// What a node owns in every phase.
-#[derive(Drop)]
 pub(crate) struct NodeWork {
     pub(crate) number: u32,
     duty: Duty,
+}
+
+/// Its owner lets go of it in one step, where a derived drop would be one for each part.
+impl Drop for NodeWork {
+    fn drop(self) {
+        let NodeWork { number: _, duty: _ } = self;
+    }
 }
 
 /// What a node does.

@@ -5,7 +5,6 @@ use pm_session::Link;
 use std::alloc::{AllocError, Global};
 
 /// What the thread of a node with children owns beside its ends of the links.
-#[derive(Drop)]
 pub(crate) struct ParentWork {
     part: Part,
     /// The bid that is to be put to the parent.
@@ -15,6 +14,19 @@ pub(crate) struct ParentWork {
     /// By the places of the children: the price that is to be put, and the bid that was learnt last.
     pub(crate) prices: Vec<Option<PriceUpdate>>,
     pub(crate) learnt: Vec<Option<UpMessage>>,
+}
+
+/// Its owner lets go of it in one step, where a derived drop would be one for each part.
+impl Drop for ParentWork {
+    fn drop(self) {
+        let ParentWork {
+            part: _,
+            bid: _,
+            price: _,
+            prices: _,
+            learnt: _,
+        } = self;
+    }
 }
 
 impl ParentWork {

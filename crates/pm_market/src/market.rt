@@ -21,7 +21,6 @@ use std::alloc::Global;
 /// publish or be passed a clearing; the last is one comparison of two indices, however many clearings there were.
 /// `apply` writes the `n` numbers of a cut for a publishing or a clearing, and one number otherwise. A clearing and a pass
 /// to a node with children also take a walk for each device and write for each node the greatest index due to it.
-#[derive(Drop)]
 pub struct Market {
     alloc: Global,
     parents: Vec<u32>,
@@ -55,6 +54,26 @@ pub struct Market {
           passed = λ x. slice_index_or (map (λ row. row.items) passed.items) x [];
         })
         (λ x. slice_index_or due.items x 0) },
+}
+
+/// Its owner lets go of it in one step, where a derived drop would be one for each part.
+impl Drop for Market {
+    fn drop(self) {
+        let Market {
+            alloc: _,
+            parents: _,
+            leaves: _,
+            members: _,
+            ends: _,
+            counts: _,
+            closed: _,
+            published: _,
+            learnt: _,
+            passed: _,
+            due: _,
+            has_child: _,
+        } = self;
+    }
 }
 
 /// The tree and the plan of a market.

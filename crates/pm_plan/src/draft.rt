@@ -8,7 +8,6 @@ use pm_tree::{NodeId, Tree};
 use std::marker::Model;
 
 /// A plan as far as its parts have been taken.
-#[derive(Drop)]
 pub(crate) struct Draft {
     pub(crate) basis: Basis,
     pub(crate) tree: Tree,
@@ -29,6 +28,19 @@ impl Model for Draft {
       arrays = d.arrays.items;
       minutes = d.minutes.items;
     } };
+}
+
+/// Its owner lets go of it in one step, where a derived drop would be one for each part.
+impl Drop for Draft {
+    fn drop(self) {
+        let Draft {
+            basis: _,
+            tree: _,
+            nodes: _,
+            arrays: _,
+            minutes: _,
+        } = self;
+    }
 }
 
 impl Draft {

@@ -17,7 +17,6 @@ use std::alloc::Global;
 use std::marker::Model;
 
 /// A lawful tree, which contracts see as the list of its entries.
-#[derive(Drop)]
 pub struct Tree {
     entries: Vec<TreeEntry>,
     names: IndexSet<String>,
@@ -39,6 +38,20 @@ impl Model for Tree {
     ghost invariant = { λ t.
         AreTables (entries_of t.entries.items) (map string_bytes t.names.keys) t.nodes.items
         (node_lists t.children.items) t.places.items (node_lists t.leaves_below.items) };
+}
+
+/// Its owner lets go of it in one step, where a derived drop would be one for each part.
+impl Drop for Tree {
+    fn drop(self) {
+        let Tree {
+            entries: _,
+            names: _,
+            nodes: _,
+            children: _,
+            places: _,
+            leaves_below: _,
+        } = self;
+    }
 }
 
 impl Tree {

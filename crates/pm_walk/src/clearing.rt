@@ -13,7 +13,6 @@ use std::alloc::{AllocError, Global};
 use std::marker::Brand;
 
 /// The plain auction of a standing. Place 0 of each list is the auctioneer's.
-#[derive(Drop)]
 pub(crate) struct Clearing {
     /// The total of all demands.
     pub(crate) total: ArrayBid,
@@ -23,6 +22,18 @@ pub(crate) struct Clearing {
     pub(crate) group_steps: Vec<u32>,
     /// The power of each node in watts, 0 where it is no member.
     pub(crate) powers: Vec<i64>,
+}
+
+/// Its owner lets go of it in one step, where a derived drop would be one for each part.
+impl Drop for Clearing {
+    fn drop(self) {
+        let Clearing {
+            total: _,
+            step: _,
+            group_steps: _,
+            powers: _,
+        } = self;
+    }
 }
 
 impl Clearing {

@@ -16,12 +16,22 @@ use std::alloc::{AllocError, Global};
 use std::marker::Brand;
 
 /// A run over the phases: how far it has come, and the plain auction there.
-#[derive(Drop)]
 pub(crate) struct Run {
     pub(crate) standing: Standing,
     pub(crate) clearing: Clearing,
     /// A bid to write in.
     pub(crate) spare: ArrayBid,
+}
+
+/// Its owner lets go of it in one step, where a derived drop would be one for each part.
+impl Drop for Run {
+    fn drop(self) {
+        let Run {
+            standing: _,
+            clearing: _,
+            spare: _,
+        } = self;
+    }
 }
 
 impl Run {

@@ -17,7 +17,6 @@ use std::alloc::{AllocError, Global};
 use std::marker::{Brand, Model};
 
 /// How far a run has come, with the demands and the sums there. Place 0 of each list is the auctioneer's.
-#[derive(Drop)]
 pub(crate) struct Standing {
     /// How far each node has come.
     progress: Vec<Progress>,
@@ -33,6 +32,17 @@ impl Model for Standing {
     ghost Value = { StandingValue };
 
     ghost view = { λ s. record { progress = s.progress.items; demands = s.demands.items; sums = s.sums.items } };
+}
+
+/// Its owner lets go of it in one step, where a derived drop would be one for each part.
+impl Drop for Standing {
+    fn drop(self) {
+        let Standing {
+            progress: _,
+            demands: _,
+            sums: _,
+        } = self;
+    }
 }
 
 impl Standing {
