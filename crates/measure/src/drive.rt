@@ -32,11 +32,16 @@ impl From<AllocError> for DriveFault {
 /// The ends of all phases of a plan, from the first to the last.
 pub(crate) fn driven_ends(alloc: Global, plan: &Plan) -> Result<Vec<PhaseEnd>, DriveFault> {
     let mut cluster = Cluster::open(alloc, plan)?;
+    drive(alloc, &mut cluster)
+}
+
+/// Drives a cluster through the phases of its plan, and gives their ends.
+fn drive(alloc: Global, cluster: &mut Cluster<'_>) -> Result<Vec<PhaseEnd>, DriveFault> {
     let mut ends = Vec::new(alloc);
-    for _ in 0..plan.phases() {
-        let end = end_at_rest(alloc, &mut cluster)?;
+    for _ in 0..cluster.plan().phases() {
+        let end = end_at_rest(alloc, cluster)?;
         ends.push(end).map_err(AllocError::from)?;
-        close(&mut cluster)?;
+        close(cluster)?;
     }
     Ok(ends)
 }

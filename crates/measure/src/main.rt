@@ -21,14 +21,18 @@ mod text;
 mod way;
 
 use crate::judge::judged_moves;
-use crate::link::passed_messages;
+use crate::link::{LinkKind, passed_messages};
 use crate::task::{Task, task_of};
 use crate::text::{messages_text, moves_text};
+use crate::way::Way;
 use anyhow::Context;
 use pm_envelope::FILE_LIMIT;
 use pm_io::{StdSink, StdSource, read_all, write_all};
 use pm_scene::read_scene;
+use std::alloc::Global;
 use std::env;
+use std::sync::Wait;
+use std::thread::Threads;
 
 /// The most bytes of an envelope of a cluster file and of a trace.
 const ENVELOPE_LIMIT: usize = 536_870_912;
@@ -49,22 +53,36 @@ fn read_input(rt: &HostRuntime, limit: usize) -> anyhow::Result<Vec<u8>>
     Ok(read_all(rt.alloc(), &mut StdSource::new(rt.stdin()), limit)?)
 }
 
+/// The text of the ends of the phases of the cluster file on standard input, found in one way.
+fn ends_text(rt: &HostRuntime, way: Way) -> anyhow::Result<String> {
+    let file = read_input(rt, FILE_LIMIT as usize)?;
+    let plan = read_scene(rt.alloc(), &file)?;
+    Ok(way.text(rt.alloc(), &plan)?)
+}
+
+/// The text of the moves of the trace on standard input.
+fn trace_text(rt: &HostRuntime) -> anyhow::Result<String> {
+    let input = read_input(rt, ENVELOPE_LIMIT)?;
+    let moves = judged_moves(rt.alloc(), &input)?;
+    Ok(moves_text(rt.alloc(), moves)?)
+}
+
+/// The text of the messages that pass over a link.
+fn link_text<R: Threads + Wait + Sync>(
+    rt: &R,
+    alloc: Global,
+    kind: LinkKind,
+    bids: u32,
+) -> anyhow::Result<String> {
+    let messages = passed_messages(rt, alloc, kind, bids)?;
+    Ok(messages_text(alloc, messages)?)
+}
+
 fn main(rt: HostRuntime) -> anyhow::Result<()> {
-    let task = asked_task(&rt)?;
-    let alloc = rt.alloc();
-    let text = match task {
-        Task::Ends(way) => {
-            let file = read_input(&rt, FILE_LIMIT as usize)?;
-            let plan = read_scene(alloc, &file)?;
-            way.text(alloc, &plan)?
-        }
-        Task::Judge => {
-            let input = read_input(&rt, ENVELOPE_LIMIT)?;
-            moves_text(alloc, judged_moves(alloc, &input)?)?
-        }
-        Task::Pass { kind, bids } => {
-            messages_text(alloc, passed_messages(&rt, alloc, kind, bids)?)?
-        }
+    let text = match asked_task(&rt)? {
+        Task::Ends(way) => ends_text(&rt, way)?,
+        Task::Judge => trace_text(&rt)?,
+        Task::Pass { kind, bids } => link_text(&rt, rt.alloc(), kind, bids)?,
     };
     write_all(&mut StdSink::new(rt.stdout()), text.as_bytes())?;
     Ok(())

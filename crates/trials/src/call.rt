@@ -47,16 +47,20 @@ pub(crate) struct Surroundings {
     pub(crate) fault: Fault,
 }
 
+/// How often a call of the top read the source and wrote to the sink.
+#[derive(Clone, Copy)]
+pub(crate) struct Calls {
+    pub(crate) reads: u64,
+    pub(crate) writes: u64,
+}
+
 /// What a call of the top came to.
 #[derive(Drop)]
 pub(crate) struct Outcome {
     pub(crate) status: Status,
     /// What the sink holds afterwards.
     pub(crate) text: Vec<u8>,
-    /// How often the source was read.
-    pub(crate) reads: u64,
-    /// How often the sink was written to.
-    pub(crate) writes: u64,
+    pub(crate) calls: Calls,
 }
 
 impl Surroundings {
@@ -111,7 +115,9 @@ pub(crate) fn called<R: Threads + Wait + Sync, G: Gate>(
     Ok(Outcome {
         status,
         text: sink.inner.bytes().to_vec(alloc)?,
-        reads: source.calls,
-        writes: sink.calls,
+        calls: Calls {
+            reads: source.calls,
+            writes: sink.calls,
+        },
     })
 }

@@ -17,8 +17,16 @@ impl Form {
     /// The form of the answers to the command of these words.
     pub(crate) fn of(words: &[String]) -> Form {
         match words {
-            [word] if word.as_str() == "trace" => Form::Trace,
-            [word] if word.as_str() == "serve" => Form::Stream,
+            [word] => Form::of_word(word.as_str()),
+            _ => Form::Text,
+        }
+    }
+
+    /// The form of the answers to the command of this word alone.
+    pub(crate) fn of_word(word: &str) -> Form {
+        match word {
+            "trace" => Form::Trace,
+            "serve" => Form::Stream,
             _ => Form::Text,
         }
     }
@@ -46,11 +54,11 @@ impl Form {
     /// Whether an outcome is right where the read of this number fails: no more is read, and no text is written, or of a
     /// stream a part of it. Where it is not read so often it is the outcome due.
     fn is_due_after_read(self, outcome: &Outcome, due: &Outcome, number: u64) -> Verdict {
-        if outcome.reads < number {
+        if outcome.calls.reads < number {
             return self.is_due(outcome, due);
         }
         has_status(outcome, Status::ReadFault)?;
-        is_last_call(outcome.reads, number)?;
+        is_last_call(outcome.calls.reads, number)?;
         let is_right = match self {
             Form::Text | Form::Trace => outcome.text.is_empty(),
             Form::Stream => due.text.starts_with(&outcome.text),
@@ -61,11 +69,11 @@ impl Form {
     /// Whether an outcome is right where the write of this number fails: no more is written, and a proper part of the text
     /// stands there. Where it is not written so often it is the outcome due.
     fn is_due_after_write(self, outcome: &Outcome, due: &Outcome, number: u64) -> Verdict {
-        if outcome.writes < number {
+        if outcome.calls.writes < number {
             return self.is_due(outcome, due);
         }
         has_status(outcome, Status::WriteFault)?;
-        is_last_call(outcome.writes, number)?;
+        is_last_call(outcome.calls.writes, number)?;
         let (text, whole) = (outcome.text.as_slice(), due.text.as_slice());
         let is_right = if self.has_moves(due) {
             whole.starts_with(text) || text.starts_with(whole)

@@ -10,12 +10,12 @@ use crate::form::Form;
 use crate::judge::judged;
 use crate::piece::Piece;
 use crate::tally::Tally;
-use crate::wrong::is_answer;
-use pm_runner::OpenGate;
+use crate::wrong::{Verdict, is_answer};
+use pm_runner::{Gate, OpenGate};
 use pm_scene::read_scene;
 use pm_tree::Tree;
 use schedule::{SCHEDULES, Schedule};
-use std::alloc::Global;
+use std::alloc::{AllocError, Global};
 use std::sync::Wait;
 use std::thread::Threads;
 use trial::GateTrial;
@@ -30,33 +30,59 @@ pub(crate) fn try_gates<R: Threads + Wait + Sync + Print>(
     file: &[u8],
 ) -> anyhow::Result<Tally> {
     let plan = read_scene(alloc, file)?;
-    let around = Surroundings::in_pieces(Piece::All);
-    let due = called(rt, alloc, &words_of(alloc, "run")?, file, around, &OpenGate)?;
+    let due = outcome_of(rt, alloc, "run", file, &OpenGate)?;
     is_answer(&due)?;
+    try_schedules(rt, alloc, plan.tree(), file, &due)
+}
+
+/// Tries the commands under each gate.
+fn try_schedules<R: Threads + Wait + Sync + Print>(
+    rt: &R,
+    alloc: Global,
+    tree: &Tree,
+    file: &[u8],
+    due: &Outcome,
+) -> anyhow::Result<Tally> {
     let mut tally = Tally::new();
     for schedule in SCHEDULES {
-        try_schedule(rt, alloc, plan.tree(), file, &due, schedule, &mut tally)?;
+        for word in COMMANDS {
+            let verdict = try_schedule(rt, alloc, tree, file, due, schedule, word)?;
+            tally.count(rt, &GateTrial { word, schedule }, verdict)?;
+        }
     }
     Ok(tally)
 }
 
-/// Tries the commands under one gate, which is made anew for each.
-fn try_schedule<R: Threads + Wait + Sync + Print>(
+/// Tries a command under a gate, which is made anew for it.
+fn try_schedule<R: Threads + Wait + Sync>(
     rt: &R,
     alloc: Global,
     tree: &Tree,
     file: &[u8],
     due: &Outcome,
     schedule: Schedule,
-    tally: &mut Tally,
-) -> anyhow::Result<()> {
-    for word in COMMANDS {
-        let words = words_of(alloc, word)?;
-        let gate = schedule.gate(alloc, tree)?;
-        let around = Surroundings::in_pieces(Piece::All);
-        let outcome = called(rt, alloc, &words, file, around, &gate)?;
-        let verdict = judged(rt, alloc, Form::of(&words), file, &outcome, due)?;
-        tally.count(rt, &GateTrial { word, schedule }, verdict)?;
-    }
-    Ok(())
+    word: &str,
+) -> Result<Verdict, AllocError> {
+    let gate = schedule.gate(alloc, tree)?;
+    let outcome = outcome_of(rt, alloc, word, file, &gate)?;
+    judged(rt, alloc, Form::of_word(word), file, &outcome, due)
+}
+
+/// What the command of one word comes to under a gate.
+fn outcome_of<R: Threads + Wait + Sync, G: Gate>(
+    rt: &R,
+    alloc: Global,
+    word: &str,
+    file: &[u8],
+    gate: &G,
+) -> Result<Outcome, AllocError> {
+    let words = words_of(alloc, word)?;
+    called(
+        rt,
+        alloc,
+        &words,
+        file,
+        Surroundings::in_pieces(Piece::All),
+        gate,
+    )
 }

@@ -1,5 +1,5 @@
 use super::trial::Trial;
-use crate::call::{Fault, Outcome, Side, Surroundings, called, words_of};
+use crate::call::{Calls, Fault, Outcome, Side, Surroundings, called, words_of};
 use crate::every::Every;
 use crate::form::Form;
 use crate::judge::judged;
@@ -75,19 +75,19 @@ impl<'a> Command<'a> {
         called(rt, self.alloc, self.words, input, around, &OpenGate)
     }
 
-    /// Tries all of the input in pieces, with no fault, and gives what came.
-    pub(crate) fn try_piece<R: Threads + Wait + Sync + Print>(
+    /// Tries all of the input in pieces, with no fault, and gives the calls that it made.
+    pub(crate) fn try_whole<R: Threads + Wait + Sync + Print>(
         &self,
         rt: &R,
         piece: Piece,
         tally: &mut Tally,
-    ) -> anyhow::Result<Outcome> {
+    ) -> anyhow::Result<Calls> {
         let around = Surroundings::in_pieces(piece);
         let outcome = self.outcome(rt, self.input, around)?;
         let verdict = judged(rt, self.alloc, self.form, self.input, &outcome, &self.due)?;
         let fault = Fault::Nothing;
         tally.count(rt, &Trial::Whole { piece, fault }, verdict)?;
-        Ok(outcome)
+        Ok(outcome.calls)
     }
 
     /// Tries each of so many calls of the source or the sink as one that fails, and one more, which is not made.
