@@ -1,4 +1,4 @@
-use Rattle.std.proofs.Common.{◌≡◌, ℕ, ◌<◌, length, ap, ◌∙◌, refl, subst, arith}
+use Rattle.std.proofs.Common.{rules, ◌≡◌, ℕ, ◌<◌, length, ap, ◌∙◌, refl, subst, arith}
 use Rattle.std.specs.Prelude.{IfSome}
 use Rattle.std.specs.Option.{option_copied}
 use Rattle.pm_cache.specs.Cache.{child_demand, aggregate_of}
@@ -21,3 +21,6 @@ returns c passes =
     let same = subst (λ (n : ℕ). IfSome demand (λ bid. length bid ≡ n)) steps (c.if-not-has_steps.ensures refl) in
     can_learn cache c.args.child demand c.aggregate.ensures.sound inside same
     (λ k within. c.loop-step.invariant k (omega (arith, within, c.loop-step-test.false, steps)))
+
+pub loop-step-init : goal.loop-step-init
+loop-step-init c = search rules

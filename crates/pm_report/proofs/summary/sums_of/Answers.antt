@@ -1,3 +1,4 @@
+use Rattle.std.proofs.lemmas.Grind.{common_steps}
 use Rattle.std.proofs.Common.{arith}
 use Rattle.std.proofs.lemmas.Int.{ints}
 use Rattle.pm_plan.specs.Auction.{EndData}
@@ -13,3 +14,9 @@ loop-end-preserved c = record {
   price_bounds = (omega (arith, ints), omega (arith, ints));
   total_bounds = (omega (arith, ints), omega (arith, ints));
 }
+
+pub returns-clause-prices : goal.returns-clause-prices
+returns-clause-prices c = grind (arith, common_steps)
+
+pub returns-clause-totals : goal.returns-clause-totals
+returns-clause-totals c = grind (arith, common_steps)

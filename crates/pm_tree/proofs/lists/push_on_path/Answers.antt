@@ -1,4 +1,4 @@
-use Rattle.std.proofs.Common.{◌≡◌, ◌<◌, arith, get_or}
+use Rattle.std.proofs.Common.{rules, ◌≡◌, ◌<◌, arith, get_or}
 use Rattle.std.proofs.lemmas.Result.{on_ok_weaker}
 use Rattle.pm_tree.specs.Shape.{parent_at}
 use Rattle.pm_tree.specs.Tables.{shape_parents, shape_leaves}
@@ -34,3 +34,6 @@ loop-at-preserved c =
 pub returns : goal.returns
 returns c = on_ok_weaker c.push_to-2.result (λ pushed. path_end _ _ _ _ _ _ c.loop-at-test.false
     (omega (arith, length-lists_of c.loop-at.lists)) pushed c.loop-at.invariant.rest) c.push_to-2.ensures
+
+pub loop-at-init : goal.loop-at-init
+loop-at-init c = search rules

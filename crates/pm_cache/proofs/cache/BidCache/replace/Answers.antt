@@ -1,3 +1,4 @@
+use Rattle.std.proofs.Common.{rules}
 use Rattle.pm_cache.specs.CacheFields.{cache_of}
 use Rattle.pm_cache.proofs.Entries.{replace_within, replace_enters, resized}
 use Rattle.pm_cache.proofs.cache.BidCache.replace.Goals as goal
@@ -18,3 +19,6 @@ returns-clause-replaced g c =
     let entry = replace_enters (cache_of c.self.inside) _ _ _ _ _ _ c.args.number c.self.view_is c.requires.child
     c.requires.equal_lengths c.self.invariant.sound c.self.invariant.aggregate c.index_mut-old.ensures.value c.exchange.ensures.exchanged in
     rw (c.copy_into.ensures.bid, ← c.self.view_is) (resized _ _ _ _ entry.steps)
+
+pub returns-clause-cost : goal.returns-clause-cost
+returns-clause-cost g c = search rules

@@ -1,4 +1,4 @@
-use Rattle.std.proofs.Common.{◌≡◌, ap, subst, ℕ, ◌≤◌, length, arith, below_more}
+use Rattle.std.proofs.Common.{rules, ◌≡◌, ap, subst, ℕ, ◌≤◌, length, arith, below_more}
 use Rattle.pm_market.specs.Lists.{nodes}
 use Rattle.pm_plan.specs.Kept.{IsPlan}
 use Rattle.pm_plan.specs.Market.{plan_lists}
@@ -57,3 +57,6 @@ returns-clause-moved c s stands =
     let core = c.args.self.now.core in
     let quiet = (all_still_is plan core (is_plan at)).0 (λ x inside. c.loop-number.invariant x (omega (arith, inside, c.loop-number-test.false, many at))) in
     (quiet_is_idle plan core s (is_plan at) stands).0 quiet
+
+pub loop-number-init : goal.loop-number-init
+loop-number-init c = search rules

@@ -1,4 +1,4 @@
-use Rattle.std.proofs.Common.{◌∙◌, ap, arith}
+use Rattle.std.proofs.Common.{rules, ◌∙◌, ap, arith}
 use Rattle.pm_base.specs.Cuts.{Cut, cut_of}
 use Rattle.pm_walk.proofs.DeviceCuts.{device-here}
 use Rattle.pm_walk.proofs.auction.CutAuction.raise.Goals as goal
@@ -14,3 +14,6 @@ returns-clause-auction c =
           omega (arith, here, auction.begun d leaf, c.requires.rises d leaf);
       powers = auction.powers;
     }
+
+pub raise_devices-requires-clause-powers : goal.raise_devices-requires-clause-powers
+raise_devices-requires-clause-powers c = search rules

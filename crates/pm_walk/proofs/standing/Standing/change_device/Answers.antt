@@ -1,4 +1,4 @@
-use Rattle.std.proofs.Common.{◌-◌, sym, subst, arith}
+use Rattle.std.proofs.Common.{rules, ◌-◌, sym, subst, arith}
 use Rattle.pm_plan.proofs.Ends.{end-rises}
 use Rattle.pm_walk.specs.Standing.{HasCome}
 use Rattle.pm_walk.proofs.standing.Standing.change_device.Goals as goal
@@ -10,3 +10,6 @@ pub make_changes-here-requires-clause-reached : goal.make_changes-here-requires-
 make_changes-here-requires-clause-reached c =
     subst (HasCome c.args.plan.now c.args.device.0) (sym c.progress-before.ensures.progress)
     (c.requires.stands.progress.reached c.args.device.0 c.requires.inside)
+
+pub make_changes-here-requires-clause-used : goal.make_changes-here-requires-clause-used
+make_changes-here-requires-clause-used c = search rules

@@ -1,4 +1,4 @@
-use Rattle.std.proofs.Common.{arith}
+use Rattle.std.proofs.Common.{rules, arith}
 use Rattle.std.specs.Option.{option_copied}
 use Rattle.pm_cache.specs.Learning.{offered}
 use Rattle.pm_cache.proofs.SingleBids.{single_within}
@@ -13,3 +13,9 @@ learn-requires c = record {
         c.requires.sound.single c.requires.steps c.requires.small;
   };
 }
+
+pub returns-in-Ok-clause-counted : goal.returns-in-Ok-clause-counted
+returns-in-Ok-clause-counted c = search rules
+
+pub returns-in-Ok-clause-answered : goal.returns-in-Ok-clause-answered
+returns-in-Ok-clause-answered c = search rules

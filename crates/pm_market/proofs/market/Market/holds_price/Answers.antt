@@ -1,0 +1,7 @@
+use Rattle.std.proofs.Common.{rules}
+use Rattle.pm_market.specs.Held.{holds_price}
+use Rattle.pm_market.proofs.market.Market.holds_price.Goals as goal
+
+pub returns-then-is_member : goal.returns-then-is_member
+unfolding holds_price
+returns-then-is_member c = search rules

@@ -1,0 +1,5 @@
+use Rattle.std.proofs.Common.{rules}
+use Rattle.pm_report.proofs.trace.push_learn.Goals as goal
+
+pub returns : goal.returns
+returns c = search rules

@@ -1,0 +1,5 @@
+use Rattle.std.proofs.Common.{rules}
+use Rattle.pm_wire.proofs.reading.size_at.Goals as goal
+
+pub returns-then-kind-eq-BID-clause-size : goal.returns-then-kind-eq-BID-clause-size
+returns-then-kind-eq-BID-clause-size c = search rules
