@@ -24,3 +24,9 @@ store-requires c =
     let above = subst (λ n. newest_number v.up.puts < n) (sym c.from.ensures) above in
     let number = sym c.from.ensures in
     (search rules, search rules, may_end_put_bid _ _ _ v c.from.result (Bid bid) is c.end.invariant.role_is above (bid, refl, number))
+
+pub returns-then-found-eq1-clause-back : goal.returns-then-found-eq1-clause-back
+returns-then-found-eq1-clause-back c = search rules
+
+pub invariant_of-end-2 : goal.invariant_of-end-2
+invariant_of-end-2 c = search rules
