@@ -1,4 +1,5 @@
-use Rattle.std.proofs.Common.{◌∙◌, ap, sym, List, length, subst}
+use Rattle.pm_top.specs.Inputs.{report_of}
+use Rattle.std.proofs.Common.{rules, ◌∙◌, ap, sym, List, length, subst}
 use Rattle.std.specs.Prelude.{All}
 use Rattle.pm_plan.specs.Ends.{EndValue}
 use Rattle.pm_plan.specs.Plans.{phases, end_cut}
@@ -26,3 +27,7 @@ ask_text-requires-clause-steps g c =
 pub report_text-requires-in-Free-clause-of_plan : goal.report_text-requires-in-Free-clause-of_plan
 report_text-requires-in-Free-clause-of_plan g c =
     subst (λ (ends : List EndValue). All (IsEndOf c.args.plan.now) (ends_of ends)) (sym c.deref-in-Free.ensures.value) c.in_ok-ends-in-Free.ensures.of_plan
+
+pub returns-in_ok-journal-in-Trace : goal.returns-in_ok-journal-in-Trace
+unfolding report_of
+returns-in_ok-journal-in-Trace g c = search rules

@@ -1,4 +1,4 @@
-use Rattle.std.proofs.Common.{◌≡◌, ◌⊎◌, inl, inr}
+use Rattle.std.proofs.Common.{rules, ◌≡◌, ◌⊎◌, inl, inr}
 use Rattle.pm_wire.specs.declared.stream.Served.{Served}
 use Rattle.pm_wire.specs.declared.stream.Served.TheVariants.{Done, Refused, TooLong, ReadFault, WriteFault, NoMemory}
 use Rattle.pm_top.proofs.top.service.Goals as goal
@@ -33,3 +33,12 @@ pub returns-in-ReadFault-clause-bad_frame : goal.returns-in-ReadFault-clause-bad
 returns-in-ReadFault-clause-bad_frame g c = λ all offset was bad.
     none_of ReadFault Refused WriteFault NoMemory _ (λ e. absurd (cc e)) (λ e. absurd (cc e)) (λ e. absurd (cc e))
     (c.in-ReadFault.ensures.bad_frame all offset was bad)
+
+pub returns-in-Refused-clause-end : goal.returns-in-Refused-clause-end
+returns-in-Refused-clause-end g c = search rules
+
+pub returns-in-Refused-clause-bad_frame : goal.returns-in-Refused-clause-bad_frame
+returns-in-Refused-clause-bad_frame g c = search rules
+
+pub returns-in-Refused-clause-refusal : goal.returns-in-Refused-clause-refusal
+returns-in-Refused-clause-refusal g c = search rules
