@@ -1,4 +1,4 @@
-ghost use Rattle.std.specs.Prelude.{◌≡◌, ◌≢◌, ◌≤◌, All, IfOk, length};
+ghost use Rattle.std.specs.Prelude.{◌≡◌, ◌≢◌, ◌≤◌, [], All, IfOk, length};
 ghost use Rattle.pm_base.specs.Limits.{most_phases, IsWithin, demand_limit};
 ghost use Rattle.pm_bid.specs.Bids.{NeverRises};
 ghost use Rattle.pm_plan.specs.Plans.{phases};
@@ -83,10 +83,79 @@ fn curve_of(alloc: Global, total: &ArrayBid) -> Result<Curve, AllocError>
     }
 }
 
+/// The report of the ends of a run.
+#[tactic(auto, unfolding(crate::specs::Inputs::report_of))]
+fn report<R: Threads + Wait + Sync, G: Gate>(
+    rt: &R,
+    alloc: Global,
+    plan: &Plan,
+    gate: &G,
+) -> Result<Vec<u8>, AllocError>
+    ensures { IfOk result (λ text. IsTextOf FileCommand.Run plan.now [] text.items) }
+{
+    let (_journal, ends) = run(rt, alloc, plan, gate)?;
+    report_text(alloc, plan, &ends)
+}
+
+/// The report of the ends of a run, and behind it the lines of its journal.
+#[tactic(auto, unfolding(crate::specs::Inputs::report_of))]
+fn trace<R: Threads + Wait + Sync, G: Gate>(
+    rt: &R,
+    alloc: Global,
+    plan: &Plan,
+    gate: &G,
+) -> Result<Vec<u8>, AllocError>
+    ensures { IfOk result (λ text. IsTextOf FileCommand.Trace plan.now [] text.items) }
+{
+    let (journal, ends) = run(rt, alloc, plan, gate)?;
+    trace_text(alloc, plan, &ends, &journal)
+}
+
+/// The bill of a run.
+fn bill<R: Threads + Wait + Sync, G: Gate>(
+    rt: &R,
+    alloc: Global,
+    plan: &Plan,
+    gate: &G,
+) -> Result<Vec<u8>, AllocError>
+    ensures { IfOk result (λ text. IsTextOf FileCommand.Bill plan.now [] text.items) }
+{
+    let (_journal, ends) = run(rt, alloc, plan, gate)?;
+    bill_of_run(alloc, plan, &ends)?.text(plan)
+}
+
+/// What the total at the end of a run answers to targets in watts.
+fn answers<R: Threads + Wait + Sync, G: Gate>(
+    rt: &R,
+    alloc: Global,
+    plan: &Plan,
+    targets: &[i64],
+    gate: &G,
+) -> Result<Vec<u8>, AllocError>
+    requires { All (IsWithin demand_limit) targets.now }
+    ensures { IfOk result (λ text. IsTextOf FileCommand.Ask plan.now targets.now text.items) }
+{
+    let curve = last_curve(rt, alloc, plan, gate)?;
+    ask_text(alloc, plan.basis(), &curve, targets)
+}
+
+/// The report of the ends of a run over links without a lock.
+#[tactic(auto, unfolding(crate::specs::Inputs::report_of))]
+fn free_report<R: Threads + Wait + Sync, G: Gate>(
+    rt: &R,
+    alloc: Global,
+    plan: &Plan,
+    gate: &G,
+) -> Result<Vec<u8>, AllocError>
+    ensures { IfOk result (λ text. IsTextOf FileCommand.Free plan.now [] text.items) }
+{
+    let ends = run_free(rt, alloc, plan, gate)?;
+    report_text(alloc, plan, &ends)
+}
+
 /// The text that is asked for of a plan: the report of its phases' ends; behind it, for a trace, the lines of the run's
 /// journal; the bill of the run; what its last total answers to targets in watts; or the same report by a run over links
 /// without a lock. Check asks for no text.
-#[tactic(auto, unfolding(crate::specs::Inputs::report_of))]
 pub(crate) fn text_of<R: Threads + Wait + Sync, G: Gate>(
     rt: &R,
     alloc: Global,
@@ -100,27 +169,12 @@ pub(crate) fn text_of<R: Threads + Wait + Sync, G: Gate>(
     ensures { IfOk result (λ text. IsTextOf asked plan.now targets.now text.items) }
 {
     match asked {
-        FileCommand::Run => {
-            let (_journal, ends) = run(rt, alloc, plan, gate)?;
-            report_text(alloc, plan, &ends)
-        }
-        FileCommand::Trace => {
-            let (journal, ends) = run(rt, alloc, plan, gate)?;
-            trace_text(alloc, plan, &ends, &journal)
-        }
+        FileCommand::Run => report(rt, alloc, plan, gate),
+        FileCommand::Trace => trace(rt, alloc, plan, gate),
         FileCommand::Check => unreachable!(),
-        FileCommand::Bill => {
-            let (_journal, ends) = run(rt, alloc, plan, gate)?;
-            bill_of_run(alloc, plan, &ends)?.text(plan)
-        }
-        FileCommand::Ask => {
-            let curve = last_curve(rt, alloc, plan, gate)?;
-            ask_text(alloc, plan.basis(), &curve, targets)
-        }
-        FileCommand::Free => {
-            let ends = run_free(rt, alloc, plan, gate)?;
-            report_text(alloc, plan, &ends)
-        }
+        FileCommand::Bill => bill(rt, alloc, plan, gate),
+        FileCommand::Ask => answers(rt, alloc, plan, targets, gate),
+        FileCommand::Free => free_report(rt, alloc, plan, gate),
     }
 }
 
