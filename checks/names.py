@@ -17,7 +17,7 @@ CRATES = Path(__file__).resolve().parent.parent / "crates"
 OF_PLAN_AND_LISTS = {"is_leaf", "is_member", "parent", "phases"}
 
 # The crates of tests alone.
-TESTS = {"pm_filed", "pm_linked", "pm_played", "pm_threaded", "pm_whole", "pm_worked"}
+TESTS = {"pm_played", "pm_threaded", "pm_whole", "pm_worked"}
 
 # The most bytes of a line of sources, definitions and proofs.
 LINE_LIMIT = 160

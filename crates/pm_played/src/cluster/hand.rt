@@ -8,19 +8,19 @@ ghost use Rattle.pm_plan.specs.Market.{plan_lists};
 use pm_cluster::{ActFault, Cluster};
 use pm_device::Next;
 use pm_market::{Act, Line, Move};
-use pm_plan::{PhaseEnd, Plan};
+use pm_plan::{LimitedLine, MemberLine, PhaseEnd, Plan};
 use pm_session::Held;
 use pm_tree::NodeId;
 use std::alloc::Global;
 use std::test::Fail;
 
-/// A phase's end: price, step and total; node, power and number of the members; node, step and total of each limited
-/// concentrator.
-pub type End = (
-    (i64, u32, i64),
-    (&'static [u32], &'static [i64], &'static [u32]),
-    &'static [(u32, u32, i64)],
-);
+/// A phase's end: price, step and total; the members and the limited concentrators.
+#[derive(Clone, Copy)]
+pub struct End {
+    pub at: (i64, u32, i64),
+    pub members: &'static [MemberLine],
+    pub limited: &'static [LimitedLine],
+}
 
 pub fn open(alloc: Global, plan: &Plan) -> Result<Cluster<'_>, Fail> {
     Ok(Cluster::open(alloc, plan)?)
@@ -123,20 +123,9 @@ pub fn changes(cluster: &Cluster, device: u32) -> Result<(u32, Option<Next>), Fa
 }
 
 fn is_end(end: &PhaseEnd, due: End) -> bool {
-    let (at, (nodes, powers, numbers), limited) = due;
-    let mut right = (end.price(), end.step(), end.total()) == at
-        && end.members().len() == nodes.len()
-        && nodes.len() == powers.len()
-        && nodes.len() == numbers.len()
-        && end.limited().len() == limited.len();
-    let members = nodes.iter().zip(powers).zip(numbers);
-    for (line, ((node, power), number)) in end.members().iter().zip(members) {
-        right = right && (line.node, line.power, line.number) == (*node, *power, *number);
-    }
-    for (line, due) in end.limited().iter().zip(limited) {
-        right = right && (line.node, line.step, line.total) == *due;
-    }
-    right
+    (end.price(), end.step(), end.total()) == due.at
+        && end.members() == due.members
+        && end.limited() == due.limited
 }
 
 /// Whether the cluster is idle, and its end is this.

@@ -88,9 +88,17 @@ const OTHERS: [Post; 6] = [
     (Kind::Load, (2, 1, true, 100)),
 ];
 
-const NOBODY: End = ((0, 0, 0), (&[], &[], &[]), &[]);
+const NOBODY: End = End {
+    at: (0, 0, 0),
+    members: &[],
+    limited: &[],
+};
 
-const ONE_MEMBER: End = ((9, 9, 100), (&[1], &[100], &[1]), &[]);
+const ONE_MEMBER: End = End {
+    at: (9, 9, 100),
+    members: members![(1, 100, 1)],
+    limited: &[],
+};
 
 /// Whether all of these are refused before the load's change and leave the cluster as it was.
 fn refuses_others(alloc: Global, cluster: &mut Cluster) -> Result<bool, Fail> {

@@ -107,7 +107,11 @@ const LONE_LOAD: [Row; 9] = [
     Row::Steps(0, Act::Learn { child: 1 }, 1, None),
     Row::Steps(0, Act::Clear, 1, None),
     Row::Steps(1, Act::Pass { node: 1 }, 1, Some((9, 1))),
-    Row::Ends(((9, 9, 100), (&[1], &[100], &[1]), &[])),
+    Row::Ends(End {
+        at: (9, 9, 100),
+        members: members![(1, 100, 1)],
+        limited: &[],
+    }),
     Row::Closes(true),
     Row::Closes(false),
 ];
@@ -319,11 +323,22 @@ const COMES_TO_REST: [Row; 7] = [
     Row::Rest,
     Row::AllHold(3, 13, (9, 1)),
     Row::Stands(9, 9),
-    Row::Ends((
-        (9, 9, 10),
-        (&[3, 4, 5, 6, 7, 8, 9, 10, 11, 12], &[1; 10], &[1; 10]),
-        &[],
-    )),
+    Row::Ends(End {
+        at: (9, 9, 10),
+        members: members![
+            (3, 1, 1),
+            (4, 1, 1),
+            (5, 1, 1),
+            (6, 1, 1),
+            (7, 1, 1),
+            (8, 1, 1),
+            (9, 1, 1),
+            (10, 1, 1),
+            (11, 1, 1),
+            (12, 1, 1),
+        ],
+        limited: &[],
+    }),
 ];
 
 /// The auctioneer has a move, and from it on all comes to rest.

@@ -1,7 +1,0 @@
-use Rattle.std.proofs.Common.{take}
-use Rattle.std.specs.Prelude.{All}
-use Rattle.pm_report.specs.Trace.{IsLineOf}
-use Rattle.pm_filed.proofs.report.are_lines_of.Given as goal
-
-abbrev pub invariant-loop-line : goal.invariant-loop-line
-invariant-loop-line l = All (IsLineOf l.plan) (take l.line-index l.lines)

@@ -1,0 +1,5 @@
+use Rattle.std.proofs.Common.{◌≡◌}
+use Rattle.pm_played.proofs.cells.two_threads.parent_turns.Given as goal
+
+abbrev pub invariant-loop : goal.invariant-loop
+invariant-loop l = l.end.link ≡ l.initial.end.link
