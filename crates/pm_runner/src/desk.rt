@@ -60,6 +60,11 @@ impl<'p> Desk<'p> {
         self.pending.is_quiet() || self.pending.has_work(node)
     }
 
+    /// Whether one of these nodes need not sleep.
+    pub(crate) fn has_any_task(&self, nodes: &[u32]) -> bool {
+        nodes.iter().any(|node| self.has_task(*node))
+    }
+
     /// What a node is to do.
     pub(crate) fn task_of(&mut self, node: u32) -> Task<'p> {
         if self.is_over() {
@@ -152,5 +157,21 @@ impl<'p> Desk<'p> {
         let bell = self.pending.bell_of(self.board.plan(), closed, node);
         self.pending.sleep(node, bell);
         bell
+    }
+
+    /// Notes that nodes sleep at the caller's bell, and gives it.
+    pub(crate) fn lay_all(&mut self, nodes: &[u32]) -> u32 {
+        let bell = self.pending.caller_bell();
+        for node in nodes {
+            self.pending.sleep(*node, bell);
+        }
+        bell
+    }
+
+    /// Notes that nodes are awake.
+    pub(crate) fn rise_all(&mut self, nodes: &[u32]) {
+        for node in nodes {
+            self.pending.rise(*node);
+        }
     }
 }

@@ -46,9 +46,15 @@ struct Rest {
 const YIELDS: u32 = 50;
 
 impl<'p> Turn<'p> {
-    fn last() -> Turn<'p> {
+    /// The last turn, without a move.
+    pub(crate) fn last() -> Turn<'p> {
+        Turn::last_with(None)
+    }
+
+    /// The last turn, with its line.
+    fn last_with(line: Option<Line>) -> Turn<'p> {
         Turn {
-            line: None,
+            line,
             over: true,
             job: None,
             rest: None,
@@ -126,16 +132,22 @@ pub(crate) fn take_turn<'a, 'p, R: Wait>(
     desk: MutexGuard<'a, Desk<'p>>,
 ) -> Turn<'p> {
     let mut desk = desk;
-    let line = match desk.task_of(node) {
-        Task::Change(job) => {
-            let_go(shared, &mut worker.rings, desk);
-            return change(rt, shared, worker, node, job);
-        }
+    let task = desk.task_of(node);
+    if let Task::Change(job) = task {
+        let_go(shared, &mut worker.rings, desk);
+        return change(rt, shared, worker, node, job);
+    }
+    let line = moved(&mut desk, node, task);
+    end_turn(shared, &mut worker.rings, node, desk, line)
+}
+
+/// Makes a node's task where it is none that is worked out without the lock.
+fn moved(desk: &mut Desk, node: u32, task: Task) -> Option<Line> {
+    match task {
         Task::Move => desk.move_node(node),
         Task::Close => desk.close(),
-        Task::Nothing => None,
-    };
-    end_turn(shared, &mut worker.rings, node, desk, line)
+        Task::Change(_) | Task::Nothing => None,
+    }
 }
 
 /// Works a change of a device out, without the lock, and makes it.
@@ -170,25 +182,39 @@ fn end_turn<'a, 'p>(
     line: Option<Line>,
 ) -> Turn<'p> {
     let mut desk = desk;
-    let over = desk.is_over();
-    let mut turn = Turn {
-        line,
-        over,
-        job: None,
-        rest: None,
-    };
-    if !over && desk.pending.may_change(node) {
-        turn.job = desk.job_of(node);
-    } else if !over && desk.pending.is_device(node) && !desk.has_task(node) {
-        turn.rest = rest_at(shared, &mut desk, node);
-    }
+    let turn = turn_with(shared, &mut desk, node, line);
     let_go(shared, rings, desk);
     turn
 }
 
-/// Notes that a device rests, where it may be given work soon.
+/// The turn of a node with this line, and what the node does next.
+fn turn_with<'p>(
+    shared: Shared<'_, 'p>,
+    desk: &mut Desk<'p>,
+    node: u32,
+    line: Option<Line>,
+) -> Turn<'p> {
+    if desk.is_over() {
+        return Turn::last_with(line);
+    }
+    let mut turn = Turn {
+        line,
+        over: false,
+        job: None,
+        rest: None,
+    };
+    if desk.pending.may_change(node) {
+        turn.job = desk.job_of(node);
+        return turn;
+    }
+    turn.rest = rest_at(shared, desk, node);
+    turn
+}
+
+/// Notes that a node rests, where it is a device that has nothing to do and may be given work soon.
 fn rest_at(shared: Shared, desk: &mut Desk, node: u32) -> Option<Rest> {
-    if desk.pending.is_finished(node) {
+    let pending = &desk.pending;
+    if !pending.is_device(node) || pending.is_finished(node) || desk.has_task(node) {
         return None;
     }
     let bell = desk.lay(node);
