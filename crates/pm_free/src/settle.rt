@@ -93,12 +93,39 @@ fn make_phases<R: Threads + Wait + Sync, G: Gate>(
     ensures plan { board.new.plan ≡ board.old.plan }
     ensures settled { IfOk result (λ _. IsSettled board.new) }
 {
+    let works = make_each_phase(rt, alloc, gate, board)?;
+    finish(alloc, board, &OpenGate)?;
+    Ok(works)
+}
+
+/// Makes as many phases as the plan has, with an agent for each device.
+fn make_each_phase<R: Threads + Wait + Sync, G: Gate>(
+    rt: &R,
+    alloc: Global,
+    gate: &G,
+    board: &mut Board,
+) -> Result<Vec<NodeWork>, AllocError>
+    ensures plan { board.new.plan ≡ board.old.plan }
+{
     let mut agents = make_agents(alloc, board.plan())?;
+    make_phases_by(rt, alloc, gate, board, agents.as_mut_slice())
+}
+
+/// Makes as many phases as the plan has, by these agents.
+fn make_phases_by<R: Threads + Wait + Sync, G: Gate>(
+    rt: &R,
+    alloc: Global,
+    gate: &G,
+    board: &mut Board,
+    agents: &mut [Option<DeviceAgent>],
+) -> Result<Vec<NodeWork>, AllocError>
+    requires agents { AreAgents board.old.plan agents.old }
+    ensures plan { board.new.plan ≡ board.old.plan }
+{
     let mut works = make_works(alloc, board.plan())?;
     for _ in 0..board.plan().phases() {
-        works = make_phase(rt, alloc, gate, board, agents.as_mut_slice(), works)?;
+        works = make_phase(rt, alloc, gate, board, agents, works)?;
     }
-    finish(alloc, board, &OpenGate)?;
     Ok(works)
 }
 

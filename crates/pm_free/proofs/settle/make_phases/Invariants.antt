@@ -1,6 +1,0 @@
-use Rattle.std.proofs.Common.{◌≡◌}
-use Rattle.pm_turns.specs.Alone.{AreAgents}
-use Rattle.pm_free.proofs.settle.make_phases.Given as goal
-
-abbrev pub invariant-loop : goal.invariant-loop
-invariant-loop g l = (l.board.plan ≡ l.fn.board.plan) × AreAgents l.board.plan l.agents.items

@@ -1,0 +1,6 @@
+use Rattle.std.proofs.Common.{◌≡◌}
+use Rattle.pm_turns.specs.Alone.{AreAgents}
+use Rattle.pm_free.proofs.settle.make_phases_by.Given as goal
+
+abbrev pub invariant-loop : goal.invariant-loop
+invariant-loop g l = (l.board.plan ≡ l.fn.board.plan) × AreAgents l.board.plan l.agents
