@@ -5,7 +5,7 @@ ghost use Rattle.pm_top.specs.Arguments.{command, single_of, demo_of, is_number,
 
 /// The text that is asked for of an input, which is a cluster file, for `Ask` an envelope of one with targets behind it, and
 /// for `Check` one with a trace behind it.
-#[derive(Clone, Copy, Debug, PartialEq, Eq)]
+#[derive(Clone, Copy)]
 pub(crate) enum FileCommand {
     /// The report of its phases.
     Run,
@@ -22,7 +22,7 @@ pub(crate) enum FileCommand {
 }
 
 /// What the program is asked to do.
-#[derive(Clone, Copy, Debug, PartialEq, Eq)]
+#[derive(Clone, Copy)]
 pub(crate) enum Command {
     /// Run a cluster file and write the text that is asked for.
     File(FileCommand),
