@@ -22,7 +22,7 @@ use std::thread::Threads;
 pub(crate) const MOST_BIDS: u32 = 120_000;
 
 /// What the slots of a link are.
-#[derive(Clone, Copy, Debug, PartialEq, Eq)]
+#[derive(Clone, Copy)]
 pub(crate) enum LinkKind {
     /// Cells without a lock.
     Cells,

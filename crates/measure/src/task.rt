@@ -3,7 +3,7 @@ use crate::way::Way;
 use pm_envelope::number_up_to;
 
 /// What the program does.
-#[derive(Clone, Copy, Debug, PartialEq, Eq)]
+#[derive(Clone, Copy)]
 pub(crate) enum Task {
     /// Finds the ends of the phases of a cluster file.
     Ends(Way),

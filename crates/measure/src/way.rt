@@ -5,7 +5,7 @@ use pm_walk::all_ends;
 use std::alloc::Global;
 
 /// A way to find the ends of the phases.
-#[derive(Clone, Copy, Debug, PartialEq, Eq)]
+#[derive(Clone, Copy)]
 pub(crate) enum Way {
     /// Find none: the file is only read.
     Read,

@@ -6,7 +6,7 @@ use crate::values::has_member;
 use serde_json::Value;
 
 /// The kind that a node's text names.
-#[derive(Clone, Copy, Debug, PartialEq, Eq)]
+#[derive(Clone, Copy)]
 pub(crate) enum KindName {
     Concentrator,
     Limited,
@@ -21,21 +21,21 @@ pub(crate) enum KindName {
 }
 
 /// The form of a manual device's start.
-#[derive(Clone, Copy, Debug, PartialEq, Eq)]
+#[derive(Clone, Copy)]
 pub(crate) enum StartForm {
     Demand,
     Points,
 }
 
 /// The form of a phase.
-#[derive(Clone, Copy, Debug, PartialEq, Eq)]
+#[derive(Clone, Copy)]
 pub(crate) enum PhaseForm {
     Events,
     Tick,
 }
 
 /// The form of an event.
-#[derive(Clone, Copy, Debug, PartialEq, Eq)]
+#[derive(Clone, Copy)]
 pub(crate) enum EventForm {
     Join,
     Leave,
@@ -43,7 +43,7 @@ pub(crate) enum EventForm {
 }
 
 /// The form of a state event's value.
-#[derive(Clone, Copy, Debug, PartialEq, Eq)]
+#[derive(Clone, Copy)]
 pub(crate) enum ValueForm {
     Value,
     Demand,

@@ -12,7 +12,7 @@ use pm_plan::{Cause, Place, Refusal};
 use serde_json::{Map, Value};
 
 /// What a member has to be.
-#[derive(Clone, Copy, Debug, PartialEq, Eq)]
+#[derive(Clone, Copy)]
 pub(crate) enum Form {
     /// A whole number.
     Whole,
@@ -29,7 +29,7 @@ pub(crate) enum Form {
 }
 
 /// A member that an object has to have: its name and its form.
-#[derive(Clone, Copy, Debug)]
+#[derive(Clone, Copy)]
 pub(crate) struct Member(pub(crate) &'static str, pub(crate) Form);
 
 fn is_whole(value: &Value) -> bool

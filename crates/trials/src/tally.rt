@@ -2,7 +2,7 @@ use crate::wrong::Verdict;
 use std::{fmt, io};
 
 /// How many trials passed and failed.
-#[derive(Clone, Copy, Debug)]
+#[derive(Clone, Copy)]
 pub(crate) struct Tally {
     passed: u64,
     failed: u64,

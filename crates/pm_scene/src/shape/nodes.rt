@@ -16,7 +16,7 @@ use serde_json::Value;
 use std::alloc::{AllocError, Global};
 
 /// A node with its name and the name of its parent.
-#[derive(Debug, Drop)]
+#[derive(Drop)]
 pub(crate) struct NamedNode {
     pub(crate) name: String,
     pub(crate) parent: String,

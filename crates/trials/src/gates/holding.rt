@@ -10,7 +10,7 @@ const YIELDS: u32 = 100;
 const YIELDS_OF_A_LEVEL: u32 = 30;
 
 /// Which nodes are held.
-#[derive(Clone, Copy, Debug, PartialEq, Eq)]
+#[derive(Clone, Copy)]
 pub(crate) enum Held {
     /// The first node of the file.
     First,
