@@ -1,6 +1,124 @@
-use Rattle.std.proofs.Common.{rules}
+use Rattle.std.proofs.Common.{rules, ◌≡◌, ◌&&◌, ◌∙◌, sym, ap, subst, ℤ, pos, ◌≤ℤ◌, IsTrue, w64, to_z, of_z, arith}
+use Rattle.std.proofs.lemmas.Int.{ints, to_z-of_z}
+use Rattle.pm_device.specs.Kinds.{is_valid, state_fits, is_between, is_temperature, is_change, is_band, is_power, are_changes, is_thermal}
+use Rattle.pm_device.specs.Kinds.{capacity_limit}
 use Rattle.pm_device.specs.Ticks.{tick}
+use Rattle.pm_device.specs.declared.kind.Kind.{Kind}
+use Rattle.pm_device.specs.declared.kind.Kind.TheVariants.{Battery}
+use Rattle.pm_device.proofs.Between.{Between, is_between-tells, is_between-holds, is_battery-tells, is_temperature-tells, is_change-tells, both_true}
 use Rattle.pm_device.proofs.tick.advance.Goals as goal
+
+-- a temperature stays one as 64 bits
+temperature_kept : (n : ℤ) → IsTrue (is_temperature n) → IsTrue (is_temperature (to_z w64 (of_z w64 n)))
+temperature_kept n h =
+    let within = is_temperature-tells n h in
+    let same : to_z w64 (of_z w64 n) ≡ n = omega (arith, ints) in
+    rw same h
+
+-- a change stays one as 64 bits
+change_kept : (n : ℤ) → IsTrue (is_change n) → IsTrue (is_change (to_z w64 (of_z w64 n)))
+change_kept n h =
+    let within = is_change-tells n h in
+    let same : to_z w64 (of_z w64 n) ≡ n = omega (arith, ints) in
+    rw same h
+
+-- the changes of a device that keeps a temperature are changes as 64 bits
+changes_kept : (low high power drift effect : ℤ) → IsTrue (is_thermal low high power drift effect) →
+    IsTrue (is_change (to_z w64 (of_z w64 drift))) × IsTrue (is_change (to_z w64 (of_z w64 effect)))
+changes_kept low high power drift effect h =
+    let both = both_true (is_change drift) (is_change effect) (both_true (is_band low high && is_power power) (are_changes drift effect) h).1 in
+    (change_kept drift both.0, change_kept effect both.1)
+
+freezer_changes : (c : goal.In-Freezer) →
+    IsTrue (is_change (to_z w64 (of_z w64 c.in-Freezer.warm))) × IsTrue (is_change (to_z w64 (of_z w64 c.in-Freezer.cool)))
+freezer_changes c =
+    let d = c.in-Freezer in
+    changes_kept d.low d.high d.power d.warm d.cool (subst (λ k. IsTrue (is_valid k)) d.is c.requires.valid)
+
+pub freezer_after-after-requires-clause-temperature : goal.freezer_after-after-requires-clause-temperature
+freezer_after-after-requires-clause-temperature c =
+    temperature_kept c.args.state.0 (subst (λ k. IsTrue (state_fits k c.args.state.0)) c.in-Freezer.is c.requires.fits)
+
+pub freezer_after-after-requires-clause-warm : goal.freezer_after-after-requires-clause-warm
+freezer_after-after-requires-clause-warm c = (freezer_changes c).0
+
+pub freezer_after-after-requires-clause-cool : goal.freezer_after-after-requires-clause-cool
+freezer_after-after-requires-clause-cool c = (freezer_changes c).1
+
+heat_pump_changes : (c : goal.In-HeatPump) →
+    IsTrue (is_change (to_z w64 (of_z w64 c.in-HeatPump.loss))) × IsTrue (is_change (to_z w64 (of_z w64 c.in-HeatPump.gain)))
+heat_pump_changes c =
+    let d = c.in-HeatPump in
+    changes_kept d.low d.high d.power d.loss d.gain (subst (λ k. IsTrue (is_valid k)) d.is c.requires.valid)
+
+pub heated_after-after-requires-clause-temperature : goal.heated_after-after-requires-clause-temperature
+heated_after-after-requires-clause-temperature c =
+    temperature_kept c.args.state.0 (subst (λ k. IsTrue (state_fits k c.args.state.0)) c.in-HeatPump.is c.requires.fits)
+
+pub heated_after-after-requires-clause-loss : goal.heated_after-after-requires-clause-loss
+heated_after-after-requires-clause-loss c = (heat_pump_changes c).0
+
+pub heated_after-after-requires-clause-gain : goal.heated_after-after-requires-clause-gain
+heated_after-after-requires-clause-gain c = (heat_pump_changes c).1
+
+cogeneration_changes : (c : goal.In-Cogeneration) →
+    IsTrue (is_change (to_z w64 (of_z w64 c.in-Cogeneration.loss))) × IsTrue (is_change (to_z w64 (of_z w64 c.in-Cogeneration.gain)))
+cogeneration_changes c =
+    let d = c.in-Cogeneration in
+    changes_kept d.low d.high d.power d.loss d.gain (subst (λ k. IsTrue (is_valid k)) d.is c.requires.valid)
+
+pub heated_after-after-requires-in-Cogeneration-clause-temperature : goal.heated_after-after-requires-in-Cogeneration-clause-temperature
+heated_after-after-requires-in-Cogeneration-clause-temperature c =
+    temperature_kept c.args.state.0 (subst (λ k. IsTrue (state_fits k c.args.state.0)) c.in-Cogeneration.is c.requires.fits)
+
+pub heated_after-after-requires-in-Cogeneration-clause-loss : goal.heated_after-after-requires-in-Cogeneration-clause-loss
+heated_after-after-requires-in-Cogeneration-clause-loss c = (cogeneration_changes c).0
+
+pub heated_after-after-requires-in-Cogeneration-clause-gain : goal.heated_after-after-requires-in-Cogeneration-clause-gain
+heated_after-after-requires-in-Cogeneration-clause-gain c = (cogeneration_changes c).1
+
+-- a battery's capacity within its limits
+battery_capacity : (kind : Kind) (capacity charge discharge spread : ℤ) → kind ≡ Battery capacity charge discharge spread →
+    IsTrue (is_valid kind) → Between (pos 1) (pos capacity_limit) capacity
+battery_capacity kind capacity charge discharge spread is valid =
+    (is_battery-tells capacity charge discharge spread (subst (λ k. IsTrue (is_valid k)) is valid)).capacity_within
+
+capacity_kept : (capacity : ℤ) → Between (pos 1) (pos capacity_limit) capacity → to_z w64 (of_z w64 capacity) ≡ capacity
+capacity_kept capacity within = omega (arith, ints)
+
+-- a charge within the capacity stays so as 64 bits
+charge_kept : (capacity stored : ℤ) → Between (pos 1) (pos capacity_limit) capacity → IsTrue (is_between (pos 0) capacity stored) →
+    IsTrue (is_between (pos 0) capacity (to_z w64 (of_z w64 stored)))
+charge_kept capacity stored limits h =
+    let within = is_between-tells (pos 0) capacity stored h in
+    let same : to_z w64 (of_z w64 stored) ≡ stored = omega (arith, ints) in
+    rw same h
+
+pub charge_after-after-requires-clause-capacity : goal.charge_after-after-requires-clause-capacity
+charge_after-after-requires-clause-capacity c =
+    let d = c.in-Battery in
+    let within = battery_capacity c.args.kind.now d.capacity d.charge d.discharge d.spread d.is c.requires.valid in
+    rw (capacity_kept d.capacity within) (is_between-holds (pos 1) (pos capacity_limit) d.capacity within)
+
+pub charge_after-after-requires-clause-stored : goal.charge_after-after-requires-clause-stored
+charge_after-after-requires-clause-stored c =
+    let d = c.in-Battery in
+    let within = battery_capacity c.args.kind.now d.capacity d.charge d.discharge d.spread d.is c.requires.valid in
+    rw (capacity_kept d.capacity within)
+    (charge_kept d.capacity c.args.state.0 within (subst (λ k. IsTrue (state_fits k c.args.state.0)) c.in-Battery.is c.requires.fits))
+
+pub charge_after-after-requires-clause-power_low : goal.charge_after-after-requires-clause-power_low
+charge_after-after-requires-clause-power_low c = rw (to_z-of_z w64 c.args.power c.ranges.power) c.requires.power_low
+
+pub charge_after-after-requires-clause-power_high : goal.charge_after-after-requires-clause-power_high
+charge_after-after-requires-clause-power_high c = rw (to_z-of_z w64 c.args.power c.ranges.power) c.requires.power_high
+
+pub charge_after-after-requires-clause-at_least_one_minute : goal.charge_after-after-requires-clause-at_least_one_minute
+charge_after-after-requires-clause-at_least_one_minute c =
+    rw (to_z-of_z w64 c.args.minutes c.ranges.minutes) c.requires.at_least_one_minute
+
+pub charge_after-after-requires-clause-at_most_a_day : goal.charge_after-after-requires-clause-at_most_a_day
+charge_after-after-requires-clause-at_most_a_day c = rw (to_z-of_z w64 c.args.minutes c.ranges.minutes) c.requires.at_most_a_day
 
 pub returns-in-Freezer-clause-state : goal.returns-in-Freezer-clause-state
 unfolding tick
@@ -21,3 +139,22 @@ returns-in-Battery-clause-state c = search rules
 pub returns-in-Solar-clause-state : goal.returns-in-Solar-clause-state
 unfolding tick
 returns-in-Solar-clause-state c = search rules
+
+pub returns-in-Freezer-clause-fits : goal.returns-in-Freezer-clause-fits
+returns-in-Freezer-clause-fits c = rw c.in-Freezer.is (temperature_kept c.freezer_after-after.result c.freezer_after-after.ensures.fits)
+
+pub returns-in-HeatPump-clause-fits : goal.returns-in-HeatPump-clause-fits
+returns-in-HeatPump-clause-fits c = rw c.in-HeatPump.is (temperature_kept c.heated_after-after.result c.heated_after-after.ensures.fits)
+
+pub returns-in-Cogeneration-clause-fits : goal.returns-in-Cogeneration-clause-fits
+returns-in-Cogeneration-clause-fits c =
+    let after = c.heated_after-after-in-Cogeneration in
+    rw c.in-Cogeneration.is (temperature_kept after.result after.ensures.fits)
+
+pub returns-in-Battery-clause-fits : goal.returns-in-Battery-clause-fits
+returns-in-Battery-clause-fits c =
+    let after = c.charge_after-after in
+    let d = c.in-Battery in
+    let within = battery_capacity c.args.kind.now d.capacity d.charge d.discharge d.spread d.is c.requires.valid in
+    let fits = rw (capacity_kept d.capacity within) at after.ensures.fits in
+    rw d.is (charge_kept d.capacity after.result within fits)
