@@ -1,3 +1,4 @@
+mod Kept
 pub mod BidLaws
 pub mod LevelLaws
 pub mod Rounded
