@@ -1,4 +1,4 @@
-use Rattle.std.proofs.Common.{rules, ◌≡◌, ◌&&◌, ◌∙◌, sym, ap, subst, ℤ, pos, ◌≤ℤ◌, IsTrue, w64, to_z, of_z, arith}
+use Rattle.std.proofs.Common.{rules, ◌≡◌, ◌&&◌, subst, ℤ, pos, IsTrue, w64, to_z, of_z, arith}
 use Rattle.std.proofs.lemmas.Int.{ints, to_z-of_z}
 use Rattle.pm_device.specs.Kinds.{is_valid, state_fits, is_between, is_temperature, is_change, is_band, is_power, are_changes, is_thermal}
 use Rattle.pm_device.specs.Kinds.{capacity_limit}
