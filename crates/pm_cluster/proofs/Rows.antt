@@ -74,13 +74,18 @@ rows_set f xs y k r r' v written lt read inside =
     let P : List (List Session) → Type 0 = λ new. Wrote (map f xs) new y k v in
     subst P (sym new_is) (record { one = one_link (map f xs) y k v lt' inside'; at = link_set (map f xs) y k v lt' inside' })
 
+-- an element written back with the row that was read leaves all rows as they were
+pub row_kept : {R : Type 0} (f : R → List Session) (xs : List R) (y : ℕ) (r r' : R) → y < length xs → r ≡ get_or xs y r →
+    f r' ≡ f r → map f (set xs y r') ≡ map f xs
+row_kept f xs y r r' lt read kept =
+    map-set f xs y r' ∙ ap (set (map f xs) y) (kept ∙ sym (row_read f xs y r lt read)) ∙ set-get_or (map f xs) y []
+
 -- what is written back changes nothing
 pub rows_same : {R : Type 0} (f : R → List Session) (xs : List R) (y k : ℕ) (r r' : R) (v : Session) → f r' ≡ set (f r) k v →
     y < length xs → r ≡ get_or xs y r → k < length (f r) → v ≡ get_or (f r) k v → map f (set xs y r') ≡ map f xs
 rows_same f xs y k r r' v written lt read inside at =
-    let kept : f r' ≡ f r =
-    written ∙ ap (set (f r) k) (get_or_read (f r) k v inside at (new_session 0)) ∙ set-get_or (f r) k (new_session 0) in
-    map-set f xs y r' ∙ ap (set (map f xs) y) (kept ∙ sym (row_read f xs y r lt read)) ∙ set-get_or (map f xs) y []
+    row_kept f xs y r r' lt read
+    (written ∙ ap (set (f r) k) (get_or_read (f r) k v inside at (new_session 0)) ∙ set-get_or (f r) k (new_session 0))
 
 -- an element written back with a row as long as before changes row y alone, into its own row
 pub row_wrote : {R : Type 0} (f : R → List Session) (xs : List R) (y : ℕ) (r r' : R) → y < length xs → r ≡ get_or xs y r →

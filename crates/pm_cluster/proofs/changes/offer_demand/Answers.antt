@@ -10,6 +10,7 @@ use Rattle.pm_offer.specs.Offers.{device_demand}
 use Rattle.pm_offer.proofs.Steps.{demand_steps}
 use Rattle.pm_cluster.proofs.Making.{read_steps, offered_demand}
 use Rattle.pm_cluster.proofs.NextChanges.{demand_of_member, kind_valid, state_valid}
+use Rattle.std.proofs.lemmas.List.{length-replicate}
 use Rattle.pm_cluster.proofs.changes.offer_demand.Goals as goal
 
 pub parent_of-parent-requires : goal.parent_of-parent-requires
@@ -57,3 +58,6 @@ returns-in_default-clause-offered c =
     offered_demand plan (map (λ row. row.items) c.args.links.now.items) (map (λ row. row.items) c.offer_bid-in_default.new.links.items) next.device
     next.number c.parent_of-parent.result c.place_in_row-place.result next.member c.fill_bid.new.out c.parent_of-parent.ensures.parent
     c.place_in_row-place.ensures.place member filled c.offer_bid-in_default.ensures.offered
+
+pub offer_bid-requires-clause-steps : goal.offer_bid-requires-clause-steps
+offer_bid-requires-clause-steps c = length-replicate _ _

@@ -3,7 +3,7 @@ use Rattle.std.proofs.lemmas.Bool.{both_ways}
 use Rattle.std.proofs.lemmas.List.{get_or_read}
 use Rattle.pm_market.specs.Lists.{is_leaf, IsLeaf}
 use Rattle.pm_plan.specs.Market.{plan_lists}
-use Rattle.pm_cluster.proofs.Parents.{nodes_are, leaf_inside}
+use Rattle.pm_cluster.proofs.Parents.{nodes_are, leaf_inside, leaf_is}
 use Rattle.pm_cluster.proofs.DueMore.{one_phase_more, few_due, IsDueTo, due_set, due_skip}
 use Rattle.pm_cluster.proofs.ends.add_due.Goals as goal
 use Rattle.pm_cluster.proofs.ends.add_due.Goals.{then-is_device, else-is_device}
@@ -61,3 +61,21 @@ returns-clause-after c = λ some d leaf. c.loop-number.invariant.after d leaf
       c.len-number-end.ensures.len,
       ap length c.tree.ensures.tree,
     ))
+
+pub is_device-requires : goal.is_device-requires
+is_device-requires c =
+    omega (
+      arith,
+      nodes_are c.args.plan.now,
+      c.loop-number-test.true,
+      c.len-number-end.ensures.len,
+      ap length c.tree.ensures.tree,
+    )
+
+pub changes_of-requires-clause-leaf : goal.changes_of-requires-clause-leaf
+changes_of-requires-clause-leaf c = leaf_is c.args.plan.now c.loop-number.number ∙ sym c.is_device.ensures ∙ c.if-is_device.true
+
+pub index_mut-requires : goal.index_mut-requires
+index_mut-requires c =
+    let here = leaf_inside c.args.plan.now c.phases.ensures.sound c.loop-number.number (sym c.is_device.ensures ∙ c.if-is_device.true) in
+    omega (arith, here.1, c.loop-number.due.ok.0, c.loop-number.invariant.same_length, c.requires.same_length)

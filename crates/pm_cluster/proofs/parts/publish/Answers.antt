@@ -1,4 +1,4 @@
-use Rattle.std.proofs.Common.{arith, sym, ap, ◌∙◌, ◌≡◌, get_or, refl, None, Some}
+use Rattle.std.proofs.Common.{arith, sym, ap, ◌∙◌, ◌≡◌, get_or, refl, None, Some, length}
 use Rattle.std.proofs.Math.ListN.{set}
 use Rattle.std.proofs.lemmas.List.{set-get_or}
 use Rattle.std.specs.Vec.{with_item}
@@ -7,7 +7,7 @@ use Rattle.pm_concentrator.specs.Concentrators.{Gathered}
 use Rattle.pm_stands.specs.Core.{gathered_at}
 use Rattle.pm_stands.proofs.Made.{refused_cannot}
 use Rattle.pm_stands.proofs.Caches.{gathered_known, gathered_same, one_concentrator}
-use Rattle.pm_cluster.proofs.Rows.{IsRead, is_read, there_read}
+use Rattle.pm_cluster.proofs.Rows.{IsRead, is_read, there_read, row_read}
 use Rattle.pm_cluster.proofs.parts.publish.Goals as goal
 use Rattle.pm_cluster.proofs.parts.publish.Goals.{In-Some}
 
@@ -66,3 +66,11 @@ returns-in-Err-clause-none c e =
       ap (λ (g : Gathered). set c.args.concentrators.now.items c.args.node (Some g)) c.in-Err.ensures.unchanged.0
           ∙ ap (set c.args.concentrators.now.items c.args.node) (sym (found at)) ∙ set-get_or c.args.concentrators.now.items c.args.node None,
     )
+
+pub index_mut-up-requires : goal.index_mut-up-requires
+index_mut-up-requires c =
+    let row = row_read (λ row. row.items) c.args.links.now.items c.args.parent c.index_mut-row.result.now c.requires.parent c.index_mut-row.ensures.value in
+    omega (arith, c.requires.place, ap length row, c.index_mut-row.result.now.ok.0)
+
+pub returns-in-Err-clause-alone : goal.returns-in-Err-clause-alone
+returns-in-Err-clause-alone c = one_concentrator c.args.concentrators.now.items c.args.node c.publish.new.self c.requires.node

@@ -52,3 +52,23 @@ returns c = record {
     λ all. refl,
   );
 }
+
+pub is_device-requires : goal.is_device-requires
+is_device-requires c =
+    omega (
+      arith,
+      nodes_are c.self.inside.plan.now,
+      c.loop-number-test.true,
+      c.len-number-end.ensures.len,
+      ap length c.tree.ensures.tree,
+    )
+
+pub index-requires : goal.index-requires
+index-requires c =
+    let here = leaf_inside c.self.inside.plan.now c.self.invariant.is_plan c.loop-number.number (sym c.is_device.ensures ∙ c.if-is_device.true) in
+    omega (arith, here.1, c.self.inside.counts.ok.0, c.self.invariant.places.all_counts)
+
+pub index-requires-then-is_device : goal.index-requires-then-is_device
+index-requires-then-is_device c =
+    let here = leaf_inside c.self.inside.plan.now c.self.invariant.is_plan c.loop-number.number (sym c.is_device.ensures ∙ c.if-is_device.true) in
+    omega (arith, here.1, c.self.inside.due.ok.0, c.self.invariant.same_due)

@@ -1,4 +1,4 @@
-use Rattle.std.proofs.Common.{ℕ, sym, subst}
+use Rattle.std.proofs.Common.{ℕ, sym, subst, arith}
 use Rattle.pm_market.specs.State.{State}
 use Rattle.pm_market.specs.Lists.{IsNode}
 use Rattle.pm_market.specs.Moves.{Legal}
@@ -14,6 +14,7 @@ use Rattle.pm_stands.proofs.Made.{learn_did, can_learn_at, newer_at, cannot_lear
 use Rattle.pm_cluster.specs.declared.cluster.Cluster.TheInside.{Inside}
 use Rattle.pm_cluster.specs.ClusterFields.{core_of}
 use Rattle.pm_cluster.proofs.Kept.{parent_there, moved, of_fields, of_value}
+use Rattle.std.proofs.lemmas.List.{length-map}
 use Rattle.pm_cluster.proofs.cluster.Cluster.learn.Goals as goal
 use Rattle.pm_cluster.proofs.cluster.Cluster.learn.Goals.{After-unless_gone-demand, After-learn}
 
@@ -81,3 +82,7 @@ returns-in_default-clause-made c =
     of_value c.self.inside _ c.self.view_is (λ plan s. (number : ℕ) → Legal (plan_lists plan) s (Learn c.args.child.0 number) → ⊥) (λ s stands.
     cannot_learn c.self.inside.plan.now (core_of c.self.inside) s stands c.args.child.0 c.parent_of-parent.result c.place_in_row-place.result
     c.parent_of-parent.ensures.parent c.place_in_row-place.ensures.place _ c.in_default.ensures.taken.0)
+
+pub take_bid-requires-clause-parent : goal.take_bid-requires-clause-parent
+take_bid-requires-clause-parent c =
+    omega (arith, c.parent_of-parent.ensures.inside, c.self.invariant.places.all_links, length-map c.self.inside.links.items (λ row. row.items))

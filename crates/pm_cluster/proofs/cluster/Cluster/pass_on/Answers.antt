@@ -1,4 +1,4 @@
-use Rattle.std.proofs.Common.{refl, ℕ, map}
+use Rattle.std.proofs.Common.{refl, ℕ, map, arith}
 use Rattle.pm_market.specs.State.{State}
 use Rattle.pm_market.specs.Lists.{IsConcentrator}
 use Rattle.pm_market.specs.Moves.{Legal}
@@ -10,6 +10,7 @@ use Rattle.pm_stands.proofs.MayPass.{may_pass, pass_did, cannot_pass}
 use Rattle.pm_cluster.specs.declared.cluster.Cluster.TheInside.{Inside}
 use Rattle.pm_cluster.specs.ClusterFields.{core_of}
 use Rattle.pm_cluster.proofs.Kept.{moved, of_fields, of_value}
+use Rattle.std.proofs.lemmas.List.{length-map}
 use Rattle.pm_cluster.proofs.cluster.Cluster.pass_on.Goals as goal
 use Rattle.pm_cluster.proofs.cluster.Cluster.pass_on.Goals.{In-Some, After-pass}
 
@@ -68,3 +69,13 @@ returns-in_default-clause-made c =
     of_value c.self.inside _ c.self.view_is (λ plan s. (index : ℕ) → Legal (plan_lists plan) s (Pass c.args.node.0 index) → ⊥) (λ s stands.
     cannot_pass c.self.inside.plan.now (core_of c.self.inside) s stands c.args.node.0 c.parent_of-parent.result c.place_in_row-place.result
     (concentrator.0, concentrator.1) c.parent_of-parent.ensures.parent c.place_in_row-place.ensures.place _ c.in_default.ensures.taken)
+
+pub take_price-requires-clause-parent : goal.take_price-requires-clause-parent
+take_price-requires-clause-parent c =
+    omega (arith, c.parent_of-parent.ensures.inside, c.self.invariant.places.all_links, length-map c.self.inside.links.items (λ row. row.items))
+
+pub pass-requires-clause-row : goal.pass-requires-clause-row
+pass-requires-clause-row c =
+    let concentrator = concentrator_at (goal.at.pass-requires-clause-row c).In-Some in
+    let same_length = length-map c.take_price.new.links.items (λ row. row.items) in
+    omega (arith, concentrator.1, c.self.invariant.places.all_links, c.in-Some.ensures.one.all, same_length)

@@ -88,3 +88,27 @@ returns c =
           c.loop-number.out.end ≡ end_of q (end_cut q p))
           (λ s stands made. whole s stands ∙ end_alike plan c.self.invariant.is_plan s.counts (end_cut plan p) made) s stands made;
     }
+
+pub tell_member-requires-clause-inside : goal.tell_member-requires-clause-inside
+tell_member-requires-clause-inside c =
+    let inside = subst (λ (v : ClusterValue). c.loop-number.number ≤ nodes (plan_lists v.plan)) c.self.view_is
+    (omega (arith, c.loop-number-test.true, c.len-number-end.ensures.len, ap length c.tree.ensures.tree, nodes_are c.self.inside.plan.now)) in
+    inside
+
+pub tell_member-requires-clause-room : goal.tell_member-requires-clause-room
+tell_member-requires-clause-room c =
+    let inside = subst (λ (v : ClusterValue). c.loop-number.number ≤ nodes (plan_lists v.plan)) c.self.view_is
+    (omega (arith, c.loop-number-test.true, c.len-number-end.ensures.len, ap length c.tree.ensures.tree, nodes_are c.self.inside.plan.now)) in
+    omega (arith, inside, c.loop-number.invariant.member_room)
+
+pub tell_limited-requires-clause-inside : goal.tell_limited-requires-clause-inside
+tell_limited-requires-clause-inside c =
+    let inside = subst (λ (v : ClusterValue). c.loop-number.number ≤ nodes (plan_lists v.plan)) c.self.view_is
+    (omega (arith, c.loop-number-test.true, c.len-number-end.ensures.len, ap length c.tree.ensures.tree, nodes_are c.self.inside.plan.now)) in
+    inside
+
+pub tell_limited-requires-clause-room : goal.tell_limited-requires-clause-room
+tell_limited-requires-clause-room c =
+    let inside = subst (λ (v : ClusterValue). c.loop-number.number ≤ nodes (plan_lists v.plan)) c.self.view_is
+    (omega (arith, c.loop-number-test.true, c.len-number-end.ensures.len, ap length c.tree.ensures.tree, nodes_are c.self.inside.plan.now)) in
+    omega (arith, inside, c.loop-number.invariant.limited_room, c.tell_member.ensures.limited)

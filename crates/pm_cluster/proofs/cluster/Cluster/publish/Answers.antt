@@ -12,6 +12,7 @@ use Rattle.pm_stands.proofs.Made.{publish_did, may_publish_at, cannot_publish}
 use Rattle.pm_cluster.specs.declared.cluster.Cluster.TheInside.{Inside}
 use Rattle.pm_cluster.specs.ClusterFields.{core_of}
 use Rattle.pm_cluster.proofs.Kept.{moved, of_fields, of_value}
+use Rattle.std.proofs.lemmas.List.{length-map}
 use Rattle.pm_cluster.proofs.cluster.Cluster.publish.Goals as goal
 use Rattle.pm_cluster.proofs.cluster.Cluster.publish.Goals.{After-place_in_row-place, In-Some}
 
@@ -63,3 +64,7 @@ returns-in_default-clause-made c =
     let concentrator = of_fields c.self.inside _ c.self.view_is (λ plan. IsConcentrator (plan_lists plan) c.args.node.0) c.requires.concentrator in
     of_value c.self.inside _ c.self.view_is (λ plan s. (number : ℕ) → Legal (plan_lists plan) s (Publish c.args.node.0 number) → ⊥) (λ s stands.
     cannot_publish c.self.inside.plan.now c.self.invariant.is_plan (core_of c.self.inside) s stands c.args.node.0 concentrator c.in_default.ensures.published)
+
+pub publish-requires-clause-parent : goal.publish-requires-clause-parent
+publish-requires-clause-parent c =
+    omega (arith, c.parent_of-parent.ensures.inside, c.self.invariant.places.all_links, length-map c.self.inside.links.items (λ row. row.items))

@@ -15,6 +15,7 @@ use Rattle.pm_cluster.specs.declared.cluster.Cluster.TheInside.{Inside}
 use Rattle.pm_cluster.specs.ClusterFields.{core_of}
 use Rattle.pm_cluster.proofs.Kept.{moved, of_fields, of_value, leaf_is_node}
 use Rattle.pm_cluster.proofs.Seats.{seat_set, seat_other, seat_read}
+use Rattle.std.proofs.lemmas.List.{length-map}
 use Rattle.pm_cluster.proofs.cluster.Cluster.take.Goals as goal
 use Rattle.pm_cluster.proofs.cluster.Cluster.take.Goals.{After-index_mut, After-price}
 
@@ -71,3 +72,7 @@ returns-in_default-clause-made c =
     of_value c.self.inside _ c.self.view_is (λ plan s. (index : ℕ) → Legal (plan_lists plan) s (Pass c.args.device.0 index) → ⊥) (λ s stands.
     cannot_pass c.self.inside.plan.now (core_of c.self.inside) s stands c.args.device.0 c.parent_of-parent.result c.place_in_row-place.result
     node c.parent_of-parent.ensures.parent c.place_in_row-place.ensures.place _ c.in_default.ensures.taken)
+
+pub take_price-requires-clause-parent : goal.take_price-requires-clause-parent
+take_price-requires-clause-parent c =
+    omega (arith, c.parent_of-parent.ensures.inside, c.self.invariant.places.all_links, length-map c.self.inside.links.items (λ row. row.items))
