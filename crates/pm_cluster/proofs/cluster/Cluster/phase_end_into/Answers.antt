@@ -21,6 +21,7 @@ use Rattle.pm_cluster.proofs.LinesTold.{IsEndTo, no_lines, end_more, whole_end}
 use Rattle.pm_cluster.proofs.Readers.{auction_steps}
 use Rattle.pm_cluster.specs.ClusterFields.{core_of}
 use Rattle.pm_cluster.proofs.cluster.Cluster.phase_end_into.Goals as goal
+use Rattle.pm_cluster.proofs.cluster.Cluster.phase_end_into.Goals.{After-tell_member-arg-1}
 
 pub begin-requires : goal.begin-requires
 begin-requires c =
@@ -89,26 +90,22 @@ returns c =
           (λ s stands made. whole s stands ∙ end_alike plan c.self.invariant.is_plan s.counts (end_cut plan p) made) s stands made;
     }
 
+-- the number that the loop is at is a node's
+node_inside : (c : After-tell_member-arg-1) → c.loop-number.number ≤ nodes (plan_lists c.args.self.now.plan)
+node_inside c = subst (λ (v : ClusterValue). c.loop-number.number ≤ nodes (plan_lists v.plan)) c.self.view_is
+    (omega (arith, c.loop-number-test.true, c.len-number-end.ensures.len, ap length c.tree.ensures.tree, nodes_are c.self.inside.plan.now))
+
 pub tell_member-requires-clause-inside : goal.tell_member-requires-clause-inside
-tell_member-requires-clause-inside c =
-    let inside = subst (λ (v : ClusterValue). c.loop-number.number ≤ nodes (plan_lists v.plan)) c.self.view_is
-    (omega (arith, c.loop-number-test.true, c.len-number-end.ensures.len, ap length c.tree.ensures.tree, nodes_are c.self.inside.plan.now)) in
-    inside
+tell_member-requires-clause-inside c = node_inside (goal.at.tell_member-requires-clause-inside c).After-tell_member-arg-1
 
 pub tell_member-requires-clause-room : goal.tell_member-requires-clause-room
 tell_member-requires-clause-room c =
-    let inside = subst (λ (v : ClusterValue). c.loop-number.number ≤ nodes (plan_lists v.plan)) c.self.view_is
-    (omega (arith, c.loop-number-test.true, c.len-number-end.ensures.len, ap length c.tree.ensures.tree, nodes_are c.self.inside.plan.now)) in
-    omega (arith, inside, c.loop-number.invariant.member_room)
+    omega (arith, node_inside (goal.at.tell_member-requires-clause-room c).After-tell_member-arg-1, c.loop-number.invariant.member_room)
 
 pub tell_limited-requires-clause-inside : goal.tell_limited-requires-clause-inside
-tell_limited-requires-clause-inside c =
-    let inside = subst (λ (v : ClusterValue). c.loop-number.number ≤ nodes (plan_lists v.plan)) c.self.view_is
-    (omega (arith, c.loop-number-test.true, c.len-number-end.ensures.len, ap length c.tree.ensures.tree, nodes_are c.self.inside.plan.now)) in
-    inside
+tell_limited-requires-clause-inside c = node_inside (goal.at.tell_limited-requires-clause-inside c).After-tell_member-arg-1
 
 pub tell_limited-requires-clause-room : goal.tell_limited-requires-clause-room
 tell_limited-requires-clause-room c =
-    let inside = subst (λ (v : ClusterValue). c.loop-number.number ≤ nodes (plan_lists v.plan)) c.self.view_is
-    (omega (arith, c.loop-number-test.true, c.len-number-end.ensures.len, ap length c.tree.ensures.tree, nodes_are c.self.inside.plan.now)) in
+    let inside = node_inside (goal.at.tell_limited-requires-clause-room c).After-tell_member-arg-1 in
     omega (arith, inside, c.loop-number.invariant.limited_room, c.tell_member.ensures.limited)
