@@ -1,6 +1,7 @@
 use Rattle.std.proofs.Common.{◌≡◌, ◌∙◌, ap, sym, subst, length, ◌∷◌, ◌++◌, [], List, ℤ, FitsSigned, arith, length-append}
 use Rattle.std.specs.Int.{w32}
 use Rattle.std.specs.List.{AllByRecursion}
+use Rattle.std.proofs.lemmas.Grind.{common_steps}
 use Rattle.pm_wire.specs.Frames.{signed_bytes, demand_bytes}
 use Rattle.pm_wire.proofs.OneField.{demands_more, fit_more, wide}
 use Rattle.pm_wire.proofs.fields.read_demands.Goals as goal
@@ -24,3 +25,6 @@ loop-step-preserved c =
       fit = subst P (sym pushed) (fit_more _ demand c.loop-step.invariant.fit c.read_i32-demand.ensures.fits);
       count = ap length pushed ∙ omega (arith, length-append c.loop-step.demands.items (demand ∷ []), c.loop-step.invariant.count);
     }
+
+pub returns-clause-bytes : goal.returns-clause-bytes
+returns-clause-bytes c = grind (arith, common_steps)

@@ -1,5 +1,6 @@
 use Rattle.std.proofs.Common.{arith, ◌∙◌, sym, subst, Option, ℕ}
 use Rattle.std.proofs.lemmas.Result.{err_from_is_err_and}
+use Rattle.std.proofs.lemmas.Grind.{common_steps}
 use Rattle.pm_wire.specs.Frames.{MayStand}
 use Rattle.pm_wire.proofs.Taking.{takes_more, agrees_more, takes_length, few_clearings, takes_refused, bad_refused}
 use Rattle.pm_wire.proofs.frames.take_frames.Goals as goal
@@ -42,3 +43,6 @@ loop-frame-preserved-in_ok-take c =
       taken = takes_more taken.0 c.in-Some.frame _ _ _ _ _ _ taken.1 _ _ _ taken.2 (rw c.in-Some.is at c.in_ok-frame.ensures.given)
           c.in_ok-take.ensures.taken taken.3 c.in_ok-take.ensures.answered;
     }
+
+pub loop-frame-smaller-in_ok-take : goal.loop-frame-smaller-in_ok-take
+loop-frame-smaller-in_ok-take c = grind (arith, common_steps)

@@ -1,4 +1,5 @@
-use Rattle.std.proofs.Common.{◌≡◌, ◌∙◌, sym, ap, refl, subst, arith, length, take, [], ℕ, List}
+use Rattle.std.proofs.Common.{◌∙◌, sym, ap, refl, arith}
+use Rattle.std.proofs.lemmas.Grind.{common_steps}
 use Rattle.pm_wire.proofs.Ending.{bad_refused, bad_cut_short, begun_by, piece_cut_short, serving_more, end_refused, end_cut_short, none_read, rest_text}
 use Rattle.pm_wire.proofs.Ending.{rest_prefix, rest_proper, rose_later, failed, not_failed, told_text, told_prefix, told_proper}
 use Rattle.pm_wire.proofs.stream.run.Goals as goal
@@ -64,3 +65,45 @@ loop-taken-preserved g c =
       source_count = omega (arith, kept.source_count, c.in-Ok.ensures.cause.later);
       sink_count = omega (arith, kept.sink_count, c.flush.ensures.count);
     }
+
+pub returns-in-Err-clause-write_fault : goal.returns-in-Err-clause-write_fault
+returns-in-Err-clause-write_fault g c = grind arith
+
+pub returns-then-count-eq0-clause-read_fault : goal.returns-then-count-eq0-clause-read_fault
+returns-then-count-eq0-clause-read_fault g c = grind arith
+
+pub returns-then-count-eq0-clause-write_fault : goal.returns-then-count-eq0-clause-write_fault
+returns-then-count-eq0-clause-write_fault g c = grind arith
+
+pub returns-then-rest-gt0-clause-read_fault : goal.returns-then-rest-gt0-clause-read_fault
+returns-then-rest-gt0-clause-read_fault g c = grind arith
+
+pub returns-in-Err-Bad-clause-read_fault : goal.returns-in-Err-Bad-clause-read_fault
+returns-in-Err-Bad-clause-read_fault g c = grind arith
+
+pub returns-in-Err-NoMemory-clause-read_fault : goal.returns-in-Err-NoMemory-clause-read_fault
+returns-in-Err-NoMemory-clause-read_fault g c = grind arith
+
+pub returns-in-Err-NoMemory-clause-write_fault : goal.returns-in-Err-NoMemory-clause-write_fault
+returns-in-Err-NoMemory-clause-write_fault g c = grind arith
+
+pub returns-then-is_err-clause-read_fault : goal.returns-then-is_err-clause-read_fault
+returns-then-is_err-clause-read_fault g c = grind arith
+
+pub returns-clause-read_fault : goal.returns-clause-read_fault
+returns-clause-read_fault g c = grind arith
+
+pub returns-clause-write_fault : goal.returns-clause-write_fault
+returns-clause-write_fault g c = grind arith
+
+pub returns-then-count-eq0-clause-done : goal.returns-then-count-eq0-clause-done
+returns-then-count-eq0-clause-done g c = grind (arith, common_steps)
+
+pub take_piece-requires-clause-fits : goal.take_piece-requires-clause-fits
+take_piece-requires-clause-fits g c = grind (arith, common_steps)
+
+pub overflow_sub-taken : goal.overflow_sub-taken
+overflow_sub-taken g c = grind (arith, common_steps)
+
+pub loop-taken-init : goal.loop-taken-init
+loop-taken-init g c = grind (arith, common_steps)

@@ -1,13 +1,10 @@
-use Rattle.std.proofs.Common.{◌≡◌, ◌∙◌, ◌-◌, ap, sym, subst, List, ℕ, inl, inr, Ok, Err, Option, Some, None, length, take, drop, refl}
-use Rattle.std.specs.declared.result.Result.{Result}
+use Rattle.std.proofs.Common.{◌≡◌, ◌∙◌, ◌-◌, ap, sym, subst, List, ℕ, inl, Ok, Some, length, take, drop, refl, arith}
 use Rattle.std.proofs.lemmas.List.{take_rest}
-use Rattle.pm_wire.specs.Frames.{BeginsBadly, IsUnfinished}
+use Rattle.std.proofs.lemmas.Grind.{common_steps}
+use Rattle.pm_wire.specs.Frames.{BeginsBadly}
 use Rattle.pm_wire.specs.Decoding.{Decoding}
 use Rattle.pm_wire.specs.Readings.{IsReading}
 use Rattle.pm_wire.specs.declared.reading.Reading.{Reading}
-use Rattle.pm_wire.specs.declared.reading.Reading.TheVariants.{Whole, Unfinished, Bad}
-use Rattle.pm_wire.specs.declared.frame.Frame.{Frame}
-use Rattle.pm_wire.specs.declared.fault.DecodeFault.{DecodeFault}
 use Rattle.pm_wire.proofs.Places.{whole_not_bad, whole_not_unfinished, bad_not_unfinished, whole_same}
 use Rattle.pm_wire.proofs.decoder.Decoder.next.Goals as goal
 
@@ -61,3 +58,21 @@ returns-in-Bad-clause-gives c = λ frame more stands e.
 pub returns-in-Bad-clause-waits : goal.returns-in-Bad-clause-waits
 returns-in-Bad-clause-waits c = λ unfinished.
     absurd (bad_not_unfinished _ _ (read_at _ _ _ _ _ _ _ c.self.view_is refl c.deref.ensures.value c.in-Bad.is c.in_ok-frame.ensures) unfinished)
+
+pub invariant_of-self-in-Bad : goal.invariant_of-self-in-Bad
+invariant_of-self-in-Bad c = grind (arith, common_steps)
+
+pub returns-in-Bad-clause-bad : goal.returns-in-Bad-clause-bad
+returns-in-Bad-clause-bad c = grind (arith, common_steps)
+
+pub returns-after-frame-clause-given : goal.returns-after-frame-clause-given
+returns-after-frame-clause-given c = grind (arith, common_steps)
+
+pub returns-in-Unfinished-clause-nothing : goal.returns-in-Unfinished-clause-nothing
+returns-in-Unfinished-clause-nothing c = grind (arith, common_steps)
+
+pub invariant_of-self : goal.invariant_of-self
+invariant_of-self c = grind arith
+
+pub invariant_of-self-in_default : goal.invariant_of-self-in_default
+invariant_of-self-in_default c = grind arith

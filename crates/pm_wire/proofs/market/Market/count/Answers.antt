@@ -19,3 +19,6 @@ returns-in-Ok-clause-counted c = search rules
 
 pub returns-in-Ok-clause-answered : goal.returns-in-Ok-clause-answered
 returns-in-Ok-clause-answered c = search rules
+
+pub returns-clause-sound : goal.returns-clause-sound
+returns-clause-sound c = grind arith

@@ -1,4 +1,5 @@
-use Rattle.std.proofs.Common.{subst}
+use Rattle.std.proofs.Common.{subst, arith}
+use Rattle.std.proofs.lemmas.Grind.{common_steps}
 use Rattle.pm_wire.specs.declared.frame.Frame.{Frame}
 use Rattle.pm_wire.specs.Frames.{IsAccepted}
 use Rattle.pm_wire.proofs.Markets.{accepted_small}
@@ -8,3 +9,6 @@ pub count-requires-clause-small : goal.count-requires-clause-small
 count-requires-clause-small c =
     let P : Frame → Type 0 = λ frame. IsAccepted frame in
     accepted_small _ _ (subst P c.in-Bid.is c.requires.stands.accepted).1
+
+pub count-requires-in-Gone-clause-steps : goal.count-requires-in-Gone-clause-steps
+count-requires-in-Gone-clause-steps c = grind (arith, common_steps)
