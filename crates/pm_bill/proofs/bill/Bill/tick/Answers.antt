@@ -3,6 +3,7 @@ use Rattle.std.proofs.Common.{neg_ℤ, ◌+ℤ◌, ◌-ℤ◌, List}
 use Rattle.std.specs.Prelude.{IsTrue}
 use Rattle.std.specs.Int.{w128}
 use Rattle.std.proofs.lemmas.Int.{ints, to_z-of_z}
+use Rattle.std.proofs.lemmas.Grind.{common_steps}
 use Rattle.pm_base.specs.Limits.{most_phases, IsWithin}
 use Rattle.pm_plan.specs.Kept.{are_minutes}
 use Rattle.pm_bill.specs.declared.share.Share.{Share}
@@ -138,3 +139,9 @@ returns-clause-minutes c =
     let asked = of_fields c.args.self.now _ c.args.shares.now c.self.view_is c.requires.ticks c.requires.shares in
     let minutes = minutes_after c.self.inside.ticks c.self.inside.minutes c.args.minutes asked.0 c.self.invariant.minutes_of c.requires.minutes in
     minutes ∙ ap (λ (bill : BillData). bill.minutes +ℤ c.args.minutes) c.self.view_is
+
+pub add-requires-clause-old : goal.add-requires-clause-old
+add-requires-clause-old c = omega (arith, ints)
+
+pub returns-clause-one_each : goal.returns-clause-one_each
+returns-clause-one_each c = grind (arith, common_steps)
