@@ -1,6 +1,7 @@
 use Rattle.std.proofs.Common.{rules, ◌∙◌, ap, ◌+◌, ◌<◌, length, ◌∷◌, ◌++◌, [], arith, FitsSigned, w64}
 use Rattle.std.proofs.lemmas.Bool.Decides.{nat_tests}
 use Rattle.std.proofs.lemmas.Int.{to_z-of_z}
+use Rattle.std.proofs.lemmas.Grind.{common_steps}
 use Rattle.pm_ask.specs.TargetLists.{most_targets, IsFirstBadLine}
 use Rattle.pm_ask.proofs.TargetTexts.{no_list, read_to_end, target_pushed}
 use Rattle.pm_ask.proofs.target_list.read_targets.Goals as goal
@@ -29,3 +30,9 @@ returns-clause-refused c = λ line is.
     let list = c.loop-rest.invariant.list in
     let read = read_to_end c.loop-rest.targets.items c.loop-rest.rest.now c.args.text.now list c.loop-rest.invariant.parts (grind (arith, nat_tests)) in
     absurd (no_list _ line _ read is)
+
+pub loop-rest-smaller : goal.loop-rest-smaller
+loop-rest-smaller c = grind (arith, common_steps)
+
+pub returns-clause-read : goal.returns-clause-read
+returns-clause-read c = grind (arith, common_steps)
