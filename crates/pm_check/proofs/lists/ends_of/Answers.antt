@@ -1,9 +1,8 @@
-use Rattle.std.proofs.Common.{◌≡◌, ◌∙◌, ◌+◌, ◌-◌, sym, ap, refl, subst, List, ℕ, Vec, Global, length, map, arith}
+use Rattle.std.proofs.Common.{◌≡◌, ◌∙◌, ap, ℕ, Vec, Global, length, map, arith}
 use Rattle.std.specs.Prelude.{replicate}
-use Rattle.std.specs.List.{range_with_len}
 use Rattle.std.proofs.lemmas.List.{map-append}
+use Rattle.std.proofs.lemmas.Result.{err_from_is_err_and}
 use Rattle.pm_plan.specs.Plans.{end_cut, node_numbers}
-use Rattle.pm_plan.proofs.Ends.{end-none}
 use Rattle.pm_check.proofs.PlanLists.{next_mapped, no_ends}
 use Rattle.pm_check.proofs.lists.ends_of.Goals as goal
 
@@ -24,3 +23,6 @@ loop-at-preserved c = record {
       ∙ next_mapped (λ (p : ℕ). map (end_cut c.args.plan.now p) (node_numbers c.args.plan.now)) _ c.loop-at.at _
       c.loop-at.invariant.rows c.in_ok-row.ensures;
 }
+
+pub returns-in_err-row : goal.returns-in_err-row
+returns-in_err-row c = rw (err_from_is_err_and c.from_residual-in_err-row.result c.from_residual-in_err-row.ensures.1).1 tt

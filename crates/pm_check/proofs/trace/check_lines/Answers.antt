@@ -1,6 +1,7 @@
-use Rattle.std.proofs.Common.{◌≡◌, ◌≢◌, ap, length, arith}
+use Rattle.std.proofs.Common.{◌≢◌, ap, length, arith}
 use Rattle.std.proofs.lemmas.Bool.Decides.{nat_tests}
 use Rattle.std.proofs.lemmas.List.{nil_from_length}
+use Rattle.std.proofs.lemmas.Grind.{common_steps}
 use Rattle.pm_check.proofs.Judging.{judging_start, above_small, cut_short, not_a_move, not_the_count, not_the_end, is_valid, judging_next}
 use Rattle.pm_check.proofs.trace.check_lines.Goals as goal
 
@@ -88,3 +89,6 @@ pub returns-clause-bad : goal.returns-clause-bad
 returns-clause-bad c =
     cut_short c.args.plan.now c.args.report.now c.args.trace.now c.args.reported.lines c.loop-line.judge c.loop-line.moves c.loop-line.rest.now
     c.loop-line.invariant c.in_default.ensures.none
+
+pub loop-line-smaller : goal.loop-line-smaller
+loop-line-smaller c = grind (arith, common_steps)

@@ -1,4 +1,4 @@
-use Rattle.std.proofs.Common.{◌≡◌, ◌∙◌, ◌+◌, ◌-◌, ap, sym, subst, ℕ, Vec, Global, map}
+use Rattle.std.proofs.Common.{◌∙◌, ◌+◌, ◌-◌, ap, sym, subst, ℕ, Vec, Global, map, arith}
 use Rattle.std.proofs.lemmas.List.{map-append}
 use Rattle.pm_base.specs.Cuts.{Cut, cut_of}
 use Rattle.pm_walk.specs.Auctions.{auction_cut}
@@ -24,3 +24,15 @@ returns-clause-row c = (
     ap (map (λ (row : Vec ℕ Global). row.items)) c.in_ok-push.ensures.items ∙ map-append (λ (row : Vec ℕ Global). row.items) _ _,
   ),
 )
+
+pub raise-requires-clause-auction : goal.raise-requires-clause-auction
+raise-requires-clause-auction c = grind arith
+
+pub returns-in_err-row-clause-auction : goal.returns-in_err-row-clause-auction
+returns-in_err-row-clause-auction c = grind arith
+
+pub returns-in_err-push-clause-auction : goal.returns-in_err-push-clause-auction
+returns-in_err-push-clause-auction c = grind arith
+
+pub returns-clause-auction : goal.returns-clause-auction
+returns-clause-auction c = grind arith
