@@ -4,3 +4,4 @@ pub mod Loops
 pub mod Legality
 pub mod Due
 pub mod Tables
+mod Kept
