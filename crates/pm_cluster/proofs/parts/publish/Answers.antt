@@ -69,7 +69,8 @@ returns-in-Err-clause-none c e =
 
 pub index_mut-up-requires : goal.index_mut-up-requires
 index_mut-up-requires c =
-    let row = row_read (λ row. row.items) c.args.links.now.items c.args.parent c.index_mut-row.result.now c.requires.parent c.index_mut-row.ensures.value in
+    let read = c.index_mut-row.ensures.value in
+    let row = row_read (λ row. row.items) c.args.links.now.items c.args.parent c.index_mut-row.result.now c.requires.parent read in
     omega (arith, c.requires.place, ap length row, c.index_mut-row.result.now.ok.0)
 
 pub returns-in-Err-clause-alone : goal.returns-in-Err-clause-alone

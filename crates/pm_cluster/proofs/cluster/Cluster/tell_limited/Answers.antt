@@ -47,4 +47,5 @@ returns-else-is_some-clause-end c =
     let unlimited : is_limited plan g ≡ false =
     sym (is_some-option_map _ (limits_of (node plan g))) ∙ ap is_some (sym c.limits.ensures) ∙ sym c.is_some.ensures ∙ c.if-is_some.false in
     of_value c.self.inside c.args.self.now c.self.view_is (λ p s. c.args.out.now.end ≡ with_lines (lines ++ limited_at p s.counts g)) (λ s stands.
-    ap with_lines (sym (append-nil lines)) ∙ ap (λ b. with_lines (lines ++ cond b (limited_line plan (state plan) s.counts g ∷ []) [])) (sym unlimited))
+    ap with_lines (sym (append-nil lines))
+    ∙ ap (λ b. with_lines (lines ++ cond b (limited_line plan (state plan) s.counts g ∷ []) [])) (sym unlimited))
