@@ -1,7 +1,5 @@
-use Rattle.std.proofs.Common.{rules, ◌∙◌, ap, sym, length, arith}
+use Rattle.std.proofs.Common.{rules}
 use Rattle.pm_cache.specs.CacheFields.{cache_of}
-use Rattle.pm_cache.specs.Cache.{Cache}
-use Rattle.pm_cache.proofs.Answered.{answered}
 use Rattle.pm_cache.proofs.Entries.{replace_within, replace_enters, resized}
 use Rattle.pm_cache.proofs.cache.BidCache.replace.Goals as goal
 
@@ -24,16 +22,3 @@ returns-clause-replaced g c =
 
 pub returns-clause-cost : goal.returns-clause-cost
 returns-clause-cost g c = search rules
-
-pub returns-clause-answer : goal.returns-clause-answer
-returns-clause-answer g c =
-    sym c.in_ok-check_newer.was ∙ c.check_newer.ensures
-    ∙ answered (cache_of c.self.inside) _ c.args.child c.args.number c.index.result.now c.self.view_is c.requires.child c.index.ensures
-
-pub index_mut-old-requires : goal.index_mut-old-requires
-index_mut-old-requires g c =
-    let same_heads = ap (λ (v : Cache). length v.heads) c.self.view_is in
-    omega (arith, c.requires.child, same_heads, c.self.inside.demands.ok, c.self.invariant.sound.same_children)
-
-pub index_mut-requires : goal.index_mut-requires
-index_mut-requires g c = omega (arith, c.requires.child, ap (λ (v : Cache). length v.heads) c.self.view_is, c.self.inside.heads.ok)
