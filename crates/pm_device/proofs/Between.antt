@@ -1,5 +1,5 @@
 -- What the tests of limits say, as facts that arithmetic reads.
-use Rattle.std.proofs.Common.{arith, ℤ, pos, neg_ℤ, ◌≤ℤ◌, ◌<ℤ◌, int_lt, IsTrue, Bool, true, false, ◌&&◌, ◌≡◌}
+use Rattle.std.proofs.Common.{arith, ℤ, pos, neg_ℤ, ◌≤ℤ◌, ◌<ℤ◌, int_lt, IsTrue, Bool, true, false, ◌&&◌, ◌≡◌, w64, to_z, of_z}
 use Rattle.std.proofs.lemmas.Int.{ints}
 use Rattle.pm_device.specs.Kinds.{temperature_limit, change_limit, power_limit, capacity_limit, spread_limit, is_between, is_temperature, is_band, is_change}
 use Rattle.pm_device.specs.Kinds.{are_changes, is_power, is_thermal, is_battery}
@@ -22,6 +22,13 @@ is_between-holds low high number h = grind (arith, ints)
 -- what passes as a temperature is at most the limit of temperatures away from 0
 pub is_temperature-tells : (number : ℤ) → IsTrue (is_temperature number) → Between (neg_ℤ (pos temperature_limit)) (pos temperature_limit) number
 is_temperature-tells number h = is_between-tells (neg_ℤ (pos temperature_limit)) (pos temperature_limit) number h
+
+-- a temperature stays one as 64 bits
+pub temperature_kept : (n : ℤ) → IsTrue (is_temperature n) → IsTrue (is_temperature (to_z w64 (of_z w64 n)))
+temperature_kept n h =
+    let within = is_temperature-tells n h in
+    let same : to_z w64 (of_z w64 n) ≡ n = omega (arith, ints) in
+    rw same h
 
 -- what passes as a temperature's change lies between 0 and the limit of changes
 pub is_change-tells : (number : ℤ) → IsTrue (is_change number) → Between (pos 0) (pos change_limit) number

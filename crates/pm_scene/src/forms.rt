@@ -6,7 +6,7 @@ use crate::values::has_member;
 use serde_json::Value;
 
 /// The kind that a node's text names.
-#[derive(Clone, Copy)]
+#[derive(Clone, Copy, PartialEq, Eq)]
 pub(crate) enum KindName {
     Concentrator,
     Limited,

@@ -5,13 +5,6 @@ use Rattle.pm_base.specs.Limits.{demand_limit}
 use Rattle.pm_device.specs.Kinds.{is_temperature, is_band, is_power, is_battery, is_between, capacity_limit}
 use Rattle.pm_device.proofs.Between.{Between, is_temperature-tells, is_band-tells, is_power-tells, is_battery-tells, is_between-tells}
 
--- a temperature stays one
-pub temperature_kept : (n : ℤ) → IsTrue (is_temperature n) → IsTrue (is_temperature (to_z w64 (of_z w64 n)))
-temperature_kept n h =
-    let within = is_temperature-tells n h in
-    let same : to_z w64 (of_z w64 n) ≡ n = omega (arith, ints) in
-    rw same h
-
 -- a power stays one
 pub power_kept : (n : ℤ) → IsTrue (is_power n) → IsTrue (is_power (to_z w64 (of_z w64 n)))
 power_kept n h =

@@ -3,7 +3,7 @@ use crate::wrong::{Verdict, has_status, has_text, is_last_call};
 use pm_top::Status;
 
 /// What a command answers to one input each time.
-#[derive(Clone, Copy)]
+#[derive(Clone, Copy, PartialEq, Eq)]
 pub(crate) enum Form {
     /// One text.
     Text,

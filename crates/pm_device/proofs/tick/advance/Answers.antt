@@ -5,15 +5,8 @@ use Rattle.pm_device.specs.Kinds.{capacity_limit}
 use Rattle.pm_device.specs.Ticks.{tick}
 use Rattle.pm_device.specs.declared.kind.Kind.{Kind}
 use Rattle.pm_device.specs.declared.kind.Kind.TheVariants.{Battery}
-use Rattle.pm_device.proofs.Between.{Between, is_between-tells, is_between-holds, is_battery-tells, is_temperature-tells, is_change-tells, both_true}
+use Rattle.pm_device.proofs.Between.{Between, is_between-tells, is_between-holds, is_battery-tells, temperature_kept, is_change-tells, both_true}
 use Rattle.pm_device.proofs.tick.advance.Goals as goal
-
--- a temperature stays one as 64 bits
-temperature_kept : (n : ℤ) → IsTrue (is_temperature n) → IsTrue (is_temperature (to_z w64 (of_z w64 n)))
-temperature_kept n h =
-    let within = is_temperature-tells n h in
-    let same : to_z w64 (of_z w64 n) ≡ n = omega (arith, ints) in
-    rw same h
 
 -- a change stays one as 64 bits
 change_kept : (n : ℤ) → IsTrue (is_change n) → IsTrue (is_change (to_z w64 (of_z w64 n)))

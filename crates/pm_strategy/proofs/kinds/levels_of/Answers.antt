@@ -1,10 +1,10 @@
 use Rattle.std.proofs.Common.{arith, rules, ◌≡◌, ◌∙◌, sym, subst, IsTrue, pos, neg_ℤ, ◌-ℤ◌, w64, to_z, of_z}
 use Rattle.std.proofs.lemmas.Int.{ints}
 use Rattle.pm_device.specs.Kinds.{is_valid, is_battery, state_fits}
-use Rattle.pm_device.proofs.Between.{Thermal, is_thermal-tells, is_battery-tells}
+use Rattle.pm_device.proofs.Between.{Thermal, is_thermal-tells, is_battery-tells, temperature_kept}
 use Rattle.pm_strategy.specs.Strategies.{strategy_demand}
 use Rattle.pm_strategy.proofs.BidLaws.{turned_round}
-use Rattle.pm_strategy.proofs.Kept.{temperature_kept, power_kept, band_kept, battery_kept, charge_kept}
+use Rattle.pm_strategy.proofs.Kept.{power_kept, band_kept, battery_kept, charge_kept}
 use Rattle.pm_strategy.proofs.kinds.levels_of.Goals as goal
 
 pub returns-in-Freezer : goal.returns-in-Freezer
