@@ -18,3 +18,12 @@ invariant_of-result c =
       even = no_rest (to_z w64 (of_z w64 (max -ℤ min))) (to_z w64 (of_z w64 (steps -ℤ pos 1))) (max -ℤ min)
           (pos (unsigned_abs steps) -ℤ pos 1) (sym c.leaves_rest.ensures ∙ c.if-leaves_rest.false) (omega (arith, ints)) (omega (arith, ints));
     }
+
+pub returns-then-max-min : goal.returns-then-max-min
+returns-then-max-min c = grind (arith, ints)
+
+pub returns-then-leaves_rest : goal.returns-then-leaves_rest
+returns-then-leaves_rest c = grind (arith, ints)
+
+pub returns : goal.returns
+returns c = grind (arith, ints)

@@ -1,0 +1,5 @@
+use Rattle.std.proofs.Common.{rules}
+use Rattle.pm_strategy.proofs.kinds.from_share.Goals as goal
+
+pub returns : goal.returns
+returns c = search rules
