@@ -1,4 +1,4 @@
-use Rattle.std.proofs.Common.{◌≡◌, ◌∙◌, sym, ap, subst, ◌+◌, length}
+use Rattle.std.proofs.Common.{◌∙◌, sym, ap, subst, ◌+◌, length}
 use Rattle.pm_base.specs.Limits.{AreSteps, sum_limit}
 use Rattle.pm_bid.specs.Bids.{taken_off, AllWithinLimit}
 use Rattle.pm_bid.proofs.WrittenOver.{written_over}
@@ -13,23 +13,20 @@ take_each-requires-clause-within g c =
     subst (λ bid. AllWithinLimit sum_limit (taken_off bid c.deref.result.now)) (sym (c.deref_mut.ensures.value ∙ c.self.view_is))
     (subst (λ bid. AllWithinLimit sum_limit (taken_off c.args.self.now bid)) (sym (c.deref.ensures.value ∙ c.other.view_is)) c.requires.within)
 
-pub invariant_of-self : goal.invariant_of-self
-invariant_of-self g c =
-    let same = c.take_each.auto.demands in
-    let is : c.take_each.new.demands ≡ taken_off c.args.self.now c.args.other.now = c.take_each.ensures.rest
-    ∙ ap (λ bid. taken_off bid c.deref.result.now) (c.deref_mut.ensures.value ∙ c.self.view_is)
-    ∙ ap (taken_off c.args.self.now) (c.deref.ensures.value ∙ c.other.view_is) in
-    rw (written_over c.take_each.new.demands c.self.inside.demands.items c.self.inside.demands.len (same ∙ c.deref_mut.ensures.len))
-    (record {
-      steps = subst AreSteps (sym (same ∙ ap length c.deref_mut.ensures.value)) c.self.invariant.steps;
-      within = subst (AllWithinLimit sum_limit) (sym is) c.requires.within;
-    })
-
 pub returns-clause-rest : goal.returns-clause-rest
 returns-clause-rest g c =
     written_over c.take_each.new.demands c.self.inside.demands.items c.self.inside.demands.len (c.take_each.auto.demands ∙ c.deref_mut.ensures.len)
     ∙ c.take_each.ensures.rest ∙ ap (λ bid. taken_off bid c.deref.result.now) (c.deref_mut.ensures.value ∙ c.self.view_is)
     ∙ ap (taken_off c.args.self.now) (c.deref.ensures.value ∙ c.other.view_is)
+
+pub invariant_of-self : goal.invariant_of-self
+invariant_of-self g c =
+    let same = c.take_each.auto.demands in
+    let is = written_over c.take_each.new.demands c.self.inside.demands.items c.self.inside.demands.len (same ∙ c.deref_mut.ensures.len) in
+    rw is (record {
+      steps = subst AreSteps (sym (same ∙ ap length c.deref_mut.ensures.value)) c.self.invariant.steps;
+      within = subst (AllWithinLimit sum_limit) (sym (sym is ∙ returns-clause-rest g c)) c.requires.within;
+    })
 
 pub returns-clause-cost : goal.returns-clause-cost
 returns-clause-cost g c = c.take_each.ensures.cost ∙ ap (λ bid. c.args.counter.now + length bid) (c.deref_mut.ensures.value ∙ c.self.view_is)
