@@ -1,8 +1,8 @@
 -- A child's bid on its way into the cache of its parent.
-use Rattle.std.specs.Prelude.{◌≡◌, ℕ, ◌<◌, ℤ, List, length, Option, Some, None, if◌then◌else◌, nat_le, All}
-use Rattle.pm_bid.specs.Bids.{AllWithinLimit, zeros}
-use Rattle.pm_base.specs.Limits.{demand_limit, sum_limit}
-use Rattle.pm_cache.specs.Cache.{Cache, with_bid, with_gone, kept_number, aggregate_with}
+use Rattle.std.specs.Prelude.{◌≡◌, ℕ, ◌<◌, ℤ, pos, ◌+ℤ◌, ◌-ℤ◌, List, length, Option, Some, None, if◌then◌else◌, nat_le, All}
+use Rattle.pm_bid.specs.Bids.{AllWithinLimit, demand_at, zeros}
+use Rattle.pm_base.specs.Limits.{demand_limit, sum_limit, IsWithin}
+use Rattle.pm_cache.specs.Cache.{Cache, with_bid, with_gone, kept_number, child_demand, aggregate_of, aggregate_with}
 
 -- the demand that a child offers: none is all zeros
 abbrev pub offered : Cache → Option (List ℤ) → List ℤ
@@ -15,6 +15,16 @@ pub record CanLearn (cache : Cache) (child : ℕ) (demand : Option (List ℤ)) :
   pub is_child : child < length cache.heads
   pub equal_lengths : length (offered cache demand) ≡ cache.steps
   pub within : AllWithinLimit sum_limit (aggregate_with cache child (offered cache demand))
+
+-- the demand that is offered at a step: none is 0
+abbrev pub offered_at : Option (List ℤ) → ℕ → ℤ
+offered_at None step = pos 0
+offered_at (Some bid) step = demand_at bid step
+
+-- at this step the sum, with the demand that is offered in place of the child's, is within the limit
+abbrev pub IsWithinAt : Cache → ℕ → Option (List ℤ) → ℕ → Type 0
+IsWithinAt cache child demand step =
+    IsWithin sum_limit ((demand_at (aggregate_of cache) step -ℤ demand_at (child_demand cache child) step) +ℤ offered_at demand step)
 
 -- the cache with the child's newer bid; none makes the child gone
 abbrev pub entered : Cache → ℕ → ℕ → Option (List ℤ) → Cache

@@ -12,6 +12,7 @@
 
 mod cache;
 mod fault;
+mod learnable;
 
 pub use cache::BidCache;
 pub use fault::CacheFault;

@@ -4,11 +4,10 @@ ghost use Rattle.pm_board.specs.Boards.{kept_ends, ends_to};
 ghost use Rattle.pm_turns.specs.Alone.{AreAgents};
 ghost use Rattle.pm_turns.specs.Settled.{IsSettled};
 
-use crate::node::NodeWork;
-use crate::phase::run_phase;
 use pm_agent::DeviceAgent;
 use pm_board::Board;
 use pm_device::Next;
+use pm_phase::{NodeWork, run_phase};
 use pm_plan::{PhaseEnd, Plan};
 use pm_tree::NodeId;
 use pm_turns::{Gate, OpenGate, change, finish, first_next, make_agents, make_move, turn_of};

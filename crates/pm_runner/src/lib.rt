@@ -4,7 +4,8 @@
 //! moves, one call of the board a turn. What comes out of a lock is known by its type alone, and the type of a board keeps
 //! that its journal is legal and that its ends are those of its closed phases. So once the threads are joined the caller
 //! compares the board's plan with its own, and makes itself whatever moves the board does not show: that all phases are
-//! closed rests on no thread, no wake-up and no fairness. These are its two stages: [`run_threads`] and [`complete`].
+//! closed rests on no thread, no wake-up and no fairness. These are its two stages: [`run_threads`], and [`complete`] of
+//! `pm_turns`.
 //!
 //! [`settle_free`] finds the same ends with threads whose messages pass links without a lock.
 //!
@@ -22,5 +23,5 @@ mod threads;
 mod worker;
 
 pub use pm_free::settle_free;
-pub use pm_turns::{Gate, OpenGate};
-pub use threads::{complete, run_threads, settle};
+pub use pm_turns::{Gate, OpenGate, complete};
+pub use threads::{run_threads, settle};

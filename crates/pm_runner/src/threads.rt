@@ -9,7 +9,7 @@ use crate::worker::{Shared, Worker, give_up, serve_node};
 use pm_board::Board;
 use pm_plan::Plan;
 use pm_tree::NodeId;
-use pm_turns::{Gate, drain, finish, make_agents};
+use pm_turns::{Gate, complete, make_agents};
 use std::alloc::{AllocError, Global};
 use std::sync::{Mutex, Wait};
 use std::thread;
@@ -89,27 +89,6 @@ fn serve_all<R: Threads + Wait + Sync, G: Gate>(
         }
         serve_in_rotation(rt, shared, gate, left.as_slice());
     });
-}
-
-/// The second stage of [`settle`]: what the threads left, completed on this thread; where their board runs another plan, a
-/// new board. It is an error only for want of memory.
-pub fn complete<'p, G: Gate>(
-    alloc: Global,
-    board: Board<'p>,
-    plan: &'p Plan,
-    gate: &G,
-) -> Result<Board<'p>, AllocError>
-    ensures plan { IfOk result (λ b. b.plan ≡ plan.now) }
-    ensures settled { IfOk result IsSettled }
-{
-    if !board.plan().same(plan) {
-        // Before memory is taken for another.
-        drop(board);
-        return drain(alloc, plan, gate);
-    }
-    let mut board = board;
-    finish(alloc, &mut board, gate)?;
-    Ok(board)
 }
 
 /// A worker for each node, the devices' with their agents.

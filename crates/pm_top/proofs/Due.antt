@@ -4,15 +4,16 @@ use Rattle.std.proofs.Common.{sym, ap, subst, refl, inl, inr, arith, append-nil}
 use Rattle.std.proofs.lemmas.List.{length-take}
 use Rattle.std.specs.Io.KnownBytes.{Appends, Consumes, IsAtEnd}
 use Rattle.pm_io.specs.Taken.{TookMore}
-use Rattle.pm_top.specs.Inputs.{input_limit, HasStatus}
+use Rattle.pm_answer.specs.Inputs.{input_limit, HasStatus}
 use Rattle.pm_wire.specs.Streams.{replies, replies_and_fault}
-use Rattle.pm_top.specs.Top.{IsAnswer, IsDue, summary, served, served_fault, served_long, IsServiceEnd, IsSummary, WrotePrefix}
-use Rattle.pm_top.specs.declared.arguments.Command.{Command}
-use Rattle.pm_top.specs.declared.arguments.Command.TheVariants.{Demo, Serve}
-use Rattle.pm_top.specs.declared.arguments.FileCommand.{FileCommand}
-use Rattle.pm_top.specs.declared.status.Status.{Status}
-use Rattle.pm_top.specs.declared.status.Status.TheVariants.{Done, Invalid, Usage, TooLong, Refused, ReadFault, WriteFault, NoMemory}
-use Rattle.pm_top.proofs.Meanings.{one_status, long_status}
+use Rattle.pm_answer.specs.Answers.{IsAnswer, IsSummary}
+use Rattle.pm_top.specs.Top.{IsDue, summary, served, served_fault, served_long, IsServiceEnd, WrotePrefix}
+use Rattle.pm_answer.specs.declared.arguments.Command.{Command}
+use Rattle.pm_answer.specs.declared.arguments.Command.TheVariants.{Demo, Serve}
+use Rattle.pm_answer.specs.declared.arguments.FileCommand.{FileCommand}
+use Rattle.pm_answer.specs.declared.status.Status.{Status}
+use Rattle.pm_answer.specs.declared.status.Status.TheVariants.{Done, Invalid, Usage, TooLong, Refused, ReadFault, WriteFault, NoMemory}
+use Rattle.pm_answer.proofs.Meanings.{one_status, long_status}
 
 -- a demo's summary is due with the status Done, which is the one that is left
 pub summary_is_due : (old new : Option (List ℕ)) (command : Option Command) (size number : ℕ) (status : Status) (text : List ℕ) →

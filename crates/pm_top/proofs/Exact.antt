@@ -6,14 +6,15 @@ use Rattle.std.proofs.lemmas.List.{length-take}
 use Rattle.pm_plan.specs.declared.refusal.Refusal.{Refusal}
 use Rattle.pm_report.specs.Words.{text_line}
 use Rattle.pm_report.specs.Refusal.{refusal_line, place_text, item_words}
-use Rattle.pm_top.specs.Inputs.{input_limit, IsRefusalOf, is_refused}
-use Rattle.pm_top.specs.Top.{WrotePrefix, IsAnswer, refused, planned, valid, invalid, IsDue, usage, too_long, answered, summary, served, served_fault}
+use Rattle.pm_answer.specs.Inputs.{input_limit, IsRefusalOf, is_refused}
+use Rattle.pm_answer.specs.Answers.{IsAnswer, refused, planned, valid, invalid}
+use Rattle.pm_top.specs.Top.{WrotePrefix, IsDue, usage, too_long, answered, summary, served, served_fault}
 use Rattle.pm_top.specs.Top.{served_long}
-use Rattle.pm_top.specs.declared.arguments.Command.TheVariants.{File}
-use Rattle.pm_top.specs.declared.arguments.FileCommand.{FileCommand}
-use Rattle.pm_top.specs.declared.status.Status.{Status}
-use Rattle.pm_top.specs.declared.status.Status.TheVariants.{Refused, ReadFault, WriteFault, NoMemory}
-use Rattle.pm_top.proofs.Meanings.{one_refusal, not_both, no_judgement}
+use Rattle.pm_answer.specs.declared.arguments.Command.TheVariants.{File}
+use Rattle.pm_answer.specs.declared.arguments.FileCommand.{FileCommand}
+use Rattle.pm_answer.specs.declared.status.Status.{Status}
+use Rattle.pm_answer.specs.declared.status.Status.TheVariants.{Refused, ReadFault, WriteFault, NoMemory}
+use Rattle.pm_answer.proofs.Meanings.{one_refusal, not_both, no_judgement}
 use Rattle.pm_top.proofs.Due.{Answers}
 
 not_empty : (r : Refusal) → 0 < length (refusal_line r)

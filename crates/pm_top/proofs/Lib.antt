@@ -1,9 +1,2 @@
-pub mod Digits
-pub mod Ends
-pub mod JournalLines
-pub mod Settled
-pub mod Meanings
-pub mod Answering
-pub mod Exact
-pub mod Due
-pub mod Reports
+mod Exact
+mod Due

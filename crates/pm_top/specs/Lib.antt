@@ -1,4 +1,1 @@
-pub mod Arguments
-pub mod Codes
-pub mod Inputs
 pub mod Top

@@ -1,9 +1,6 @@
 //! A cluster file under gates that hold the threads of its nodes back.
 
-mod holding;
-mod schedule;
 mod trial;
-mod tried;
 
 use crate::call::{Outcome, Surroundings, called, words_of};
 use crate::form::Form;
@@ -11,10 +8,10 @@ use crate::judge::judged;
 use crate::piece::Piece;
 use crate::tally::Tally;
 use crate::wrong::{Verdict, is_answer};
+use pm_gates::{SCHEDULES, Schedule};
 use pm_runner::{Gate, OpenGate};
 use pm_scene::read_scene;
 use pm_tree::Tree;
-use schedule::{SCHEDULES, Schedule};
 use std::alloc::{AllocError, Global};
 use std::sync::Wait;
 use std::thread::Threads;

@@ -3,7 +3,7 @@ use pm_top::Status;
 use thiserror::Error;
 
 /// What is wrong with an outcome.
-#[derive(Clone, Copy, Debug, PartialEq, Eq, Error)]
+#[derive(Clone, Copy, Debug, Error)]
 pub(crate) enum Wrong {
     #[error("it ends with {came:?}, and {due:?} is due")]
     Status { due: Status, came: Status },

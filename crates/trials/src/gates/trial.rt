@@ -1,4 +1,4 @@
-use super::schedule::Schedule;
+use pm_gates::Schedule;
 use std::fmt;
 
 /// A command that is tried under a gate.

@@ -1,10 +1,10 @@
 use Rattle.std.proofs.Common.{◌∙◌, refl, Some, subst, sym, length, ap, arith}
 use Rattle.std.specs.Io.KnownBytes.{Consumes}
 use Rattle.pm_io.specs.Taken.{TookMore}
-use Rattle.pm_top.specs.Inputs.{input_limit}
+use Rattle.pm_answer.specs.Inputs.{input_limit}
 use Rattle.pm_top.specs.Top.{too_long_line, IsDue, too_long, answered, IsRead}
-use Rattle.pm_top.specs.declared.arguments.Command.TheVariants.{File}
-use Rattle.pm_top.specs.declared.status.Status.TheVariants.{TooLong}
+use Rattle.pm_answer.specs.declared.arguments.Command.TheVariants.{File}
+use Rattle.pm_answer.specs.declared.status.Status.TheVariants.{TooLong}
 use Rattle.pm_top.proofs.Due.{given_is_due, prefix_is_due, read_answers, long_answers}
 use Rattle.pm_top.proofs.top.file.Given.{Over}
 use Rattle.pm_top.proofs.top.file.Goals as goal

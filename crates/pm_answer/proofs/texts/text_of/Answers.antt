@@ -1,0 +1,5 @@
+use Rattle.std.proofs.Common.{rules}
+use Rattle.pm_answer.proofs.texts.text_of.Goals as goal
+
+pub returns-in-Run : goal.returns-in-Run
+returns-in-Run g c = search rules

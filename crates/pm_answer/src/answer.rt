@@ -1,0 +1,169 @@
+ghost use Rattle.std.specs.Prelude.{◌≡◌, ◌≢◌, ℕ, List, All, IfOk, IfSome, IfNone};
+ghost use Rattle.pm_base.specs.Limits.{IsWithin, demand_limit};
+ghost use Rattle.pm_report.specs.Refusal.{refusal_line};
+ghost use Rattle.pm_ask.specs.TargetLists.{IsFirstBadLine};
+ghost use Rattle.pm_answer.specs.Inputs.{HasFile, HasPlan, AreAsked};
+ghost use Rattle.pm_answer.specs.Answers.{IsAnswer, valid_line, invalid_line};
+
+use crate::arguments::FileCommand;
+use crate::status::Status;
+use crate::texts::text_of;
+use pm_ask::{TargetsFault, read_targets};
+use pm_check::{CheckFault, check};
+use pm_envelope::{Envelope, open_envelope};
+use pm_plan::{Cause, Place, Plan, Refusal};
+use pm_report::refusal_line;
+use pm_runner::Gate;
+use pm_scene::{SceneFault, read_scene};
+use std::alloc::{AllocError, Global};
+use std::sync::Wait;
+use std::thread::Threads;
+
+/// What is due for an input: a status, and the text that comes with it.
+#[derive(Drop)]
+pub struct Answer {
+    /// Done, Invalid or Refused.
+    pub status: Status,
+    /// All of the text, in bytes.
+    pub text: Vec<u8>,
+}
+
+/// The answer to an input of these bytes, which is an error only for want of memory.
+///
+/// It is Done with the text that is asked for of the input's plan, or Refused with the line of its refusal. For a trace it is
+/// Done with the number of its moves, or Invalid with its bad line. A cluster runs with a thread for each of its nodes, and
+/// the gate is told of each turn that a node takes. How long the input is plays no part.
+pub fn answer_of<R: Threads + Wait + Sync, G: Gate>(
+    rt: &R,
+    alloc: Global,
+    asked: FileCommand,
+    input: &[u8],
+    gate: &G,
+) -> Result<Answer, AllocError>
+    ensures { IfOk result (λ answer. IsAnswer asked input.now answer.status answer.text.items) }
+{
+    let Some(envelope) = open_input(asked, input) else {
+        return refused(alloc, Refusal::at(Cause::BadEnvelope, Place::Document));
+    };
+    match read_scene(alloc, envelope.file) {
+        Ok(plan) => match asked {
+            FileCommand::Check => trace_answer(rt, alloc, &plan, input, envelope.rest, gate),
+            _ => plan_answer(rt, alloc, asked, &plan, input, envelope.rest, gate),
+        },
+        Err(SceneFault::Refused(refusal)) => refused(alloc, refusal),
+        Err(SceneFault::NoMemory) => Err(AllocError),
+    }
+}
+
+/// The cluster file of an input, and what stands behind it.
+fn open_input(asked: FileCommand, input: &[u8]) -> Option<Envelope<'_>>
+    ensures some { IfSome result (λ envelope. HasFile asked input.now envelope.file.now envelope.rest.now) }
+    ensures none { IfNone result ((file rest : List ℕ) → HasFile asked input.now file rest → ⊥) }
+{
+    match asked {
+        FileCommand::Check | FileCommand::Ask => open_envelope(input),
+        FileCommand::Run | FileCommand::Trace | FileCommand::Bill | FileCommand::Free => {
+            let (file, rest) = (input, &input[input.len()..]);
+            Some(Envelope { file, rest })
+        }
+    }
+}
+
+/// The answer of a refusal: its line.
+fn refused(alloc: Global, refusal: Refusal) -> Result<Answer, AllocError>
+    ensures status { IfOk result (λ answer. answer.status ≡ Status.Refused) }
+    ensures text { IfOk result (λ answer. answer.text.items ≡ refusal_line refusal) }
+{
+    let text = refusal_line(alloc, &refusal)?;
+    let status = Status::Refused;
+    Ok(Answer { status, text })
+}
+
+/// The answer to an input with a plan, behind whose file this stands: the text that is asked for, or the line of a refusal.
+fn plan_answer<R: Threads + Wait + Sync, G: Gate>(
+    rt: &R,
+    alloc: Global,
+    asked: FileCommand,
+    plan: &Plan,
+    input: &[u8],
+    rest: &[u8],
+    gate: &G,
+) -> Result<Answer, AllocError>
+    requires plan { HasPlan asked input.now plan.now rest.now }
+    requires text { asked ≢ FileCommand.Check }
+    ensures { IfOk result (λ answer. IsAnswer asked input.now answer.status answer.text.items) }
+{
+    match targets_of(alloc, asked, rest) {
+        Ok(targets) => {
+            let text = text_of(rt, alloc, asked, plan, &targets, gate)?;
+            let status = Status::Done;
+            Ok(Answer { status, text })
+        }
+        Err(TargetsFault::Bad { line }) => {
+            let place = Place::Line { number: line };
+            refused(alloc, Refusal::at(Cause::BadTarget, place))
+        }
+        Err(TargetsFault::NoMemory) => Err(AllocError),
+    }
+}
+
+/// The judgement of a trace that stands behind a cluster file with a plan: how many moves it has where it is valid, and else
+/// its bad line.
+fn trace_answer<R: Threads + Wait + Sync, G: Gate>(
+    rt: &R,
+    alloc: Global,
+    plan: &Plan,
+    input: &[u8],
+    trace: &[u8],
+    gate: &G,
+) -> Result<Answer, AllocError>
+    requires { HasPlan FileCommand.Check input.now plan.now trace.now }
+    ensures { IfOk result (λ answer. IsAnswer FileCommand.Check input.now answer.status answer.text.items) }
+{
+    let report = text_of(rt, alloc, FileCommand::Run, plan, &[], gate)?;
+    match check(alloc, plan, &report, trace) {
+        Ok(moves) => {
+            let text = valid_line(alloc, moves)?;
+            let status = Status::Done;
+            Ok(Answer { status, text })
+        }
+        Err(CheckFault::Invalid { line }) => {
+            let text = invalid_line(alloc, line)?;
+            let status = Status::Invalid;
+            Ok(Answer { status, text })
+        }
+        Err(CheckFault::NoMemory) => Err(AllocError),
+    }
+}
+
+/// The line of a valid trace.
+fn valid_line(alloc: Global, moves: u64) -> Result<Vec<u8>, AllocError>
+    ensures { IfOk result (λ text. text.items ≡ valid_line moves) }
+{
+    let text = format!(in alloc; "valid moves {moves}\n")?;
+    Ok(text.into_bytes())
+}
+
+/// The line of a trace with a bad line.
+fn invalid_line(alloc: Global, line: u64) -> Result<Vec<u8>, AllocError>
+    ensures { IfOk result (λ text. text.items ≡ invalid_line line) }
+{
+    let text = format!(in alloc; "invalid line {line}\n")?;
+    Ok(text.into_bytes())
+}
+
+/// The targets that stand behind a cluster file, in watts; none where the command takes none.
+fn targets_of(alloc: Global, asked: FileCommand, rest: &[u8]) -> Result<Vec<i64>, TargetsFault>
+    requires { asked ≢ FileCommand.Check }
+    ensures asked { IfOk result (λ targets. AreAsked asked rest.now targets.items) }
+    ensures within { IfOk result (λ targets. All (IsWithin demand_limit) targets.items) }
+    ensures bad { (line : ℕ) → result ≡ Err (TargetsFault.Bad line) → (asked ≡ FileCommand.Ask) × IsFirstBadLine line rest.now }
+{
+    match asked {
+        FileCommand::Ask => read_targets(alloc, rest),
+        FileCommand::Check => unreachable!(),
+        FileCommand::Run | FileCommand::Trace | FileCommand::Bill | FileCommand::Free => {
+            Ok(Vec::new(alloc))
+        }
+    }
+}

@@ -1,2 +1,0 @@
-mod MayLearn
-mod Placing

@@ -1,9 +1,0 @@
-use Rattle.std.proofs.Common.{length}
-use Rattle.pm_free.specs.Ends.{ArePlaced}
-use Rattle.pm_free.proofs.closing.close_all.Given as goal
-
-abbrev pub invariant-loop-link : goal.invariant-loop-link
-invariant-loop-link l = ArePlaced l.links.items l.places.items
-
-abbrev pub decreases-loop-link : goal.decreases-loop-link
-decreases-loop-link l = length l.links.items

@@ -1,5 +1,0 @@
-use Rattle.pm_free.specs.Ends.{AreOf}
-use Rattle.pm_free.proofs.node.make_turns.Given as goal
-
-abbrev pub invariant-loop : goal.invariant-loop
-invariant-loop g l = AreOf l.links l.node

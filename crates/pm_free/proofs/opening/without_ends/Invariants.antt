@@ -1,6 +1,0 @@
-use Rattle.std.proofs.Common.{All, []}
-use Rattle.pm_free.specs.Ends.{AreOf}
-use Rattle.pm_free.proofs.opening.without_ends.Given as goal
-
-abbrev pub invariant-loop-work : goal.invariant-loop-work
-invariant-loop-work l = All (AreOf []) l.nodes.items

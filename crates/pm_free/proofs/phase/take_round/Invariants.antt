@@ -1,9 +1,0 @@
-use Rattle.std.proofs.Common.{All, ◌-◌, length}
-use Rattle.pm_free.specs.Ends.{AreOf}
-use Rattle.pm_free.proofs.phase.take_round.Given as goal
-
-abbrev pub invariant-loop-at : goal.invariant-loop-at
-invariant-loop-at g l = All (AreOf l.links) l.nodes.items
-
-abbrev pub decreases-loop-at : goal.decreases-loop-at
-decreases-loop-at g l = length l.nodes.items - l.at

@@ -1,6 +1,0 @@
-use Rattle.std.proofs.Common.{All}
-use Rattle.pm_free.specs.Ends.{AreOf}
-use Rattle.pm_free.proofs.phase.take_to_end.Given as goal
-
-abbrev pub invariant-loop : goal.invariant-loop
-invariant-loop g l = All (AreOf l.links) l.nodes.items

@@ -1,6 +1,0 @@
-use Rattle.std.proofs.Common.{◌≡◌, All}
-use Rattle.pm_free.specs.Ends.{AreOf}
-use Rattle.pm_free.proofs.threads.gather.Given as goal
-
-abbrev pub invariant-loop-handle : goal.invariant-loop-handle
-invariant-loop-handle g l = All (AreOf l.links) l.back.items × All (λ h. h.promise.0.now ≡ l.links) l.handle-iterator.rest.items

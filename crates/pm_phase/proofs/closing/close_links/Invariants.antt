@@ -1,0 +1,6 @@
+use Rattle.std.proofs.Common.{All}
+use Rattle.pm_phase.specs.Ends.{AreOf, ArePlaced}
+use Rattle.pm_phase.proofs.closing.close_links.Given as goal
+
+abbrev pub invariant-loop-node : goal.invariant-loop-node
+invariant-loop-node l = All (AreOf l.links.items) l.node-iterator.rest.items × ArePlaced l.links.items l.places.items

@@ -1,0 +1,9 @@
+use Rattle.std.proofs.Common.{All, ◌-◌, length}
+use Rattle.pm_phase.specs.Ends.{IsDownOf}
+use Rattle.pm_phase.proofs.node.children_turn.Given as goal
+
+abbrev pub invariant-loop-place : goal.invariant-loop-place
+invariant-loop-place l = All (IsDownOf l.links) l.downs.items
+
+abbrev pub decreases-loop-place : goal.decreases-loop-place
+decreases-loop-place l = length l.downs.items - l.place

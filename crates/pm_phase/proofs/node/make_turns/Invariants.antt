@@ -1,0 +1,5 @@
+use Rattle.pm_phase.specs.Ends.{AreOf}
+use Rattle.pm_phase.proofs.node.make_turns.Given as goal
+
+abbrev pub invariant-loop : goal.invariant-loop
+invariant-loop g l = AreOf l.links l.node

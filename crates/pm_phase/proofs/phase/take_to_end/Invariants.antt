@@ -1,0 +1,6 @@
+use Rattle.std.proofs.Common.{All}
+use Rattle.pm_phase.specs.Ends.{AreOf}
+use Rattle.pm_phase.proofs.phase.take_to_end.Given as goal
+
+abbrev pub invariant-loop : goal.invariant-loop
+invariant-loop g l = All (AreOf l.links) l.nodes.items

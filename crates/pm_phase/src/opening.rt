@@ -1,0 +1,161 @@
+ghost use Rattle.std.specs.Prelude.{◌≡◌, All, IfOk, [], ◌∷◌, ◌++◌};
+ghost use Rattle.pm_cells.specs.Ends.{TableId};
+ghost use Rattle.pm_phase.specs.Ends.{AreOf, IsUpOf, IsDownOf, ArePlaced};
+
+use crate::closing::Places;
+use crate::ends::{DownEnd, UpEnd, put_waiting_bid, take_bid_from_child};
+use crate::node::{FreeNode, NodeWork};
+use pm_cells::{FreeLink, open_link};
+use pm_plan::Plan;
+use pm_tree::NodeId;
+use std::alloc::{AllocError, Global};
+
+/// The links of a phase, one above each node of the file; the places to which their ends are to come back; and the nodes, with
+/// the ends.
+///
+/// On each link the newest bid that the parent learnt from the child, where there is one, is put again and taken at once, so
+/// that a price of the phase may name it.
+pub(crate) fn open_links(
+    alloc: Global,
+    plan: &Plan,
+    works: Vec<NodeWork>,
+    room: usize,
+) -> Result<(Vec<FreeLink>, Vec<Places>, Vec<FreeNode>), AllocError>
+    ensures nodes { IfOk result (λ opened. All (AreOf opened.0.items) opened.2.items) }
+    ensures places { IfOk result (λ opened. ArePlaced opened.0.items opened.1.items) }
+{
+    let mut nodes = without_ends(alloc, works)?;
+    let mut links = Vec::with_capacity(alloc, nodes.len())?;
+    let mut places = Vec::with_capacity(alloc, nodes.len())?;
+    for number in 1..plan.tree().len() + 1 {
+        let (up, down) = add_link(alloc, room, &mut links, &mut places)?;
+        let above = plan.tree().parent(NodeId(number)).0;
+        hand_out(&links, &mut nodes, number, above, up, down)?;
+    }
+    Ok((links, places, nodes))
+}
+
+/// Adds a new link, with empty places for its ends; the two ends.
+fn add_link(
+    alloc: Global,
+    room: usize,
+    links: &mut Vec<FreeLink>,
+    places: &mut Vec<Places>,
+) -> Result<(UpEnd, DownEnd), AllocError>
+    requires places { ArePlaced links.old.items places.old.items }
+    ensures up { IfOk result (λ ends. IsUpOf links.new.items ends.0) }
+    ensures down { IfOk result (λ ends. IsDownOf links.new.items ends.1) }
+    ensures one_more { IfOk result (λ _. (link : TableId) × (links.new.items ≡ links.old.items ++ link ∷ [])) }
+    ensures places { IfOk result (λ _. ArePlaced links.new.items places.new.items) }
+{
+    let (link, child, parent) = open_link(alloc, room)?;
+    let at = links.len();
+    links.push(link)?;
+    places.push(Places {
+        up: None,
+        down: None,
+    })?;
+    Ok((UpEnd { at, end: child }, DownEnd { at, end: parent }))
+}
+
+/// The nodes before they have ends.
+fn without_ends(alloc: Global, works: Vec<NodeWork>) -> Result<Vec<FreeNode>, AllocError>
+    ensures { IfOk result (λ nodes. All (AreOf []) nodes.items) }
+{
+    let mut nodes = Vec::with_capacity(alloc, works.len())?;
+    for work in works {
+        let mut work = work;
+        work.begin();
+        nodes.push(FreeNode {
+            work,
+            up: None,
+            downs: Vec::new(alloc),
+        })?;
+    }
+    Ok(nodes)
+}
+
+/// Hands the two ends of a link to a node and to the one above it.
+fn hand_out(
+    links: &[FreeLink],
+    nodes: &mut Vec<FreeNode>,
+    number: u32,
+    above: u32,
+    up: UpEnd,
+    down: DownEnd,
+) -> Result<(), AllocError>
+    requires up { IsUpOf links.now up }
+    requires down { IsDownOf links.now down }
+    requires nodes { All (AreOf links.now) nodes.old.items }
+    ensures nodes { IfOk result (λ _. All (AreOf links.now) nodes.new.items) }
+{
+    let mut up = up;
+    hand_down(links, nodes, above, &mut up, down)?;
+    hand_up(links, nodes, number, up);
+    Ok(())
+}
+
+/// Hands the upper end of a link to a node.
+fn hand_down(
+    links: &[FreeLink],
+    nodes: &mut Vec<FreeNode>,
+    above: u32,
+    up: &mut UpEnd,
+    down: DownEnd,
+) -> Result<(), AllocError>
+    requires up { IsUpOf links.now up.old }
+    requires down { IsDownOf links.now down }
+    requires nodes { All (AreOf links.now) nodes.old.items }
+    ensures up { IsUpOf links.now up.new }
+    ensures nodes { All (AreOf links.now) nodes.new.items }
+{
+    if above as usize >= nodes.len() {
+        return Ok(());
+    }
+    add_down(links, &mut nodes[above as usize], up, down)
+}
+
+/// Hands the lower end of a link to a node.
+fn hand_up(links: &[FreeLink], nodes: &mut Vec<FreeNode>, number: u32, up: UpEnd)
+    requires up { IsUpOf links.now up }
+    requires nodes { All (AreOf links.now) nodes.old.items }
+    ensures nodes { All (AreOf links.now) nodes.new.items }
+{
+    if number as usize >= nodes.len() {
+        return;
+    }
+    add_up(links, &mut nodes[number as usize], up);
+}
+
+/// Gives a node its end of the link to its parent.
+fn add_up(links: &[FreeLink], node: &mut FreeNode, up: UpEnd)
+    requires up { IsUpOf links.now up }
+    requires node { AreOf links.now node.old }
+    ensures node { AreOf links.now node.new }
+{
+    node.up = Some(up);
+}
+
+/// Gives a node its end of the link to its next child, over which the newest bid that it learnt from that child was taken.
+fn add_down(
+    links: &[FreeLink],
+    node: &mut FreeNode,
+    up: &mut UpEnd,
+    down: DownEnd,
+) -> Result<(), AllocError>
+    requires up { IsUpOf links.now up.old }
+    requires down { IsDownOf links.now down }
+    requires node { AreOf links.now node.old }
+    ensures up { IsUpOf links.now up.new }
+    ensures node { AreOf links.now node.new }
+{
+    let mut down = down;
+    let place = node.downs.len();
+    let mut bid = node.work.take_learnt(place);
+    if put_waiting_bid(links, up, &mut bid) {
+        bid = take_bid_from_child(links, &mut down);
+    }
+    node.work.keep_learnt(place, bid);
+    node.downs.push(down)?;
+    Ok(())
+}
