@@ -13,7 +13,7 @@ use thiserror::Error;
 const MOST_ROUNDS: u32 = 4;
 
 /// Why a cluster is not driven to its end.
-#[derive(Clone, Copy, Debug, PartialEq, Eq, Error)]
+#[derive(Clone, Copy, Debug, Error)]
 pub(crate) enum DriveFault {
     /// Moves are pending that no round made, or a phase stays open.
     #[error("the cluster does not come to rest")]

@@ -15,7 +15,7 @@ use thiserror::Error;
 const REPORT_END: &[u8] = b"end ";
 
 /// Why the moves of a trace are not made to their end.
-#[derive(Clone, Copy, Debug, PartialEq, Eq, Error)]
+#[derive(Clone, Copy, Debug, Error)]
 pub(crate) enum JudgeFault {
     /// This move, counted from 1, has a line that tells none.
     #[error("the line of move {number} is unreadable")]

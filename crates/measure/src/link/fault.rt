@@ -2,7 +2,7 @@ use std::alloc::AllocError;
 use thiserror::Error;
 
 /// Why not all messages are passed.
-#[derive(Clone, Copy, Debug, PartialEq, Eq, Error)]
+#[derive(Clone, Copy, Debug, Error)]
 pub(crate) enum LinkFault {
     /// The other end did not do its part in as many looks as an end takes.
     #[error("the other end of the link does not answer")]

@@ -25,6 +25,9 @@ store-requires c =
     let number = sym c.from.ensures in
     (search rules, search rules, may_end_put_bid _ _ _ v c.from.result (Bid bid) is c.end.invariant.role_is above (bid, refl, number))
 
+pub exchange-old-requires : goal.exchange-old-requires
+exchange-old-requires c = search rules
+
 pub returns-then-found-eq1-clause-back : goal.returns-then-found-eq1-clause-back
 returns-then-found-eq1-clause-back c = search rules
 

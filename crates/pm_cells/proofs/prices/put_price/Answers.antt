@@ -26,3 +26,9 @@ store-requires c =
     let index = sym c.from.ensures in
     let names = subst (λ (e : LinkEnd). Contains e.known.up.takes price.number) (sym c.end.view_is) c.requires.number in
     (search rules, search rules, may_end_put_price _ _ _ v c.from.result (Price price) is c.end.invariant.role_is above (price, refl, index, names))
+
+pub invariant_of-end-2 : goal.invariant_of-end-2
+invariant_of-end-2 c = search rules
+
+pub returns-clause-put : goal.returns-clause-put
+returns-clause-put c = search rules

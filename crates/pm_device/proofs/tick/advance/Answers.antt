@@ -1,6 +1,6 @@
-use Rattle.std.proofs.Common.{rules, ◌≡◌, ◌&&◌, subst, ℤ, pos, IsTrue, w64, to_z, of_z, arith}
+use Rattle.std.proofs.Common.{rules, ◌≡◌, ◌&&◌, subst, ℤ, pos, IsTrue, w64, FitsSigned, to_z, of_z, arith}
 use Rattle.std.proofs.lemmas.Int.{ints, to_z-of_z}
-use Rattle.pm_device.specs.Kinds.{is_valid, state_fits, is_between, is_temperature, is_change, is_band, is_power, are_changes, is_thermal}
+use Rattle.pm_device.specs.Kinds.{is_valid, state_fits, is_between, is_change, is_band, is_power, are_changes, is_thermal}
 use Rattle.pm_device.specs.Kinds.{capacity_limit}
 use Rattle.pm_device.specs.Ticks.{tick}
 use Rattle.pm_device.specs.declared.kind.Kind.{Kind}
@@ -119,11 +119,25 @@ returns-in-Freezer-clause-state c = search rules
 
 pub returns-in-HeatPump-clause-state : goal.returns-in-HeatPump-clause-state
 unfolding tick
-returns-in-HeatPump-clause-state c = search rules
+returns-in-HeatPump-clause-state c =
+    let power = c.ranges.power in
+    let state : FitsSigned w64 c.args.state.0 = search rules in
+    let loss : FitsSigned w64 c.in-HeatPump.loss = search rules in
+    let gain : FitsSigned w64 c.in-HeatPump.gain = search rules in
+    let result : FitsSigned w64 c.heated_after-after.result = search rules in
+    let after = simp to_z-of_z at c.heated_after-after.ensures.after in
+    rw c.in-HeatPump.is (simp to_z-of_z after)
 
 pub returns-in-Cogeneration-clause-state : goal.returns-in-Cogeneration-clause-state
 unfolding tick
-returns-in-Cogeneration-clause-state c = search rules
+returns-in-Cogeneration-clause-state c =
+    let power = c.ranges.power in
+    let state : FitsSigned w64 c.args.state.0 = search rules in
+    let loss : FitsSigned w64 c.in-Cogeneration.loss = search rules in
+    let gain : FitsSigned w64 c.in-Cogeneration.gain = search rules in
+    let result : FitsSigned w64 c.heated_after-after-in-Cogeneration.result = search rules in
+    let after = simp to_z-of_z at c.heated_after-after-in-Cogeneration.ensures.after in
+    rw c.in-Cogeneration.is (simp to_z-of_z after)
 
 pub returns-in-Battery-clause-state : goal.returns-in-Battery-clause-state
 unfolding tick

@@ -53,3 +53,8 @@ pub returns-clause-fits : goal.returns-clause-fits
 returns-clause-fits c =
     let fits : FitsSigned w64 c.clamp.result = search rules in
     simp to_z-of_z (is_between-holds (pos 0) c.args.capacity c.clamp.result (record { from = omega (arith, ints); to = omega (arith, ints) }))
+
+pub clamp-requires : goal.clamp-requires
+clamp-requires c =
+    let capacity = is_between-tells (pos 1) (pos capacity_limit) c.args.capacity c.requires.capacity in
+    omega (arith, ints, capacity.from)

@@ -1,4 +1,5 @@
-use Rattle.std.proofs.Common.{arith, length, ap, ◌∙◌, sym}
+use Rattle.std.proofs.Common.{arith, ◌∷◌, ◌++◌, length, ap, ◌∙◌, sym, take-append-drop}
+use Rattle.std.specs.Prelude.{decimal}
 use Rattle.std.proofs.lemmas.List.{length-append}
 use Rattle.std.proofs.lemmas.Fmt.{decimal_injective}
 use Rattle.pm_envelope.proofs.FirstLines.{no_first_line}
@@ -19,3 +20,13 @@ returns-then-body-length-clause-none c = λ file rest is.
     let same = sym c.in_ok-length.ensures.text ∙ header.number in
     let long = decimal_injective _ (length file) (omega (arith, c.in_ok-length.ensures.most)) (omega (arith, is.short)) same in
     omega (arith, long, ap length header.parts, length-append file rest)
+
+pub returns-clause-some : goal.returns-clause-some
+returns-clause-some c =
+    let number = c.in_ok-length.ensures.text ∙ ap decimal (sym c.split_at.ensures.front_len) in
+    let whole = sym (take-append-drop c.in_ok-length.field-0 c.in_ok-header.body.now) in
+    let split = whole ∙ (λ i. sym c.split_at.ensures.front i ++ sym c.split_at.ensures.back i) in
+    record {
+      parts = c.in_ok-header.ensures.some.parts ∙ (λ i. number i ++ (10 ∷ split i));
+      short = omega (arith, c.in_ok-length.ensures.most);
+    }

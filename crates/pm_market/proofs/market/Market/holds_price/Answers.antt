@@ -1,7 +1,8 @@
-use Rattle.std.proofs.Common.{rules}
+use Rattle.std.proofs.Common.{arith}
+use Rattle.std.proofs.lemmas.Bool.Decides.{nat_tests}
 use Rattle.pm_market.specs.Held.{holds_price}
 use Rattle.pm_market.proofs.market.Market.holds_price.Goals as goal
 
 pub returns-then-is_member : goal.returns-then-is_member
 unfolding holds_price
-returns-then-is_member c = search rules
+returns-then-is_member c = grind (arith, nat_tests)

@@ -1,7 +1,8 @@
-use Rattle.std.proofs.Common.{rules}
+use Rattle.std.proofs.Common.{arith}
+use Rattle.std.proofs.lemmas.Bool.Decides.{nat_tests}
 use Rattle.pm_market.specs.Legality.{learn_is_legal}
 use Rattle.pm_market.proofs.market.Market.may_learn.Goals as goal
 
 pub returns-then-learnt-number : goal.returns-then-learnt-number
 unfolding learn_is_legal
-returns-then-learnt-number c = search rules
+returns-then-learnt-number c = grind (arith, nat_tests)
