@@ -20,7 +20,7 @@ tested : (g : Over) (c : After-is_sum_within g) →
     +ℤ offered_at (option_copied c.args.demand) c.args.step)
 tested g c =
     let sum = read_back c.at-sum.result c.at-sum.ensures.within ∙ c.at-sum.ensures.demand
-        ∙ ap (λ bid. demand_at bid c.args.step) c.aggregate.ensures.sum in
+    ∙ ap (λ bid. demand_at bid c.args.step) c.aggregate.ensures.sum in
     let old = read_back c.demand-old.result c.demand-old.ensures.within ∙ c.demand-old.ensures.demand in
     let new = read_back c.demand_offered-new.result c.demand_offered-new.ensures.within ∙ c.demand_offered-new.ensures.demand in
     ap (λ (t : ℤ × ℤ × ℤ). (t.0 -ℤ t.1) +ℤ t.2) (λ i. (sum i, old i, new i))
