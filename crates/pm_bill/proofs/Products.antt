@@ -1,16 +1,17 @@
 -- Products of whole numbers within limits, and parts of a number.
-use Rattle.std.proofs.Common.{◌≡◌, ◌∙◌, ap, ℕ, zero, suc, ◌+◌, ◌*◌, ◌≤◌, ℤ, pos, negsuc, ◌+ℤ◌, ◌*ℤ◌, ◌≤ℤ◌}
-use Rattle.std.proofs.Common.{w64, to_z, of_z, arith}
+use Rattle.std.proofs.Common.{◌≡◌, ◌∙◌, ap, ℕ, zero, suc, ◌+◌, ◌*◌, ◌^◌, ◌<◌, ◌≤◌, ℤ, pos, negsuc, neg_ℤ}
+use Rattle.std.proofs.Common.{◌+ℤ◌, ◌-ℤ◌, ◌*ℤ◌, ◌≤ℤ◌, w64, to_z, of_z, arith}
 use Rattle.std.specs.Prelude.{unsigned_abs, IsTrue}
 use Rattle.std.specs.Int.{w128}
 use Rattle.std.proofs.Math.Nat.{mul-le-mul}
 use Rattle.std.proofs.Math.IntN.{zero-*ℤ, suc_ℤ-*ℤ, *ℤ_comm, *ℤ-negsuc}
 use Rattle.std.proofs.lemmas.Int.{ints, unsigned_abs-mul}
+use mir.Val.{SFits}
 use Rattle.pm_base.specs.Limits.{IsWithin, price_limit, sum_limit}
 use Rattle.pm_base.proofs.Ints.{none-within}
 use Rattle.pm_device.specs.Kinds.{minutes_limit}
 use Rattle.pm_plan.specs.Kept.{are_minutes}
-use Rattle.pm_bill.specs.Accounts.{positive_part}
+use Rattle.pm_bill.specs.Accounts.{positive_part, cost_limit}
 
 abs_within : (limit : ℕ) (z : ℤ) → IsWithin limit z → unsigned_abs z ≤ limit
 abs_within limit z within = omega (arith, ints)
@@ -77,3 +78,23 @@ computed_cost price power cost price_within power_within is =
     let within = product_within price_limit sum_limit price power price_within power_within in
     let fits : to_z w128 (of_z w128 (price *ℤ power)) ≡ price *ℤ power = omega (arith, ints, within) in
     record { computed = ap (λ z. to_z w128 (of_z w128 z)) same ∙ fits; within = within }
+
+-- a number within a limit of 63 bits lies within it as a number of 64 bits too
+pub word_within : (limit : ℕ) (number : ℤ) → limit < 2 ^ 63 → IsWithin limit number → IsWithin limit (to_z w64 (of_z w64 number))
+word_within limit number small within = record { low = omega (arith, ints, small, within); high = omega (arith, ints, small, within) }
+
+-- the opposite of a number of 128 bits, as the code computes it
+abbrev pub opposite_of : ℤ → ℤ
+opposite_of number = pos 0 -ℤ to_z w128 (of_z w128 number)
+
+-- where the number lies within the limit of a minute's cost, it fits
+pub opposite_fits : (number : ℤ) → IsWithin cost_limit number → SFits w128 (opposite_of number)
+opposite_fits number within = omega (arith, ints, within)
+
+-- it is the opposite
+pub opposite_is : (number : ℤ) → IsWithin cost_limit number → to_z w128 (of_z w128 (opposite_of number)) ≡ neg_ℤ number
+opposite_is number within = omega (arith, ints, within)
+
+-- and it lies within the limit too
+pub opposite_within : (number : ℤ) → IsWithin cost_limit number → IsWithin cost_limit (to_z w128 (of_z w128 (opposite_of number)))
+opposite_within number within = record { low = omega (arith, ints, within); high = omega (arith, ints, within) }

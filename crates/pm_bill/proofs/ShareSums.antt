@@ -83,8 +83,8 @@ no_earlier shares i d different inside = no_shares (get_or shares i d).node (tak
     λ same. different k i e earlier inside
     (ap (λ share. share.node) (sym (get_or-take i shares k e earlier)) ∙ same ∙ ap (λ share. share.node) (get_or_default shares i d e inside)))
 
--- accounts within a limit are within a greater one, and so is the account of each number, of a node or not
-account_wider : (small big : ℕ) (account : Account) → small ≤ big → IsAccountWithin small account → IsAccountWithin big account
+-- an account within a limit is within a greater one
+pub account_wider : (small big : ℕ) (account : Account) → small ≤ big → IsAccountWithin small account → IsAccountWithin big account
 account_wider small big account more within = record {
   amount = wider small big account.amount more within.amount;
   taken = wider small big account.taken more within.taken;

@@ -1,5 +1,5 @@
 -- A text has one list of lines.
-use Rattle.std.proofs.Common.{◌≡◌, ◌≢◌, ◌∙◌, sym, ap, subst, refl, ℕ, suc, ◌+◌, ◌≤◌, Bool, true, false, List, [], ◌∷◌}
+use Rattle.std.proofs.Common.{◌≡◌, ◌≢◌, ◌∙◌, sym, ap, refl, ℕ, ◌+◌, ◌<◌, ◌≤◌, List, [], ◌∷◌}
 use Rattle.std.proofs.Common.{◌++◌, length, append_assoc, arith, inl, inr}
 use Rattle.std.specs.Prelude.{All}
 use Rattle.std.proofs.lemmas.Bool.{cases_eq}
@@ -32,6 +32,11 @@ first_of line rest text whole parts = record {
   parts = parts ∙ ap (λ l. l ++ rest) whole.1.1 ∙ append_assoc whole.0 (10 ∷ []) rest;
   no_line_feed = whole.1.0;
 }
+
+-- what lies behind a line is shorter than the text
+pub shorter : (line rest text : List ℕ) → IsWholeLine line → text ≡ line ++ rest → length rest < length text
+shorter line rest text whole parts =
+    omega (arith, ap (λ l. length l) parts, length-append line rest, ap (λ l. length l) whole.1.1, length-append whole.0 (10 ∷ []))
 
 -- what lies behind a line is no rest of a text without a line feed
 no_rest : (line rest text : List ℕ) → IsWholeLine line → HasNoLineFeed text → text ≡ line ++ rest → ⊥

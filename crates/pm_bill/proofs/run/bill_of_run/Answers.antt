@@ -42,6 +42,14 @@ tick-requires-clause-minutes c =
     subst (λ (z : ℤ). IsTrue (are_minutes z)) (sym (to_z-of_z w64 c.in-Some.minutes fits))
     (c.phases-phase-end.ensures.sound.within.minutes c.loop-phase.phase c.in-Some.minutes some)
 
+pub tick-requires-clause-groups : goal.tick-requires-clause-groups
+tick-requires-clause-groups c =
+    (lent c.args.plan.now c.loop-phase.phase _ _ _ _ c.deref.ensures.value c.deref-in-Some.ensures.value c.in_ok-charges.ensures).are_groups
+
+pub tick-requires-clause-same : goal.tick-requires-clause-same
+tick-requires-clause-same c =
+    (lent c.args.plan.now c.loop-phase.phase _ _ _ _ c.deref.ensures.value c.deref-in-Some.ensures.value c.in_ok-charges.ensures).same
+
 pub tick-requires-clause-shares : goal.tick-requires-clause-shares
 tick-requires-clause-shares c =
     let plan = c.args.plan.now in

@@ -1,7 +1,7 @@
-use Rattle.std.proofs.Common.{◌≢◌, ap, length, arith}
-use Rattle.std.proofs.lemmas.Bool.Decides.{nat_tests}
+use Rattle.std.proofs.Common.{◌∙◌, sym, ap, length, arith}
+use Rattle.std.proofs.lemmas.Bool.{eqb-true, eqb-false}
 use Rattle.std.proofs.lemmas.List.{nil_from_length}
-use Rattle.std.proofs.lemmas.Grind.{common_steps}
+use Rattle.pm_check.proofs.TextLines.{shorter}
 use Rattle.pm_check.proofs.Judging.{judging_start, above_small, cut_short, not_a_move, not_the_count, not_the_end, is_valid, judging_next}
 use Rattle.pm_check.proofs.trace.check_lines.Goals as goal
 
@@ -47,7 +47,7 @@ returns-then-not-branch-clause-bad c =
 
 pub returns-then-not-is_empty-clause-bad : goal.returns-then-not-is_empty-clause-bad
 returns-then-not-is_empty-clause-bad c =
-    let some : length c.in-Some.more.now ≢ 0 = grind (arith, nat_tests) in
+    let some = eqb-false (length c.in-Some.more.now) 0 (sym c.is_empty.ensures ∙ c.if-not-is_empty.true) in
     not_the_end c.args.plan.now c.args.report.now c.args.trace.now c.args.reported.lines c.loop-line.judge c.loop-line.moves c.loop-line.rest.now
     c.loop-line.invariant c.in-Some.line.now c.in-Some.more.now c.in-Some.ensures.whole c.in-Some.ensures.parts
     (c.is_complete.ensures.0 c.if-is_complete.true) (c.in_ok-is_count.ensures.0 c.if-not-branch.false) (λ none. some (ap (λ l. length l) none))
@@ -57,7 +57,7 @@ returns-then-is_complete-clause-valid c =
     is_valid c.args.plan.now c.args.report.now c.args.trace.now c.args.reported.lines c.loop-line.judge c.loop-line.moves c.loop-line.rest.now
     c.loop-line.invariant c.in-Some.line.now c.in-Some.more.now c.in-Some.ensures.whole c.in-Some.ensures.parts
     (c.is_complete.ensures.0 c.if-is_complete.true) (c.in_ok-is_count.ensures.0 c.if-not-branch.false)
-    (nil_from_length c.in-Some.more.now (grind (arith, nat_tests)))
+    (nil_from_length c.in-Some.more.now (eqb-true (length c.in-Some.more.now) 0 (sym c.is_empty.ensures ∙ c.if-not-is_empty.false)))
 
 pub returns-then-not-branch-2-clause-bad : goal.returns-then-not-branch-2-clause-bad
 returns-then-not-branch-2-clause-bad c =
@@ -91,4 +91,4 @@ returns-clause-bad c =
     c.loop-line.invariant c.in_default.ensures.none
 
 pub loop-line-smaller : goal.loop-line-smaller
-loop-line-smaller c = grind (arith, common_steps)
+loop-line-smaller c = shorter c.in-Some.line.now c.in-Some.more.now c.loop-line.rest.now c.in-Some.ensures.whole c.in-Some.ensures.parts

@@ -6,7 +6,7 @@ use Rattle.std.proofs.lemmas.Slice.Eq.{bytes_eq-Decides}
 use Rattle.std.proofs.lemmas.List.{length-append}
 use Rattle.std.proofs.lemmas.List.Elements.{All-append, All-cons, All-nil}
 use Rattle.pm_check.specs.Lines.{IsWholeLine, joined}
-use Rattle.pm_check.proofs.TextLines.{joined-push, lines_within}
+use Rattle.pm_check.proofs.TextLines.{joined-push, lines_within, shorter}
 use Rattle.pm_check.proofs.Judgements.{IsMatched, report_cut, report_other, report_read}
 use Rattle.pm_check.proofs.trace.read_report.Goals as goal
 
@@ -88,3 +88,6 @@ returns-clause-read c =
     let report = c.requires in
     report_read c.args.report.now c.args.trace.now c.loop-expected.lines matched.0 c.loop-expected.due.now c.loop-expected.rest.now matched.1 report.0
     report.1 c.in_default.ensures.none
+
+pub loop-expected-smaller : goal.loop-expected-smaller
+loop-expected-smaller c = shorter c.in-Some.expected.now c.in-Some.later.now c.loop-expected.due.now c.in-Some.ensures.whole c.in-Some.ensures.parts

@@ -2,7 +2,7 @@ use Rattle.std.proofs.Common.{◌∙◌, sym, ap, subst, refl}
 use Rattle.std.specs.Str.{IsUtf8}
 use Rattle.pm_tree.specs.Entries.{node_named}
 use Rattle.pm_lines.proofs.NodeNames.{node_text, node_found, node_not_found}
-use Rattle.pm_lines.proofs.Readings.{reads_none}
+use Rattle.pm_lines.proofs.Readings.{reads_none, reads_some}
 use Rattle.pm_lines.proofs.names.read_node.Goals as goal
 
 pub returns-in_err-text : goal.returns-in_err-text
@@ -20,4 +20,4 @@ pub returns : goal.returns
 returns c =
     let named = ap (λ entries. node_named entries c.in_ok-text.text.now) (sym c.tree.ensures.tree) ∙ sym c.in_ok-node.ensures in
     let found = node_found c.args.plan.now c.requires c.in_ok-text.text.now c.in_ok-node.node.0 named in
-    record { told = (found.0, found.1 ∙ c.in_ok-text.ensures.text); none = λ e. absurd cc }
+    reads_some _ _ _ _ _ refl found.0 (found.1 ∙ c.in_ok-text.ensures.text)

@@ -1,14 +1,19 @@
-use Rattle.std.proofs.Common.{◌∙◌, sym, subst, refl, arith, None, ℕ, List, length}
+use Rattle.std.proofs.Common.{◌≡◌, ◌∙◌, sym, subst, refl, arith, None, ℕ, List, length}
+use Rattle.std.specs.Prelude.{Result, Ok, Err}
 use Rattle.std.specs.Str.{IsUtf8}
 use Rattle.std.proofs.lemmas.Bool.{eqb-true, eqb-false}
 use Rattle.std.proofs.lemmas.Fmt.{IsAscii-decimal}
 use Rattle.std.proofs.lemmas.Str.{IsUtf8-from_ascii}
 use Rattle.std.specs.Str.Parse.{ParsesUnsigned}
 use Rattle.pm_lines.proofs.Digits.{IsPlain, decimal_plain, number_told, number_parsed}
-use Rattle.pm_lines.proofs.Readings.{reads_none}
+use Rattle.pm_lines.proofs.Readings.{reads_none, reads_some}
 use Rattle.pm_lines.proofs.numbers.read_number.Goals as goal
 use Rattle.pm_lines.proofs.numbers.read_number.Goals.{then-is_empty-via-then-is_empty, then-is_empty-via-else-is_empty+then-word-eq43}
 use Rattle.pm_lines.proofs.numbers.read_number.Goals.{else-word-eq48-via-then-word-eq48+else-word-gt1, else-word-eq48-via-else-word-eq48}
+
+-- what is no number is none
+no_number : {E : Type 0} (parsed : Result ℕ E) (n : ℕ) (e : E) → parsed ≡ Ok n → parsed ≡ Err e → ⊥
+no_number parsed n e is err = absurd cc
 
 pub returns-then-is_empty : goal.returns-then-is_empty
 returns-then-is_empty c =
@@ -44,10 +49,10 @@ returns-in-Ok c =
       ];
     } in
     let told = number_told word c.in-Ok.number c.parse.result plain parses c.in-Ok.is in
-    record { told = told; none = λ e. absurd cc }
+    reads_some _ _ word _ _ refl told.0 told.1
 
 pub returns-in-Err : goal.returns-in-Err
 returns-in-Err c =
     let parses = subst (λ (bytes : List ℕ). ParsesUnsigned 32 10 bytes c.parse.result) c.in_ok-digits.ensures.text c.parse.ensures.value.0 in
     reads_none _ _ c.args.word.now None refl (λ n small same.
-    let is = number_parsed c.args.word.now n c.parse.result small same parses in let err = c.in-Err.is in absurd cc)
+    no_number c.parse.result n _ (number_parsed c.args.word.now n c.parse.result small same parses) c.in-Err.is)

@@ -2,14 +2,12 @@ use Rattle.std.proofs.Common.{◌≡◌, ◌∙◌, sym, refl, None, Some, ℕ, 
 use Rattle.pm_report.specs.Words.{text_line}
 use Rattle.pm_report.specs.Trace.{held_words}
 use Rattle.pm_lines.specs.Reading.{IsHolding}
-use Rattle.pm_lines.proofs.Readings.{reads_none}
+use Rattle.pm_lines.proofs.Readings.{reads_none, reads_some}
 use Rattle.pm_lines.proofs.parts.read_held.Goals as goal
 
 pub returns-then-is_same : goal.returns-then-is_same
-returns-then-is_same c = record {
-  told = (record { step = tt; number = tt }, sym (c.is_same.ensures.same c.if-is_same.true ∙ c.as_slice.ensures));
-  none = λ e. absurd cc;
-}
+returns-then-is_same c =
+    reads_some _ _ c.args.rest.now _ _ refl (record { step = tt; number = tt }) (sym (c.is_same.ensures.same c.if-is_same.true ∙ c.as_slice.ensures))
 
 pub returns-in_err-held : goal.returns-in_err-held
 returns-in_err-held c =
@@ -20,7 +18,6 @@ returns-in_err-held c =
     none (Some pair) fits same = c.in_err-held.ensures.none refl pair (fits.step, fits.number) same
 
 pub returns : goal.returns
-returns c = let told = c.in_ok-held.ensures.told in record {
-  told = (record { step = told.0.0; number = told.0.1 }, told.1);
-  none = λ e. absurd cc;
-}
+returns c =
+    let told = c.in_ok-held.ensures.told in
+    reads_some _ _ c.args.rest.now _ _ refl (record { step = told.0.0; number = told.0.1 }) told.1

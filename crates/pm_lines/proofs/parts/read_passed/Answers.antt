@@ -6,7 +6,7 @@ use Rattle.pm_tree.specs.Entries.{Entry, is_leaf_at}
 use Rattle.pm_plan.specs.Plans.{is_leaf}
 use Rattle.pm_report.specs.Words.{text_line}
 use Rattle.pm_report.specs.Trace.{device_words}
-use Rattle.pm_lines.proofs.Readings.{reads_none, reads_as}
+use Rattle.pm_lines.proofs.Readings.{reads_none, reads_some, reads_as}
 use Rattle.pm_lines.specs.Reading.{IsHolding}
 use Rattle.pm_lines.proofs.parts.read_passed.Goals as goal
 use Rattle.pm_lines.proofs.parts.read_passed.Goals.{After-is_leaf}
@@ -41,10 +41,5 @@ pub returns-in_ok-index : goal.returns-in_ok-index
 returns-in_ok-index c =
     let index = c.in_ok-index.ensures.told in
     let inner = leaf_is (goal.at.returns-in_ok-index c).After-is_leaf ∙ c.if-is_leaf.false in
-    record {
-      told = (
-        record { index = index.0; held = record { step = tt; number = tt }; holder = λ e. refl },
-        ap (λ b. text_line (decimal c.in_ok-index.index ∷ device_words b c.args.plan.now.basis None)) inner ∙ index.1,
-      );
-      none = λ e. absurd cc;
-    }
+    reads_some _ _ c.args.rest.now _ _ refl (record { index = index.0; held = record { step = tt; number = tt }; holder = λ e. refl })
+    (ap (λ b. text_line (decimal c.in_ok-index.index ∷ device_words b c.args.plan.now.basis None)) inner ∙ index.1)

@@ -1,6 +1,6 @@
 use Rattle.std.proofs.Common.{refl, None}
 use Rattle.pm_lines.proofs.StepPrices.{some_spacing, step_at_rise, rise_is_divided}
-use Rattle.pm_lines.proofs.Readings.{reads_none}
+use Rattle.pm_lines.proofs.Readings.{reads_none, reads_some}
 use Rattle.pm_lines.proofs.prices.step_at.Goals as goal
 
 pub nonzero_rem-rise : goal.nonzero_rem-rise
@@ -13,8 +13,6 @@ returns-then-rise-spacing-ne0 c =
 
 pub returns : goal.returns
 returns c =
-    record {
-      told = step_at_rise c.args.range c.args.last c.args.rise c.requires.last.0 c.requires.range c.requires.even
-          c.requires.within c.if-rise-spacing-ne0.false;
-      none = λ e. absurd cc;
-    }
+    let told = step_at_rise c.args.range c.args.last c.args.rise c.requires.last.0 c.requires.range c.requires.even
+    c.requires.within c.if-rise-spacing-ne0.false in
+    reads_some _ _ c.args.rise _ _ refl told.0 told.1

@@ -1,17 +1,18 @@
-use Rattle.std.proofs.Common.{arith, ◌≡◌, ◌∙◌, sym, ap, subst, ℕ, ◌*◌, ◌<◌, ◌++◌, length, take, drop, w64, to_z, of_z, ℤ, pos}
-use Rattle.std.proofs.Common.{neg_ℤ, ◌+ℤ◌, ◌-ℤ◌, List}
+use Rattle.std.proofs.Common.{arith, ◌≡◌, ◌∙◌, sym, ap, subst, ℕ, ◌+◌, ◌*◌, ◌<◌, ◌++◌, length, take, drop, w64, to_z, of_z, ℤ}
+use Rattle.std.proofs.Common.{neg_ℤ, ◌+ℤ◌, List}
 use Rattle.std.specs.Prelude.{IsTrue}
 use Rattle.std.specs.Int.{w128}
 use Rattle.std.proofs.lemmas.Int.{ints, to_z-of_z}
 use Rattle.std.proofs.lemmas.Grind.{common_steps}
+use mir.Val.{SFits}
 use Rattle.pm_base.specs.Limits.{most_phases, IsWithin}
 use Rattle.pm_plan.specs.Kept.{are_minutes}
 use Rattle.pm_bill.specs.declared.share.Share.{Share}
 use Rattle.pm_bill.specs.Accounts.{account_at, account_sum, account_of, cost_limit, tick_limit}
 use Rattle.pm_bill.specs.Shares.{sum_each, group_cost, shares_of, account_of_shares, account_of_grid, AreShares, AreAdded}
 use Rattle.pm_bill.specs.Bills.{BillData, AreMinutesOf}
-use Rattle.pm_bill.proofs.Products.{minutes_within}
-use Rattle.pm_bill.proofs.ShareSums.{all_wider}
+use Rattle.pm_bill.proofs.Products.{minutes_within, opposite_of, opposite_fits, opposite_is, opposite_within}
+use Rattle.pm_bill.proofs.ShareSums.{account_wider, all_wider}
 use Rattle.pm_bill.proofs.Ticks.{written_back, keeps_bill, MayTick, leaf_has_account}
 use Rattle.pm_bill.proofs.bill.Bill.tick.Goals as goal
 
@@ -25,12 +26,12 @@ of_fields now fields shares is ticks are = (
 
 -- the opposite of a number, as the code computes it
 abbrev negated : ℤ → ℤ
-negated number = to_z w128 (of_z w128 (pos 0 -ℤ to_z w128 (of_z w128 number)))
+negated number = to_z w128 (of_z w128 (opposite_of number))
 
 opposite : (number sum : ℤ) → IsWithin cost_limit number → number ≡ sum →
     (negated number ≡ neg_ℤ sum) × IsWithin cost_limit (neg_ℤ sum)
 opposite number sum within is = (
-  (let computed : negated number ≡ neg_ℤ number = omega (arith, ints, within) in computed ∙ ap neg_ℤ is),
+  opposite_is number within ∙ ap neg_ℤ is,
   rw (← is) (record { low = omega (arith, ints, within); high = omega (arith, ints, within) }),
 )
 
@@ -38,6 +39,12 @@ opposite number sum within is = (
 minutes_after : (ticks : ℕ) (minutes more : ℤ) → ticks < most_phases → AreMinutesOf ticks minutes → IsTrue (are_minutes more) →
     to_z w64 (of_z w64 (to_z w64 (of_z w64 minutes) +ℤ to_z w64 (of_z w64 more))) ≡ minutes +ℤ more
 minutes_after ticks minutes more few before are =
+    omega (arith, ints, before.least, before.most, minutes_within more are)
+
+-- and that they fit
+minutes_fit : (ticks : ℕ) (minutes more : ℤ) → ticks < most_phases → AreMinutesOf ticks minutes → IsTrue (are_minutes more) →
+    SFits w64 (to_z w64 (of_z w64 minutes) +ℤ to_z w64 (of_z w64 more))
+minutes_fit ticks minutes more few before are =
     omega (arith, ints, before.least, before.most, minutes_within more are)
 
 pub add_shares-requires-clause-inside : goal.add_shares-requires-clause-inside
@@ -53,19 +60,25 @@ add_shares-requires-clause-within c =
     rw c.deref_mut.ensures.value (all_wider (c.self.inside.ticks * tick_limit) (most_phases * tick_limit) c.self.inside.accounts.items
     (omega (arith, ticks)) c.self.invariant.within)
 
+pub sums_of-cost-requires : goal.sums_of-cost-requires
+sums_of-cost-requires c = c.requires.groups
+
+pub overflow_sub-cost : goal.overflow_sub-cost
+overflow_sub-cost c = opposite_fits _ c.sums_of-cost.ensures.cost_within
+
+pub overflow_sub-power : goal.overflow_sub-power
+overflow_sub-power c = opposite_fits _ c.sums_of-cost.ensures.power_within
+
 pub add-requires-clause-cost : goal.add-requires-clause-cost
-add-requires-clause-cost c =
-    record { low = omega (arith, ints, c.sums_of-cost.ensures.cost_within); high = omega (arith, ints, c.sums_of-cost.ensures.cost_within) }
+add-requires-clause-cost c = opposite_within _ c.sums_of-cost.ensures.cost_within
 
 pub add-requires-clause-power : goal.add-requires-clause-power
-add-requires-clause-power c =
-    record { low = omega (arith, ints, c.sums_of-cost.ensures.power_within); high = omega (arith, ints, c.sums_of-cost.ensures.power_within) }
+add-requires-clause-power c = opposite_within _ c.sums_of-cost.ensures.power_within
 
 pub overflow_add-self-2 : goal.overflow_add-self-2
 overflow_add-self-2 c =
     let asked = of_fields c.args.self.now _ c.args.shares.now c.self.view_is c.requires.ticks c.requires.shares in
-    let most = minutes_within c.args.minutes c.requires.minutes in
-    omega (arith, ints, asked.0, c.self.invariant.minutes_of.least, c.self.invariant.minutes_of.most, most)
+    minutes_fit c.self.inside.ticks c.self.inside.minutes c.args.minutes asked.0 c.self.invariant.minutes_of c.requires.minutes
 
 -- the grid's account after the tick
 grid_is : (c : goal.After-self-4-1) → c.add.new.self ≡ account_sum c.self.inside.grid (account_of_grid c.args.minutes c.args.shares.now c.args.groups.now)
@@ -141,7 +154,13 @@ returns-clause-minutes c =
     minutes ∙ ap (λ (bill : BillData). bill.minutes +ℤ c.args.minutes) c.self.view_is
 
 pub add-requires-clause-old : goal.add-requires-clause-old
-add-requires-clause-old c = omega (arith, ints)
+add-requires-clause-old c =
+    let asked = of_fields c.args.self.now _ c.args.shares.now c.self.view_is c.requires.ticks c.requires.shares in
+    let ticks : c.self.inside.ticks < most_phases = asked.0 in
+    account_wider (c.self.inside.ticks * tick_limit) (most_phases * tick_limit) c.self.inside.grid (omega (arith, ticks)) c.self.invariant.grid_within
+
+pub returns-clause-ticks : goal.returns-clause-ticks
+returns-clause-ticks c = ap (λ (bill : BillData). bill.ticks + 1) c.self.view_is
 
 pub returns-clause-one_each : goal.returns-clause-one_each
 returns-clause-one_each c = grind (arith, common_steps)

@@ -1,7 +1,20 @@
-use Rattle.std.proofs.Common.{ap, map, Vec, Global, ℕ}
-use Rattle.pm_check.specs.Judges.{HasRow, HasMade}
+use Rattle.std.proofs.Common.{sym, ap, subst, map, Vec, Global, ℕ}
+use Rattle.pm_plan.specs.Plans.{PlanData}
+use Rattle.pm_walk.specs.Auctions.{IsAuction}
+use Rattle.pm_check.specs.Judges.{HasRow, HasMade, IsJudge}
+use Rattle.pm_check.specs.declared.judge.Judge.{Judge}
 use Rattle.pm_check.proofs.Making.{on_ok, closed_within, clear_rises, clear_planned, clear_made, close_ended, close_made, other_made}
 use Rattle.pm_check.proofs.judge.Judge.make.Goals as goal
+
+-- the auction stands at the phases that its owner counts as closed
+auction_is : (plan : PlanData) (judge : Judge) → IsJudge plan judge → IsAuction plan judge.steps.closed judge.steps.auction
+auction_is plan judge is = subst (λ closed. IsAuction plan closed judge.steps.auction) (sym is.cleared.closed) is.cleared.auction
+
+pub clear-requires-clause-auction : goal.clear-requires-clause-auction
+clear-requires-clause-auction c = auction_is c.args.plan.now c.args.self.now c.requires.judge
+
+pub close-requires-clause-auction : goal.close-requires-clause-auction
+close-requires-clause-auction c = auction_is c.args.plan.now c.args.self.now c.requires.judge
 
 pub clear-requires-clause-open : goal.clear-requires-clause-open
 clear-requires-clause-open c = closed_within c.args.plan.now c.args.self.now c.requires.judge c.args.what c.requires.legal

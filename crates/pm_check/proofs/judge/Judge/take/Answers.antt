@@ -13,6 +13,9 @@ returns-then-not-is_legal-clause-none c = λ _.
     tells_illegal c.args.plan.now c.args.self.now c.requires c.args.line.now c.in-Some.told c.in-Some.ensures.told.0 c.in-Some.ensures.told.1
     (sym c.is_legal.ensures ∙ c.if-not-is_legal.true)
 
+pub make-requires-clause-legal : goal.make-requires-clause-legal
+make-requires-clause-legal c = sym c.is_legal.ensures ∙ c.if-not-is_legal.false
+
 pub returns-clause-taken : goal.returns-clause-taken
 returns-clause-taken c = λ same.
     let legal = legal_is c.args.plan.now c.args.self.now c.requires c.in-Some.told.what (sym c.is_legal.ensures ∙ c.if-not-is_legal.false) in (
