@@ -1,4 +1,5 @@
-use Rattle.std.proofs.Common.{◌∙◌, ◌≡◌, ◌-◌, ◌++◌, ◌∷◌, [], sym, ap, Vec, Global}
+use Rattle.std.proofs.Common.{◌∙◌, ◌≡◌, ◌-◌, ◌++◌, ◌∷◌, [], sym, ap, length, arith, Vec, Global}
+use Rattle.std.proofs.lemmas.Result.{IfOk-from_err}
 use Rattle.std.specs.Prelude.{is_some}
 use Rattle.pm_plan.specs.Plans.{node, limits_of, is_limited}
 use Rattle.pm_base.proofs.Options.{is_some-option_map}
@@ -30,3 +31,16 @@ loop-number-preserved c =
           ap (λ (v : Vec LimitedLine Global). v.items) w.lines-is ∙ c.loop-number.invariant
           ∙ sym (limited-no plan cut n c.loop-number.auto.number (limited ∙ w.if-is_some.false))
     ]
+
+pub limited_line-requires-clause-inside : goal.limited_line-requires-clause-inside
+limited_line-requires-clause-inside c =
+    omega (arith, c.tree.ensures.sound.nodes.one_each, c.len-number-end.ensures.len, ap (λ e. length e) c.tree.ensures.tree)
+
+pub returns-in_err-push : goal.returns-in_err-push
+returns-in_err-push c = IfOk-from_err c.from_residual.result _ c.from_residual.ensures.0
+
+pub returns : goal.returns
+returns c =
+    let all : c.loop-number.number - 1 ≡ length c.args.plan.now.nodes =
+    omega (arith, c.tree.ensures.sound.nodes.one_each, c.len-number-end.ensures.len, ap (λ e. length e) c.tree.ensures.tree) in
+    c.loop-number.invariant ∙ ap (limited_to c.args.plan.now (cut_made c.args.standing.now.progress)) all

@@ -1,4 +1,5 @@
 use Rattle.std.proofs.Common.{◌∙◌, ◌≡◌, ◌-◌, ◌≤◌, ◌++◌, ◌∷◌, [], sym, ap, arith, length, Vec, Global}
+use Rattle.std.proofs.lemmas.Result.{IfOk-from_err}
 use Rattle.pm_plan.specs.Plans.{is_member}
 use Rattle.pm_plan.specs.declared.end.MemberLine.{MemberLine}
 use Rattle.pm_walk.specs.declared.changes.Progress.{Progress}
@@ -31,3 +32,15 @@ loop-number-preserved c =
           ap (λ (v : Vec MemberLine Global). v.items) w.lines-is ∙ c.loop-number.invariant
           ∙ sym (members-no plan cut n c.loop-number.auto.number (member ∙ w.if-progress.false))
     ]
+
+pub member_line-requires-clause-inside : goal.member_line-requires-clause-inside
+member_line-requires-clause-inside c = omega (arith, c.tree.ensures.sound.nodes.one_each, c.len-number-end.ensures.len, ap (λ e. length e) c.tree.ensures.tree)
+
+pub returns-in_err-push : goal.returns-in_err-push
+returns-in_err-push c = IfOk-from_err c.from_residual.result _ c.from_residual.ensures.0
+
+pub returns : goal.returns
+returns c =
+    let all : c.loop-number.number - 1 ≡ length c.args.plan.now.nodes =
+    omega (arith, c.tree.ensures.sound.nodes.one_each, c.len-number-end.ensures.len, ap (λ e. length e) c.tree.ensures.tree) in
+    c.loop-number.invariant ∙ ap (members_to c.args.plan.now (cut_made c.args.standing.now.progress)) all

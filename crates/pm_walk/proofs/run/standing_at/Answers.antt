@@ -27,6 +27,9 @@ over-requires c =
     let kept = stops-are plan c.in_ok-stops.stops c.stop_at.new.stops c.in_ok-stops.ensures.reached c.stop_at.ensures.reached in
     subst (HaveCome plan) (sym (c.deref.ensures.value ∙ kept)) c.stop_at.ensures.reached
 
+pub returns-clause-stands : goal.returns-clause-stands
+returns-clause-stands c = c.over.ensures.stands
+
 pub returns-clause-cut : goal.returns-clause-cut
 returns-clause-cut c =
     let plan = c.args.plan.now in

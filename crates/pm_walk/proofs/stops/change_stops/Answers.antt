@@ -34,6 +34,39 @@ loop-number-init c =
       };
     }
 
+pub bounds-powers-at : goal.bounds-powers-at
+bounds-powers-at c =
+    omega (arith, c.tree-tree.ensures.sound.nodes.one_each, c.len-number-end.ensures.len, ap (λ e. length e) c.tree-tree.ensures.tree)
+
+pub bounds-cut-at : goal.bounds-cut-at
+bounds-cut-at c =
+    omega (arith, c.tree-tree.ensures.sound.nodes.one_each, c.len-number-end.ensures.len, ap (λ e. length e) c.tree-tree.ensures.tree)
+
+pub change_stop-requires-clause-leaf : goal.change_stop-requires-clause-leaf
+change_stop-requires-clause-leaf c =
+    ap (λ e. is_leaf_at e c.loop-number.number) (sym c.tree-tree.ensures.tree) ∙ sym c.is_leaf.ensures ∙ c.if-is_leaf.true
+
+pub change_stop-requires-clause-reached : goal.change_stop-requires-clause-reached
+change_stop-requires-clause-reached c =
+    c.loop-number.invariant.reached.reached c.loop-number.number
+    (omega (arith, c.tree-tree.ensures.sound.nodes.one_each, c.len-number-end.ensures.len, ap (λ e. length e) c.tree-tree.ensures.tree))
+
+pub change_stop-requires-clause-begun : goal.change_stop-requires-clause-begun
+change_stop-requires-clause-begun c =
+    let n = c.loop-number.number in
+    c.loop-number.invariant.between.left n (omega arith)
+    ∙ ap (λ m. min m (end_cut c.args.plan.now (c.args.phase - 1) n)) (sym (cut_of-at c.args.cut.now n (omega arith)))
+
+pub bounds-stops-at : goal.bounds-stops-at
+bounds-stops-at c =
+    omega (
+      arith,
+      c.loop-number.invariant.reached.one_each,
+      c.tree-tree.ensures.sound.nodes.one_each,
+      c.len-number-end.ensures.len,
+      ap (λ e. length e) c.tree-tree.ensures.tree,
+    )
+
 pub loop-number-preserved : goal.loop-number-preserved
 loop-number-preserved c =
     let plan = c.args.plan.now in

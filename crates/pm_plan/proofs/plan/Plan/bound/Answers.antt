@@ -1,4 +1,4 @@
-use Rattle.std.proofs.Common.{◌∙◌, ap, ◌+◌, arith, length, mul-le-mul, subst}
+use Rattle.std.proofs.Common.{◌∙◌, ap, ◌+◌, arith, length, mul-le-mul, rules, subst}
 use Rattle.pm_base.specs.Limits.{most_changes}
 use Rattle.pm_plan.specs.Plans.{PlanData, phases}
 use Rattle.pm_plan.specs.Kept.{IsPlan}
@@ -19,3 +19,6 @@ overflow_add-result-2 c =
     let few = mul-le-mul {n₁ = c.changes.result} {m₁ = c.node_count.result + 15} {n₂ = most_changes} {m₂ = 271}
     (omega (arith, c.changes.ensures, is.within.few_changes)) (omega (arith, nodes, is.nodes.few)) in
     omega (arith, few, c.phase_count.ensures ∙ ap phases c.self.view_is, is.within.few_phases)
+
+pub returns : goal.returns
+returns c = search rules

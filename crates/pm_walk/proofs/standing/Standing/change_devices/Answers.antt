@@ -29,6 +29,27 @@ loop-number-init c = record {
   spare = c.requires.spare;
 }
 
+pub bounds-powers-number : goal.bounds-powers-number
+bounds-powers-number c =
+    omega (
+      arith,
+      c.requires.powers.one_each,
+      c.tree-tree.ensures.sound.nodes.one_each,
+      c.len-number-end.ensures.len,
+      ap (λ e. length e) c.tree-tree.ensures.tree,
+    )
+
+pub change_device-changed-requires-clause-leaf : goal.change_device-changed-requires-clause-leaf
+change_device-changed-requires-clause-leaf c =
+    ap (λ e. is_leaf_at e c.loop-number.number) (sym c.tree-tree.ensures.tree) ∙ sym c.is_leaf.ensures ∙ c.if-is_leaf.true
+
+pub change_device-changed-requires-clause-inside : goal.change_device-changed-requires-clause-inside
+change_device-changed-requires-clause-inside c =
+    omega (arith, c.tree-tree.ensures.sound.nodes.one_each, c.len-number-end.ensures.len, ap (λ e. length e) c.tree-tree.ensures.tree)
+
+pub change_device-changed-requires-clause-begun : goal.change_device-changed-requires-clause-begun
+change_device-changed-requires-clause-begun c = c.loop-number.invariant.between.left c.loop-number.number (omega arith)
+
 pub loop-number-preserved : goal.loop-number-preserved
 loop-number-preserved c =
     let plan = c.args.plan.now in

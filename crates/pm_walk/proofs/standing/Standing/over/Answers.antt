@@ -1,4 +1,5 @@
 use Rattle.std.proofs.Common.{◌≡◌, ◌∙◌, ◌+◌, ◌<◌, ◌≤◌, ap, sym, subst, false, length, arith}
+use Rattle.std.proofs.lemmas.Result.{IfOk-from_err}
 use Rattle.pm_bid.proofs.Sums.{length-zeros}
 use Rattle.pm_tree.specs.Entries.{is_leaf_at}
 use Rattle.pm_plan.specs.Plans.{is_leaf}
@@ -7,6 +8,17 @@ use Rattle.pm_walk.proofs.Standings.{AreBetween, first_node, made-zero, made-her
 use Rattle.pm_walk.proofs.Standings.{all_between}
 use Rattle.pm_walk.proofs.standing.Standing.over.Goals as goal
 use Rattle.pm_walk.proofs.standing.Standing.over.Goals.{then-is_leaf, else-is_leaf}
+
+pub returns-in_err-standing : goal.returns-in_err-standing
+returns-in_err-standing c =
+    let fails = c.from_residual.ensures.0 in
+    record { stands = IfOk-from_err c.from_residual.result _ fails; cut = IfOk-from_err c.from_residual.result _ fails }
+
+pub returns-in_err-spare : goal.returns-in_err-spare
+returns-in_err-spare c =
+    let fails = c.from_residual-in_err-spare.ensures.0 in
+    let r = c.from_residual-in_err-spare.result in
+    record { stands = IfOk-from_err r _ fails; cut = IfOk-from_err r _ fails }
 
 pub loop-number-init : goal.loop-number-init
 loop-number-init c = record {
@@ -18,6 +30,23 @@ loop-number-init c = record {
   };
   spare = ap (λ l. length l) c.in_ok-spare.ensures.bid ∙ length-zeros c.steps.result ∙ c.steps.ensures.steps ∙ ap (λ b. b.steps) c.basis.ensures.basis;
 }
+
+pub bounds-progress-number : goal.bounds-progress-number
+bounds-progress-number c =
+    omega (arith, c.tree-tree.ensures.sound.nodes.one_each, c.len-number-end.ensures.len, ap (λ e. length e) c.tree-tree.ensures.tree)
+
+pub reach-requires : goal.reach-requires
+reach-requires c =
+    let n = c.loop-number.number in
+    let inside : n ≤ length c.args.plan.now.nodes =
+    omega (arith, c.tree-tree.ensures.sound.nodes.one_each, c.len-number-end.ensures.len, ap (λ e. length e) c.tree-tree.ensures.tree) in
+    record {
+      leaf = ap (λ e. is_leaf_at e n) (sym c.tree-tree.ensures.tree) ∙ sym c.is_leaf.ensures ∙ c.if-is_leaf.true;
+      inside = inside;
+      stands = c.loop-number.invariant.stands;
+      reached = c.requires.reached n inside;
+      spare = c.loop-number.invariant.spare;
+    }
 
 pub loop-number-preserved : goal.loop-number-preserved
 loop-number-preserved c =
@@ -56,3 +85,6 @@ returns-clause-cut c =
     omega (arith, c.tree-tree.ensures.sound.nodes.one_each, c.len-number-end.ensures.len, ap (λ e. length e) c.tree-tree.ensures.tree) in
     all_between c.loop-number.number c.loop-number.standing.progress (cut_made stops) (λ _. 0) c.loop-number.invariant.between
     (λ x from. sym (made-beyond plan stops x c.requires (omega arith)))
+
+pub returns-clause-stands : goal.returns-clause-stands
+returns-clause-stands c = c.loop-number.invariant.stands

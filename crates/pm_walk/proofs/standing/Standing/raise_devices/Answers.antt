@@ -1,4 +1,4 @@
-use Rattle.std.proofs.Common.{◌≡◌, ◌∙◌, ◌+◌, ◌<◌, ap, sym, subst, refl, true, false, length, arith}
+use Rattle.std.proofs.Common.{◌≡◌, ◌∙◌, ◌+◌, ◌<◌, ap, sym, subst, refl, true, false, length, arith, rules}
 use Rattle.pm_tree.specs.Entries.{is_leaf_at}
 use Rattle.pm_base.specs.Cuts.{cut_of}
 use Rattle.pm_plan.specs.Plans.{is_leaf}
@@ -23,11 +23,32 @@ loop-number-init c =
       spare = c.requires.spare;
     }
 
-pub raise_device-requires-clause-stands : goal.raise_device-requires-clause-stands
-raise_device-requires-clause-stands c = c.loop-number.invariant.stands
+pub bounds-powers-at : goal.bounds-powers-at
+bounds-powers-at c =
+    omega (
+      arith,
+      c.requires.powers.one_each,
+      c.tree-tree.ensures.sound.nodes.one_each,
+      c.len-number-end.ensures.len,
+      ap (λ e. length e) c.tree-tree.ensures.tree,
+    )
 
-pub raise_device-requires-clause-spare : goal.raise_device-requires-clause-spare
-raise_device-requires-clause-spare c = c.loop-number.invariant.spare
+pub raise_device-requires : goal.raise_device-requires
+raise_device-requires c =
+    let n = c.loop-number.number in
+    let leaf : is_leaf c.args.plan.now n ≡ true = ap (λ e. is_leaf_at e n) (sym c.tree-tree.ensures.tree) ∙ sym c.is_leaf.ensures ∙ c.if-is_leaf.true in
+    let before = c.loop-number.invariant.between.left n (omega arith) in
+    record {
+      leaf = leaf;
+      inside = omega (arith, c.tree-tree.ensures.sound.nodes.one_each, c.len-number-end.ensures.len, ap (λ e. length e) c.tree-tree.ensures.tree);
+      first = c.requires.first;
+      stands = c.loop-number.invariant.stands;
+      begun = omega (arith, before, c.requires.begun n leaf);
+      rises = omega (arith, before, c.requires.rises n leaf, c.number_at.ensures);
+      planned = omega (arith, c.requires.planned n leaf, c.number_at.ensures);
+      used = search rules;
+      spare = c.loop-number.invariant.spare;
+    }
 
 pub loop-number-preserved : goal.loop-number-preserved
 loop-number-preserved c =
