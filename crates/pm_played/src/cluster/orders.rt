@@ -11,7 +11,7 @@ use std::process::Abort;
 use std::test::Fail;
 
 /// Whose acts are made first: those of the lowest node that has one, of the highest, or of each node in turn.
-#[derive(Clone, Copy, PartialEq, Eq)]
+#[derive(Clone, Copy, Debug, PartialEq, Eq)]
 enum Order {
     LowestFirst,
     HighestFirst,
