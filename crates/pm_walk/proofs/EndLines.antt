@@ -83,6 +83,12 @@ listed-no f p (suc k) low fails =
     ∙ append-nil (map f (filter p (range_with_len 1 k)))
     ∙ ap (λ n. map f (filter p (range_with_len 1 n))) down
 
+-- a line put behind the lines before it makes the lines due
+pub line_put : {X : Type 0} (new old before after : List X) (line due : X) → new ≡ old ++ line ∷ [] → old ≡ before → line ≡ due →
+    after ≡ before ++ due ∷ [] → new ≡ after
+line_put new old before after line due new_is old_is line_is after_is =
+    new_is ∙ ap (λ xs. xs ++ line ∷ []) old_is ∙ ap (λ x. before ++ x ∷ []) line_is ∙ sym after_is
+
 -- node d, a member in the cut, adds its line behind the lines of the members before it
 pub members-yes : (plan : PlanData) (cut : Cut) (d : ℕ) → 1 ≤ d → is_member plan d (cut d) ≡ true →
     members_to plan cut (d + 1 - 1) ≡ members_to plan cut (d - 1) ++ member_line plan (state plan) cut d ∷ []

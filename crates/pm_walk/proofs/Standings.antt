@@ -19,7 +19,7 @@ use Rattle.pm_plan.proofs.Leaves.{first_of, last_of}
 use Rattle.pm_plan.proofs.DeviceNodes.{start_of-tells}
 use Rattle.pm_plan.proofs.StateLaws.{state-start}
 use Rattle.pm_walk.specs.declared.changes.Progress.{Progress}
-use Rattle.pm_walk.specs.Standing.{StandingValue, no_progress, HasCome, HaveCome, IsStanding, cut_made, demand_come}
+use Rattle.pm_walk.specs.Standing.{StandingValue, no_progress, progress_at, HasCome, HaveCome, IsStanding, cut_made, demand_come}
 use Rattle.pm_walk.proofs.Nodes.{no_changes, end-beyond, group_inside}
 use Rattle.pm_walk.proofs.Sums.{Fit, fits, demand_cut, sum_fits, sum_within, sum_exchanged, sum_kept}
 
@@ -160,6 +160,53 @@ made-here old new n here inside new_is = ap (λ (l : List Progress). cut_made l 
 pub made-others : (old new : List Progress) (n x : ℕ) (here : Progress) → new ≡ set old n here → x ≢ n → cut_made new x ≡ cut_made old x
 made-others old new n x here new_is other = ap (λ (l : List Progress). cut_made l x) new_is
     ∙ ap (λ (p : Progress). p.count) (get_or-set_other old n x here no_progress other)
+
+-- one device has made so many changes more, and no other has made any
+pub record IsFurther (old new : List Progress) (d many : ℕ) : Type 0 where
+  pub here : cut_made new d ≡ cut_made old d + many
+  pub others : (x : ℕ) → x ≢ d → cut_made new x ≡ cut_made old x
+
+-- a device whose progress is set to one with so many changes more has made so many more
+pub further-set : (plan : PlanData) (old new : List Progress) (d many : ℕ) (before here : Progress) → HaveCome plan old →
+    d ≤ length plan.nodes → before ≡ progress_at old d → here.count ≡ before.count + many → new ≡ set old d here →
+    IsFurther old new d many
+further-set plan old new d many before here all inside before_is count new_is = record {
+  here = made-here old new d here (omega (arith, all.one_each)) new_is ∙ count ∙ ap (λ (p : Progress). p.count + many) before_is;
+  others = λ x other. made-others old new d x here new_is other;
+}
+
+-- how far a node has come, as the list has it, is how far it has come
+pub come-read : (plan : PlanData) (old : List Progress) (d : ℕ) (before : Progress) → HaveCome plan old → d ≤ length plan.nodes →
+    before ≡ progress_at old d → HasCome plan d before
+come-read plan old d before all inside before_is = subst (HasCome plan d) (sym before_is) (all.reached d inside)
+
+-- a walk over the devices, which is done with those below n: what is kept stands, and a bid to write in has the basis's steps
+pub record IsAlong (plan : PlanData) (n : ℕ) (kept : StandingValue) (bid : List ℤ) (after before : Cut) : Type 0 where
+  pub stands : IsStanding plan kept
+  pub between : AreBetween n kept.progress after before
+  pub spare : length bid ≡ plan.basis.steps
+
+-- device n has come to the one cut, and what is kept stands again
+pub along-more : (plan : PlanData) (n : ℕ) (old here new : StandingValue) (bid left bid' : List ℤ) (after before : Cut) →
+    IsAlong plan n old bid after before → IsStanding plan here → cut_made here.progress n ≡ after n →
+    ((x : ℕ) → x ≢ n → cut_made here.progress x ≡ cut_made old.progress x) → length left ≡ plan.basis.steps →
+    new ≡ here → bid' ≡ left → IsAlong plan (n + 1) new bid' after before
+along-more plan n old here new bid left bid' after before along stands done others steps new_is bid_is = record {
+  stands = subst (IsStanding plan) (sym new_is) stands;
+  between = subst (λ (kept : StandingValue). AreBetween (n + 1) kept.progress after before) (sym new_is)
+      (between-more n old.progress here.progress after before along.between done others);
+  spare = ap (λ l. length l) bid_is ∙ steps;
+}
+
+-- node n, which makes no change, is passed
+pub along-passed : (plan : PlanData) (n : ℕ) (old new : StandingValue) (bid bid' : List ℤ) (after before : Cut) →
+    IsAlong plan n old bid after before → before n ≡ after n → new ≡ old → bid' ≡ bid → IsAlong plan (n + 1) new bid' after before
+along-passed plan n old new bid bid' after before along none new_is bid_is = record {
+  stands = subst (IsStanding plan) (sym new_is) along.stands;
+  between = subst (λ (kept : StandingValue). AreBetween (n + 1) kept.progress after before) (sym new_is)
+      (between-passed n old.progress after before along.between none);
+  spare = ap (λ l. length l) bid_is ∙ along.spare;
+}
 
 -- ---- a device comes further
 

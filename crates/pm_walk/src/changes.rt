@@ -16,7 +16,7 @@ use pm_tree::NodeId;
 use std::marker::Brand;
 
 /// How far a node has come.
-#[derive(Clone, Copy, Debug)]
+#[derive(Clone, Copy)]
 pub(crate) struct Progress {
     /// How many changes it has made.
     pub(crate) count: u32,

@@ -1,4 +1,4 @@
-use Rattle.std.proofs.Common.{◌∙◌, ◌≡◌, ◌-◌, ◌++◌, ◌∷◌, [], sym, ap, length, arith, Vec, Global}
+use Rattle.std.proofs.Common.{◌∙◌, ◌≡◌, ◌-◌, sym, ap, length, arith, Vec, Global}
 use Rattle.std.proofs.lemmas.Result.{IfOk-from_err}
 use Rattle.std.specs.Prelude.{is_some}
 use Rattle.pm_plan.specs.Plans.{node, limits_of, is_limited}
@@ -6,7 +6,7 @@ use Rattle.pm_base.proofs.Options.{is_some-option_map}
 use Rattle.pm_plan.specs.declared.end.LimitedLine.{LimitedLine}
 use Rattle.pm_walk.specs.Parts.{limited_to}
 use Rattle.pm_walk.specs.Standing.{cut_made}
-use Rattle.pm_walk.proofs.EndLines.{limited-yes, limited-no}
+use Rattle.pm_walk.proofs.EndLines.{line_put, limited-yes, limited-no}
 use Rattle.pm_walk.proofs.lines.limited_of.Goals as goal
 use Rattle.pm_walk.proofs.lines.limited_of.Goals.{then-is_some+in_ok-push, else-is_some}
 
@@ -23,10 +23,8 @@ loop-number-preserved c =
     sym (c.is_some.ensures ∙ ap (λ o. is_some o) c.limits.ensures ∙ is_some-option_map _ (limits_of (node plan n))) in
     elim c.if-is_some.branch [
       | then-is_some+in_ok-push w ↦
-          ap (λ (v : Vec LimitedLine Global). v.items) w.lines-is ∙ w.in_ok-push.ensures.items
-          ∙ ap (λ xs. xs ++ w.limited_line.result ∷ []) c.loop-number.invariant
-          ∙ ap (λ x. limited_to plan cut (n - 1) ++ x ∷ []) w.limited_line.ensures
-          ∙ sym (limited-yes plan cut n c.loop-number.auto.number (limited ∙ w.if-is_some.true))
+          line_put _ _ _ _ _ _ (ap (λ (v : Vec LimitedLine Global). v.items) w.lines-is ∙ w.in_ok-push.ensures.items)
+          c.loop-number.invariant w.limited_line.ensures (limited-yes plan cut n c.loop-number.auto.number (limited ∙ w.if-is_some.true))
       | else-is_some w ↦
           ap (λ (v : Vec LimitedLine Global). v.items) w.lines-is ∙ c.loop-number.invariant
           ∙ sym (limited-no plan cut n c.loop-number.auto.number (limited ∙ w.if-is_some.false))

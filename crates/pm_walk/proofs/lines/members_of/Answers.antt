@@ -1,11 +1,11 @@
-use Rattle.std.proofs.Common.{◌∙◌, ◌≡◌, ◌-◌, ◌≤◌, ◌++◌, ◌∷◌, [], sym, ap, arith, length, Vec, Global}
+use Rattle.std.proofs.Common.{◌∙◌, ◌≡◌, ◌-◌, ◌≤◌, sym, ap, arith, length, Vec, Global}
 use Rattle.std.proofs.lemmas.Result.{IfOk-from_err}
 use Rattle.pm_plan.specs.Plans.{is_member}
 use Rattle.pm_plan.specs.declared.end.MemberLine.{MemberLine}
 use Rattle.pm_walk.specs.declared.changes.Progress.{Progress}
 use Rattle.pm_walk.specs.Parts.{members_to}
 use Rattle.pm_walk.specs.Standing.{cut_made}
-use Rattle.pm_walk.proofs.EndLines.{members-yes, members-no}
+use Rattle.pm_walk.proofs.EndLines.{line_put, members-yes, members-no}
 use Rattle.pm_walk.proofs.lines.members_of.Goals as goal
 use Rattle.pm_walk.proofs.lines.members_of.Goals.{then-progress+in_ok-push, else-progress}
 
@@ -24,10 +24,8 @@ loop-number-preserved c =
     sym (ap (λ (p : Progress). p.member) c.progress.ensures.progress ∙ (c.requires.stands.progress.reached n inside).member) in
     elim c.if-progress.branch [
       | then-progress+in_ok-push w ↦
-          ap (λ (v : Vec MemberLine Global). v.items) w.lines-is ∙ w.in_ok-push.ensures.items
-          ∙ ap (λ xs. xs ++ w.member_line.result ∷ []) c.loop-number.invariant
-          ∙ ap (λ x. members_to plan cut (n - 1) ++ x ∷ []) w.member_line.ensures
-          ∙ sym (members-yes plan cut n c.loop-number.auto.number (member ∙ w.if-progress.true))
+          line_put _ _ _ _ _ _ (ap (λ (v : Vec MemberLine Global). v.items) w.lines-is ∙ w.in_ok-push.ensures.items)
+          c.loop-number.invariant w.member_line.ensures (members-yes plan cut n c.loop-number.auto.number (member ∙ w.if-progress.true))
       | else-progress w ↦
           ap (λ (v : Vec MemberLine Global). v.items) w.lines-is ∙ c.loop-number.invariant
           ∙ sym (members-no plan cut n c.loop-number.auto.number (member ∙ w.if-progress.false))

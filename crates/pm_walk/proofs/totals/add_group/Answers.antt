@@ -1,4 +1,4 @@
-use Rattle.std.proofs.Common.{rules, ◌∙◌, ◌-◌, ap, sym, subst, length}
+use Rattle.std.proofs.Common.{◌∙◌, ◌-◌, ap, sym, subst, length}
 use Rattle.pm_bid.specs.Bids.{AllWithinLimit}
 use Rattle.pm_base.specs.Limits.{sum_limit}
 use Rattle.pm_plan.specs.States.{state}
@@ -35,4 +35,4 @@ returns-in_default-clause-after c = group_passed c.args.plan.now (state c.args.p
     (cut_made c.args.standing.now.progress) c.args.at.0 c.args.out.now c.requires.first (sym c.in_default.ensures) c.requires.before
 
 pub announce-requires-clause-limits : goal.announce-requires-clause-limits
-announce-requires-clause-limits c = search rules
+announce-requires-clause-limits c = sym c.in-Some.ensures

@@ -1,5 +1,7 @@
-use Rattle.std.proofs.Common.{rules, ◌∙◌, ap, arith}
+use Rattle.std.proofs.Common.{◌∙◌, ◌-◌, ap, sym, subst, arith}
 use Rattle.pm_base.specs.Cuts.{Cut, cut_of}
+use Rattle.pm_plan.specs.Plans.{end_cut}
+use Rattle.pm_walk.specs.Clearing.{ArePowers}
 use Rattle.pm_walk.proofs.DeviceCuts.{device-here}
 use Rattle.pm_walk.proofs.auction.CutAuction.raise.Goals as goal
 
@@ -16,4 +18,5 @@ returns-clause-auction c =
     }
 
 pub raise_devices-requires-clause-powers : goal.raise_devices-requires-clause-powers
-raise_devices-requires-clause-powers c = search rules
+raise_devices-requires-clause-powers c =
+    subst (ArePowers c.args.plan.now (end_cut c.args.plan.now (c.args.phase - 1))) (sym c.deref.ensures.value) c.requires.auction.powers

@@ -1,10 +1,22 @@
 use Rattle.std.proofs.Common.{◌≡◌, ◌∙◌, ap, sym, subst, arith}
 use Rattle.std.proofs.lemmas.Slice.Zip.{AllZip-map}
 use Rattle.std.proofs.lemmas.List.{map-id}
+use Rattle.std.proofs.lemmas.Result.{IfOk-from_err}
 use Rattle.pm_base.specs.Cuts.{Cut}
 use Rattle.pm_walk.specs.Clearing.{ArePowers}
 use Rattle.pm_plan.proofs.Ends.{end-none}
 use Rattle.pm_walk.proofs.auction.CutAuction.start.Goals as goal
+
+pub returns-in_err-run : goal.returns-in_err-run
+returns-in_err-run c =
+    let fails = c.from_residual.ensures.0 in
+    record { auction = IfOk-from_err c.from_residual.result _ fails; none = IfOk-from_err c.from_residual.result _ fails }
+
+pub returns-in_err-powers : goal.returns-in_err-powers
+returns-in_err-powers c =
+    let r = c.from_residual-in_err-powers.result in
+    let fails = c.from_residual-in_err-powers.ensures.0 in
+    record { auction = IfOk-from_err r _ fails; none = IfOk-from_err r _ fails }
 
 pub returns-clause-none : goal.returns-clause-none
 returns-clause-none c = λ x.

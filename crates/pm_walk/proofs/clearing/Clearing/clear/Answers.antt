@@ -10,6 +10,23 @@ pub fill_group_steps-requires-clause-step : goal.fill_group_steps-requires-claus
 unfolding plain
 fill_group_steps-requires-clause-step c = c.first_not_positive-step.ensures.step ∙ ap clearing_step c.fill_total.ensures.total
 
+pub fill_group_steps-requires-clause-inside : goal.fill_group_steps-requires-clause-inside
+fill_group_steps-requires-clause-inside c = omega (arith, c.first_not_positive-step.ensures.clears.inside, c.fill_total.ensures.steps)
+
+pub fill_group_steps-requires-clause-one_each : goal.fill_group_steps-requires-clause-one_each
+fill_group_steps-requires-clause-one_each c = ap (λ l. length l) c.deref_mut.ensures.value ∙ c.requires.room.group_steps
+
+pub fill_powers-requires-clause-steps : goal.fill_powers-requires-clause-steps
+fill_powers-requires-clause-steps c =
+    let steps = c.args.self.now.group_steps in
+    let many : length c.fill_group_steps.new.group_steps ≡ steps.len =
+    omega (arith, c.fill_group_steps.ensures.one_each, c.requires.room.group_steps, steps.ok) in
+    subst (AreGroupSteps c.args.plan.now (cut_made c.args.standing.now.progress))
+    (sym (c.deref.ensures.value ∙ with_items_is steps c.fill_group_steps.new.group_steps many)) c.fill_group_steps.ensures
+
+pub fill_powers-requires-clause-one_each : goal.fill_powers-requires-clause-one_each
+fill_powers-requires-clause-one_each c = ap (λ l. length l) c.deref_mut-2.ensures.value ∙ c.requires.room.powers
+
 pub returns-clause-clearing : goal.returns-clause-clearing
 unfolding plain
 returns-clause-clearing c =

@@ -1,8 +1,8 @@
-use Rattle.std.proofs.Common.{◌≡◌, ◌-◌, ◌<◌, ap, sym, subst, length, arith, rules}
+use Rattle.std.proofs.Common.{◌∙◌, ◌-◌, arith}
+use Rattle.std.proofs.lemmas.Int.{to_z-of_z}
+use mir.Syntax.{w64}
 use Rattle.pm_plan.proofs.Ends.{end-rises}
-use Rattle.pm_walk.specs.declared.changes.Progress.{Progress}
-use Rattle.pm_walk.specs.Standing.{HasCome, cut_made}
-use Rattle.pm_walk.proofs.Standings.{made-here, made-others}
+use Rattle.pm_walk.proofs.Standings.{come-read, further-set}
 use Rattle.pm_walk.proofs.standing.Standing.change_device.Goals as goal
 
 pub returns-then-many-eq0-clause-done : goal.returns-then-many-eq0-clause-done
@@ -10,11 +10,11 @@ returns-then-many-eq0-clause-done c = omega (arith, end-rises c.args.plan.now (c
 
 pub make_changes-here-requires-clause-reached : goal.make_changes-here-requires-clause-reached
 make_changes-here-requires-clause-reached c =
-    subst (HasCome c.args.plan.now c.args.device.0) (sym c.progress-before.ensures.progress)
-    (c.requires.stands.progress.reached c.args.device.0 c.requires.inside)
+    come-read c.args.plan.now c.args.self.now.progress c.args.device.0 c.progress-before.result c.requires.stands.progress
+    c.requires.inside c.progress-before.ensures.progress
 
 pub make_changes-here-requires-clause-used : goal.make_changes-here-requires-clause-used
-make_changes-here-requires-clause-used c = search rules
+make_changes-here-requires-clause-used c = to_z-of_z w64 c.args.used c.ranges.used ∙ c.requires.used
 
 pub reach-requires : goal.reach-requires
 reach-requires c = record {
@@ -27,24 +27,13 @@ reach-requires c = record {
 
 pub returns : goal.returns
 returns c =
-    let old = c.args.self.now.progress in
-    let there : c.args.device.0 < length old = omega (arith, c.requires.stands.progress.one_each, c.requires.inside) in
-    let count : c.progress-before.result.count ≡ cut_made old c.args.device.0 = ap (λ (p : Progress). p.count) c.progress-before.ensures.progress in
-    let here : cut_made c.reach.new.self.progress c.args.device.0 ≡ c.make_changes-here.result.count =
-    made-here old _ c.args.device.0 _ there c.reach.ensures.progress in
+    let further = further-set c.args.plan.now c.args.self.now.progress _ c.args.device.0 c.changes_of-many.result _ _ c.requires.stands.progress
+    c.requires.inside c.progress-before.ensures.progress c.make_changes-here.ensures.count c.reach.ensures.progress in
+    let rises = end-rises c.args.plan.now (c.args.phase - 1) c.args.phase c.args.device.0 (omega arith) in
     record {
       stands = c.reach.ensures.stands;
-      done =
-          omega (
-            arith,
-            here,
-            c.make_changes-here.ensures.count,
-            count,
-            c.changes_of-many.ensures,
-            c.requires.begun,
-            end-rises c.args.plan.now (c.args.phase - 1) c.args.phase c.args.device.0 (omega arith),
-          );
-      others = λ x other. made-others old _ c.args.device.0 x _ c.reach.ensures.progress other;
+      done = omega (arith, further.here, c.changes_of-many.ensures, c.requires.begun, rises);
+      others = further.others;
       same = λ none. absurd (cc none);
       spare = c.reach.ensures.spare;
     }

@@ -1,11 +1,10 @@
-use Rattle.std.proofs.Common.{◌≡◌, ◌∙◌, ◌+◌, ◌<◌, ◌≤◌, ap, sym, subst, false, length, arith}
+use Rattle.std.proofs.Common.{◌≡◌, ◌∙◌, ◌<◌, ◌≤◌, ap, sym, false, length, arith}
 use Rattle.std.proofs.lemmas.Result.{IfOk-from_err}
 use Rattle.pm_bid.proofs.Sums.{length-zeros}
 use Rattle.pm_tree.specs.Entries.{is_leaf_at}
 use Rattle.pm_plan.specs.Plans.{is_leaf}
-use Rattle.pm_walk.specs.Standing.{StandingValue, IsStanding, cut_made}
-use Rattle.pm_walk.proofs.Standings.{AreBetween, first_node, made-zero, made-here, made-others, made-other, made-beyond, between-more, between-passed}
-use Rattle.pm_walk.proofs.Standings.{all_between}
+use Rattle.pm_walk.specs.Standing.{cut_made}
+use Rattle.pm_walk.proofs.Standings.{first_node, made-zero, made-here, made-others, made-other, made-beyond, along-more, along-passed, all_between}
 use Rattle.pm_walk.proofs.standing.Standing.over.Goals as goal
 use Rattle.pm_walk.proofs.standing.Standing.over.Goals.{then-is_leaf, else-is_leaf}
 
@@ -52,29 +51,22 @@ pub loop-number-preserved : goal.loop-number-preserved
 loop-number-preserved c =
     let plan = c.args.plan.now in
     let n = c.loop-number.number in
+    let kept = c.loop-number.standing in
+    let spare = c.loop-number.spare in
     let stops = c.args.progress.now in
     let is = c.tree-tree.ensures.sound in
     let inside : n ≤ length plan.nodes = omega (arith, is.nodes.one_each, c.len-number-end.ensures.len, ap (λ e. length e) c.tree-tree.ensures.tree) in
     elim c.if-is_leaf.branch [
       | then-is_leaf w ↦
-          let old = c.loop-number.standing.progress in
-          let there : n < length old = omega (arith, c.loop-number.invariant.stands.progress.one_each) in
-          record {
-            stands = subst (IsStanding plan) (sym w.standing-is) w.reach.ensures.stands;
-            between = subst (λ (s : StandingValue). AreBetween (n + 1) s.progress (cut_made stops) (λ _. 0)) (sym w.standing-is)
-                (between-more n old _ (cut_made stops) (λ _. 0) c.loop-number.invariant.between
-                (made-here old _ n _ there w.reach.ensures.progress) (λ x other. made-others old _ n x _ w.reach.ensures.progress other));
-            spare = ap (λ l. length l) w.spare-is ∙ w.reach.ensures.spare;
-          }
+          let reached = w.reach.ensures in
+          let there : n < length kept.progress = omega (arith, c.loop-number.invariant.stands.progress.one_each) in
+          along-more plan n kept _ _ spare _ _ (cut_made stops) (λ _. 0) c.loop-number.invariant reached.stands
+          (made-here kept.progress _ n _ there reached.progress) (λ x other. made-others kept.progress _ n x _ reached.progress other)
+          reached.spare w.standing-is w.spare-is
       | else-is_leaf w ↦
           let other : is_leaf plan n ≡ false = ap (λ e. is_leaf_at e n) (sym c.tree-tree.ensures.tree) ∙ sym c.is_leaf.ensures ∙ w.if-is_leaf.false in
-          record {
-            stands = subst (IsStanding plan) (sym w.standing-is) c.loop-number.invariant.stands;
-            between = subst (λ (s : StandingValue). AreBetween (n + 1) s.progress (cut_made stops) (λ _. 0)) (sym w.standing-is)
-                (between-passed n c.loop-number.standing.progress (cut_made stops) (λ _. 0) c.loop-number.invariant.between
-                (sym (made-other plan stops n is c.requires inside other)));
-            spare = ap (λ l. length l) w.spare-is ∙ c.loop-number.invariant.spare;
-          }
+          along-passed plan n kept _ spare _ (cut_made stops) (λ _. 0) c.loop-number.invariant
+          (sym (made-other plan stops n is c.requires inside other)) w.standing-is w.spare-is
     ]
 
 pub returns-clause-cut : goal.returns-clause-cut

@@ -1,7 +1,6 @@
-use Rattle.std.proofs.Common.{◌≡◌, ◌∙◌, ◌<◌, ap, sym, subst, refl, length, arith}
+use Rattle.std.proofs.Common.{◌∙◌, ◌-◌, ap, sym, refl, arith}
 use Rattle.pm_walk.specs.declared.changes.Progress.{Progress}
-use Rattle.pm_walk.specs.Standing.{HasCome, cut_made}
-use Rattle.pm_walk.proofs.Standings.{made-here, made-others}
+use Rattle.pm_walk.proofs.Standings.{come-read, further-set}
 use Rattle.pm_walk.proofs.standing.Standing.raise_device.Goals as goal
 
 pub returns-then-number-before : goal.returns-then-number-before
@@ -14,8 +13,8 @@ returns-then-number-before c = record {
 
 pub make_changes-here-requires-clause-reached : goal.make_changes-here-requires-clause-reached
 make_changes-here-requires-clause-reached c =
-    subst (HasCome c.args.plan.now c.args.device.0) (sym c.progress-before.ensures.progress)
-    (c.requires.stands.progress.reached c.args.device.0 c.requires.inside)
+    come-read c.args.plan.now c.args.self.now.progress c.args.device.0 c.progress-before.result c.requires.stands.progress
+    c.requires.inside c.progress-before.ensures.progress
 
 pub reach-requires : goal.reach-requires
 reach-requires c = record {
@@ -28,14 +27,12 @@ reach-requires c = record {
 
 pub returns : goal.returns
 returns c =
-    let old = c.args.self.now.progress in
-    let there : c.args.device.0 < length old = omega (arith, c.requires.stands.progress.one_each, c.requires.inside) in
-    let count : c.progress-before.result.count ≡ cut_made old c.args.device.0 = ap (λ (p : Progress). p.count) c.progress-before.ensures.progress in
-    let here : cut_made c.reach.new.self.progress c.args.device.0 ≡ c.make_changes-here.result.count =
-    made-here old _ c.args.device.0 _ there c.reach.ensures.progress in
+    let further = further-set c.args.plan.now c.args.self.now.progress _ c.args.device.0 (c.args.number - c.progress-before.result.count) _ _
+    c.requires.stands.progress c.requires.inside c.progress-before.ensures.progress c.make_changes-here.ensures.count c.reach.ensures.progress in
+    let count = ap (λ (p : Progress). p.count) c.progress-before.ensures.progress in
     record {
       stands = c.reach.ensures.stands;
-      done = omega (arith, here, c.make_changes-here.ensures.count, count, c.requires.rises);
-      others = λ x other. made-others old _ c.args.device.0 x _ c.reach.ensures.progress other;
+      done = omega (arith, further.here, count, c.requires.rises);
+      others = further.others;
       spare = c.reach.ensures.spare;
     }

@@ -1,11 +1,11 @@
-use Rattle.std.proofs.Common.{◌≡◌, ◌∙◌, ◌+◌, ◌<◌, ap, sym, subst, refl, true, false, length, arith, rules}
+use Rattle.std.proofs.Common.{◌≡◌, ◌∙◌, ◌<◌, ap, sym, refl, true, false, length, arith, rules}
 use Rattle.pm_tree.specs.Entries.{is_leaf_at}
 use Rattle.pm_base.specs.Cuts.{cut_of}
 use Rattle.pm_plan.specs.Plans.{is_leaf}
 use Rattle.pm_walk.specs.Cuts.{device_cut}
-use Rattle.pm_walk.specs.Standing.{StandingValue, IsStanding, cut_made}
+use Rattle.pm_walk.specs.Standing.{cut_made}
 use Rattle.pm_walk.proofs.DeviceCuts.{device-here, device-other, made-none, beyond-other, zero-other}
-use Rattle.pm_walk.proofs.Standings.{AreBetween, first_node, made-zero, between-more, between-passed, all_between}
+use Rattle.pm_walk.proofs.Standings.{first_node, made-zero, along-more, along-passed, all_between}
 use Rattle.pm_walk.proofs.standing.Standing.raise_devices.Goals as goal
 use Rattle.pm_walk.proofs.standing.Standing.raise_devices.Goals.{then-is_leaf, else-is_leaf}
 
@@ -54,30 +54,22 @@ pub loop-number-preserved : goal.loop-number-preserved
 loop-number-preserved c =
     let plan = c.args.plan.now in
     let n = c.loop-number.number in
+    let kept = c.loop-number.self in
+    let spare = c.loop-number.spare in
     let cut = cut_of c.args.cut.now in
     let before = cut_made c.args.self.now.progress in
-    let between = c.loop-number.invariant.between in
     elim c.if-is_leaf.branch [
       | then-is_leaf w ↦
           let leaf : is_leaf plan n ≡ true = ap (λ e. is_leaf_at e n) (sym c.tree-tree.ensures.tree) ∙ sym c.is_leaf.ensures ∙ w.if-is_leaf.true in
           let raised = w.raise_device.ensures in
           let here = raised.done ∙ w.number_at.ensures ∙ sym (device-here plan cut n leaf) in
-          record {
-            stands = subst (IsStanding plan) (sym w.self-is) raised.stands;
-            between = subst (λ (s : StandingValue). AreBetween (n + 1) s.progress (device_cut plan cut) before) (sym w.self-is)
-                (between-more n c.loop-number.self.progress _ (device_cut plan cut) before between here raised.others);
-            spare = ap (λ l. length l) w.spare-is ∙ raised.spare;
-          }
+          along-more plan n kept _ _ spare _ _ (device_cut plan cut) before c.loop-number.invariant
+          raised.stands here raised.others raised.spare w.self-is w.spare-is
       | else-is_leaf w ↦
           let other : is_leaf plan n ≡ false = ap (λ e. is_leaf_at e n) (sym c.tree-tree.ensures.tree) ∙ sym c.is_leaf.ensures ∙ w.if-is_leaf.false in
           let is = c.tree-tree.ensures.sound in
           let none = made-none plan c.args.self.now.progress n is c.requires.stands.progress other ∙ sym (device-other plan cut n other) in
-          record {
-            stands = subst (IsStanding plan) (sym w.self-is) c.loop-number.invariant.stands;
-            between = subst (λ (s : StandingValue). AreBetween (n + 1) s.progress (device_cut plan cut) before) (sym w.self-is)
-                (between-passed n c.loop-number.self.progress (device_cut plan cut) before between none);
-            spare = ap (λ l. length l) w.spare-is ∙ c.loop-number.invariant.spare;
-          }
+          along-passed plan n kept _ spare _ (device_cut plan cut) before c.loop-number.invariant none w.self-is w.spare-is
     ]
 
 pub returns-clause-done : goal.returns-clause-done
