@@ -16,10 +16,16 @@ use pm_base::MOST_DEPTH;
 use std::alloc::{AllocError, Global};
 
 /// The names and the node table of the entries so far, both with the auctioneer first.
-#[derive(Drop)]
 pub(crate) struct Index {
     pub(crate) names: IndexSet<String>,
     pub(crate) nodes: Vec<Node>,
+}
+
+/// Its owner lets go of it in one step, where a derived drop would be one for each part.
+impl Drop for Index {
+    fn drop(self) {
+        let Index { names: _, nodes: _ } = self;
+    }
 }
 
 /// Checks the entries in list order, and gives the index of all of them.
@@ -57,6 +63,15 @@ impl Index {
         };
         index.push(alloc, AUCTIONEER, row)?;
         Ok(index)
+    }
+
+    /// The names and the node table.
+    pub(crate) fn into_parts(self) -> (IndexSet<String>, Vec<Node>)
+        ensures names { result.0 ≡ self.names }
+        ensures nodes { result.1 ≡ self.nodes }
+    {
+        let Index { names, nodes } = self;
+        (names, nodes)
     }
 
     /// Checks the entry at a place after the entries before it, and gives its row.

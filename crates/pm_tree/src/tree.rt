@@ -74,10 +74,11 @@ impl Tree {
         let index = index_entries(alloc, &entries)?;
         let children = collect_children(alloc, &index.nodes)?;
         let leaves_below = collect_leaves(alloc, &index.nodes)?;
+        let (names, nodes) = index.into_parts();
         Ok(Tree {
             entries,
-            names: index.names,
-            nodes: index.nodes,
+            names,
+            nodes,
             children: children.lists,
             places: children.places,
             leaves_below,

@@ -1,9 +1,11 @@
 use Rattle.std.proofs.Common.{◌≡◌, ◌<◌, ◌∙◌, ap, sym, subst, refl, map, length, take, [], string_bytes, arith, List, ℕ, ◌++◌, ◌∷◌}
-use Rattle.std.proofs.Common.{inl}
+use Rattle.std.proofs.Common.{inl, slice_get}
 use Rattle.std.proofs.lemmas.List.{take_all}
 use Rattle.std.proofs.lemmas.Result.{err_from_is_err_and}
 use Rattle.pm_tree.specs.Shape.{IsTree}
-use Rattle.pm_tree.specs.Entries.{Entry, entries_of, entry_at, parents_of, leaves_of}
+use Rattle.pm_tree.specs.Entries.{Entry, entries_of, entry_at, parents_of, leaves_of, refusals_after}
+use Rattle.pm_tree.specs.Tables.{IsIndexOf}
+use Rattle.pm_tree.specs.declared.fault.TreeFault.{TreeFault}
 use Rattle.pm_tree.proofs.Rows.{IsTree-nil}
 use Rattle.pm_tree.proofs.Loop.{index_step, lawful_step, accepted_step, refused_here, entry_read, length-entries_of, unknown_name}
 use Rattle.pm_tree.proofs.index.index_entries.Goals as goal
@@ -35,8 +37,15 @@ returns-in_err-row-clause-refused c =
     let p = err_from_is_err_and c.from_residual-in_err-row.result c.from_residual-in_err-row.ensures.1 in
     rw (p.1, p.2) (inl (refused_here _ _ inside _ c.loop-place.invariant.accepted c.in_err-row.ensures.refused))
 
-pub returns-clause-lawful : goal.returns-clause-lawful
-returns-clause-lawful c =
-    let whole : take c.loop-place.place (entries_of c.args.entries.now) ≡ entries_of c.args.entries.now =
-    take_all _ _ (omega (arith, length-entries_of c.args.entries.now)) in
-    subst (λ (es : List Entry). IsTree (parents_of es) (leaves_of es)) whole c.loop-place.invariant.lawful
+pub returns : goal.returns
+returns c =
+    let entries = entries_of c.args.entries.now in
+    let whole : take c.loop-place.place entries ≡ entries = take_all _ _ (omega (arith, length-entries_of c.args.entries.now)) in
+    record {
+      index = subst (λ (es : List Entry). IsIndexOf es (map string_bytes c.loop-place.index.names.keys) c.loop-place.index.nodes.items) whole
+          c.loop-place.invariant.index;
+      lawful = subst (λ (es : List Entry). IsTree (parents_of es) (leaves_of es)) whole c.loop-place.invariant.lawful;
+      accepted = ap (λ (es : List Entry). slice_get (refusals_after [] es) 0) (sym whole)
+          ∙ ap (λ (faults : List TreeFault). slice_get faults 0) c.loop-place.invariant.accepted;
+      refused = tt;
+    }

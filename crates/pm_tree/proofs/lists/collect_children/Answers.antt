@@ -65,10 +65,12 @@ loop-number-preserved c =
           (omega (arith, place, c.index.result.now.ok)) c.loop-number.invariant.places);
     }
 
-pub returns-clause-lists : goal.returns-clause-lists
-returns-clause-lists c = children_done _ _ c.loop-number.number _
-    (omega (
-      arith,
-      length-shape_parents c.args.nodes.now,
-      length-table (shape_parents c.args.nodes.now) (shape_leaves c.args.nodes.now) c.args.nodes.now c.requires.table,
-    )) c.loop-number.invariant.lists
+pub returns : goal.returns
+returns c =
+    let nodes = c.args.nodes.now in
+    let long = length-table (shape_parents nodes) (shape_leaves nodes) nodes c.requires.table in
+    let all : c.loop-number.number ≡ length nodes = omega (arith, long) in
+    record {
+      lists = children_done _ _ c.loop-number.number _ (omega (arith, length-shape_parents nodes, long)) c.loop-number.invariant.lists;
+      places = subst (λ n. AreNumbers n (place_at (shape_parents nodes)) c.loop-number.places.items) all c.loop-number.invariant.places;
+    }

@@ -1,13 +1,20 @@
-use Rattle.std.proofs.Common.{◌≡◌, ◌∙◌, ap, sym, arith, subst, length, get_or, List, [], ◌++◌, ◌+◌, ◌-◌, Vec}
+use Rattle.std.proofs.Common.{◌≡◌, ◌∙◌, ap, sym, arith, subst, length, get_or, refl, List, [], ◌++◌, ◌+◌, ◌-◌, Vec}
 use Rattle.std.specs.declared.alloc.Global.{Global}
 use Rattle.std.proofs.lemmas.List.{with_items_is}
 use Rattle.pm_tree.specs.Shape.{leaves_among}
 use Rattle.pm_tree.specs.Tables.{shape_parents, shape_leaves, added_on_path, AreLists, node_lists}
 use Rattle.pm_tree.specs.declared.node.NodeId.{NodeId}
 use Rattle.pm_tree.proofs.Rows.{row_leaf, first_row, length-table}
-use Rattle.pm_tree.proofs.TableLists.{leaves_step, leaves_skip, leaves_done, length-shape_parents, length-lists_of}
+use Rattle.pm_tree.proofs.TableLists.{leaves_step, leaves_skip, leaves_done, lists_same, length-shape_parents, length-lists_of}
 use Rattle.pm_tree.proofs.lists.collect_leaves.Goals as goal
 use Rattle.pm_tree.proofs.lists.collect_leaves.Goals.{then-nodes-number+in_ok-push_on_path, else-nodes-number}
+
+pub loop-number-init : goal.loop-number-init
+loop-number-init c = lists_same _ _ _ _ (λ node. refl) c.in_ok-lists.ensures
+
+pub push_on_path-requires-clause-one_each : goal.push_on_path-requires-clause-one_each
+push_on_path-requires-clause-one_each c =
+    omega (arith, ap length c.deref_mut.ensures.value, c.loop-number.invariant.count_is, length-lists_of c.loop-number.lists.items)
 
 pub loop-number-preserved : goal.loop-number-preserved
 loop-number-preserved c =

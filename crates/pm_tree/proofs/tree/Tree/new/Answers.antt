@@ -47,7 +47,8 @@ invariant_of-result c =
     let few : length (entries_of c.args.entries.items) ≤ most_nodes = omega (arith, length-entries_of c.args.entries.items, c.args.entries.ok) in
     let accepted = subst (λ (es : List TreeEntry). slice_get (refusals_after [] (entries_of es)) 0 ≡ None) c.deref.ensures.value
     c.in_ok-index.ensures.accepted in
-    kept_all _ _ _ _ _ _ (first_refusal-few (entries_of c.args.entries.items) few ∙ accepted) few
+    rw (c.into_parts-names.ensures.names, c.into_parts-names.ensures.nodes)
+    (kept_all _ _ _ _ _ _ (first_refusal-few (entries_of c.args.entries.items) few ∙ accepted) few
     (subst (λ (es : List TreeEntry). IsTree (parents_of (entries_of es)) (leaves_of (entries_of es))) c.deref.ensures.value c.in_ok-index.ensures.lawful)
     (subst (λ (es : List TreeEntry). IsIndexOf (entries_of es) (map string_bytes c.in_ok-index.index.names.keys)
     c.in_ok-index.index.nodes.items) c.deref.ensures.value c.in_ok-index.ensures.index)
@@ -56,7 +57,7 @@ invariant_of-result c =
     (subst (λ (ns : List Node). AreNumbers (length ns) (place_at (shape_parents ns)) c.in_ok-children.children.places.items)
     c.deref-2.ensures.value c.in_ok-children.ensures.places)
     (subst (λ (ns : List Node). AreLists (length ns) (leaves_below_at (shape_parents ns) (shape_leaves ns))
-    (node_lists c.in_ok-leaves_below.leaves_below.items)) c.deref-3.ensures.value c.in_ok-leaves_below.ensures)
+    (node_lists c.in_ok-leaves_below.leaves_below.items)) c.deref-3.ensures.value c.in_ok-leaves_below.ensures))
 
 pub returns : goal.returns
 returns c =
