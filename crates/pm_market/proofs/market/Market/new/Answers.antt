@@ -14,34 +14,22 @@ returns-clause-start c =
     (fun_ext (all_one _ _ 0 (c.in_ok-vec-2.ensures.items_if_clones_equal (λ y e. e))))
     (fun_ext (all_one _ _ [] c.in_ok-empty_rows-2.ensures))
 
-pub invariant_of-result-clause-leaf_of_each : goal.invariant_of-result-clause-leaf_of_each
-invariant_of-result-clause-leaf_of_each c = c.requires
-
-pub invariant_of-result-clause-count_of_each : goal.invariant_of-result-clause-count_of_each
-invariant_of-result-clause-count_of_each c = c.in_ok-vec.ensures.len ∙ ap (λ n. n + 1) c.len-places.ensures
-
-pub invariant_of-result-clause-cuts_of_each : goal.invariant_of-result-clause-cuts_of_each
-invariant_of-result-clause-cuts_of_each c = empty_long c.in_ok-empty_rows.field-0 _ c.in_ok-empty_rows.ensures ∙ ap (λ n. n + 1) c.len-places.ensures
-
-pub invariant_of-result-clause-number_of_each : goal.invariant_of-result-clause-number_of_each
-invariant_of-result-clause-number_of_each c = c.in_ok-vec-2.ensures.len ∙ ap (λ n. n + 1) c.len-places.ensures
-
-pub invariant_of-result-clause-indices_of_each : goal.invariant_of-result-clause-indices_of_each
-invariant_of-result-clause-indices_of_each c = empty_long c.in_ok-empty_rows-2.field-0 _ c.in_ok-empty_rows-2.ensures ∙ ap (λ n. n + 1) c.len-places.ensures
-
-pub invariant_of-result-clause-due_of_each : goal.invariant_of-result-clause-due_of_each
-invariant_of-result-clause-due_of_each c = c.in_ok-vec-3.ensures.len ∙ ap (λ n. n + 1) c.len-places.ensures
-
-pub invariant_of-result-clause-none_above : goal.invariant_of-result-clause-none_above
-invariant_of-result-clause-none_above c = all_one _ _ 0 (c.in_ok-vec-2.ensures.items_if_clones_equal (λ y e. e)) 0
-
-pub invariant_of-result-clause-parents_marked : goal.invariant_of-result-clause-parents_marked
-invariant_of-result-clause-parents_marked c =
-    subst (λ parents. AreParents parents c.in_ok-marked_parents.field-0.items) c.deref.ensures.value c.in_ok-marked_parents.ensures
-
-pub invariant_of-result-clause-greatest_due : goal.invariant_of-result-clause-greatest_due
-invariant_of-result-clause-greatest_due c =
-    knows_start _ _ _
-    (ap (λ rows. map cut_of (map (λ row. row.items) rows)) (all_one _ _ [] c.in_ok-empty_rows.ensures 0))
-    (all_one _ _ [] c.in_ok-empty_rows-2.ensures)
-    (all_one _ _ 0 (c.in_ok-vec-3.ensures.items_if_clones_equal (λ y e. e)))
+pub invariant_of-result : goal.invariant_of-result
+invariant_of-result c =
+    let places = ap (λ n. n + 1) c.len-places.ensures in
+    let learnt = c.in_ok-vec-2.ensures.items_if_clones_equal (λ y e. e) in
+    record {
+      leaf_of_each = c.requires;
+      count_of_each = c.in_ok-vec.ensures.len ∙ places;
+      cuts_of_each = empty_long c.in_ok-empty_rows.field-0 _ c.in_ok-empty_rows.ensures ∙ places;
+      number_of_each = c.in_ok-vec-2.ensures.len ∙ places;
+      indices_of_each = empty_long c.in_ok-empty_rows-2.field-0 _ c.in_ok-empty_rows-2.ensures ∙ places;
+      due_of_each = c.in_ok-vec-3.ensures.len ∙ places;
+      none_above = all_one _ _ 0 learnt 0;
+      parents_marked = subst (λ parents. AreParents parents c.in_ok-marked_parents.field-0.items) c.deref.ensures.value
+          c.in_ok-marked_parents.ensures;
+      greatest_due = knows_start _ _ _
+          (ap (λ rows. map cut_of (map (λ row. row.items) rows)) (all_one _ _ [] c.in_ok-empty_rows.ensures 0))
+          (all_one _ _ [] c.in_ok-empty_rows-2.ensures)
+          (all_one _ _ 0 (c.in_ok-vec-3.ensures.items_if_clones_equal (λ y e. e)));
+    }
