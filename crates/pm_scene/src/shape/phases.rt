@@ -45,9 +45,10 @@ fn read_spec(alloc: Global, form: EventForm, value: &Value) -> Result<EventSpec,
 
 /// An event of the file.
 #[tactic(auto, unfolding(crate::specs::Phases::event_shape))]
-fn read_event(alloc: Global, place: Place, value: &Value) -> Result<EventSpec, PlanFault>
-    ensures { Gives refusal_in event_part result (event_shape place (view value.now)) }
+fn read_event(alloc: Global, phase: u32, number: u32, value: &Value) -> Result<EventSpec, PlanFault>
+    ensures { Gives refusal_in event_part result (event_shape (Place.Event phase number) (view value.now)) }
 {
+    let place = Place::Event { phase, number };
     let form = event_form(value);
     check_members(value, event_row(form, value), place)?;
     Ok(read_spec(alloc, form, value)?)
@@ -61,7 +62,7 @@ fn read_events(alloc: Global, phase: u32, values: &[Value]) -> Result<Vec<EventS
     let mut number: u32 = 0;
     for value in values {
         number = number.saturating_add(1);
-        events.push(read_event(alloc, Place::Event { phase, number }, value)?)?;
+        events.push(read_event(alloc, phase, number, value)?)?;
     }
     Ok(events)
 }
