@@ -163,7 +163,9 @@ made-others old new n x here new_is other = ap (λ (l : List Progress). cut_made
 
 -- one device has made so many changes more, and no other has made any
 pub record IsFurther (old new : List Progress) (d many : ℕ) : Type 0 where
+  -- the device has made so many more
   pub here : cut_made new d ≡ cut_made old d + many
+  -- every other node has made as many as before
   pub others : (x : ℕ) → x ≢ d → cut_made new x ≡ cut_made old x
 
 -- a device whose progress is set to one with so many changes more has made so many more
@@ -176,14 +178,17 @@ further-set plan old new d many before here all inside before_is count new_is = 
 }
 
 -- how far a node has come, as the list has it, is how far it has come
-pub come-read : (plan : PlanData) (old : List Progress) (d : ℕ) (before : Progress) → HaveCome plan old → d ≤ length plan.nodes →
+pub reached-read : (plan : PlanData) (old : List Progress) (d : ℕ) (before : Progress) → HaveCome plan old → d ≤ length plan.nodes →
     before ≡ progress_at old d → HasCome plan d before
-come-read plan old d before all inside before_is = subst (HasCome plan d) (sym before_is) (all.reached d inside)
+reached-read plan old d before all inside before_is = subst (HasCome plan d) (sym before_is) (all.reached d inside)
 
--- a walk over the devices, which is done with those below n: what is kept stands, and a bid to write in has the basis's steps
+-- a walk over the devices, which is done with those below n, with a bid to write in
 pub record IsAlong (plan : PlanData) (n : ℕ) (kept : StandingValue) (bid : List ℤ) (after before : Cut) : Type 0 where
+  -- what is kept is that of the plan
   pub stands : IsStanding plan kept
+  -- the nodes below n have come to the one cut, the others stand at the other
   pub between : AreBetween n kept.progress after before
+  -- the bid has the steps of the basis
   pub spare : length bid ≡ plan.basis.steps
 
 -- device n has come to the one cut, and what is kept stands again

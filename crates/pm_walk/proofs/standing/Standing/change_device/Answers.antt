@@ -2,7 +2,7 @@ use Rattle.std.proofs.Common.{◌∙◌, ◌-◌, arith}
 use Rattle.std.proofs.lemmas.Int.{to_z-of_z}
 use mir.Syntax.{w64}
 use Rattle.pm_plan.proofs.Ends.{end-rises}
-use Rattle.pm_walk.proofs.Standings.{come-read, further-set}
+use Rattle.pm_walk.proofs.Standings.{reached-read, further-set}
 use Rattle.pm_walk.proofs.standing.Standing.change_device.Goals as goal
 
 pub returns-then-many-eq0-clause-done : goal.returns-then-many-eq0-clause-done
@@ -10,7 +10,7 @@ returns-then-many-eq0-clause-done c = omega (arith, end-rises c.args.plan.now (c
 
 pub make_changes-here-requires-clause-reached : goal.make_changes-here-requires-clause-reached
 make_changes-here-requires-clause-reached c =
-    come-read c.args.plan.now c.args.self.now.progress c.args.device.0 c.progress-before.result c.requires.stands.progress
+    reached-read c.args.plan.now c.args.self.now.progress c.args.device.0 c.progress-before.result c.requires.stands.progress
     c.requires.inside c.progress-before.ensures.progress
 
 pub make_changes-here-requires-clause-used : goal.make_changes-here-requires-clause-used

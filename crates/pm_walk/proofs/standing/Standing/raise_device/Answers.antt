@@ -1,6 +1,6 @@
 use Rattle.std.proofs.Common.{◌∙◌, ◌-◌, ap, sym, refl, arith}
 use Rattle.pm_walk.specs.declared.changes.Progress.{Progress}
-use Rattle.pm_walk.proofs.Standings.{come-read, further-set}
+use Rattle.pm_walk.proofs.Standings.{reached-read, further-set}
 use Rattle.pm_walk.proofs.standing.Standing.raise_device.Goals as goal
 
 pub returns-then-number-before : goal.returns-then-number-before
@@ -13,7 +13,7 @@ returns-then-number-before c = record {
 
 pub make_changes-here-requires-clause-reached : goal.make_changes-here-requires-clause-reached
 make_changes-here-requires-clause-reached c =
-    come-read c.args.plan.now c.args.self.now.progress c.args.device.0 c.progress-before.result c.requires.stands.progress
+    reached-read c.args.plan.now c.args.self.now.progress c.args.device.0 c.progress-before.result c.requires.stands.progress
     c.requires.inside c.progress-before.ensures.progress
 
 pub reach-requires : goal.reach-requires
