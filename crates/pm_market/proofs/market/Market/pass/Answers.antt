@@ -11,16 +11,26 @@ pass_to_last-requires-clause-childless c =
     childless_from (market_lists m) m.has_child.items c.args.node m.parents_marked
     (cc (c.item_at.ensures, ap (λ marks. get_or marks c.args.node true) c.deref.ensures.value))
 
-pub invariant_of-self-2-clause-greatest_due : goal.invariant_of-self-2-clause-greatest_due
-invariant_of-self-2-clause-greatest_due c =
+pub invariant_of-self-2 : goal.invariant_of-self-2
+invariant_of-self-2 c =
     let m = c.args.self.now in
     let s = market_state m in
     let due : ℕ → ℕ = λ x. get_or c.in_ok-due.due.items x 0 in
     let knows : (ℕ → List ℕ) → Type 0 = λ passed. KnowsDue (market_lists m) (record s { passed = passed }) due in
-    subst knows (sym (index_joined m.passed _ _ c.args.node c.args.index c.deref_mut.ensures.value (c.push_at.auto.table ∙ c.deref_mut.ensures.len)
-    (omega arith) c.in_ok-push_at.ensures.ok))
-    (knows_same _ _ _ _ (λ x within. cc (c.in_ok-due.ensures.due x within, c.cut_row.ensures))
-    (knows_passed (market_lists m) s (market_due m) c.args.node c.args.index c.requires.made m.greatest_due))
+    record {
+      leaf_of_each = m.leaf_of_each;
+      count_of_each = m.count_of_each;
+      cuts_of_each = m.cuts_of_each;
+      number_of_each = m.number_of_each;
+      indices_of_each = m.indices_of_each;
+      due_of_each = omega (arith, c.in_ok-due.ensures.length, m.parents.ok);
+      none_above = m.none_above;
+      parents_marked = m.parents_marked;
+      greatest_due = subst knows (sym (index_joined m.passed _ _ c.args.node c.args.index c.deref_mut.ensures.value
+          (c.push_at.auto.table ∙ c.deref_mut.ensures.len) (omega arith) c.in_ok-push_at.ensures.ok))
+          (knows_same _ _ _ _ (λ x within. cc (c.in_ok-due.ensures.due x within, c.cut_row.ensures))
+          (knows_passed (market_lists m) s (market_due m) c.args.node c.args.index c.requires.made m.greatest_due));
+    }
 
 pub returns-clause-ok : goal.returns-clause-ok
 returns-clause-ok c =
