@@ -1,5 +1,5 @@
 -- The points that a search over a list of points finds.
-use Rattle.std.proofs.Common.{◌≡◌, ◌∙◌, sym, ap, ℕ, ◌+◌, ◌-◌, ◌<◌, ◌≤◌, pos, Bool, List, [], true, false, length, get_or, drop}
+use Rattle.std.proofs.Common.{◌≡◌, ◌∙◌, sym, ap, ℕ, ◌+◌, ◌-◌, ◌<◌, ◌≤◌, pos, Bool, List, true, false, length, get_or, drop}
 use Rattle.std.proofs.Common.{arith}
 use Rattle.std.specs.Simd.Lanes.{zip2}
 use Rattle.std.proofs.lemmas.List.{get_or-drop, length-drop}

@@ -4,6 +4,7 @@ use Rattle.std.specs.Int.{int_div_euclid}
 use Rattle.std.proofs.lemmas.Int.{ints, to_z-of_z, fits_signed_mul}
 use Rattle.pm_points.proofs.Floors.{floor_falls, floor_stays}
 use Rattle.pm_points.proofs.line.change_along.Goals as goal
+use Rattle.pm_points.proofs.line.change_along.Goals.{After-div_euclid}
 
 -- the product of the numbers as they are kept is that of the numbers
 kept_product : (change run : ℤ) → FitsSigned w64 change → FitsSigned w64 run →
@@ -15,7 +16,7 @@ product_fits : (change run : ℤ) → unsigned_abs change ≤ 2000000000 → uns
 product_fits change run small_change small_run = fits_signed_mul w64 change run 2000000000 2000000000 small_change small_run (lit< tt)
 
 -- the call gives the quotient of the whole numbers
-quotient : (c : goal.After-div_euclid) →
+quotient : (c : After-div_euclid) →
     to_z w64 (of_z w64 c.div_euclid.result) ≡ int_div_euclid (c.args.change *ℤ c.args.run) c.args.width
 quotient c =
     let change = c.args.change in

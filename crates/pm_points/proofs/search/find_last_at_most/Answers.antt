@@ -10,6 +10,10 @@ returns-then-points-at-clause-place c =
     let last : IsLastAtMost c.args.points.now c.args.price (c.loop-at.at - 1) = search rules in
     is_last_at_most c.args.points.now c.args.price (Some (c.loop-at.at - 1)) last
 
+pub returns-then-points-at-clause-last : goal.returns-then-points-at-clause-last
+returns-then-points-at-clause-last c =
+    let last : IsLastAtMost c.args.points.now c.args.price (c.loop-at.at - 1) = search rules in last
+
 pub returns-clause-place : goal.returns-clause-place
 returns-clause-place c =
     is_last_at_most c.args.points.now c.args.price None (λ k _ inside. let above = c.loop-at.invariant k (omega arith) inside in omega (arith, ints))
@@ -18,3 +22,6 @@ pub returns-clause-none : goal.returns-clause-none
 returns-clause-none c =
     All-from_get_or (λ point. c.args.price <ℤ price_of_point point) c.args.points.now (pos 0, pos 0)
     (λ k inside. let above = c.loop-at.invariant k (omega arith) inside in omega (arith, ints))
+
+pub loop-at-preserved : goal.loop-at-preserved
+loop-at-preserved c = search rules

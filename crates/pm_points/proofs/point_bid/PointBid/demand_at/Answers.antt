@@ -1,5 +1,5 @@
-use Rattle.std.proofs.Common.{rules, ◌≡◌, ◌∙◌, ap, sym, subst, refl, ℕ, ℤ, ◌+◌, ◌<◌, pos, List, length, get_or, Option, Some}
-use Rattle.std.proofs.Common.{w64, to_z, of_z, arith}
+use Rattle.std.proofs.Common.{rules, ◌≡◌, ◌∙◌, ap, sym, subst, refl, ℕ, ℤ, ◌+◌, ◌<◌, pos, List, length, get_or, Option, Some, None}
+use Rattle.std.proofs.Common.{FitsSigned, w64, to_z, of_z, arith}
 use Rattle.std.proofs.lemmas.Int.{ints, to_z-of_z}
 use Rattle.std.proofs.lemmas.List.{get_or_read_under}
 use Rattle.pm_base.specs.Limits.{demand_limit, IsWithin}
@@ -8,11 +8,11 @@ use Rattle.pm_points.specs.Points.{IsBetween, IsLastAtMost, IsPointBid}
 use Rattle.pm_points.proofs.Falls.{demand_inside, demand_last, within_line}
 use Rattle.pm_points.proofs.point_bid.PointBid.demand_at.Goals as goal
 
--- the demand from the place that the search finds is that at the price
-at_found : (points searched : List Point) (price : ℤ) (found : Option ℕ) (place : ℕ) → searched ≡ points →
-    found ≡ last_at_most searched price → found ≡ Some place → demand_from points price (Some place) ≡ demand_at_price points price
-at_found points searched price found place same is some =
-    ap (demand_from points price) (sym some ∙ is ∙ ap (λ ps. last_at_most ps price) same)
+-- the demand from the place that the search finds, if any, is that at the price
+at_found : (points searched : List Point) (price : ℤ) (found place : Option ℕ) → searched ≡ points →
+    found ≡ last_at_most searched price → found ≡ place → demand_from points price place ≡ demand_at_price points price
+at_found points searched price found place same is meant =
+    ap (demand_from points price) (sym meant ∙ is ∙ ap (λ ps. last_at_most ps price) same)
 
 -- the code reads the points at a place and behind it
 record Read (points : List Point) (last : ℕ) (from to : Point) : Type 0 where
@@ -52,6 +52,19 @@ demand_between-requires c =
     between points price last c.index-from.result.now c.index-2.result.now c.self.invariant
     (read points last c.index-from.result.now c.index-2.result.now inside c.index-from.ensures c.index-2.ensures) found
 
+pub returns-in_default-clause-demand : goal.returns-in_default-clause-demand
+returns-in_default-clause-demand c =
+    let points = c.self.inside.points.items in
+    let some : 0 < length points = c.self.invariant.at_least_one in
+    let kept : to_z w64 (of_z w64 c.args.price) ≡ c.args.price = to_z-of_z w64 c.args.price c.ranges.price in
+    let first : c.index.result.now ≡ point_at points 0 =
+    get_or_read_under points 0 (length points) c.index.result.now (pos 0, pos 0) c.index.ensures some refl in
+    let fits : FitsSigned w64 c.index.result.now.1 = search rules in
+    to_z-of_z w64 c.index.result.now.1 fits ∙ ap demand_of_point first
+    ∙ at_found points c.deref.result.now c.args.price c.find_last_at_most.result None c.deref.ensures.value
+    (c.find_last_at_most.ensures.place ∙ ap (last_at_most c.deref.result.now) kept) c.in_default.is
+    ∙ ap (λ ps. demand_at_price ps c.args.price) c.self.view_is
+
 pub returns-then-last-len-clause-demand : goal.returns-then-last-len-clause-demand
 returns-then-last-len-clause-demand c =
     let points = c.self.inside.points.items in
@@ -62,7 +75,7 @@ returns-then-last-len-clause-demand c =
     get_or_read_under points last (length points) c.index-from.result.now (pos 0, pos 0) c.index-from.ensures (omega arith) refl in
     let is : demand_of_point c.index-from.result.now ≡ demand_at_price c.args.self.now c.args.price =
     ap demand_of_point from ∙ sym (demand_last points last c.args.price all)
-    ∙ at_found points c.deref.result.now c.args.price c.find_last_at_most.result last c.deref.ensures.value
+    ∙ at_found points c.deref.result.now c.args.price c.find_last_at_most.result (Some last) c.deref.ensures.value
     (c.find_last_at_most.ensures.place ∙ ap (last_at_most c.deref.result.now) kept) c.in-Some.is
     ∙ ap (λ ps. demand_at_price ps c.args.price) c.self.view_is in
     let within : IsWithin demand_limit (demand_of_point (point_at points last)) = c.self.invariant.demands_within last (omega arith) in
@@ -85,7 +98,7 @@ returns-clause-demand c =
     ∙ ap (λ to. demand_between (point_at points last) to (to_z w64 (of_z w64 price))) both.to_is
     ∙ ap (demand_between (point_at points last) (point_at points (last + 1))) kept
     ∙ sym (demand_inside points last price inside)
-    ∙ at_found points c.deref.result.now price c.find_last_at_most.result last c.deref.ensures.value
+    ∙ at_found points c.deref.result.now price c.find_last_at_most.result (Some last) c.deref.ensures.value
     (c.find_last_at_most.ensures.place ∙ ap (last_at_most c.deref.result.now) kept) c.in-Some.is
     ∙ ap (λ ps. demand_at_price ps price) c.self.view_is in
     to_z-of_z w64 c.demand_between.result (search rules) ∙ is

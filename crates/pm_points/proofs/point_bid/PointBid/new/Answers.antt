@@ -4,6 +4,9 @@ use Rattle.pm_points.specs.Checks.{first_price_fall, first_rise, first_outside, 
 use Rattle.pm_points.proofs.Passed.{passed_all}
 use Rattle.pm_points.proofs.point_bid.PointBid.new.Goals as goal
 
+pub returns-then-at-len : goal.returns-then-at-len
+returns-then-at-len c = search rules
+
 pub invariant_of-result : goal.invariant_of-result
 invariant_of-result c =
     let points = c.args.points.items in
