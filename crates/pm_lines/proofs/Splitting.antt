@@ -28,6 +28,11 @@ parted bytes at inside =
     let next : suc at ≡ at + 1 = omega arith in
     parted_at bytes at inside ∙ ap (λ (n : ℕ). take at bytes ++ get_or bytes at 0 ∷ drop n bytes) next
 
+-- bytes with this mark at a place are those before it, the mark and those behind it
+pub parted_by : (bytes : List ℕ) (at mark : ℕ) → at < length bytes → get_or bytes at 0 ≡ mark →
+    bytes ≡ take at bytes ++ mark ∷ drop (at + 1) bytes
+parted_by bytes at mark inside is = parted bytes at inside ∙ ap (λ (m : ℕ). take at bytes ++ m ∷ drop (at + 1) bytes) is
+
 -- a word with a mark behind it is no word
 no_word : (word : List ℕ) (mark : ℕ) (rest : List ℕ) → mark ≤ 32 → is_word (word ++ mark ∷ rest) ≡ true → ⊥
 no_word [] mark rest low is = let high = ltb-true 32 mark (and_true (nat_lt 32 mark) (list_all (nat_lt 32) rest) is).0 in absurd (omega arith)
