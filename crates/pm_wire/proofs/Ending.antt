@@ -5,7 +5,7 @@ use Rattle.std.proofs.Common.{IfSome, arith, append_assoc, length-append, inl, i
 use Rattle.std.specs.Io.KnownBytes.{Appends, Consumes, IsAtEnd}
 use Rattle.std.proofs.KnownBytes.{Appends-trans, Consumes-trans}
 use Rattle.std.proofs.Math.Seq.{take-append-add}
-use Rattle.std.proofs.lemmas.List.{append-nil}
+use Rattle.std.proofs.lemmas.List.{append-nil, nil_from_length}
 use Rattle.pm_io.specs.Causes.{Rose}
 use Rattle.pm_wire.specs.declared.answer.Answer.TheVariants.{Fault}
 use Rattle.pm_wire.specs.declared.frame.Frame.{Frame}
@@ -14,7 +14,7 @@ use Rattle.pm_wire.specs.Frames.{stream_bytes, place_behind, BeginsWith, IsUnfin
 use Rattle.pm_wire.specs.Answers.{answer_bytes}
 use Rattle.pm_wire.specs.Decoding.{Decoding}
 use Rattle.pm_wire.specs.Streams.{AreBehind, Serving, stream_limit, replies, replies_and_fault, HasFrames, HasFault, IsReplyDue, answered, refused, IsRefused}
-use Rattle.pm_wire.specs.Streams.{IsCutShort, IsBegun}
+use Rattle.pm_wire.specs.Streams.{IsCutShort, IsBegun, IsDone, IsLongStream}
 use Rattle.pm_wire.proofs.OneReading.{begins_more}
 use Rattle.pm_wire.proofs.Following.{follows_length}
 
@@ -182,6 +182,38 @@ no_more : (old mid new : Option (List ℕ)) (input : List ℕ) → Consumes old 
 no_more old mid new input first second =
     let P : List ℕ → Type 0 = λ l. Consumes old new l in
     subst P (append-nil input) (Consumes-trans old mid new input [] first second)
+
+-- an input within the limit that ends behind its last frame is done
+pub end_done : (old mid new held holds : Option (List ℕ)) (a : Decoding) (m : Option Market) (count : ℕ) →
+    Serving old mid held holds a m count → Consumes mid new [] → IsAtEnd new → count ≤ stream_limit → length a.rest ≡ 0 →
+    IsDone old new held holds
+end_done old mid new held holds a m count serving consumes at_end short none =
+    let P : List ℕ → Type 0 = λ rest. BeginsWith serving.input serving.frames rest in
+    record {
+      input = serving.input;
+      frames = serving.frames;
+      consumes = no_more old mid new serving.input serving.consumes consumes;
+      at_end = at_end;
+      short = omega (arith, serving.counted, short);
+      are_frames = subst P (nil_from_length a.rest none) serving.follows.begins;
+      appends = serving.appends;
+    }
+
+-- where more bytes than the limit were taken the stream is too long
+pub end_too_long : (old new held holds : Option (List ℕ)) (a : Decoding) (m : Option Market) (count : ℕ) →
+    Serving old new held holds a m count → stream_limit < count → IsLongStream old new held holds
+end_too_long old new held holds a m count serving long =
+    let P : Option ℕ → Type 0 = λ place. IsUnfinished place a.rest in
+    record {
+      input = serving.input;
+      answered = record {
+        frames = serving.frames;
+        consumes = serving.consumes;
+        has = record { rest = a.rest; begins = serving.follows.begins; unfinished = subst P serving.follows.place serving.unfinished };
+        appends = serving.appends;
+      };
+      long = omega (arith, serving.counted, long);
+    }
 
 -- an input within the limit that ends within a frame, and whose fault is written, ends as refused
 pub end_refused : (old mid new held holds held' : Option (List ℕ)) (a : Decoding) (m : Option Market) (count : ℕ) (reply : List ℕ) →

@@ -2,6 +2,7 @@ use Rattle.std.proofs.Common.{◌∙◌, sym, ap, refl, arith}
 use Rattle.std.proofs.lemmas.Grind.{common_steps}
 use Rattle.pm_wire.proofs.Ending.{bad_refused, bad_cut_short, begun_by, piece_cut_short, serving_more, end_refused, end_cut_short, none_read, rest_text}
 use Rattle.pm_wire.proofs.Ending.{rest_prefix, rest_proper, rose_later, failed, not_failed, told_text, told_prefix, told_proper}
+use Rattle.pm_wire.proofs.Ending.{end_done, end_too_long}
 use Rattle.pm_wire.proofs.stream.run.Goals as goal
 
 pub returns-then-rest-gt0-clause-refused : goal.returns-then-rest-gt0-clause-refused
@@ -21,6 +22,10 @@ returns-then-rest-gt0-clause-write_fault g c = λ e.
           c.rest-rest.ensures fault.1.1)
           (rest_prefix _ _ _ _ _ _ _ c.rest-rest.ensures fault.1.2),
     )
+
+pub returns-then-rest-gt0-clause-no_memory : goal.returns-then-rest-gt0-clause-no_memory
+returns-then-rest-gt0-clause-no_memory g c = λ e.
+    begun_by _ _ _ _ _ _ _ _ _ _ c.loop-taken.invariant.serving c.in-Ok.ensures.bytes.0 (ap g.K.Sink.held (sym (c.refuse.ensures.no_memory e)))
 
 pub returns-in-Err-Bad-clause-refused : goal.returns-in-Err-Bad-clause-refused
 returns-in-Err-Bad-clause-refused g c = λ e.
@@ -97,7 +102,9 @@ pub returns-clause-write_fault : goal.returns-clause-write_fault
 returns-clause-write_fault g c = grind arith
 
 pub returns-then-count-eq0-clause-done : goal.returns-then-count-eq0-clause-done
-returns-then-count-eq0-clause-done g c = grind (arith, common_steps)
+returns-then-count-eq0-clause-done g c = λ e.
+    end_done _ _ _ _ _ _ _ _ c.loop-taken.invariant.serving (none_read _ _ _ c.in-Ok.count c.if-count-eq0.true c.in-Ok.ensures.bytes.0)
+    (c.in-Ok.ensures.bytes.1 c.if-count-eq0.true (omega arith)) c.loop-taken-test.true (omega (arith, c.rest-rest.ensures, c.if-rest-gt0.false))
 
 pub take_piece-requires-clause-fits : goal.take_piece-requires-clause-fits
 take_piece-requires-clause-fits g c = grind (arith, common_steps)
@@ -107,3 +114,6 @@ overflow_sub-taken g c = grind (arith, common_steps)
 
 pub loop-taken-init : goal.loop-taken-init
 loop-taken-init g c = grind (arith, common_steps)
+
+pub returns-clause-too_long : goal.returns-clause-too_long
+returns-clause-too_long g c = λ e. end_too_long _ _ _ _ _ _ _ c.loop-taken.invariant.serving (omega (arith, c.loop-taken-test.false))
