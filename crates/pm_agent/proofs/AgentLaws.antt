@@ -9,7 +9,8 @@ use Rattle.pm_agent.specs.MadeBids.{MadeBid}
 abbrev pub agent_of : MadeBid → Agent
 agent_of made = record { kind = made.kind; device = made.next.device; steps = length made.demand }
 
-same_agent : (kind kind' : Kind) (device device' steps steps' : ℕ) → kind' ≡ kind → device' ≡ device → steps' ≡ steps →
+-- two agents with the same kind, device and number of steps are one
+pub same_agent : (kind kind' : Kind) (device device' steps steps' : ℕ) → kind' ≡ kind → device' ≡ device → steps' ≡ steps →
     (let a : Agent = record { kind = kind'; device = device'; steps = steps' } in let b : Agent =
     record { kind = kind; device = device; steps = steps } in a ≡ b)
 same_agent kind kind' device device' steps steps' k d s = cc

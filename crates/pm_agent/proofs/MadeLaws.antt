@@ -1,5 +1,6 @@
 -- When a demand is that of a change.
-use Rattle.std.proofs.Common.{◌≡◌, ◌≢◌, ℕ, ℤ, true, List, length, ◌∙◌, sym, subst}
+use Rattle.std.proofs.Common.{◌≡◌, ◌≢◌, ℕ, ℤ, true, false, List, length, ◌∙◌, sym, ap, subst}
+use Rattle.pm_bid.specs.Bids.{zeros}
 use Rattle.pm_device.specs.declared.kind.Kind.{Kind}
 use Rattle.pm_device.specs.declared.kind.Kind.TheVariants.{Manual}
 use Rattle.pm_device.specs.declared.state.Next.{Next}
@@ -21,4 +22,12 @@ made_member next kind demand arrays steps member same bid = record {
   strategic = λ stays other others.
       let P : ℕ → Type 0 = λ n. demand ≡ bid_of kind next.state.0 others n in
       subst P (sym same) (bid ∙ bid_of-arrays kind next.state.0 arrays others steps other);
+}
+
+-- no demand at any step is that of a change to no member
+pub made_gone : (next : Next) (kind : Kind) (demand : List ℤ) (steps : ℕ) → next.member ≡ false → length demand ≡ steps →
+    demand ≡ zeros steps → IsMade (record { next = next; kind = kind; demand = demand })
+made_gone next kind demand steps gone same none = record {
+  gone = λ _. none ∙ ap zeros (sym same);
+  strategic = λ stays. absurd (cc);
 }
