@@ -1,7 +1,7 @@
 -- How a service ends, from where it was before the last piece.
-use Rattle.std.proofs.Common.{◌≡◌, ◌≢◌, ◌∙◌, sym, ap, refl, subst, ℕ, ◌+◌, ◌-◌, ◌<◌, ◌≤◌, List, [], ◌∷◌, ◌++◌}
-use Rattle.std.proofs.Common.{length, take, zero, suc, Option, None, Some}
-use Rattle.std.proofs.Common.{IfSome, arith, append_assoc, length-append, inl, inr, ◌⊎◌, Result, Ok, Err, OnOk, IfErr, is_err, true, false}
+use Rattle.std.proofs.Common.{◌≡◌, ◌≢◌, ◌∙◌, sym, ap, subst, ℕ, ◌+◌, ◌-◌, ◌<◌, ◌≤◌, List, [], ◌++◌}
+use Rattle.std.proofs.Common.{length, take, Option}
+use Rattle.std.proofs.Common.{arith, append_assoc, length-append, inl, inr, ◌⊎◌, Result, Ok, Err, OnOk, IfErr, is_err, true, false}
 use Rattle.std.specs.Io.KnownBytes.{Appends, Consumes, IsAtEnd}
 use Rattle.std.proofs.KnownBytes.{Appends-trans, Consumes-trans}
 use Rattle.std.proofs.Math.Seq.{take-append-add}
@@ -10,11 +10,13 @@ use Rattle.pm_io.specs.Causes.{Rose}
 use Rattle.pm_wire.specs.declared.answer.Answer.TheVariants.{Fault}
 use Rattle.pm_wire.specs.declared.frame.Frame.{Frame}
 use Rattle.pm_wire.specs.declared.market.Market.{Market}
-use Rattle.pm_wire.specs.Frames.{stream_bytes, place_behind, BeginsWith, IsUnfinished, BeginsBadly}
+use Rattle.pm_wire.specs.declared.stream.Served.{Served}
+use Rattle.pm_wire.specs.declared.stream.Served.TheVariants.{Refused, WriteFault, NoMemory}
+use Rattle.pm_wire.specs.Frames.{stream_bytes, BeginsWith, IsUnfinished, BeginsBadly}
 use Rattle.pm_wire.specs.Answers.{answer_bytes}
 use Rattle.pm_wire.specs.Decoding.{Decoding}
 use Rattle.pm_wire.specs.Streams.{AreBehind, Serving, stream_limit, replies, replies_and_fault, HasFrames, HasFault, IsReplyDue, answered, refused, IsRefused}
-use Rattle.pm_wire.specs.Streams.{IsCutShort, IsBegun, IsDone, IsLongStream}
+use Rattle.pm_wire.specs.Streams.{IsCutShort, IsBegun, IsDone, IsLongStream, EndsSo}
 use Rattle.pm_wire.proofs.OneReading.{begins_more}
 use Rattle.pm_wire.proofs.Following.{follows_length}
 
@@ -300,3 +302,18 @@ told_prefix holds held' reply told at n is appends = let P : ℕ →
 pub told_proper : (reply : List ℕ) (told at n : ℕ) → told ≡ at → n < length (reply ++ answer_bytes (Fault told)) →
     n < length (reply ++ answer_bytes (Fault at))
 told_proper reply told at n is proper = let P : ℕ → Type 0 = λ m. n < length (reply ++ answer_bytes (Fault m)) in subst P is proper
+
+-- a refusal ends in one of three ways
+pub refuse_ends : (old new held holds : Option (List ℕ)) (r k : Type 0) (result : Served) →
+    (result ≡ Refused) ⊎ (result ≡ WriteFault) ⊎ (result ≡ NoMemory) → (result ≡ Refused → IsRefused old new held holds) →
+    (result ≡ WriteFault → k × IsCutShort old new held holds) → (result ≡ NoMemory → IsBegun old new held holds) →
+    EndsSo old new held holds r k result
+refuse_ends old new held holds r k result either told cut begun =
+    let P : Served → Type 0 = EndsSo old new held holds r k in
+    elim either [
+      | inl e ↦ subst P (sym e) (told e)
+      | inr other ↦ elim other [
+        | inl e ↦ subst P (sym e) (cut e)
+        | inr e ↦ subst P (sym e) (begun e)
+      ]
+    ]

@@ -1,10 +1,10 @@
 -- A decoder and a market behind the frames that the bytes fed begin with.
-use Rattle.std.proofs.Common.{◌≡◌, ◌≢◌, ◌∙◌, sym, ap, refl, subst, ℕ, ◌+◌, ◌<◌, ◌≤◌, List, [], ◌∷◌, ◌++◌, length}
-use Rattle.std.proofs.Common.{take, zero, suc, Option, None, Some}
-use Rattle.std.proofs.Common.{IfSome, arith, append_assoc, length-append, inl, inr, ◌⊎◌}
+use Rattle.std.proofs.Common.{◌≡◌, ◌∙◌, sym, ap, refl, subst, ℕ, ◌+◌, ◌≤◌, List, [], ◌++◌, length}
+use Rattle.std.proofs.Common.{Option, None}
+use Rattle.std.proofs.Common.{IfSome, arith, append_assoc, length-append}
 use Rattle.pm_wire.specs.declared.frame.Frame.{Frame}
 use Rattle.pm_wire.specs.declared.market.Market.{Market}
-use Rattle.pm_wire.specs.Frames.{stream_bytes, place_behind, AllStand, BeginsWith, IsUnfinished, BeginsBadly}
+use Rattle.pm_wire.specs.Frames.{stream_bytes, place_behind, AllStand}
 use Rattle.pm_wire.specs.Answers.{answers_behind, reply_bytes, market_behind, place_known}
 use Rattle.pm_wire.specs.Decoding.{Decoding, with_piece, nothing_fed}
 use Rattle.pm_wire.specs.Streams.{Takes, Agrees, AreBehind, replies}

@@ -1,11 +1,11 @@
 -- A market behind its frames: its entries are single bids, and its prices one behind the other.
-use Rattle.std.proofs.Common.{◌≡◌, ◌∙◌, sym, ap, refl, subst, ℕ, ◌+◌, ◌<◌, ◌≤◌, ℤ, pos, Bool, true, false, List, [], ◌∷◌}
-use Rattle.std.proofs.Common.{◌++◌, length, drop, replicate}
-use Rattle.std.proofs.Common.{get_or, Result, Ok, Err, arith, append_assoc, All}
+use Rattle.std.proofs.Common.{◌≡◌, ◌∙◌, sym, ap, refl, subst, ℕ, ◌+◌, ◌<◌, ℤ, pos, Bool, true, false, List, ◌∷◌}
+use Rattle.std.proofs.Common.{◌++◌, length, drop}
+use Rattle.std.proofs.Common.{get_or, Result, Ok, Err, arith, append_assoc}
 use Rattle.std.specs.Prelude.{◌==◌, nat_lt, if◌then◌else◌}
 use Rattle.std.proofs.lemmas.Bool.Decides.{nat_tests}
-use Rattle.std.proofs.lemmas.Grind.{flat_map-append, common_steps}
-use Rattle.std.proofs.lemmas.List.{drop_more, get_or_read, length-replicate}
+use Rattle.std.proofs.lemmas.Grind.{flat_map-append}
+use Rattle.std.proofs.lemmas.List.{drop_more, length-replicate}
 use Rattle.std.proofs.lemmas.List.Elements.{All-replicate}
 use Rattle.pm_base.specs.Limits.{AreSteps, most_nodes, demand_limit, IsWithin}
 use Rattle.pm_base.proofs.Lists.{get_or-replicate_same}
@@ -13,14 +13,12 @@ use Rattle.std.proofs.lemmas.Int.{ints}
 use Rattle.pm_bid.specs.Bids.{AllWithinLimit, zeros}
 use Rattle.pm_bid.specs.Checks.{checked_bid, first_rising, first_too_large}
 use Rattle.pm_bid.specs.declared.head.BidHead.{BidHead}
-use Rattle.pm_bid.specs.declared.fault.BidFault.{BidFault}
 use Rattle.pm_bid.proofs.EachStep.{all_small}
 use Rattle.pm_cache.specs.Cache.{Cache, IsCache, empty_cache}
 use Rattle.pm_cache.specs.Learning.{HasSingleBids}
 use Rattle.pm_cache.proofs.Entries.{empty_sound}
 use Rattle.pm_wire.specs.Answers.{open_market, price_for, prices, reply_bytes, answer_bytes}
 use Rattle.pm_wire.specs.ServerFields.{IsMarket}
-use Rattle.pm_wire.specs.declared.market.Market.{Market}
 
 -- the prices for one child more
 pub prices_more : (index step child i : ℕ) (heads : List BidHead) (d : BidHead) (out out' total : List ℕ) → i < length heads →

@@ -1,7 +1,6 @@
 -- The bytes of a frame determine it, whatever follows.
-use Rattle.std.proofs.Common.{◌≡◌, ◌∙◌, sym, ap, refl, ℕ, ◌+◌, ◌<◌, ◌^◌, ℤ, List, [], ◌∷◌, ◌++◌, length, Option, None}
-use Rattle.std.proofs.Common.{Some, arith, append_assoc}
-use Rattle.std.proofs.Common.{FitsSigned}
+use Rattle.std.proofs.Common.{◌≡◌, ◌∙◌, sym, ap, refl, ℕ, ℤ, List, ◌∷◌, ◌++◌, Option, None}
+use Rattle.std.proofs.Common.{Some, arith}
 use Rattle.std.specs.Int.{w16, w32, to_be_bytes}
 use Rattle.pm_basis.specs.Prices.{BasisValue}
 use Rattle.pm_wire.specs.declared.frame.Frame.{Frame}

@@ -1,7 +1,6 @@
 -- Bytes have one reading: one list of frames, and one rest at which it stops.
-use Rattle.std.proofs.Common.{◌≡◌, ◌≢◌, ◌∙◌, sym, ap, subst, refl, ℕ, ◌<◌, List, [], ◌∷◌, ◌++◌, length, Option, None}
-use Rattle.std.proofs.Common.{append_assoc, inl, inr, ◌⊎◌}
-use Rattle.std.proofs.lemmas.List.{append-nil}
+use Rattle.std.proofs.Common.{◌≡◌, ◌∙◌, sym, ap, subst, refl, ℕ, List, [], ◌∷◌, ◌++◌, length, Option, None}
+use Rattle.std.proofs.Common.{append_assoc, inl, inr}
 use Rattle.pm_wire.specs.declared.frame.Frame.{Frame}
 use Rattle.pm_wire.specs.Frames.{frame_bytes, stream_bytes, place_after, place_behind, MayStand, AllStand, IsUnfinished, BeginsBadly, Stops, BeginsWith}
 use Rattle.pm_wire.specs.Frames.{AreFrames, HasBadFrame, EndsWithin}

@@ -1,7 +1,7 @@
 -- The ways in which a service ends, as what its source had says.
-use Rattle.std.proofs.Common.{◌≡◌, ◌≢◌, ◌∙◌, sym, ap, refl, subst, ℕ, ◌+◌, ◌-◌, ◌<◌, ◌≤◌, List, [], ◌∷◌, ◌++◌}
+use Rattle.std.proofs.Common.{◌≡◌, ◌∙◌, sym, ap, refl, subst, ℕ, ◌<◌, ◌≤◌, List, [], ◌++◌}
 use Rattle.std.proofs.Common.{length, Option, None, Some, arith}
-use Rattle.std.proofs.Common.{append_assoc, length-append, inl, inr, ◌⊎◌}
+use Rattle.std.proofs.Common.{length-append, inl, inr, ◌⊎◌}
 use Rattle.std.specs.Io.KnownBytes.{Appends, Consumes, IsAtEnd}
 use Rattle.std.proofs.lemmas.List.{append-nil}
 use Rattle.pm_io.specs.Taken.{taken}
@@ -9,8 +9,8 @@ use Rattle.pm_io.proofs.TakenLemmas.{taken-Consumes}
 use Rattle.pm_wire.specs.declared.frame.Frame.{Frame}
 use Rattle.pm_wire.specs.declared.stream.Served.{Served}
 use Rattle.pm_wire.specs.declared.stream.Served.TheVariants.{Done, Refused, TooLong, ReadFault, WriteFault, NoMemory}
-use Rattle.pm_wire.specs.Frames.{stream_bytes, place_behind, BeginsWith, AreFrames, IsUnfinished, BeginsBadly, HasBadFrame, EndsWithin, Stops}
-use Rattle.pm_wire.specs.Streams.{stream_limit, replies, replies_and_fault, HasFrames, HasFault, EndsInside, IsDone, IsRefused, IsAnswered, IsLongStream}
+use Rattle.pm_wire.specs.Frames.{stream_bytes, place_behind, BeginsWith, AreFrames, HasBadFrame, EndsWithin, Stops}
+use Rattle.pm_wire.specs.Streams.{stream_limit, replies, replies_and_fault, HasFrames, HasFault, IsDone, IsRefused, IsLongStream}
 use Rattle.pm_wire.specs.Streams.{FailsReading}
 use Rattle.pm_wire.proofs.OneReading.{same_reading, bad_or_unfinished, frames_not_bad, frames_not_within, bad_stays, begins_more}
 use Rattle.pm_wire.proofs.Places.{bad_more}

@@ -1,10 +1,10 @@
 -- What stands at a place: a whole frame, fewer bytes than one, or a bad one, and no two of these.
-use Rattle.std.proofs.Common.{◌≡◌, ◌∙◌, sym, ap, refl, subst, ℕ, ◌+◌, ◌*◌, ◌<◌, ◌≤◌, ℤ, List, [], ◌∷◌, ◌++◌, length}
+use Rattle.std.proofs.Common.{◌≡◌, ◌∙◌, sym, ap, refl, subst, ℕ, ◌+◌, ◌*◌, ◌≤◌, List, [], ◌∷◌, ◌++◌, length}
 use Rattle.std.proofs.Common.{Option, None, Some, arith}
-use Rattle.std.proofs.Common.{append_assoc, length-append, inl, inr, ◌⊎◌}
+use Rattle.std.proofs.Common.{append_assoc, length-append, inl, inr}
 use Rattle.pm_wire.specs.declared.frame.Frame.{Frame}
 use Rattle.pm_wire.specs.declared.frame.Frame.TheVariants.{Hello, Bid, Gone, Clear}
-use Rattle.pm_wire.specs.Frames.{frame_bytes, size_at, demand_bytes, IsFormed, IsAccepted, MayStand, IsUnfinished, HasWrongKind, HasRefusedFrame}
+use Rattle.pm_wire.specs.Frames.{frame_bytes, size_at, IsFormed, IsAccepted, MayStand, IsUnfinished, HasWrongKind}
 use Rattle.pm_wire.specs.Frames.{BeginsBadly}
 use Rattle.pm_wire.proofs.OneField.{length-demand_bytes}
 use Rattle.pm_wire.proofs.OneFrame.{one_frame}

@@ -1,23 +1,22 @@
 -- What the readers of a frame's fields have read.
-use Rattle.std.proofs.Common.{◌≡◌, ◌≢◌, ◌∙◌, sym, ap, refl, subst, ℕ, ◌+◌, ◌*◌, ◌<◌, ◌≤◌, ◌^◌, ℤ, pos, true, false}
+use Rattle.std.proofs.Common.{◌≡◌, ◌∙◌, sym, ap, subst, ℕ, ◌+◌, ◌<◌, ◌≤◌, ◌^◌, ℤ, pos, true, false}
 use Rattle.std.proofs.Common.{Bool, List, [], ◌∷◌, ◌++◌, length, take}
-use Rattle.std.proofs.Common.{drop, get_or, zero, suc, ◌-◌, Option, None, Some, Ok, Err, Result, arith, append_assoc, length-append, inl, inr, ◌⊎◌}
+use Rattle.std.proofs.Common.{drop, get_or, zero, suc, ◌-◌, Option, None, Some, Ok, Err, Result, arith, length-append, inr}
 use Rattle.std.proofs.Common.{FitsSigned, IsTrue}
 use Rattle.std.specs.Int.{w16, w32, w64, to_be_bytes, cast_signed, cast_unsigned}
 use Rattle.std.specs.Prelude.{if◌then◌else◌, ◌==◌}
 use Rattle.std.specs.List.{AllByRecursion}
-use Rattle.std.proofs.lemmas.List.{nil_from_length, append-nil, take-append-drop, length-take-le}
+use Rattle.std.proofs.lemmas.List.{nil_from_length, take-append-drop, length-take-le}
 use Rattle.std.proofs.lemmas.Int.{fits_signed_from_abs}
 use Rattle.pm_basis.specs.Prices.{BasisValue, checked_basis, has_bad_steps, has_bad_range, is_uneven}
 use Rattle.pm_basis.specs.declared.fault.BasisFault.{BasisFault}
 use Rattle.pm_bid.specs.Checks.{checked_bid}
-use Rattle.pm_bid.specs.declared.fault.BidFault.{BidFault}
 use Rattle.pm_wire.specs.declared.frame.Frame.{Frame}
-use Rattle.pm_wire.specs.declared.frame.Frame.TheVariants.{Hello, Bid, Gone, Clear}
-use Rattle.pm_wire.specs.Frames.{frame_bytes, hello_kind, bid_kind, gone_kind, signed_bytes, demand_bytes, IsFormed, IsAccepted, IsSender, MayStand}
-use Rattle.pm_wire.specs.Frames.{BeginsBadly, HasRefusedFrame}
+use Rattle.pm_wire.specs.declared.frame.Frame.TheVariants.{Hello, Bid, Gone}
+use Rattle.pm_wire.specs.Frames.{frame_bytes, hello_kind, bid_kind, gone_kind, signed_bytes, demand_bytes, IsSender}
+use Rattle.pm_wire.specs.Frames.{BeginsBadly}
 use Rattle.pm_wire.specs.Readings.{IsRefused, IsFrameAt, IsWhole}
-use Rattle.pm_wire.proofs.OneField.{length-demand_bytes, wide}
+use Rattle.pm_wire.proofs.OneField.{wide}
 
 else_ok : {A E : Type 0} (test : Bool) (fault : E) (rest : Result A E) (value : A) → (if test then Err fault else rest) ≡ Ok value → rest ≡ Ok value
 else_ok true fault rest value h = absurd (cc h)

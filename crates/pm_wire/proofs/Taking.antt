@@ -2,16 +2,16 @@
 use Rattle.std.proofs.Common.{◌≡◌, ◌∙◌, sym, ap, refl, subst, ℕ, ◌+◌, ◌<◌, ◌≤◌, ℤ, Bool, true, false, List, [], ◌∷◌}
 use Rattle.std.proofs.Common.{◌++◌, length, Option, None, Some}
 use Rattle.std.proofs.Common.{IfSome, arith, append_assoc, length-append}
-use Rattle.std.specs.Prelude.{if◌then◌else◌, nat_le}
+use Rattle.std.specs.Prelude.{if◌then◌else◌}
 use Rattle.std.proofs.lemmas.List.{append-nil}
 use Rattle.std.proofs.lemmas.Grind.{flat_map-append}
-use Rattle.pm_cache.specs.Cache.{Cache, kept_number}
-use Rattle.pm_cache.specs.Learning.{learnt, entered}
+use Rattle.pm_cache.specs.Cache.{Cache}
+use Rattle.pm_cache.specs.Learning.{entered}
 use Rattle.pm_wire.specs.declared.frame.Frame.{Frame}
 use Rattle.pm_wire.specs.declared.frame.Frame.TheVariants.{Hello, Bid, Gone, Clear}
 use Rattle.pm_wire.specs.declared.market.Market.{Market}
 use Rattle.pm_wire.specs.Frames.{frame_bytes, stream_bytes, place_after, place_behind, MayStand, AllStand, BeginsBadly}
-use Rattle.pm_wire.specs.Answers.{open_market, after_entry, after_clear, market_after, market_behind, answers_to, answers_behind, answer_bytes, reply_bytes}
+use Rattle.pm_wire.specs.Answers.{open_market, market_after, market_behind, answers_to, answers_behind, answer_bytes, reply_bytes}
 use Rattle.pm_wire.specs.Answers.{place_known}
 use Rattle.pm_wire.specs.Decoding.{Decoding, GivesFrame, with_refusal}
 use Rattle.pm_wire.specs.Streams.{Takes, Agrees}

@@ -1,12 +1,12 @@
 -- What the auctioneer answers to a list of frames.
-use Rattle.std.specs.Prelude.{◌≡◌, ℕ, ◌+◌, ◌-◌, ◌<◌, ◌||◌, ℤ, Bool, true, false, not, nat_le, if◌then◌else◌, List, []}
+use Rattle.std.specs.Prelude.{ℕ, ◌+◌, ◌-◌, ◌||◌, ℤ, false, not, nat_le, if◌then◌else◌, List, []}
 use Rattle.std.specs.Prelude.{◌∷◌, ◌++◌, Option, Some, None}
 use Rattle.std.specs.Int.{w16, w32, w64, to_be_bytes}
 use Rattle.std.specs.List.{flat_map}
 use Rattle.pm_base.specs.Limits.{most_nodes}
 use Rattle.pm_bid.specs.Clearing.{clearing_step}
 use Rattle.pm_bid.specs.declared.head.BidHead.{BidHead}
-use Rattle.pm_cache.specs.Cache.{Cache, empty_cache, kept_number, aggregate_of}
+use Rattle.pm_cache.specs.Cache.{empty_cache, kept_number, aggregate_of}
 use Rattle.pm_cache.specs.Learning.{learnt}
 use Rattle.pm_wire.specs.declared.answer.Answer.{Answer}
 use Rattle.pm_wire.specs.declared.answer.Answer.TheVariants.{Price, NotChanged, Old, Fault}

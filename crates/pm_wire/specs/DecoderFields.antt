@@ -1,5 +1,5 @@
 -- What the fields of a decoder stand for.
-use Rattle.std.specs.Prelude.{◌≡◌, ℕ, ◌+◌, ◌-◌, ◌≤◌, drop, length, IfSome}
+use Rattle.std.specs.Prelude.{◌≤◌, drop, length, IfSome}
 use Rattle.pm_base.specs.Limits.{AreSteps}
 use Rattle.pm_wire.specs.Decoding.{Decoding, IsSound}
 use Rattle.pm_wire.specs.declared.decoder.Decoder.TheInside.{Inside}

@@ -1,5 +1,5 @@
 -- What a reader says of the bytes at a place of the stream.
-use Rattle.std.specs.Prelude.{◌≡◌, ℕ, ◌≤◌, List, ◌∷◌, ◌++◌, length, drop, Option, Some, None}
+use Rattle.std.specs.Prelude.{◌≡◌, ℕ, ◌≤◌, List, ◌++◌, length, drop, Option, Some, None}
 use Rattle.pm_wire.specs.Frames.{frame_bytes, MayStand, IsFormed, IsAccepted, IsUnfinished, BeginsBadly}
 use Rattle.pm_wire.specs.declared.frame.Frame.{Frame}
 use Rattle.pm_wire.specs.declared.reading.Reading.{Reading}

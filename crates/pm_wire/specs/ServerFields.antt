@@ -1,5 +1,5 @@
 -- What the fields of a server keep.
-use Rattle.std.specs.Prelude.{◌≡◌, ◌≤◌, length, IfSome}
+use Rattle.std.specs.Prelude.{◌≡◌, length, IfSome}
 use Rattle.pm_base.specs.Limits.{most_nodes}
 use Rattle.pm_cache.specs.Cache.{IsCache}
 use Rattle.pm_cache.specs.Learning.{HasSingleBids}

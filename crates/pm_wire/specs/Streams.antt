@@ -5,6 +5,8 @@ use Rattle.std.specs.Io.KnownBytes.{Appends, Consumes, IsAtEnd}
 use Rattle.pm_wire.specs.declared.frame.Frame.{Frame}
 use Rattle.pm_wire.specs.declared.answer.Answer.TheVariants.{Fault}
 use Rattle.pm_wire.specs.declared.market.Market.{Market}
+use Rattle.pm_wire.specs.declared.stream.Served.{Served}
+use Rattle.pm_wire.specs.declared.stream.Served.TheVariants.{Done, Refused, TooLong, ReadFault, WriteFault, NoMemory}
 use Rattle.pm_wire.specs.Frames.{stream_bytes, place_behind, AllStand, BeginsWith, AreFrames, IsUnfinished, BeginsBadly}
 use Rattle.pm_wire.specs.Answers.{answers, answers_behind, answer_bytes, reply_bytes, market_behind, place_known}
 use Rattle.pm_wire.specs.Decoding.{Decoding}
@@ -98,6 +100,16 @@ pub record IsBegun (old new held holds : Option (List ℕ)) : Type 0 where
   pub consumes : Consumes old new input
   pub begins : BeginsWith input frames rest
   pub appends : Appends held holds (replies frames)
+
+-- what is known of the reads and writes of a service that ended in this way; `rose_source` and `rose_sink` say that a fault of
+-- the source, or of the sink, was counted
+abbrev pub EndsSo : (old new held holds : Option (List ℕ)) (rose_source rose_sink : Type 0) → Served → Type 0
+EndsSo old new held holds rose_source rose_sink Done = IsDone old new held holds
+EndsSo old new held holds rose_source rose_sink Refused = IsRefused old new held holds
+EndsSo old new held holds rose_source rose_sink TooLong = IsLongStream old new held holds
+EndsSo old new held holds rose_source rose_sink ReadFault = rose_source × FailsReading old new held holds
+EndsSo old new held holds rose_source rose_sink WriteFault = rose_sink × IsCutShort old new held holds
+EndsSo old new held holds rose_source rose_sink NoMemory = IsBegun old new held holds
 
 -- ---- on the way
 

@@ -7,7 +7,7 @@ ghost use Rattle.pm_wire.specs.Decoding.{nothing_fed};
 ghost use Rattle.pm_wire.specs.Frames.{AreFrames, HasBadFrame, EndsWithin};
 ghost use Rattle.pm_wire.specs.declared.answer.Answer.TheVariants.{Fault};
 ghost use Rattle.pm_wire.specs.Answers.{answer_bytes};
-ghost use Rattle.pm_wire.specs.Streams.{stream_limit, IsDone, IsRefused, IsLongStream, IsCutShort, IsBegun, FailsReading};
+ghost use Rattle.pm_wire.specs.Streams.{stream_limit, IsDone, IsRefused, IsLongStream, IsCutShort, IsBegun, FailsReading, EndsSo};
 
 use crate::answer::Answer;
 use crate::decoder::Decoder;
@@ -86,18 +86,8 @@ fn run<S: Source, K: Sink>(
     requires decoder { decoder.old ≡ nothing_fed }
     requires server { server.old ≡ None }
     requires out { out.old.items ≡ [] }
-    ensures done { result ≡ Served.Done
-        → IsDone (S.left source.old) (S.left source.new) (K.held sink.old) (K.held sink.new) }
-    ensures refused { result ≡ Served.Refused
-        → IsRefused (S.left source.old) (S.left source.new) (K.held sink.old) (K.held sink.new) }
-    ensures too_long { result ≡ Served.TooLong
-        → IsLongStream (S.left source.old) (S.left source.new) (K.held sink.old) (K.held sink.new) }
-    ensures read_fault { result ≡ Served.ReadFault → Rose (S.faults source.old) (S.faults source.new)
-        × FailsReading (S.left source.old) (S.left source.new) (K.held sink.old) (K.held sink.new) }
-    ensures write_fault { result ≡ Served.WriteFault → Rose (K.faults sink.old) (K.faults sink.new)
-        × IsCutShort (S.left source.old) (S.left source.new) (K.held sink.old) (K.held sink.new) }
-    ensures no_memory { result ≡ Served.NoMemory
-        → IsBegun (S.left source.old) (S.left source.new) (K.held sink.old) (K.held sink.new) }
+    ensures ends { EndsSo (S.left source.old) (S.left source.new) (K.held sink.old) (K.held sink.new)
+        (Rose (S.faults source.old) (S.faults source.new)) (Rose (K.faults sink.old) (K.faults sink.new)) result }
     ensures source_count { S.faults source.old ≤ S.faults source.new }
     ensures sink_count { K.faults sink.old ≤ K.faults sink.new }
 {

@@ -1,6 +1,6 @@
 use Rattle.std.proofs.Common.{◌≡◌, ◌++◌, List, ℕ, length}
 use Rattle.pm_wire.specs.declared.frame.Frame.{Frame}
-use Rattle.pm_wire.specs.Streams.{Takes, Agrees}
+use Rattle.pm_wire.specs.Streams.{Takes}
 use Rattle.pm_wire.proofs.frames.take_frames.Given as goal
 
 abbrev pub invariant-loop-frame : goal.invariant-loop-frame

@@ -1,4 +1,4 @@
-use Rattle.std.proofs.Common.{◌≡◌, ◌∙◌, sym, ap, subst, arith, Result, Ok, Err, OnOk, IfErr, ℕ, List, ◌++◌, Option}
+use Rattle.std.proofs.Common.{◌≡◌, ◌∙◌, sym, ap, subst, Result, Ok, Err, OnOk, IfErr, ℕ, List, ◌++◌, Option}
 use Rattle.pm_wire.specs.declared.frame.Frame.{Frame}
 use Rattle.pm_wire.specs.declared.market.Market.{Market}
 use Rattle.pm_wire.specs.Decoding.{Decoding, with_piece}

@@ -1,4 +1,4 @@
-use Rattle.std.proofs.Common.{◌≡◌, ◌≤◌, ◌-◌, ◌+◌, [], ℕ}
+use Rattle.std.proofs.Common.{◌≡◌, ◌≤◌, ◌-◌, ◌+◌, []}
 use Rattle.pm_wire.specs.Streams.{Serving}
 use Rattle.pm_wire.proofs.stream.run.Given as goal
 
