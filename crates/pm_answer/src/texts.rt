@@ -4,6 +4,8 @@ ghost use Rattle.pm_bid.specs.Bids.{NeverRises};
 ghost use Rattle.pm_plan.specs.Plans.{phases};
 ghost use Rattle.pm_plan.specs.States.{all_ends};
 ghost use Rattle.pm_gen.specs.Demo.{is_size};
+ghost use Rattle.pm_bill.specs.Text.{bill_text};
+ghost use Rattle.pm_bill.specs.Runs.{plan_bill};
 ghost use Rattle.pm_report.specs.Report.{IsEndOf, ends_of};
 ghost use Rattle.pm_report.specs.Trace.{IsLineOf};
 ghost use Rattle.pm_report.specs.Summary.{summary_text};
@@ -122,7 +124,15 @@ fn bill<R: Threads + Wait + Sync, G: Gate>(
     ensures { IfOk result (λ text. IsTextOf FileCommand.Bill plan.now [] text.items) }
 {
     let (_journal, ends) = run(rt, alloc, plan, gate)?;
-    bill_of_run(alloc, plan, &ends)?.text(plan)
+    bill_of_ends(alloc, plan, &ends)
+}
+
+/// The bill of a run, by the ends of its phases.
+fn bill_of_ends(alloc: Global, plan: &Plan, ends: &[PhaseEnd]) -> Result<Vec<u8>, AllocError>
+    requires { ends_of ends.now ≡ all_ends plan.now }
+    ensures { IfOk result (λ text. text.items ≡ bill_text plan.now (plan_bill plan.now)) }
+{
+    bill_of_run(alloc, plan, ends)?.text(plan)
 }
 
 /// What the total at the end of a run answers to targets in watts.
