@@ -61,3 +61,6 @@ returns-in_default-clause-offered c =
 
 pub offer_bid-requires-clause-steps : goal.offer_bid-requires-clause-steps
 offer_bid-requires-clause-steps c = length-replicate _ _
+
+pub returns-then-not-next-clause-offered : goal.returns-then-not-next-clause-offered
+returns-then-not-next-clause-offered c = search rules
