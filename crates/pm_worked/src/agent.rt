@@ -2,7 +2,8 @@ ghost use Rattle.std.specs.Prelude.{◌≡◌, length, IfOk};
 ghost use Rattle.pm_bid.specs.Bids.{HaveSteps};
 
 use crate::same::same;
-use pm_agent::DeviceAgent;
+use crate::shared::may_be_shared;
+use pm_agent::{DeviceAgent, Made};
 use pm_bid::{ArrayBid, Steps};
 use pm_device::{DeviceState, Kind, Next};
 use std::alloc::Global;
@@ -11,7 +12,7 @@ use std::process::Abort;
 use std::test::Fail;
 
 /// The answer to a change of device 1 has the change, the agent's kind, and one demand at the steps before the end and
-/// another from there on. The agent and its answer may be shared by threads.
+/// another from there on.
 fn answer_is<R: Abort>(
     rt: &R,
     agent: &mut DeviceAgent,
@@ -24,19 +25,12 @@ fn answer_is<R: Abort>(
 {
     let kind = agent.kind();
     let steps = agent.steps();
-    assert!(rt; agent.device() == next.device);
-    assert!(rt; kind.fits(next.state));
-    is_shared(agent);
+    assert!(rt; agent.device() == next.device && kind.fits(next.state));
     let made = agent.work(next, arrays);
-    is_shared(made);
-    same(rt, "change", made.next(), next);
-    same(rt, next, made.kind(), kind);
-    same(rt, next, made.demand().steps(), steps);
+    let have = (made.next(), made.kind(), made.demand().steps());
+    same(rt, "change", have, (next, kind, steps));
     demand_is(rt, next, made.demand(), demands, end);
 }
-
-/// What it is called with may be sent to threads and shared by them: that is proved at each call.
-fn is_shared<T: Send + Sync>(_value: &T) {}
 
 fn demand_is<R: Abort>(rt: &R, next: Next, bid: &ArrayBid, demands: (i64, i64), end: usize) {
     let mut counter = Steps::<Brand>::start();
@@ -99,4 +93,10 @@ fn a_manual_device_answers_with_its_array(rt: HostRuntime) -> Result<(), Fail> {
     same(&rt, "steps", agent.steps(), 3);
     answer_is(&rt, &mut agent, change(1, true, 0), &arrays, (7, 0), 1);
     Ok(())
+}
+
+/// Agents and their answers may be sent to threads and shared by them: it is proved here.
+#[test]
+fn agents_may_be_shared() {
+    may_be_shared::<(DeviceAgent, Made)>();
 }

@@ -2,6 +2,7 @@ ghost use Rattle.std.specs.Prelude.{◌≡◌, length, IfOk};
 ghost use Rattle.pm_base.specs.Limits.{AreSteps};
 
 use crate::same::same;
+use crate::shared::may_be_shared;
 use pm_ask::{
     Answer, Break, Curve, CurveFault, MOST_TARGETS, TargetsFault, ask_text, read_targets,
 };
@@ -9,6 +10,7 @@ use pm_basis::Basis;
 use pm_bid::{ArrayBid, Steps};
 use std::alloc::{AllocError, Global};
 use std::marker::Brand;
+use std::process::Abort;
 use std::test::Fail;
 
 /// A load of 100 watts beside a generator that delivers 150 watts from step 4 on.
@@ -27,112 +29,169 @@ fn total_of(alloc: Global, demands: &[i32]) -> Result<ArrayBid, AllocError>
     Ok(total)
 }
 
-/// Whether the breaks of this total are these: the step, the least and the greatest target of each.
-fn has_breaks(
-    alloc: Global,
-    demands: &[i32],
-    breaks: &[(u32, Option<i64>, Option<i64>)],
-) -> Result<bool, Fail>
+/// The curve of the total of these demands.
+fn curve_of(alloc: Global, demands: &[i32]) -> Result<Curve, Fail>
+    requires { AreSteps (length demands.now) }
+    ensures { IfOk result (λ curve. length curve ≡ length demands.now) }
+{
+    let total = total_of(alloc, demands)?;
+    Ok(Curve::new(alloc, &total)?)
+}
+
+/// The curve of the total of these demands has these breaks.
+fn breaks_are(rt: &impl Abort, alloc: Global, demands: &[i32], breaks: &[Break]) -> Result<(), Fail>
     requires { AreSteps (length demands.now) }
 {
-    let curve = Curve::new(alloc, &total_of(alloc, demands)?)?;
-    let found = curve.breaks();
-    Ok(
-        found.len() == breaks.len()
-            && found.iter().zip(breaks).all(|(found, (step, from, to))| {
-                *found
-                    == Break {
-                        step: *step,
-                        from: *from,
-                        to: *to,
-                    }
-            }),
-    )
+    let curve = curve_of(alloc, demands)?;
+    same(rt, demands, curve.breaks(), breaks);
+    Ok(())
+}
+
+/// Targets, and the step and the total of the answer to each.
+const ANSWERS: &[(i16, u32, i64)] = &[(0, 4, -50), (100, 0, 0), (-60, 9, 10), (99, 4, -149)];
+
+fn answers_are(rt: &impl Abort, curve: &Curve) {
+    let mut counter = Steps::<Brand>::start();
+    for (target, step, total) in ANSWERS {
+        let answer = curve.answer(i64::from(*target), &mut counter);
+        let (step, total) = (*step, *total);
+        same(rt, *target, answer, Answer { step, total });
+    }
 }
 
 #[test]
 fn each_target_has_its_step(rt: HostRuntime) -> Result<(), Fail> {
-    let total = total_of(rt.alloc(), &LOAD_AND_GENERATOR)?;
-    let curve = Curve::new(rt.alloc(), &total)?;
-    let mut counter = Steps::<Brand>::start();
-    for (target, step, total) in [(0, 4, -50), (100, 0, 0), (-60, 9, 10), (99, 4, -149)] {
-        let answer = curve.answer(target, &mut counter);
-        same(&rt, target, answer, Answer { step, total });
-    }
+    let curve = curve_of(rt.alloc(), &LOAD_AND_GENERATOR)?;
+    answers_are(&rt, &curve);
     Ok(())
 }
 
+/// Targets from 100 on have step 0, those from -50 to 99 step 4, and those below step 9.
+const THREE_BREAKS: &[Break] = &[
+    Break {
+        step: 0,
+        from: Some(100),
+        to: None,
+    },
+    Break {
+        step: 4,
+        from: Some(-50),
+        to: Some(99),
+    },
+    Break {
+        step: 9,
+        from: None,
+        to: Some(-51),
+    },
+];
+
+/// Targets from 5 on have step 0, and those below step 1.
+const TWO_BREAKS: &[Break] = &[
+    Break {
+        step: 0,
+        from: Some(5),
+        to: None,
+    },
+    Break {
+        step: 1,
+        from: None,
+        to: Some(4),
+    },
+];
+
 #[test]
 fn steps_with_targets_have_breaks(rt: HostRuntime) -> Result<(), Fail> {
-    let alloc = rt.alloc();
-    let middle = (4, Some(-50), Some(99));
-    let row = [(0, Some(100), None), middle, (9, None, Some(-51))];
-    assert!(rt; has_breaks(alloc, &LOAD_AND_GENERATOR, &row)?);
-    assert!(rt; has_breaks(alloc, &[5, 5], &[(0, Some(5), None), (1, None, Some(4))])?);
-    assert!(rt; has_breaks(alloc, &[5, 4], &[(0, Some(5), None), (1, None, Some(4))])?);
-    Ok(())
+    breaks_are(&rt, rt.alloc(), &LOAD_AND_GENERATOR, THREE_BREAKS)?;
+    breaks_are(&rt, rt.alloc(), &[5, 5], TWO_BREAKS)?;
+    breaks_are(&rt, rt.alloc(), &[5, 4], TWO_BREAKS)
+}
+
+/// The fault of the total of these demands, if it has no curve.
+fn fault_of(alloc: Global, demands: &[i32]) -> Result<Option<CurveFault>, Fail>
+    requires { AreSteps (length demands.now) }
+{
+    let total = total_of(alloc, demands)?;
+    Ok(Curve::new(alloc, &total).err())
 }
 
 #[test]
 fn a_total_that_rises_has_no_curve(rt: HostRuntime) -> Result<(), Fail> {
     let alloc = rt.alloc();
-    let rising = Curve::new(alloc, &total_of(alloc, &[5, 6])?).err();
-    same(&rt, "at once", rising, Some(CurveFault::Rising { at: 1 }));
-    let later = Curve::new(alloc, &total_of(alloc, &[5, 5, 4, 6, 7])?).err();
+    let at_once = fault_of(alloc, &[5, 6])?;
+    same(&rt, "at once", at_once, Some(CurveFault::Rising { at: 1 }));
+    let later = fault_of(alloc, &[5, 5, 4, 6, 7])?;
     same(&rt, "later", later, Some(CurveFault::Rising { at: 3 }));
     Ok(())
 }
 
-#[test]
-fn lists_of_targets_are_read(rt: HostRuntime) -> Result<(), Fail> {
-    let text = b"0\n100\n-60\n1000000000\n-1000000000\n".as_slice();
-    let targets = read_targets(rt.alloc(), text)?;
-    let numbers = [0, 100, -60, 1000000000, -1000000000];
-    same(&rt, "five", targets.as_slice(), numbers.as_slice());
-    same(&rt, "none", read_targets(rt.alloc(), b"")?.len(), 0);
+/// The list has these targets.
+fn targets_are(rt: &impl Abort, alloc: Global, list: &str, due: &[i64]) -> Result<(), Fail> {
+    let targets = read_targets(alloc, list.as_bytes())?;
+    same(rt, list, targets.as_slice(), due);
     Ok(())
 }
 
+const FIVE_TARGETS: &[i64] = &[0, 100, -60, 1_000_000_000, -1_000_000_000];
+
 #[test]
-fn the_first_bad_line_is_told(rt: HostRuntime) -> Result<(), Fail> {
-    for (text, line) in [
-        ("5\n05\n", 2),
-        ("-0\n", 1),
-        ("5\n6", 2),
-        ("\n", 1),
-        ("1\n\n", 2),
-        ("-\n", 1),
-        ("+5\n", 1),
-        ("--5\n", 1),
-        ("5 \n", 1),
-        ("1\n2\n3\r\n", 3),
-        ("1000000000\n1000000001\n", 2),
-        ("-1000000001\n", 1),
-        ("99999999999999999999\n", 1),
-        ("-01\n", 1),
-    ] {
+fn lists_of_targets_are_read(rt: HostRuntime) -> Result<(), Fail> {
+    let list = "0\n100\n-60\n1000000000\n-1000000000\n";
+    targets_are(&rt, rt.alloc(), list, FIVE_TARGETS)?;
+    targets_are(&rt, rt.alloc(), "", &[])
+}
+
+/// Lists of targets, and the first line of each that is none.
+const BAD_LISTS: &[(&str, u32)] = &[
+    ("5\n05\n", 2),
+    ("-0\n", 1),
+    ("5\n6", 2),
+    ("\n", 1),
+    ("1\n\n", 2),
+    ("-\n", 1),
+    ("+5\n", 1),
+    ("--5\n", 1),
+    ("5 \n", 1),
+    ("1\n2\n3\r\n", 3),
+    ("1000000000\n1000000001\n", 2),
+    ("-1000000001\n", 1),
+    ("99999999999999999999\n", 1),
+    ("-01\n", 1),
+];
+
+#[test]
+fn the_first_bad_line_is_told(rt: HostRuntime) {
+    for (text, line) in BAD_LISTS {
         let read = read_targets(rt.alloc(), text.as_bytes());
-        same(&rt, text, read.err(), Some(TargetsFault::Bad { line }));
+        let bad = TargetsFault::Bad { line: *line };
+        same(&rt, *text, read.err(), Some(bad));
     }
-    Ok(())
+}
+
+/// So many lines of one target.
+fn lines_of(alloc: Global, count: usize) -> Result<Vec<u8>, AllocError> {
+    let mut text = Vec::new(alloc);
+    for _line in 0..count {
+        text.extend_from_slice(b"7\n")?;
+    }
+    Ok(text)
+}
+
+/// How many targets are read from so many lines, or the fault.
+fn count_of(alloc: Global, count: usize) -> Result<Result<usize, TargetsFault>, Fail> {
+    let text = lines_of(alloc, count)?;
+    Ok(match read_targets(alloc, &text) {
+        Ok(targets) => Ok(targets.len()),
+        Err(fault) => Err(fault),
+    })
 }
 
 #[test]
 fn a_list_has_an_end(rt: HostRuntime) -> Result<(), Fail> {
-    let mut text = Vec::new(rt.alloc());
-    for _ in 0..MOST_TARGETS {
-        text.extend_from_slice(b"7\n")?;
-    }
-    let most = read_targets(rt.alloc(), &text)?.len();
-    same(&rt, "most", most, MOST_TARGETS);
-    text.extend_from_slice(b"7\n")?;
-    let fault = read_targets(rt.alloc(), &text).err();
-    same(
-        &rt,
-        "one more",
-        fault,
-        Some(TargetsFault::Bad { line: 100_001 }),
-    );
+    let most = count_of(rt.alloc(), MOST_TARGETS)?;
+    same(&rt, "most", most, Ok(MOST_TARGETS));
+    let one_more = count_of(rt.alloc(), MOST_TARGETS + 1)?;
+    let bad = TargetsFault::Bad { line: 100_001 };
+    same(&rt, "one more", one_more, Err(bad));
     Ok(())
 }
 
@@ -140,7 +199,7 @@ fn a_list_has_an_end(rt: HostRuntime) -> Result<(), Fail> {
 fn curves_and_answers_are_told(rt: HostRuntime) -> Result<(), Fail> {
     let alloc = rt.alloc();
     let basis = Basis::new(0, 9, 10)?;
-    let curve = Curve::new(alloc, &total_of(alloc, &LOAD_AND_GENERATOR)?)?;
+    let curve = curve_of(alloc, &LOAD_AND_GENERATOR)?;
     let text = ask_text(alloc, &basis, &curve, &[0, 100, -60])?;
     let lines = "\
 curve step 0 price 0 from 100 to high
@@ -154,16 +213,8 @@ target -60 price 9 step 9 total 10
     Ok(())
 }
 
-fn may_be_shared<T: Send + Sync>(_value: &T) {}
-
 /// Curves, what they tell, and faults may be sent to threads and shared by them: it is proved here.
 #[test]
-fn curves_may_be_shared(rt: HostRuntime) -> Result<(), Fail> {
-    let alloc = rt.alloc();
-    let curve = Curve::new(alloc, &total_of(alloc, &[1, 0])?)?;
-    may_be_shared(&curve);
-    may_be_shared(&curve.answer(0, &mut Steps::<Brand>::start()));
-    may_be_shared(&CurveFault::Rising { at: 1 });
-    may_be_shared(&curve.breaks());
-    Ok(())
+fn curves_may_be_shared() {
+    may_be_shared::<(Curve, Answer, CurveFault, &[Break])>();
 }

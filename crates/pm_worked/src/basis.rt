@@ -1,11 +1,10 @@
 use crate::same::same;
+use crate::shared::may_be_shared;
 use pm_basis::{Basis, BasisFault};
 use std::test::Fail;
 
-fn may_be_shared<T: Send + Sync>(_value: &T) {}
-
 /// The least price, the greatest, the number of steps, and the fault.
-const FAULTS: [(i64, i64, i64, BasisFault); 6] = [
+const FAULTS: &[(i64, i64, i64, BasisFault)] = &[
     (0, 9, 1, BasisFault::BadSteps),
     (0, 9, 1001, BasisFault::BadSteps),
     (9, 0, 1, BasisFault::BadSteps),
@@ -17,10 +16,16 @@ const FAULTS: [(i64, i64, i64, BasisFault); 6] = [
 #[test]
 fn faults_come_in_their_order(rt: HostRuntime) {
     for (min, max, steps, fault) in FAULTS {
-        let case = (min, max, steps);
-        same(&rt, case, Basis::new(min, max, steps), Err(fault));
+        let case = (*min, *max, *steps);
+        let made = Basis::new(case.0, case.1, case.2);
+        same(&rt, case, made, Err(*fault));
     }
-    may_be_shared(&BasisFault::Uneven);
+}
+
+/// Bases and faults may be sent to threads and shared by them: it is proved here.
+#[test]
+fn bases_may_be_shared() {
+    may_be_shared::<(Basis, BasisFault)>();
 }
 
 #[test]
@@ -32,6 +37,5 @@ fn prices_stand_at_equal_distances(rt: HostRuntime) -> Result<(), Fail> {
             same(&rt, step, basis.price(step), *price);
         }
     }
-    may_be_shared(&basis);
     Ok(())
 }

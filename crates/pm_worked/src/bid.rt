@@ -1,4 +1,5 @@
 use crate::same::same;
+use crate::shared::may_be_shared;
 use pm_bid::{ArrayBid, BidFault, BidHead, Steps};
 use std::alloc::Global;
 use std::marker::Brand;
@@ -24,7 +25,7 @@ fn a_market_without_bids_has_no_power_and_clears_at_the_first_step(
 }
 
 /// A wrong length comes before a rise, and a rise before a demand that is too large.
-const FAULTS: [(&[i64], Option<BidFault>); 5] = [
+const FAULTS: &[(&[i64], Option<BidFault>)] = &[
     (&[5, 6], Some(BidFault::WrongLength { have: 2 })),
     (&[1_000_000_001, 5, 6], Some(BidFault::Rising { at: 2 })),
     (&[1_000_000_001, 0, 0], Some(BidFault::TooLarge { at: 0 })),
@@ -35,22 +36,13 @@ const FAULTS: [(&[i64], Option<BidFault>); 5] = [
 #[test]
 fn the_first_fault_is_named(rt: HostRuntime) -> Result<(), Fail> {
     for (demands, fault) in FAULTS {
-        same(&rt, demands, fault_of(rt.alloc(), demands)?, fault);
+        same(&rt, *demands, fault_of(rt.alloc(), *demands)?, *fault);
     }
     Ok(())
 }
 
-fn may_be_shared<T: Send + Sync>(_value: &T) {}
-
 /// Bids, heads and faults may be sent to threads and shared by them: it is proved here.
 #[test]
-fn bids_may_be_shared(rt: HostRuntime) -> Result<(), Fail> {
-    let head = BidHead {
-        number: 1,
-        gone: false,
-    };
-    may_be_shared(&head);
-    may_be_shared(&BidFault::Rising { at: 1 });
-    may_be_shared(&ArrayBid::zero(rt.alloc(), 2, &mut Steps::<Brand>::start())?);
-    Ok(())
+fn bids_may_be_shared() {
+    may_be_shared::<(ArrayBid, BidHead, BidFault)>();
 }

@@ -1,9 +1,10 @@
-ghost use Rattle.std.specs.Prelude.{◌≡◌, true};
+ghost use Rattle.std.specs.Prelude.{◌≡◌, IfOk, true};
 ghost use Rattle.pm_tree.specs.Entries.{leaves_of};
 ghost use Rattle.pm_tree.specs.Shape.{leaf_at};
 
 use crate::plans::{NodeLine, Role, joins, plan_of_parts};
 use crate::same::same;
+use crate::shared::may_be_shared;
 use pm_basis::Basis;
 use pm_bill::{Account, Bill, GroupSum, Share, bill_of_run};
 use pm_plan::{PhaseSpec, Plan};
@@ -40,38 +41,45 @@ fn plan_of(alloc: Global, lines: &[NodeLine], minutes: i64) -> Result<Plan, Fail
     plan_of_parts(alloc, Basis::new(0, 9, 10)?, lines, phases)
 }
 
-/// The text of the bill of a plan's run.
-fn billed(alloc: Global, plan: &Plan) -> Result<String, Fail> {
+/// The bill of a plan's run.
+fn billed(alloc: Global, plan: &Plan) -> Result<Bill, Fail>
+    ensures { IfOk result (λ bill. bill.leaves ≡ leaves_of plan.now.entries) }
+{
     let ends = all_ends(alloc, plan)?;
-    let bill = bill_of_run(alloc, plan, &ends)?;
-    Ok(String::from_utf8(bill.text(plan)?)?)
+    Ok(bill_of_run(alloc, plan, &ends)?)
 }
 
-/// The nodes have this bill after so many minutes.
-fn bill_is(
-    rt: &impl Abort,
-    alloc: Global,
-    lines: &[NodeLine],
-    minutes: i64,
-    due: &str,
-) -> Result<(), Fail> {
-    let text = billed(alloc, &plan_of(alloc, lines, minutes)?)?;
-    same(rt, minutes, text.as_str(), due);
+/// A plan's run has a bill with this text.
+fn bill_is(rt: &impl Abort, alloc: Global, plan: &Plan, due: &str) -> Result<(), Fail> {
+    let bill = billed(alloc, plan)?;
+    same(rt, due, bill.text(plan)?.as_slice(), due.as_bytes());
     Ok(())
 }
 
+const UNLIMITED_BILL: &str = "\
+account load1 amount 24000 taken 6000 given 0
+account gen1 amount -36000 taken 0 given 9000
+grid amount 12000 taken 3000 given 0
+ticks 1 minutes 60
+";
+
+const LIMITED_BILL: &str = "\
+account flex1 amount 4500 taken 1500 given 0
+account gen amount 0 taken 0 given 1500
+grid amount -4500 taken 0 given 0
+ticks 1 minutes 10
+";
+
 #[test]
-fn runs_are_billed(rt: HostRuntime) -> Result<(), Fail> {
-    let unlimited = "account load1 amount 24000 taken 6000 given 0\n\
-        account gen1 amount -36000 taken 0 given 9000\n\
-        grid amount 12000 taken 3000 given 0\n\
-        ticks 1 minutes 60\n";
-    bill_is(&rt, rt.alloc(), &UNLIMITED, 60, unlimited)?;
-    let limited = "account flex1 amount 4500 taken 1500 given 0\n\
-        account gen amount 0 taken 0 given 1500\n\
-        grid amount -4500 taken 0 given 0\n\
-        ticks 1 minutes 10\n";
-    bill_is(&rt, rt.alloc(), &LIMITED, 10, limited)
+fn an_hour_without_limits_is_billed(rt: HostRuntime) -> Result<(), Fail> {
+    let plan = plan_of(rt.alloc(), &UNLIMITED, 60)?;
+    bill_is(&rt, rt.alloc(), &plan, UNLIMITED_BILL)
+}
+
+#[test]
+fn ten_minutes_within_limits_are_billed(rt: HostRuntime) -> Result<(), Fail> {
+    let plan = plan_of(rt.alloc(), &LIMITED, 10)?;
+    bill_is(&rt, rt.alloc(), &plan, LIMITED_BILL)
 }
 
 /// Whether a node of the plan is a device.
@@ -121,37 +129,36 @@ fn hour_is_billed(rt: &impl Abort, bill: &mut Bill)
     requires generator { leaf_at bill.old.leaves 2 ≡ true }
 {
     add_hour(bill);
-    may_be_shared(bill);
-    same(
-        rt,
-        "load",
+    let load = account(24_000, 6000, 0);
+    let generator = account(-36_000, 0, 9000);
+    let grid = account(12_000, 3000, 0);
+    let have = (
         bill.account(NodeId(1)),
-        account(24_000, 6000, 0),
+        bill.account(NodeId(2)),
+        bill.grid(),
     );
-    let given = account(-36_000, 0, 9000);
-    same(rt, "generator", bill.account(NodeId(2)), given);
-    same(rt, "grid", bill.grid(), account(12_000, 3000, 0));
+    same(rt, "hour", have, (load, generator, grid));
+}
+
+/// The bill of a plan with these two devices before and after that hour.
+fn bill_takes_an_hour(rt: &impl Abort, alloc: Global, plan: &Plan) -> Result<(), Fail> {
+    if !has_device(plan, 1) || !has_device(plan, 2) {
+        return Err("no devices".into());
+    }
+    let mut bill = Bill::open(alloc, plan)?;
+    same(rt, "grid at first", bill.grid(), account(0, 0, 0));
+    hour_is_billed(rt, &mut bill);
+    Ok(())
 }
 
 #[test]
 fn the_grid_takes_what_is_left_over(rt: HostRuntime) -> Result<(), Fail> {
     let plan = plan_of(rt.alloc(), &UNLIMITED, 60)?;
-    let mut bill = Bill::open(rt.alloc(), &plan)?;
-    same(&rt, "grid at first", bill.grid(), account(0, 0, 0));
-    if !has_device(&plan, 1) || !has_device(&plan, 2) {
-        return Err("no devices".into());
-    }
-    hour_is_billed(&rt, &mut bill);
-    Ok(())
+    bill_takes_an_hour(&rt, rt.alloc(), &plan)
 }
 
-fn may_be_shared<T: Send + Sync>(_value: &T) {}
-
-/// Accounts, shares and groups may be sent to threads and shared by them, as bills may: it is proved here.
+/// Bills, accounts, shares and groups may be sent to threads and shared by them: it is proved here.
 #[test]
-fn parts_of_bills_may_be_shared() {
-    let (node, price, power) = (1, 0, 0);
-    may_be_shared(&account(0, 0, 0));
-    may_be_shared(&Share { node, price, power });
-    may_be_shared(&GroupSum { price, power });
+fn bills_may_be_shared() {
+    may_be_shared::<(Bill, Account, Share, GroupSum)>();
 }

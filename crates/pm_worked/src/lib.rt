@@ -38,6 +38,8 @@ mod same;
 #[cfg(test)]
 mod scene;
 #[cfg(test)]
+mod shared;
+#[cfg(test)]
 mod strategy;
 #[cfg(test)]
 mod tree;

@@ -14,7 +14,7 @@ fn plan_of(alloc: Global) -> Result<Plan, Fail> {
 }
 
 /// A line, its move, and the step and the number that the load then holds.
-const LINES: [(&str, Move, Option<(u32, u32)>); 12] = [
+const LINES: &[(&str, Move, Option<(u32, u32)>)] = &[
     ("change load1 1\n", CHANGE, None),
     (
         "change load1 4294967295\n",
@@ -61,7 +61,8 @@ const PASS: Move = Move::Pass { node: 2, index: 1 };
 fn lines_are_read(rt: &impl Abort, plan: &Plan) {
     for (text, what, held) in LINES {
         let read = read_line(plan, text.as_bytes());
-        same(rt, text, read, Some(Line { what, held }));
+        let (what, held) = (*what, *held);
+        same(rt, *text, read, Some(Line { what, held }));
     }
 }
 
@@ -71,7 +72,7 @@ fn a_line_is_read(rt: HostRuntime) -> Result<(), Fail> {
     Ok(())
 }
 
-const NO_LINES: [&str; 26] = [
+const NO_LINES: &[&str] = &[
     "",
     "\n",
     "moves 1\n",
@@ -102,7 +103,7 @@ const NO_LINES: [&str; 26] = [
 
 fn no_line_is_read(rt: &impl Abort, plan: &Plan) {
     for text in NO_LINES {
-        same(rt, text, read_line(plan, text.as_bytes()), None);
+        same(rt, *text, read_line(plan, text.as_bytes()), None);
     }
 }
 

@@ -1,9 +1,8 @@
+use crate::shared::may_be_shared;
 use pm_plan::{
     EventSpec, LimitedLine, MemberLine, NodeSpec, PhaseEnd, PhaseSpec, Place, Plan, PlanFault,
     Planned, Refusal, StateSpec,
 };
-
-fn may_be_shared<T: Send + Sync>() {}
 
 /// Every public type may be sent to threads and shared by them: it is proved here.
 #[test]

@@ -58,6 +58,15 @@ fn is_leaf(spec: &NodeSpec) -> bool
     matches!(spec, NodeSpec::Device { .. })
 }
 
+/// What a tree takes of a node, which is a device or none.
+fn entry_of(alloc: Global, line: &NodeLine, leaf: bool) -> Result<TreeEntry, AllocError>
+    ensures { IfOk result (λ entry. entry.leaf ≡ leaf) }
+{
+    let name = String::from_str(alloc, line.0)?;
+    let parent = String::from_str(alloc, line.1)?;
+    Ok(TreeEntry { name, parent, leaf })
+}
+
 /// The entries of a tree, and what a plan takes of them.
 fn parts_of(
     alloc: Global,
@@ -67,26 +76,27 @@ fn parts_of(
 {
     let mut entries = Vec::new(alloc);
     let mut nodes = Vec::new(alloc);
-    for (name, parent, role) in lines {
-        let spec = spec_of(alloc, *role)?;
-        let entry = TreeEntry {
-            name: String::from_str(alloc, name)?,
-            parent: String::from_str(alloc, parent)?,
-            leaf: is_leaf(&spec),
-        };
+    for line in lines {
+        let spec = spec_of(alloc, line.2)?;
+        let entry = entry_of(alloc, line, is_leaf(&spec))?;
         entries.push(entry)?;
         nodes.push(spec)?;
     }
     Ok((entries, nodes))
 }
 
+/// The join of a device.
+fn join_of(alloc: Global, name: &str) -> Result<EventSpec, AllocError> {
+    let device = String::from_str(alloc, name)?;
+    Ok(EventSpec::Join { device })
+}
+
 /// A phase in which all devices join.
 pub fn joins(alloc: Global, lines: &[NodeLine]) -> Result<PhaseSpec, AllocError> {
     let mut events = Vec::new(alloc);
     for (name, _, role) in lines {
-        if let Role::Device(_, _) | Role::Manual(_) = *role {
-            let device = String::from_str(alloc, name)?;
-            events.push(EventSpec::Join { device })?;
+        if matches!(*role, Role::Device(_, _) | Role::Manual(_)) {
+            events.push(join_of(alloc, *name)?)?;
         }
     }
     Ok(PhaseSpec::Events(events))

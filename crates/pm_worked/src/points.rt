@@ -1,13 +1,12 @@
 use crate::same::same;
+use crate::shared::may_be_shared;
 use pm_basis::Basis;
-use pm_bid::Steps;
+use pm_bid::{ArrayBid, Steps};
 use pm_points::{PointBid, PointFault};
 use std::alloc::Global;
 use std::marker::Brand;
 use std::process::Abort;
 use std::test::Fail;
-
-fn may_be_shared<T: Send + Sync>(_value: &T) {}
 
 /// The fault of these points, if they are no bid on a basis of the prices 0 to 9.
 fn fault_of(alloc: Global, points: &[(i64, i64)]) -> Result<Option<PointFault>, Fail> {
@@ -15,7 +14,7 @@ fn fault_of(alloc: Global, points: &[(i64, i64)]) -> Result<Option<PointFault>, 
     Ok(PointBid::new(points.to_vec(alloc)?, &basis).err())
 }
 
-const FAULTS: [(&[(i64, i64)], Option<PointFault>); 8] = [
+const FAULTS: &[(&[(i64, i64)], Option<PointFault>)] = &[
     (&[], Some(PointFault::NoPoints)),
     (&[(0, 0); 65], Some(PointFault::TooMany { have: 65 })),
     (&[(0, 0); 64], None),
@@ -35,32 +34,34 @@ const FAULTS: [(&[(i64, i64)], Option<PointFault>); 8] = [
 #[test]
 fn the_first_fault_is_named(rt: HostRuntime) -> Result<(), Fail> {
     for (points, fault) in FAULTS {
-        same(&rt, points, fault_of(rt.alloc(), points)?, fault);
+        same(&rt, *points, fault_of(rt.alloc(), *points)?, *fault);
     }
     Ok(())
 }
 
-/// Whether the array of these points on this basis has these demands, step by step.
-fn has_array(
-    alloc: Global,
-    points: &[(i64, i64)],
-    basis: &Basis,
-    demands: &[i64],
-) -> Result<bool, Fail> {
-    let bid = PointBid::new(points.to_vec(alloc)?, basis)?;
-    let array = bid.to_array(basis)?;
+/// The bid of these points on this basis.
+fn bid_of(alloc: Global, points: &[(i64, i64)], basis: &Basis) -> Result<PointBid, Fail> {
+    Ok(PointBid::new(points.to_vec(alloc)?, basis)?)
+}
+
+/// The array of these points on this basis.
+fn array_of(alloc: Global, points: &[(i64, i64)], basis: &Basis) -> Result<ArrayBid, Fail> {
+    let bid = bid_of(alloc, points, basis)?;
+    Ok(bid.to_array(basis)?)
+}
+
+/// The array has these demands, step by step.
+fn array_is(rt: &impl Abort, array: &ArrayBid, demands: &[i64]) {
+    same(rt, demands, array.steps(), demands.len());
     let mut counter = Steps::<Brand>::start();
-    let mut same = array.steps() == demands.len();
-    for (step, demand) in demands.iter().enumerate() {
-        if step < array.steps() {
-            same = same && array.at(step, &mut counter) == *demand;
-        }
+    for step in 0..array.steps() {
+        let due = demands.get(step).copied();
+        same(rt, step, Some(array.at(step, &mut counter)), due);
     }
-    Ok(same)
 }
 
 /// The points, and the demands step by step. Rounding towards zero would give 10, 7, 4 for the second of these bids.
-const LINES: [(&[(i64, i64)], &[i64]); 3] = [
+const LINES: &[(&[(i64, i64)], &[i64])] = &[
     (&[(4, 100), (4, 0)], &[100, 100, 100, 100, 0, 0, 0, 0, 0, 0]),
     (&[(0, 10), (3, 0)], &[10, 6, 3, 0, 0, 0, 0, 0, 0, 0]),
     (
@@ -73,8 +74,8 @@ const LINES: [(&[(i64, i64)], &[i64]); 3] = [
 fn the_demand_lies_on_the_lines(rt: HostRuntime) -> Result<(), Fail> {
     let basis = Basis::new(0, 9, 10)?;
     for (points, demands) in LINES {
-        let has = has_array(rt.alloc(), points, &basis, demands)?;
-        same(&rt, points, has, true);
+        let array = array_of(rt.alloc(), *points, &basis)?;
+        array_is(&rt, &array, *demands);
     }
     Ok(())
 }
@@ -100,15 +101,15 @@ const DOWN: [(u8, i64); 6] = [
     (99, -490),
 ];
 
-/// The bid of the points on the prices 0 to 99 has these demands at these prices.
+/// The bid of the points on this basis has these demands at these prices.
 fn demands_are(
     rt: &impl Abort,
     alloc: Global,
-    points: [(i64, i64); 2],
+    points: &[(i64, i64)],
+    basis: &Basis,
     demands: &[(u8, i64)],
 ) -> Result<(), Fail> {
-    let bid = PointBid::new(points.to_vec(alloc)?, &Basis::new(0, 99, 100)?)?;
-    may_be_shared(&bid);
+    let bid = bid_of(alloc, points, basis)?;
     for (price, demand) in demands {
         same(rt, *price, bid.demand_at(i64::from(*price)), *demand);
     }
@@ -117,7 +118,14 @@ fn demands_are(
 
 #[test]
 fn bids_of_a_hundred_steps(rt: HostRuntime) -> Result<(), Fail> {
-    may_be_shared(&PointFault::NoPoints);
-    demands_are(&rt, rt.alloc(), [(20, 600), (80, 0)], &LEVEL_THEN_DOWN)?;
-    demands_are(&rt, rt.alloc(), [(0, 500), (99, -490)], &DOWN)
+    let basis = Basis::new(0, 99, 100)?;
+    let level = [(20, 600), (80, 0)];
+    demands_are(&rt, rt.alloc(), &level, &basis, &LEVEL_THEN_DOWN)?;
+    demands_are(&rt, rt.alloc(), &[(0, 500), (99, -490)], &basis, &DOWN)
+}
+
+/// Bids and faults may be sent to threads and shared by them: it is proved here.
+#[test]
+fn point_bids_may_be_shared() {
+    may_be_shared::<(PointBid, PointFault)>();
 }

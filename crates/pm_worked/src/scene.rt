@@ -1,34 +1,36 @@
 use crate::plans::{LONE, joined_plan};
 use crate::same::same;
+use crate::shared::may_be_shared;
 use pm_basis::Basis;
 use pm_plan::{Cause, PhaseEnd, Place, Plan, Refusal};
 use pm_scene::{SceneFault, read_scene};
 use std::alloc::Global;
+use std::process::Abort;
 use std::test::Fail;
 
 /// One load, which is joined.
 const LONE_LOAD: &str =
     r#"{"version":1,"basis":{"min":0,"max":9,"steps":10},"nodes":[{"name":"load1","kind":"load","parent":"auctioneer","start":100}],"phases":[{"events":[{"join":"load1"}]}]}"#;
 
-/// Whether the plan is that of the lone load's parts.
-fn is_of_parts(alloc: Global, plan: &Plan) -> Result<bool, Fail> {
+/// The plan is that of the lone load's parts.
+fn plan_is_of_parts(rt: &impl Abort, alloc: Global, plan: &Plan) -> Result<(), Fail> {
     let parts = joined_plan(alloc, Basis::new(0, 9, 10)?, &LONE)?;
-    Ok(plan.same(&parts))
+    same(rt, "plan", plan.same(&parts), true);
+    Ok(())
 }
 
-/// How many members the vacant end of a plan has.
-fn vacant_members(alloc: Global, plan: &Plan) -> Result<usize, Fail> {
+fn vacant_end_has_no_members(rt: &impl Abort, alloc: Global, plan: &Plan) -> Result<(), Fail> {
     let end = PhaseEnd::vacant(alloc, plan)?;
-    Ok(end.members().len())
+    same(rt, "members", end.members().len(), 0);
+    Ok(())
 }
 
 /// A file's plan is that of its parts.
 #[test]
 fn a_file_has_the_plan_of_its_parts(rt: HostRuntime) -> Result<(), Fail> {
     let plan = read_scene(rt.alloc(), LONE_LOAD.as_bytes())?;
-    same(&rt, "plan", is_of_parts(rt.alloc(), &plan)?, true);
-    same(&rt, "members", vacant_members(rt.alloc(), &plan)?, 0);
-    Ok(())
+    plan_is_of_parts(&rt, rt.alloc(), &plan)?;
+    vacant_end_has_no_members(&rt, rt.alloc(), &plan)
 }
 
 /// A file that is cut off has no reading.
@@ -39,10 +41,8 @@ fn a_cut_file_is_refused(rt: HostRuntime) {
     same(&rt, "read", read, Some(refused));
 }
 
-fn may_be_shared<T: Send + Sync>(_value: &T) {}
-
 /// Faults may be sent to threads and shared by them: it is proved here.
 #[test]
 fn faults_may_be_shared() {
-    may_be_shared(&SceneFault::NoMemory);
+    may_be_shared::<SceneFault>();
 }

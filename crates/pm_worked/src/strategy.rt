@@ -23,8 +23,7 @@ fn bid_is<R: Abort>(
     ends: (usize, usize),
 ) {
     let state = DeviceState(number);
-    assert!(rt; kind.valid());
-    assert!(rt; kind.fits(state));
+    assert!(rt; kind.valid() && kind.fits(state));
     fill_bid(&kind, state, &[], out);
     let mut counter = Steps::<Brand>::start();
     for step in 0..out.steps() {
@@ -59,7 +58,7 @@ const HOME: Kind = battery!(5000, 1000, 1000, 5);
 type Row = (Kind, i64, (i64, i64, i64), (usize, usize));
 
 /// Ten steps, so the last is 9. Each row is worked by hand.
-const TEN: [Row; 32] = [
+const TEN: &[Row] = &[
     (COLD, -2000, (200, 0, 0), (5, 10)), // 200 * 9 / 400 = 4.5
     (COLD, -1800, (200, 0, 0), (10, 10)),
     (COLD, -1700, (200, 0, 0), (10, 10)),
@@ -95,7 +94,7 @@ const TEN: [Row; 32] = [
 ];
 
 /// A hundred steps, so the last is 99.
-const HUNDRED: [Row; 12] = [
+const HUNDRED: &[Row] = &[
     (COLD, -2000, (200, 0, 0), (50, 100)), // 200 * 99 / 400 = 49.5
     (COLD, -2050, (200, 0, 0), (38, 100)), // 37.1
     (COLD, -2020, (200, 0, 0), (45, 100)), // 44.6
@@ -119,14 +118,14 @@ fn rows_are<R: Abort>(rt: &R, out: &mut ArrayBid, rows: &[Row]) {
 #[test]
 fn bids_of_ten_steps_follow_the_table(rt: HostRuntime) -> Result<(), Fail> {
     let mut out = ArrayBid::zero(rt.alloc(), 10, &mut Steps::<Brand>::start())?;
-    rows_are(&rt, &mut out, &TEN);
+    rows_are(&rt, &mut out, TEN);
     Ok(())
 }
 
 #[test]
 fn bids_of_a_hundred_steps_follow_the_table(rt: HostRuntime) -> Result<(), Fail> {
     let mut out = ArrayBid::zero(rt.alloc(), 100, &mut Steps::<Brand>::start())?;
-    rows_are(&rt, &mut out, &HUNDRED);
+    rows_are(&rt, &mut out, HUNDRED);
     Ok(())
 }
 
@@ -143,25 +142,30 @@ fn array_with(alloc: Global, step: usize, demand: i64) -> Result<ArrayBid, Fail>
 }
 
 /// The demands of a manual device with the number, at the first step and the last of three.
-fn manual_bid(alloc: Global, number: u8, arrays: &[ArrayBid]) -> Result<(i64, i64), Fail>
+fn manual_bid(out: &mut ArrayBid, number: u8, arrays: &[ArrayBid]) -> (i64, i64)
+    requires steps { length out.old ≡ 3 }
+    requires arrays { HaveSteps 3 arrays.now }
+    ensures steps { length out.new ≡ 3 }
+{
+    let state = DeviceState(i64::from(number));
+    fill_bid(&Kind::Manual, state, arrays, out);
+    let mut counter = Steps::<Brand>::start();
+    (out.at(0, &mut counter), out.at(2, &mut counter))
+}
+
+/// The number of a manual device counts the arrays from 0; a number without an array bids nothing.
+fn manual_bids_are(rt: &impl Abort, alloc: Global, arrays: &[ArrayBid]) -> Result<(), Fail>
     requires { HaveSteps 3 arrays.now }
 {
-    let mut counter = Steps::<Brand>::start();
-    let mut out = ArrayBid::zero(alloc, 3, &mut counter)?;
-    fill_bid(
-        &Kind::Manual,
-        DeviceState(i64::from(number)),
-        arrays,
-        &mut out,
-    );
-    Ok((out.at(0, &mut counter), out.at(2, &mut counter)))
+    let mut out = ArrayBid::zero(alloc, 3, &mut Steps::<Brand>::start())?;
+    same(rt, 1, manual_bid(&mut out, 1, arrays), (0, -5));
+    same(rt, 2, manual_bid(&mut out, 2, arrays), (0, 0));
+    Ok(())
 }
 
 #[test]
 fn a_manual_device_bids_its_array(rt: HostRuntime) -> Result<(), Fail> {
     let alloc = rt.alloc();
     let arrays = [array_with(alloc, 0, 7)?, array_with(alloc, 2, -5)?];
-    same(&rt, 1, manual_bid(alloc, 1, &arrays)?, (0, -5));
-    same(&rt, 2, manual_bid(alloc, 2, &arrays)?, (0, 0));
-    Ok(())
+    manual_bids_are(&rt, alloc, &arrays)
 }

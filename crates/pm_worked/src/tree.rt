@@ -1,4 +1,5 @@
 use crate::same::same;
+use crate::shared::may_be_shared;
 use pm_tree::{NodeId, Tree, TreeEntry, TreeFault};
 use std::alloc::{AllocError, Global};
 use std::process::Abort;
@@ -38,8 +39,6 @@ const TWO: [Line; 5] = [
     ("l3", "auctioneer", true),
 ];
 
-fn may_be_shared<T: Send + Sync>(_value: &T) {}
-
 fn entry(alloc: Global, name: &str, parent: &str, leaf: bool) -> Result<TreeEntry, AllocError> {
     Ok(TreeEntry {
         name: String::from_str(alloc, name)?,
@@ -62,7 +61,7 @@ fn tree_of(alloc: Global, lines: &[Line]) -> Result<Tree, TreeFault> {
 
 /// How many entries the tree of the lines has.
 fn size(alloc: Global, lines: &[Line]) -> Result<u32, TreeFault> {
-    tree_of(alloc, lines).map(|tree| tree.len())
+    Ok(tree_of(alloc, lines)?.len())
 }
 
 /// So many loads under the auctioneer.
@@ -77,11 +76,11 @@ fn loads(alloc: Global, count: usize) -> Result<Vec<TreeEntry>, AllocError> {
 
 /// How many entries the tree of so many loads under the auctioneer has.
 fn size_of_loads(alloc: Global, count: usize) -> Result<u32, TreeFault> {
-    Tree::new(alloc, loads(alloc, count)?).map(|tree| tree.len())
+    Ok(Tree::new(alloc, loads(alloc, count)?)?.len())
 }
 
 /// Lists of entries, and the sizes of their trees or the faults: of the first entry that fails, its first check.
-const CASES: [(&[Line], Result<u32, TreeFault>); 15] = [
+const CASES: &[(&[Line], Result<u32, TreeFault>)] = &[
     (&[], Ok(0)),
     (&CHAIN, Ok(7)),
     (&DEEP, Err(TreeFault::TooDeep { at: 7 })),
@@ -134,7 +133,7 @@ const CASES: [(&[Line], Result<u32, TreeFault>); 15] = [
 #[test]
 fn a_list_is_accepted_or_refused_by_the_first_check_of_the_first_entry(rt: HostRuntime) {
     for (lines, expected) in CASES {
-        same(&rt, lines, size(rt.alloc(), lines), expected);
+        same(&rt, *lines, size(rt.alloc(), *lines), *expected);
     }
 }
 
@@ -154,7 +153,7 @@ type Row = (
     &'static [NodeId],
 );
 
-const ROWS: [Row; 6] = [
+const ROWS: &[Row] = &[
     (
         "auctioneer",
         false,
@@ -177,14 +176,16 @@ const ROWS: [Row; 6] = [
 
 /// The look-ups of a node are those of the row.
 fn node_is<R: Abort>(rt: &R, tree: &Tree, node: NodeId, row: &Row) {
-    let (name, leaf, depth, children, below) = *row;
     assert!(rt; node.0 <= tree.len());
-    same(rt, name, tree.find(name), Some(node));
-    same(rt, name, tree.name(node), name);
-    same(rt, name, tree.is_leaf(node), leaf);
-    same(rt, name, tree.depth(node), depth);
-    same(rt, name, tree.children(node), children);
-    same(rt, name, tree.leaves_below(node), below);
+    let have = (
+        tree.name(node),
+        tree.is_leaf(node),
+        tree.depth(node),
+        tree.children(node),
+        tree.leaves_below(node),
+    );
+    same(rt, node, have, *row);
+    same(rt, node, tree.find(row.0), Some(node));
 }
 
 fn nodes_are<R: Abort>(rt: &R, tree: &Tree) {
@@ -194,14 +195,14 @@ fn nodes_are<R: Abort>(rt: &R, tree: &Tree) {
 }
 
 /// A node, its parent, and its place among the children of its parent.
-const PLACES: [(u32, u32, usize); 5] = [(1, 0, 0), (2, 1, 0), (3, 1, 1), (4, 3, 0), (5, 0, 1)];
+const PLACES: &[(u32, u32, usize)] = &[(1, 0, 0), (2, 1, 0), (3, 1, 1), (4, 3, 0), (5, 0, 1)];
 
 fn places_are<R: Abort>(rt: &R, tree: &Tree) {
     for (node, parent, place) in PLACES {
-        assert!(rt; 1 <= node && node <= tree.len());
-        let node = NodeId(node);
-        same(rt, node, tree.parent(node), NodeId(parent));
-        same(rt, node, tree.place(node), place);
+        assert!(rt; 1 <= *node && *node <= tree.len());
+        let node = NodeId(*node);
+        let have = (tree.parent(node), tree.place(node));
+        same(rt, node, have, (NodeId(*parent), *place));
     }
 }
 
@@ -216,8 +217,6 @@ fn look_ups_answer_by_the_list(rt: HostRuntime) -> Result<(), Fail> {
 }
 
 #[test]
-fn trees_may_be_shared(rt: HostRuntime) {
-    may_be_shared(&listed(rt.alloc(), &TWO));
-    may_be_shared(&tree_of(rt.alloc(), &TWO));
-    may_be_shared(&NodeId(0));
+fn trees_may_be_shared() {
+    may_be_shared::<(Tree, TreeEntry, TreeFault, NodeId)>();
 }

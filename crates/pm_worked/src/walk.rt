@@ -13,11 +13,18 @@ use std::alloc::{AllocError, Global};
 use std::process::Abort;
 use std::test::Fail;
 
-/// A phase's end in numbers: step, price, total; then node, power and number of each member.
+/// A phase's end: step, price and total; and the members.
 #[derive(Clone, Copy)]
 struct Due {
     end: (u32, i64, i64),
-    members: &'static [(u32, i64, u32)],
+    members: &'static [MemberLine],
+}
+
+/// The members of an end: node, power in watts and number of the bid of each.
+macro_rules! members {
+    ($(($node:expr, $power:expr, $number:expr)),* $(,)?) => {
+        &[$(MemberLine { node: $node, power: $power, number: $number }),*]
+    };
 }
 
 /// A battery that holds half its charge, and a load of 200 watts.
@@ -59,23 +66,11 @@ fn plan_of(alloc: Global) -> Result<Plan, Fail> {
     plan_of_parts(alloc, Basis::new(0, 9, 10)?, &NODES, phases)
 }
 
-/// Whether an end has these numbers.
+/// Whether an end is the one that is due, without a limited concentrator.
 fn is_due(end: &PhaseEnd, due: Due) -> bool {
-    let (step, price, total) = due.end;
-    let mut right = end.step() == step
-        && end.price() == price
-        && end.total() == total
-        && end.members().len() == due.members.len()
-        && end.limited().is_empty();
-    for (line, (node, power, number)) in end.members().iter().zip(due.members) {
-        let wanted = MemberLine {
-            node: *node,
-            power: *power,
-            number: *number,
-        };
-        right = right && *line == wanted;
-    }
-    right
+    (end.step(), end.price(), end.total()) == due.end
+        && end.members() == due.members
+        && end.limited().is_empty()
 }
 
 /// 500 watt-hours: 400 watts at steps 0 to 2, -400 from 6. A quarter of an hour at -400 watts leaves 400 watt-hours:
@@ -83,22 +78,26 @@ fn is_due(end: &PhaseEnd, due: Due) -> bool {
 const ENDS: [Due; 3] = [
     Due {
         end: (6, 6, -200),
-        members: &[(1, -400, 1), (2, 200, 1)],
+        members: members![(1, -400, 1), (2, 200, 1)],
     },
     Due {
         end: (7, 7, -200),
-        members: &[(1, -400, 2), (2, 200, 1)],
+        members: members![(1, -400, 2), (2, 200, 1)],
     },
     Due {
         end: (9, 9, 100),
-        members: &[(1, -400, 2), (2, 500, 2)],
+        members: members![(1, -400, 2), (2, 500, 2)],
     },
 ];
 
 fn ends_are(rt: &impl Abort, ends: &[PhaseEnd]) {
-    same(rt, "ends", ends.len(), 3);
-    for (end, due) in ends.iter().zip(&ENDS) {
-        same(rt, due.end, is_due(end, *due), true);
+    same(rt, "ends", ends.len(), ENDS.len());
+    for (place, due) in ENDS.iter().enumerate() {
+        let right = match ends.get(place) {
+            Some(end) => is_due(end, *due),
+            None => false,
+        };
+        same(rt, due.end, right, true);
     }
 }
 
@@ -148,7 +147,7 @@ fn planned_end(alloc: Global, plan: &Plan, cut: &[u32]) -> Result<PhaseEnd, Fail
 }
 
 /// The battery after its tick or before it, with the load before or after its new state.
-const CUTS: [([u32; 2], Due); 4] = [
+const CUTS: &[([u32; 2], Due)] = &[
     (
         [0, 0],
         Due {
@@ -160,29 +159,29 @@ const CUTS: [([u32; 2], Due); 4] = [
         [0, 1],
         Due {
             end: (9, 9, 200),
-            members: &[(2, 200, 1)],
+            members: members![(2, 200, 1)],
         },
     ),
     (
         [1, 2],
         Due {
             end: (9, 9, 100),
-            members: &[(1, -400, 1), (2, 500, 2)],
+            members: members![(1, -400, 1), (2, 500, 2)],
         },
     ),
     (
         [2, 1],
         Due {
             end: (7, 7, -200),
-            members: &[(1, -400, 2), (2, 200, 1)],
+            members: members![(1, -400, 2), (2, 200, 1)],
         },
     ),
 ];
 
 fn cuts_have_their_ends(rt: &impl Abort, alloc: Global, plan: &Plan) -> Result<(), Fail> {
     for (cut, due) in CUTS {
-        let end = planned_end(alloc, plan, &cut)?;
-        same(rt, cut, is_due(&end, due), true);
+        let end = planned_end(alloc, plan, cut)?;
+        same(rt, *cut, is_due(&end, *due), true);
     }
     Ok(())
 }

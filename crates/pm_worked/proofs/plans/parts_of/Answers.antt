@@ -21,12 +21,12 @@ more nodes new_nodes entries new_entries spec entry so_far leaf nodes_are entrie
     ∙ ap leaves_of (map-append entry_of entries (entry ∷ []))
     ∙ leaves_of-more (entries_of entries) (entry_of entry))
 
-pub loop-name-init : goal.loop-name-init
+pub loop-line-init : goal.loop-line-init
 unfolding leaves_of
-loop-name-init c =
+loop-line-init c =
     ap (λ all. map is_device (map node_part all)) c.new-nodes.ensures.items ∙ sym (ap (λ all. leaves_of (entries_of all)) c.new-entries.ensures.items)
 
-pub loop-name-preserved : goal.loop-name-preserved
-loop-name-preserved c =
-    more c.loop-name.nodes.items _ c.loop-name.entries.items _ c.in_ok-spec.spec _ c.loop-name.invariant (sym c.is_leaf.ensures)
-    c.in_ok-push-2.ensures.items c.in_ok-push.ensures.items
+pub loop-line-preserved : goal.loop-line-preserved
+loop-line-preserved c =
+    more c.loop-line.nodes.items _ c.loop-line.entries.items _ c.in_ok-spec.spec _ c.loop-line.invariant
+    (sym (c.in_ok-entry.ensures ∙ c.is_leaf.ensures)) c.in_ok-push-2.ensures.items c.in_ok-push.ensures.items
