@@ -4,6 +4,7 @@ ghost use Rattle.pm_base.specs.Limits.{demand_limit};
 ghost use Rattle.pm_cache.specs.Learning.{HasSingleBids};
 
 use crate::same::same;
+use crate::shared::may_be_shared;
 use pm_auctioneer::{Auctioneer, ClearFault, Cleared};
 use pm_bid::{ArrayBid, Steps};
 use pm_cache::CacheFault;
@@ -73,13 +74,8 @@ fn the_market_clears_where_something_was_learnt(rt: HostRuntime) -> Result<(), F
     Ok(())
 }
 
-fn may_be_shared<T: Send + Sync>(_value: &T) {}
-
 /// Auctioneers, clearings and faults may be sent to threads and shared by them: it is proved here.
 #[test]
-fn auctioneers_may_be_shared(rt: HostRuntime) -> Result<(), Fail> {
-    may_be_shared(&Cleared { index: 1, step: 0 });
-    may_be_shared(&ClearFault::NotChanged);
-    may_be_shared(&Auctioneer::new(rt.alloc(), 1, 2)?);
-    Ok(())
+fn auctioneers_may_be_shared() {
+    may_be_shared::<(Auctioneer, Cleared, ClearFault)>();
 }

@@ -2,10 +2,11 @@
 //! follows a test around.
 
 use crate::same::same;
+use crate::shared::may_be_shared;
 use pm_agent::DeviceAgent;
 use pm_board::Board;
 use pm_device::{DeviceState, Kind, Next};
-use pm_market::{Line, Move};
+use pm_market::{Journal, Line, Move};
 use pm_plan::{PhaseEnd, Plan};
 use pm_scene::read_scene;
 use pm_tree::NodeId;
@@ -83,15 +84,15 @@ fn open(alloc: Global, plan: &Plan) -> Result<Board<'_>, Fail> {
 }
 
 #[tactic(auto, using(pm_cluster::proofs::Parents::nodes_are))]
-fn turn(board: &mut Board, node: u32) -> Result<Option<Line>, Fail> {
+fn turns(board: &mut Board, node: u32, due: Option<Line>) -> Result<bool, Fail> {
     if board.plan().tree().len() < node {
         return Err(Fail::from("no node"));
     }
-    Ok(board.turn(NodeId(node))?)
+    Ok(board.turn(NodeId(node))? == due)
 }
 
 /// Posts the join of the load by an agent of it.
-fn post(alloc: Global, board: &mut Board) -> Result<Option<Move>, Fail> {
+fn posts(alloc: Global, board: &mut Board, due: Option<Move>) -> Result<bool, Fail> {
     let mut agent = DeviceAgent::new(alloc, Kind::Load, 1, 10)?;
     let made = agent.work(
         Next {
@@ -105,11 +106,11 @@ fn post(alloc: Global, board: &mut Board) -> Result<Option<Move>, Fail> {
     if made.demand().steps() != board.plan().basis().steps() {
         return Err(Fail::from("another basis"));
     }
-    Ok(board.post(made).ok())
+    Ok(board.post(made).ok() == due)
 }
 
-fn close(board: &mut Board) -> Result<bool, Fail> {
-    Ok(board.close()?)
+fn closes(board: &mut Board, due: bool) -> Result<bool, Fail> {
+    Ok(board.close()? == due)
 }
 
 fn standing(board: &Board) -> (bool, bool) {
@@ -121,13 +122,13 @@ fn kept(board: &Board) -> (usize, usize) {
 }
 
 fn is_right(alloc: Global, board: &mut Board, row: Row) -> Result<bool, Fail> {
-    Ok(match row {
-        Row::Turns(node, line) => turn(board, node)? == line,
-        Row::Posts(what) => post(alloc, board)? == what,
-        Row::Closes(closes) => close(board)? == closes,
-        Row::Stands(quiet, done) => standing(board) == (quiet, done),
-        Row::Keeps(lines, ends) => kept(board) == (lines, ends),
-    })
+    match row {
+        Row::Turns(node, line) => turns(board, node, line),
+        Row::Posts(what) => posts(alloc, board, what),
+        Row::Closes(due) => closes(board, due),
+        Row::Stands(quiet, done) => Ok(standing(board) == (quiet, done)),
+        Row::Keeps(lines, ends) => Ok(kept(board) == (lines, ends)),
+    }
 }
 
 /// The place of the first row that is wrong.
@@ -140,31 +141,43 @@ fn first_wrong(alloc: Global, board: &mut Board, rows: &[Row]) -> Result<Option<
     Ok(None)
 }
 
-/// Whether an end has this step, price and total, and one member of so much power.
-fn is_end(end: &PhaseEnd, due: (u32, i64, i64), power: i64) -> bool {
-    (end.step(), end.price(), end.total()) == due
-        && end.members().len() == 1
-        && end.members().iter().all(|member| member.power == power)
+/// The lines of the only run.
+const LINES: [Line; 5] = [
+    Line {
+        what: JOIN,
+        held: None,
+    },
+    LEARN,
+    CLEAR,
+    PASS,
+    CLOSE,
+];
+
+/// Whether a journal has the lines of the only run.
+fn are_lines(journal: &Journal) -> bool {
+    for (place, line) in LINES.iter().enumerate() {
+        if journal.get(place) != Some(*line) {
+            return false;
+        }
+    }
+    journal.len() == LINES.len()
+}
+
+/// Whether these are the ends of the only run: one of step 9, price 9 and total 100, whose one member takes 100 watts.
+fn are_ends(ends: &[PhaseEnd]) -> bool {
+    let [end] = ends else {
+        return false;
+    };
+    let [member] = end.members() else {
+        return false;
+    };
+    (end.step(), end.price(), end.total(), member.power) == (9, 9, 100, 100)
 }
 
 /// Whether a board hands on the lines of the only run, and its end.
 fn hands_on(board: Board) -> bool {
     let (journal, ends) = board.into_parts();
-    let lines = [
-        Line {
-            what: JOIN,
-            held: None,
-        },
-        LEARN,
-        CLEAR,
-        PASS,
-        CLOSE,
-    ];
-    let mut right = journal.len() == lines.len() && ends.len() == 1;
-    for (place, line) in lines.iter().enumerate() {
-        right = right && journal.get(place) == Some(*line);
-    }
-    right && ends.iter().all(|end| is_end(end, (9, 9, 100), 100))
+    are_lines(&journal) && are_ends(&ends)
 }
 
 /// The place of the first wrong row of the only run, and whether the board then hands on what it should.
@@ -181,16 +194,8 @@ fn a_lone_load_has_one_run(rt: HostRuntime) -> Result<(), Fail> {
     Ok(())
 }
 
-fn may_be_shared<T: Send + Sync>(_value: &T) {}
-
-fn board_may_be_shared(alloc: Global, plan: &Plan) -> Result<(), Fail> {
-    may_be_shared(&open(alloc, plan)?);
-    Ok(())
-}
-
 /// Boards may be sent to threads and shared by them: that is proved here.
 #[test]
-fn boards_may_be_shared(rt: HostRuntime) -> Result<(), Fail> {
-    let plan = read_scene(rt.alloc(), LONE_LOAD)?;
-    board_may_be_shared(rt.alloc(), &plan)
+fn boards_may_be_shared() {
+    may_be_shared::<Board>();
 }

@@ -5,6 +5,7 @@ ghost use Rattle.pm_base.specs.Limits.{demand_limit, sum_limit};
 ghost use Rattle.pm_cache.specs.Learning.{HasSingleBids, offered};
 
 use crate::same::same;
+use crate::shared::may_be_shared;
 use pm_bid::{ArrayBid, BidHead, Steps};
 use pm_cache::{BidCache, CacheFault};
 use std::alloc::{AllocError, Global};
@@ -117,8 +118,6 @@ fn the_aggregate_follows_the_newest_bids(rt: HostRuntime) -> Result<(), Fail> {
     Ok(())
 }
 
-fn may_be_shared<T: Send + Sync>(_value: &T) {}
-
 #[test]
 fn a_newer_bid_of_a_thousand_steps_is_counted(rt: HostRuntime) -> Result<(), Fail> {
     let alloc = rt.alloc();
@@ -129,7 +128,6 @@ fn a_newer_bid_of_a_thousand_steps_is_counted(rt: HostRuntime) -> Result<(), Fai
 
 /// Caches and faults may be sent to threads and shared by them: it is proved here.
 #[test]
-fn caches_may_be_shared(rt: HostRuntime) {
-    may_be_shared(&CacheFault::Old { kept: 1 });
-    may_be_shared(&BidCache::new(rt.alloc(), 2, 2, &mut Steps::<Brand>::start()));
+fn caches_may_be_shared() {
+    may_be_shared::<(BidCache, CacheFault)>();
 }

@@ -6,6 +6,7 @@ ghost use Rattle.pm_session.specs.Prices.{IsNewIndex};
 ghost use Rattle.pm_concentrator.specs.Limited.{IsStepOf};
 
 use crate::same::same;
+use crate::shared::may_be_shared;
 use pm_bid::{ArrayBid, Steps};
 use pm_cache::CacheFault;
 use pm_concentrator::{Concentrator, PublishFault};
@@ -231,12 +232,8 @@ fn the_local_step_is_within_the_limits(rt: HostRuntime) -> Result<(), Fail> {
     steps_are_within(&rt, alloc, &mut c)
 }
 
-fn may_be_shared<T: Send + Sync>(_value: &T) {}
-
 /// Concentrators and faults may be sent to threads and shared by them: it is proved here.
 #[test]
-fn concentrators_may_be_shared(rt: HostRuntime) -> Result<(), Fail> {
-    may_be_shared(&PublishFault::NotChanged);
-    may_be_shared(&Concentrator::limited(rt.alloc(), 1, 2, 0, 0)?);
-    Ok(())
+fn concentrators_may_be_shared() {
+    may_be_shared::<(Concentrator, PublishFault)>();
 }

@@ -9,16 +9,18 @@ use std::io;
 use std::io::{ErrorKind, Read, Write};
 use std::test::Fail;
 
+/// What a source hands on of `balance` where three bytes are asked for at a time.
+const PIECES: &[&[u8]] = &[b"bal", b"anc", b"e", b""];
+
 /// The first bytes that a source hands on are those of the reader, and so are the next.
 #[test]
 fn the_bytes_are_those_of_the_reader(rt: HostRuntime) -> Result<(), Fail> {
     let text = b"balance".as_slice();
     let mut source = StdSource::new(text);
     let mut piece = [0; 3];
-    let pieces: [&[u8]; 4] = [b"bal", b"anc", b"e", b""];
-    for bytes in pieces {
-        same(&rt, bytes, source.read(&mut piece), Ok(bytes.len()));
-        same(&rt, bytes, piece.starts_with(bytes), true);
+    for bytes in PIECES {
+        same(&rt, *bytes, source.read(&mut piece), Ok(bytes.len()));
+        same(&rt, *bytes, piece.starts_with(*bytes), true);
     }
     let read = read_all(rt.alloc(), &mut StdSource::new(text), 10)?;
     same(&rt, "all", read.as_slice(), text);
@@ -69,13 +71,15 @@ impl Write for Frail {
     }
 }
 
-/// A reader's error is a fault, and nothing read is the end.
+/// What a frail reader answers call by call: an error is a fault, and nothing read is the end.
+const READS: &[Result<usize, Failed>] = &[Ok(1), Err(Failed), Ok(1), Ok(0), Ok(1)];
+
 #[test]
 fn an_error_of_the_reader_is_a_fault(rt: HostRuntime) {
     let mut source = StdSource::new(Frail { calls: 0 });
     let mut piece = [0; 3];
-    for answer in [Ok(1), Err(Failed), Ok(1), Ok(0), Ok(1)] {
-        same(&rt, answer, source.read(&mut piece), answer);
+    for answer in READS {
+        same(&rt, *answer, source.read(&mut piece), *answer);
     }
     let read = read_all(rt.alloc(), &mut StdSource::new(Frail { calls: 0 }), 10);
     assert!(rt; matches!(read, Err(ReadAllFault::ReadFault)));
@@ -83,18 +87,27 @@ fn an_error_of_the_reader_is_a_fault(rt: HostRuntime) {
     assert!(rt; read.is_ok());
 }
 
-/// A writer's error is a fault, and so is a write that takes nothing of a piece that is not empty.
+/// What a frail writer answers call by call: an error is a fault, and so is a write that takes nothing of a piece that is
+/// not empty.
+const WRITES: &[Result<usize, Failed>] = &[Ok(1), Err(Failed), Ok(1), Err(Failed), Ok(1)];
+
+/// After how many calls a whole piece is written, and the answer.
+const WHOLE_WRITES: &[(u8, Result<(), WriteFault>)] = &[
+    (0, Err(WriteFault { written: 1 })),
+    (2, Err(WriteFault { written: 1 })),
+    (4, Ok(())),
+];
+
 #[test]
 fn an_error_of_the_writer_is_a_fault(rt: HostRuntime) {
     let mut sink = StdSink::new(Frail { calls: 0 });
-    for answer in [Ok(1), Err(Failed), Ok(1), Err(Failed), Ok(1)] {
-        same(&rt, answer, sink.write(b"abc"), answer);
+    for answer in WRITES {
+        same(&rt, *answer, sink.write(b"abc"), *answer);
     }
     same(&rt, "empty", sink.write(b""), Ok(0));
-    let fault = Err(WriteFault { written: 1 });
-    for (calls, answer) in [(0, fault), (2, fault), (4, Ok(()))] {
-        let mut sink = StdSink::new(Frail { calls });
-        same(&rt, calls, write_all(&mut sink, b"abc"), answer);
+    for (calls, answer) in WHOLE_WRITES {
+        let mut sink = StdSink::new(Frail { calls: *calls });
+        same(&rt, *calls, write_all(&mut sink, b"abc"), *answer);
     }
 }
 

@@ -25,4 +25,6 @@ mod same;
 #[cfg(test)]
 mod session;
 #[cfg(test)]
+mod shared;
+#[cfg(test)]
 mod wire;

@@ -1,14 +1,18 @@
 use crate::same::same;
-use pm_market::{Act, Journal, Line, Move};
+use crate::shared::may_be_shared;
+use pm_market::{Act, Journal, Line, Market, Move};
+use std::alloc::Global;
+use std::process::Abort;
 use std::test::Fail;
 
 mod plays;
 mod walk;
 
-use plays::{count_journals, market_of, nine_rounds, play, two_levels};
+use plays::{
+    NINE_DEVICES, Node, ONE_DEVICE, TWO_LEVELS, count_journals, market_of, nine_rounds, play,
+    two_windows,
+};
 use walk::longest_journal;
-
-fn is_shared<T: Send + Sync>(_value: &T) {}
 
 /// A device that joins, leaves and joins; a clearing of its first membership is passed to it after its last join.
 const REJOINS: [Move; 7] = [
@@ -137,25 +141,30 @@ fn a_journal_is_its_lines(rt: HostRuntime) -> Result<(), Fail> {
     same(&rt, "length", journal.len(), 1);
     same(&rt, 0, journal.get(0), Some(line));
     same(&rt, 1, journal.get(1), None);
-    is_shared(&journal);
-    is_shared(&line);
-    is_shared(&Act::Clear);
     Ok(())
+}
+
+/// Markets, journals, lines and acts may be sent to threads and shared by them: it is proved here.
+#[test]
+fn markets_may_be_shared() {
+    may_be_shared::<(Market, Journal, Line, Act)>();
 }
 
 /// The price of number 1 is not held after the join of number 3. Closing is not legal before the device holds one.
 #[test]
 fn a_price_of_a_former_membership_is_not_held(rt: HostRuntime) -> Result<(), Fail> {
     let mut market = market_of(rt.alloc(), &[(0, true, &[true, false, true])])?;
-    is_shared(&market);
-    same(&rt, "rejoins", play(&mut market, &REJOINS)?, 6);
-    same(&rt, "passed", market.last_passed(1), 1);
+    last_price_is_held(&rt, &mut market)
+}
+
+fn last_price_is_held(rt: &impl Abort, market: &mut Market) -> Result<(), Fail> {
+    same(rt, "rejoins", play(market, &REJOINS)?, 6);
     let cleared = market.cleared(1).get(1).copied();
-    same(&rt, "cleared", cleared, Some(1));
-    same(&rt, "held before", market.holds_price(1), false);
-    same(&rt, "ends", play(&mut market, &ENDS)?, 4);
-    same(&rt, "held", market.holds_price(1), true);
-    same(&rt, "complete", market.is_complete(), true);
+    let have = (market.last_passed(1), cleared, market.holds_price(1));
+    same(rt, "passed, cleared and held", have, (1, Some(1), false));
+    same(rt, "ends", play(market, &ENDS)?, 4);
+    let have = (market.holds_price(1), market.is_complete());
+    same(rt, "held and complete", have, (true, true));
     Ok(())
 }
 
@@ -163,27 +172,53 @@ fn a_price_of_a_former_membership_is_not_held(rt: HostRuntime) -> Result<(), Fai
 /// one device of nine changes and with nine devices of one. A price of number 8 opens the window.
 #[test]
 fn a_window_holds_eight_numbers(rt: HostRuntime) -> Result<(), Fail> {
-    for devices in [1, 9] {
-        let (mut market, moves) = nine_rounds(rt.alloc(), devices)?;
-        same(&rt, devices, play(&mut market, &moves)?, 26);
-        same(&rt, devices, play(&mut market, &OPENS)?, 4);
-    }
+    window_holds_eight(&rt, rt.alloc(), 1, ONE_DEVICE)?;
+    window_holds_eight(&rt, rt.alloc(), 9, NINE_DEVICES)
+}
+
+fn window_holds_eight(
+    rt: &impl Abort,
+    alloc: Global,
+    devices: u32,
+    nodes: &[Node<'_>],
+) -> Result<(), Fail> {
+    let moves = nine_rounds(alloc, devices)?;
+    let mut market = market_of(alloc, nodes)?;
+    let made = (play(&mut market, &moves)?, play(&mut market, &OPENS)?);
+    same(rt, devices, made, (26, 4));
     Ok(())
 }
 
 /// Of two levels, 44 moves fill both windows (8 rounds of 5, and two rounds of 2), and then the auctioneer alone moves.
 #[test]
 fn two_windows_hold_eight_numbers_each(rt: HostRuntime) -> Result<(), Fail> {
-    let (mut market, moves) = two_levels(rt.alloc())?;
+    let moves = two_windows(rt.alloc())?;
+    let mut market = market_of(rt.alloc(), TWO_LEVELS)?;
     same(&rt, "fill", play(&mut market, &moves)?, 44);
-    let lower = market.is_legal(Move::Publish { node: 2, number: 9 });
-    let upper = market.is_legal(Move::Publish { node: 1, number: 9 });
-    same(&rt, "publish", (lower, upper), (false, false));
-    let (child, number) = (1, 8);
-    let learns = market.is_legal(Move::Learn { child, number });
-    same(&rt, "learn", learns, true);
+    auctioneer_alone_moves(&rt, &market);
     Ok(())
 }
+
+fn auctioneer_alone_moves(rt: &impl Abort, market: &Market) {
+    let lower = market.is_legal(Move::Publish { node: 2, number: 9 });
+    let upper = market.is_legal(Move::Publish { node: 1, number: 9 });
+    let (child, number) = (1, 8);
+    let learns = market.is_legal(Move::Learn { child, number });
+    let have = (lower, upper, learns);
+    same(rt, "publish and learn", have, (false, false, true));
+}
+
+/// Two devices with one change each, directly under the auctioneer, and under a concentrator.
+const FLAT: &[Node] = &[(0, true, &[true]), (0, true, &[true])];
+
+const GATHERED: &[Node] = &[(0, false, &[]), (1, true, &[true]), (1, true, &[true])];
+
+/// Two devices with two changes each under a concentrator: the first stays a member, and the second leaves.
+const TWO_CHANGES: &[Node] = &[
+    (0, false, &[]),
+    (1, true, &[true, true]),
+    (1, true, &[true, false]),
+];
 
 /// Every journal of two devices with one change each ends complete and within the bound, by a walk over all of them.
 ///
@@ -196,20 +231,10 @@ fn two_windows_hold_eight_numbers_each(rt: HostRuntime) -> Result<(), Fail> {
 /// The bound is changes * (nodes + 15) + phases: 2 * 17 + 1 = 35, and 2 * 18 + 1 = 37 with a concentrator.
 #[test]
 fn every_journal_ends_complete_within_the_bound(rt: HostRuntime) -> Result<(), Fail> {
-    let device: &[bool] = &[true];
-    let flat = [(0, true, device), (0, true, device)];
-    let gathered = [
-        (0, false, [].as_slice()),
-        (1, true, device),
-        (1, true, device),
-    ];
-    same(
-        &rt,
-        "flat",
-        count_journals(rt.alloc(), &flat, 35)?,
-        Some(88),
-    );
-    assert!(rt; count_journals(rt.alloc(), &gathered, 37)?.is_some());
+    let flat = count_journals(rt.alloc(), FLAT, 35)?;
+    same(&rt, "flat", flat, Some(88));
+    let gathered = count_journals(rt.alloc(), GATHERED, 37)?;
+    same(&rt, "gathered", gathered.is_some(), true);
     Ok(())
 }
 
@@ -225,15 +250,8 @@ fn every_journal_ends_complete_within_the_bound(rt: HostRuntime) -> Result<(), F
 fn every_journal_of_four_changes_ends_complete_within_the_bound(
     rt: HostRuntime,
 ) -> Result<(), Fail> {
-    let paths: [&[Move]; 2] = [&ONE_CUT, &FOUR_CUTS];
-    let stays: &[bool] = &[true, true];
-    let leaves: &[bool] = &[true, false];
-    let nodes = [
-        (0, false, [].as_slice()),
-        (1, true, stays),
-        (1, true, leaves),
-    ];
-    let longest = longest_journal(rt.alloc(), &nodes, 73, &paths)?;
+    let paths = [ONE_CUT.as_slice(), FOUR_CUTS.as_slice()];
+    let longest = longest_journal(rt.alloc(), TWO_CHANGES, 73, &paths)?;
     same(&rt, "longest", longest, Some((31, 2)));
     Ok(())
 }

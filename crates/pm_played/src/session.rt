@@ -2,8 +2,9 @@ ghost use Rattle.std.specs.Prelude.{◌≡◌, length, IfOk};
 ghost use Rattle.pm_session.specs.Windows.{Keeps};
 
 use crate::same::same;
+use crate::shared::may_be_shared;
 use pm_bid::{ArrayBid, Steps};
-use pm_session::{BidHead, Link, Port, PriceUpdate, Window};
+use pm_session::{BidHead, Held, Link, Port, PriceUpdate, Record, Window};
 use std::alloc::Global;
 use std::marker::Brand;
 use std::process::Abort;
@@ -102,27 +103,11 @@ fn a_port_drops_the_price_of_a_former_session(rt: HostRuntime) -> Result<(), Fai
     Ok(())
 }
 
-fn may_be_shared<T: Send + Sync>(_value: &T) {}
-
 /// Links, windows, records, ports and prices may be sent to threads and shared by them: it is
 /// proved here.
 #[test]
-fn sessions_may_be_shared(rt: HostRuntime) -> Result<(), Fail> {
-    let alloc = rt.alloc();
-    let price = PriceUpdate {
-        step: 9,
-        number: 1,
-        index: 1,
-    };
-    let mut port = Port::new();
-    port.joined(1);
-    port.price(price);
-    let window = Window::limited(alloc, 1, 2)?;
-    may_be_shared(&price);
-    may_be_shared(&port.held());
-    may_be_shared(&port);
-    may_be_shared(&Link::new(alloc, 2)?);
-    may_be_shared(window.newest());
-    may_be_shared(&window);
-    Ok(())
+fn sessions_may_be_shared() {
+    may_be_shared::<(Link, PriceUpdate)>();
+    may_be_shared::<(Window, Record)>();
+    may_be_shared::<(Port, Held)>();
 }

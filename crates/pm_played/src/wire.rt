@@ -1,24 +1,23 @@
 ghost use Rattle.std.specs.Prelude.{◌≡◌, ◌+◌, ◌≤◌, length};
 
 use crate::same::same;
+use crate::shared::may_be_shared;
 use pm_io::{MemSink, MemSource};
 use pm_wire::{Answer, DecodeFault, Decoder, Frame, Served, Server, serve};
 use std::alloc::Global;
 use std::process::Abort;
 use std::test::Fail;
 
+/// What is served, how the service ends, and what is answered.
+type Wanted<'a> = (&'a str, Served, &'a [u8]);
+
 /// Serves the source, and compares how it ends and what the sink has then.
-fn served_is(
-    rt: &impl Abort,
-    alloc: Global,
-    source: MemSource,
-    sink: MemSink,
-    wanted: (Served, &[u8]),
-) {
+fn served_is(rt: &impl Abort, alloc: Global, source: MemSource, sink: MemSink, wanted: Wanted<'_>) {
     let mut source = source;
     let mut sink = sink;
-    same(rt, "end", serve(alloc, &mut source, &mut sink), wanted.0);
-    same(rt, "answers", sink.bytes(), wanted.1);
+    let (case, due, answers) = wanted;
+    let ended = serve(alloc, &mut source, &mut sink);
+    same(rt, case, (ended, sink.bytes()), (due, answers));
 }
 
 /// Serves the input in pieces of so many bytes, and compares how it ends and what is answered.
@@ -27,7 +26,7 @@ fn serves_in_pieces(
     alloc: Global,
     chunk: usize,
     input: &[u8],
-    wanted: (Served, &[u8]),
+    wanted: Wanted<'_>,
 ) -> Result<(), Fail>
     requires { 1 ≤ chunk }
 {
@@ -38,16 +37,10 @@ fn serves_in_pieces(
 }
 
 /// Serves the input in pieces of 1, 7 and 100 bytes.
-fn serves(
-    rt: &impl Abort,
-    alloc: Global,
-    input: &[u8],
-    ended: Served,
-    answers: &[u8],
-) -> Result<(), Fail> {
-    serves_in_pieces(rt, alloc, 1, input, (ended, answers))?;
-    serves_in_pieces(rt, alloc, 7, input, (ended, answers))?;
-    serves_in_pieces(rt, alloc, 100, input, (ended, answers))
+fn serves(rt: &impl Abort, alloc: Global, input: &[u8], wanted: Wanted<'_>) -> Result<(), Fail> {
+    serves_in_pieces(rt, alloc, 1, input, wanted)?;
+    serves_in_pieces(rt, alloc, 7, input, wanted)?;
+    serves_in_pieces(rt, alloc, 100, input, wanted)
 }
 
 /// Hello of two steps: prices 0 and 9.
@@ -70,43 +63,55 @@ const PRICE: [u8; 13] = [5, 0, 1, 0, 0, 0, 1, 0, 0, 0, 1, 0, 1];
 
 const SECOND: [u8; 13] = [5, 0, 1, 0, 0, 0, 1, 0, 0, 0, 2, 0, 1];
 
-/// A market that is cleared twice without a change between.
-#[test]
-fn a_second_clear_finds_nothing_changed(rt: HostRuntime) -> Result<(), Fail> {
-    let alloc = rt.alloc();
-    let input = input_of(alloc, &[&HELLO, &BID, &[4, 4]])?;
-    let answers = input_of(alloc, &[&PRICE, &[6]])?;
-    serves(&rt, alloc, &input, Served::Done, &answers)
+/// What an input shows, its parts, how the service of it ends, and the parts of the answers.
+type Stream = (
+    &'static str,
+    &'static [&'static [u8]],
+    Served,
+    &'static [&'static [u8]],
+);
+
+const STREAMS: &[Stream] = &[
+    (
+        "a second clearing finds nothing changed",
+        &[&HELLO, &BID, &[4, 4]],
+        Served::Done,
+        &[&PRICE, &[6]],
+    ),
+    (
+        "an end within a frame is refused",
+        &[&HELLO, &[2, 0]],
+        Served::Refused,
+        &[&[8, 0, 0, 0, 0, 0, 0, 0, 11]],
+    ),
+    ("an empty input has no answer", &[], Served::Done, &[]),
+    (
+        "a bid that comes again is old, and a child that is gone gets no price",
+        &[&HELLO, &BID, &BID, &[3, 0, 2, 0, 0, 0, 7, 4]],
+        Served::Done,
+        &[&[7, 0, 1, 0, 0, 0, 1], &PRICE],
+    ),
+    (
+        "a child that goes is a change, also where it moves no sum; a frame of an unknown kind is bad",
+        &[&HELLO, &BID, &[4], &[3, 0, 2, 0, 0, 0, 8], &[4], &[9]],
+        Served::Refused,
+        &[&PRICE, &SECOND, &[8, 0, 0, 0, 0, 0, 0, 0, 35]],
+    ),
+];
+
+fn is_served(rt: &impl Abort, alloc: Global, stream: &Stream) -> Result<(), Fail> {
+    let (name, parts, ended, answers) = *stream;
+    let input = input_of(alloc, parts)?;
+    let answers = input_of(alloc, answers)?;
+    serves(rt, alloc, &input, (name, ended, &answers))
 }
 
-/// An input that ends within a frame, and an empty one.
 #[test]
-fn an_end_within_a_frame_is_refused(rt: HostRuntime) -> Result<(), Fail> {
-    let alloc = rt.alloc();
-    let input = input_of(alloc, &[&HELLO, &[2, 0]])?;
-    let fault = [8, 0, 0, 0, 0, 0, 0, 0, 11];
-    serves(&rt, alloc, &input, Served::Refused, &fault)?;
-    serves(&rt, alloc, &[], Served::Done, &[])
-}
-
-/// A bid that comes again is old, and a child that is gone gets no price.
-#[test]
-fn an_old_bid_is_answered(rt: HostRuntime) -> Result<(), Fail> {
-    let alloc = rt.alloc();
-    let input = input_of(alloc, &[&HELLO, &BID, &BID, &[3, 0, 2, 0, 0, 0, 7, 4]])?;
-    let answers = input_of(alloc, &[&[7, 0, 1, 0, 0, 0, 1], &PRICE])?;
-    serves(&rt, alloc, &input, Served::Done, &answers)
-}
-
-/// A child that goes is a change, also where it moves no sum; behind the prices the frame of an unknown kind is bad.
-#[test]
-fn a_change_without_a_new_sum_is_cleared(rt: HostRuntime) -> Result<(), Fail> {
-    let alloc = rt.alloc();
-    let gone = [3, 0, 2, 0, 0, 0, 8];
-    let input = input_of(alloc, &[&HELLO, &BID, &[4], &gone, &[4], &[9]])?;
-    let fault = [8, 0, 0, 0, 0, 0, 0, 0, 35];
-    let answers = input_of(alloc, &[&PRICE, &SECOND, &fault])?;
-    serves(&rt, alloc, &input, Served::Refused, &answers)
+fn streams_have_their_answers(rt: HostRuntime) -> Result<(), Fail> {
+    for stream in STREAMS {
+        is_served(&rt, rt.alloc(), stream)?;
+    }
+    Ok(())
 }
 
 /// A source that fails at its third call.
@@ -117,7 +122,8 @@ fn a_source_that_fails_ends_the_service(rt: HostRuntime) -> Result<(), Fail> {
     let source = MemSource::new(input, 27, [3].to_vec(alloc)?);
     let sink = MemSink::new(alloc, 100, 100, Vec::new(alloc))?;
     let answers = [5, 0, 1, 0, 0, 0, 1, 0, 0, 0, 1, 0, 1, 6, 6, 6];
-    served_is(&rt, alloc, source, sink, (Served::ReadFault, &answers));
+    let wanted = ("a source that fails", Served::ReadFault, answers.as_slice());
+    served_is(&rt, alloc, source, sink, wanted);
     Ok(())
 }
 
@@ -128,7 +134,8 @@ fn a_sink_that_fails_ends_the_service(rt: HostRuntime) -> Result<(), Fail> {
     let input = input_of(alloc, &[&HELLO, &BID, &[4, 4, 4, 4]])?;
     let source = MemSource::new(input, 27, Vec::new(alloc));
     let sink = MemSink::new(alloc, 100, 100, [2].to_vec(alloc)?)?;
-    served_is(&rt, alloc, source, sink, (Served::WriteFault, &PRICE));
+    let wanted = ("a sink that fails", Served::WriteFault, PRICE.as_slice());
+    served_is(&rt, alloc, source, sink, wanted);
     Ok(())
 }
 
@@ -181,16 +188,9 @@ fn frames_come_in_pieces(rt: HostRuntime) -> Result<(), Fail> {
     frames_are(&rt, &mut decoder)
 }
 
-fn may_be_shared<T: Send + Sync>(_value: &T) {}
-
 /// The types of the crate may be sent to threads and shared by them: it is proved here.
 #[test]
-fn all_may_be_shared(rt: HostRuntime) {
-    let alloc = rt.alloc();
-    may_be_shared(&Frame::Clear);
-    may_be_shared(&Answer::NotChanged);
-    may_be_shared(&Served::Done);
-    may_be_shared(&DecodeFault::NoMemory);
-    may_be_shared(&Decoder::new(alloc));
-    may_be_shared(&Server::new(alloc));
+fn all_may_be_shared() {
+    may_be_shared::<(Frame, Answer, Served, DecodeFault)>();
+    may_be_shared::<(Decoder, Server)>();
 }

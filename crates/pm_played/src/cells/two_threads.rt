@@ -2,11 +2,13 @@ ghost use Rattle.std.specs.Prelude.{◌≡◌, IfOk};
 ghost use Rattle.std.specs.Thread.{IsSync};
 
 use super::gone;
+use crate::same::same;
 use pm_cells::{
-    ChildEnd, FreeLink, ParentEnd, PriceUpdate, close_link, open_link, put_bid, put_price,
+    ChildEnd, FreeLink, LinkLog, ParentEnd, PriceUpdate, close_link, open_link, put_bid, put_price,
     take_bid, take_price,
 };
 use std::alloc::{AllocError, Global};
+use std::process::Abort;
 use std::test::Fail;
 use std::thread::{Threads, join};
 
@@ -101,6 +103,13 @@ fn drive<R: Threads + Sync>(
     )
 }
 
+/// Bids and prices were put, and the last of each was taken.
+fn newest_is_taken(rt: &impl Abort, log: &LinkLog) {
+    assert!(rt; !log.bid_puts.is_empty() && !log.price_puts.is_empty());
+    same(rt, "bid", log.bid_takes.last(), log.bid_puts.last());
+    same(rt, "price", log.price_takes.last(), log.price_puts.last());
+}
+
 /// Whatever the two threads did, what is left on the link is the newest bid and the newest price, and both are taken then. A
 /// thread that was put aside within a call kept the other from the slot, so each end has one more turn when both are back.
 #[test]
@@ -110,9 +119,6 @@ fn a_link_between_two_threads(rt: HostRuntime) -> Result<(), Fail> {
     child_turn(&link, &mut child);
     parent_turn(&link, &mut parent);
     take_waiting(&link, &mut child);
-    let log = close_link(link, child, parent);
-    assert!(rt; !log.bid_puts.is_empty() && !log.price_puts.is_empty());
-    assert_eq!(rt; log.bid_takes.last(), log.bid_puts.last());
-    assert_eq!(rt; log.price_takes.last(), log.price_puts.last());
+    newest_is_taken(&rt, &close_link(link, child, parent));
     Ok(())
 }

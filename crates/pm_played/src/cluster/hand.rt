@@ -82,17 +82,17 @@ pub fn step(cluster: &mut Cluster, node: u32) -> Result<Option<Line>, Fail> {
     Ok(cluster.step(NodeId(node))?)
 }
 
-/// Steps of the lowest node that has one, until none has.
-pub fn rest(cluster: &mut Cluster) -> Result<(), Fail> {
+/// Steps of the lowest node that has one, until none has. False where that node has no move, or some node always has one.
+pub fn rest(cluster: &mut Cluster) -> Result<bool, Fail> {
     for _move in 0..1000u32 {
         let Some(node) = next_node(cluster) else {
-            return Ok(());
+            return Ok(true);
         };
         if step(cluster, node)?.is_none() {
-            return Err(Fail::from("the next node has no move"));
+            return Ok(false);
         }
     }
-    Err(Fail::from("still not idle"))
+    Ok(false)
 }
 
 pub fn close(cluster: &mut Cluster) -> bool {

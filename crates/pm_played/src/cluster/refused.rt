@@ -5,6 +5,7 @@ use super::hand::{
     End, act_at, act_count, changes, close, ends_so, held, line_of, make, next_node, open, rest,
     step,
 };
+use crate::shared::may_be_shared;
 use pm_agent::DeviceAgent;
 use pm_cluster::{ActFault, ApplyFault, ChangeFault, Cluster};
 use pm_device::{DeviceState, Kind, Next};
@@ -117,9 +118,11 @@ fn is_made_once(alloc: Global, cluster: &mut Cluster) -> Result<bool, Fail> {
 
 /// Whether all are refused after the load's change, and leave the cluster as it was.
 fn refuses_all(alloc: Global, cluster: &mut Cluster) -> Result<bool, Fail> {
-    rest(cluster)?;
-    let taken = first_taken(alloc, cluster, &OTHERS, None)?;
-    Ok(taken.is_none() && ends_so(alloc, cluster, ONE_MEMBER)?)
+    Ok(
+        rest(cluster)?
+            && first_taken(alloc, cluster, &OTHERS, None)?.is_none()
+            && ends_so(alloc, cluster, ONE_MEMBER)?,
+    )
 }
 
 fn makes_only_the_next(alloc: Global, cluster: &mut Cluster) -> Result<bool, Fail> {
@@ -221,21 +224,9 @@ fn every_other_act_is_illegal(rt: HostRuntime) -> Result<(), Fail> {
     Ok(())
 }
 
-fn may_be_shared<T: Send + Sync>(_value: &T) {}
-
-fn cluster_may_be_shared(alloc: Global, plan: &Plan) -> Result<(), Fail> {
-    may_be_shared(&open(alloc, plan)?);
-    Ok(())
-}
-
 /// Clusters and faults may be sent to threads and shared by them: it is proved here.
 #[test]
-fn clusters_may_be_shared(rt: HostRuntime) -> Result<(), Fail> {
-    may_be_shared(&(
-        ActFault::Illegal,
-        ApplyFault::NoMemory,
-        ChangeFault::NoMemory,
-    ));
-    let plan = plan_of(rt.alloc(), LONE)?;
-    cluster_may_be_shared(rt.alloc(), &plan)
+fn clusters_may_be_shared() {
+    may_be_shared::<Cluster>();
+    may_be_shared::<(ActFault, ApplyFault, ChangeFault)>();
 }

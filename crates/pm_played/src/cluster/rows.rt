@@ -5,7 +5,7 @@ use super::hand::{End, close, ends_so, held, line_of, make, next_node, rest, ste
 use crate::same::same;
 use pm_bid::Steps;
 use pm_cluster::{ApplyFault, Cluster};
-use pm_market::{Act, Journal};
+use pm_market::{Act, Journal, Line};
 use pm_plan::Plan;
 use std::alloc::Global;
 use std::marker::Brand;
@@ -61,27 +61,36 @@ fn standing(cluster: &Cluster) -> (i64, usize) {
     (cluster.price(), step)
 }
 
+/// Whether an act makes the move of this line, or none where it is illegal.
+fn makes(alloc: Global, cluster: &mut Cluster, act: Act, due: Option<Line>) -> Result<bool, Fail> {
+    Ok(make(alloc, cluster, act)? == due)
+}
+
+/// Whether the lowest node that has a move is this one, and its step makes the move of this line.
+fn steps_so(cluster: &mut Cluster, node: u32, due: Line) -> Result<bool, Fail> {
+    Ok(next_node(cluster) == Some(node) && step(cluster, node)? == Some(due))
+}
+
+/// Whether a device holds this price.
+fn holds(cluster: &Cluster, device: u32, due: Option<(u32, u32, u32)>) -> Result<bool, Fail> {
+    Ok(price_of(cluster, device)? == due)
+}
+
 fn is_right(alloc: Global, cluster: &mut Cluster, row: Row) -> Result<bool, Fail> {
-    Ok(match row {
+    match row {
         Row::Makes(act, number, held) => {
-            make(alloc, cluster, act)? == Some(line_of(act, number, held))
+            makes(alloc, cluster, act, Some(line_of(act, number, held)))
         }
-        Row::Steps(node, act, number, held) => {
-            next_node(cluster) == Some(node)
-                && step(cluster, node)? == Some(line_of(act, number, held))
-        }
-        Row::Illegal(act) => make(alloc, cluster, act)?.is_none(),
-        Row::Next(node) => next_node(cluster) == Some(node),
-        Row::Rest => {
-            rest(cluster)?;
-            true
-        }
-        Row::Holds(device, price) => price_of(cluster, device)? == price,
-        Row::AllHold(first, last, price) => all_hold(cluster, first, last, price)?,
-        Row::Stands(price, step) => standing(cluster) == (price, step),
-        Row::Ends(end) => ends_so(alloc, cluster, end)?,
-        Row::Closes(closes) => close(cluster) == closes,
-    })
+        Row::Steps(node, act, number, held) => steps_so(cluster, node, line_of(act, number, held)),
+        Row::Illegal(act) => makes(alloc, cluster, act, None),
+        Row::Next(node) => Ok(next_node(cluster) == Some(node)),
+        Row::Rest => rest(cluster),
+        Row::Holds(device, price) => holds(cluster, device, price),
+        Row::AllHold(first, last, price) => all_hold(cluster, first, last, price),
+        Row::Stands(price, step) => Ok(standing(cluster) == (price, step)),
+        Row::Ends(end) => ends_so(alloc, cluster, end),
+        Row::Closes(closes) => Ok(close(cluster) == closes),
+    }
 }
 
 /// The place of the first row that is wrong.
@@ -244,9 +253,11 @@ fn rounds(alloc: Global, devices: &[u32]) -> Result<Vec<Act>, Fail> {
     let mut acts = Vec::new(alloc);
     for device in devices {
         let (device, child) = (*device, *device);
-        acts.push(Act::Change { device })?;
-        acts.push(Act::Learn { child })?;
-        acts.push(Act::Publish { node: 1 })?;
+        acts.extend_from_slice(&[
+            Act::Change { device },
+            Act::Learn { child },
+            Act::Publish { node: 1 },
+        ])?;
     }
     Ok(acts)
 }
@@ -305,12 +316,13 @@ fn refused_of_nine(alloc: Global, plan: &Plan) -> Result<Option<usize>, Fail> {
 fn filling(alloc: Global) -> Result<Vec<Act>, Fail> {
     let mut acts = Vec::new(alloc);
     for device in 3..13 {
-        acts.push(Act::Change { device })?;
-        acts.push(Act::Learn { child: device })?;
+        acts.extend_from_slice(&[Act::Change { device }, Act::Learn { child: device }])?;
         if device < 11 {
-            acts.push(Act::Publish { node: 2 })?;
-            acts.push(Act::Learn { child: 2 })?;
-            acts.push(Act::Publish { node: 1 })?;
+            acts.extend_from_slice(&[
+                Act::Publish { node: 2 },
+                Act::Learn { child: 2 },
+                Act::Publish { node: 1 },
+            ])?;
         }
     }
     Ok(acts)

@@ -1,9 +1,11 @@
 use pm_market::{Market, Move};
 use std::alloc::{AllocError, Global};
 
-/// A market of nodes: their parents, whether they are devices, and after which of their changes they are members.
-/// It has one phase of all changes.
-pub fn market_of(alloc: Global, nodes: &[(u32, bool, &[bool])]) -> Result<Market, AllocError> {
+/// A node: its parent, whether it is a device, and after which of its changes it is a member.
+pub type Node<'a> = (u32, bool, &'a [bool]);
+
+/// A market of nodes. It has one phase of all changes.
+pub fn market_of(alloc: Global, nodes: &[Node<'_>]) -> Result<Market, AllocError> {
     let mut parents = Vec::new(alloc);
     let mut leaves = Vec::new(alloc);
     let mut members = Vec::new(alloc);
@@ -30,99 +32,106 @@ pub fn play(market: &mut Market, moves: &[Move]) -> Result<usize, AllocError> {
     Ok(moves.len())
 }
 
-/// A concentrator over so many devices that make nine changes together, and nine rounds of a change, a learning and a
-/// publishing: of one device, else each of another.
-pub fn nine_rounds(alloc: Global, devices: u32) -> Result<(Market, Vec<Move>), AllocError> {
-    let mut nodes: Vec<(u32, bool, &[bool])> = Vec::new(alloc);
-    nodes.push((0, false, &[]))?;
-    for _device in 0..devices {
-        nodes.push((1, true, if devices == 1 { &[true; 9] } else { &[true] }))?;
-    }
+/// Concentrator 1.
+const GATHERS: Node = (0, false, &[]);
+
+/// A device of one change under it.
+const DEVICE: Node = (1, true, &[true]);
+
+/// Concentrator 1 over a device of nine changes.
+pub const ONE_DEVICE: &[Node] = &[GATHERS, (1, true, &[true; 9])];
+
+/// Concentrator 1 over nine devices of one change each.
+pub const NINE_DEVICES: &[Node] = &[
+    GATHERS, DEVICE, DEVICE, DEVICE, DEVICE, DEVICE, DEVICE, DEVICE, DEVICE, DEVICE,
+];
+
+/// Nine rounds of a change, a learning and a publishing: of the one device, else each of another.
+pub fn nine_rounds(alloc: Global, devices: u32) -> Result<Vec<Move>, AllocError> {
     let mut moves = Vec::new(alloc);
     for round in 1..10 {
         let device = if devices == 1 { 2 } else { round + 1 };
         let number = if devices == 1 { round } else { 1 };
-        moves.push(Move::Change { device, number })?;
-        moves.push(Move::Learn {
-            child: device,
-            number,
-        })?;
-        moves.push(Move::Publish {
-            node: 1,
-            number: round,
-        })?;
+        let (child, node) = (device, 1);
+        moves.extend_from_slice(&[
+            Move::Change { device, number },
+            Move::Learn { child, number },
+            Move::Publish {
+                node,
+                number: round,
+            },
+        ])?;
     }
-    Ok((market_of(alloc, &nodes)?, moves))
+    Ok(moves)
 }
 
-/// Concentrator 1, concentrator 2 under it, devices 3 to 11 under 2 and device 12 under 1, each with one change; and
-/// the moves that fill both windows.
-pub fn two_levels(alloc: Global) -> Result<(Market, Vec<Move>), AllocError> {
-    let mut nodes: Vec<(u32, bool, &[bool])> = Vec::new(alloc);
-    nodes.push((0, false, &[]))?;
-    nodes.push((1, false, &[]))?;
-    for device in 3..13 {
-        nodes.push((if device < 12 { 2 } else { 1 }, true, &[true]))?;
-    }
+/// A device of one change under concentrator 2.
+const LOWER: Node = (2, true, &[true]);
+
+/// Concentrator 1, concentrator 2 under it, devices 3 to 11 under 2 and device 12 under 1, each with one change.
+pub const TWO_LEVELS: &[Node] = &[
+    GATHERS,
+    (1, false, &[]),
+    LOWER,
+    LOWER,
+    LOWER,
+    LOWER,
+    LOWER,
+    LOWER,
+    LOWER,
+    LOWER,
+    LOWER,
+    DEVICE,
+];
+
+/// The moves that fill both windows there.
+pub fn two_windows(alloc: Global) -> Result<Vec<Move>, AllocError> {
     let mut moves = Vec::new(alloc);
     for device in 3..13 {
-        moves.push(Move::Change { device, number: 1 })?;
-        moves.push(Move::Learn {
-            child: device,
-            number: 1,
-        })?;
+        let (child, number) = (device, 1);
+        moves.extend_from_slice(&[
+            Move::Change { device, number },
+            Move::Learn { child, number },
+        ])?;
         if device < 11 {
-            moves.push(Move::Publish {
-                node: 2,
-                number: device - 2,
-            })?;
-            moves.push(Move::Learn {
-                child: 2,
-                number: device - 2,
-            })?;
-            moves.push(Move::Publish {
-                node: 1,
-                number: device - 2,
-            })?;
+            let (child, number) = (2, device - 2);
+            moves.extend_from_slice(&[
+                Move::Publish { node: 2, number },
+                Move::Learn { child, number },
+                Move::Publish { node: 1, number },
+            ])?;
         }
     }
-    Ok((market_of(alloc, &nodes)?, moves))
+    Ok(moves)
 }
 
-/// The moves that a journal of two devices with one change each may have: nodes 1 to 3, numbers 1 and 2.
-fn candidate(at: usize) -> Option<Move> {
+/// The greatest number that a candidate has.
+const GREATEST: usize = 5;
+
+/// How many candidates there are: five forms of three nodes each, under each number.
+pub const CANDIDATES: usize = 15 * GREATEST;
+
+/// Every move of nodes 1 to 3, the auctioneer's and every closing, under each number up to the greatest.
+pub fn candidate(at: usize) -> Move {
     let node = (at % 3) as u32 + 1;
-    let number = (at / 3 % 2) as u32 + 1;
-    match at / 6 {
-        0 => Some(Move::Change {
-            device: node,
-            number,
-        }),
-        1 => Some(Move::Learn {
-            child: node,
-            number,
-        }),
-        2 => Some(Move::Publish { node, number }),
-        3 => Some(Move::Pass {
-            node,
-            index: number,
-        }),
-        4 => match node {
-            1 => Some(Move::Clear { index: number }),
-            2 => Some(Move::Close { phase: number }),
-            _ => Some(Move::Close { phase: 0 }),
-        },
-        _ => None,
+    let number = (at / 3 % GREATEST) as u32 + 1;
+    let (device, child, index, phase) = (node, node, number, number);
+    match (at / (3 * GREATEST), node) {
+        (0, _) => Move::Change { device, number },
+        (1, _) => Move::Learn { child, number },
+        (2, _) => Move::Publish { node, number },
+        (3, _) => Move::Pass { node, index },
+        (_, 1) => Move::Clear { index },
+        (_, 2) => Move::Close { phase },
+        _ => Move::Close { phase: 0 },
     }
 }
 
 /// The first candidate, at this place or after it, that is legal.
 fn first_legal(market: &Market, from: usize) -> Option<Move> {
-    for at in from..30 {
-        if let Some(what) = candidate(at) {
-            if market.is_legal(what) {
-                return Some(what);
-            }
+    for at in from..CANDIDATES {
+        if market.is_legal(candidate(at)) {
+            return Some(candidate(at));
         }
     }
     None
@@ -131,8 +140,8 @@ fn first_legal(market: &Market, from: usize) -> Option<Move> {
 /// Takes the last move off, and says the place after its candidate's.
 fn leave_one(path: &mut Vec<Move>) -> Option<usize> {
     let last = path.pop()?;
-    for at in 0..30usize {
-        if candidate(at) == Some(last) {
+    for at in 0..CANDIDATES {
+        if candidate(at) == last {
             return Some(at + 1);
         }
     }
@@ -143,7 +152,7 @@ fn leave_one(path: &mut Vec<Move>) -> Option<usize> {
 /// them is not complete, or is longer than the bound.
 pub fn count_journals(
     alloc: Global,
-    nodes: &[(u32, bool, &[bool])],
+    nodes: &[Node<'_>],
     bound: usize,
 ) -> Result<Option<usize>, AllocError> {
     let mut path = Vec::new(alloc);

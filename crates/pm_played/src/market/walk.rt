@@ -1,10 +1,10 @@
-use super::plays::{market_of, play};
+use super::plays::{CANDIDATES, Node, candidate, market_of, play};
 use pm_market::{Market, Move};
 use std::alloc::{AllocError, Global};
 use std::collections::BTreeMap;
 
 /// The greatest number that four changes can bring about of a node: a cut that is published or cleared contains at
-/// least one change more than the one before it.
+/// least one change more than the one before it. The candidates go up to the number above it.
 const GREATEST: u32 = 4;
 
 /// The row of the newest number of each node. The tables of a state are rows with a place for each number from 0 to
@@ -86,31 +86,12 @@ fn tables_of(alloc: Global, path: &[Move]) -> Result<Vec<u32>, AllocError> {
     Ok(tables)
 }
 
-/// Every move of nodes 1 to 3, the auctioneer's and every closing, under each number up to the one above the greatest.
-fn candidates(alloc: Global) -> Result<Vec<Move>, AllocError> {
-    let mut moves = Vec::new(alloc);
-    for number in 1..=GREATEST + 1 {
-        moves.push(Move::Clear { index: number })?;
-        moves.push(Move::Close { phase: number })?;
-        for node in 1..4 {
-            let device = node;
-            let child = node;
-            let index = number;
-            moves.push(Move::Change { device, number })?;
-            moves.push(Move::Learn { child, number })?;
-            moves.push(Move::Publish { node, number })?;
-            moves.push(Move::Pass { node, index })?;
-        }
-    }
-    Ok(moves)
-}
-
-/// Those of the moves that are legal.
-fn legal_among(alloc: Global, market: &Market, moves: &[Move]) -> Result<Vec<Move>, AllocError> {
+/// The candidates that are legal.
+fn legal_moves(alloc: Global, market: &Market) -> Result<Vec<Move>, AllocError> {
     let mut legal = Vec::new(alloc);
-    for what in moves {
-        if market.is_legal(*what) {
-            legal.push(*what)?;
+    for at in 0..CANDIDATES {
+        if market.is_legal(candidate(at)) {
+            legal.push(candidate(at))?;
         }
     }
     Ok(legal)
@@ -137,17 +118,16 @@ fn are_sound(legal: &[Move]) -> bool {
     true
 }
 
-/// Those of the candidates that are legal after the moves of a path. None where a move of the path is not legal, they
+/// The candidates that are legal after the moves of a path. None where a move of the path is not legal, they
 /// are not as `are_sound` says, no move is legal in a state that is not complete, or some move is in a complete one.
 fn moves_after(
     alloc: Global,
-    nodes: &[(u32, bool, &[bool])],
-    candidates: &[Move],
+    nodes: &[Node<'_>],
     path: &[Move],
 ) -> Result<Option<Vec<Move>>, AllocError> {
     let mut market = market_of(alloc, nodes)?;
     let made = play(&mut market, path)?;
-    let legal = legal_among(alloc, &market, candidates)?;
+    let legal = legal_moves(alloc, &market)?;
     let is_sound = made == path.len()
         && are_sound(&legal)
         && legal.is_empty() == market.is_complete();
@@ -172,13 +152,12 @@ fn add_next(
 /// The states to which one more move leads; none where `moves_after` has none of a state of this level.
 fn next_level(
     alloc: Global,
-    nodes: &[(u32, bool, &[bool])],
-    candidates: &[Move],
+    nodes: &[Node<'_>],
     level: Level,
 ) -> Result<Option<Level>, AllocError> {
     let mut next = BTreeMap::new(alloc);
     for path in level.into_values() {
-        match moves_after(alloc, nodes, candidates, &path)? {
+        match moves_after(alloc, nodes, &path)? {
             Some(legal) => add_next(alloc, &mut next, &path, &legal)?,
             None => return Ok(None),
         }
@@ -212,17 +191,16 @@ fn count_met(
 /// where `moves_after` has none of a state, or a journal has more moves than the bound.
 pub fn longest_journal(
     alloc: Global,
-    nodes: &[(u32, bool, &[bool])],
+    nodes: &[Node<'_>],
     bound: usize,
     paths: &[&[Move]],
 ) -> Result<Option<(usize, usize)>, AllocError> {
-    let moves = candidates(alloc)?;
     let mut level = BTreeMap::new(alloc);
     level.insert(tables_of(alloc, &[])?, Vec::new(alloc))?;
     let mut met = 0usize;
     for made in 0..=bound {
         met = met.saturating_add(count_met(alloc, &level, made, paths)?);
-        match next_level(alloc, nodes, &moves, level)? {
+        match next_level(alloc, nodes, level)? {
             Some(next) if next.is_empty() => return Ok(Some((made, met))),
             Some(next) => level = next,
             None => return Ok(None),
