@@ -114,29 +114,34 @@ fn streams_have_their_answers(rt: HostRuntime) -> Result<(), Fail> {
     Ok(())
 }
 
-/// A source that fails at its third call.
-#[test]
-fn a_source_that_fails_ends_the_service(rt: HostRuntime) -> Result<(), Fail> {
-    let alloc = rt.alloc();
+/// Serves four clearings of one bid, where the reads and the writes of these numbers fail.
+fn serves_with_faults(
+    rt: &impl Abort,
+    alloc: Global,
+    bad_reads: &[u64],
+    bad_writes: &[u64],
+    wanted: Wanted<'_>,
+) -> Result<(), Fail> {
     let input = input_of(alloc, &[&HELLO, &BID, &[4, 4, 4, 4]])?;
-    let source = MemSource::new(input, 27, [3].to_vec(alloc)?);
-    let sink = MemSink::new(alloc, 100, 100, Vec::new(alloc))?;
-    let answers = [5, 0, 1, 0, 0, 0, 1, 0, 0, 0, 1, 0, 1, 6, 6, 6];
-    let wanted = ("a source that fails", Served::ReadFault, answers.as_slice());
-    served_is(&rt, alloc, source, sink, wanted);
+    let source = MemSource::new(input, 27, bad_reads.to_vec(alloc)?);
+    let sink = MemSink::new(alloc, 100, 100, bad_writes.to_vec(alloc)?)?;
+    served_is(rt, alloc, source, sink, wanted);
     Ok(())
 }
 
-/// A sink that fails at its second call.
+/// What is answered before the third read: the price, and that nothing changed since.
+const BEFORE_THE_THIRD: &[u8] = &[5, 0, 1, 0, 0, 0, 1, 0, 0, 0, 1, 0, 1, 6, 6, 6];
+
+#[test]
+fn a_source_that_fails_ends_the_service(rt: HostRuntime) -> Result<(), Fail> {
+    let wanted = ("the third read", Served::ReadFault, BEFORE_THE_THIRD);
+    serves_with_faults(&rt, rt.alloc(), &[3], &[], wanted)
+}
+
 #[test]
 fn a_sink_that_fails_ends_the_service(rt: HostRuntime) -> Result<(), Fail> {
-    let alloc = rt.alloc();
-    let input = input_of(alloc, &[&HELLO, &BID, &[4, 4, 4, 4]])?;
-    let source = MemSource::new(input, 27, Vec::new(alloc));
-    let sink = MemSink::new(alloc, 100, 100, [2].to_vec(alloc)?)?;
-    let wanted = ("a sink that fails", Served::WriteFault, PRICE.as_slice());
-    served_is(&rt, alloc, source, sink, wanted);
-    Ok(())
+    let wanted = ("the second write", Served::WriteFault, PRICE.as_slice());
+    serves_with_faults(&rt, rt.alloc(), &[], &[2], wanted)
 }
 
 /// The kind of a frame, with the child and the number of a bid.

@@ -86,7 +86,7 @@ fn first_wrong_of(
     Ok(None)
 }
 
-const ORDERS: [Order; 3] = [Order::LowestFirst, Order::HighestFirst, Order::RoundRobin];
+const ORDERS: &[Order] = &[Order::LowestFirst, Order::HighestFirst, Order::RoundRobin];
 
 /// The two loads rest from step 6 on; the device would take 300 watts where the whole balances; it would deliver 150 there.
 const PARTS: [(&str, End); 3] = [
@@ -125,8 +125,8 @@ fn ends_are<R: Abort>(
     ends: &[End],
 ) -> Result<(), Fail> {
     for order in ORDERS {
-        let wrong = first_wrong(alloc, plan, order, ends)?;
-        same(rt, (part, order), wrong, None);
+        let wrong = first_wrong(alloc, plan, *order, ends)?;
+        same(rt, (part, *order), wrong, None);
     }
     Ok(())
 }
