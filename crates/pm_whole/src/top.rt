@@ -1,7 +1,7 @@
 use pm_io::{MemSink, MemSource};
-use pm_runner::OpenGate;
+use pm_runner::{Gate, OpenGate};
 use pm_top::{Status, market};
-use std::alloc::Global;
+use std::alloc::{AllocError, Global};
 use std::process::Abort;
 use std::sync::Wait;
 use std::test::Fail;
@@ -35,26 +35,42 @@ const PRICE: &str = "\x05\0\x01\0\0\0\x01\0\0\0\x01\0\x01";
 /// The fault of a first frame.
 const FAULT: &str = "\x08\0\0\0\0\0\0\0\0";
 
-/// What a call answers, and what the sink holds afterwards. Reads give at most 100 bytes and writes
-/// take at most 50; the calls of these numbers fail.
-fn ran<R: Threads + Wait + Sync>(
-    rt: &R,
-    alloc: Global,
-    line: &str,
-    input: &str,
-    bad_read: u64,
-    bad_write: u64,
-) -> Result<(Status, String), Fail> {
+/// The words of a line, as arguments.
+fn arguments_of(alloc: Global, line: &str) -> Result<Vec<String>, AllocError> {
     let mut arguments = Vec::new(alloc);
     for argument in line.split_whitespace() {
         arguments.push(String::from_str(alloc, argument)?)?;
     }
-    let input = input.as_bytes().to_vec(alloc)?;
-    let mut source = MemSource::new(input, 100, Vec::from_array(alloc, [bad_read])?);
-    let mut sink = MemSink::new(alloc, 1_048_576, 50, Vec::from_array(alloc, [bad_write])?)?;
-    let status = market(rt, alloc, &arguments, &mut source, &mut sink, &OpenGate);
-    let text = String::from_utf8(sink.bytes().to_vec(alloc)?)?;
-    Ok((status, text))
+    Ok(arguments)
+}
+
+/// A source of this text, whose reads give at most 100 bytes; the read of this number fails.
+fn source_of(alloc: Global, text: &str, bad_read: u64) -> Result<MemSource, AllocError> {
+    let bytes = text.as_bytes().to_vec(alloc)?;
+    let fails = Vec::from_array(alloc, [bad_read])?;
+    Ok(MemSource::new(bytes, 100, fails))
+}
+
+/// A sink whose writes take at most 50 bytes; the write of this number fails.
+fn sink_of(alloc: Global, bad_write: u64) -> Result<MemSink, AllocError> {
+    MemSink::new(alloc, 1_048_576, 50, Vec::from_array(alloc, [bad_write])?)
+}
+
+/// What a call answers under a gate, and what the sink holds afterwards. The read and the write of the numbers in `bad` fail,
+/// where 0 stands for none.
+fn ran<R: Threads + Wait + Sync, G: Gate>(
+    rt: &R,
+    alloc: Global,
+    line: &str,
+    input: &str,
+    bad: (u64, u64),
+    gate: &G,
+) -> Result<(Status, Vec<u8>), Fail> {
+    let arguments = arguments_of(alloc, line)?;
+    let mut source = source_of(alloc, input, bad.0)?;
+    let mut sink = sink_of(alloc, bad.1)?;
+    let status = market(rt, alloc, &arguments, &mut source, &mut sink, gate);
+    Ok((status, sink.bytes().to_vec(alloc)?))
 }
 
 /// A call: its arguments, its input, the read and the write that fail, where 0 stands for none; and what it answers and writes.
@@ -62,7 +78,7 @@ type Row = (&'static str, &'static str, u64, u64, Status, &'static str);
 
 /// A fault of the source or the sink at each of their calls. The file has 326 bytes, so a run without faults reads five times;
 /// its text has 124 bytes, so it writes three times. A service of the stream reads twice and writes once.
-const ROWS: [Row; 23] = [
+const ROWS: &[Row] = &[
     ("run", TWO_BIDS, 0, 0, Status::Done, TWO_BIDS_TEXT),
     ("run", TWO_BIDS, 1, 0, Status::ReadFault, ""),
     ("run", TWO_BIDS, 2, 0, Status::ReadFault, ""),
@@ -95,19 +111,13 @@ fn must_answer<R: Threads + Wait + Sync + Abort>(
     row: &Row,
 ) -> Result<(), Fail> {
     let (line, input, bad_read, bad_write, status, text) = *row;
-    let ended = ran(rt, alloc, line, input, bad_read, bad_write)?;
+    let bad = (bad_read, bad_write);
+    let (answer, written) = ran(rt, alloc, line, input, bad, &OpenGate)?;
+    let is_begun = text.as_bytes().starts_with(&written);
+    let is_whole = written.len() == text.len();
     assert_eq!(rt;
-        ended.0,
-        status,
-        "at {line}, read {bad_read}, write {bad_write}"
-    );
-    assert!(rt;
-        text.starts_with(ended.1.as_str()),
-        "at {line}, read {bad_read}, write {bad_write}"
-    );
-    assert_eq!(rt;
-        ended.1.len() == text.len(),
-        status != Status::WriteFault,
+        (answer, is_begun, is_whole),
+        (status, true, status != Status::WriteFault),
         "at {line}, read {bad_read}, write {bad_write}"
     );
     Ok(())
@@ -115,7 +125,7 @@ fn must_answer<R: Threads + Wait + Sync + Abort>(
 
 #[test]
 fn each_fault_has_its_answer(rt: HostRuntime) -> Result<(), Fail> {
-    for row in ROWS.iter() {
+    for row in ROWS {
         must_answer(&rt, rt.alloc(), row)?;
     }
     Ok(())

@@ -133,14 +133,24 @@ fn count_alike(alloc: Global, size: u32, number: u32) -> Result<usize, Fail> {
     count_right(alloc, &plan, &ends, &mut draws)
 }
 
-/// A demo cluster has 21 phases.
+/// Sizes and numbers of demo clusters, each of which has 21 phases.
+const DEMOS: &[(u32, u32)] = &[
+    (1, 0),
+    (1, 7),
+    (1, 65535),
+    (7, 0),
+    (7, 7),
+    (7, 65535),
+    (40, 0),
+    (40, 7),
+    (40, 65535),
+];
+
 #[test]
 fn drawn_acts_come_to_the_plain_ends(rt: HostRuntime) -> Result<(), Fail> {
-    for size in [1, 7, 40] {
-        for number in [0, 7, 65535] {
-            let alike = count_alike(rt.alloc(), size, number)?;
-            assert_eq!(rt; alike, 21, "size {size}, number {number}");
-        }
+    for (size, number) in DEMOS {
+        let alike = count_alike(rt.alloc(), *size, *number)?;
+        assert_eq!(rt; alike, 21, "size {size}, number {number}");
     }
     Ok(())
 }

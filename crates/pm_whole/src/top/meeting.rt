@@ -1,11 +1,12 @@
 //! A gate under which two threads meet, and what is told to it.
 
+use super::ran;
 use pm_gates::{MeetingGate, Moment, TellingGate};
-use pm_io::{MemSink, MemSource};
 use pm_market::{Line, Move};
-use pm_runner::Gate;
-use pm_top::{Status, market};
+use pm_top::Status;
 use std::alloc::Global;
+use std::process::Abort;
+use std::str::from_utf8;
 use std::sync::Wait;
 use std::test::Fail;
 use std::thread::Threads;
@@ -25,44 +26,18 @@ fn name(node: u32) -> &'static str {
 
 /// The line that a trace has of a move of the two manual bids, whose prices are their steps.
 fn trace_line(alloc: Global, line: Line) -> Result<String, Fail> {
-    let text = match (line.what, line.held) {
-        (Move::Change { device, number }, _) => {
-            let device = name(device);
-            format!(in alloc; "change {device} {number}")?
-        }
-        (Move::Learn { child, number }, _) => {
-            let child = name(child);
-            format!(in alloc; "learn auctioneer {child} {number}")?
-        }
-        (Move::Clear { index }, _) => format!(in alloc; "clear {index}")?,
-        (Move::Pass { node, index }, Some((step, number))) => {
-            let node = name(node);
-            format!(in alloc; "pass {node} {index} price {step} bid {number}")?
-        }
-        (Move::Close { phase }, _) => format!(in alloc; "close {phase}")?,
-        _ => format!(in alloc; "another move")?,
+    let (head, name, number) = match line.what {
+        Move::Change { device, number } => ("change ", name(device), number),
+        Move::Learn { child, number } => ("learn auctioneer ", name(child), number),
+        Move::Publish { node, number } => ("publish ", name(node), number),
+        Move::Clear { index } => ("clear", "", index),
+        Move::Pass { node, index } => ("pass ", name(node), index),
+        Move::Close { phase } => ("close", "", phase),
     };
-    Ok(text)
-}
-
-/// What a call answers under a gate, and what the sink then holds.
-pub(super) fn ran<R: Threads + Wait + Sync, G: Gate>(
-    rt: &R,
-    alloc: Global,
-    line: &str,
-    input: &str,
-    gate: &G,
-) -> Result<(Status, String), Fail> {
-    let mut arguments = Vec::new(alloc);
-    for argument in line.split_whitespace() {
-        arguments.push(String::from_str(alloc, argument)?)?;
+    match line.held {
+        Some((step, bid)) => Ok(format!(in alloc; "{head}{name} {number} price {step} bid {bid}")?),
+        None => Ok(format!(in alloc; "{head}{name} {number}")?),
     }
-    let input = input.as_bytes().to_vec(alloc)?;
-    let mut source = MemSource::new(input, 100, Vec::new(alloc));
-    let mut sink = MemSink::new(alloc, 1_048_576, 50, Vec::new(alloc))?;
-    let status = market(rt, alloc, &arguments, &mut source, &mut sink, gate);
-    let text = String::from_utf8(sink.bytes().to_vec(alloc)?)?;
-    Ok((status, text))
 }
 
 /// Whether the lines behind a report are those that were told, each once.
@@ -106,26 +81,52 @@ fn status_of(line: &str) -> Status {
     }
 }
 
+/// The commands that run a cluster.
+const COMMANDS: &[&str] = &["run", "trace", "demo 2 7", "check", "bill", "ask", "free"];
+
+/// The moment at which the nodes of a command meet: under `free` no move is told with a line.
+fn moment_of(line: &str) -> Moment {
+    match line {
+        "free" => Moment::Turn,
+        _ => Moment::Line,
+    }
+}
+
+/// The moves of a trace are the lines that were told.
+fn must_be_told(rt: &impl Abort, alloc: Global, trace: &[u8], told: &[Line]) -> Result<(), Fail> {
+    let text = from_utf8(trace)?;
+    let moves = text.strip_prefix(super::TWO_BIDS_TEXT).ok_or("no report")?;
+    assert!(rt; are_told(alloc, moves, told)?);
+    Ok(())
+}
+
+/// The two nodes meet under this command.
+fn must_meet<R: Threads + Wait + Sync + Abort>(
+    rt: &R,
+    alloc: Global,
+    line: &str,
+) -> Result<(), Fail> {
+    let input = input_of(alloc, line)?;
+    let meeting = MeetingGate::new((1, 2), moment_of(line), LOOKS);
+    let gate = TellingGate::new(rt, alloc, meeting);
+    let (status, text) = ran(rt, alloc, line, &input, (0, 0), &gate)?;
+    assert_eq!(rt;
+        (status, gate.gate().met()),
+        (status_of(line), 2),
+        "at {line}"
+    );
+    let told = gate.into_lines();
+    if line == "trace" {
+        must_be_told(rt, alloc, &text, &told)?;
+    }
+    Ok(())
+}
+
 /// Under each command that runs a cluster the two nodes meet, and the moves that a trace prints are those that were told.
 #[test]
 fn two_nodes_meet(rt: HostRuntime) -> Result<(), Fail> {
-    for line in ["run", "trace", "demo 2 7", "check", "bill", "ask", "free"] {
-        let moment = if line == "free" {
-            Moment::Turn
-        } else {
-            Moment::Line
-        };
-        let meeting = MeetingGate::new((1, 2), moment, LOOKS);
-        let gate = TellingGate::new(&rt, rt.alloc(), meeting);
-        let input = input_of(rt.alloc(), line)?;
-        let (status, text) = ran(&rt, rt.alloc(), line, &input, &gate)?;
-        assert_eq!(rt; status, status_of(line), "at {line}");
-        assert_eq!(rt; gate.gate().met(), 2, "at {line}");
-        if line == "trace" {
-            let told = gate.into_lines();
-            let moves = text.strip_prefix(super::TWO_BIDS_TEXT).ok_or("no report")?;
-            assert!(rt; are_told(rt.alloc(), moves, &told)?);
-        }
+    for line in COMMANDS {
+        must_meet(&rt, rt.alloc(), *line)?;
     }
     Ok(())
 }

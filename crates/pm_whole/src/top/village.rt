@@ -1,10 +1,15 @@
 //! A village under gates that hold some of its nodes back.
 
-use super::meeting::{LOOKS, ran};
+use super::meeting::LOOKS;
+use super::ran;
 use pm_gates::{HoldingGate, MeetingGate, Moment};
-use pm_runner::OpenGate;
+use pm_runner::{Gate, OpenGate};
 use pm_top::Status;
+use std::alloc::Global;
+use std::process::Abort;
+use std::sync::Wait;
 use std::test::Fail;
+use std::thread::Threads;
 
 /// Eight devices of all kinds below two concentrators, over five phases.
 const VILLAGE: &str = r#"{"version":1,"basis":{"min":0,"max":99,"steps":100},
@@ -79,25 +84,40 @@ const LOAD1: Yields = [0, 0, 0, 0, 0, 0, 0, 0, 1000, 0, 0];
 
 const BOTH_CONCENTRATORS: Yields = [0, 1000, 1000, 0, 0, 0, 0, 0, 0, 0, 0];
 
+/// The village has its text under this gate.
+fn must_run<R: Threads + Wait + Sync + Abort, G: Gate>(
+    rt: &R,
+    alloc: Global,
+    gate: &G,
+) -> Result<(), Fail> {
+    let (status, text) = ran(rt, alloc, "run", VILLAGE, (0, 0), gate)?;
+    let due = (Status::Done, VILLAGE_TEXT.as_bytes());
+    assert_eq!(rt; (status, text.as_slice()), due);
+    Ok(())
+}
+
+fn must_run_slowly<R: Threads + Wait + Sync + Abort>(
+    rt: &R,
+    alloc: Global,
+    yields: Yields,
+) -> Result<(), Fail> {
+    let gate = HoldingGate::new(Vec::from_array(alloc, yields)?);
+    must_run(rt, alloc, &gate)
+}
+
 /// Whichever nodes are slow, the text is the same.
 #[test]
 fn slow_nodes_change_no_text(rt: HostRuntime) -> Result<(), Fail> {
-    for yields in [EVEN, LOAD1, BOTH_CONCENTRATORS] {
-        let gate = HoldingGate::new(Vec::from_array(rt.alloc(), yields)?);
-        let (status, text) = ran(&rt, rt.alloc(), "run", VILLAGE, &gate)?;
-        assert_eq!(rt; (status, text.as_str()), (Status::Done, VILLAGE_TEXT));
-    }
-    Ok(())
+    must_run_slowly(&rt, rt.alloc(), EVEN)?;
+    must_run_slowly(&rt, rt.alloc(), LOAD1)?;
+    must_run_slowly(&rt, rt.alloc(), BOTH_CONCENTRATORS)
 }
 
 /// The lower concentrator and a device beside it meet, and the text is that of a run that nothing holds back.
 #[test]
 fn a_concentrator_and_a_device_meet(rt: HostRuntime) -> Result<(), Fail> {
     let gate = MeetingGate::new((2, 6), Moment::Line, LOOKS);
-    let (status, text) = ran(&rt, rt.alloc(), "run", VILLAGE, &gate)?;
-    assert_eq!(rt; (status, text.as_str()), (Status::Done, VILLAGE_TEXT));
+    must_run(&rt, rt.alloc(), &gate)?;
     assert_eq!(rt; gate.met(), 2);
-    let open = ran(&rt, rt.alloc(), "run", VILLAGE, &OpenGate)?;
-    assert_eq!(rt; (open.0, open.1.as_str()), (Status::Done, VILLAGE_TEXT));
-    Ok(())
+    must_run(&rt, rt.alloc(), &OpenGate)
 }
