@@ -1,4 +1,4 @@
-//! Clusters that are driven by scripts of acts, by acts in several orders, and by what they have to refuse.
+//! Clusters that are driven by scripts of acts, by acts in several orders, by drawn ones, and by what they have to refuse.
 
 /// The members of an end: node, power in watts and number of the bid of each.
 macro_rules! members {
@@ -14,6 +14,7 @@ macro_rules! limited {
     };
 }
 
+mod drawn;
 mod files;
 mod hand;
 mod orders;

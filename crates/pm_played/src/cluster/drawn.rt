@@ -1,6 +1,7 @@
 //! Clusters that are driven by drawn acts, against the plain program.
 
-use pm_cluster::{ActFault, Cluster};
+use super::hand::{act_at, act_count, make, open};
+use pm_cluster::Cluster;
 use pm_gen::make_plan;
 use pm_market::Act;
 use pm_plan::{PhaseEnd, Plan};
@@ -25,38 +26,11 @@ impl Draws {
     }
 }
 
-/// How many acts a cluster has: five of each node.
-fn act_count(cluster: &Cluster) -> u32 {
-    let nodes = cluster.plan().tree().len().saturating_add(1);
-    nodes.saturating_mul(5)
-}
-
-/// The act in a place, counted from 0, but for the closing of a phase.
-fn act_at(place: u32) -> Act {
-    let node = place / 5;
-    match place % 5 {
-        0 => Act::Change { device: node },
-        1 => Act::Learn { child: node },
-        2 => Act::Publish { node },
-        3 => Act::Pass { node },
-        _ => Act::Clear,
-    }
-}
-
-/// Makes an act, where it is legal; whether it is.
-fn is_made(alloc: Global, cluster: &mut Cluster, act: Act) -> Result<bool, Fail> {
-    match cluster.act(alloc, act) {
-        Ok(_) => Ok(true),
-        Err(ActFault::Illegal) => Ok(false),
-        Err(ActFault::NoMemory) => Err(Fail::from("no memory")),
-    }
-}
-
 /// Makes the first of many drawn acts that is legal; whether one was.
 fn make_drawn(alloc: Global, cluster: &mut Cluster, draws: &mut Draws) -> Result<bool, Fail> {
     let many = act_count(cluster);
     for _try in 0..many {
-        if is_made(alloc, cluster, act_at(draws.below(many)))? {
+        if make(alloc, cluster, act_at(draws.below(many)))?.is_some() {
             return Ok(true);
         }
     }
@@ -66,7 +40,7 @@ fn make_drawn(alloc: Global, cluster: &mut Cluster, draws: &mut Draws) -> Result
 /// Makes the first of all acts that is legal; whether one was.
 fn make_any(alloc: Global, cluster: &mut Cluster) -> Result<bool, Fail> {
     for place in 0..act_count(cluster) {
-        if is_made(alloc, cluster, act_at(place))? {
+        if make(alloc, cluster, act_at(place))?.is_some() {
             return Ok(true);
         }
     }
@@ -92,7 +66,7 @@ fn are_alike(one: &PhaseEnd, other: &PhaseEnd) -> bool {
 }
 
 /// Whether the cluster is idle and its end is this.
-fn ends_so(alloc: Global, cluster: &Cluster, due: &PhaseEnd) -> Result<bool, Fail> {
+fn rests_at(alloc: Global, cluster: &Cluster, due: &PhaseEnd) -> Result<bool, Fail> {
     if !cluster.idle() {
         return Ok(false);
     }
@@ -106,7 +80,7 @@ fn count_right(
     ends: &[PhaseEnd],
     draws: &mut Draws,
 ) -> Result<usize, Fail> {
-    let mut cluster = Cluster::open(alloc, plan)?;
+    let mut cluster = open(alloc, plan)?;
     count_on(alloc, &mut cluster, ends, draws)
 }
 
@@ -118,7 +92,7 @@ fn count_on(
 ) -> Result<usize, Fail> {
     for (place, due) in ends.iter().enumerate() {
         settle(alloc, cluster, draws)?;
-        if !ends_so(alloc, cluster, due)? || !is_made(alloc, cluster, Act::Close)? {
+        if !rests_at(alloc, cluster, due)? || make(alloc, cluster, Act::Close)?.is_none() {
             return Ok(place);
         }
     }
