@@ -40,7 +40,7 @@ pub fn check(alloc: Global, plan: &Plan, report: &[u8], trace: &[u8]) -> Result<
 }
 
 /// What stands behind the report in a trace.
-#[derive(Clone, Copy, Debug)]
+#[derive(Clone, Copy)]
 struct Reported<'a> {
     /// How many lines the report has.
     lines: u64,

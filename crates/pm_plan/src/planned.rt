@@ -14,7 +14,7 @@ pub enum Planned {
 }
 
 /// A change with the phase that it belongs to, counted from 1.
-#[derive(Clone, Copy, Debug, PartialEq, Eq)]
+#[derive(Clone, Copy, PartialEq, Eq)]
 pub(crate) struct Change {
     pub(crate) phase: u32,
     pub(crate) what: Planned,
