@@ -26,35 +26,46 @@ fn is_right(alloc: Global, plan: &Plan, board: &Board) -> Result<bool, Fail> {
 
 /// How often a line stands in a list.
 fn times(lines: &[Line], line: Line) -> usize {
-    lines.iter().filter(|other| **other == line).count()
+    let mut times = 0usize;
+    for other in lines {
+        if *other == line {
+            times = times.saturating_add(1);
+        }
+    }
+    times
 }
 
 /// Whether the lines are those of the journal, each once.
 fn are_told(lines: &[Line], journal: &Journal) -> bool {
-    let mut told = lines.len() == journal.len();
     for at in 0..journal.len() {
-        told = told && journal.get(at).is_some_and(|line| times(lines, line) == 1);
+        match journal.get(at) {
+            Some(line) if times(lines, line) == 1 => {}
+            _ => return false,
+        }
     }
-    told
+    lines.len() == journal.len()
 }
 
-/// A load takes 100 and a generator gives 150 at step 4.
-fn must_be_the_end<R: Abort>(rt: &R, ends: &[PhaseEnd]) -> Result<(), Fail> {
-    assert_eq!(rt; ends.len(), 1);
-    let end = ends.first().ok_or("no end")?;
-    assert_eq!(rt; (end.step(), end.price(), end.total()), (4, 4, -50));
-    let load = MemberLine {
+/// A load takes 100 and a generator gives 150.
+const MEMBERS: &[MemberLine] = &[
+    MemberLine {
         node: 1,
         power: 100,
         number: 1,
-    };
-    let generator = MemberLine {
+    },
+    MemberLine {
         node: 2,
         power: -150,
         number: 1,
+    },
+];
+
+/// Whether there is one end, in which they do so at step 4.
+fn are_the_end(ends: &[PhaseEnd]) -> bool {
+    let [end] = ends else {
+        return false;
     };
-    assert_eq!(rt; end.members(), [load, generator].as_slice());
-    Ok(())
+    (end.step(), end.price(), end.total()) == (4, 4, -50) && end.members() == MEMBERS
 }
 
 /// The two devices' threads meet, and every line is told once.
@@ -73,8 +84,8 @@ fn lines_meet<R: Threads + Wait + Sync + Abort>(
     let board = settle(rt, alloc, plan, &gate)?;
     assert_eq!(rt; gate.gate().met(), 2);
     assert!(rt; are_told(&gate.into_lines(), board.journal()));
-    let (_journal, ends) = board.into_parts();
-    must_be_the_end(rt, &ends)
+    assert!(rt; are_the_end(board.ends()));
+    Ok(())
 }
 
 /// Of two nodes that one thread serves the second finds that the first has begun, and no more.
@@ -202,34 +213,47 @@ fn slow_nodes_of_twenty_change_nothing(rt: HostRuntime) -> Result<(), Fail> {
     must_stay_right(&rt, rt.alloc(), &plan)
 }
 
+/// Divisors, and the rests of the numbers of the nodes that are held back.
+const HELD: &[(u32, u32)] = &[(11, 0), (11, 1), (11, 4), (2, 0), (2, 1)];
+
 fn must_stay_right<R: Threads + Wait + Sync + Abort>(
     rt: &R,
     alloc: Global,
     plan: &Plan,
 ) -> Result<(), Fail> {
-    for (divisor, rest) in [(11, 0), (11, 1), (11, 4), (2, 0), (2, 1)] {
-        assert!(rt;
-            are_done_held(rt, alloc, plan, divisor, rest)?,
-            "at {divisor} {rest}"
-        );
+    for (divisor, rest) in HELD {
+        must_be_done_held(rt, alloc, plan, *divisor, *rest)?;
     }
-    for (seed, most) in [(1, 30), (2, 300)] {
-        let gate = DrawingGate::new(seed, most);
-        assert!(rt; are_done(rt, alloc, plan, &gate, STACK)?, "at {seed}");
-    }
-    Ok(())
+    must_be_done_drawn(rt, alloc, plan, 1, 30)?;
+    must_be_done_drawn(rt, alloc, plan, 2, 300)
 }
 
-/// Whether they are done where the gate holds some of the nodes back.
-fn are_done_held<R: Threads + Wait + Sync>(
+/// They are done where the gate holds some of the nodes back.
+fn must_be_done_held<R: Threads + Wait + Sync + Abort>(
     rt: &R,
     alloc: Global,
     plan: &Plan,
     divisor: u32,
     rest: u32,
-) -> Result<bool, Fail> {
+) -> Result<(), Fail> {
     let gate = holding(alloc, divisor, rest)?;
-    are_done(rt, alloc, plan, &gate, STACK)
+    let done = are_done(rt, alloc, plan, &gate, STACK)?;
+    assert!(rt; done, "at {divisor} {rest}");
+    Ok(())
+}
+
+/// They are done where the gate draws how long it holds a thread back.
+fn must_be_done_drawn<R: Threads + Wait + Sync + Abort>(
+    rt: &R,
+    alloc: Global,
+    plan: &Plan,
+    seed: u64,
+    most: u64,
+) -> Result<(), Fail> {
+    let gate = DrawingGate::new(seed, most);
+    let done = are_done(rt, alloc, plan, &gate, STACK)?;
+    assert!(rt; done, "at {seed}");
+    Ok(())
 }
 
 /// More than two hundred threads.

@@ -40,10 +40,21 @@ fn is_same(end: &PhaseEnd, due: &PhaseEnd) -> bool {
         && end.limited() == due.limited()
 }
 
+/// Whether two lists of ends are the same.
+fn are_same(ends: &[PhaseEnd], due: &[PhaseEnd]) -> bool {
+    for (place, end) in ends.iter().enumerate() {
+        match due.get(place) {
+            Some(due) if is_same(end, due) => {}
+            _ => return false,
+        }
+    }
+    ends.len() == due.len()
+}
+
 /// Whether the ends are those of the plain program.
 pub(crate) fn are_right(alloc: Global, plan: &Plan, ends: &[PhaseEnd]) -> Result<bool, Fail> {
     let due = all_ends(alloc, plan)?;
-    Ok(ends.len() == due.len() && ends.iter().zip(&due).all(|(end, due)| is_same(end, due)))
+    Ok(are_same(ends, &due))
 }
 
 /// A gate that holds back, of the first eleven nodes, those whose number has this rest by `divisor`.
