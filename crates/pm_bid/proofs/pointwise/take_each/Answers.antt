@@ -1,26 +1,24 @@
-use Rattle.std.proofs.Common.{rules, arith, ◌∙◌, FitsSigned, w64}
-use Rattle.pm_bid.specs.Bids.{demand_at}
+use Rattle.std.proofs.Common.{rules, arith, FitsSigned, ◌-ℤ◌, w64, to_z, of_z}
+use Rattle.pm_bid.specs.Bids.{demand_at, taken_off}
+use Rattle.pm_bid.proofs.EachStep.{Computes, length-taken_off, next_taken_off, progress_more, progress_all}
+use Rattle.pm_bid.proofs.pointwise.take_each.Given.{Over}
 use Rattle.pm_bid.proofs.pointwise.take_each.Goals as goal
-use Rattle.pm_bid.proofs.EachStep.{length-taken_off, fits_taken_off, computed_taken_off, next_taken_off, progress_more, progress_all}
+use Rattle.pm_bid.proofs.pointwise.take_each.Goals.{In-loop-step}
+
+-- what the loop computes in a step
+computes : (g : Over) (c : In-loop-step g) →
+    FitsSigned w64 (demand_at c.loop-step.demands c.loop-step.step) → FitsSigned w64 (demand_at c.args.others.now c.loop-step.step) → Computes
+    (to_z w64 (of_z w64 (demand_at c.loop-step.demands c.loop-step.step)) -ℤ to_z w64 (of_z w64 (demand_at c.args.others.now c.loop-step.step)))
+    (demand_at (taken_off c.args.demands.now c.args.others.now) c.loop-step.step)
+computes g c = next_taken_off _ _ _ _ c.requires.equal_lengths c.loop-step.auto.demands c.loop-step-test.true c.requires.within c.loop-step.invariant.progress
 
 pub overflow_sub-demand : goal.overflow_sub-demand
-overflow_sub-demand g c =
-    let next = next_taken_off _ _ c.loop-step.demands c.loop-step.step c.requires.equal_lengths c.loop-step.auto.demands
-    (omega arith) c.requires.within c.loop-step.invariant.progress in
-    let mine : FitsSigned w64 (demand_at c.loop-step.demands c.loop-step.step) = search rules in
-    let other : FitsSigned w64 (demand_at c.args.others.now c.loop-step.step) = search rules in
-    fits_taken_off _ _ mine other next.0
+overflow_sub-demand g c = (computes g (goal.at.overflow_sub-demand g c).In-loop-step (search rules) (search rules)).fits
 
 pub loop-step-preserved : goal.loop-step-preserved
 loop-step-preserved g c =
-    let next = next_taken_off _ _ c.loop-step.demands c.loop-step.step c.requires.equal_lengths c.loop-step.auto.demands
-    (omega arith) c.requires.within c.loop-step.invariant.progress in
-    let mine : FitsSigned w64 (demand_at c.loop-step.demands c.loop-step.step) = search rules in
-    let other : FitsSigned w64 (demand_at c.args.others.now c.loop-step.step) = search rules in
-    record {
-      progress = progress_more _ _ _ _ _ (omega arith) c.loop-step.invariant.progress (computed_taken_off _ _ mine other next.0 ∙ next.1);
-      cost = omega arith;
-    }
+    let step = computes g (goal.at.loop-step-preserved g c).In-loop-step (search rules) (search rules) in
+    record { progress = progress_more _ _ _ _ _ (omega arith) c.loop-step.invariant.progress step.is; cost = omega arith }
 
 pub returns-clause-rest : goal.returns-clause-rest
 returns-clause-rest g c =
