@@ -1,5 +1,5 @@
 -- Moves of the form of an act.
-use Rattle.std.proofs.Common.{◌≡◌, ◌∙◌, sym, ap, subst, ℕ, ◌+◌, ◌<◌, ◌≤◌, ℤ, Bool, true, false, length, arith, refl, inl, inr}
+use Rattle.std.proofs.Common.{◌≡◌, ◌∙◌, sym, ap, subst, ℕ, ◌+◌, ◌≤◌, ℤ, Bool, true, false, arith, refl, inl, inr}
 use Rattle.std.specs.Prelude.{Option, Some, None, MatchOption}
 use Rattle.std.proofs.Math.Logic.{∥∥₁_elim}
 use Rattle.std.proofs.Props.{props}
@@ -20,7 +20,6 @@ use Rattle.pm_market.specs.Held.{holds_price, held}
 use Rattle.pm_session.specs.declared.price.Held.{Held}
 use Rattle.pm_offer.specs.Offers.{local_at}
 use Rattle.pm_stands.specs.Current.{held_price}
-use Rattle.pm_market.proofs.Tree.{leaf_past}
 use Rattle.pm_plan.specs.Kept.{IsPlan}
 use Rattle.pm_plan.specs.Plans.{PlanData, node, kind_of, end_cut, phases}
 use Rattle.pm_plan.specs.Market.{plan_lists}
@@ -28,12 +27,10 @@ use Rattle.pm_plan.proofs.MarketLists.{phases-is}
 use Rattle.pm_agent.specs.MadeBids.{MadeBid}
 use Rattle.pm_stands.specs.Core.{Core}
 use Rattle.pm_stands.specs.Stands.{StandsFor, Stands}
-use Rattle.pm_plan.proofs.MarketLists.{lawful}
 use Rattle.pm_cluster.specs.Next.{count_of, HasNoNext, IsNext}
 use Rattle.pm_cluster.specs.Acts.{IsNextOrNone, NotChanged}
 use Rattle.pm_cluster.specs.declared.fault.ChangeFault.{ChangeFault}
 use Rattle.pm_cluster.specs.declared.fault.ChangeFault.TheVariants as change_faults
-use Rattle.pm_cluster.proofs.Parents.{nodes_are}
 use Rattle.pm_cluster.proofs.NextChanges.{end_of_market}
 
 -- ---- no move of a form
@@ -68,10 +65,6 @@ at_none None P Q R f h = f h
 at_none (Some x) P Q R f h = h
 
 -- ---- nodes
-
--- a number behind the last node is no device
-pub far_leaf : (plan : PlanData) → IsPlan plan → (x : ℕ) → length plan.entries < x → is_leaf (plan_lists plan) x ≡ false
-far_leaf plan is_plan x far = leaf_past (plan_lists plan) x (omega (arith, (lawful plan is_plan).leaves, nodes_are plan))
 
 -- no Change of a node that is no device is legal
 pub no_leaf : (plan : PlanData) (s : State) (x : ℕ) → is_leaf (plan_lists plan) x ≡ false → (n : ℕ) → Legal (plan_lists plan) s (Change x n) → ⊥

@@ -1,8 +1,8 @@
 -- The tree of a plan is that of its lists: the equations as the search uses them.
-use Rattle.std.proofs.Common.{◌≡◌, sym, ℕ}
+use Rattle.std.proofs.Common.{◌≡◌, sym, ℕ, ◌<◌, false, arith}
 use Rattle.std.specs.Prelude.{length, ◌≤◌}
 use Rattle.pm_market.specs.Lists.{nodes, parent, is_leaf, IsLeaf}
-use Rattle.pm_market.proofs.Tree.{leaf_node}
+use Rattle.pm_market.proofs.Tree.{leaf_node, leaf_past}
 use Rattle.pm_tree.proofs.Named.{length-parents_of}
 use Rattle.pm_plan.specs.Kept.{IsPlan}
 use Rattle.pm_plan.specs.Plans.{PlanData}
@@ -25,3 +25,7 @@ nodes_are plan = sym (length-parents_of plan.entries)
 -- a device is one of the nodes
 pub leaf_inside : (plan : PlanData) → IsPlan plan → (d : ℕ) → IsLeaf (plan_lists plan) d → (1 ≤ d) × (d ≤ nodes (plan_lists plan))
 leaf_inside plan is_plan d leaf = leaf_node (plan_lists plan) (lawful plan is_plan) d leaf
+
+-- a number behind the last node is no device
+pub far_leaf : (plan : PlanData) → IsPlan plan → (x : ℕ) → length plan.entries < x → is_leaf (plan_lists plan) x ≡ false
+far_leaf plan is_plan x far = leaf_past (plan_lists plan) x (omega (arith, (lawful plan is_plan).leaves, nodes_are plan))

@@ -15,7 +15,7 @@ ghost use Rattle.pm_cluster.specs.Acts.{NoMoveBy, NotActed, IsRunOf, NeverGoesBa
 
 use crate::cluster::Cluster;
 use crate::fault::{ActFault, ApplyFault};
-use crate::tree::is_device;
+use crate::tree::{is_concentrator, is_device, is_node};
 use pm_market::{Act, Journal, Line, Move};
 use pm_plan::Plan;
 use pm_tree::NodeId;
@@ -59,7 +59,7 @@ impl<'p> Cluster<'p> {
         ensures held { (s : State) → StandsFor self.now.plan self.now.core s →
             result ≡ (if is_leaf (plan_lists self.now.plan) node.0 then held (plan_lists self.now.plan) (local_at self.now.plan) s node.0 else None) }
     {
-        if self.plan.tree().len() < node.0 || !is_device(self.plan, node) {
+        if !is_device(self.plan, node) {
             return None;
         }
         let Some(price) = self.held(node) else {
@@ -115,7 +115,7 @@ impl<'p> Cluster<'p> {
             (MakesMove self.old.plan self.new.core s) }
     {
         let plan = self.plan;
-        if plan.tree().len() < device.0 || !is_device(plan, device) {
+        if !is_device(plan, device) {
             return None;
         }
         let Some(next) = self.next(device) else {
@@ -133,7 +133,7 @@ impl<'p> Cluster<'p> {
             (NoMoveBy self.old.plan s (Act.Learn child.0))
             (MakesMove self.old.plan self.new.core s) }
     {
-        if child.0 == 0 || self.plan.tree().len() < child.0 {
+        if !is_node(self.plan, child) {
             return None;
         }
         self.learn(child)
@@ -148,7 +148,7 @@ impl<'p> Cluster<'p> {
             (NoMoveBy self.old.plan s (Act.Publish node.0))
             (MakesMove self.old.plan self.new.core s) }
     {
-        if node.0 == 0 || self.plan.tree().len() < node.0 || is_device(self.plan, node) {
+        if !is_concentrator(self.plan, node) {
             return None;
         }
         self.publish(node)
@@ -163,11 +163,11 @@ impl<'p> Cluster<'p> {
             (NoMoveBy self.old.plan s (Act.Pass node.0))
             (MakesMove self.old.plan self.new.core s) }
     {
-        if node.0 == 0 || self.plan.tree().len() < node.0 {
-            return None;
-        }
         if is_device(self.plan, node) {
             return self.take(node);
+        }
+        if !is_concentrator(self.plan, node) {
+            return None;
         }
         self.pass_on(node)
     }

@@ -49,7 +49,7 @@ impl<'p> Cluster<'p> {
         let next = made.next();
         let device = NodeId(next.device);
         let plan = self.plan;
-        if plan.tree().len() < next.device || !is_device(plan, device) {
+        if !is_device(plan, device) {
             return Err(ChangeFault::NotNext { next: None });
         }
         let due = self.next(device);

@@ -1,12 +1,12 @@
 ghost use Rattle.std.specs.Prelude.{◌≡◌, ℕ, ℤ, ◌+◌, ◌<◌, ◌≤◌, ◌++◌, pos, length, slice_index_or, true, false, is_some, Some, None};
 ghost use Rattle.std.specs.Prelude.{IfOk, IsTrue, IsFalse, ◌↔◌, if◌then◌else◌};
-ghost use Rattle.pm_market.specs.Lists.{nodes, parent, IsLeaf, IsConcentrator};
+ghost use Rattle.pm_market.specs.Lists.{nodes, parent, IsLeaf};
 ghost use Rattle.pm_market.specs.State.{State};
 ghost use Rattle.pm_market.specs.Moves.{Legal};
 ghost use Rattle.pm_market.specs.declared.moves.Move.{Move};
 ghost use Rattle.pm_plan.specs.Plans.{phases, end_cut, is_limited};
 ghost use Rattle.pm_plan.specs.Auction.{power};
-ghost use Rattle.pm_plan.specs.States.{state, end_of};
+ghost use Rattle.pm_plan.specs.States.{end_of};
 ghost use Rattle.pm_plan.specs.Market.{plan_lists};
 ghost use Rattle.pm_stands.specs.Quiet.{IsQuiet};
 ghost use Rattle.pm_stands.specs.Stands.{StandsFor, MakesMove};

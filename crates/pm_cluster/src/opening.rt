@@ -1,6 +1,6 @@
 ghost use Rattle.std.specs.Prelude.{◌≡◌, ℕ, ◌+◌, ◌<◌, ◌≤◌, length, replicate, IfOk, map, Some, None};
 ghost use Rattle.pm_base.specs.Limits.{AreSteps};
-ghost use Rattle.pm_market.specs.Lists.{nodes, IsLeaf, IsConcentrator};
+ghost use Rattle.pm_market.specs.Lists.{IsLeaf, IsConcentrator};
 ghost use Rattle.pm_tree.specs.Entries.{children_of};
 ghost use Rattle.pm_concentrator.specs.Concentrators.{IsNewConcentrator};
 ghost use Rattle.pm_stands.specs.Core.{limits_at};
@@ -13,7 +13,7 @@ ghost use Rattle.pm_stands.specs.Stands.{StandsFor};
 ghost use Rattle.pm_cluster.specs.Opening.{AreNewRows, IsNewAt, AreNewConcentrators, AreStarts, AreFirstDue};
 
 use crate::cluster::Cluster;
-use crate::tree::is_device;
+use crate::tree::{is_concentrator, is_device};
 use pm_auctioneer::Auctioneer;
 use pm_bid::{ArrayBid, Steps};
 use pm_concentrator::Concentrator;
@@ -65,7 +65,6 @@ fn starts(alloc: Global, plan: &Plan) -> Result<Vec<DeviceState>, AllocError>
 /// The state of a device before its first change; 0 for any other node.
 #[tactic(auto, using(crate::proofs::Parents::leaf_is, crate::proofs::Parents::nodes_are))]
 fn start_of(plan: &Plan, node: NodeId) -> DeviceState
-    requires inside { node.0 ≤ nodes (plan_lists plan.now) }
     ensures start { IsLeaf (plan_lists plan.now) node.0 → planned_start (planned_node plan.now node.0) ≡ Some result.0 }
 {
     if !is_device(plan, node) {
@@ -88,7 +87,6 @@ fn first_due(alloc: Global, plan: &Plan) -> Result<Vec<u32>, AllocError>
 /// How many changes of a device belong to the first phase, where there is one; 0 for any other node.
 #[tactic(auto, using(crate::proofs::Parents::leaf_is, crate::proofs::Parents::nodes_are))]
 fn first_due_of(plan: &Plan, node: NodeId) -> u32
-    requires inside { node.0 ≤ nodes (plan_lists plan.now) }
     ensures due { 0 < phases plan.now → IsLeaf (plan_lists plan.now) node.0 → result ≡ end_cut plan.now 1 node.0 }
 {
     if plan.phases() == 0 || !is_device(plan, node) {
@@ -149,10 +147,9 @@ fn concentrator(
     plan: &Plan,
     node: NodeId,
 ) -> Result<Option<Concentrator>, AllocError>
-    requires inside { node.0 ≤ nodes (plan_lists plan.now) }
     ensures new { IfOk result (IsNewAt plan.now node.0) }
 {
-    if node.0 == 0 || is_device(plan, node) {
+    if !is_concentrator(plan, node) {
         return Ok(None);
     }
     Ok(Some(new_concentrator(alloc, plan, node)?))

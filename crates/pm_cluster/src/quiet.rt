@@ -1,7 +1,7 @@
 ghost use Rattle.std.specs.Prelude.{◌≡◌, ℕ, ◌<◌, ◌≤◌, ◌↔◌, length, true, Some, None, IsTrue, IsFalse, IfSome, MatchOption};
 ghost use Rattle.pm_basis.specs.Prices.{price_at};
 ghost use Rattle.pm_cache.specs.Cache.{aggregate_of};
-ghost use Rattle.pm_market.specs.Lists.{nodes, IsNode, IsLeaf, IsConcentrator, is_member};
+ghost use Rattle.pm_market.specs.Lists.{nodes, IsLeaf, is_member};
 ghost use Rattle.pm_market.specs.State.{State, known, clearings};
 ghost use Rattle.pm_market.specs.Moves.{Idle};
 ghost use Rattle.pm_session.specs.Prices.{session_at};

@@ -1,11 +1,9 @@
 //! Where a node stands in the tree, as indices.
 
-ghost use Rattle.std.specs.Prelude.{◌≡◌, ◌≤◌, ◌<◌, length, false};
+ghost use Rattle.std.specs.Prelude.{◌≡◌, ◌≤◌, ◌<◌, ◌↔◌, length, IsTrue};
 ghost use Rattle.pm_tree.specs.Entries.{children_of, place_of};
-ghost use Rattle.pm_market.specs.Lists.{nodes, parent, IsNode, IsLeaf, is_leaf};
+ghost use Rattle.pm_market.specs.Lists.{nodes, parent, IsNode, IsConcentrator, is_leaf};
 ghost use Rattle.pm_plan.specs.Market.{plan_lists};
-ghost use Rattle.pm_plan.specs.Kept.{IsPlan};
-ghost use Rattle.pm_stands.specs.Core.{child_at};
 
 use pm_plan::Plan;
 use pm_tree::NodeId;
@@ -30,11 +28,25 @@ pub(crate) fn place_in_row(plan: &Plan, node: NodeId) -> usize
     plan.tree().place(node)
 }
 
-/// Whether a node is a device.
-#[tactic(auto, using(crate::proofs::Parents::leaf_is, crate::proofs::Parents::nodes_are))]
+/// Whether this number is that of a node with a parent.
+#[tactic(auto, using(crate::proofs::Parents::nodes_are))]
+pub(crate) fn is_node(plan: &Plan, node: NodeId) -> bool
+    ensures { IsTrue result ↔ IsNode (plan_lists plan.now) node.0 }
+{
+    node.0 != 0 && node.0 <= plan.tree().len()
+}
+
+/// Whether this number is that of a device.
+#[tactic(auto, using(crate::proofs::Parents::leaf_is, crate::proofs::Parents::far_leaf))]
 pub(crate) fn is_device(plan: &Plan, node: NodeId) -> bool
-    requires { node.0 ≤ nodes (plan_lists plan.now) }
     ensures { result ≡ is_leaf (plan_lists plan.now) node.0 }
 {
-    plan.tree().is_leaf(node)
+    node.0 <= plan.tree().len() && plan.tree().is_leaf(node)
+}
+
+/// Whether this number is that of a concentrator.
+pub(crate) fn is_concentrator(plan: &Plan, node: NodeId) -> bool
+    ensures { IsTrue result ↔ IsConcentrator (plan_lists plan.now) node.0 }
+{
+    is_node(plan, node) && !is_device(plan, node)
 }

@@ -62,16 +62,6 @@ returns-clause-after c = λ some d leaf. c.loop-number.invariant.after d leaf
       ap length c.tree.ensures.tree,
     ))
 
-pub is_device-requires : goal.is_device-requires
-is_device-requires c =
-    omega (
-      arith,
-      nodes_are c.args.plan.now,
-      c.loop-number-test.true,
-      c.len-number-end.ensures.len,
-      ap length c.tree.ensures.tree,
-    )
-
 pub changes_of-requires-clause-leaf : goal.changes_of-requires-clause-leaf
 changes_of-requires-clause-leaf c = leaf_is c.args.plan.now c.loop-number.number ∙ sym c.is_device.ensures ∙ c.if-is_device.true
 

@@ -2,16 +2,6 @@ use Rattle.std.proofs.Common.{ap, length, arith}
 use Rattle.pm_cluster.proofs.Parents.{nodes_are, leaf_inside}
 use Rattle.pm_cluster.proofs.ends.keep_powers.Goals as goal
 
-pub is_device-requires : goal.is_device-requires
-is_device-requires c =
-    omega (
-      arith,
-      nodes_are c.args.plan.now,
-      c.loop-number-test.true,
-      c.len-number-end.ensures.len,
-      ap length c.tree.ensures.tree,
-    )
-
 pub returns-clause-kept : goal.returns-clause-kept
 returns-clause-kept c d leaf = c.loop-number.invariant.found d leaf
     (omega (

@@ -4,11 +4,6 @@ use Rattle.pm_plan.specs.Market.{plan_lists}
 use Rattle.pm_cluster.proofs.Parents.{nodes_are}
 use Rattle.pm_cluster.proofs.opening.concentrators.Goals as goal
 
-pub concentrator-requires : goal.concentrator-requires
-concentrator-requires c = record {
-  inside = omega (arith, nodes_are c.args.plan.now, c.loop-number-test.true, c.len-number-end.ensures.len, ap length c.tree.ensures.tree);
-}
-
 pub returns : goal.returns
 returns c =
     let plan = c.args.plan.now in

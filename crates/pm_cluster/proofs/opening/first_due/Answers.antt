@@ -5,11 +5,6 @@ use Rattle.pm_cluster.proofs.Parents.{nodes_are}
 use Rattle.pm_cluster.proofs.Opened.{device_node}
 use Rattle.pm_cluster.proofs.opening.first_due.Goals as goal
 
-pub first_due_of-requires : goal.first_due_of-requires
-first_due_of-requires c = record {
-  inside = omega (arith, nodes_are c.args.plan.now, c.loop-number-test.true, c.len-number-end.ensures.len, ap length c.tree.ensures.tree);
-}
-
 pub returns : goal.returns
 returns c =
     let plan = c.args.plan.now in

@@ -7,11 +7,6 @@ use Rattle.std.proofs.Common.{Some, pos}
 use Rattle.std.proofs.lemmas.List.{length-map, get_or-map}
 use Rattle.pm_cluster.proofs.opening.starts.Goals as goal
 
-pub start_of-requires : goal.start_of-requires
-start_of-requires c = record {
-  inside = omega (arith, nodes_are c.args.plan.now, c.loop-number-test.true, c.len-number-end.ensures.len, ap length c.tree.ensures.tree);
-}
-
 pub returns : goal.returns
 returns c =
     let plan = c.args.plan.now in

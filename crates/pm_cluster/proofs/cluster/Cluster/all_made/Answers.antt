@@ -53,16 +53,6 @@ returns c = record {
   );
 }
 
-pub is_device-requires : goal.is_device-requires
-is_device-requires c =
-    omega (
-      arith,
-      nodes_are c.self.inside.plan.now,
-      c.loop-number-test.true,
-      c.len-number-end.ensures.len,
-      ap length c.tree.ensures.tree,
-    )
-
 pub index-requires : goal.index-requires
 index-requires c =
     let here = leaf_inside c.self.inside.plan.now c.self.invariant.is_plan c.loop-number.number (sym c.is_device.ensures ∙ c.if-is_device.true) in

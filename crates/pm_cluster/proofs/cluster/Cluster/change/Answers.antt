@@ -1,4 +1,4 @@
-use Rattle.std.proofs.Common.{◌≡◌, ◌∙◌, sym, ap, subst, ℕ, ℤ, true, false, List, length, arith, rules, refl, inl, inr}
+use Rattle.std.proofs.Common.{◌≡◌, ◌∙◌, sym, ap, subst, ℕ, ℤ, true, false, List, length, rules, refl, inl, inr}
 use Rattle.std.specs.Prelude.{Some}
 use Rattle.std.proofs.lemmas.Option.{MatchOption-at_some, IfSome_then}
 use Rattle.pm_device.specs.declared.state.Next.{Next}
@@ -9,28 +9,19 @@ use Rattle.pm_plan.specs.Market.{plan_lists}
 use Rattle.pm_cluster.specs.Next.{count_of, IsNext}
 use Rattle.pm_cluster.specs.Acts.{IsNextOrNone}
 use Rattle.pm_cluster.specs.Clusters.{ClusterValue}
-use Rattle.pm_cluster.proofs.Parents.{nodes_are}
 use Rattle.pm_cluster.proofs.Kept.{leaf_of_plan}
 use Rattle.pm_cluster.proofs.Making.{made_demand}
-use Rattle.pm_cluster.proofs.ActForms.{far_leaf}
 use Rattle.pm_cluster.proofs.SameNext.{same_found, same_kind, not_differ, do_differ}
 use Rattle.pm_cluster.proofs.cluster.Cluster.change.Goals as goal
-use Rattle.pm_cluster.proofs.cluster.Cluster.change.Goals.{After-next-due, After-own_demand, then-len-next-via-then-len-next}
-use Rattle.pm_cluster.proofs.cluster.Cluster.change.Goals.{then-len-next-via-else-len-next+then-not-is_device, then-ne-via-then-ne}
+use Rattle.pm_cluster.proofs.cluster.Cluster.change.Goals.{After-next-due, After-own_demand}
+use Rattle.pm_cluster.proofs.cluster.Cluster.change.Goals.{then-ne-via-then-ne}
 use Rattle.pm_cluster.proofs.cluster.Cluster.change.Goals.{then-ne-via-else-ne+then-ne-2}
 
-pub is_device-requires : goal.is_device-requires
-is_device-requires c = omega (arith, nodes_are c.self.inside.plan.now, c.if-len-next.false, c.len.ensures.len, ap length c.tree.ensures.tree)
-
-pub returns-then-len-next-clause-refused : goal.returns-then-len-next-clause-refused
-returns-then-len-next-clause-refused c =
+pub returns-then-not-is_device-clause-refused : goal.returns-then-not-is_device-clause-refused
+returns-then-not-is_device-clause-refused c =
     let Claim : ClusterValue → ℕ → Type 0 = λ v x. is_leaf (plan_lists v.plan) x ≡ false in
-    let none : is_leaf (plan_lists c.self.inside.plan.now) c.next-next.result.device ≡ false = elim c.then-len-next.branch [
-      | then-len-next-via-then-len-next w ↦
-          far_leaf c.self.inside.plan.now c.self.invariant.is_plan c.next-next.result.device (omega
-          (arith, w.if-len-next.true, c.len.ensures.len, ap length c.tree.ensures.tree))
-      | then-len-next-via-else-len-next+then-not-is_device w ↦ sym w.is_device.ensures ∙ (let off : w.is_device.result ≡ false = search rules in off)
-    ] in
+    let off : c.is_device.result ≡ false = search rules in
+    let none : is_leaf (plan_lists c.self.inside.plan.now) c.next-next.result.device ≡ false = sym c.is_device.ensures ∙ off in
     inl (
       subst (Claim c.args.self.now) (ap (λ (n : Next). n.device) c.next-next.ensures.next) (subst
           (λ (v : ClusterValue). Claim v c.next-next.result.device) c.self.view_is none),

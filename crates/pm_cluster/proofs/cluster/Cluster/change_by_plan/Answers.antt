@@ -1,29 +1,21 @@
-use Rattle.std.proofs.Common.{◌≡◌, ◌∙◌, sym, ap, subst, true, false, length, arith, rules}
+use Rattle.std.proofs.Common.{◌≡◌, ◌∙◌, sym, subst, true, false, rules}
 use Rattle.pm_market.specs.Lists.{is_leaf, IsLeaf}
 use Rattle.pm_plan.specs.Kept.{IsPlan}
 use Rattle.pm_plan.specs.Market.{plan_lists}
 use Rattle.pm_cluster.specs.Clusters.{ClusterValue}
-use Rattle.pm_cluster.proofs.Parents.{nodes_are}
 use Rattle.pm_cluster.proofs.Kept.{leaf_of_plan}
-use Rattle.pm_cluster.proofs.ActForms.{far_leaf, no_leaf, no_form, none_legal}
+use Rattle.pm_cluster.proofs.ActForms.{no_leaf, no_form, none_legal}
 use Rattle.pm_market.specs.declared.moves.Act.TheVariants as act
 use Rattle.pm_cluster.proofs.cluster.Cluster.change_by_plan.Goals as goal
 use Rattle.pm_cluster.proofs.cluster.Cluster.change_by_plan.Goals.{After-next}
-use Rattle.pm_cluster.proofs.cluster.Cluster.change_by_plan.Goals.{then-len-device-via-then-len-device, then-len-device-via-else-len-device+then-not-is_device}
 
-pub is_device-requires : goal.is_device-requires
-is_device-requires c = omega (arith, nodes_are c.self.inside.plan.now, c.if-len-device.false, c.len.ensures.len, ap length c.tree.ensures.tree)
-
-pub returns-then-len-device-clause-made : goal.returns-then-len-device-clause-made
-returns-then-len-device-clause-made c s stands =
+pub returns-then-not-is_device-clause-made : goal.returns-then-not-is_device-clause-made
+returns-then-not-is_device-clause-made c s stands =
     let x = c.args.device.0 in
     let Claim : ClusterValue → Type 0 = λ v. is_leaf (plan_lists v.plan) x ≡ false in
-    let none : is_leaf (plan_lists c.self.inside.plan.now) x ≡ false = elim c.then-len-device.branch [
-      | then-len-device-via-then-len-device w ↦
-          far_leaf c.self.inside.plan.now c.self.invariant.is_plan x (omega (arith, w.if-len-device.true, c.len.ensures.len, ap length c.tree.ensures.tree))
-      | then-len-device-via-else-len-device+then-not-is_device w ↦ sym w.is_device.ensures ∙ (let off : w.is_device.result ≡ false = search rules in off)
-    ] in
-    no_form (plan_lists c.args.self.now.plan) s (act.Change x) (no_leaf c.args.self.now.plan s x (subst Claim c.self.view_is none))
+    let off : c.is_device.result ≡ false = search rules in
+    no_form (plan_lists c.args.self.now.plan) s (act.Change x)
+    (no_leaf c.args.self.now.plan s x (subst Claim c.self.view_is (sym c.is_device.ensures ∙ off)))
 
 leaf : (c : After-next) → IsLeaf (plan_lists c.self.inside.plan.now) c.args.device.0
 leaf c = sym c.is_device.ensures ∙ (let on : c.is_device.result ≡ true = search rules in on)

@@ -1,4 +1,4 @@
-use Rattle.std.proofs.Common.{◌≡◌, ◌∙◌, sym, ap, subst, true, false, length, arith, rules}
+use Rattle.std.proofs.Common.{◌≡◌, ◌∙◌, sym, ap, subst, true, false, rules}
 use Rattle.std.specs.Prelude.{None}
 use Rattle.std.proofs.lemmas.Bool.{cond-true, cond-false}
 use Rattle.pm_market.specs.Lists.{is_leaf, IsLeaf}
@@ -6,24 +6,16 @@ use Rattle.pm_market.specs.Held.{held}
 use Rattle.pm_offer.specs.Offers.{local_at}
 use Rattle.pm_plan.specs.Market.{plan_lists}
 use Rattle.pm_cluster.specs.Clusters.{ClusterValue}
-use Rattle.pm_cluster.proofs.Parents.{nodes_are}
-use Rattle.pm_cluster.proofs.ActForms.{far_leaf, pair_of, pairs_are}
+use Rattle.pm_cluster.proofs.ActForms.{pair_of, pairs_are}
 use Rattle.pm_cluster.proofs.cluster.Cluster.held_by.Goals as goal
-use Rattle.pm_cluster.proofs.cluster.Cluster.held_by.Goals.{After-held, then-len-node-via-then-len-node, then-len-node-via-else-len-node+then-not-is_device}
+use Rattle.pm_cluster.proofs.cluster.Cluster.held_by.Goals.{After-held}
 
-pub is_device-requires : goal.is_device-requires
-is_device-requires c = omega (arith, nodes_are c.self.inside.plan.now, c.if-len-node.false, c.len.ensures.len, ap length c.tree.ensures.tree)
-
-pub returns-then-len-node : goal.returns-then-len-node
-returns-then-len-node c =
+pub returns-then-not-is_device : goal.returns-then-not-is_device
+returns-then-not-is_device c =
     let Claim : ClusterValue → Type 0 = λ v. is_leaf (plan_lists v.plan) c.args.node.0 ≡ false in
-    let none : is_leaf (plan_lists c.self.inside.plan.now) c.args.node.0 ≡ false = elim c.then-len-node.branch [
-      | then-len-node-via-then-len-node w ↦
-          far_leaf c.self.inside.plan.now c.self.invariant.is_plan c.args.node.0 (omega
-          (arith, w.if-len-node.true, c.len.ensures.len, ap length c.tree.ensures.tree))
-      | then-len-node-via-else-len-node+then-not-is_device w ↦ sym w.is_device.ensures ∙ (let off : w.is_device.result ≡ false = search rules in off)
-    ] in
-    record { held = λ s stands. sym (cond-false (is_leaf (plan_lists c.args.self.now.plan) c.args.node.0) _ None (subst Claim c.self.view_is none)) }
+    let off : c.is_device.result ≡ false = search rules in
+    let none = subst Claim c.self.view_is (sym c.is_device.ensures ∙ off) in
+    record { held = λ s stands. sym (cond-false (is_leaf (plan_lists c.args.self.now.plan) c.args.node.0) _ None none) }
 
 leaf : (c : After-held) → IsLeaf (plan_lists c.args.self.now.plan) c.args.node.0
 leaf c =

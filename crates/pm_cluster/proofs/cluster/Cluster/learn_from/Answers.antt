@@ -1,32 +1,24 @@
-use Rattle.std.proofs.Common.{ap, subst, ◌≤◌, length, arith}
-use Rattle.pm_market.specs.Lists.{nodes, IsNode}
+use Rattle.std.proofs.Common.{◌≡◌, subst, true, false, rules}
+use Rattle.std.proofs.lemmas.Bool.{both_ways}
+use Rattle.pm_market.specs.Lists.{IsNode}
 use Rattle.pm_plan.specs.Market.{plan_lists}
 use Rattle.pm_cluster.specs.Clusters.{ClusterValue}
-use Rattle.pm_cluster.proofs.Parents.{nodes_are}
 use Rattle.pm_cluster.proofs.ActForms.{no_form, at_none}
 use Rattle.pm_market.specs.declared.moves.Act.TheVariants as act
 use Rattle.pm_cluster.proofs.cluster.Cluster.learn_from.Goals as goal
-use Rattle.pm_cluster.proofs.cluster.Cluster.learn_from.Goals.{then-child-eq0-via-then-child-eq0, then-child-eq0-via-else-child-eq0+then-len-child}
 
-pub returns-then-child-eq0-clause-made : goal.returns-then-child-eq0-clause-made
-returns-then-child-eq0-clause-made c s stands =
-    let plan = c.self.inside.plan.now in
-    let x = c.args.child.0 in
-    let Claim : ClusterValue → Type 0 = λ v. IsNode (plan_lists v.plan) x → ⊥ in
-    let none : IsNode (plan_lists plan) x → ⊥ = λ at. elim c.then-child-eq0.branch [
-      | then-child-eq0-via-then-child-eq0 w ↦ omega (arith, w.if-child-eq0.true, at.0)
-      | then-child-eq0-via-else-child-eq0+then-len-child w ↦
-          omega (arith, w.if-len-child.true, at.1, w.len.ensures.len, nodes_are plan, ap length w.tree.ensures.tree)
-    ] in
-    no_form (plan_lists c.args.self.now.plan) s (act.Learn x) (λ n legal. subst Claim c.self.view_is none legal.0)
+pub returns-then-not-is_node-clause-made : goal.returns-then-not-is_node-clause-made
+returns-then-not-is_node-clause-made c s stands =
+    let Claim : ClusterValue → Type 0 = λ v. IsNode (plan_lists v.plan) c.args.child.0 → ⊥ in
+    let off : c.is_node.result ≡ false = search rules in
+    let none : IsNode (plan_lists c.self.inside.plan.now) c.args.child.0 → ⊥ = λ at. both_ways c.is_node.result off (c.is_node.ensures.1 at) in
+    no_form (plan_lists c.args.self.now.plan) s (act.Learn c.args.child.0) (λ n legal. subst Claim c.self.view_is none legal.0)
 
 pub learn-requires : goal.learn-requires
 learn-requires c =
-    let plan = c.self.inside.plan.now in
-    let x = c.args.child.0 in
-    let Claim : ClusterValue → Type 0 = λ v. x ≤ nodes (plan_lists v.plan) in
-    let within : x ≤ nodes (plan_lists plan) = omega (arith, c.if-len-child.false, c.len.ensures.len, nodes_are plan, ap length c.tree.ensures.tree) in
-    record { node = (omega (arith, c.if-child-eq0.false), subst Claim c.self.view_is within) }
+    let Claim : ClusterValue → Type 0 = λ v. IsNode (plan_lists v.plan) c.args.child.0 in
+    let on : c.is_node.result ≡ true = search rules in
+    record { node = subst Claim c.self.view_is (c.is_node.ensures.0 on) }
 
 pub returns-clause-form : goal.returns-clause-form
 returns-clause-form c = c.learn.ensures.form
