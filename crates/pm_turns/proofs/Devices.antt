@@ -25,7 +25,7 @@ use Rattle.pm_plan.proofs.Ends.{end-within}
 use Rattle.pm_plan.proofs.Fits.{state-fits}
 use Rattle.pm_plan.proofs.MarketLists.{lawful, is_leaf-is}
 use Rattle.pm_cluster.specs.Next.{HasNoNext, IsNext}
-use Rattle.pm_turns.specs.Alone.{IsAgentOf, HasAgent, AreAgents}
+use Rattle.pm_turns.specs.Alone.{IsAgentOf, HasAgent, AreAgents, AreOnlyAgents}
 pub use Rattle.pm_cluster.proofs.Parents.{nodes_are}
 pub use Rattle.pm_cluster.proofs.Kept.{leaf_of_plan}
 pub use Rattle.pm_cluster.proofs.NextChanges.{kind_valid}
@@ -87,25 +87,42 @@ pub record AreAgentsTo (plan : PlanData) (agents : List (Option Agent)) (n : ℕ
   pub many : length agents ≡ n
   -- each device before the number has its agent in its place
   pub each : (d : ℕ) → d < n → IsLeaf (plan_lists plan) d → HasAgent plan agents d
+  -- and nothing else stands there
+  pub only : AreOnlyAgents plan agents
 
 -- the empty list has the agents of the devices before node 0
 pub no_agents : (plan : PlanData) → AreAgentsTo plan [] 0
-no_agents plan = record { many = refl; each = λ d low leaf. absurd (omega arith) }
+no_agents plan = record {
+  many = refl;
+  each = λ d low leaf. absurd (omega arith);
+  only = λ d agent e. absurd (omega (arith, slice_get_within [] d (Some agent) e));
+}
 
 at_end : {A : Type 0} (xs : List A) (x : A) → slice_get (xs ++ x ∷ []) (length xs) ≡ Some x
 at_end xs x = slice_get-get_or (xs ++ x ∷ []) (length xs) x (omega (arith, length-append xs (x ∷ []))) ∙ ap Some (get_or-append_seam xs x [] x)
 
-before_end : {A : Type 0} (xs : List A) (x y : A) (d : ℕ) → slice_get xs d ≡ Some y → slice_get (xs ++ x ∷ []) d ≡ Some y
-before_end xs x y d e =
-    let inside = slice_get_within xs d y e in
+before_end : {A : Type 0} (xs : List A) (x : A) (d : ℕ) → d < length xs → slice_get (xs ++ x ∷ []) d ≡ slice_get xs d
+before_end xs x d inside =
     slice_get-get_or (xs ++ x ∷ []) d x (omega (arith, inside, length-append xs (x ∷ []))) ∙ ap Some (get_or-append xs (x ∷ []) x d inside)
-    ∙ sym (slice_get-get_or xs d x inside) ∙ e
+    ∙ sym (slice_get-get_or xs d x inside)
 
 one_more_at : (plan : PlanData) (agents : List (Option Agent)) (found : Option Agent) → IfSome found (IsAgentOf plan (length agents)) →
     (found ≡ None → IsLeaf (plan_lists plan) (length agents) → ⊥) → IsLeaf (plan_lists plan) (length agents) →
     HasAgent plan (agents ++ found ∷ []) (length agents)
 one_more_at plan agents (Some agent) its none leaf = record { agent = agent; here = at_end agents (Some agent); its = its }
 one_more_at plan agents None its none leaf = absurd (none refl leaf)
+
+only_more : (plan : PlanData) (agents : List (Option Agent)) (found : Option Agent) (d : ℕ) (agent : Agent) → AreOnlyAgents plan agents →
+    IfSome found (IsAgentOf plan (length agents)) → slice_get (agents ++ found ∷ []) d ≡ Some (Some agent) → IsAgentOf plan d agent
+only_more plan agents found d agent only its e = elim (cases_lt d (length agents)) [
+  | inl old ↦ only d agent (sym (before_end agents found d old) ∙ e)
+  | inr at ↦
+      let within = slice_get_within (agents ++ found ∷ []) d (Some agent) e in
+      let here : d ≡ length agents = omega (arith, at, within, length-append agents (found ∷ [])) in
+      let both : Some found ≡ Some (Some agent) = sym (at_end agents found) ∙ ap (slice_get (agents ++ found ∷ [])) (sym here) ∙ e in
+      let same : found ≡ Some agent = cc both in
+      subst (λ (k : ℕ). IsAgentOf plan k agent) (sym here) (subst (λ (o : Option Agent). IfSome o (IsAgentOf plan (length agents))) same its)
+]
 
 -- what is found for node n, its agent unless it is no device, joins the agents of the devices before n
 pub one_more : (plan : PlanData) (agents new : List (Option Agent)) (found : Option Agent) (n : ℕ) → AreAgentsTo plan agents n →
@@ -114,7 +131,10 @@ pub one_more : (plan : PlanData) (agents new : List (Option Agent)) (found : Opt
 one_more plan agents new found n are pushed its none = record {
   many = ap length pushed ∙ length-append agents (found ∷ []) ∙ ap (λ (k : ℕ). k + 1) are.many;
   each = λ d low leaf. subst (λ (l : List (Option Agent)). HasAgent plan l d) (sym pushed) (elim (cases_lt d n) [
-    | inl old ↦ let has = are.each d old leaf in record { agent = has.agent; here = before_end agents found (Some has.agent) d has.here; its = has.its }
+    | inl old ↦
+        let has = are.each d old leaf in
+        let before = before_end agents found d (omega (arith, are.many, old)) in
+        record { agent = has.agent; here = before ∙ has.here; its = has.its }
     | inr at ↦
         let same : length agents ≡ d = omega (arith, are.many, at, low) in
         let number : n ≡ length agents = sym are.many in
@@ -123,6 +143,10 @@ one_more plan agents new found n are pushed its none = record {
         (subst (λ (k : ℕ). found ≡ None → IsLeaf (plan_lists plan) k → ⊥) number none)
         (subst (λ (k : ℕ). IsLeaf (plan_lists plan) k) (sym same) leaf))
   ]);
+  only = λ d agent e.
+      let number : n ≡ length agents = sym are.many in
+      only_more plan agents found d agent are.only (subst (λ (k : ℕ). IfSome found (IsAgentOf plan k)) number its)
+      (subst (λ (l : List (Option Agent)). slice_get l d ≡ Some (Some agent)) pushed e);
 }
 
 -- what stands at the place of a device is its agent

@@ -20,3 +20,7 @@ pub record HasAgent (plan : PlanData) (agents : List (Option Agent)) (d : ℕ) :
 -- each device has its agent
 abbrev pub AreAgents : PlanData → List (Option Agent) → Type 0
 AreAgents plan agents = (d : ℕ) → IsLeaf (plan_lists plan) d → HasAgent plan agents d
+
+-- whatever stands at a place is the agent of the device of that number
+abbrev pub AreOnlyAgents : PlanData → List (Option Agent) → Type 0
+AreOnlyAgents plan agents = (d : ℕ) (agent : Agent) → slice_get agents d ≡ Some (Some agent) → IsAgentOf plan d agent

@@ -1,9 +1,9 @@
-ghost use Rattle.std.specs.Prelude.{◌≡◌, true, false, None, IfOk, IfSome, IsTrue};
+ghost use Rattle.std.specs.Prelude.{◌≡◌, ◌+◌, length, true, false, None, IfOk, IfSome, IsTrue};
 ghost use Rattle.pm_bid.specs.Bids.{HaveSteps};
 ghost use Rattle.pm_device.specs.Kinds.{state_fits};
-ghost use Rattle.pm_market.specs.Lists.{IsLeaf};
+ghost use Rattle.pm_market.specs.Lists.{nodes, IsLeaf};
 ghost use Rattle.pm_plan.specs.Market.{plan_lists};
-ghost use Rattle.pm_turns.specs.Alone.{AreAgents, IsAgentOf};
+ghost use Rattle.pm_turns.specs.Alone.{AreAgents, AreOnlyAgents, IsAgentOf};
 
 use crate::plans::is_device;
 use pm_agent::DeviceAgent;
@@ -13,9 +13,11 @@ use pm_tree::NodeId;
 use std::alloc::{AllocError, Global};
 
 /// The agents of the devices of a plan, each in the place of its node; none elsewhere.
-#[tactic(auto, using(crate::proofs::Devices::no_agents, crate::proofs::Devices::all_agents))]
+#[tactic(auto, using(crate::proofs::Devices::no_agents, crate::proofs::Devices::all_agents, crate::proofs::Devices::nodes_are))]
 pub fn make_agents(alloc: Global, plan: &Plan) -> Result<Vec<Option<DeviceAgent>>, AllocError>
-    ensures { IfOk result (λ agents. AreAgents plan.now agents.items) }
+    ensures places { IfOk result (λ agents. length agents.items ≡ nodes (plan_lists plan.now) + 1) }
+    ensures each { IfOk result (λ agents. AreAgents plan.now agents.items) }
+    ensures only { IfOk result (λ agents. AreOnlyAgents plan.now agents.items) }
 {
     let nodes = plan.tree().len();
     let mut agents = Vec::with_capacity(alloc, nodes as usize + 1)?;
