@@ -6,7 +6,7 @@ use crate::ends::{
     DownEnd, UpEnd, put_waiting_bid, put_waiting_price, take_bid_from_child, take_price_from_parent,
 };
 use crate::parent::ParentWork;
-use pm_cells::{FreeLink, UpMessage};
+use pm_cells::{FreeLink, PriceUpdate, UpMessage};
 use pm_device::Next;
 use pm_plan::Plan;
 use pm_turns::{Gate, agent_of};
@@ -168,61 +168,39 @@ fn turn(
                 Some(changes) => device.make_change(alloc, plan, changes),
                 None => false,
             };
-            device_turn(links, up, device, plan) || made
+            let (has_moved, price) = up_turn(links, up, &mut device.bid);
+            if let Some(price) = price {
+                device.take(plan, price);
+            }
+            made || has_moved
         }
         Duty::Parent(parent) => {
             let took = children_turn(links, downs, parent);
             let sent = parent.send(alloc);
-            let passed = parent_turn(links, up, parent, plan);
-            took || sent || passed
+            let (has_moved, price) = up_turn(links, up, &mut parent.bid);
+            if let Some(price) = price {
+                parent.take(plan, price);
+            }
+            took || sent || has_moved
         }
     }
 }
 
-/// A device puts its bid, and takes a price; whether it did either.
-fn device_turn(
+/// A node puts the bid that waits for its parent, and takes a price from it: whether it did either, and the price.
+fn up_turn(
     links: &[FreeLink],
     up: &mut Option<UpEnd>,
-    device: &mut DeviceWork,
-    plan: &Plan,
-) -> bool
+    bid: &mut Option<UpMessage>,
+) -> (bool, Option<PriceUpdate>)
     requires { IfSome up.old (IsUpOf links.now) }
     ensures { IfSome up.new (IsUpOf links.now) }
 {
     let Some(up) = up else {
-        return false;
+        return (false, None);
     };
-    let put = put_waiting_bid(links, up, &mut device.bid);
-    match take_price_from_parent(links, up) {
-        Some(price) => {
-            device.take(plan, price);
-            true
-        }
-        None => put,
-    }
-}
-
-/// A concentrator puts its bid, and takes a price; whether it did either.
-fn parent_turn(
-    links: &[FreeLink],
-    up: &mut Option<UpEnd>,
-    parent: &mut ParentWork,
-    plan: &Plan,
-) -> bool
-    requires { IfSome up.old (IsUpOf links.now) }
-    ensures { IfSome up.new (IsUpOf links.now) }
-{
-    let Some(up) = up else {
-        return false;
-    };
-    let put = put_waiting_bid(links, up, &mut parent.bid);
-    match take_price_from_parent(links, up) {
-        Some(price) => {
-            parent.take(plan, price);
-            true
-        }
-        None => put,
-    }
+    let put = put_waiting_bid(links, up, bid);
+    let price = take_price_from_parent(links, up);
+    (put || price.is_some(), price)
 }
 
 /// A parent takes the bids of its children, and puts the prices that wait for them; whether it did either.
