@@ -97,6 +97,24 @@ pub(crate) fn words_of(alloc: Global, word: &str) -> Result<Vec<String>, AllocEr
     Ok(Vec::from_array(alloc, [String::from_str(alloc, word)?])?)
 }
 
+/// A source of this input.
+fn source_of(
+    alloc: Global,
+    input: &[u8],
+    around: Surroundings,
+) -> Result<Counted<MemSource>, AllocError> {
+    let fails = around.bad_reads(alloc)?;
+    let source = MemSource::new(input.to_vec(alloc)?, around.piece.bytes(), fails);
+    Ok(Counted::new(source))
+}
+
+/// A sink that holds nothing so far.
+fn sink_of(alloc: Global, around: Surroundings) -> Result<Counted<MemSink>, AllocError> {
+    let fails = around.bad_writes(alloc)?;
+    let sink = MemSink::new(alloc, ROOM, around.piece.bytes(), fails)?;
+    Ok(Counted::new(sink))
+}
+
 /// Calls the top with the words of a command.
 pub(crate) fn called<R: Threads + Wait + Sync, G: Gate>(
     rt: &R,
@@ -106,11 +124,8 @@ pub(crate) fn called<R: Threads + Wait + Sync, G: Gate>(
     around: Surroundings,
     gate: &G,
 ) -> Result<Outcome, AllocError> {
-    let bytes = around.piece.bytes();
-    let source = MemSource::new(input.to_vec(alloc)?, bytes, around.bad_reads(alloc)?);
-    let mut source = Counted::new(source);
-    let sink = MemSink::new(alloc, ROOM, bytes, around.bad_writes(alloc)?)?;
-    let mut sink = Counted::new(sink);
+    let mut source = source_of(alloc, input, around)?;
+    let mut sink = sink_of(alloc, around)?;
     let status = market(rt, alloc, words, &mut source, &mut sink, gate);
     Ok(Outcome {
         status,

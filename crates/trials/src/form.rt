@@ -1,5 +1,5 @@
 use crate::call::{Fault, Outcome};
-use crate::wrong::{Verdict, has_status, has_text, is_last_call};
+use crate::wrong::{Verdict, ends_at, has_status, has_text};
 use pm_top::Status;
 
 /// What a command answers to one input each time.
@@ -57,8 +57,7 @@ impl Form {
         if outcome.calls.reads < number {
             return self.is_due(outcome, due);
         }
-        has_status(outcome, Status::ReadFault)?;
-        is_last_call(outcome.calls.reads, number)?;
+        ends_at(outcome, Status::ReadFault, outcome.calls.reads, number)?;
         let is_right = match self {
             Form::Text | Form::Trace => outcome.text.is_empty(),
             Form::Stream => due.text.starts_with(&outcome.text),
@@ -72,15 +71,18 @@ impl Form {
         if outcome.calls.writes < number {
             return self.is_due(outcome, due);
         }
-        has_status(outcome, Status::WriteFault)?;
-        is_last_call(outcome.calls.writes, number)?;
+        ends_at(outcome, Status::WriteFault, outcome.calls.writes, number)?;
+        has_text(outcome, self.is_begun(outcome, due))
+    }
+
+    /// Whether a text is a proper part of the one due. That of a trace may have moves behind it, or end before it does.
+    fn is_begun(self, outcome: &Outcome, due: &Outcome) -> bool {
         let (text, whole) = (outcome.text.as_slice(), due.text.as_slice());
-        let is_right = if self.has_moves(due) {
+        if self.has_moves(due) {
             whole.starts_with(text) || text.starts_with(whole)
         } else {
             text.len() < whole.len() && whole.starts_with(text)
-        };
-        has_text(outcome, is_right)
+        }
     }
 
     /// Whether moves stand behind the text due.

@@ -27,9 +27,19 @@ pub(crate) fn try_gates<R: Threads + Wait + Sync + Print>(
     file: &[u8],
 ) -> anyhow::Result<Tally> {
     let plan = read_scene(alloc, file)?;
+    try_tree(rt, alloc, plan.tree(), file)
+}
+
+/// Tries the commands on a cluster file of this tree under each gate.
+fn try_tree<R: Threads + Wait + Sync + Print>(
+    rt: &R,
+    alloc: Global,
+    tree: &Tree,
+    file: &[u8],
+) -> anyhow::Result<Tally> {
     let due = outcome_of(rt, alloc, "run", file, &OpenGate)?;
     is_answer(&due)?;
-    try_schedules(rt, alloc, plan.tree(), file, &due)
+    try_schedules(rt, alloc, tree, file, &due)
 }
 
 /// Tries the commands under each gate.

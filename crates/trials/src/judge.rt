@@ -3,14 +3,14 @@
 use crate::call::{Outcome, Surroundings, called, words_of};
 use crate::form::Form;
 use crate::piece::Piece;
-use crate::wrong::{Verdict, Wrong};
+use crate::wrong::{Verdict, Wrong, is_answer};
 use pm_runner::OpenGate;
 use pm_top::Status;
 use std::alloc::{AllocError, Global};
 use std::sync::Wait;
 use std::thread::Threads;
 
-/// Whether an outcome is the one due. A trace also has to be one that `check` finds valid.
+/// Whether an outcome is the one due, and tells of no fault. A trace also has to be one that `check` finds valid.
 pub(crate) fn judged<R: Threads + Wait + Sync>(
     rt: &R,
     alloc: Global,
@@ -19,15 +19,24 @@ pub(crate) fn judged<R: Threads + Wait + Sync>(
     outcome: &Outcome,
     due: &Outcome,
 ) -> Result<Verdict, AllocError> {
-    let verdict = form.is_due(outcome, due);
+    let verdict = is_answer(outcome).and(form.is_due(outcome, due));
     if verdict.is_err() || !form.has_moves(outcome) {
         return Ok(verdict);
     }
     let envelope = envelope_of(alloc, input, &outcome.text)?;
+    let judgement = judgement_of(rt, alloc, &envelope)?;
+    Ok(is_valid(&judgement, &outcome.text))
+}
+
+/// What `check` says of an envelope.
+fn judgement_of<R: Threads + Wait + Sync>(
+    rt: &R,
+    alloc: Global,
+    envelope: &[u8],
+) -> Result<Outcome, AllocError> {
     let check = words_of(alloc, "check")?;
     let around = Surroundings::in_pieces(Piece::All);
-    let judgement = called(rt, alloc, &check, &envelope, around, &OpenGate)?;
-    Ok(is_valid(&judgement, &outcome.text))
+    called(rt, alloc, &check, envelope, around, &OpenGate)
 }
 
 /// A cluster file in an envelope, with a trace behind it.

@@ -50,12 +50,25 @@ fn tried<R: Threads + Wait + Sync + Print>(
     }
 }
 
+/// The arguments behind the program's name.
+fn arguments_of(rt: &HostRuntime) -> anyhow::Result<Vec<String>> {
+    Ok(env::args(rt)?.skip(1).collect(rt.alloc())?)
+}
+
+/// What these arguments ask for, and standard input.
+fn asked_and_input<'a>(
+    rt: &HostRuntime,
+    arguments: &'a [String],
+) -> anyhow::Result<(Asked<'a>, Vec<u8>)> {
+    let asked = asked_of(arguments).context(USAGE)?;
+    let input = read_all(rt.alloc(), &mut StdSource::new(rt.stdin()), INPUT_LIMIT)?;
+    Ok((asked, input))
+}
+
 fn main(rt: HostRuntime) -> anyhow::Result<ExitCode> {
-    let alloc = rt.alloc();
-    let arguments: Vec<String> = env::args(&rt)?.skip(1).collect(alloc)?;
-    let asked = asked_of(&arguments).context(USAGE)?;
-    let input = read_all(alloc, &mut StdSource::new(rt.stdin()), INPUT_LIMIT)?;
-    let tally = tried(&rt, alloc, asked, &input)?;
+    let arguments = arguments_of(&rt)?;
+    let (asked, input) = asked_and_input(&rt, &arguments)?;
+    let tally = tried(&rt, rt.alloc(), asked, &input)?;
     println!(rt; "{tally}")?;
     Ok(ExitCode::from(tally.code()))
 }

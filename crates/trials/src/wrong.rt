@@ -50,8 +50,9 @@ pub(crate) fn has_text(outcome: &Outcome, is_right: bool) -> Verdict {
     }
 }
 
-/// Whether the call of this number was the last.
-pub(crate) fn is_last_call(calls: u64, due: u64) -> Verdict {
+/// Whether this fault came, and the call of this number was the last.
+pub(crate) fn ends_at(outcome: &Outcome, fault: Status, calls: u64, due: u64) -> Verdict {
+    has_status(outcome, fault)?;
     if calls == due {
         Ok(())
     } else {

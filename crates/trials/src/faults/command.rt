@@ -5,7 +5,7 @@ use crate::form::Form;
 use crate::judge::judged;
 use crate::piece::{PIECES, Piece};
 use crate::tally::Tally;
-use crate::wrong::is_answer;
+use crate::wrong::{Verdict, is_answer};
 use pm_runner::OpenGate;
 use std::alloc::{AllocError, Global};
 use std::sync::Wait;
@@ -75,6 +75,30 @@ impl<'a> Command<'a> {
         called(rt, self.alloc, self.words, input, around, &OpenGate)
     }
 
+    /// Whether what an input in pieces comes to is the outcome due, where no call fails, and the calls that were made.
+    fn judge_pieces<R: Threads + Wait + Sync>(
+        &self,
+        rt: &R,
+        input: &[u8],
+        due: &Outcome,
+        piece: Piece,
+    ) -> Result<(Verdict, Calls), AllocError> {
+        let outcome = self.outcome(rt, input, Surroundings::in_pieces(piece))?;
+        let verdict = judged(rt, self.alloc, self.form, input, &outcome, due)?;
+        Ok((verdict, outcome.calls))
+    }
+
+    /// Whether what all of the input comes to is right under a fault.
+    fn judge_fault<R: Threads + Wait + Sync>(
+        &self,
+        rt: &R,
+        piece: Piece,
+        fault: Fault,
+    ) -> Result<Verdict, AllocError> {
+        let outcome = self.outcome(rt, self.input, Surroundings { piece, fault })?;
+        Ok(self.form.is_due_under(fault, &outcome, &self.due))
+    }
+
     /// Tries all of the input in pieces, with no fault, and gives the calls that it made.
     pub(crate) fn try_whole<R: Threads + Wait + Sync + Print>(
         &self,
@@ -82,12 +106,10 @@ impl<'a> Command<'a> {
         piece: Piece,
         tally: &mut Tally,
     ) -> anyhow::Result<Calls> {
-        let around = Surroundings::in_pieces(piece);
-        let outcome = self.outcome(rt, self.input, around)?;
-        let verdict = judged(rt, self.alloc, self.form, self.input, &outcome, &self.due)?;
+        let (verdict, calls) = self.judge_pieces(rt, self.input, &self.due, piece)?;
         let fault = Fault::Nothing;
         tally.count(rt, &Trial::Whole { piece, fault }, verdict)?;
-        Ok(outcome.calls)
+        Ok(calls)
     }
 
     /// Tries each of so many calls of the source or the sink as one that fails, and one more, which is not made.
@@ -104,8 +126,7 @@ impl<'a> Command<'a> {
             let number = before + 1;
             if self.every.takes(number, last) {
                 let fault = side.fault(number);
-                let outcome = self.outcome(rt, self.input, Surroundings { piece, fault })?;
-                let verdict = self.form.is_due_under(fault, &outcome, &self.due);
+                let verdict = self.judge_fault(rt, piece, fault)?;
                 tally.count(rt, &Trial::Whole { piece, fault }, verdict)?;
             }
         }
@@ -137,13 +158,20 @@ impl<'a> Command<'a> {
         tally: &mut Tally,
     ) -> anyhow::Result<()> {
         let due = due_of(rt, self.alloc, self.words, cut)?;
+        self.try_pieces(rt, cut, &due, tally)
+    }
+
+    /// Tries an input that was cut in pieces of each size.
+    fn try_pieces<R: Threads + Wait + Sync + Print>(
+        &self,
+        rt: &R,
+        cut: &[u8],
+        due: &Outcome,
+        tally: &mut Tally,
+    ) -> anyhow::Result<()> {
+        let length = cut.len();
         for piece in PIECES {
-            let outcome = self.outcome(rt, cut, Surroundings::in_pieces(piece))?;
-            let verdict = match is_answer(&outcome) {
-                Ok(()) => judged(rt, self.alloc, self.form, cut, &outcome, &due)?,
-                Err(wrong) => Err(wrong),
-            };
-            let length = cut.len();
+            let (verdict, _calls) = self.judge_pieces(rt, cut, due, piece)?;
             tally.count(rt, &Trial::Cut { piece, length }, verdict)?;
         }
         Ok(())
