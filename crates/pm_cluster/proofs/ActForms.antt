@@ -1,9 +1,10 @@
 -- Moves of the form of an act.
 use Rattle.std.proofs.Common.{◌≡◌, ◌∙◌, sym, ap, subst, ℕ, ◌+◌, ◌≤◌, ℤ, Bool, true, false, arith, refl, inl, inr}
-use Rattle.std.specs.Prelude.{Option, Some, None, MatchOption}
+use Rattle.std.specs.Prelude.{Option, Some, None, IfSome}
 use Rattle.std.proofs.Math.Logic.{∥∥₁_elim}
 use Rattle.std.proofs.Props.{props}
 use Rattle.std.proofs.lemmas.Bool.{both_ways}
+use Rattle.std.proofs.lemmas.Option.{IfSome_then}
 use Rattle.pm_base.specs.Limits.{most_phases}
 use Rattle.pm_device.specs.declared.state.Next.{Next}
 use Rattle.pm_device.specs.declared.state.DeviceState.{DeviceState}
@@ -27,6 +28,7 @@ use Rattle.pm_plan.proofs.MarketLists.{phases-is}
 use Rattle.pm_agent.specs.MadeBids.{MadeBid}
 use Rattle.pm_stands.specs.Core.{Core}
 use Rattle.pm_stands.specs.Stands.{StandsFor, Stands}
+use Rattle.pm_stands.specs.Actors.{IsMoveOf}
 use Rattle.pm_cluster.specs.Next.{count_of, HasNoNext, IsNext}
 use Rattle.pm_cluster.specs.Acts.{IsNextOrNone, NotChanged}
 use Rattle.pm_cluster.specs.declared.fault.ChangeFault.{ChangeFault}
@@ -52,17 +54,21 @@ number_of (Clear n) = (n, refl)
 number_of (Pass x n) = (n, refl)
 number_of (Close n) = (n, refl)
 
+-- what holds of the move of an act's form under each number holds of each move of that form
+pub of_form : (P : Move → Type 0) (a : Act) → ((n : ℕ) → P (numbered a n)) → (m : Move) → act_of m ≡ a → P m
+of_form P a each m form =
+    let (n, same) = number_of m in
+    subst P same (subst (λ (b : Act). P (numbered b n)) (sym form) (each n))
+
 -- where the move of an act's form is legal under no number, no legal move has that form
 pub no_form : (lists : Lists) (s : State) (a : Act) → ((n : ℕ) → Legal lists s (numbered a n) → ⊥) → (m : Move) → act_of m ≡ a →
     Legal lists s m → ⊥
-no_form lists s a none m form legal =
-    let (n, same) = number_of m in
-    none n (subst (λ (b : Act). Legal lists s (numbered b n)) form (subst (Legal lists s) (sym same) legal))
+no_form lists s a none = of_form (λ m. Legal lists s m → ⊥) a none
 
--- what is said where there is none
-pub at_none : {A : Type 0} (found : Option A) (P Q : Type 0) (R : A → Type 0) → (P → Q) → MatchOption found P R → MatchOption found Q R
-at_none None P Q R f h = f h
-at_none (Some x) P Q R f h = h
+-- a move of an act's form is the node's whose act it is
+pub its_own : (lists : Lists) (x : ℕ) (a : Act) (made : Option Move) → ((n : ℕ) → IsMoveOf lists x (numbered a n)) →
+    IfSome made (λ what. act_of what ≡ a) → IfSome made (IsMoveOf lists x)
+its_own lists x a made each form = IfSome_then made form (of_form (IsMoveOf lists x) a each)
 
 -- ---- nodes
 

@@ -4,6 +4,7 @@ mod EntriesTold
 mod LimitedTold
 mod DueMore
 pub mod Kept
+pub mod MadeBy
 mod Seats
 mod Some
 mod Children

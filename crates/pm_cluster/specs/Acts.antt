@@ -1,6 +1,6 @@
 -- Acts, the changes that are refused, and runs of acts.
 use Rattle.std.specs.Prelude.{◌≡◌, ℕ, ◌<◌, ◌≤◌, ◌⊎◌, false, List, ◌∷◌, ◌++◌, length, map, take, slice_get, Option, Some, None}
-use Rattle.std.specs.Prelude.{MatchOption, ⊤}
+use Rattle.std.specs.Prelude.{IfSome, MatchOption, ⊤}
 use Rattle.pm_base.specs.Cuts.{Cut}
 use Rattle.pm_agent.specs.MadeBids.{MadeBid}
 use Rattle.pm_device.specs.declared.state.Next.{Next}
@@ -16,7 +16,9 @@ use Rattle.pm_plan.specs.Plans.{PlanData, node, kind_of}
 use Rattle.pm_plan.specs.Market.{plan_lists}
 use Rattle.pm_offer.specs.Offers.{local_at}
 use Rattle.pm_stands.specs.Core.{Core}
-use Rattle.pm_stands.specs.Stands.{StandsFor}
+use Rattle.pm_stands.specs.Stands.{StandsFor, MakesMove}
+use Rattle.pm_stands.specs.Actors.{IsMoveOf, NoMoveOf}
+use Rattle.pm_cluster.specs.Clusters.{ClusterValue}
 use Rattle.pm_cluster.specs.Next.{HasNoNext, IsNext}
 use Rattle.pm_cluster.specs.declared.fault.ChangeFault.{ChangeFault}
 use Rattle.pm_cluster.specs.declared.fault.ChangeFault.TheVariants as change_faults
@@ -47,6 +49,23 @@ NotChanged plan closed counts made change_faults.NoMemory = ⊥
 -- no move of the act's form is legal
 abbrev pub NoMoveBy : PlanData → State → Act → Type 0
 NoMoveBy plan s act = (m : Move) → act_of m ≡ act → Legal (plan_lists plan) s m → ⊥
+
+-- what an act made of a cluster: a legal move of its form, by which the cluster stands for the state behind the move; or nothing, where
+-- no move of that form is legal, and the cluster is as it was
+pub record IsMadeBy (a : Act) (old new : ClusterValue) (what : Option Move) : Type 0 where
+  pub plan : new.plan ≡ old.plan
+  pub form : IfSome what (λ m. act_of m ≡ a)
+  pub none : what ≡ None → new ≡ old
+  pub made : (s : State) → StandsFor old.plan old.core s → MatchOption what (NoMoveBy old.plan s a) (MakesMove old.plan new.core s)
+
+-- what a node made of a cluster: a legal move of its own, by which the cluster stands for the state behind the move; or nothing, where
+-- the node has no legal move, and the cluster is as it was
+pub record IsMadeOf (x : ℕ) (old new : ClusterValue) (what : Option Move) : Type 0 where
+  pub plan : new.plan ≡ old.plan
+  pub mine : IfSome what (IsMoveOf (plan_lists old.plan) x)
+  pub none : what ≡ None → new ≡ old
+  pub made : (s : State) → StandsFor old.plan old.core s →
+      MatchOption what (NoMoveOf (plan_lists old.plan) s x) (MakesMove old.plan new.core s)
 
 -- why an act is refused: no move of its form is legal; or an allocation failed, which says nothing
 abbrev pub NotActed : PlanData → State → Act → ActFault → Type 0

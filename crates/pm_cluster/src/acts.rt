@@ -11,7 +11,7 @@ ghost use Rattle.pm_stands.specs.Stands.{StandsFor, MakesMove};
 ghost use Rattle.pm_stands.specs.Actors.{IsMoveOf, NoMoveOf, IsMadeLine};
 ghost use Rattle.pm_market.specs.declared.moves.Act.{Act};
 ghost use Rattle.pm_cluster.specs.declared.fault.ActFault.{ActFault};
-ghost use Rattle.pm_cluster.specs.Acts.{NoMoveBy, NotActed, IsRunOf, NeverGoesBack, AreRefused};
+ghost use Rattle.pm_cluster.specs.Acts.{IsMadeBy, NotActed, IsRunOf, NeverGoesBack, AreRefused};
 
 use crate::cluster::Cluster;
 use crate::fault::{ActFault, ApplyFault};
@@ -88,12 +88,7 @@ impl<'p> Cluster<'p> {
 
     /// Makes the legal move of an act's form, where there is one.
     fn move_by(&mut self, act: Act) -> Option<Move>
-        ensures plan { self.new.plan ≡ self.old.plan }
-        ensures form { IfSome result (λ what. act_of what ≡ act) }
-        ensures none { result ≡ None → self.new ≡ self.old }
-        ensures made { (s : State) → StandsFor self.old.plan self.old.core s → MatchOption result
-            (NoMoveBy self.old.plan s act)
-            (MakesMove self.old.plan self.new.core s) }
+        ensures { IsMadeBy act self.old self.new result }
     {
         match act {
             Act::Change { device } => self.change_by_plan(NodeId(device)),
@@ -107,12 +102,7 @@ impl<'p> Cluster<'p> {
 
     /// Makes the next change of a device, where it has one.
     fn change_by_plan(&mut self, device: NodeId) -> Option<Move>
-        ensures plan { self.new.plan ≡ self.old.plan }
-        ensures form { IfSome result (λ what. act_of what ≡ Act.Change device.0) }
-        ensures none { result ≡ None → self.new ≡ self.old }
-        ensures made { (s : State) → StandsFor self.old.plan self.old.core s → MatchOption result
-            (NoMoveBy self.old.plan s (Act.Change device.0))
-            (MakesMove self.old.plan self.new.core s) }
+        ensures { IsMadeBy (Act.Change device.0) self.old self.new result }
     {
         let plan = self.plan;
         if !is_device(plan, device) {
@@ -126,12 +116,7 @@ impl<'p> Cluster<'p> {
 
     /// The parent of a node learns the node's newest bid, where that is legal.
     fn learn_from(&mut self, child: NodeId) -> Option<Move>
-        ensures plan { self.new.plan ≡ self.old.plan }
-        ensures form { IfSome result (λ what. act_of what ≡ Act.Learn child.0) }
-        ensures none { result ≡ None → self.new ≡ self.old }
-        ensures made { (s : State) → StandsFor self.old.plan self.old.core s → MatchOption result
-            (NoMoveBy self.old.plan s (Act.Learn child.0))
-            (MakesMove self.old.plan self.new.core s) }
+        ensures { IsMadeBy (Act.Learn child.0) self.old self.new result }
     {
         if !is_node(self.plan, child) {
             return None;
@@ -141,12 +126,7 @@ impl<'p> Cluster<'p> {
 
     /// A concentrator publishes, where that is legal.
     fn publish_at(&mut self, node: NodeId) -> Option<Move>
-        ensures plan { self.new.plan ≡ self.old.plan }
-        ensures form { IfSome result (λ what. act_of what ≡ Act.Publish node.0) }
-        ensures none { result ≡ None → self.new ≡ self.old }
-        ensures made { (s : State) → StandsFor self.old.plan self.old.core s → MatchOption result
-            (NoMoveBy self.old.plan s (Act.Publish node.0))
-            (MakesMove self.old.plan self.new.core s) }
+        ensures { IsMadeBy (Act.Publish node.0) self.old self.new result }
     {
         if !is_concentrator(self.plan, node) {
             return None;
@@ -156,12 +136,7 @@ impl<'p> Cluster<'p> {
 
     /// The newest price that waits for a node is passed to it, where there is one.
     fn pass_to(&mut self, node: NodeId) -> Option<Move>
-        ensures plan { self.new.plan ≡ self.old.plan }
-        ensures form { IfSome result (λ what. act_of what ≡ Act.Pass node.0) }
-        ensures none { result ≡ None → self.new ≡ self.old }
-        ensures made { (s : State) → StandsFor self.old.plan self.old.core s → MatchOption result
-            (NoMoveBy self.old.plan s (Act.Pass node.0))
-            (MakesMove self.old.plan self.new.core s) }
+        ensures { IsMadeBy (Act.Pass node.0) self.old self.new result }
     {
         if is_device(self.plan, node) {
             return self.take(node);
@@ -174,12 +149,7 @@ impl<'p> Cluster<'p> {
 
     /// Closes the open phase, where that is legal.
     fn close_phase(&mut self) -> Option<Move>
-        ensures plan { self.new.plan ≡ self.old.plan }
-        ensures form { IfSome result (λ what. act_of what ≡ Act.Close) }
-        ensures none { result ≡ None → self.new ≡ self.old }
-        ensures made { (s : State) → StandsFor self.old.plan self.old.core s → MatchOption result
-            (NoMoveBy self.old.plan s Act.Close)
-            (MakesMove self.old.plan self.new.core s) }
+        ensures { IsMadeBy Act.Close self.old self.new result }
     {
         let phase = self.closed + 1;
         if !self.close() {

@@ -1,12 +1,14 @@
-ghost use Rattle.std.specs.Prelude.{◌≡◌, ℕ, ◌<◌, ◌≤◌, length, Some, None, IfSome, MatchOption};
-ghost use Rattle.pm_market.specs.Lists.{nodes, parent, IsNode, IsLeaf, IsInner, IsConcentrator};
+ghost use Rattle.std.specs.Prelude.{◌≡◌, ℕ, ◌<◌, ◌≤◌, Some, None, IfSome, MatchOption};
+ghost use Rattle.pm_market.specs.Lists.{nodes, parent, IsNode, IsLeaf, IsConcentrator};
 ghost use Rattle.pm_market.specs.State.{State};
-ghost use Rattle.pm_market.specs.Moves.{Legal, act_of};
+ghost use Rattle.pm_market.specs.Moves.{Legal};
 ghost use Rattle.pm_market.specs.declared.moves.Act.{Act};
 ghost use Rattle.pm_market.specs.declared.moves.Move.{Move};
 ghost use Rattle.pm_plan.specs.Market.{plan_lists};
 ghost use Rattle.pm_stands.specs.Stands.{StandsFor, MakesMove};
-ghost use Rattle.pm_stands.specs.Actors.{IsMoveOf, NoMoveOf};
+ghost use Rattle.pm_market.specs.declared.moves.Act.{Act};
+ghost use Rattle.pm_stands.specs.Actors.{IsMoveOf};
+ghost use Rattle.pm_cluster.specs.Acts.{IsMadeBy, IsMadeOf};
 
 use crate::cluster::Cluster;
 use crate::links::{take_bid, take_price, unless_gone};
@@ -19,13 +21,7 @@ impl<'p> Cluster<'p> {
     /// The parent of a node learns the bid that waits on the node's link.
     pub(crate) fn learn(&mut self, child: NodeId) -> Option<Move>
         requires node { IsNode (plan_lists self.old.plan) child.0 }
-        ensures plan { self.new.plan ≡ self.old.plan }
-        ensures mine { IfSome result (λ what. IsMoveOf (plan_lists self.old.plan) (parent (plan_lists self.old.plan) child.0) what) }
-        ensures form { IfSome result (λ what. act_of what ≡ Act.Learn child.0) }
-        ensures none { result ≡ None → self.new ≡ self.old }
-        ensures made { (s : State) → StandsFor self.old.plan self.old.core s → MatchOption result
-            ((number : ℕ) → Legal (plan_lists self.old.plan) s (Move.Learn child.0 number) → ⊥)
-            (λ what. MakesMove self.old.plan self.new.core s what) }
+        ensures { IsMadeBy (Act.Learn child.0) self.old self.new result }
     {
         let parent = parent_of(self.plan, child);
         let place = place_in_row(self.plan, child);
@@ -50,13 +46,7 @@ impl<'p> Cluster<'p> {
     /// A concentrator publishes what it knows.
     pub(crate) fn publish(&mut self, node: NodeId) -> Option<Move>
         requires concentrator { IsConcentrator (plan_lists self.old.plan) node.0 }
-        ensures plan { self.new.plan ≡ self.old.plan }
-        ensures mine { IfSome result (λ what. IsMoveOf (plan_lists self.old.plan) node.0 what) }
-        ensures form { IfSome result (λ what. act_of what ≡ Act.Publish node.0) }
-        ensures none { result ≡ None → self.new ≡ self.old }
-        ensures made { (s : State) → StandsFor self.old.plan self.old.core s → MatchOption result
-            ((number : ℕ) → Legal (plan_lists self.old.plan) s (Move.Publish node.0 number) → ⊥)
-            (λ what. MakesMove self.old.plan self.new.core s what) }
+        ensures { IsMadeBy (Act.Publish node.0) self.old self.new result }
     {
         let parent = parent_of(self.plan, node);
         let place = place_in_row(self.plan, node);
@@ -79,13 +69,7 @@ impl<'p> Cluster<'p> {
     /// A concentrator takes the price that waits on its link, and passes it on to its children.
     pub(crate) fn pass_on(&mut self, node: NodeId) -> Option<Move>
         requires concentrator { IsConcentrator (plan_lists self.old.plan) node.0 }
-        ensures plan { self.new.plan ≡ self.old.plan }
-        ensures mine { IfSome result (λ what. IsMoveOf (plan_lists self.old.plan) node.0 what) }
-        ensures form { IfSome result (λ what. act_of what ≡ Act.Pass node.0) }
-        ensures none { result ≡ None → self.new ≡ self.old }
-        ensures made { (s : State) → StandsFor self.old.plan self.old.core s → MatchOption result
-            ((index : ℕ) → Legal (plan_lists self.old.plan) s (Move.Pass node.0 index) → ⊥)
-            (λ what. MakesMove self.old.plan self.new.core s what) }
+        ensures { IsMadeBy (Act.Pass node.0) self.old self.new result }
     {
         let parent = parent_of(self.plan, node);
         let place = place_in_row(self.plan, node);
@@ -107,13 +91,7 @@ impl<'p> Cluster<'p> {
     /// A device takes the price that waits on its link.
     pub(crate) fn take(&mut self, device: NodeId) -> Option<Move>
         requires leaf { IsLeaf (plan_lists self.old.plan) device.0 }
-        ensures plan { self.new.plan ≡ self.old.plan }
-        ensures mine { IfSome result (λ what. IsMoveOf (plan_lists self.old.plan) device.0 what) }
-        ensures form { IfSome result (λ what. act_of what ≡ Act.Pass device.0) }
-        ensures none { result ≡ None → self.new ≡ self.old }
-        ensures made { (s : State) → StandsFor self.old.plan self.old.core s → MatchOption result
-            ((index : ℕ) → Legal (plan_lists self.old.plan) s (Move.Pass device.0 index) → ⊥)
-            (λ what. MakesMove self.old.plan self.new.core s what) }
+        ensures { IsMadeBy (Act.Pass device.0) self.old self.new result }
     {
         let parent = parent_of(self.plan, device);
         let place = place_in_row(self.plan, device);
@@ -129,13 +107,7 @@ impl<'p> Cluster<'p> {
 
     /// The auctioneer clears.
     pub(crate) fn clear(&mut self) -> Option<Move>
-        ensures plan { self.new.plan ≡ self.old.plan }
-        ensures mine { IfSome result (λ what. IsMoveOf (plan_lists self.old.plan) 0 what) }
-        ensures form { IfSome result (λ what. act_of what ≡ Act.Clear) }
-        ensures none { result ≡ None → self.new ≡ self.old }
-        ensures made { (s : State) → StandsFor self.old.plan self.old.core s → MatchOption result
-            ((index : ℕ) → Legal (plan_lists self.old.plan) s (Move.Clear index) → ⊥)
-            (λ what. MakesMove self.old.plan self.new.core s what) }
+        ensures { IsMadeBy Act.Clear self.old self.new result }
     {
         let Some(cleared) = parts::clear(&mut self.auctioneer, &mut self.links) else {
             return None;
@@ -169,12 +141,7 @@ impl<'p> Cluster<'p> {
     /// A node makes one of its moves, where one is legal.
     pub(crate) fn move_of(&mut self, node: NodeId) -> Option<Move>
         requires inside { node.0 ≤ nodes (plan_lists self.old.plan) }
-        ensures plan { self.new.plan ≡ self.old.plan }
-        ensures mine { IfSome result (λ what. IsMoveOf (plan_lists self.old.plan) node.0 what) }
-        ensures none { result ≡ None → self.new ≡ self.old }
-        ensures made { (s : State) → StandsFor self.old.plan self.old.core s → MatchOption result
-            (NoMoveOf (plan_lists self.old.plan) s node.0)
-            (λ what. MakesMove self.old.plan self.new.core s what) }
+        ensures { IsMadeOf node.0 self.old self.new result }
     {
         if node.0 == 0 {
             return self.move_of_auctioneer();
@@ -186,12 +153,7 @@ impl<'p> Cluster<'p> {
     }
 
     fn move_of_auctioneer(&mut self) -> Option<Move>
-        ensures plan { self.new.plan ≡ self.old.plan }
-        ensures mine { IfSome result (λ what. IsMoveOf (plan_lists self.old.plan) 0 what) }
-        ensures none { result ≡ None → self.new ≡ self.old }
-        ensures made { (s : State) → StandsFor self.old.plan self.old.core s → MatchOption result
-            (NoMoveOf (plan_lists self.old.plan) s 0)
-            (λ what. MakesMove self.old.plan self.new.core s what) }
+        ensures { IsMadeOf 0 self.old self.new result }
     {
         let made = self.learn_any(NodeId(0));
         if made.is_some() {
@@ -202,12 +164,7 @@ impl<'p> Cluster<'p> {
 
     fn move_of_concentrator(&mut self, node: NodeId) -> Option<Move>
         requires concentrator { IsConcentrator (plan_lists self.old.plan) node.0 }
-        ensures plan { self.new.plan ≡ self.old.plan }
-        ensures mine { IfSome result (λ what. IsMoveOf (plan_lists self.old.plan) node.0 what) }
-        ensures none { result ≡ None → self.new ≡ self.old }
-        ensures made { (s : State) → StandsFor self.old.plan self.old.core s → MatchOption result
-            (NoMoveOf (plan_lists self.old.plan) s node.0)
-            (λ what. MakesMove self.old.plan self.new.core s what) }
+        ensures { IsMadeOf node.0 self.old self.new result }
     {
         let made = self.learn_any(node);
         if made.is_some() {

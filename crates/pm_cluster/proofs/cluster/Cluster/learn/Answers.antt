@@ -1,7 +1,6 @@
-use Rattle.std.proofs.Common.{ℕ, sym, subst, arith}
+use Rattle.std.proofs.Common.{refl, rules, sym, subst, arith}
 use Rattle.pm_market.specs.State.{State}
 use Rattle.pm_market.specs.Lists.{IsNode}
-use Rattle.pm_market.specs.Moves.{Legal}
 use Rattle.pm_market.specs.declared.moves.Move.TheVariants.{Learn}
 use Rattle.pm_cache.specs.Learning.{CanLearn}
 use Rattle.pm_session.specs.Links.{UpBid}
@@ -13,7 +12,9 @@ use Rattle.pm_stands.specs.Stands.{StandsFor, MakesMove}
 use Rattle.pm_stands.proofs.Made.{learn_did, can_learn_at, newer_at, cannot_learn}
 use Rattle.pm_cluster.specs.declared.cluster.Cluster.TheInside.{Inside}
 use Rattle.pm_cluster.specs.ClusterFields.{core_of}
-use Rattle.pm_cluster.proofs.Kept.{parent_there, moved, of_fields, of_value}
+use Rattle.pm_cluster.proofs.MadeBy.{made_by, made_none}
+use Rattle.pm_market.specs.declared.moves.Act.TheVariants as act
+use Rattle.pm_cluster.proofs.Kept.{parent_there, moved, of_fields}
 use Rattle.std.proofs.lemmas.List.{length-map}
 use Rattle.pm_cluster.proofs.cluster.Cluster.learn.Goals as goal
 use Rattle.pm_cluster.proofs.cluster.Cluster.learn.Goals.{After-unless_gone-demand, After-learn}
@@ -73,13 +74,12 @@ makes c s stands =
 pub invariant_of-self-2 : goal.invariant_of-self-2
 invariant_of-self-2 c = moved c.self.inside (after c) _ c.self.invariant c.in-Some.ensures.same_length (makes c)
 
-pub returns-clause-made : goal.returns-clause-made
-returns-clause-made c =
-    of_value c.self.inside _ c.self.view_is (λ plan s. MakesMove plan (core_of (after c)) s (Learn c.args.child.0 c.in-Some.head.number)) (makes c)
+pub returns : goal.returns
+returns c = made_by c.self.inside (after c) _ (act.Learn c.args.child.0) _ c.self.view_is refl (makes c)
 
-pub returns-in_default-clause-made : goal.returns-in_default-clause-made
-returns-in_default-clause-made c =
-    of_value c.self.inside _ c.self.view_is (λ plan s. (number : ℕ) → Legal (plan_lists plan) s (Learn c.args.child.0 number) → ⊥) (λ s stands.
+pub returns-in_default : goal.returns-in_default
+returns-in_default c =
+    made_none c.self.inside _ _ (act.Learn c.args.child.0) c.self.view_is (search rules) (λ s stands.
     cannot_learn c.self.inside.plan.now (core_of c.self.inside) s stands c.args.child.0 c.parent_of-parent.result c.place_in_row-place.result
     c.parent_of-parent.ensures.parent c.place_in_row-place.ensures.place _ c.in_default.ensures.taken.0)
 

@@ -1,19 +1,20 @@
-use Rattle.std.proofs.Common.{arith, sym, ap, subst, ◌∙◌, ◌≡◌, ℕ, length, Option, MatchOption, inl, inr}
-use Rattle.std.specs.Prelude.{IfSome}
+use Rattle.std.proofs.Common.{arith, refl, sym, ap, subst, ◌∙◌, ◌≡◌, ℕ, length, Option, MatchOption, inl, inr}
 use Rattle.std.proofs.lemmas.Bool.{cases_lt}
 use Rattle.std.proofs.lemmas.Option.{MatchOption-at_none}
 use Rattle.pm_tree.specs.Entries.{place_of}
-use Rattle.pm_market.specs.Lists.{nodes, parent, IsNode}
+use Rattle.pm_market.specs.Lists.{nodes, IsNode}
 use Rattle.pm_market.specs.State.{State}
 use Rattle.pm_market.specs.Moves.{Legal}
 use Rattle.pm_market.specs.declared.moves.Move.{Move}
 use Rattle.pm_market.specs.declared.moves.Move.TheVariants.{Learn}
 use Rattle.pm_plan.specs.Kept.{IsPlan}
 use Rattle.pm_plan.specs.Market.{plan_lists}
-use Rattle.pm_stands.specs.Actors.{IsMoveOf}
 use Rattle.pm_stands.specs.Core.{Core, child_at}
 use Rattle.pm_stands.specs.Stands.{StandsFor, MakesMove}
 use Rattle.pm_cluster.specs.Clusters.{ClusterValue}
+use Rattle.pm_market.specs.declared.moves.Act.TheVariants as act
+use Rattle.pm_cluster.specs.Acts.{NoMoveBy}
+use Rattle.pm_cluster.proofs.ActForms.{its_own}
 use Rattle.pm_cluster.proofs.Children.{IsChild, item, child_read, child_among}
 use Rattle.pm_cluster.proofs.Parents.{nodes_are}
 use Rattle.pm_base.proofs.Options.{none_of}
@@ -22,7 +23,7 @@ use Rattle.pm_cluster.proofs.cluster.Cluster.learn_any.Goals as goal
 -- what learning from a child made of a cluster
 abbrev Claim : Option Move → Core → ℕ → ClusterValue → Type 0
 Claim made new child v = (s : State) → StandsFor v.plan v.core s →
-    MatchOption made ((number : ℕ) → Legal (plan_lists v.plan) s (Learn child number) → ⊥) (λ what. MakesMove v.plan new s what)
+    MatchOption made (NoMoveBy v.plan s (act.Learn child)) (MakesMove v.plan new s)
 
 pub children-child-items-requires : goal.children-child-items-requires
 children-child-items-requires c =
@@ -50,9 +51,7 @@ returns-then-is_some-clause-mine c =
     let child : IsChild c.args.self.now.plan c.args.node.0 c.loop-child.child-index x =
     child_read c.args.self.now.plan is_plan _ c.children-child-items.result.now c.args.node.0 c.loop-child.child-index
     (c.tree.ensures.tree ∙ ap (λ (v : ClusterValue). v.plan.entries) c.self.view_is) c.children-child-items.ensures c.loop-child-test.true in
-    let Mine : ClusterValue → ℕ → Type 0 = λ v y. IfSome c.learn-made.result (λ what. IsMoveOf (plan_lists v.plan) y what) in
-    subst (Mine c.args.self.now) child.up (
-    subst (λ (v : ClusterValue). Mine v (parent (plan_lists v.plan) x)) c.loop-child.invariant.same c.learn-made.ensures.mine)
+    its_own (plan_lists c.args.self.now.plan) c.args.node.0 (act.Learn x) c.learn-made.result (λ n. child.up) c.learn-made.ensures.form
 
 pub loop-child-preserved : goal.loop-child-preserved
 loop-child-preserved c =
@@ -69,7 +68,7 @@ loop-child-preserved c =
         | inr at ↦
             let is : k ≡ c.loop-child.child-index = omega arith in
             let made = subst (Claim c.learn-made.result c.learn-made.new.self.core x) c.loop-child.invariant.same c.learn-made.ensures.made in
-            MatchOption-at_none _ _ nothing (made s stands) number (
+            MatchOption-at_none _ _ nothing (made s stands) (Learn x number) refl (
             subst (λ (i : ℕ). Legal (plan_lists c.args.self.now.plan) s (Learn i number))
             (ap (child_at c.args.self.now.plan c.args.node.0) is ∙ sym child.at) legal)
       ];

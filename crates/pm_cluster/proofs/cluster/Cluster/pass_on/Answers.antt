@@ -1,7 +1,6 @@
-use Rattle.std.proofs.Common.{refl, ℕ, map, arith}
+use Rattle.std.proofs.Common.{rules, refl, map, arith}
 use Rattle.pm_market.specs.State.{State}
 use Rattle.pm_market.specs.Lists.{IsConcentrator}
-use Rattle.pm_market.specs.Moves.{Legal}
 use Rattle.pm_market.specs.declared.moves.Move.TheVariants.{Pass}
 use Rattle.pm_plan.specs.Market.{plan_lists}
 use Rattle.pm_stands.specs.Made.{DidPass, MayPass}
@@ -9,7 +8,9 @@ use Rattle.pm_stands.specs.Stands.{StandsFor, MakesMove}
 use Rattle.pm_stands.proofs.MayPass.{may_pass, pass_did, cannot_pass}
 use Rattle.pm_cluster.specs.declared.cluster.Cluster.TheInside.{Inside}
 use Rattle.pm_cluster.specs.ClusterFields.{core_of}
-use Rattle.pm_cluster.proofs.Kept.{moved, of_fields, of_value}
+use Rattle.pm_cluster.proofs.MadeBy.{made_by, made_none}
+use Rattle.pm_market.specs.declared.moves.Act.TheVariants as act
+use Rattle.pm_cluster.proofs.Kept.{moved, of_fields}
 use Rattle.std.proofs.lemmas.List.{length-map}
 use Rattle.pm_cluster.proofs.cluster.Cluster.pass_on.Goals as goal
 use Rattle.pm_cluster.proofs.cluster.Cluster.pass_on.Goals.{In-Some, After-pass}
@@ -59,14 +60,13 @@ makes c s stands =
 pub invariant_of-self-2 : goal.invariant_of-self-2
 invariant_of-self-2 c = moved c.self.inside (after c) _ c.self.invariant refl (makes c)
 
-pub returns-clause-made : goal.returns-clause-made
-returns-clause-made c =
-    of_value c.self.inside _ c.self.view_is (λ plan s. MakesMove plan (core_of (after c)) s (Pass c.args.node.0 c.in-Some.price.index)) (makes c)
+pub returns : goal.returns
+returns c = made_by c.self.inside (after c) _ (act.Pass c.args.node.0) _ c.self.view_is refl (makes c)
 
-pub returns-in_default-clause-made : goal.returns-in_default-clause-made
-returns-in_default-clause-made c =
+pub returns-in_default : goal.returns-in_default
+returns-in_default c =
     let concentrator = of_fields c.self.inside _ c.self.view_is (λ plan. IsConcentrator (plan_lists plan) c.args.node.0) c.requires.concentrator in
-    of_value c.self.inside _ c.self.view_is (λ plan s. (index : ℕ) → Legal (plan_lists plan) s (Pass c.args.node.0 index) → ⊥) (λ s stands.
+    made_none c.self.inside _ _ (act.Pass c.args.node.0) c.self.view_is (search rules) (λ s stands.
     cannot_pass c.self.inside.plan.now (core_of c.self.inside) s stands c.args.node.0 c.parent_of-parent.result c.place_in_row-place.result
     (concentrator.0, concentrator.1) c.parent_of-parent.ensures.parent c.place_in_row-place.ensures.place _ c.in_default.ensures.taken)
 

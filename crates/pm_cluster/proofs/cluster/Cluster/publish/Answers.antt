@@ -1,7 +1,6 @@
-use Rattle.std.proofs.Common.{◌≡◌, ◌≤◌, refl, arith, ℕ}
+use Rattle.std.proofs.Common.{rules, ◌≡◌, ◌≤◌, refl, arith}
 use Rattle.pm_market.specs.State.{State}
 use Rattle.pm_market.specs.Lists.{IsConcentrator}
-use Rattle.pm_market.specs.Moves.{Legal}
 use Rattle.pm_market.specs.declared.moves.Move.TheVariants.{Publish}
 use Rattle.pm_plan.specs.Market.{plan_lists}
 use Rattle.pm_base.specs.Limits.{most_changes}
@@ -11,7 +10,9 @@ use Rattle.pm_stands.specs.Stands.{StandsFor, MakesMove}
 use Rattle.pm_stands.proofs.Made.{publish_did, may_publish_at, cannot_publish}
 use Rattle.pm_cluster.specs.declared.cluster.Cluster.TheInside.{Inside}
 use Rattle.pm_cluster.specs.ClusterFields.{core_of}
-use Rattle.pm_cluster.proofs.Kept.{moved, of_fields, of_value}
+use Rattle.pm_cluster.proofs.MadeBy.{made_by, made_none}
+use Rattle.pm_market.specs.declared.moves.Act.TheVariants as act
+use Rattle.pm_cluster.proofs.Kept.{moved, of_fields}
 use Rattle.std.proofs.lemmas.List.{length-map}
 use Rattle.pm_cluster.proofs.cluster.Cluster.publish.Goals as goal
 use Rattle.pm_cluster.proofs.cluster.Cluster.publish.Goals.{After-place_in_row-place, In-Some}
@@ -55,14 +56,13 @@ makes c s stands =
 pub invariant_of-self-2 : goal.invariant_of-self-2
 invariant_of-self-2 c = moved c.self.inside (after c) _ c.self.invariant refl (makes c)
 
-pub returns-clause-made : goal.returns-clause-made
-returns-clause-made c =
-    of_value c.self.inside _ c.self.view_is (λ plan s. MakesMove plan (core_of (after c)) s (Publish c.args.node.0 c.in-Some.number)) (makes c)
+pub returns : goal.returns
+returns c = made_by c.self.inside (after c) _ (act.Publish c.args.node.0) _ c.self.view_is refl (makes c)
 
-pub returns-in_default-clause-made : goal.returns-in_default-clause-made
-returns-in_default-clause-made c =
+pub returns-in_default : goal.returns-in_default
+returns-in_default c =
     let concentrator = of_fields c.self.inside _ c.self.view_is (λ plan. IsConcentrator (plan_lists plan) c.args.node.0) c.requires.concentrator in
-    of_value c.self.inside _ c.self.view_is (λ plan s. (number : ℕ) → Legal (plan_lists plan) s (Publish c.args.node.0 number) → ⊥) (λ s stands.
+    made_none c.self.inside _ _ (act.Publish c.args.node.0) c.self.view_is (search rules) (λ s stands.
     cannot_publish c.self.inside.plan.now c.self.invariant.is_plan (core_of c.self.inside) s stands c.args.node.0 concentrator c.in_default.ensures.published)
 
 pub publish-requires-clause-parent : goal.publish-requires-clause-parent

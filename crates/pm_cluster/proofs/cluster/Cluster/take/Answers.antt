@@ -1,9 +1,8 @@
-use Rattle.std.proofs.Common.{refl, arith, ℕ, sym, ap, ◌∙◌, ◌<◌, length, Some}
+use Rattle.std.proofs.Common.{rules, refl, arith, sym, ap, ◌∙◌, ◌<◌, length, Some}
 use Rattle.std.proofs.Math.ListN.{length-set}
 use Rattle.std.specs.Vec.{with_item}
 use Rattle.pm_market.specs.State.{State}
 use Rattle.pm_market.specs.Lists.{IsLeaf}
-use Rattle.pm_market.specs.Moves.{Legal}
 use Rattle.pm_market.specs.declared.moves.Move.TheVariants.{Pass}
 use Rattle.pm_session.specs.Ports.{Seat}
 use Rattle.pm_plan.specs.Market.{plan_lists}
@@ -13,7 +12,9 @@ use Rattle.pm_stands.proofs.MayPass.{cannot_pass}
 use Rattle.pm_stands.proofs.Taking.{take_did}
 use Rattle.pm_cluster.specs.declared.cluster.Cluster.TheInside.{Inside}
 use Rattle.pm_cluster.specs.ClusterFields.{core_of}
-use Rattle.pm_cluster.proofs.Kept.{moved, of_fields, of_value, leaf_is_node}
+use Rattle.pm_cluster.proofs.MadeBy.{made_by, made_none}
+use Rattle.pm_market.specs.declared.moves.Act.TheVariants as act
+use Rattle.pm_cluster.proofs.Kept.{moved, of_fields, leaf_is_node}
 use Rattle.pm_cluster.proofs.Seats.{seat_set, seat_other, seat_read}
 use Rattle.std.proofs.lemmas.List.{length-map}
 use Rattle.pm_cluster.proofs.cluster.Cluster.take.Goals as goal
@@ -61,15 +62,15 @@ pub invariant_of-self-2 : goal.invariant_of-self-2
 invariant_of-self-2 c =
     moved c.self.inside (after (goal.at.invariant_of-self-2 c).After-price) _ c.self.invariant refl (makes (goal.at.invariant_of-self-2 c).After-price)
 
-pub returns-clause-made : goal.returns-clause-made
-returns-clause-made c =
-    let at = (goal.at.returns-clause-made c).After-price in
-    of_value c.self.inside _ c.self.view_is (λ plan s. MakesMove plan (core_of (after at)) s (Pass c.args.device.0 c.in-Some.price.index)) (makes at)
+pub returns : goal.returns
+returns c =
+    let at = (goal.at.returns c).After-price in
+    made_by c.self.inside (after at) _ (act.Pass c.args.device.0) _ c.self.view_is refl (makes at)
 
-pub returns-in_default-clause-made : goal.returns-in_default-clause-made
-returns-in_default-clause-made c =
+pub returns-in_default : goal.returns-in_default
+returns-in_default c =
     let node = leaf_is_node c.self.inside _ c.self.view_is c.self.invariant.is_plan c.args.device.0 c.requires.leaf in
-    of_value c.self.inside _ c.self.view_is (λ plan s. (index : ℕ) → Legal (plan_lists plan) s (Pass c.args.device.0 index) → ⊥) (λ s stands.
+    made_none c.self.inside _ _ (act.Pass c.args.device.0) c.self.view_is (search rules) (λ s stands.
     cannot_pass c.self.inside.plan.now (core_of c.self.inside) s stands c.args.device.0 c.parent_of-parent.result c.place_in_row-place.result
     node c.parent_of-parent.ensures.parent c.place_in_row-place.ensures.place _ c.in_default.ensures.taken)
 
