@@ -1,4 +1,4 @@
-ghost use Rattle.std.specs.Prelude.{◌≡◌, ◌+◌, ◌<◌, ◌≤◌, if◌then◌else◌, [], length, Ok, Some, None, IfOk, IfErr, IfSome};
+ghost use Rattle.std.specs.Prelude.{◌≡◌, ◌+◌, ◌≤◌, if◌then◌else◌, [], length, Ok, Some, None, IfOk, IfErr, IfSome};
 ghost use Rattle.std.specs.Prelude.{MatchOption};
 ghost use Rattle.pm_market.specs.Lists.{nodes, is_leaf};
 ghost use Rattle.pm_market.specs.State.{State, start};

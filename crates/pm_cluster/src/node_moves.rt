@@ -1,4 +1,4 @@
-ghost use Rattle.std.specs.Prelude.{◌≡◌, ℕ, ◌<◌, ◌≤◌, Some, None, IfSome, MatchOption};
+ghost use Rattle.std.specs.Prelude.{◌≡◌, ℕ, ◌≤◌, Some, None, IfSome, MatchOption};
 ghost use Rattle.pm_market.specs.Lists.{nodes, parent, IsNode, IsLeaf, IsConcentrator};
 ghost use Rattle.pm_market.specs.State.{State};
 ghost use Rattle.pm_market.specs.Moves.{Legal};
@@ -6,7 +6,6 @@ ghost use Rattle.pm_market.specs.declared.moves.Act.{Act};
 ghost use Rattle.pm_market.specs.declared.moves.Move.{Move};
 ghost use Rattle.pm_plan.specs.Market.{plan_lists};
 ghost use Rattle.pm_stands.specs.Stands.{StandsFor, MakesMove};
-ghost use Rattle.pm_market.specs.declared.moves.Act.{Act};
 ghost use Rattle.pm_stands.specs.Actors.{IsMoveOf};
 ghost use Rattle.pm_cluster.specs.Acts.{IsMadeBy, IsMadeOf};
 
