@@ -71,6 +71,12 @@ next_told plan closed counts d (Some next) leaf is = (
 )
 next_told plan closed counts d None leaf is = tt
 
+-- the next change of a device names it
+pub next_its : (plan : PlanData) (closed : ℕ) (counts : Cut) (d : ℕ) (found : Option Next) →
+    MatchOption found (HasNoNext plan closed counts d) (IsNext plan closed counts d) → IfSome found (λ next. next.device ≡ d)
+next_its plan closed counts d (Some next) is = is.device
+next_its plan closed counts d None is = tt
+
 -- what an agent is made of
 pub agent_is : (plan : PlanData) (d steps : ℕ) (kind : Kind) (basis : BasisValue) (agent : Agent) →
     kind_of (node plan d) ≡ Some kind → steps ≡ basis.steps →

@@ -46,6 +46,7 @@ pub fn agent_of(alloc: Global, plan: &Plan, number: u32) -> Result<Option<Device
 pub fn can_work(agent: &DeviceAgent, next: Next, plan: &Plan) -> bool
     ensures device { result ≡ true → next.device ≡ agent.now.device }
     ensures fits { result ≡ true → IsTrue (state_fits agent.now.kind next.state.0) }
+    ensures steps { result ≡ true → agent.now.steps ≡ plan.now.basis.steps }
     ensures arrays { result ≡ true → HaveSteps agent.now.steps plan.now.arrays }
     ensures refused { result ≡ false → next.device ≡ agent.now.device → agent.now.steps ≡ plan.now.basis.steps →
         IsTrue (state_fits agent.now.kind next.state.0) → ⊥ }

@@ -1,5 +1,6 @@
 ghost use Rattle.std.specs.Prelude.{◌≡◌, IfOk};
 ghost use Rattle.pm_turns.specs.Settled.{IsSettled};
+ghost use Rattle.pm_turns.specs.Turns.{Continues};
 
 use crate::gate::Gate;
 use crate::one_thread::{drain, finish};
@@ -7,8 +8,8 @@ use pm_board::Board;
 use pm_plan::Plan;
 use std::alloc::{AllocError, Global};
 
-/// Completes on this thread what others left of a plan's run. Where their board runs another plan, all moves are made on a
-/// new board.
+/// Completes on this thread what others left of a plan's run: further lines join their journal. Where their board runs another
+/// plan, all moves are made on a new board.
 ///
 /// The board that it answers runs the plan; all phases are closed, all changes made, and nothing is pending, whatever board
 /// is handed in. It is an error only for want of memory.
@@ -20,6 +21,7 @@ pub fn complete<'p, G: Gate>(
 ) -> Result<Board<'p>, AllocError>
     ensures plan { IfOk result (λ b. b.plan ≡ plan.now) }
     ensures settled { IfOk result IsSettled }
+    ensures continues { board.entry.plan ≡ plan.now → IfOk result (Continues board.entry) }
 {
     if !board.plan().same(plan) {
         // Before memory is taken for another.

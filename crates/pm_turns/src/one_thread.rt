@@ -1,4 +1,4 @@
-ghost use Rattle.std.specs.Prelude.{◌≡◌, ◌≢◌, ◌<◌, ◌≤◌, ℕ, ◌+◌, length, true, false, Some, None, IfOk, IfSome, MatchOption};
+ghost use Rattle.std.specs.Prelude.{◌≡◌, ◌≢◌, ◌<◌, ◌≤◌, ℕ, ◌+◌, length, true, false, Some, None, IfOk, IfErr, IfSome, MatchOption};
 ghost use Rattle.pm_market.specs.Lists.{nodes, IsLeaf};
 ghost use Rattle.pm_market.specs.Moves.{Idle};
 ghost use Rattle.pm_plan.specs.Plans.{phases, plan_bound};
@@ -10,7 +10,7 @@ ghost use Rattle.pm_cluster.specs.Acts.{NoMoveBy};
 ghost use Rattle.pm_cluster.specs.Next.{HasNoNext, IsNext};
 ghost use Rattle.pm_board.specs.Boards.{board_state, AddsLine, ClosesPhase};
 ghost use Rattle.pm_turns.specs.Settled.{IsSettled};
-ghost use Rattle.pm_turns.specs.Turns.{Grows, TakesTurn};
+ghost use Rattle.pm_turns.specs.Turns.{Grows, Continues, TakesTurn};
 ghost use Rattle.pm_turns.specs.Alone.{AreAgents, IsAgentOf};
 
 use crate::agents::make_agents;
@@ -35,10 +35,13 @@ pub fn drain<'p, G: Gate>(alloc: Global, plan: &'p Plan, gate: &G) -> Result<Boa
     Ok(board)
 }
 
-/// Makes on this thread the moves that are left. It takes the memory of the agents, where a phase is open, and no more.
+/// Makes on this thread the moves that are left; their lines join the journal. It takes the memory of the agents, where a phase is
+/// open, and no more. On an error the board is as it was.
 pub fn finish<G: Gate>(alloc: Global, board: &mut Board, gate: &G) -> Result<(), AllocError>
     ensures plan { board.new.plan ≡ board.old.plan }
     ensures settled { IfOk result (λ _. IsSettled board.new) }
+    ensures continues { IfOk result (λ _. Continues board.old board.new) }
+    ensures unchanged { IfErr result (λ _. board.new ≡ board.old) }
 {
     if !board.done() {
         let mut agents = make_agents(alloc, board.plan())?;
@@ -61,7 +64,7 @@ fn is_settled(board: &Board)
 /// Makes moves until all phases are closed.
 fn make_moves<G: Gate>(board: &mut Board, agents: &mut [Option<DeviceAgent>], gate: &G)
     requires agents { AreAgents board.old.plan agents.old }
-    ensures plan { board.new.plan ≡ board.old.plan }
+    ensures continues { Continues board.old board.new }
     ensures done { (board_state board.new).closed ≡ phases board.new.plan }
 {
     while !board.done() {
@@ -69,8 +72,8 @@ fn make_moves<G: Gate>(board: &mut Board, agents: &mut [Option<DeviceAgent>], ga
     }
 }
 
-/// Makes one move: of the first node that has one, else a change of the first device that has one, else the closing of
-/// the phase.
+/// Makes one move: a node's, else a device's next change, else the closing of the phase. Which node or device goes first is
+/// left open.
 pub fn make_move<G: Gate>(board: &mut Board, agents: &mut [Option<DeviceAgent>], gate: &G)
     requires open_phase { (board_state board.old).closed ≢ phases board.old.plan }
     requires agents { AreAgents board.old.plan agents.old }
@@ -126,6 +129,8 @@ pub fn turn_of<G: Gate>(board: &mut Board, node: NodeId, gate: &G) -> bool
 pub fn first_next(board: &Board) -> Option<Next>
     ensures next { let s = board_state board.now in
         IfSome result (λ next. IsLeaf (plan_lists board.now.plan) next.device × IsNext board.now.plan s.closed s.counts next.device next) }
+    ensures first { let s = board_state board.now in
+        IfSome result (λ next. (d : ℕ) → d < next.device → IsLeaf (plan_lists board.now.plan) d → HasNoNext board.now.plan s.closed s.counts d) }
     ensures none { let s = board_state board.now in
         result ≡ None → ((d : ℕ) → IsLeaf (plan_lists board.now.plan) d → HasNoNext board.now.plan s.closed s.counts d) }
 {
@@ -143,6 +148,7 @@ pub fn first_next(board: &Board) -> Option<Next>
 pub fn next_of(board: &Board, number: u32) -> Option<Next>
     ensures next { let s = board_state board.now in
         IfSome result (λ next. IsLeaf (plan_lists board.now.plan) next.device × IsNext board.now.plan s.closed s.counts next.device next) }
+    ensures its { IfSome result (λ next. next.device ≡ number) }
     ensures none { let s = board_state board.now in
         result ≡ None → IsLeaf (plan_lists board.now.plan) number → HasNoNext board.now.plan s.closed s.counts number }
 {

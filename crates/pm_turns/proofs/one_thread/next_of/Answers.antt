@@ -4,7 +4,7 @@ use Rattle.pm_board.specs.Boards.{board_state}
 use Rattle.pm_market.specs.Lists.{IsLeaf}
 use Rattle.pm_plan.specs.Market.{plan_lists}
 use Rattle.pm_plan.specs.Plans.{PlanData}
-use Rattle.pm_turns.proofs.Devices.{next_told}
+use Rattle.pm_turns.proofs.Devices.{next_told, next_its}
 use Rattle.pm_turns.proofs.one_thread.next_of.Goals as goal
 use Rattle.pm_turns.proofs.one_thread.next_of.Goals.{After-is_device}
 
@@ -21,6 +21,11 @@ returns-clause-next c =
     let s = board_state c.args.board.now in
     next_told c.args.board.now.plan s.closed s.counts c.args.number c.next.result
     (leaf (goal.at.returns-clause-next c).After-is_device (let on : c.is_device.result ≡ true = search rules in on)) c.next.ensures.next
+
+pub returns-clause-its : goal.returns-clause-its
+returns-clause-its c =
+    let s = board_state c.args.board.now in
+    next_its c.args.board.now.plan s.closed s.counts c.args.number c.next.result c.next.ensures.next
 
 pub returns-clause-none : goal.returns-clause-none
 returns-clause-none c none leaf = MatchOption-at_none _ _ none c.next.ensures.next
