@@ -164,6 +164,7 @@ impl ArrayBid {
         ensures small { result < most_steps }
         ensures cost { counter.new ≤ counter.old + length self.now }
         ensures rises { counter.old ≤ counter.new }
+        ensures looks { counter.new ≡ counter.old + (result + 1) }
     {
         self.first_at_most(0, counter)
     }
@@ -177,6 +178,7 @@ impl ArrayBid {
         ensures small { result < most_steps }
         ensures cost { counter.new ≤ counter.old + length self.now }
         ensures rises { counter.old ≤ counter.new }
+        ensures looks { counter.new ≡ counter.old + (result + 1) }
     {
         find_at_most(&self.demands, limit, counter)
     }
@@ -190,6 +192,7 @@ impl ArrayBid {
         ensures small { result < most_steps }
         ensures cost { counter.new ≤ counter.old + length self.now }
         ensures rises { counter.old ≤ counter.new }
+        ensures looks { counter.new + result ≡ counter.old + length self.now }
     {
         find_at_least(&self.demands, limit, counter)
     }
@@ -210,6 +213,7 @@ impl ArrayBid {
         ensures small { result < most_steps }
         ensures cost { counter.new ≤ counter.old + length self.now + 1 }
         ensures rises { counter.old ≤ counter.new }
+        ensures looks { counter.old < counter.new }
     {
         let demand = self.at(step, counter);
         if demand > limits.ceiling {

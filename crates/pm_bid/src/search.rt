@@ -38,6 +38,7 @@ pub(crate) fn find_at_most<L: Ledger>(demands: &[i64], limit: i64, counter: &mut
     ensures inside { result < length demands.now }
     ensures cost { counter.new ≤ counter.old + length demands.now }
     ensures rises { counter.old ≤ counter.new }
+    ensures looks { counter.new ≡ counter.old + (result + 1) }
 {
     for (step, demand) in demands.iter().enumerate() {
         counter.tick();
@@ -55,6 +56,7 @@ pub(crate) fn find_at_least<L: Ledger>(demands: &[i64], limit: i64, counter: &mu
     ensures inside { result < length demands.now }
     ensures cost { counter.new ≤ counter.old + length demands.now }
     ensures rises { counter.old ≤ counter.new }
+    ensures looks { counter.new + result ≡ counter.old + length demands.now }
 {
     for step in (0..demands.len()).rev() {
         counter.tick();

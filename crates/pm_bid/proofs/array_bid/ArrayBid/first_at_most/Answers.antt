@@ -25,3 +25,6 @@ returns-clause-cost g c =
 
 pub returns-clause-rises : goal.returns-clause-rises
 returns-clause-rises g c = c.find_at_most.ensures.rises
+
+pub returns-clause-looks : goal.returns-clause-looks
+returns-clause-looks g c = c.find_at_most.ensures.looks

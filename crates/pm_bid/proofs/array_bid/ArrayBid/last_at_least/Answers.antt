@@ -1,4 +1,4 @@
-use Rattle.std.proofs.Common.{◌∙◌, sym, ap, subst, ◌+◌, ◌<◌, ◌≤◌, length, w64, arith}
+use Rattle.std.proofs.Common.{◌≡◌, ◌∙◌, sym, ap, subst, ◌+◌, ◌<◌, ◌≤◌, length, w64, arith}
 use Rattle.std.proofs.lemmas.Int.{to_z-of_z}
 use Rattle.pm_bid.specs.Clearing.{last_at_least, IsLastAtLeast}
 use Rattle.pm_bid.proofs.FoundStep.{last_at_least_is_last}
@@ -25,3 +25,8 @@ returns-clause-cost g c =
 
 pub returns-clause-rises : goal.returns-clause-rises
 returns-clause-rises g c = c.find_at_least.ensures.rises
+
+pub returns-clause-looks : goal.returns-clause-looks
+returns-clause-looks g c =
+    subst (λ bid. c.find_at_least.new.counter + c.find_at_least.result ≡ c.args.counter.now + length bid) (c.deref.ensures.value ∙ c.self.view_is)
+    c.find_at_least.ensures.looks
