@@ -74,3 +74,38 @@ pub looks_half : (steps start counter next gap half : ℕ) → next ≡ counter 
     → LooksLeft steps start next half
 looks_half steps start counter next gap half more some less looks =
     λ n enough. let before = looks n enough in half_left counter next (start + n) gap half before.0 more some less before.1.0 before.1.1
+
+-- for each number of looks whose halvings so many steps bear, those that are not yet made the gap still bears
+abbrev pub LooksDue : ℕ → ℕ → ℕ → ℕ → Type 0
+LooksDue steps start counter gap =
+    (n : ℕ) → 2 ^ n ≤ steps → (left : ℕ) × ((start + n ≤ counter + left) × (2 ^ left ≤ gap + 1))
+
+-- at the start none is made
+pub due_all : (steps start gap : ℕ) → steps ≤ gap + 1 → LooksDue steps start start gap
+due_all steps start gap all = λ n bears. (n, (omega arith, omega arith))
+
+half_due : (counter next least gap half left : ℕ) → next ≡ counter + 1 → gap ≤ 2 * half + 2 → least ≤ counter + left → 2 ^ left ≤ gap + 1
+    → (after : ℕ) × ((least ≤ next + after) × (2 ^ after ≤ half + 1))
+half_due counter next least gap half zero more most least_is bears = (0, (omega arith, omega arith))
+half_due counter next least gap half (suc left) more most least_is bears = (left, (omega arith, omega arith))
+
+-- a look leaves half of the gap at least
+pub due_half : (steps start counter next gap half : ℕ) → next ≡ counter + 1 → gap ≤ 2 * half + 2 → LooksDue steps start counter gap
+    → LooksDue steps start next half
+due_half steps start counter next gap half more most looks =
+    λ n bears. let before = looks n bears in half_due counter next (start + n) gap half before.0 more most before.1.0 before.1.1
+
+power_some : (n : ℕ) → 1 ≤ 2 ^ n
+power_some zero = omega arith
+power_some (suc n) = let some = power_some n in omega arith
+
+none_left : (left : ℕ) → 2 ^ left ≤ 1 → left ≤ 0
+none_left zero bears = omega arith
+none_left (suc left) bears = let some = power_some left in omega arith
+
+-- where no gap is left all are made
+pub due_none : (steps start counter : ℕ) → LooksDue steps start counter 0 → (n : ℕ) → 2 ^ n ≤ steps → start + n ≤ counter
+due_none steps start counter looks n bears =
+    let left = looks n bears in
+    let none = none_left left.0 left.1.1 in
+    omega (arith, left.1.0)

@@ -93,6 +93,7 @@ impl Curve {
         ensures total { result.total ≡ asked_total target self.now }
         ensures inside { result.step < length self.now }
         ensures cost { (n : ℕ) → length self.now ≤ 2 ^ n → counter.new ≤ counter.old + n + 1 }
+        ensures least { (n : ℕ) → 2 ^ n ≤ length self.now → counter.old + n + 1 ≤ counter.new }
         ensures rises { counter.old ≤ counter.new }
     {
         let step = find_step(&self.total, target, counter);

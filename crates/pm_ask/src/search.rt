@@ -14,6 +14,7 @@ pub(crate) fn find_step<L: Ledger>(total: &ArrayBid, target: i64, counter: &mut 
     ensures inside { result < length total.now }
     ensures small { result < most_steps }
     ensures cost { (looks : ℕ) → length total.now ≤ 2 ^ looks → counter.new ≤ counter.old + looks }
+    ensures least { (looks : ℕ) → 2 ^ looks ≤ length total.now → counter.old + looks ≤ counter.new }
     ensures rises { counter.old ≤ counter.new }
 {
     let mut low = 0;
