@@ -96,6 +96,7 @@ impl BidCache {
         ensures replaced { OnOk result (self.new ≡ with_bid self.old child number bid.now) }
         ensures unchanged { OnErr result (self.new ≡ self.old) }
         ensures cost { counter.new ≤ counter.old + 3 * self.old.steps }
+        ensures passes { OnOk result (counter.new ≡ counter.old + 3 * self.old.steps) }
         ensures rises { counter.old ≤ counter.new }
     {
         check_newer(self.heads[child].number, number)?;
@@ -123,6 +124,7 @@ impl BidCache {
         ensures removed { OnOk result (self.new ≡ with_gone self.old child number) }
         ensures unchanged { OnErr result (self.new ≡ self.old) }
         ensures cost { counter.new ≤ counter.old + 3 * self.old.steps }
+        ensures passes { OnOk result (counter.new ≡ counter.old + 2 * self.old.steps) }
         ensures rises { counter.old ≤ counter.new }
     {
         check_newer(self.heads[child].number, number)?;
@@ -147,6 +149,7 @@ impl BidCache {
         ensures answer { result ≡ answer_to (kept_number self.old child) number }
         ensures learnt { self.new ≡ learnt self.old child number (option_copied demand.entry) }
         ensures cost { counter.new ≤ counter.old + 3 * self.old.steps }
+        ensures passes { OnOk result (counter.old + 2 * self.old.steps ≤ counter.new) }
         ensures rises { counter.old ≤ counter.new }
     {
         match demand {

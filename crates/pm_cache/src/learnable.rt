@@ -21,6 +21,7 @@ impl BidCache {
         ensures yes { result ≡ true → CanLearn self.now child (option_copied demand.entry) }
         ensures no { result ≡ false → CanLearn self.now child (option_copied demand.entry) → ⊥ }
         ensures cost { counter.new ≤ counter.old + 3 * self.now.steps }
+        ensures passes { result ≡ true → counter.old + 2 * self.now.steps ≤ counter.new }
         ensures rises { counter.old ≤ counter.new }
     {
         let steps = self.aggregate().steps();
@@ -61,6 +62,7 @@ fn is_within<L: Ledger>(
     ensures yes { result ≡ true → IsWithinAt cache.now child (option_copied demand.entry) step }
     ensures no { result ≡ false → IsWithinAt cache.now child (option_copied demand.entry) step → ⊥ }
     ensures cost { counter.new ≤ counter.old + 3 }
+    ensures looks { counter.old + 2 ≤ counter.new }
     ensures rises { counter.old ≤ counter.new }
 {
     let new = demand_offered(demand, step, counter);

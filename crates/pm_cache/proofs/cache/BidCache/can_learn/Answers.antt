@@ -24,6 +24,7 @@ pub loop-step-init : goal.loop-step-init
 loop-step-init g c = record {
   within = λ k none. absurd (omega (arith, none));
   cost = omega arith;
+  passes = omega arith;
   rises = omega arith;
 }
 
@@ -32,6 +33,7 @@ loop-step-preserved g c = record {
   within = one_more (IsWithinAt c.args.self.now c.args.child (option_copied c.args.demand)) c.loop-step.step c.loop-step.invariant.within
       (c.is_within.ensures.yes c.if-not-is_within.false);
   cost = omega (arith, c.loop-step.invariant.cost, c.is_within.ensures.cost);
+  passes = omega (arith, c.loop-step.invariant.passes, c.is_within.ensures.looks);
   rises = omega (arith, c.loop-step.invariant.rises, c.is_within.ensures.rises);
 }
 
@@ -60,6 +62,11 @@ pub returns-clause-cost : goal.returns-clause-cost
 returns-clause-cost g c =
     let p = (goal.at.returns-clause-cost g c).Else-not-has_steps in
     omega (arith, c.loop-step.invariant.cost, c.loop-step.auto.step-end, steps g p)
+
+pub returns-clause-passes : goal.returns-clause-passes
+returns-clause-passes g c = λ _.
+    let p = (goal.at.returns-clause-passes g c).Else-not-has_steps in
+    omega (arith, c.loop-step.invariant.passes, c.loop-step-test.false, steps g p)
 
 pub returns-clause-rises : goal.returns-clause-rises
 returns-clause-rises g c = c.loop-step.invariant.rises

@@ -7,5 +7,6 @@ abbrev pub invariant-loop-step : goal.invariant-loop-step
 invariant-loop-step g l = record {
   within : (k : ℕ) → k < l.step → IsWithinAt l.self l.child (option_copied l.demand) k;
   cost : l.counter ≤ l.fn.counter + 3 * l.step;
+  passes : l.fn.counter + 2 * l.step ≤ l.counter;
   rises : l.fn.counter ≤ l.counter;
 }
