@@ -4,11 +4,11 @@ use Rattle.std.proofs.Common.{◌∙◌, subst, arith}
 use mathlib.Core.Logic.{dite}
 use mathlib.Core.Option as opt
 use native.Mathlib.Decide.{dec_le}
-use Rattle.atomic_table.specs.Table.{step, keeps, takes, gives, rest, put_back}
+use Rattle.atomic_table.specs.Table.{step, keeps, takes, gives, put_back}
 use Rattle.pm_cells.specs.Numbers.{newest_number}
 use Rattle.pm_cells.specs.Cells.{CellSlot, IsCell, IsBidWith, IsPriceOf, KeepsCells}
 use Rattle.pm_cells.specs.Steps.{Seated, taking, putting, having_lost, having_put, having_taken, having_found_none, with_up, claims_to_put_bid}
-use Rattle.pm_cells.specs.Steps.{releases_put_bid, claims_to_take_bid, releases_taken_bid}
+use Rattle.pm_cells.specs.Steps.{ReleasesPut, releases_put_bid, claims_to_take_bid, releases_taken_bid}
 use Rattle.pm_cells.specs.declared.view.EndView.{EndView}
 use Rattle.pm_cells.specs.declared.view.CellView.{CellView}
 use Rattle.pm_cells.specs.declared.view.Role.TheVariants.{Child, Parent}
@@ -16,7 +16,7 @@ use Rattle.pm_cells.specs.declared.message.Message.{Message}
 use Rattle.pm_cells.proofs.Words.{either_bit}
 use Rattle.pm_cells.proofs.OneCell.{number_is, taken_at_most, claimed_to_put, claimed_to_take, lost_to_put, lost_to_take, found_in_slot, released_put}
 use Rattle.pm_cells.proofs.OneCell.{released_taken, released_none, weakened, IsPriceOf-more}
-use Rattle.pm_cells.proofs.Seats.{MayClaim, MayStore, child_may, parent_may, keeps_cut, child_steps_up, parent_steps_up}
+use Rattle.pm_cells.proofs.Seats.{MayClaim, MayStore, child_may, parent_may, put_is_told, keeps_cut, child_steps_up, parent_steps_up}
 
 -- the child's end may claim the slot of the bids
 pub may_claim_to_put_bid : (slots id : ℕ) (m : Seated) → m.0.role ≡ Child → MayClaim slots id m 0 claims_to_put_bid
@@ -43,13 +43,13 @@ may_claim_to_take_bid slots id m is = parent_may slots id m 0 (λ n. bit_or n 1)
     (λ w₀ w₁ h₀ h₁ c r. either_bit w₀
     (λ even.
     let x = found_in_slot IsBidWith w₀ h₀ c.up m.0.up r.up even in
-    let a = taking m.0.up (w₀ / 2) in
+    let a = taking m.0.up (w₀ / 2) x.0 in
     let number = number_is IsBidWith w₀ h₀ c.up m.0.up r.up even in
     let at_most = subst (λ n. newest_number m.0.up.takes ≤ n) number (taken_at_most IsBidWith w₀ h₀ c.up m.0.up r.up) in (
       with_up m.0 a,
       takes 0 x.0,
       ap opt.some x.1,
-      parent_steps_up w₀ w₁ h₀ h₁ c m.0 r (bit_or w₀ 1) opt.none a (claimed_to_take IsBidWith w₀ h₀ c.up m.0.up r.up even),
+      parent_steps_up w₀ w₁ h₀ h₁ c m.0 r (bit_or w₀ 1) opt.none a (claimed_to_take IsBidWith w₀ h₀ c.up m.0.up r.up x.0 x.3 even),
       ((λ _. (x.0, refl, (x.2, r.up.takes_rise, at_most))), λ odd. absurd (omega arith)),
     ))
     (λ odd. let a = having_lost m.0.up in (
@@ -65,7 +65,7 @@ may_release_put_bid : (slots id : ℕ) (m : Seated) (n : ℕ) (x : Message) → 
 may_release_put_bid slots id m n x is holds carries above fits =
     child_may slots id m 0 (λ _. n * 2) (λ _. releases_put_bid (step slots 0 (n * 2) 0 opt.none) m (n * 2)) is
     (λ w₀ w₁ h₀ h₁ p r.
-    let v = with_up m.0 (having_put m.0.up n) in
+    let v = with_up m.0 (having_put m.0.up n x) in
     let half : n ≡ n * 2 / 2 = omega arith in
     let more = m.0.up.puts ++ n ∷ [] in
     let After = λ (l : List (ℕ × CellSlot)). KeepsCells record {
@@ -82,7 +82,7 @@ may_release_put_bid slots id m n x is holds carries above fits =
         up = released_put IsBidWith w₀ h₀ m.0.up p.up r.up n x holds above fits;
         down = weakened (IsPriceOf m.0.up.puts) w₁ h₁ p.down m.0.down r.down (IsPriceOf more) (IsPriceOf-more m.0.up.puts n);
       }),
-      ap (λ k. (with_up m.0 (having_put m.0.up k), rest m.1)) half,
+      λ y there. put_is_told 0 n (n * 2 / 2) x y m.1 (λ k z. with_up m.0 (having_put m.0.up k z)) half carries there,
     ))
 
 -- the child's end that claimed the slot and put a bid there may give it back
@@ -93,6 +93,15 @@ may_end_put_bid slots id m v n x e is above fits =
     let holds = ap (λ (u : Seated). u.0.up.holds) e in
     let carries = ap (λ (u : Seated). u.1) e in
     may_release_put_bid slots id m n x role holds carries (subst (λ (u : Seated). newest_number u.0.up.puts < n) (sym e) above) fits
+
+-- and after that it has put this bid
+pub bid_was_put : (m m' : Seated) (v : EndView) (n : ℕ) (x : Message) → m ≡ (with_up v (putting v.up), (0, Some x) ∷ [])
+    → ReleasesPut 0 (λ y. with_up m.0 (having_put m.0.up (n * 2 / 2) y)) m m' → m' ≡ (with_up v (having_put v.up n x), [])
+bid_was_put m m' v n x e told =
+    let half : n * 2 / 2 ≡ n = omega arith in
+    let same : ◌≡◌ {A = Seated} (with_up m.0 (having_put m.0.up (n * 2 / 2) x), []) (with_up v (having_put v.up n x), []) =
+    λ i. (with_up (e i).0 (having_put (e i).0.up (half i) x), []) in
+    told x (ap (λ (u : Seated). u.1) e) ∙ same
 
 may_release_taken_bid : (slots id : ℕ) (m : Seated) (k : ℕ) → m.0.role ≡ Parent → m.0.up.holds ≡ 1 → m.1 ≡ (0, None) ∷ []
     → k ≡ 2 * m.0.up.found → MayStore slots id m 0 k releases_taken_bid
@@ -123,9 +132,10 @@ may_release_taken_bid slots id m k is holds carries found =
     )))
 
 -- the parent's end that claimed the slot of the bids and emptied it may give it back
-pub may_end_take_bid : (slots id : ℕ) (m : Seated) (v : EndView) (k : ℕ) → m ≡ (with_up v (taking v.up (k / 2)), (0, None) ∷ [])
-    → v.role ≡ Parent → k % 2 ≡ 0 → MayStore slots id m 0 k releases_taken_bid
-may_end_take_bid slots id m v k e is even =
+pub may_end_take_bid : (slots id : ℕ) (m : Seated) (v : EndView) (k : ℕ) (x : CellSlot)
+    → m ≡ (with_up v (taking v.up (k / 2) x), (0, None) ∷ []) → v.role ≡ Parent → k % 2 ≡ 0
+    → MayStore slots id m 0 k releases_taken_bid
+may_end_take_bid slots id m v k x e is even =
     let role = ap (λ (u : Seated). u.0.role) e ∙ is in
     let holds = ap (λ (u : Seated). u.0.up.holds) e in
     let carries = ap (λ (u : Seated). u.1) e in

@@ -53,8 +53,8 @@ joins_at w₀ w₁ h₀ h₁ c p w (suc zero) r apart there = let e = some-injec
       refl,
       refl,
       refl,
-      subst (λ (x : EndView). TookWhatWasPut (joined_view c x).up) e (r.up.takes_rise, r.up.takes_were_put),
-      subst (λ (x : EndView). TookWhatWasPut (joined_view c x).down) e (r.down.takes_rise, r.down.takes_were_put),
+      subst (λ (x : EndView). TookWhatWasPut (joined_view c x).up) e (r.up.takes_rise, r.up.takes_were_put, r.up.received_were_put),
+      subst (λ (x : EndView). TookWhatWasPut (joined_view c x).down) e (r.down.takes_rise, r.down.takes_were_put, r.down.received_were_put),
     ))
 joins_at w₀ w₁ h₀ h₁ c p w (suc (suc k)) r apart there = absurd (some-ne-none w (sym there))
 
@@ -84,6 +84,7 @@ agrees s id v (inr (inr (both, other, e, jb, sp, up, down)), at) is = ⊎_elim
 
 -- what the two ends put and took agrees at the close
 pub ends_agree : (s : LinkTable) (id : ℕ) (v c p : EndView) → Seen KeepsCells id v s → v ≡ joined_view c p
-    → (AreRising p.up.takes × AllAmong p.up.takes c.up.puts) × (AreRising c.down.takes × AllAmong c.down.takes p.down.puts)
+    → (AreRising p.up.takes × AllAmong p.up.takes c.up.puts × AllAmong p.up.received c.up.sent) ×
+    (AreRising c.down.takes × AllAmong c.down.takes p.down.puts × AllAmong c.down.received p.down.sent)
 ends_agree s id v c p seen is =
     subst (λ (x : EndView). TookWhatWasPut x.up × TookWhatWasPut x.down) is (agrees s id v seen (ap (λ (x : EndView). x.role) is))

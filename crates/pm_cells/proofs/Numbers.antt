@@ -1,8 +1,8 @@
--- Lists of numbers that rise.
+-- Lists of numbers that rise, and lists whose elements are all in another.
 use Rattle.std.proofs.Common.{◌≡◌, ℕ, zero, suc, ◌-◌, ◌<◌, ◌≤◌, List, [], ◌∷◌, ◌++◌, length, refl, sym, ap, ◌∙◌, subst}
 use Rattle.std.proofs.Common.{⊎_elim, arith}
 use Rattle.std.specs.Prelude.{Contains, slice_index_or}
-use Rattle.std.proofs.lemmas.List.Elements.{Contains-append_left, Contains-push_cases}
+use Rattle.std.proofs.lemmas.List.Elements.{Contains-append_left, Contains-append_cases, Contains-push_cases}
 use Rattle.pm_cells.specs.Numbers.{RiseAbove, last_above, AreRising, newest_number, AllAmong}
 
 -- the number that joins a list at its end is the last
@@ -38,13 +38,27 @@ pub newest_at_most : (ns ms : List ℕ) → AreRising ms → AllAmong ns ms → 
 newest_at_most [] ms rises among = omega arith
 newest_at_most (x ∷ ns) ms rises among = at_most_last 0 ms (last_above x ns) rises (among (last_above x ns) (contains_last x ns))
 
--- a number of the second list may join the first, and any number the second
-pub AllAmong-push : (ns ms : List ℕ) (n : ℕ) → AllAmong ns ms → Contains ms n → AllAmong (ns ++ n ∷ []) ms
-AllAmong-push ns ms n among c m h = ⊎_elim (λ (t : Contains ns m). among m t) (λ (t : n ≡ m). subst (Contains ms) t c) (Contains-push_cases ns n m h)
+module _ {A : Type 0} where
+  -- nothing is among any list
+  pub AllAmong-none : (ys : List A) → AllAmong [] ys
+  AllAmong-none ys x h = let l = h.1 in absurd (omega arith)
 
--- numbers that are all among those of a list are also among those of the list with one more at its end
-pub AllAmong-more : (ns ms : List ℕ) (n : ℕ) → AllAmong ns ms → AllAmong ns (ms ++ n ∷ [])
-AllAmong-more ns ms n among m h = Contains-append_left ms (n ∷ []) m (among m h)
+  -- what is in a list is among it
+  pub AllAmong-one : (y : A) (ys : List A) → Contains ys y → AllAmong (y ∷ []) ys
+  AllAmong-one y ys c x h = ⊎_elim (λ (t : Contains [] x). AllAmong-none ys x t) (λ (t : y ≡ x). subst (Contains ys) t c)
+      (Contains-push_cases [] y x h)
+
+  -- where two lists are among a third, both together are
+  pub AllAmong-append : (xs ys zs : List A) → AllAmong xs zs → AllAmong ys zs → AllAmong (xs ++ ys) zs
+  AllAmong-append xs ys zs a b x h = ⊎_elim (a x) (b x) (Contains-append_cases xs ys x h)
+
+  -- what is all among a list is also among the list with one more at its end
+  pub AllAmong-more : (xs ys : List A) (y : A) → AllAmong xs ys → AllAmong xs (ys ++ y ∷ [])
+  AllAmong-more xs ys y among x h = Contains-append_left ys (y ∷ []) x (among x h)
+
+  -- lists that are the same as two others, the first of which is among the second
+  pub AllAmong-same : (xs xs' ys ys' : List A) → xs ≡ xs' → ys ≡ ys' → AllAmong xs' ys' → AllAmong xs ys
+  AllAmong-same xs xs' ys ys' a b among = subst (λ (l : List A × List A). AllAmong l.0 l.1) (λ i. (sym a i, sym b i)) among
 
 -- a number above the newest is above all
 pub above_all : (ns : List ℕ) (n : ℕ) → AreRising ns → newest_number ns < n → (m : ℕ) → Contains ns m → m < n
@@ -60,7 +74,3 @@ newest_read [] h = absurd (h refl)
 newest_read (x ∷ ns) h =
     let last : length (x ∷ ns) - 1 ≡ length ns = omega arith in
     ap (λ k. slice_index_or (x ∷ ns) k 0) last ∙ last_read x ns
-
--- lists that are the same as two others, the first of which is among the second
-pub AllAmong-same : (ns ns' ms ms' : List ℕ) → ns ≡ ns' → ms ≡ ms' → AllAmong ns' ms' → AllAmong ns ms
-AllAmong-same ns ns' ms ms' a b among = subst (λ (l : List ℕ × List ℕ). AllAmong l.0 l.1) (λ i. (sym a i, sym b i)) among

@@ -2,14 +2,17 @@
 use Rattle.std.proofs.Common.{◌≡◌, ℕ, ◌+◌, ◌*◌, ◌/◌, ◌%◌, ◌<◌, ◌≤◌, List, [], ◌∷◌, ◌++◌, Some, None, bit_or, refl}
 use Rattle.std.proofs.Common.{sym, ◌∙◌, subst, arith}
 use Rattle.std.specs.Prelude.{Contains}
+use mathlib.Core.Logic.{dite}
 use mathlib.Core.Option as opt
-use Rattle.std.proofs.lemmas.List.Elements.{Contains-append_left}
-use Rattle.pm_cells.specs.Numbers.{newest_number}
-use Rattle.pm_cells.specs.Cells.{CellSlot, IsCell, HoldsNewest, IsPriceOf, fresh_cell}
+use native.Mathlib.Decide.{dec_le}
+use Rattle.std.proofs.lemmas.List.Elements.{Contains-append_left, Contains-push}
+use Rattle.pm_cells.specs.Numbers.{newest_number, AllAmong}
+use Rattle.pm_cells.specs.Cells.{CellSlot, IsCell, HoldsNewest, IsPriceOf, WasPut, messages_in, fresh_cell}
 use Rattle.pm_cells.specs.Steps.{putting, taking, having_lost, having_put, having_taken, having_found_none}
 use Rattle.pm_cells.specs.declared.view.CellView.{CellView}
 use Rattle.pm_cells.specs.declared.message.Message.{Message}
-use Rattle.pm_cells.proofs.Numbers.{last_above-push, RiseAbove-push, contains_newest, newest_at_most, AllAmong-push, AllAmong-more}
+use Rattle.pm_cells.proofs.Numbers.{last_above-push, RiseAbove-push, contains_newest, newest_at_most}
+use Rattle.pm_cells.proofs.Numbers.{AllAmong-none, AllAmong-one, AllAmong-append, AllAmong-more}
 use Rattle.pm_cells.proofs.Words.{bit_or-even, bit_or-odd}
 
 -- a cell on which no step was made
@@ -22,7 +25,24 @@ empty_cell F = record {
   puts_rise = tt;
   takes_rise = tt;
   takes_were_put = λ n h. h;
+  in_hand_was_put = λ n h. h;
+  received_were_put = λ n h. h;
 }
+
+module _ (F : ℕ → Message → Type 0) (sent : List Message) (n t : ℕ) where
+  -- a slot that holds the newest of what was put holds the newest
+  pub holds_newest : (x : CellSlot) → HoldsNewest (WasPut F sent) n t x → HoldsNewest F n t x
+  holds_newest x h = ((λ l. let y = h.0 l in (y.0, y.1, y.2.0)), h.1)
+
+  -- and what is in it was put
+  pub slot_was_put : (x : CellSlot) → HoldsNewest (WasPut F sent) n t x → AllAmong (messages_in x) sent
+  slot_was_put None h = AllAmong-none sent
+  slot_was_put (Some m) h = dite (dec_le n t)
+      (λ old. absurd (let bad = h.1 old in cc))
+      (λ new.
+      let y = h.0 (omega arith) in
+      let same : y.0 ≡ m = let e = y.1 in cc in
+      AllAmong-one m sent (subst (Contains sent) same y.2.1))
 
 module _ (F : ℕ → Message → Type 0) (w : ℕ) (h : opt.Option CellSlot) (put take : CellView) (c : IsCell F w h put take) where
   none_holds : w % 2 ≡ 0 → put.holds + take.holds ≡ 0
@@ -46,11 +66,14 @@ module _ (F : ℕ → Message → Type 0) (w : ℕ) (h : opt.Option CellSlot) (p
     puts_rise = c.puts_rise;
     takes_rise = c.takes_rise;
     takes_were_put = c.takes_were_put;
+    in_hand_was_put = c.in_hand_was_put;
+    received_were_put = c.received_were_put;
   }
 
-  -- a claim of a free slot, to take
-  pub claimed_to_take : w % 2 ≡ 0 → IsCell F (bit_or w 1) opt.none put (taking take (w / 2))
-  claimed_to_take even = let a = c.word_is in let b = none_holds even in let o = bit_or-even w even in record {
+  -- a claim of a free slot in which this is, to take
+  pub claimed_to_take : (x : CellSlot) → AllAmong (messages_in x) put.sent → w % 2 ≡ 0
+      → IsCell F (bit_or w 1) opt.none put (taking take (w / 2) x)
+  claimed_to_take x was_put even = let a = c.word_is in let b = none_holds even in let o = bit_or-even w even in record {
     word_is = omega arith;
     one_holds = omega arith;
     at_home = λ z. absurd (omega arith);
@@ -58,6 +81,8 @@ module _ (F : ℕ → Message → Type 0) (w : ℕ) (h : opt.Option CellSlot) (p
     puts_rise = c.puts_rise;
     takes_rise = c.takes_rise;
     takes_were_put = c.takes_were_put;
+    in_hand_was_put = was_put;
+    received_were_put = c.received_were_put;
   }
 
   -- a claim of the putting end that is lost
@@ -70,6 +95,8 @@ module _ (F : ℕ → Message → Type 0) (w : ℕ) (h : opt.Option CellSlot) (p
     puts_rise = c.puts_rise;
     takes_rise = c.takes_rise;
     takes_were_put = c.takes_were_put;
+    in_hand_was_put = c.in_hand_was_put;
+    received_were_put = c.received_were_put;
   }
 
   -- a claim of the taking end that is lost
@@ -82,26 +109,41 @@ module _ (F : ℕ → Message → Type 0) (w : ℕ) (h : opt.Option CellSlot) (p
     puts_rise = c.puts_rise;
     takes_rise = c.takes_rise;
     takes_were_put = c.takes_were_put;
+    in_hand_was_put = c.in_hand_was_put;
+    received_were_put = c.received_were_put;
   }
 
   -- what an end finds in a free slot
-  pub found_in_slot : w % 2 ≡ 0 → (x : CellSlot) × (h ≡ opt.some x) × HoldsNewest F (w / 2) (newest_number take.takes) x
+  pub found_in_slot : w % 2 ≡ 0
+      → (x : CellSlot) × (h ≡ opt.some x) × HoldsNewest F (w / 2) (newest_number take.takes) x × AllAmong (messages_in x) put.sent
   found_in_slot even =
       let x = c.at_home (none_holds even) in
-      (x.0, x.1, subst (λ n. HoldsNewest F n (newest_number take.takes) x.0) (number_is even) x.2)
+      let t = newest_number take.takes in
+      let newest = holds_newest F put.sent (newest_number put.puts) t x.0 x.2 in (
+        x.0,
+        x.1,
+        subst (λ n. HoldsNewest F n t x.0) (number_is even) newest,
+        slot_was_put F put.sent (newest_number put.puts) t x.0 x.2,
+      )
 
   -- a release with a message under a newer number
   pub released_put : (n : ℕ) (m : Message) → put.holds ≡ 1 → newest_number put.puts < n → F n m
-      → IsCell F (n * 2) (opt.some (Some m)) (having_put put n) take
+      → IsCell F (n * 2) (opt.some (Some m)) (having_put put n m) take
   released_put n m holds above fits =
       let b = c.one_holds in let last = last_above-push 0 put.puts n in let t = taken_at_most in record {
         word_is = omega arith;
         one_holds = omega arith;
-        at_home = λ z. (Some m, refl, ((λ l. (m, refl, subst (λ k. F k m) (sym last) fits)), λ l. absurd (omega arith)));
+        at_home = λ z. (
+          Some m,
+          refl,
+          ((λ l. (m, refl, (subst (λ k. F k m) (sym last) fits, Contains-push put.sent m))), λ l. absurd (omega arith)),
+        );
         found_is = λ z. absurd (omega arith);
         puts_rise = RiseAbove-push 0 put.puts n c.puts_rise above;
         takes_rise = c.takes_rise;
         takes_were_put = AllAmong-more take.takes put.puts n c.takes_were_put;
+        in_hand_was_put = AllAmong-more (messages_in take.in_hand) put.sent m c.in_hand_was_put;
+        received_were_put = AllAmong-more take.received put.sent m c.received_were_put;
       }
 
   -- a release after a take of a newer number
@@ -116,7 +158,9 @@ module _ (F : ℕ → Message → Type 0) (w : ℕ) (h : opt.Option CellSlot) (p
         found_is = λ z. absurd (omega arith);
         puts_rise = c.puts_rise;
         takes_rise = RiseAbove-push 0 take.takes take.found c.takes_rise above;
-        takes_were_put = AllAmong-push take.takes put.puts take.found c.takes_were_put was_put;
+        takes_were_put = AllAmong-append take.takes (take.found ∷ []) put.puts c.takes_were_put (AllAmong-one take.found put.puts was_put);
+        in_hand_was_put = AllAmong-none put.sent;
+        received_were_put = AllAmong-append take.received (messages_in take.in_hand) put.sent c.received_were_put c.in_hand_was_put;
       }
 
   -- a release after a take that found no newer number
@@ -130,6 +174,8 @@ module _ (F : ℕ → Message → Type 0) (w : ℕ) (h : opt.Option CellSlot) (p
     puts_rise = c.puts_rise;
     takes_rise = c.takes_rise;
     takes_were_put = c.takes_were_put;
+    in_hand_was_put = AllAmong-none put.sent;
+    received_were_put = c.received_were_put;
   }
 
   -- the rule of the messages may become weaker
@@ -138,11 +184,13 @@ module _ (F : ℕ → Message → Type 0) (w : ℕ) (h : opt.Option CellSlot) (p
     word_is = c.word_is;
     one_holds = c.one_holds;
     at_home = λ z. let x = c.at_home z in
-        (x.0, x.1, ((λ l. let y = x.2.0 l in (y.0, y.1, goes (newest_number put.puts) y.0 y.2)), x.2.1));
+        (x.0, x.1, ((λ l. let y = x.2.0 l in (y.0, y.1, (goes (newest_number put.puts) y.0 y.2.0, y.2.1))), x.2.1));
     found_is = c.found_is;
     puts_rise = c.puts_rise;
     takes_rise = c.takes_rise;
     takes_were_put = c.takes_were_put;
+    in_hand_was_put = c.in_hand_was_put;
+    received_were_put = c.received_were_put;
   }
 
 -- a price that names one of these bids names one of more

@@ -1,14 +1,16 @@
 -- While an end has its seat the link is cut, and the role in its view tells which end it is.
-use Rattle.std.proofs.Common.{◌≡◌, ℕ, zero, suc, ◌⊎◌, List, [], ◌∷◌, bit_or, refl, sym, ap, ◌∙◌, subst, inl, inr, ⊎_elim}
+use Rattle.std.proofs.Common.{◌≡◌, ℕ, zero, suc, ◌⊎◌, List, [], ◌∷◌, Some, None, bit_or, refl, sym, ap, ◌∙◌, subst}
+use Rattle.std.proofs.Common.{inl, inr, ⊎_elim}
 use mathlib.Core.Option as opt
 use mathlib.Core.Option.{some-injective, some-ne-none}
 use lib.ListN.{get_elem?}
 use Rattle.std.specs.Prelude.{slice_index}
-use Rattle.atomic_table.specs.Table.{Act, Valid, step, stepped, carried_after, Allows}
+use Rattle.atomic_table.specs.Table.{Act, Valid, step, stepped, carried_after, rest, Allows}
 use Rattle.pm_cells.specs.Cells.{CellSlot, LinkTable, IsCell, AreCells, IsBidWith, IsPriceOf, two_cells, whole_view, IsUncut, IsJoined, KeepsCells}
 use Rattle.pm_cells.specs.Steps.{Seated, StepKind, with_up, with_down}
 use Rattle.pm_cells.specs.declared.view.EndView.{EndView}
 use Rattle.pm_cells.specs.declared.view.CellView.{CellView}
+use Rattle.pm_cells.specs.declared.message.Message.{Message}
 use Rattle.pm_cells.specs.declared.view.Role.{Role}
 use Rattle.pm_cells.specs.declared.view.Role.TheVariants.{Whole, Child, Parent, Joined, Spent}
 
@@ -109,6 +111,24 @@ pub parent_may : (slots id : ℕ) (m : Seated) (i : ℕ) (f : ℕ → ℕ) (then
 parent_may slots id m i f then is go s k _ at _ =
     let (w₀, w₁, h₀, h₁, c, n, e, r) = as_parent s id m.0 k at is in
     subst (λ (x : LinkTable × ℕ). Goes x.0 x.1 m i f then) (λ j. (sym e j, sym n j)) (go w₀ w₁ h₀ h₁ c r)
+
+-- an end that claimed a slot and had none has it with what it put there in exchange
+pub exchanged : (m n : Seated) (v : EndView) (k : ℕ) (x y : CellSlot) (l : List (ℕ × CellSlot)) → m ≡ (v, (k, x) ∷ l) → l ≡ []
+    → n ≡ (m.0, (k, y) ∷ rest m.1) → n ≡ (v, (k, y) ∷ [])
+exchanged m n v k x y l got none e = e ∙ ap (λ (u : Seated). (u.0, (k, y) ∷ rest u.1)) got ∙ ap (λ t. (v, (k, y) ∷ t)) none
+
+-- what is in the first slot that an end has
+abbrev pub held_first : List (ℕ × CellSlot) → CellSlot
+held_first [] = None
+held_first (y ∷ ys) = y.1
+
+-- an end that has one slot, and in it a message, put that message
+pub put_is_told : (k n n' : ℕ) (x y : Message) (l : List (ℕ × CellSlot)) (put : ℕ → Message → EndView) → n ≡ n' → l ≡ (k, Some x) ∷ []
+    → l ≡ (k, Some y) ∷ [] → ◌≡◌ {A = Seated} (put n x, rest l) (put n' y, [])
+put_is_told k n n' x y l put e a b =
+    let held = sym (ap held_first a) ∙ ap held_first b in
+    let same : x ≡ y = cc in
+    λ i. (put (e i) (same i), rest (a i))
 
 -- the table of a cut link keeps the rule
 pub keeps_cut : (w₀ w₁ : ℕ) (h₀ h₁ : opt.Option CellSlot) (c p : EndView) → AreCells w₀ w₁ h₀ h₁ c p →

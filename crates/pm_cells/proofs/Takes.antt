@@ -1,5 +1,5 @@
 -- What an end that takes learns from what it found in the slot.
-use Rattle.std.proofs.Common.{◌≡◌, ℕ, ◌<◌, List, [], ◌∷◌, Some, None, sym, ap, ◌∙◌, subst, arith}
+use Rattle.std.proofs.Common.{◌≡◌, ℕ, ◌<◌, List, ◌∷◌, Some, None, sym, ap, ◌∙◌, subst, arith}
 use mathlib.Core.Logic.{dite}
 use native.Mathlib.Decide.{dec_le}
 use Rattle.std.specs.Prelude.{All}
@@ -7,13 +7,14 @@ use Rattle.std.proofs.lemmas.List.Elements.{Contains-get_or}
 use Rattle.pm_session.specs.declared.price.PriceUpdate.{PriceUpdate}
 use Rattle.pm_cells.specs.Numbers.{newest_number}
 use Rattle.pm_cells.specs.Cells.{CellSlot, IsBidWith, IsPriceOf}
-use Rattle.pm_cells.specs.Steps.{Seated, ShowsNewest, ReleasesTaken, taking, having_taken, having_found_none, with_up, with_down}
+use Rattle.pm_cells.specs.Steps.{Seated, ShowsNewest}
 use Rattle.pm_cells.specs.declared.view.EndView.{EndView}
 use Rattle.pm_cells.specs.declared.view.CellView.{CellView}
 use Rattle.pm_cells.specs.declared.message.Message.{Message}
 use Rattle.pm_cells.specs.declared.message.Message.TheVariants.{Bid, Price}
 use Rattle.pm_cells.specs.declared.message.UpMessage.{UpMessage}
 use Rattle.pm_cells.proofs.Numbers.{above_all}
+use Rattle.pm_cells.proofs.Seats.{held_first}
 
 module _ (F : ℕ → Message → Type 0) (a : CellView) (n : ℕ) (x : CellSlot) (s : ShowsNewest F a n x) where
   -- a message in the slot has the number found, which is above the one taken last
@@ -30,10 +31,6 @@ module _ (F : ℕ → Message → Type 0) (a : CellView) (n : ℕ) (x : CellSlot
 
   all_below : newest_number a.takes < n → All (λ k. k < n) a.takes
   all_below h k d l = above_all a.takes n s.1 h _ (Contains-get_or a.takes k d l)
-
-abbrev held_first : List (ℕ × CellSlot) → CellSlot
-held_first [] = None
-held_first (y ∷ ys) = y.1
 
 -- what the claim gave is what the exchange brought out
 pub found_slot : (m : Seated) (v : EndView) (k : ℕ) (more others : List (ℕ × CellSlot)) (x y : CellSlot) → m ≡ (v, (k, x) ∷ more) →
@@ -65,29 +62,3 @@ price_above bids a n x s u e =
     let (new, (w, is, number, _)) = some_is_new (IsPriceOf bids) a n x s (Price u) e in
     let same : n ≡ u.index = cc in
     subst (λ j. All (λ k. k < j) a.takes) same (all_below (IsPriceOf bids) a n x s new)
-
--- what a release after a take of a bid, or of a price, tells
-abbrev pub BidTaken : Seated → Seated → Type 0
-BidTaken m m' = ReleasesTaken m.0.up (with_up m.0 (having_taken m.0.up)) (with_up m.0 (having_found_none m.0.up)) m m'
-
--- what a release after a take of a price tells of the end before and the end after
-abbrev pub PriceTaken : Seated → Seated → Type 0
-PriceTaken m m' = ReleasesTaken m.0.down (with_down m.0 (having_taken m.0.down)) (with_down m.0 (having_found_none m.0.down)) m m'
-
-module _ (v : EndView) (m m' : Seated) (n : ℕ) (e : m ≡ (with_up v (taking v.up n), (0, None) ∷ [])) (r : BidTaken m m') where
-  -- the parent's end after a take of a newer bid
-  pub took_bid : newest_number v.up.takes < n → m' ≡ (with_up v (having_taken (taking v.up n)), [])
-  took_bid h = (subst (λ u. BidTaken u m') e r).0 h
-
-  -- and after one that found none
-  pub took_no_bid : n ≡ newest_number v.up.takes → m' ≡ (with_up v (having_found_none (taking v.up (newest_number v.up.takes))), [])
-  took_no_bid h = (subst (λ u. BidTaken u m') e r).1 (omega arith) ∙ ap (λ k. (with_up v (having_found_none (taking v.up k)), [])) h
-
-module _ (v : EndView) (m m' : Seated) (n : ℕ) (e : m ≡ (with_down v (taking v.down n), (1, None) ∷ [])) (r : PriceTaken m m') where
-  -- the child's end after a take of a newer price
-  pub took_price : newest_number v.down.takes < n → m' ≡ (with_down v (having_taken (taking v.down n)), [])
-  took_price h = (subst (λ u. PriceTaken u m') e r).0 h
-
-  -- and after one that found none
-  pub took_no_price : n ≡ newest_number v.down.takes → m' ≡ (with_down v (having_found_none (taking v.down (newest_number v.down.takes))), [])
-  took_no_price h = (subst (λ u. PriceTaken u m') e r).1 (omega arith) ∙ ap (λ k. (with_down v (having_found_none (taking v.down k)), [])) h

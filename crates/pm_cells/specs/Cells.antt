@@ -22,7 +22,7 @@ LinkTable = State CellSlot EndView
 
 -- what an end that made no step knows of a cell
 abbrev pub fresh_cell : CellView
-fresh_cell = record { puts = []; takes = []; holds = 0; found = 0; lost = 0; empty = 0 }
+fresh_cell = record { puts = []; takes = []; sent = []; received = []; holds = 0; found = 0; in_hand = None; lost = 0; empty = 0 }
 
 -- the view of a link that is not yet cut into two ends
 abbrev pub whole_view : EndView
@@ -41,6 +41,15 @@ IsPriceOf bids n message = (price : PriceUpdate) × (message ≡ Price price) ×
 abbrev pub HoldsNewest : (ℕ → Message → Type 0) → ℕ → ℕ → CellSlot → Type 0
 HoldsNewest Fits put taken slot = (taken < put → (message : Message) × (slot ≡ Some message) × Fits put message) × (put ≤ taken → slot ≡ None)
 
+-- the message meets this, and is one of those that were put
+abbrev pub WasPut : (ℕ → Message → Type 0) → List Message → ℕ → Message → Type 0
+WasPut Fits sent n message = Fits n message × Contains sent message
+
+-- the messages in a slot, at most one
+abbrev pub messages_in : CellSlot → List Message
+messages_in None = []
+messages_in (Some message) = message ∷ []
+
 -- one cell, by its word, its slot where that is at home, and what the putting and the taking end know of it
 pub record IsCell (Fits : ℕ → Message → Type 0) (word : ℕ) (home : opt.Option CellSlot) (put take : CellView) : Type 0 where
   -- twice the newest number put, and one more while an end has the slot
@@ -48,12 +57,16 @@ pub record IsCell (Fits : ℕ → Message → Type 0) (word : ℕ) (home : opt.O
   -- the two ends never have the slot at the same time
   pub one_holds : put.holds + take.holds ≤ 1
   pub at_home : put.holds + take.holds ≡ 0 →
-      (slot : CellSlot) × (home ≡ opt.some slot) × HoldsNewest Fits (newest_number put.puts) (newest_number take.takes) slot
+      (slot : CellSlot) × (home ≡ opt.some slot) × HoldsNewest (WasPut Fits put.sent) (newest_number put.puts) (newest_number take.takes) slot
   -- the taking end that has the slot found the word's number
   pub found_is : take.holds ≡ 1 → take.found ≡ newest_number put.puts
+  -- and what it found in the slot is a message that was put
+  pub in_hand_was_put : AllAmong (messages_in take.in_hand) put.sent
   pub puts_rise : AreRising put.puts
   pub takes_rise : AreRising take.takes
   pub takes_were_put : AllAmong take.takes put.puts
+  -- the messages that were taken are those that were put, whole
+  pub received_were_put : AllAmong take.received put.sent
 
 -- a table of two cells and two ends
 abbrev pub two_cells : ℕ → ℕ → opt.Option CellSlot → opt.Option CellSlot → EndView → EndView → LinkTable
@@ -75,9 +88,9 @@ abbrev pub IsCut : LinkTable → Type 0
 IsCut s = (w₀ w₁ : ℕ) × (h₀ h₁ : opt.Option CellSlot) × (child parent : EndView) × (s ≡ two_cells w₀ w₁ h₀ h₁ child parent) ×
     AreCells w₀ w₁ h₀ h₁ child parent
 
--- of a cell whose ends were joined: what was taken rises and was put
+-- of a cell whose ends were joined: the numbers taken rise and were put, and each message taken was put
 abbrev pub TookWhatWasPut : CellView → Type 0
-TookWhatWasPut cell = AreRising cell.takes × AllAmong cell.takes cell.puts
+TookWhatWasPut cell = AreRising cell.takes × AllAmong cell.takes cell.puts × AllAmong cell.received cell.sent
 
 -- from the joining on: the child's view has the lists of both ends, and nothing is said of the parent's
 abbrev pub IsJoined : LinkTable → Type 0

@@ -1,10 +1,11 @@
 -- The two ends of a link, as contracts see them, and what each call makes of one.
-use Rattle.std.specs.Prelude.{◌≡◌, ℕ, ◌≤◌, List, []}
+use Rattle.std.specs.Prelude.{◌≡◌, ℕ, ◌≤◌, List, [], Some, None}
 pub use Rattle.atomic_table.specs.Seated.{TableId}
 use Rattle.pm_session.specs.declared.price.PriceUpdate.{PriceUpdate}
 use Rattle.pm_cells.specs.Numbers.{newest_number}
 use Rattle.pm_cells.specs.Steps.{Seated, having_lost, taking, having_put, having_taken, having_found_none, with_up, with_down}
 use Rattle.pm_cells.specs.declared.message.UpMessage.{UpMessage}
+use Rattle.pm_cells.specs.declared.message.Message.TheVariants.{Bid, Price}
 use Rattle.pm_cells.specs.declared.fault.PutPriceFault.{PutPriceFault}
 use Rattle.pm_cells.specs.declared.fault.PutPriceFault.TheVariants as OfPrices
 use Rattle.pm_cells.specs.declared.fault.PutBidFault.{PutBidFault}
@@ -42,28 +43,28 @@ pub record RestsBetweenCalls (role : Role) (seat : Seated) (put take : CellView)
 abbrev pub knowing : LinkEnd → EndView → LinkEnd
 knowing e v = record { link = e.link; known = v; room = e.room }
 
--- after a put of number `n`, and after a claim that was lost
-abbrev pub after_put_bid : LinkEnd → ℕ → LinkEnd
-after_put_bid e n = knowing e (with_up e.known (having_put e.known.up n))
+-- after a put of this message, and after a claim that was lost
+abbrev pub after_put_bid : LinkEnd → UpMessage → LinkEnd
+after_put_bid e bid = knowing e (with_up e.known (having_put e.known.up bid.number (Bid bid)))
 
 abbrev pub after_lost_bid : LinkEnd → LinkEnd
 after_lost_bid e = knowing e (with_up e.known (having_lost e.known.up))
 
-abbrev pub after_put_price : LinkEnd → ℕ → LinkEnd
-after_put_price e n = knowing e (with_down e.known (having_put e.known.down n))
+abbrev pub after_put_price : LinkEnd → PriceUpdate → LinkEnd
+after_put_price e price = knowing e (with_down e.known (having_put e.known.down price.index (Price price)))
 
 abbrev pub after_lost_price : LinkEnd → LinkEnd
 after_lost_price e = knowing e (with_down e.known (having_lost e.known.down))
 
--- after a take of number `n`, and after one that found the number taken last
-abbrev pub after_taken_bid : LinkEnd → ℕ → LinkEnd
-after_taken_bid e n = knowing e (with_up e.known (having_taken (taking e.known.up n)))
+-- after a take of this message, and after one that found the number taken last
+abbrev pub after_taken_bid : LinkEnd → UpMessage → LinkEnd
+after_taken_bid e bid = knowing e (with_up e.known (having_taken (taking e.known.up bid.number (Some (Bid bid)))))
 
 abbrev pub after_no_bid : LinkEnd → LinkEnd
-after_no_bid e = knowing e (with_up e.known (having_found_none (taking e.known.up (newest_number e.known.up.takes))))
+after_no_bid e = knowing e (with_up e.known (having_found_none (taking e.known.up (newest_number e.known.up.takes) None)))
 
-abbrev pub after_taken_price : LinkEnd → ℕ → LinkEnd
-after_taken_price e n = knowing e (with_down e.known (having_taken (taking e.known.down n)))
+abbrev pub after_taken_price : LinkEnd → PriceUpdate → LinkEnd
+after_taken_price e price = knowing e (with_down e.known (having_taken (taking e.known.down price.index (Some (Price price)))))
 
 abbrev pub after_no_price : LinkEnd → LinkEnd
-after_no_price e = knowing e (with_down e.known (having_found_none (taking e.known.down (newest_number e.known.down.takes))))
+after_no_price e = knowing e (with_down e.known (having_found_none (taking e.known.down (newest_number e.known.down.takes) None)))

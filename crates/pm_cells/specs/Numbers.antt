@@ -1,4 +1,4 @@
--- Lists of numbers that rise.
+-- Lists of numbers that rise, and lists whose elements are all in another.
 use Rattle.std.specs.Prelude.{ℕ, ◌<◌, List, [], ◌∷◌, Contains}
 
 -- each number is above the one before it, and the first one above `low`
@@ -19,6 +19,6 @@ AreRising ns = RiseAbove 0 ns
 abbrev pub newest_number : List ℕ → ℕ
 newest_number ns = last_above 0 ns
 
--- each of the first numbers is one of the second
-abbrev pub AllAmong : List ℕ → List ℕ → Type 0
-AllAmong ns ms = (n : ℕ) → Contains ns n → Contains ms n
+-- each element of the first list is one of the second
+abbrev pub AllAmong : {A : Type 0} → List A → List A → Type 0
+AllAmong {A} xs ys = (x : A) → Contains xs x → Contains ys x

@@ -1,9 +1,9 @@
 -- What each kind of step tells the end that makes it: of the step, the end before, the word found (at a store, the word stored)
 -- and the end after.
-use Rattle.std.specs.Prelude.{◌≡◌, ℕ, ◌+◌, ◌/◌, ◌%◌, ◌<◌, ◌≤◌, [], ◌∷◌, ◌++◌}
+use Rattle.std.specs.Prelude.{◌≡◌, ℕ, ◌+◌, ◌/◌, ◌%◌, ◌<◌, ◌≤◌, [], ◌∷◌, ◌++◌, Some, None}
 use Rattle.atomic_table.specs.Table.{Me, Step, rest}
 use Rattle.pm_cells.specs.Numbers.{newest_number, AreRising}
-use Rattle.pm_cells.specs.Cells.{CellSlot, fresh_cell, IsBidWith, IsPriceOf, HoldsNewest}
+use Rattle.pm_cells.specs.Cells.{CellSlot, fresh_cell, IsBidWith, IsPriceOf, HoldsNewest, messages_in}
 use Rattle.pm_cells.specs.declared.view.EndView.{EndView}
 use Rattle.pm_cells.specs.declared.view.CellView.{CellView}
 use Rattle.pm_cells.specs.declared.view.Role.TheVariants.{Child, Parent, Joined, Spent}
@@ -18,7 +18,17 @@ parent_view = record { role = Parent; up = fresh_cell; down = fresh_cell }
 
 -- what both ends know of a cell, by the view of the one that put and of the one that took
 abbrev pub joined_cell : CellView → CellView → CellView
-joined_cell put take = record { puts = put.puts; takes = take.takes; holds = 0; found = 0; lost = put.lost; empty = take.empty }
+joined_cell put take = record {
+  puts = put.puts;
+  takes = take.takes;
+  sent = put.sent;
+  received = take.received;
+  holds = 0;
+  found = 0;
+  in_hand = None;
+  lost = put.lost;
+  empty = take.empty;
+}
 
 -- the child's view, with the lists of both ends
 abbrev pub joined_view : EndView → EndView → EndView
@@ -30,27 +40,87 @@ spent_view = record { role = Spent; up = fresh_cell; down = fresh_cell }
 
 -- the end has the slot, to put
 abbrev pub putting : CellView → CellView
-putting a = record { puts = a.puts; takes = a.takes; holds = 1; found = a.found; lost = a.lost; empty = a.empty }
+putting a = record {
+  puts = a.puts;
+  takes = a.takes;
+  sent = a.sent;
+  received = a.received;
+  holds = 1;
+  found = a.found;
+  in_hand = a.in_hand;
+  lost = a.lost;
+  empty = a.empty;
+}
 
--- the end has the slot, to take, and found this number
-abbrev pub taking : CellView → ℕ → CellView
-taking a n = record { puts = a.puts; takes = a.takes; holds = 1; found = n; lost = a.lost; empty = a.empty }
+-- the end has the slot, to take, and found this number and this in the slot
+abbrev pub taking : CellView → ℕ → CellSlot → CellView
+taking a n slot = record {
+  puts = a.puts;
+  takes = a.takes;
+  sent = a.sent;
+  received = a.received;
+  holds = 1;
+  found = n;
+  in_hand = slot;
+  lost = a.lost;
+  empty = a.empty;
+}
 
 -- one more claim found that the other end has the slot
 abbrev pub having_lost : CellView → CellView
-having_lost a = record { puts = a.puts; takes = a.takes; holds = a.holds; found = a.found; lost = a.lost + 1; empty = a.empty }
+having_lost a = record {
+  puts = a.puts;
+  takes = a.takes;
+  sent = a.sent;
+  received = a.received;
+  holds = a.holds;
+  found = a.found;
+  in_hand = a.in_hand;
+  lost = a.lost + 1;
+  empty = a.empty;
+}
 
--- this number was put
-abbrev pub having_put : CellView → ℕ → CellView
-having_put a n = record { puts = a.puts ++ n ∷ []; takes = a.takes; holds = 0; found = a.found; lost = a.lost; empty = a.empty }
+-- this message was put under this number
+abbrev pub having_put : CellView → ℕ → Message → CellView
+having_put a n message = record {
+  puts = a.puts ++ n ∷ [];
+  takes = a.takes;
+  sent = a.sent ++ message ∷ [];
+  received = a.received;
+  holds = 0;
+  found = a.found;
+  in_hand = a.in_hand;
+  lost = a.lost;
+  empty = a.empty;
+}
 
--- the number found was taken
+-- the number found was taken, and the message found
 abbrev pub having_taken : CellView → CellView
-having_taken a = record { puts = a.puts; takes = a.takes ++ a.found ∷ []; holds = 0; found = a.found; lost = a.lost; empty = a.empty }
+having_taken a = record {
+  puts = a.puts;
+  takes = a.takes ++ a.found ∷ [];
+  sent = a.sent;
+  received = a.received ++ messages_in a.in_hand;
+  holds = 0;
+  found = a.found;
+  in_hand = None;
+  lost = a.lost;
+  empty = a.empty;
+}
 
 -- one more take found no newer number
 abbrev pub having_found_none : CellView → CellView
-having_found_none a = record { puts = a.puts; takes = a.takes; holds = 0; found = a.found; lost = a.lost; empty = a.empty + 1 }
+having_found_none a = record {
+  puts = a.puts;
+  takes = a.takes;
+  sent = a.sent;
+  received = a.received;
+  holds = 0;
+  found = a.found;
+  in_hand = None;
+  lost = a.lost;
+  empty = a.empty + 1;
+}
 
 -- a view in which one cell is known otherwise
 abbrev pub with_up : EndView → CellView → EndView
@@ -67,15 +137,19 @@ Seated = Me CellSlot EndView
 abbrev pub StepKind : Type 1
 StepKind = Step CellSlot → Seated → ℕ → Seated → Type 0
 
--- a claim of slot `k`: where the word was even the end has the slot, what is in it meets `Shows`, and the view is `got`; where
+-- a claim of slot `k`: where the word was even the end has the slot, what is in it meets `Shows`, and the view is `got` of it; where
 -- the word was odd the view is `lost`
-abbrev pub Claims : EndView → EndView → ℕ → (CellSlot → Type 0) → Seated → ℕ → Seated → Type 0
-Claims got lost k Shows m word m' = (word % 2 ≡ 0 → (slot : CellSlot) × (m' ≡ (got, (k, slot) ∷ m.1)) × Shows slot) ×
+abbrev pub Claims : (CellSlot → EndView) → EndView → ℕ → (CellSlot → Type 0) → Seated → ℕ → Seated → Type 0
+Claims got lost k Shows m word m' = (word % 2 ≡ 0 → (slot : CellSlot) × (m' ≡ (got slot, (k, slot) ∷ m.1)) × Shows slot) ×
     (word % 2 ≡ 1 → m' ≡ (lost, m.1))
 
 -- what an end that is to take learns of the slot that it claimed, where it found number `n`
 abbrev pub ShowsNewest : (ℕ → Message → Type 0) → CellView → ℕ → CellSlot → Type 0
 ShowsNewest Fits a n slot = HoldsNewest Fits n (newest_number a.takes) slot × AreRising a.takes × (newest_number a.takes ≤ n)
+
+-- a release after a put into slot `k`: the view is `put` of the message that the end has there
+abbrev pub ReleasesPut : ℕ → (Message → EndView) → Seated → Seated → Type 0
+ReleasesPut k put m m' = (message : Message) → m.1 ≡ (k, Some message) ∷ [] → m' ≡ (put message, [])
 
 -- a release after a take: the view is `took` where the number found is above the one taken last, else `none`
 abbrev pub ReleasesTaken : CellView → EndView → EndView → Seated → Seated → Type 0
@@ -84,14 +158,15 @@ ReleasesTaken a took none m m' = (newest_number a.takes < a.found → m' ≡ (to
 
 -- the eight kinds of step: the child puts bids, which the parent takes
 abbrev pub claims_to_put_bid : StepKind
-claims_to_put_bid step m word m' = Claims (with_up m.0 (putting m.0.up)) (with_up m.0 (having_lost m.0.up)) 0 (λ slot. Unit {0}) m word m'
+claims_to_put_bid step m word m' = Claims (λ slot. with_up m.0 (putting m.0.up)) (with_up m.0 (having_lost m.0.up)) 0 (λ slot. Unit {0}) m word m'
 
 abbrev pub releases_put_bid : StepKind
-releases_put_bid step m word m' = m' ≡ (with_up m.0 (having_put m.0.up (word / 2)), rest m.1)
+releases_put_bid step m word m' = ReleasesPut 0 (λ message. with_up m.0 (having_put m.0.up (word / 2) message)) m m'
 
 abbrev pub claims_to_take_bid : StepKind
 claims_to_take_bid step m word m' =
-    Claims (with_up m.0 (taking m.0.up (word / 2))) (with_up m.0 (having_lost m.0.up)) 0 (ShowsNewest IsBidWith m.0.up (word / 2)) m word m'
+    Claims (λ slot. with_up m.0 (taking m.0.up (word / 2) slot)) (with_up m.0 (having_lost m.0.up)) 0
+    (ShowsNewest IsBidWith m.0.up (word / 2)) m word m'
 
 abbrev pub releases_taken_bid : StepKind
 releases_taken_bid step m word m' = ReleasesTaken m.0.up (with_up m.0 (having_taken m.0.up)) (with_up m.0 (having_found_none m.0.up)) m m'
@@ -99,14 +174,14 @@ releases_taken_bid step m word m' = ReleasesTaken m.0.up (with_up m.0 (having_ta
 -- and the parent puts prices, which the child takes
 abbrev pub claims_to_put_price : StepKind
 claims_to_put_price step m word m' =
-    Claims (with_down m.0 (putting m.0.down)) (with_down m.0 (having_lost m.0.down)) 1 (λ slot. Unit {0}) m word m'
+    Claims (λ slot. with_down m.0 (putting m.0.down)) (with_down m.0 (having_lost m.0.down)) 1 (λ slot. Unit {0}) m word m'
 
 abbrev pub releases_put_price : StepKind
-releases_put_price step m word m' = m' ≡ (with_down m.0 (having_put m.0.down (word / 2)), rest m.1)
+releases_put_price step m word m' = ReleasesPut 1 (λ message. with_down m.0 (having_put m.0.down (word / 2) message)) m m'
 
 abbrev pub claims_to_take_price : StepKind
 claims_to_take_price step m word m' =
-    Claims (with_down m.0 (taking m.0.down (word / 2))) (with_down m.0 (having_lost m.0.down)) 1
+    Claims (λ slot. with_down m.0 (taking m.0.down (word / 2) slot)) (with_down m.0 (having_lost m.0.down)) 1
     (ShowsNewest (IsPriceOf m.0.up.puts) m.0.down (word / 2)) m word m'
 
 abbrev pub releases_taken_price : StepKind

@@ -8,13 +8,13 @@ use crate::link::FreeLink;
 use crate::message::{Message, UpMessage};
 use crate::steps::{ClaimToPutBid, ClaimToTakeBid, ReleasePutBid, ReleaseTakenBid};
 
-/// Puts a bid under a number that is above all put before. It takes the place of one that was not taken. `Busy` comes
-/// exactly where the end lost its claim of the slot; the message is handed back then.
+/// Puts a bid, whole as it is, under a number that is above all put before. It takes the place of one that was not taken.
+/// `Busy` comes exactly where the end lost its claim of the slot; the message is handed back then.
 pub fn put_bid(link: &FreeLink, end: &mut ChildEnd, message: UpMessage) -> Result<(), PutBidFault>
     requires end { end.old.link ≡ link.now }
     requires number { newest_number end.old.known.up.puts < message.number }
     requires room { length end.old.known.up.puts < end.old.room }
-    ensures put { IfOk result (λ _. end.new ≡ after_put_bid end.old message.number) }
+    ensures put { IfOk result (λ _. end.new ≡ after_put_bid end.old message) }
     ensures lost { IfErr result (λ _. end.new ≡ after_lost_bid end.old) }
     ensures back { IfErr result (λ fault. fault ≡ bid_handed_back message) }
 {
@@ -32,12 +32,13 @@ pub fn put_bid(link: &FreeLink, end: &mut ChildEnd, message: UpMessage) -> Resul
     Ok(())
 }
 
-/// Takes the bid that waits, whose number is above all taken before. None comes exactly where the word has the number that
-/// was taken last, 0 at first. `Busy` comes exactly where the end lost its claim of the slot.
+/// Takes the bid that waits, whose number is above all taken before, and answers it whole as it was found. None comes
+/// exactly where the word has the number that was taken last, 0 at first. `Busy` comes exactly where the end lost its
+/// claim of the slot.
 pub fn take_bid(link: &FreeLink, end: &mut ParentEnd) -> Result<Option<UpMessage>, Busy>
     requires end { end.old.link ≡ link.now }
     requires room { length end.old.known.up.takes < end.old.room }
-    ensures taken { IfOk result (λ taken. IfSome taken (λ bid. end.new ≡ after_taken_bid end.old bid.number)) }
+    ensures taken { IfOk result (λ taken. IfSome taken (λ bid. end.new ≡ after_taken_bid end.old bid)) }
     ensures above { IfOk result (λ taken. IfSome taken (λ bid. All (λ n. n < bid.number) end.old.known.up.takes)) }
     ensures none { IfOk result (λ taken. IfNone taken (end.new ≡ after_no_bid end.old)) }
     ensures lost { IfErr result (λ _. end.new ≡ after_lost_bid end.old) }

@@ -8,9 +8,10 @@
 //! slot the answer is [`Busy`], and a message that was to be put is handed back. That messages are numbered, and that a
 //! price names the bid that it answers, is this project's own profile.
 //!
-//! The definitions stand in `specs/`: `Numbers` (lists of numbers that rise), `Cells` (what holds of the two cells between
-//! any two steps), `Steps` (what each of the eight kinds of step tells the end that makes it), `Ends` (an end, and what
-//! each call makes of it). No clause says that a message is ever taken, or a slot ever free.
+//! The definitions stand in `specs/`: `Numbers` (lists of numbers that rise, and lists whose elements are all in
+//! another), `Cells` (what holds of the two cells between any two steps), `Steps` (what each of the eight kinds of step
+//! tells the end that makes it), `Ends` (an end, and what each call makes of it). An end knows the numbers and the whole
+//! messages that it put and took. No clause says that a message is ever taken, or a slot ever free.
 #![tactic(auto)]
 
 mod bids;

@@ -70,8 +70,9 @@ pub fn open_link(alloc: Global, room: usize) -> Result<(FreeLink, ChildEnd, Pare
     Ok((FreeLink { table }, child, parent))
 }
 
-/// Closes a link once both of its ends are back, and tells what they put and took. In each cell the numbers taken rise, and
-/// each of them was put.
+/// Closes a link once both of its ends are back, and tells what they put and took. In each cell the numbers taken rise,
+/// and each of them was put. Each bid that the parent's end took is one that the child's end put, with its demand, and
+/// each price that the child's end took is one that the parent's end put, with its step and the bid that it names.
 pub fn close_link(link: FreeLink, child: ChildEnd, parent: ParentEnd) -> LinkLog
     requires child { child.link ≡ link }
     requires parent { parent.link ≡ link }
@@ -83,6 +84,8 @@ pub fn close_link(link: FreeLink, child: ChildEnd, parent: ParentEnd) -> LinkLog
     ensures bids_were_put { AllAmong result.bid_takes.items result.bid_puts.items }
     ensures prices_rise { AreRising result.price_takes.items }
     ensures prices_were_put { AllAmong result.price_takes.items result.price_puts.items }
+    ensures bids_are_those_put { AllAmong parent.known.up.received child.known.up.sent }
+    ensures prices_are_those_put { AllAmong child.known.down.received parent.known.down.sent }
 {
     let FreeLink { table } = link;
     let ChildEnd {

@@ -20,7 +20,7 @@ impl fmt::Debug for UpMessage {
 
 /// What lies in a slot.
 #[derive(Drop)]
-pub(crate) enum Message {
+pub enum Message {
     Bid(UpMessage),
     Price(PriceUpdate),
 }

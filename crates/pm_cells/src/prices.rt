@@ -10,8 +10,9 @@ use crate::message::{Message, UpMessage};
 use crate::steps::{ClaimToPutPrice, ClaimToTakePrice, ReleasePutPrice, ReleaseTakenPrice};
 use pm_session::PriceUpdate;
 
-/// Puts a price whose index is above all put before, and which names a bid that this end took. It takes the place of one
-/// that was not taken. `Busy` comes exactly where the end lost its claim of the slot; the price is handed back then.
+/// Puts a price, whole as it is, whose index is above all put before, and which names a bid that this end took. It takes
+/// the place of one that was not taken. `Busy` comes exactly where the end lost its claim of the slot; the price is
+/// handed back then.
 pub fn put_price(
     link: &FreeLink,
     end: &mut ParentEnd,
@@ -21,7 +22,7 @@ pub fn put_price(
     requires index { newest_number end.old.known.down.puts < price.index }
     requires number { Contains end.old.known.up.takes price.number }
     requires room { length end.old.known.down.puts < end.old.room }
-    ensures put { IfOk result (λ _. end.new ≡ after_put_price end.old price.index) }
+    ensures put { IfOk result (λ _. end.new ≡ after_put_price end.old price) }
     ensures lost { IfErr result (λ _. end.new ≡ after_lost_price end.old) }
     ensures back { IfErr result (λ fault. fault ≡ price_handed_back price) }
 {
@@ -37,13 +38,13 @@ pub fn put_price(
     Ok(())
 }
 
-/// Takes the price that waits, whose index is above all taken before. It names a bid that this end put. None comes exactly
-/// where the word has the index that was taken last, 0 at first. `Busy` comes exactly where the end lost its claim of the
-/// slot.
+/// Takes the price that waits, whose index is above all taken before, and answers it whole as it was found. It names a
+/// bid that this end put. None comes exactly where the word has the index that was taken last, 0 at first. `Busy` comes
+/// exactly where the end lost its claim of the slot.
 pub fn take_price(link: &FreeLink, end: &mut ChildEnd) -> Result<Option<PriceUpdate>, Busy>
     requires end { end.old.link ≡ link.now }
     requires room { length end.old.known.down.takes < end.old.room }
-    ensures taken { IfOk result (λ taken. IfSome taken (λ price. end.new ≡ after_taken_price end.old price.index)) }
+    ensures taken { IfOk result (λ taken. IfSome taken (λ price. end.new ≡ after_taken_price end.old price)) }
     ensures above { IfOk result (λ taken. IfSome taken (λ price. All (λ n. n < price.index) end.old.known.down.takes)) }
     ensures names { IfOk result (λ taken. IfSome taken (λ price. Contains end.old.known.up.puts price.number)) }
     ensures none { IfOk result (λ taken. IfNone taken (end.new ≡ after_no_price end.old)) }

@@ -1,5 +1,6 @@
 //! What an end of a link knows. Contracts alone speak of these types: no value of them is made.
 
+use crate::message::Message;
 use std::collections::LinkedList;
 
 /// Whose view it is.
@@ -22,10 +23,16 @@ pub struct CellView {
     pub puts: LinkedList<u32>,
     /// The numbers that it took.
     pub takes: LinkedList<u32>,
+    /// The messages that it put, whole and in order.
+    pub sent: LinkedList<Message>,
+    /// The messages that it took, whole and in order.
+    pub received: LinkedList<Message>,
     /// 1 while it has the slot, else 0.
     pub holds: u64,
     /// The number that it found when it had the slot last, to take.
     pub found: u64,
+    /// What it found in the slot that it has, to take.
+    pub in_hand: Option<Message>,
     /// How many of its claims found that the other end has the slot.
     pub lost: u64,
     /// How many of its takes found no number above the one taken last.

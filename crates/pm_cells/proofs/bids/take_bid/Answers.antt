@@ -1,10 +1,9 @@
-use Rattle.std.proofs.Common.{◌≡◌, ◌/◌, ◌<◌, rules, ◌∷◌, [], Some, None, ap, ◌∙◌, arith, subst}
+use Rattle.std.proofs.Common.{◌≡◌, ◌/◌, ◌<◌, rules, Some, ap, ◌∙◌, arith, subst}
 use Rattle.std.specs.Prelude.{All}
-use Rattle.atomic_table.specs.Table.{rest}
 use Rattle.pm_cells.specs.Ends.{LinkEnd}
-use Rattle.pm_cells.specs.Steps.{Seated, with_up, taking}
 use Rattle.pm_cells.specs.declared.message.Message.TheVariants.{Bid}
 use Rattle.pm_cells.proofs.BidSteps.{may_claim_to_take_bid, may_end_take_bid}
+use Rattle.pm_cells.proofs.Seats.{exchanged}
 use Rattle.pm_cells.proofs.Takes.{bid_above, found_slot}
 use Rattle.pm_cells.proofs.bids.take_bid.Goals as goal
 
@@ -17,11 +16,8 @@ store-requires c =
     let odd = c.if-found-eq1.false in
     let n = c.fetch_or-found.result in
     let got = c.fetch_or-found.ensures.2.0 (omega arith) in
-    let a = with_up v (taking v.up (n / 2)) in
-    let is : c.exchange-message.new.seat.me ≡ (a, (0, None) ∷ []) =
-    c.exchange-message.ensures.3 ∙ ap (λ (m : Seated). (m.0, (0, None) ∷ rest m.1)) got.1
-    ∙ ap (λ l. (a, (0, None) ∷ l)) c.end.invariant.has_no_slot in
-    (search rules, search rules, may_end_take_bid _ _ _ v n is c.end.invariant.role_is (omega arith))
+    let is = exchanged _ _ _ 0 got.0 _ _ got.1 c.end.invariant.has_no_slot c.exchange-message.ensures.3 in
+    (search rules, search rules, may_end_take_bid _ _ _ v n got.0 is c.end.invariant.role_is (omega arith))
 
 pub returns-in-Some-Bid-clause-above : goal.returns-in-Some-Bid-clause-above
 returns-in-Some-Bid-clause-above c =

@@ -1,10 +1,9 @@
-use Rattle.std.proofs.Common.{◌≡◌, ◌/◌, ◌<◌, rules, ◌∷◌, [], Some, None, ap, ◌∙◌, arith, subst}
+use Rattle.std.proofs.Common.{◌≡◌, ◌/◌, ◌<◌, rules, Some, ◌∙◌, arith, subst}
 use Rattle.std.specs.Prelude.{All}
-use Rattle.atomic_table.specs.Table.{rest}
 use Rattle.pm_cells.specs.Ends.{LinkEnd}
-use Rattle.pm_cells.specs.Steps.{Seated, with_down, taking}
 use Rattle.pm_cells.specs.declared.message.Message.TheVariants.{Price}
 use Rattle.pm_cells.proofs.PriceSteps.{may_claim_to_take_price, may_end_take_price}
+use Rattle.pm_cells.proofs.Seats.{exchanged}
 use Rattle.pm_cells.proofs.Takes.{price_above, found_slot}
 use Rattle.pm_cells.proofs.prices.take_price.Goals as goal
 
@@ -17,11 +16,8 @@ store-requires c =
     let odd = c.if-found-eq1.false in
     let n = c.fetch_or-found.result in
     let got = c.fetch_or-found.ensures.2.0 (omega arith) in
-    let a = with_down v (taking v.down (n / 2)) in
-    let is : c.exchange-message.new.seat.me ≡ (a, (1, None) ∷ []) =
-    c.exchange-message.ensures.3 ∙ ap (λ (m : Seated). (m.0, (1, None) ∷ rest m.1)) got.1
-    ∙ ap (λ l. (a, (1, None) ∷ l)) c.end.invariant.has_no_slot in
-    (search rules, search rules, may_end_take_price _ _ _ v n is c.end.invariant.role_is (omega arith))
+    let is = exchanged _ _ _ 1 got.0 _ _ got.1 c.end.invariant.has_no_slot c.exchange-message.ensures.3 in
+    (search rules, search rules, may_end_take_price _ _ _ v n got.0 is c.end.invariant.role_is (omega arith))
 
 pub returns-in-Some-clause-above : goal.returns-in-Some-clause-above
 returns-in-Some-clause-above c =
