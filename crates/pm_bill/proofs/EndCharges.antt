@@ -95,14 +95,6 @@ shares_at_end plan cut is =
 
 -- ---- groups
 
-line_in_group : (plan : PlanData) (cut : Cut) (g d : ℕ) → (group plan (member_line plan (state plan) cut d).node == g) ≡ (group plan d == g)
-unfolding member_line
-line_in_group plan cut g d = refl
-
-line_power : (plan : PlanData) (cut : Cut) (d : ℕ) → (member_line plan (state plan) cut d).power ≡ power plan (state plan) cut d
-unfolding member_line
-line_power plan cut d = refl
-
 -- the power of the members below no limited concentrator is the power of group 0
 free_power_is : (plan : PlanData) (cut : Cut) → IsPlan plan → free_power plan (end_of plan cut) ≡ (group_sum plan cut 0).power
 unfolding end_in member_line group_power

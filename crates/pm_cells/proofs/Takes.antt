@@ -37,15 +37,6 @@ pub found_slot : (m : Seated) (v : EndView) (k : ℕ) (more others : List (ℕ �
     m.1 ≡ (k, y) ∷ others → x ≡ y
 found_slot m v k more others x y e f = sym (ap (λ (u : Seated). held_first u.1) e) ∙ ap held_first f
 
--- the slot of the bids has no price, and that of the prices no bid
-pub not_price : (a : CellView) (n : ℕ) (x : CellSlot) → ShowsNewest IsBidWith a n x → (p : PriceUpdate) → x ≡ Some (Price p) → ⊥
-not_price a n x s p e = let (u, is, _) = (some_is_new IsBidWith a n x s (Price p) e).1 in absurd (cc)
-
--- what an end that is to take finds in the slot of the prices is no bid
-pub not_bid : (bids : List ℕ) (a : CellView) (n : ℕ) (x : CellSlot) → ShowsNewest (IsPriceOf bids) a n x → (u : UpMessage) →
-    x ≡ Some (Bid u) → ⊥
-not_bid bids a n x s u e = let (p, is, _, _) = (some_is_new (IsPriceOf bids) a n x s (Bid u) e).1 in absurd (cc)
-
 -- a bid in the slot has a number above all that were taken
 pub bid_above : (a : CellView) (n : ℕ) (x : CellSlot) → ShowsNewest IsBidWith a n x → (u : UpMessage) → x ≡ Some (Bid u) →
     All (λ k. k < u.number) a.takes

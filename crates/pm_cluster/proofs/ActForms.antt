@@ -1,14 +1,12 @@
 -- Moves of the form of an act.
-use Rattle.std.proofs.Common.{◌≡◌, ◌∙◌, sym, ap, subst, ℕ, ◌+◌, ◌≤◌, ℤ, Bool, true, false, arith, refl, inl, inr}
+use Rattle.std.proofs.Common.{◌≡◌, sym, ap, subst, ℕ, ◌+◌, ◌≤◌, Bool, true, false, arith, refl, inl, inr}
 use Rattle.std.specs.Prelude.{Option, Some, None, IfSome}
 use Rattle.std.proofs.Math.Logic.{∥∥₁_elim}
 use Rattle.std.proofs.Props.{props}
 use Rattle.std.proofs.lemmas.Bool.{both_ways}
 use Rattle.std.proofs.lemmas.Option.{IfSome_then}
 use Rattle.pm_base.specs.Limits.{most_phases}
-use Rattle.pm_device.specs.declared.state.Next.{Next}
-use Rattle.pm_device.specs.declared.state.DeviceState.{DeviceState}
-use Rattle.pm_market.specs.Lists.{Lists, is_leaf, IsLeaf}
+use Rattle.pm_market.specs.Lists.{Lists, is_leaf}
 use Rattle.pm_market.specs.State.{State}
 use Rattle.pm_market.specs.Moves.{Legal, act_of}
 use Rattle.pm_market.specs.declared.moves.Move.{Move}
@@ -22,17 +20,13 @@ use Rattle.pm_session.specs.declared.price.Held.{Held}
 use Rattle.pm_offer.specs.Offers.{local_at}
 use Rattle.pm_stands.specs.Current.{held_price}
 use Rattle.pm_plan.specs.Kept.{IsPlan}
-use Rattle.pm_plan.specs.Plans.{PlanData, node, kind_of, end_cut, phases}
+use Rattle.pm_plan.specs.Plans.{PlanData, end_cut}
 use Rattle.pm_plan.specs.Market.{plan_lists}
 use Rattle.pm_plan.proofs.MarketLists.{phases-is}
-use Rattle.pm_agent.specs.MadeBids.{MadeBid}
 use Rattle.pm_stands.specs.Core.{Core}
 use Rattle.pm_stands.specs.Stands.{StandsFor, Stands}
 use Rattle.pm_stands.specs.Actors.{IsMoveOf}
-use Rattle.pm_cluster.specs.Next.{count_of, HasNoNext, IsNext}
-use Rattle.pm_cluster.specs.Acts.{IsNextOrNone, NotChanged}
-use Rattle.pm_cluster.specs.declared.fault.ChangeFault.{ChangeFault}
-use Rattle.pm_cluster.specs.declared.fault.ChangeFault.TheVariants as change_faults
+use Rattle.pm_cluster.specs.Next.{count_of, HasNoNext}
 use Rattle.pm_cluster.proofs.NextChanges.{end_of_market}
 
 -- ---- no move of a form
@@ -95,45 +89,6 @@ none_legal plan is_plan c s stands d none n legal =
         ap (λ (p : ℕ). end_cut plan (p + 1) d) stands.closed,
       )
     ]
-
--- a device has one next change
-pub one_next : (a b : Next) → a.device ≡ b.device → a.number ≡ b.number → a.member ≡ b.member → a.state.0 ≡ b.state.0 → a ≡ b
-one_next a b e f g h =
-    let states : a.state ≡ b.state = ap (λ (z : ℤ). record { 0 = z }) h in
-    ap (λ (x : ℕ). record a { device = x }) e ∙ ap (λ (x : ℕ). record { device = b.device; number = x; member = a.member; state = a.state }) f
-    ∙ ap (λ (x : Bool). record { device = b.device; number = b.number; member = x; state = a.state }) g
-    ∙ ap (λ (x : DeviceState). record { device = b.device; number = b.number; member = b.member; state = x }) states
-
--- two records that both are the next change of a device are equal
-pub same_next : (plan : PlanData) (c : Core) (d : ℕ) (a b : Next) → IsNext plan c.closed (count_of c) d a →
-    IsNext plan c.closed (count_of c) d b → a ≡ b
-same_next plan c d a b at_a at_b =
-    let numbers : a.number ≡ b.number = omega (arith, at_a.number, at_b.number) in
-    one_next a b (at_a.device ∙ sym at_b.device) numbers
-    (at_a.member ∙ ap (Rattle.pm_plan.specs.Plans.is_member plan d) numbers ∙ sym at_b.member)
-    (at_a.state ∙ ap (Rattle.pm_plan.specs.States.state plan d) numbers ∙ sym at_b.state)
-
--- what was found as a device's next change, or as none, is its next change where it has one
-pub found_next : (plan : PlanData) (c : Core) (d : ℕ) (found : Option Next) (b : Next) →
-    IsNextOrNone plan c.closed (count_of c) d found → IsNext plan c.closed (count_of c) d b → found ≡ Some b
-found_next plan c d (Some a) b at_a at_b = ap Some (same_next plan c d a b at_a at_b)
-found_next plan c d None b none at_b = absurd (elim none [
-  | inl all ↦ omega (arith, all, at_b.open_phase)
-  | inr made ↦ omega (arith, made, at_b.number, at_b.of_phase)
-])
-
--- so what follows is not refused
-pub not_refused : (plan : PlanData) (c : Core) (made : MadeBid) (fault : ChangeFault) → NotChanged plan c.closed (count_of c) made fault → IsLeaf
-    (plan_lists plan) made.next.device →
-    IsNext plan c.closed (count_of c) made.next.device made.next → kind_of (node plan made.next.device) ≡ Some made.kind → ⊥
-not_refused plan c made (change_faults.NotNext next) refused leaf its_next kind_is = elim refused [
-  | inl none ↦ both_ways (is_leaf (plan_lists plan) made.next.device) none.0 leaf
-  | inr other ↦ elim other.2 [
-    | inl differs ↦ differs (found_next plan c made.next.device next made.next other.1 its_next)
-    | inr kinds ↦ kinds kind_is
-  ]
-]
-not_refused plan c made change_faults.NoMemory refused leaf its_next kind_is = refused
 
 -- ---- phases
 

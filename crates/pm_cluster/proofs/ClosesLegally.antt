@@ -1,8 +1,5 @@
 -- A phase may be closed exactly where its close is legal.
-use Rattle.std.proofs.Common.{◌≡◌, ◌∙◌, sym, ap, refl, subst, ℕ, ℤ, pos, ◌+◌, ◌<◌, ◌≤◌, List, length, slice_index_or, arith, inl}
-use Rattle.std.proofs.Common.{inr, get_or-set_same, get_or-set_other}
-use Rattle.std.proofs.Math.ListN.{set, length-set}
-use Rattle.std.proofs.lemmas.Bool.{cases_eq}
+use Rattle.std.proofs.Common.{◌≡◌, ◌∙◌, sym, ap, refl, subst, ℕ, ℤ, pos, ◌+◌, ◌<◌, ◌≤◌, List, length, slice_index_or, arith}
 use Rattle.pm_market.specs.Lists.{IsLeaf, end_count}
 use Rattle.pm_market.specs.State.{State}
 use Rattle.pm_market.specs.Moves.{Legal}
@@ -71,30 +68,6 @@ pub record AreFoundTo (plan : PlanData) (value : ℕ → ℤ) (number' : ℕ) (o
   pub same_length : length new ≡ length old
   -- in the place of each device before number' the new list has the value of the device
   pub found : (d : ℕ) → IsLeaf (plan_lists plan) d → d < number' → slice_index_or new d (pos 0) ≡ value d
-
--- with the value of n written in place n, the numbers of the devices before n + 1 are found
-pub found_set : (plan : PlanData) (value : ℕ → ℤ) (n : ℕ) (old now : List ℤ) (z : ℤ) → AreFoundTo plan value n old now →
-    n < length now → z ≡ value n →
-    AreFoundTo plan value (n + 1) old (set now n z)
-found_set plan value n old now z is inside z_is = record {
-  same_length = length-set now n z ∙ is.same_length;
-  found = λ d leaf low. elim (cases_eq d n) [
-    | inl here ↦ ap (λ (i : ℕ). slice_index_or (set now n z) i (pos 0)) here ∙ get_or-set_same now n z (pos 0) inside ∙ z_is ∙ ap value (sym here)
-    | inr other ↦ get_or-set_other now n d z (pos 0) other ∙ is.found d leaf (omega arith)
-  ];
-}
-
--- where n is no device, the numbers found of the devices before n are those before n + 1
-pub found_skip : (plan : PlanData) (value : ℕ → ℤ) (n : ℕ) (old now : List ℤ) → AreFoundTo plan value n old now →
-    (IsLeaf (plan_lists plan) n → ⊥) →
-    AreFoundTo plan value (n + 1) old now
-found_skip plan value n old now is no_leaf = record {
-  same_length = is.same_length;
-  found = λ d leaf low. elim (cases_eq d n) [
-    | inl here ↦ absurd (no_leaf (subst (λ (i : ℕ). IsLeaf (plan_lists plan) i) here leaf))
-    | inr other ↦ is.found d leaf (omega arith)
-  ];
-}
 
 -- a device's power is that of its own change and of all others'
 pub power_alike : (plan : PlanData) (a b : Cut) (d : ℕ) → IsPlan plan → IsLeaf (plan_lists plan) d → SameOn (plan_lists plan) 0 a b → a d ≡ b d →

@@ -68,10 +68,6 @@ limited_line_told plan c s g line is_plan stands quiet inside limited is =
     ap (λ (l : LimitedLine). l ∷ []) (is ∙ line_current plan c s g is_plan stands idle (limited_concentrator plan g is_plan inside limited) limited)
     ∙ sym (cond-true (is_limited plan g) (limited_line plan (state plan) s.counts g ∷ []) [] limited)
 
--- a node that is no limited concentrator adds no limited line to a phase's end
-pub no_limited_told : (plan : PlanData) (cut : Cut) (g : ℕ) → is_limited plan g ≡ false → [] ≡ limited_at plan cut g
-no_limited_told plan cut g none = sym (cond-false (is_limited plan g) (limited_line plan (state plan) cut g ∷ []) [] none)
-
 -- an end with the lines of the nodes before number, and room for those of the others
 pub record IsEndTo (plan : PlanData) (c : Core) (number' : ℕ) (head : EndData) (out : EndValue) : Type 0 where
   -- the end is head with the lines of the nodes before number', over the changes of any state stood for

@@ -109,10 +109,6 @@ row_wrote f xs y r r' lt read same =
       row_same (map f xs) y (f r') lt',
     )
 
--- a list of lists, read
-pub list_read : {R A : Type 0} (f : R → List A) (xs : List R) (y : ℕ) (r : R) → y < length xs → r ≡ get_or xs y r → get_or (map f xs) y [] ≡ f r
-list_read f xs y r lt read = get_or-map f xs y r [] lt ∙ ap f (sym read)
-
 -- the link in place k of row y that was read, and what writing it back makes of the rows
 pub record IsRead {R : Type 0} (f : R → List Session) (xs : List R) (y k : ℕ) (r : R) (v : Session) : Type 0 where
   -- the link in place k of row y is the one that was read

@@ -1,11 +1,10 @@
 -- A number and its digits.
 use Rattle.std.proofs.Common.{◌≡◌, ◌≢◌, ◌∙◌, sym, ap, subst, refl, ℕ, zero, suc, ◌⊎◌, ◌<◌, ◌≤◌, ◌^◌, eqb, List, []}
-use Rattle.std.proofs.Common.{◌∷◌, length, take, drop, get_or, ◌-◌, arith, inl, inr, ℤ, pos, negsuc, neg_ℤ, Option, Some, None}
-use Rattle.std.specs.Prelude.{Result, Ok, Err, decimal, option_map}
+use Rattle.std.proofs.Common.{◌∷◌, length, take, drop, get_or, ◌-◌, arith, inl, inr, ℤ, pos, negsuc, neg_ℤ}
+use Rattle.std.specs.Prelude.{Result, Ok, Err, decimal}
 use Rattle.std.specs.Fmt.{signed_decimal}
-use Rattle.pm_lines.specs.Reading.{Reads, size_of}
+use Rattle.pm_lines.specs.Reading.{size_of}
 use Rattle.pm_lines.proofs.Splitting.{take_all}
-use Rattle.pm_lines.proofs.Readings.{reads_none, reads_some}
 use Rattle.std.specs.Str.Parse.{AllDigits, digits_value, without_leading_plus, ParsesUnsigned}
 use Rattle.std.proofs.lemmas.Bool.{cond-false, ne_eqb, cases_eq}
 use Rattle.std.proofs.lemmas.Str.Parse.{IsNumeralModel, numerals_by_value, tells_digits}
@@ -68,17 +67,6 @@ first_digit n small = by (cases_eq n 0)
         let written : decimal n ≡ 48 ∷ [] = ap decimal zero_is ∙ decimal_digit 0 (omega arith) in
         omega (arith, ap (λ (bytes : List ℕ). get_or bytes 0 0) written)
     by (inr more) = omega (arith, first_decimal n (omega arith) (omega arith))
-
--- a word without a minus
-pub reads_plain : (word : List ℕ) (answer : Option ℕ) (signed : Option ℤ) → (0 < length word → get_or word 0 0 ≢ 45) →
-    signed ≡ option_map pos answer →
-    Reads (λ n. n < 2 ^ 32) decimal word answer → Reads (λ z. size_of z < 2 ^ 32) signed_decimal word signed
-reads_plain word None signed bare is read = reads_none _ _ word signed is (λ z small same. none z small same)
-  where
-    none : (z : ℤ) → size_of z < 2 ^ 32 → signed_decimal z ≡ word → ⊥
-    none (pos n) small same = read.none refl n small same
-    none (negsuc n) small same = bare (omega (arith, ap length same)) (sym (ap (λ (bytes : List ℕ). get_or bytes 0 0) same))
-reads_plain word (Some n) signed bare is read = reads_some _ _ word signed (pos n) is read.told.0 read.told.1
 
 -- a word behind a minus
 pub minus_none : (word digits : List ℕ) → word ≡ 45 ∷ digits → ((n : ℕ) → 1 ≤ n → n < 2 ^ 32 → decimal n ≢ digits) →

@@ -3,7 +3,6 @@ use Rattle.std.proofs.Common.{◌≡◌, ◌≢◌, ◌∙◌, sym, ap, subst, r
 use Rattle.std.proofs.Common.{[], ◌∷◌, ◌++◌, length, take, drop, get_or, arith, inl, inr}
 use Rattle.std.specs.List.{list_all}
 use Rattle.std.proofs.lemmas.Bool.{cases_lt, lt-ltb, ltb-true}
-use Rattle.std.proofs.lemmas.List.{length-drop}
 use Rattle.std.proofs.lemmas.List.Folds.{list_all_more}
 use Rattle.pm_tree.proofs.Named.{and_true}
 use Rattle.pm_report.proofs.LineWords.{same_word, SameWord}
@@ -76,11 +75,3 @@ pub no_blank : (bytes : List ℕ) (end : ℕ) → EndsAt bytes end → (end < le
 no_blank bytes end ends other word rest is same =
     let first = first_word bytes end ends word 32 rest (omega arith) is same in
     other first.0 first.1.mark
-
--- bytes without a last line feed at the end of their first word are no word with only a line feed behind it
-pub no_feed : (bytes : List ℕ) (end : ℕ) → EndsAt bytes end → (end < length bytes → get_or bytes end 0 ≡ 10 → end + 1 ≢ length bytes) →
-    (word : List ℕ) → is_word word ≡ true → bytes ≢ word ++ 10 ∷ []
-no_feed bytes end ends other word is same =
-    let first = first_word bytes end ends word 10 [] (omega arith) is same in
-    let none : length (drop (end + 1) bytes) ≡ 0 = ap length first.1.rest in
-    other first.0 first.1.mark (omega (arith, none, length-drop (end + 1) bytes, first.0))

@@ -69,11 +69,6 @@ slice_get-more [] k l m e = absurd (cc)
 slice_get-more (x ∷ ls) zero l m e = e
 slice_get-more (x ∷ ls) (suc k) l m e = slice_get-more ls k l m e
 
--- and the link that is added stands at the end
-pub slice_get-last : (ls : List TableId) (m : TableId) → slice_get (ls ++ m ∷ []) (length ls) ≡ Some m
-slice_get-last [] m = refl
-slice_get-last (x ∷ ls) m = slice_get-last ls m
-
 up_more : (ls : List TableId) (m : TableId) (up : Option UpEnd) → IfSome up (IsUpOf ls) → IfSome up (IsUpOf (ls ++ m ∷ []))
 up_more ls m None h = tt
 up_more ls m (Some up) h = slice_get-more ls up.at up.end.link m h

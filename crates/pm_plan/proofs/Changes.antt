@@ -16,9 +16,6 @@ use Rattle.pm_plan.specs.Plans.{NodeData}
 use Rattle.pm_plan.specs.Kept.{no_change, change_fits}
 use Rattle.pm_plan.specs.Building.{with_change}
 
-abbrev change_in : List Change → ℕ → Change
-change_in changes n = get_or changes n no_change
-
 -- the changes of a device of this kind, where phase p is the last so far
 pub record ChangesHold (kind : Kind) (p : ℕ) (changes : List Change) : Type 0 where
   -- each change fits the kind

@@ -6,7 +6,7 @@ use Rattle.std.proofs.Math.ListN.{get_or-eq_default}
 use Rattle.std.proofs.lemmas.Bool.{cases_lt}
 use Rattle.pm_base.specs.declared.limits.Limits.{Limits}
 use Rattle.pm_device.specs.declared.kind.Kind.{Kind}
-use Rattle.pm_plan.specs.Devices.{DeviceData, is_member_after}
+use Rattle.pm_plan.specs.Devices.{DeviceData}
 use Rattle.pm_plan.specs.declared.node.Node.TheVariants.{Concentrator, Limited, Device}
 use Rattle.pm_plan.specs.Plans.{NodeData, node_at, is_device, kind_of, start_of, limits_of, changes_of}
 use Rattle.pm_plan.specs.Building.{map_device}
@@ -58,12 +58,6 @@ pub changes_of-none : (n : NodeData) → is_device n ≡ false → changes_of n 
 changes_of-none (Device planned) h = absurd (cc h)
 changes_of-none Concentrator h = refl
 changes_of-none (Limited limits) h = refl
-
--- so a member is a device
-pub member_is_device : (n : NodeData) → is_member_after (changes_of n) ≡ true → is_device n ≡ true
-member_is_device (Device planned) h = refl
-member_is_device Concentrator h = absurd (cc h)
-member_is_device (Limited limits) h = absurd (cc h)
 
 -- a change of a device leaves which nodes are devices, and the limits
 pub is_device-map_device : (f : DeviceData → DeviceData) (n : NodeData) → is_device (map_device f n) ≡ is_device n

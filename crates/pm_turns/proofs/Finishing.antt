@@ -1,8 +1,9 @@
 -- What the thread that finishes a run alone rests on.
-use Rattle.std.proofs.Common.{◌≡◌, ◌≢◌, ◌∙◌, sym, ap, ℕ, ◌+◌, ◌≤◌, refl, arith, inl, inr}
+use Rattle.std.proofs.Common.{◌≡◌, ◌≢◌, ◌∙◌, sym, ap, ℕ, ℤ, Bool, ◌+◌, ◌≤◌, refl, arith, inl, inr}
 use Rattle.std.specs.Prelude.{Option, Some, None}
 use Rattle.std.proofs.lemmas.Bool.{both_ways}
 use Rattle.pm_base.specs.Cuts.{Cut}
+use Rattle.pm_device.specs.declared.state.DeviceState.{DeviceState}
 use Rattle.pm_device.specs.declared.state.Next.{Next}
 use Rattle.pm_agent.specs.MadeBids.{MadeBid}
 use Rattle.pm_market.specs.Lists.{Lists, nodes, IsLeaf, Lawful}
@@ -24,7 +25,6 @@ use Rattle.pm_cluster.specs.declared.fault.ChangeFault.{ChangeFault}
 use Rattle.pm_cluster.specs.declared.fault.ChangeFault.TheVariants as change_faults
 use Rattle.pm_board.specs.Boards.{BoardValue, board_state, IsJournal, kept_ends, ends_to}
 use Rattle.pm_turns.specs.Settled.{IsSettled}
-use Rattle.pm_cluster.proofs.ActForms.{one_next}
 use Rattle.pm_turns.proofs.Devices.{nodes_are}
 
 -- the state after the journal of a board
@@ -73,6 +73,13 @@ can_close b is_plan journal left quiet none =
       ],
       quiet,
     )
+
+one_next : (a b : Next) → a.device ≡ b.device → a.number ≡ b.number → a.member ≡ b.member → a.state.0 ≡ b.state.0 → a ≡ b
+one_next a b e f g h =
+    let states : a.state ≡ b.state = ap (λ (z : ℤ). record { 0 = z }) h in
+    ap (λ (x : ℕ). record a { device = x }) e ∙ ap (λ (x : ℕ). record { device = b.device; number = x; member = a.member; state = a.state }) f
+    ∙ ap (λ (x : Bool). record { device = b.device; number = b.number; member = x; state = a.state }) g
+    ∙ ap (λ (x : DeviceState). record { device = b.device; number = b.number; member = b.member; state = x }) states
 
 found_next : (plan : PlanData) (closed : ℕ) (counts : Cut) (d : ℕ) (found : Option Next) (b : Next) → IsNextOrNone plan closed counts d found →
     IsNext plan closed counts d b → found ≡ Some b

@@ -1,19 +1,15 @@
 -- A decoder and a market behind the frames that the bytes fed begin with.
-use Rattle.std.proofs.Common.{◌≡◌, ◌∙◌, sym, ap, refl, subst, ℕ, ◌+◌, ◌≤◌, List, [], ◌++◌, length}
+use Rattle.std.proofs.Common.{◌≡◌, ◌∙◌, sym, ap, subst, ℕ, ◌+◌, ◌≤◌, List, ◌++◌, length}
 use Rattle.std.proofs.Common.{Option, None}
 use Rattle.std.proofs.Common.{IfSome, arith, append_assoc, length-append}
 use Rattle.pm_wire.specs.declared.frame.Frame.{Frame}
 use Rattle.pm_wire.specs.declared.market.Market.{Market}
 use Rattle.pm_wire.specs.Frames.{stream_bytes, place_behind, AllStand}
 use Rattle.pm_wire.specs.Answers.{answers_behind, reply_bytes, market_behind, place_known}
-use Rattle.pm_wire.specs.Decoding.{Decoding, with_piece, nothing_fed}
+use Rattle.pm_wire.specs.Decoding.{Decoding, with_piece}
 use Rattle.pm_wire.specs.Streams.{Takes, Agrees, AreBehind, replies}
 use Rattle.pm_wire.proofs.Taking.{all_stand-append, place_behind-append, market_behind-append, reply_bytes-append, stream_bytes-append, place_known-behind}
 use Rattle.pm_wire.proofs.Taking.{clearings_behind, stream_length, fewer}
-
--- nothing was fed
-pub follows_none : AreBehind [] [] nothing_fed None
-follows_none = record { begins = record { stand = tt; spelled = refl }; place = refl; offset = refl; knows = refl }
 
 -- how many bytes were fed
 pub follows_length : (bytes : List ℕ) (frames : List Frame) (decoding : Decoding) (market : Option Market) → AreBehind bytes frames decoding market →

@@ -55,10 +55,6 @@ stream_bytes-append fs gs = flat_map-append frame_bytes fs gs
 
 -- ---- takings
 
--- nothing was taken
-pub takes_none : (decoding : Decoding) (market : Option Market) → Takes [] decoding decoding market market []
-takes_none decoding market = record { stand = tt; spelled = refl; offset = omega arith; place = refl; knows = refl; replied = refl }
-
 -- one frame was taken
 pub takes_one : (old new : Decoding) (frame : Frame) (market after : Option Market) → GivesFrame old frame new → after ≡ market_after market frame →
     Takes (frame ∷ []) old new market after (reply_bytes (answers_to market frame))
