@@ -1,4 +1,5 @@
 pub mod Bools
+pub mod Filters
 pub mod Ints
 pub mod Lists
 pub mod Numbers

@@ -41,7 +41,8 @@ use Rattle.pm_bill.specs.Runs.{device_share, group_sum, group_sums}
 use Rattle.pm_bill.specs.Charges.{AreCharges}
 use Rattle.pm_bill.proofs.AccountSums.{same_account, account_sum-none}
 use Rattle.pm_bill.proofs.GroupShares.{no_power, group_price, power_in_group, groups_power, groups_cost, no_cost, shares_power, shares_cost}
-use Rattle.pm_bill.proofs.EndCharges.{members, filter-map, filter_twice}
+use Rattle.pm_base.proofs.Filters.{filter-map, filter_twice}
+use Rattle.pm_bill.proofs.EndCharges.{members}
 
 -- ---- the share of one node
 

@@ -58,7 +58,8 @@ watts_fall plan is cut step d inside = elim (cases_Bool (is_leaf (plan_lists pla
       omega (arith, ints, later, here, falls_where (is_member plan d (cut d)) (demand_at bid (step + 1)) (demand_at bid step) falls)
 ]
 
-sum_falls : (plan : PlanData) → IsPlan plan → (cut : Cut) (g : ℕ) → NeverRises (sum_in plan (state plan) cut g)
+-- the sum of a group never rises with the step
+pub sum_falls : (plan : PlanData) → IsPlan plan → (cut : Cut) (g : ℕ) → NeverRises (sum_in plan (state plan) cut g)
 sum_falls plan is cut g step more =
     let inside : step + 1 < plan.basis.steps = subst (λ (n : ℕ). step + 1 < n) (sum_steps plan is cut g) more in
     let next = sum_in_at plan is cut g (step + 1) inside in
@@ -110,7 +111,8 @@ falls_by bid falls step (suc n) inside =
     let next : step + suc n ≡ (step + n) + 1 = omega arith in
     omega (arith, ints, ap (demand_at bid) next, falls (step + n) (omega arith), falls_by bid falls step n (omega arith))
 
-falls_to : (bid : List ℤ) → NeverRises bid → (step later : ℕ) → step ≤ later → later < length bid →
+-- a later step of a bid that never rises has no greater demand
+pub falls_to : (bid : List ℤ) → NeverRises bid → (step later : ℕ) → step ≤ later → later < length bid →
     demand_at bid later ≤ℤ demand_at bid step
 falls_to bid falls step later order inside =
     let gap : step + (later - step) ≡ later = omega arith in

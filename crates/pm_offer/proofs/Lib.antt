@@ -9,3 +9,5 @@ pub mod PhaseChanges
 pub mod Laws
 pub mod Falls
 pub mod GroupPowers
+pub mod EndLines
+pub mod OneEnd

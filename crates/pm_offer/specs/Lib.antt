@@ -1,2 +1,4 @@
 pub mod Offers
 pub mod Powers
+pub mod LocalSteps
+pub mod EndLines

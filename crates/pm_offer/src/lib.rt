@@ -19,11 +19,13 @@ ghost use Rattle.pm_market.specs.Lists.{parent, IsNode, IsLeaf, IsInner, IsConce
 ghost use Rattle.pm_market.specs.State.{SameOn};
 ghost use Rattle.pm_plan.specs.Plans.{PlanData, node, limits_of, end_cut};
 ghost use Rattle.pm_plan.specs.Kept.{IsPlan, change_at};
-ghost use Rattle.pm_plan.specs.Auction.{sum_in, total, plain, group_step};
-ghost use Rattle.pm_plan.specs.States.{state};
+ghost use Rattle.pm_plan.specs.Auction.{EndData, sum_in, total, plain, group_step};
+ghost use Rattle.pm_plan.specs.States.{state, end_of};
 ghost use Rattle.pm_plan.specs.Market.{plan_lists};
 ghost use Rattle.pm_offer.specs.Offers.{device_demand, offer, children_sum, local_at};
 ghost use Rattle.pm_offer.specs.Powers.{group_power, announced_power, KeepsLimits};
+ghost use Rattle.pm_offer.specs.LocalSteps.{IsStepOf};
+ghost use Rattle.pm_offer.specs.EndLines.{TellsEnd};
 
 /// A law: the offer of a device is its demand; that of a concentrator is the sum of its children's offers, within its
 /// limits where it has some; the total of the plain auction is the sum of the offers of the auctioneer's children. An offer
@@ -91,4 +93,15 @@ pub fn powers_add_up()
 pub fn changes_are_of_their_phase()
     ensures { (plan : PlanData) (p d n : ℕ) → IsPlan plan → end_cut plan p d ≤ n → n < end_cut plan (p + 1) d →
         (change_at plan d n).phase ≡ p + 1 }
+{}
+
+/// A law: the end over a cut tells the plain auction over it, line by line, and no other end does. The local step of a node
+/// is the step that the node goes by there, the clearing step or the nearest one at which the sum of the node's group keeps
+/// its limits, and no other step is.
+#[tactic(auto, using(crate::proofs::EndLines::tells_end, crate::proofs::EndLines::step_is))]
+pub fn ends_tell_the_auction()
+    ensures end { (plan : PlanData) (cut : Cut) → IsPlan plan → TellsEnd plan cut (end_of plan cut) }
+    ensures only { (plan : PlanData) (cut : Cut) (end : EndData) → IsPlan plan → TellsEnd plan cut end → end ≡ end_of plan cut }
+    ensures step { (plan : PlanData) (cut : Cut) (x : ℕ) → IsPlan plan → IsStepOf plan cut x (local_at plan cut x) }
+    ensures only_step { (plan : PlanData) (cut : Cut) (x step : ℕ) → IsPlan plan → IsStepOf plan cut x step → step ≡ local_at plan cut x }
 {}
