@@ -9,3 +9,4 @@ pub mod Turns
 pub mod Plans
 pub mod Drawing
 pub mod Flags
+pub mod PlansOfDemos

@@ -10,9 +10,11 @@ mod demo;
 mod devices;
 mod draws;
 mod fault;
+mod law;
 mod names;
 mod rounds;
 mod tree;
 
 pub use demo::make_plan;
 pub use fault::GenFault;
+pub use law::plans_of_demos_keep_the_limits;

@@ -2,3 +2,4 @@ pub mod Readers
 pub mod Lists
 pub mod Documents
 pub mod Nodes
+pub mod PlansOfFiles

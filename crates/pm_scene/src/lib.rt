@@ -14,6 +14,7 @@
 #![tactic(auto)]
 
 mod forms;
+mod law;
 mod members;
 mod rows;
 mod scene;
@@ -21,6 +22,7 @@ mod shape;
 mod tree;
 mod values;
 
+pub use law::plans_of_files_keep_the_limits;
 /// Why there is no plan of a cluster file: the causes are those of its parts.
 pub use pm_plan::PlanFault as SceneFault;
 pub use scene::read_scene;

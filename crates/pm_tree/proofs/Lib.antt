@@ -9,3 +9,4 @@ pub mod Places
 pub mod Loop
 pub mod Whole
 pub mod Alike
+pub mod LawfulTrees
