@@ -10,3 +10,4 @@ pub mod EndShares
 pub mod EndCharges
 pub mod Charged
 pub mod RunBills
+pub mod AddingUp

@@ -117,7 +117,8 @@ number_at : (n i d : ℕ) → i < n + 1 → get_or (0 ∷ range_with_len 1 n) i 
 number_at n zero d inside = refl
 number_at n (suc i) d inside = get_or-range_with_len 1 n i d (omega arith) ∙ (let next : 1 + i ≡ suc i = omega arith in next)
 
-account_of_number : (f : ℕ → Account) (n i : ℕ) → i < n + 1 → account_at (map f (0 ∷ range_with_len 1 n)) i ≡ f i
+-- the account of a node, where a function gives each
+pub account_of_number : (f : ℕ → Account) (n i : ℕ) → i < n + 1 → account_at (map f (0 ∷ range_with_len 1 n)) i ≡ f i
 account_of_number f n i inside =
     let long = length-range_with_len 1 n in
     get_or-map f (0 ∷ range_with_len 1 n) i 0 no_account (omega arith) ∙ ap f (number_at n i 0 inside)

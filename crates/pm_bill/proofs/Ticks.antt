@@ -33,7 +33,7 @@ leaf_has_account leaves node leaf = elim (cases_lt (length leaves) node) [
 ]
 
 -- the opposite of a number times a number
-neg-times : (a m : ℤ) → (a *ℤ m) +ℤ (neg_ℤ a *ℤ m) ≡ pos 0
+pub neg-times : (a m : ℤ) → (a *ℤ m) +ℤ (neg_ℤ a *ℤ m) ≡ pos 0
 neg-times a m =
     let none : a +ℤ neg_ℤ a ≡ pos 0 = omega (arith, ints) in
     sym (sum-times a (neg_ℤ a) m) ∙ ap (λ z. z *ℤ m) none ∙ zero-*ℤ m

@@ -1,7 +1,10 @@
-ghost use Rattle.std.specs.Prelude.{◌≡◌, ℕ, Bool, List, length, map};
+ghost use Rattle.std.specs.Prelude.{◌≡◌, ℕ, Bool, true, List, length, map};
+ghost use Rattle.pm_plan.specs.Plans.{PlanData, is_leaf};
+ghost use Rattle.pm_plan.specs.Kept.{IsPlan};
 ghost use Rattle.pm_bill.specs.Accounts.{account_at, account_total};
 ghost use Rattle.pm_bill.specs.Shares.{shares_of, sum_each, account_of_shares, account_of_grid};
-ghost use Rattle.pm_bill.specs.Bills.{BillData};
+ghost use Rattle.pm_bill.specs.Bills.{BillData, AddsUp};
+ghost use Rattle.pm_bill.specs.Runs.{tick_phases, device_gain, plan_bill};
 ghost use Rattle.pm_bill.specs.Ticks.{TickData, IsAfterTicks};
 
 /// A law: after any list of ticks, each of which does to the bill what [`crate::Bill::tick`] does, the account of each node
@@ -17,4 +20,12 @@ pub fn accounts_are_sums()
         bill.ticks ≡ length ticks }
     ensures minutes { (leaves : List Bool) (ticks : List TickData) (bill : BillData) → IsAfterTicks leaves ticks bill →
         bill.minutes ≡ sum_each (λ tick. tick.minutes) ticks }
+{}
+
+/// A law: the bill of the run of a plan adds up. What all devices and the grid pay comes to 0, and so does what they take less
+/// what they give; no node but a device has an account. The account of a device is the sum of what it gains in the ticks.
+pub fn bills_of_plans_add_up()
+    ensures adds_up { (plan : PlanData) → IsPlan plan → AddsUp (plan_bill plan) }
+    ensures device { (plan : PlanData) (d : ℕ) → IsPlan plan → is_leaf plan d ≡ true →
+        account_at (plan_bill plan).accounts d ≡ account_total (map (device_gain plan d) (tick_phases plan)) }
 {}

@@ -22,6 +22,6 @@ mod text;
 
 pub use account::Account;
 pub use bill::Bill;
-pub use law::accounts_are_sums;
+pub use law::{accounts_are_sums, bills_of_plans_add_up};
 pub use run::bill_of_run;
 pub use share::{GroupSum, Share};
