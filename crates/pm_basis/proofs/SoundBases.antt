@@ -2,6 +2,7 @@
 use Rattle.std.proofs.Common.{◌≡◌, subst, refl, ℤ, pos, negsuc, neg_ℤ, ◌-ℤ◌, Bool, true, false, not, ◌||◌}
 use Rattle.std.proofs.Common.{if◌then◌else◌, int_lt, int_rem, unsigned_abs, Ok, Err, arith}
 use Rattle.std.specs.Ordering.{int_eq}
+use Rattle.std.proofs.lemmas.Bool.{not-false}
 use Rattle.std.proofs.lemmas.Int.{ints}
 use Rattle.pm_base.specs.Limits.{least_steps, most_steps, price_limit}
 use Rattle.pm_base.proofs.Bools.{or_false}
@@ -16,10 +17,6 @@ none_of_three true b c value basis is = absurd (cc is)
 none_of_three false true c value basis is = absurd (cc is)
 none_of_three false false true value basis is = absurd (cc is)
 none_of_three false false false value basis is = let same : value ≡ basis = cc is in (refl, refl, refl, same)
-
-not_false : (a : Bool) → not a ≡ false → a ≡ true
-not_false true is = refl
-not_false false is = absurd (cc is)
 
 ints_equal : (a b : ℤ) → int_eq a b ≡ true → a ≡ b
 ints_equal a b is = grind (arith, ints)
@@ -36,12 +33,12 @@ accepted_basis min max (pos n) few range even =
         least = omega (arith, ints, is_not_below (pos n) (pos least_steps) counts.0);
         most = omega (arith, ints, is_not_below (pos most_steps) (pos n) counts.1);
       };
-      order = is_below min max (not_false (int_lt min max) first.0);
+      order = is_below min max (not-false (int_lt min max) first.0);
       low = is_not_below min (neg_ℤ (pos price_limit)) first.1;
       high = is_not_below (pos price_limit) max parts.1;
       even =
           ints_equal (int_rem (max -ℤ min) (pos n -ℤ pos 1)) (pos 0)
-          (not_false (int_eq (int_rem (max -ℤ min) (pos n -ℤ pos 1)) (pos 0)) even);
+          (not-false (int_eq (int_rem (max -ℤ min) (pos n -ℤ pos 1)) (pos 0)) even);
     }
 accepted_basis min max (negsuc n) few range even = absurd (
     let counts = or_false (int_lt (negsuc n) (pos least_steps)) (int_lt (pos most_steps) (negsuc n)) few in

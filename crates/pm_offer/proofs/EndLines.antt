@@ -26,7 +26,7 @@ use Rattle.pm_plan.specs.Auction.{demand_in_cut, sum_in, limited, total, plain, 
 use Rattle.pm_plan.specs.Auction.{member_line, limited_line, end_in}
 use Rattle.pm_plan.specs.States.{state, end_of}
 use Rattle.pm_offer.specs.Offers.{local_at}
-use Rattle.pm_offer.specs.LocalSteps.{IsLocalStep, GoesBy, IsStepOf, unlimited, kept, above, below}
+use Rattle.pm_offer.specs.LocalSteps.{IsLocalStep, GoesBy, IsAuctionStep, unlimited, kept, above, below}
 use Rattle.pm_offer.specs.Powers.{total_watts, group_power, announced_power, KeepsLimits}
 use Rattle.pm_offer.specs.EndLines.{TellsMember, told_power, TellsLimited, TellsEnd}
 use Rattle.pm_offer.proofs.Falls.{falls_to, sum_falls}
@@ -161,7 +161,7 @@ module _ (plan : PlanData) (is : IsPlan plan) (cut : Cut) where
   goes_by x = group_step_is (group plan x)
 
   -- the local step of a node is the one that it goes by in the plain auction
-  pub step_is : (x : ℕ) → IsStepOf plan cut x (local_at plan cut x)
+  pub step_is : (x : ℕ) → IsAuctionStep plan cut x (local_at plan cut x)
   step_is x = (clears_at, plain_clears, goes_by x)
 
   -- the total clears at one step
@@ -179,7 +179,7 @@ module _ (plan : PlanData) (is : IsPlan plan) (cut : Cut) where
       ∙ ap (λ (j : ℕ). local_step (limits_of (node plan g)) j sum) one
 
   -- the local step of a node is the only one that it goes by
-  pub step_only : (x step : ℕ) → IsStepOf plan cut x step → step ≡ local_at plan cut x
+  pub step_only : (x step : ℕ) → IsAuctionStep plan cut x step → step ≡ local_at plan cut x
   unfolding local
   step_only x step goes = group_step_only goes.0 (group plan x) step (clears_once goes.0 goes.1) goes.2
 

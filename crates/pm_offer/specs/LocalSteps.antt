@@ -28,5 +28,5 @@ abbrev pub GoesBy : PlanData → Cut → ℕ → ℕ → ℕ → Type 0
 GoesBy plan cut k x step = IsLocalStep (sum_in plan (state plan) cut (group plan x)) k (limits_of (node plan (group plan x))) step
 
 -- the step of a node in the plain auction over a cut
-abbrev pub IsStepOf : PlanData → Cut → ℕ → ℕ → Type 0
-IsStepOf plan cut x step = (k : ℕ) × Clears (total plan (state plan) cut) k × GoesBy plan cut k x step
+abbrev pub IsAuctionStep : PlanData → Cut → ℕ → ℕ → Type 0
+IsAuctionStep plan cut x step = (k : ℕ) × Clears (total plan (state plan) cut) k × GoesBy plan cut k x step

@@ -24,7 +24,7 @@ ghost use Rattle.pm_plan.specs.States.{state, end_of};
 ghost use Rattle.pm_plan.specs.Market.{plan_lists};
 ghost use Rattle.pm_offer.specs.Offers.{device_demand, offer, children_sum, local_at};
 ghost use Rattle.pm_offer.specs.Powers.{group_power, announced_power, KeepsLimits};
-ghost use Rattle.pm_offer.specs.LocalSteps.{IsStepOf};
+ghost use Rattle.pm_offer.specs.LocalSteps.{IsAuctionStep};
 ghost use Rattle.pm_offer.specs.EndLines.{TellsEnd};
 
 /// A law: the offer of a device is its demand; that of a concentrator is the sum of its children's offers, within its
@@ -102,6 +102,6 @@ pub fn changes_are_of_their_phase()
 pub fn ends_tell_the_auction()
     ensures end { (plan : PlanData) (cut : Cut) → IsPlan plan → TellsEnd plan cut (end_of plan cut) }
     ensures only { (plan : PlanData) (cut : Cut) (end : EndData) → IsPlan plan → TellsEnd plan cut end → end ≡ end_of plan cut }
-    ensures step { (plan : PlanData) (cut : Cut) (x : ℕ) → IsPlan plan → IsStepOf plan cut x (local_at plan cut x) }
-    ensures only_step { (plan : PlanData) (cut : Cut) (x step : ℕ) → IsPlan plan → IsStepOf plan cut x step → step ≡ local_at plan cut x }
+    ensures step { (plan : PlanData) (cut : Cut) (x : ℕ) → IsPlan plan → IsAuctionStep plan cut x (local_at plan cut x) }
+    ensures only_step { (plan : PlanData) (cut : Cut) (x step : ℕ) → IsPlan plan → IsAuctionStep plan cut x step → step ≡ local_at plan cut x }
 {}

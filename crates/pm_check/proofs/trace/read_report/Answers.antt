@@ -2,6 +2,7 @@ use Rattle.std.proofs.Common.{◌≡◌, ◌≢◌, ◌∙◌, sym, ap, refl, �
 use Rattle.std.proofs.Common.{append_assoc, arith}
 use Rattle.std.specs.Prelude.{All, not}
 use Rattle.std.specs.Str.{bytes_eq}
+use Rattle.std.proofs.lemmas.Bool.{not-false}
 use Rattle.std.proofs.lemmas.Slice.Eq.{bytes_eq-Decides}
 use Rattle.std.proofs.lemmas.List.{length-append}
 use Rattle.std.proofs.lemmas.List.Elements.{All-append, All-cons, All-nil}
@@ -29,13 +30,9 @@ next_matched report trace lines done due rest line later more matched whole due_
       ∙ ap (λ t. t ++ more) (sym (joined-push done line));
 }
 
-both_not : (b : Bool) → not b ≡ false → b ≡ true
-both_not true e = refl
-both_not false e = absurd (cc e)
-
 -- what the test for the same bytes says
 same_by : (a b : List ℕ) → not (bytes_eq a b) ≡ false → a ≡ b
-same_by a b e = (bytes_eq-Decides a b).0 (both_not (bytes_eq a b) e)
+same_by a b e = (bytes_eq-Decides a b).0 (not-false (bytes_eq a b) e)
 
 differ_by : (a b : List ℕ) → not (bytes_eq a b) ≡ true → a ≢ b
 differ_by a b e same = let is = (bytes_eq-Decides a b).1 same in absurd (cc (ap not is, e))
