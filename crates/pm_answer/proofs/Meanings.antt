@@ -9,13 +9,13 @@ use Rattle.pm_plan.specs.declared.refusal.Refusal.{Refusal}
 use Rattle.pm_plan.specs.Causes.{cause_code}
 use Rattle.pm_plan.specs.Plans.{PlanData}
 use Rattle.pm_scene.specs.Scene.{scene}
+use Rattle.pm_scene.proofs.PlansOfFiles.{files_plan}
 use Rattle.pm_answer.specs.declared.arguments.FileCommand.{FileCommand}
 use Rattle.pm_answer.specs.declared.arguments.FileCommand.TheVariants.{Run, Trace, Check, Bill, Ask, Free}
 use Rattle.pm_answer.specs.declared.status.Status.{Status}
 use Rattle.pm_answer.specs.declared.status.Status.TheVariants.{TooLong}
 use Rattle.pm_check.specs.Traces.{IsValidTrace, IsBadLine}
 use Rattle.pm_check.proofs.Judgements.{not_both as not_judged_twice}
-use Rattle.pm_plan.specs.Kept.{IsPlan}
 use Rattle.pm_answer.specs.Inputs.{input_limit, HasFile, HasPlan, AreAsked, IsRefusalOf, no_file, bad_file, bad_target, refusal_at, HasStatus, is_too_long}
 use Rattle.pm_answer.specs.Inputs.{is_refused, is_done, is_valid, is_invalid, report_of}
 use Rattle.pm_answer.specs.Answers.{IsAnswer, refused, planned, valid, invalid}
@@ -100,7 +100,7 @@ not_asked : (asked : FileCommand) (rest : List ℕ) (targets : List ℤ) → ask
 not_asked asked rest targets asks are = subst (λ (a : FileCommand). AreAsked a rest targets) asks are
 
 -- an input has one plan, and one trace
-same_trace : (asked : FileCommand) (input : List ℕ) (plan plan' : PlanData) (rest rest' : List ℕ) → HasPlan asked input plan rest →
+pub same_trace : (asked : FileCommand) (input : List ℕ) (plan plan' : PlanData) (rest rest' : List ℕ) → HasPlan asked input plan rest →
     HasPlan asked input plan' rest' →
     (plan ≡ plan') × (rest ≡ rest')
 same_trace asked input plan plan' rest rest' is also =
@@ -110,12 +110,14 @@ same_trace asked input plan plan' rest rest' is also =
     (same, parts.1)
 
 -- a trace is not both valid and bad
-not_judged : (asked : FileCommand) (input : List ℕ) (plan plan' : PlanData) (rest rest' : List ℕ) (moves line : ℕ) → HasPlan asked input plan rest →
-    HasPlan asked input plan' rest' → IsPlan plan → IsValidTrace plan (report_of plan) rest moves → IsBadLine plan' (report_of plan') rest' line → ⊥
-not_judged asked input plan plan' rest rest' moves line is also is_plan good bad =
+pub not_judged : (asked : FileCommand) (input : List ℕ) (plan plan' : PlanData) (rest rest' : List ℕ) (moves line : ℕ) →
+    HasPlan asked input plan rest → HasPlan asked input plan' rest' → IsValidTrace plan (report_of plan) rest moves →
+    IsBadLine plan' (report_of plan') rest' line → ⊥
+not_judged asked input plan plan' rest rest' moves line is also good bad =
     let same = same_trace asked input plan plan' rest rest' is also in
     let here = subst (λ (p : PlanData). IsBadLine p (report_of p) rest' line) (sym same.0) bad in
-    not_judged_twice plan is_plan (report_of plan) rest moves line good (subst (λ (r : List ℕ). IsBadLine plan (report_of plan) r line) (sym same.1) here)
+    not_judged_twice plan (files_plan is.file plan is.means) (report_of plan) rest moves line good
+    (subst (λ (r : List ℕ). IsBadLine plan (report_of plan) r line) (sym same.1) here)
 
 -- an answer has the status for its input
 pub one_status : (asked : FileCommand) (input : List ℕ) (status status' : Status) (text : List ℕ) → length input ≤ input_limit asked →
@@ -124,37 +126,36 @@ one_status asked input status status' text short (is_too_long more) answer = abs
 one_status asked input status status' text short (is_refused within r is) (refused r' is') = refl
 one_status asked input status status' text short (is_refused within r is) (planned plan rest targets t its_plan are text_is) =
     absurd (not_both asked input r plan rest targets is its_plan are)
-one_status asked input status status' text short (is_refused within r is) (valid plan rest moves asks is_plan its_plan valid_is) =
+one_status asked input status status' text short (is_refused within r is) (valid plan rest moves asks its_plan valid_is) =
     absurd (not_traced asked input r plan rest asks is its_plan)
-one_status asked input status status' text short (is_refused within r is) (invalid plan rest line asks is_plan its_plan bad) =
+one_status asked input status status' text short (is_refused within r is) (invalid plan rest line asks its_plan bad) =
     absurd (not_traced asked input r plan rest asks is its_plan)
 one_status asked input status status' text short (is_done within plan rest targets its_plan are) (refused r is) =
     absurd (not_both asked input r plan rest targets is its_plan are)
 one_status asked input status status' text short (is_done within plan rest targets its_plan are)
     (planned plan' rest' targets' t its_plan' are' text_is) = refl
 one_status asked input status status' text short (is_done within plan rest targets its_plan are)
-    (valid plan' rest' moves asks is_plan its_plan' valid_is) = refl
-one_status asked input status status' text short (is_done within plan rest targets its_plan are) (invalid plan' rest' line asks is_plan its_plan' bad) =
+    (valid plan' rest' moves asks its_plan' valid_is) = refl
+one_status asked input status status' text short (is_done within plan rest targets its_plan are) (invalid plan' rest' line asks its_plan' bad) =
     absurd (not_asked asked rest targets asks are)
 one_status asked input status status' text short (is_valid within plan rest moves asks its_plan valid_is) (refused r is) = absurd
     (not_traced asked input r plan rest asks is its_plan)
 one_status asked input status status' text short (is_valid within plan rest moves asks its_plan valid_is)
     (planned plan' rest' targets t its_plan' are text_is) = refl
 one_status asked input status status' text short (is_valid within plan rest moves asks its_plan valid_is)
-    (valid plan' rest' moves' asks' is_plan its_plan' valid_is') = refl
+    (valid plan' rest' moves' asks' its_plan' valid_is') = refl
 one_status asked input status status' text short (is_valid within plan rest moves asks its_plan valid_is)
-    (invalid plan' rest' line asks' is_plan its_plan' bad) =
-    let same = same_trace asked input plan plan' rest rest' its_plan its_plan' in
-    absurd (not_judged asked input plan plan' rest rest' moves line its_plan its_plan' (subst IsPlan (sym same.0) is_plan) valid_is bad)
+    (invalid plan' rest' line asks' its_plan' bad) =
+    absurd (not_judged asked input plan plan' rest rest' moves line its_plan its_plan' valid_is bad)
 one_status asked input status status' text short (is_invalid within plan rest line asks its_plan bad) (refused r is) = absurd
     (not_traced asked input r plan rest asks is its_plan)
 one_status asked input status status' text short (is_invalid within plan rest line asks its_plan bad) (planned plan' rest' targets t its_plan' are text_is) =
     absurd (not_asked asked rest' targets asks are)
 one_status asked input status status' text short (is_invalid within plan rest line asks its_plan bad)
-    (valid plan' rest' moves asks' is_plan its_plan' valid_is) =
-    absurd (not_judged asked input plan' plan rest' rest moves line its_plan' its_plan is_plan valid_is bad)
+    (valid plan' rest' moves asks' its_plan' valid_is) =
+    absurd (not_judged asked input plan' plan rest' rest moves line its_plan' its_plan valid_is bad)
 one_status asked input status status' text short (is_invalid within plan rest line asks its_plan bad)
-    (invalid plan' rest' line' asks' is_plan its_plan' bad') = refl
+    (invalid plan' rest' line' asks' its_plan' bad') = refl
 
 -- an input of more bytes than the limit is too long
 pub long_status : (asked : FileCommand) (input : List ℕ) (status : Status) → input_limit asked < length input → HasStatus asked input status →

@@ -3,7 +3,6 @@ use Rattle.std.specs.Prelude.{◌≡◌, ℕ, ℤ, List, [], ◌∷◌, codes, d
 use Rattle.pm_market.specs.Moves.{IsComplete}
 use Rattle.pm_market.specs.declared.journal.Line.{Line}
 use Rattle.pm_plan.specs.Plans.{PlanData, phases, end_cut}
-use Rattle.pm_plan.specs.Kept.{IsPlan}
 use Rattle.pm_plan.specs.Auction.{total}
 use Rattle.pm_plan.specs.States.{state, all_ends}
 use Rattle.pm_plan.specs.Market.{plan_lists}
@@ -65,7 +64,7 @@ pub data IsAnswer (asked : FileCommand) (input : List ℕ) : Status → List ℕ
   refused : (refusal : Refusal) → IsRefusalOf asked input refusal → IsAnswer asked input Refused (refusal_line refusal)
   planned : (plan : PlanData) (rest : List ℕ) (targets : List ℤ) (text : List ℕ) → HasPlan asked input plan rest → AreAsked asked rest targets →
       IsTextOf asked plan targets text → IsAnswer asked input Done text
-  valid : (plan : PlanData) (rest : List ℕ) (moves : ℕ) → asked ≡ Check → IsPlan plan → HasPlan asked input plan rest →
+  valid : (plan : PlanData) (rest : List ℕ) (moves : ℕ) → asked ≡ Check → HasPlan asked input plan rest →
       IsValidTrace plan (report_of plan) rest moves → IsAnswer asked input Done (valid_line moves)
-  invalid : (plan : PlanData) (rest : List ℕ) (line : ℕ) → asked ≡ Check → IsPlan plan → HasPlan asked input plan rest →
+  invalid : (plan : PlanData) (rest : List ℕ) (line : ℕ) → asked ≡ Check → HasPlan asked input plan rest →
       IsBadLine plan (report_of plan) rest line → IsAnswer asked input Invalid (invalid_line line)
