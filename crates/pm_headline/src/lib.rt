@@ -1,0 +1,52 @@
+//! The headline as one theorem: what the texts that `market` writes say of the bytes that it reads.
+//!
+//! The definitions in `specs/` say it in the words of the market, the whole in `Promises` (`TellsTheMarket`): a report tells
+//! the plain auction at the end of each phase, line by line; a trace tells one legal and complete run, in which each price
+//! that is held is over the holder's own numbered bid, and nobody goes back to older bids; a bill, the answers to targets and
+//! the summary of a demo tell what they add up; and a trace that is judged tells a run exactly when it is called valid.
+//!
+//! Nothing in it speaks of time, of memory, or of whether a call returns: it speaks of texts that were written with the
+//! status Done, or Invalid. `docs/PROOF.md` has it whole, with the definitions that a reader has to believe.
+//!
+//! The laws are contracts of functions with empty bodies. `pm_top` makes them a clause of `market` itself.
+#![tactic(auto)]
+
+ghost use Rattle.std.specs.Prelude.{◌≡◌, ℕ, ◌≤◌, List, Option, length, true};
+ghost use Rattle.std.specs.Io.KnownBytes.{Consumes, IsAtEnd};
+ghost use Rattle.pm_market.specs.declared.journal.Line.{Line};
+ghost use Rattle.pm_plan.specs.Plans.{PlanData};
+ghost use Rattle.pm_plan.specs.Kept.{IsPlan};
+ghost use Rattle.pm_plan.specs.States.{all_ends};
+ghost use Rattle.pm_gen.specs.Demo.{is_size};
+ghost use Rattle.pm_report.specs.Report.{report_text};
+ghost use Rattle.pm_report.specs.Trace.{trace_text};
+ghost use Rattle.pm_answer.specs.Inputs.{input_limit};
+ghost use Rattle.pm_answer.specs.Answers.{IsAnswer, IsSummary, IsCompleteJournal};
+ghost use Rattle.pm_headline.specs.Reports.{IsReport};
+ghost use Rattle.pm_headline.specs.Traces.{TellsRun};
+ghost use Rattle.pm_headline.specs.Demos.{TellsDemo};
+ghost use Rattle.pm_headline.specs.Promises.{ReadFile, TellsFile, RefutesTrace, RefusesInput};
+
+use pm_answer::{FileCommand, Status};
+
+/// A law: the text that is due with the status Done for an input that was read to its end tells the market, by what is asked;
+/// the text with the status Invalid refutes the trace behind the file; that with the status Refused tells why, and nothing
+/// that is asked for stands in the input; and the summary of a demo tells its run.
+pub fn texts_tell_the_market()
+    ensures file { (asked : FileCommand) (old new : Option (List ℕ)) (input text : List ℕ) → Consumes old new input → IsAtEnd new →
+        length input ≤ input_limit asked → IsAnswer asked input Status.Done text → TellsFile asked old new text }
+    ensures invalid { (asked : FileCommand) (old new : Option (List ℕ)) (input text : List ℕ) → Consumes old new input → IsAtEnd new →
+        length input ≤ input_limit asked → IsAnswer asked input Status.Invalid text → (asked ≡ FileCommand.Check)
+        × ((plan : PlanData) × ((trace : List ℕ) × (ReadFile asked old new plan trace × RefutesTrace plan trace text))) }
+    ensures refused { (asked : FileCommand) (old new : Option (List ℕ)) (input text : List ℕ) → Consumes old new input → IsAtEnd new →
+        length input ≤ input_limit asked → IsAnswer asked input Status.Refused text → RefusesInput asked old new text }
+    ensures demo { (size number : ℕ) (text : List ℕ) → is_size size ≡ true → IsSummary size number text → TellsDemo size number text }
+{}
+
+/// A law: the words leave nothing open. A plan has one report, and the trace that tells a run is the text of its journal,
+/// which is legal and complete.
+pub fn nothing_is_left_out()
+    ensures report { (plan : PlanData) (text : List ℕ) → IsPlan plan → IsReport plan text → text ≡ report_text plan (all_ends plan) }
+    ensures trace { (plan : PlanData) (journal : List Line) (text : List ℕ) → IsPlan plan → TellsRun plan journal text →
+        IsCompleteJournal plan journal × (text ≡ trace_text plan (all_ends plan) journal) }
+{}
