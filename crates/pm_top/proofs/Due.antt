@@ -93,7 +93,8 @@ pub read_answers : (asked : FileCommand) (old new : Option (List ℕ)) (bytes : 
 read_answers asked old new bytes result due text all end short answer given =
     answers_by asked result due old given (read_status asked old bytes due text (whole old new bytes all end) short answer)
 
-long_input : (input : List ℕ) (new : Option (List ℕ)) (limit : ℕ) → TookMore (Some input) new limit → limit < length input
+-- an input of which more than a limit was taken has more
+pub long_input : (input : List ℕ) (new : Option (List ℕ)) (limit : ℕ) → TookMore (Some input) new limit → limit < length input
 long_input input None limit more = absurd (omega (arith, more))
 long_input input (Some left) limit more = omega (arith, more, length-take (length input - length left) input)
 

@@ -1,2 +1,4 @@
 mod Exact
 mod Due
+mod Headline
+mod Causes

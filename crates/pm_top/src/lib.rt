@@ -5,7 +5,9 @@
 //! frame (`pm_wire`). Its contract says when each status comes and exactly which bytes are appended.
 #![tactic(auto)]
 
+mod law;
 mod top;
 
+pub use law::texts_have_causes;
 pub use pm_answer::{Status, traces_tell_their_runs};
 pub use top::market;

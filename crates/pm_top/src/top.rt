@@ -1,5 +1,5 @@
 ghost use Rattle.std.specs.Prelude.{◌≡◌, ◌⊎◌, ◌<◌, ◌≤◌, ℕ, List, length, map, string_bytes, None, Some, IfSome, ◌≢◌, ◌++◌};
-ghost use Rattle.std.specs.Prelude.{[]};
+ghost use Rattle.std.specs.Prelude.{[], true};
 ghost use Rattle.std.specs.Io.KnownBytes.{Appends};
 ghost use Rattle.pm_io.specs.Causes.{Rose};
 ghost use Rattle.pm_io.specs.Taken.{taken};
@@ -7,8 +7,12 @@ ghost use Rattle.pm_plan.specs.declared.refusal.Refusal.{Refusal};
 ghost use Rattle.pm_report.specs.Refusal.{refusal_line};
 ghost use Rattle.pm_answer.specs.declared.arguments.FileCommand.{FileCommand};
 ghost use Rattle.pm_answer.specs.Arguments.{command};
-ghost use Rattle.pm_answer.specs.Inputs.{input_limit, IsRefusalOf, HasStatus};
-ghost use Rattle.pm_answer.specs.Answers.{IsSummary};
+ghost use Rattle.pm_plan.specs.Plans.{PlanData};
+ghost use Rattle.pm_gen.specs.Demo.{is_size};
+ghost use Rattle.pm_check.specs.Traces.{IsBadLine};
+ghost use Rattle.pm_answer.specs.Inputs.{input_limit, HasPlan, IsRefusalOf, HasStatus, report_of};
+ghost use Rattle.pm_answer.specs.Answers.{IsSummary, invalid_line};
+ghost use Rattle.pm_headline.specs.Promises.{TellsTheMarket, RefutesFile};
 ghost use Rattle.pm_top.specs.Top.{too_long_line, WrotePrefix, IsDue, IsServiceEnd};
 ghost use Rattle.pm_wire.specs.declared.frame.Frame.{Frame};
 ghost use Rattle.pm_wire.specs.Frames.{AreFrames, HasBadFrame, EndsWithin};
@@ -74,6 +78,7 @@ fn demo<R: Threads + Wait + Sync, K: Sink, G: Gate>(
     gate: &G,
 ) -> Status
     ensures status { (result ≡ Status.Done) ⊎ (result ≡ Status.WriteFault) ⊎ (result ≡ Status.NoMemory) }
+    ensures size { result ≡ Status.Done → is_size size ≡ true }
     ensures written { result ≡ Status.Done → (text : List ℕ) × IsSummary size number text
         × Appends (K.held sink.old) (K.held sink.new) text }
     ensures write_fault { result ≡ Status.WriteFault → Rose (K.faults sink.old) (K.faults sink.new)
@@ -191,6 +196,15 @@ pub fn market<R: Threads + Wait + Sync, S: Source, K: Sink, G: Gate>(
         × IsDue (command (map string_bytes arguments.now)) (S.left source.old) (S.left source.new) result text
         × Appends (K.held sink.old) (K.held sink.new) text }
 
+    // The headline: a text that is written with Done tells the market, by what the arguments ask, and one that is written
+    // with Invalid refutes the trace.
+    ensures headline { result ≡ Status.Done → (text : List ℕ)
+        × TellsTheMarket (command (map string_bytes arguments.now)) (S.left source.old) (S.left source.new) text
+        × Appends (K.held sink.old) (K.held sink.new) text }
+    ensures refutation { result ≡ Status.Invalid → (text : List ℕ)
+        × RefutesFile (command (map string_bytes arguments.now)) (S.left source.old) (S.left source.new) text
+        × Appends (K.held sink.old) (K.held sink.new) text }
+
     // The two faults come only where a count rose.
     ensures read_fault { result ≡ Status.ReadFault → Rose (S.faults source.old) (S.faults source.new) }
     ensures write_fault { result ≡ Status.WriteFault → Rose (K.faults sink.old) (K.faults sink.new) }
@@ -210,7 +224,7 @@ pub fn market<R: Threads + Wait + Sync, S: Source, K: Sink, G: Gate>(
     ensures reads_nothing { ((asked : FileCommand) → command (map string_bytes arguments.now) ≢ Some (Command.File asked))
         → command (map string_bytes arguments.now) ≢ Some Command.Serve → source.new ≡ source.old }
 
-    // Where the cause of Usage, TooLong or Refused stands, and the source tells what it has, this is the answer, or a
+    // Where the cause of Usage, TooLong, Refused or Invalid stands, and the source tells what it has, this is the answer, or a
     // fault or an allocation failure.
     ensures only_usage { command (map string_bytes arguments.now) ≡ None
         → (result ≡ Status.Usage) ⊎ (result ≡ Status.WriteFault) }
@@ -226,6 +240,13 @@ pub fn market<R: Threads + Wait + Sync, S: Source, K: Sink, G: Gate>(
         → S.left source.old ≡ Some input → S.left source.new ≡ Some []
         → K.held sink.old ≡ Some before → K.held sink.new ≡ Some (before ++ refusal_line r)
         → result ≡ Status.Refused }
+    ensures exact_invalid { (plan : PlanData) (input trace before : List ℕ) (line : ℕ)
+        → command (map string_bytes arguments.now) ≡ Some (Command.File FileCommand.Check)
+        → length input ≤ input_limit FileCommand.Check → HasPlan FileCommand.Check input plan trace
+        → IsBadLine plan (report_of plan) trace line
+        → S.left source.old ≡ Some input → S.left source.new ≡ Some []
+        → K.held sink.old ≡ Some before → K.held sink.new ≡ Some (before ++ invalid_line line)
+        → result ≡ Status.Invalid }
 
     // With no fault of either the answer is what the arguments and the input say, or an allocation failed.
     ensures complete_usage { command (map string_bytes arguments.now) ≡ None

@@ -1,8 +1,9 @@
 -- A tree that is not refused is lawful.
-use Rattle.std.proofs.Common.{◌≡◌, sym, subst, refl, ℕ, ◌+◌, ◌≤◌, Bool, true, false, not, ◌&&◌, if◌then◌else◌, List, [], ◌∷◌, ◌++◌, length}
+use Rattle.std.proofs.Common.{◌≡◌, sym, subst, refl, ℕ, ◌+◌, ◌≤◌, Bool, true, false, not, ◌&&◌, if◌then◌else◌, List, []}
+use Rattle.std.proofs.Common.{◌∷◌, ◌++◌, length}
 use Rattle.std.proofs.Common.{append_assoc, append-nil, Option, Some, None, is_some, Ok, nat_le, nat_lt, slice_get, arith}
 use Rattle.std.specs.Option.{option_to_list}
-use Rattle.std.proofs.lemmas.Bool.{and_parts}
+use Rattle.std.proofs.lemmas.Bool.{and_parts, not-true}
 use Rattle.std.proofs.lemmas.Bool.Decides.{nat_tests}
 use Rattle.pm_base.specs.Limits.{most_nodes, most_depth}
 use Rattle.pm_tree.specs.Names.{is_name}
@@ -28,10 +29,6 @@ none_of_four true false false deep n is = absurd (cc is)
 none_of_four true false true true n is = absurd (cc is)
 none_of_four true false true false n is = (refl, refl)
 
-not_true : (a : Bool) → not a ≡ true → a ≡ false
-not_true true is = absurd (cc is)
-not_true false is = refl
-
 low_enough : (leaf : Bool) (depth : ℕ) → depth ≤ most_depth → (not leaf && nat_le most_depth depth) ≡ false →
     depth + (if leaf then 0 else 1) ≤ most_depth
 low_enough true depth low is = omega arith
@@ -51,7 +48,7 @@ accepted before e tree none =
     let low = tree.shallow (number_named before e.parent) (omega (arith, number_named-inside before e.parent, length-parents_of before)) in
     record {
       named = parent.0;
-      no_leaf = not_true (is_leaf_at before (number_named before e.parent)) parent.1;
+      no_leaf = not-true (is_leaf_at before (number_named before e.parent)) parent.1;
       shallow = low_enough e.leaf (depth_of before (number_named before e.parent)) low parts.1;
     }
 
