@@ -6,6 +6,7 @@ mod DueMore
 pub mod Kept
 pub mod MadeBy
 mod Seats
+mod Holders
 mod Some
 mod Children
 mod Movers

@@ -2,7 +2,7 @@ ghost use Rattle.std.specs.Prelude.{◌≡◌, ℕ, ◌<◌, ◌≤◌, ◌↔�
 ghost use Rattle.pm_basis.specs.Prices.{price_at};
 ghost use Rattle.pm_cache.specs.Cache.{aggregate_of};
 ghost use Rattle.pm_market.specs.Lists.{nodes, IsLeaf, is_member};
-ghost use Rattle.pm_market.specs.State.{State, known, clearings};
+ghost use Rattle.pm_market.specs.State.{State, known, clearings, cleared};
 ghost use Rattle.pm_market.specs.Moves.{Idle};
 ghost use Rattle.pm_session.specs.Prices.{session_at};
 ghost use Rattle.pm_plan.specs.Auction.{total, plain};
@@ -123,12 +123,24 @@ impl<'p> Cluster<'p> {
     }
 
     /// The price that a device holds: that of the clearing passed to it last, unless that is of a former membership.
+    ///
+    /// Whoever holds a price has its own bid in it: the price names the device's number in the cut of its clearing, at which the
+    /// device is a member, and its step is the device's local step over that cut.
     pub fn held(&self, device: NodeId) -> Option<Held>
         requires leaf { IsLeaf (plan_lists self.now.plan) device.0 }
         ensures held { (s : State) → StandsFor self.now.plan self.now.core s → result ≡ held_price self.now.plan s device.0 }
         ensures current { (s : State) → StandsFor self.now.plan self.now.core s → Idle (plan_lists self.now.plan) s →
             is_member (plan_lists self.now.plan) device.0 (s.counts device.0) ≡ true →
             result ≡ Some (record { step = local_at self.now.plan s.counts device.0; number = s.counts device.0; index = clearings s }) }
+        ensures member { (s : State) → StandsFor self.now.plan self.now.core s →
+            IfSome result (λ price. is_member (plan_lists self.now.plan) device.0 price.number ≡ true) }
+        ensures made { (s : State) → StandsFor self.now.plan self.now.core s → IfSome result (λ price. price.number ≤ s.counts device.0) }
+        ensures cleared { (s : State) → StandsFor self.now.plan self.now.core s →
+            IfSome result (λ price. (1 ≤ price.index) × (price.index ≤ clearings s)) }
+        ensures own { (s : State) → StandsFor self.now.plan self.now.core s →
+            IfSome result (λ price. price.number ≡ cleared s price.index device.0) }
+        ensures step { (s : State) → StandsFor self.now.plan self.now.core s →
+            IfSome result (λ price. price.step ≡ local_at self.now.plan (cleared s price.index) device.0) }
     {
         self.ports[device.0 as usize].held()
     }
