@@ -8,6 +8,7 @@ ghost use Rattle.pm_plan.specs.Plans.{phases, end_cut, is_limited};
 ghost use Rattle.pm_plan.specs.Auction.{power};
 ghost use Rattle.pm_plan.specs.States.{end_of};
 ghost use Rattle.pm_plan.specs.Market.{plan_lists};
+ghost use Rattle.pm_offer.specs.EndLines.{TellsEnd};
 ghost use Rattle.pm_stands.specs.Quiet.{IsQuiet};
 ghost use Rattle.pm_stands.specs.Stands.{StandsFor, MakesMove};
 ghost use Rattle.pm_stands.specs.Current.{kept_power, kept_line};
@@ -28,19 +29,24 @@ use std::marker::Brand;
 
 impl<'p> Cluster<'p> {
     /// The end over all changes made so far, which is that of the plain auction: where these are the changes of the phases up
-    /// to one, it is the end of that phase. The cluster must be idle. The answer is an error only for want of memory.
+    /// to one, it is the end of that phase. Its lines tell that auction: the clearing step and its price, the power of each member,
+    /// and the step and the sum of each limited concentrator. The cluster must be idle. The answer is an error only for want of
+    /// memory.
     pub fn phase_end(&self, alloc: Global) -> Result<PhaseEnd, AllocError>
         requires quiet { IsQuiet self.now.plan self.now.core }
         ensures end { (s : State) → StandsFor self.now.plan self.now.core s → IfOk result (λ e. e.end ≡ end_of self.now.plan s.counts) }
         ensures phase { (s : State) (p : ℕ) → StandsFor self.now.plan self.now.core s → AreMade self.now.plan s.counts p →
             IfOk result (λ e. e.end ≡ end_of self.now.plan (end_cut self.now.plan p)) }
+        ensures tells { (s : State) → StandsFor self.now.plan self.now.core s → IfOk result (λ e. TellsEnd self.now.plan s.counts e.end) }
+        ensures tells_phase { (s : State) (p : ℕ) → StandsFor self.now.plan self.now.core s → AreMade self.now.plan s.counts p →
+            IfOk result (λ e. TellsEnd self.now.plan (end_cut self.now.plan p) e.end) }
     {
         let mut end = PhaseEnd::vacant(alloc, self.plan)?;
         self.phase_end_into(&mut end);
         Ok(end)
     }
 
-    /// Makes `out` the end over all changes made so far, within its room. The cluster must be idle.
+    /// Makes `out` the end over all changes made so far, within its room, as `phase_end` gives it. The cluster must be idle.
     #[tactic(auto, using(crate::proofs::Parents::nodes_are, crate::proofs::Parents::leaf_is))]
     pub fn phase_end_into(&self, out: &mut PhaseEnd)
         requires quiet { IsQuiet self.now.plan self.now.core }
@@ -49,6 +55,9 @@ impl<'p> Cluster<'p> {
         ensures end { (s : State) → StandsFor self.now.plan self.now.core s → out.new.end ≡ end_of self.now.plan s.counts }
         ensures phase { (s : State) (p : ℕ) → StandsFor self.now.plan self.now.core s → AreMade self.now.plan s.counts p →
             out.new.end ≡ end_of self.now.plan (end_cut self.now.plan p) }
+        ensures tells { (s : State) → StandsFor self.now.plan self.now.core s → TellsEnd self.now.plan s.counts out.new.end }
+        ensures tells_phase { (s : State) (p : ℕ) → StandsFor self.now.plan self.now.core s → AreMade self.now.plan s.counts p →
+            TellsEnd self.now.plan (end_cut self.now.plan p) out.new.end }
     {
         let step = self.auctioneer.step();
         let sum = self.auctioneer.cache().aggregate();

@@ -1,5 +1,6 @@
-use Rattle.std.proofs.Common.{◌≡◌, ◌∙◌, sym, ap, subst, ◌-◌, ◌≤◌, length, arith, rules, w64, FitsSigned}
+use Rattle.std.proofs.Common.{◌≡◌, ◌∙◌, sym, ap, subst, ℕ, ◌-◌, ◌≤◌, length, arith, rules, w64, FitsSigned}
 use Rattle.std.proofs.lemmas.Int.{to_z-of_z}
+use Rattle.pm_base.specs.Cuts.{Cut}
 use Rattle.pm_basis.specs.Prices.{price_at}
 use Rattle.pm_bid.specs.Bids.{demand_at}
 use Rattle.pm_cache.specs.Cache.{aggregate_of}
@@ -9,6 +10,8 @@ use Rattle.pm_plan.specs.Plans.{end_cut}
 use Rattle.pm_plan.specs.Auction.{EndData}
 use Rattle.pm_plan.specs.States.{end_of}
 use Rattle.pm_plan.specs.Market.{plan_lists}
+use Rattle.pm_offer.specs.EndLines.{TellsEnd}
+use Rattle.pm_offer.proofs.EndLines.{tells_end}
 use Rattle.pm_walk.specs.Parts.{members_to}
 use Rattle.pm_stands.specs.Stands.{StandsFor}
 use Rattle.pm_stands.specs.Quiet.{IsQuiet}
@@ -83,11 +86,20 @@ returns c =
     let whole : (s : State) → StandsFor plan (core_of c.self.inside) s → c.loop-number.out.end ≡ end_of plan s.counts = λ s stands.
     whole_end plan (core_of c.self.inside) s c.loop-number.number head c.loop-number.out c.self.invariant.is_plan stands quiet told
     all step_is price_is total_is in
+    let phase : (p : ℕ) (s : State) → StandsFor plan (core_of c.self.inside) s → AreMade plan s.counts p →
+    c.loop-number.out.end ≡ end_of plan (end_cut plan p) = λ p s stands made.
+    whole s stands ∙ end_alike plan c.self.invariant.is_plan s.counts (end_cut plan p) made in
+    let told_of : (cut : Cut) → c.loop-number.out.end ≡ end_of plan cut → TellsEnd plan cut c.loop-number.out.end = λ cut same.
+    subst (TellsEnd plan cut) (sym same) (tells_end plan c.self.invariant.is_plan cut) in
     record {
       end = of_value c.self.inside c.args.self.now c.self.view_is (λ p s. c.loop-number.out.end ≡ end_of p s.counts) whole;
       phase = λ s p stands made. of_value c.self.inside c.args.self.now c.self.view_is (λ q s. AreMade q s.counts p →
-          c.loop-number.out.end ≡ end_of q (end_cut q p))
-          (λ s stands made. whole s stands ∙ end_alike plan c.self.invariant.is_plan s.counts (end_cut plan p) made) s stands made;
+          c.loop-number.out.end ≡ end_of q (end_cut q p)) (phase p) s stands made;
+      tells = of_value c.self.inside c.args.self.now c.self.view_is (λ p s. TellsEnd p s.counts c.loop-number.out.end)
+          (λ s stands. told_of s.counts (whole s stands));
+      tells_phase = λ s p stands made. of_value c.self.inside c.args.self.now c.self.view_is (λ q s. AreMade q s.counts p →
+          TellsEnd q (end_cut q p) c.loop-number.out.end)
+          (λ s stands made. told_of (end_cut plan p) (phase p s stands made)) s stands made;
     }
 
 -- the number that the loop is at is a node's
