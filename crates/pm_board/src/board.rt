@@ -1,6 +1,6 @@
-ghost use Rattle.std.specs.Prelude.{◌≡◌, ◌≤◌, ◌↔◌, [], All, length, true, Some, IfOk, IsTrue, MatchOption};
+ghost use Rattle.std.specs.Prelude.{◌≡◌, ◌≤◌, ◌↔◌, [], All, length, true, Some, IfOk, IsTrue, IfSome, MatchOption};
 ghost use Rattle.pm_market.specs.Lists.{IsLeaf, is_member};
-ghost use Rattle.pm_market.specs.State.{known, clearings};
+ghost use Rattle.pm_market.specs.State.{known, clearings, cleared};
 ghost use Rattle.pm_market.specs.Moves.{Idle};
 ghost use Rattle.pm_plan.specs.Plans.{phases, plan_bound};
 ghost use Rattle.pm_plan.specs.Auction.{total};
@@ -98,12 +98,21 @@ impl<'p> Board<'p> {
 
     /// The price that a device holds: that of the clearing passed to it last, unless that is of a former membership. Where
     /// nothing is pending each member holds the step of its part of the cluster over all current bids.
+    ///
+    /// Whoever holds a price has its own bid in it: the price names the device's number in the cut of its clearing, at which the
+    /// device is a member, and its step is the device's local step over that cut.
     pub fn held(&self, device: NodeId) -> Option<Held>
         requires leaf { IsLeaf (plan_lists self.now.plan) device.0 }
         ensures held { result ≡ held_price self.now.plan (board_state self.now) device.0 }
         ensures current { let s = board_state self.now in Idle (plan_lists self.now.plan) s →
             is_member (plan_lists self.now.plan) device.0 (s.counts device.0) ≡ true →
             result ≡ Some (record { step = local_at self.now.plan s.counts device.0; number = s.counts device.0; index = clearings s }) }
+        ensures member { IfSome result (λ price. is_member (plan_lists self.now.plan) device.0 price.number ≡ true) }
+        ensures made { let s = board_state self.now in IfSome result (λ price. price.number ≤ s.counts device.0) }
+        ensures cleared { let s = board_state self.now in IfSome result (λ price. (1 ≤ price.index) × (price.index ≤ clearings s)) }
+        ensures own { let s = board_state self.now in IfSome result (λ price. price.number ≡ cleared s price.index device.0) }
+        ensures step { let s = board_state self.now in
+            IfSome result (λ price. price.step ≡ local_at self.now.plan (cleared s price.index) device.0) }
     {
         self.cluster.held(device)
     }
