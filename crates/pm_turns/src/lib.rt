@@ -13,6 +13,7 @@ mod gate;
 mod lines;
 mod one_thread;
 mod plans;
+mod posting;
 
 pub use agents::{agent_of, can_work, make_agents};
 pub use completion::complete;
@@ -20,3 +21,4 @@ pub use gate::{Gate, OpenGate};
 pub use lines::newest_line;
 pub use one_thread::{change, drain, finish, first_next, make_move, next_of, turn_of};
 pub use plans::is_device;
+pub use posting::{Posted, post_made};
