@@ -4,6 +4,7 @@
 //! What a market runs by is the open gate of pm_turns. These are for the tests of the runs, and for the program `trials`.
 #![tactic(auto)]
 
+mod closing;
 mod drawing;
 mod held;
 mod holding;
@@ -12,6 +13,7 @@ mod schedule;
 mod scheduled;
 mod telling;
 
+pub use closing::ClosingGate;
 pub use drawing::DrawingGate;
 pub use held::Held;
 pub use holding::HoldingGate;

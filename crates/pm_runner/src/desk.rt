@@ -1,3 +1,7 @@
+ghost use Rattle.std.specs.Prelude.{◌≡◌, length, IfSome};
+ghost use Rattle.pm_cluster.specs.Next.{IsNext};
+ghost use Rattle.pm_board.specs.Boards.{board_state};
+
 use crate::pending::Pending;
 use pm_agent::Made;
 use pm_board::Board;
@@ -5,7 +9,7 @@ use pm_device::Next;
 use pm_market::Line;
 use pm_plan::Plan;
 use pm_tree::NodeId;
-use pm_turns::{newest_line, next_of};
+use pm_turns::{Posted, newest_line, next_of, post_made};
 
 /// What lies behind the lock.
 #[derive(Drop)]
@@ -94,7 +98,11 @@ impl<'p> Desk<'p> {
     }
 
     /// The next change of a node, where it is a device of the board's plan and has one.
-    pub(crate) fn job_of(&self, node: u32) -> Option<Job<'p>> {
+    pub(crate) fn job_of(&self, node: u32) -> Option<Job<'p>>
+        ensures next { let s = board_state self.now.board in
+            IfSome result (λ job. IsNext self.now.board.plan s.closed s.counts job.next.device job.next) }
+        ensures its { IfSome result (λ job. job.next.device ≡ node) }
+    {
         let plan = self.board.plan();
         let next = next_of(&self.board, node)?;
         Some(Job { next, plan })
@@ -118,8 +126,13 @@ impl<'p> Desk<'p> {
         made
     }
 
-    /// Makes the change of a device.
-    pub(crate) fn post(&mut self, made: &Made) -> Option<Line> {
+    /// Makes the change of a device. Where it is not the device's next one the run goes on: the device's next turn is of the
+    /// change that the board then names.
+    pub(crate) fn post(&mut self, made: &Made) -> Option<Line>
+        ensures goes_on { let s = board_state self.old.board in
+            (IsNext self.old.board.plan s.closed s.counts made.now.next.device made.now.next → ⊥) →
+            length made.now.demand ≡ self.old.board.plan.basis.steps → self.new.halted ≡ self.old.halted }
+    {
         if self.is_over() {
             return None;
         }
@@ -127,14 +140,36 @@ impl<'p> Desk<'p> {
             self.halt();
             return None;
         }
-        let Ok(what) = self.board.post(made) else {
-            self.halt();
+        match post_made(&mut self.board, made) {
+            Posted::Made => self.posted(made.next()),
+            Posted::Stale => None,
+            Posted::Unfit => {
+                self.halt();
+                None
+            }
+        }
+    }
+
+    /// A change was made: what is pending follows it, and its line is told.
+    fn posted(&mut self, made: Next) -> Option<Line>
+        ensures goes_on { self.new.halted ≡ self.old.halted }
+    {
+        let more = self.job_of(made.device).is_some();
+        self.pending.changed(made, more);
+        newest_line(&self.board)
+    }
+
+    /// Whether the phase is to be closed.
+    pub(crate) fn may_close(&self) -> bool {
+        !self.is_over() && self.pending.is_quiet()
+    }
+
+    /// Closes the open phase where nothing is pending, and opens the next one.
+    pub(crate) fn close_if_quiet(&mut self) -> Option<Line> {
+        if !self.may_close() {
             return None;
-        };
-        let next = made.next();
-        let more = self.job_of(next.device).is_some();
-        self.pending.changed(next, more);
-        Some(Line { what, held: None })
+        }
+        self.close()
     }
 
     /// Closes the open phase, and opens the next one.

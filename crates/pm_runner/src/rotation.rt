@@ -1,17 +1,21 @@
-use crate::worker::{Shared, Turn, Worker, give_up, take_turn};
+use crate::worker::{Shared, Turn, Worker, end_turn, give_up, let_go, take_turn};
+use pm_market::Line;
 use pm_turns::Gate;
 use std::sync::Wait;
 
-/// Makes the turns of the nodes whose threads could not be started, in rotation, until the run is over.
+/// Makes the turns of the nodes whose threads could not be started, in rotation, until the run is over. Where a phase can be
+/// closed it is closed between two rotations, which the gate is told for node 0.
 pub(crate) fn serve_in_rotation<R: Wait, G: Gate>(rt: &R, shared: Shared, gate: &G, nodes: &[u32]) {
-    if nodes.is_empty() {
+    let Some(first) = nodes.first() else {
         return;
-    }
+    };
     for _ in rt.forever() {
         if serve_each(rt, shared, gate, nodes) {
             return;
         }
-        await_any(rt, shared, nodes);
+        if await_any(rt, shared, nodes) {
+            close(rt, shared, gate, *first);
+        }
     }
 }
 
@@ -33,6 +37,29 @@ fn serve_once<R: Wait, G: Gate>(rt: &R, shared: Shared, gate: &G, node: u32) -> 
     turn.over
 }
 
+/// Closes the open phase where nothing is pending still. It rings by the worker of a node that this thread serves.
+fn close<R: Wait, G: Gate>(rt: &R, shared: Shared, gate: &G, served: u32) {
+    gate.before(0);
+    let line = close_by(rt, shared, served);
+    gate.after(0, line);
+}
+
+/// The line of the closing, where the phase was closed.
+fn close_by<R: Wait>(rt: &R, shared: Shared, served: u32) -> Option<Line> {
+    let Some(own) = shared.workers.get(served as usize) else {
+        give_up(rt, shared);
+        return None;
+    };
+    close_by_worker(rt, shared, &mut own.lock(rt))
+}
+
+fn close_by_worker<R: Wait>(rt: &R, shared: Shared, worker: &mut Worker) -> Option<Line> {
+    let mut desk = shared.desk.lock(rt);
+    let line = desk.close_if_quiet();
+    let_go(shared, &mut worker.rings, desk);
+    line
+}
+
 /// A turn of a node, without waiting for work.
 fn turn_of<'p, R: Wait>(rt: &R, shared: Shared<'_, 'p>, node: u32) -> Turn<'p> {
     let Some(own) = shared.workers.get(node as usize) else {
@@ -42,7 +69,7 @@ fn turn_of<'p, R: Wait>(rt: &R, shared: Shared<'_, 'p>, node: u32) -> Turn<'p> {
     turn_at_once(rt, shared, &mut own.lock(rt), node)
 }
 
-/// A turn of a node by its worker, without waiting for work.
+/// A turn of a node by its worker, without waiting for work. It closes no phase.
 fn turn_at_once<'p, R: Wait>(
     rt: &R,
     shared: Shared<'_, 'p>,
@@ -51,11 +78,14 @@ fn turn_at_once<'p, R: Wait>(
 ) -> Turn<'p> {
     let mut desk = shared.desk.lock(rt);
     desk.pending.rise(node);
+    if desk.pending.is_quiet() {
+        return end_turn(shared, &mut worker.rings, node, desk, None);
+    }
     take_turn(rt, shared, worker, node, desk)
 }
 
-/// Sleeps until one of the nodes has something to do.
-fn await_any<R: Wait>(rt: &R, shared: Shared, nodes: &[u32]) {
+/// Sleeps until one of the nodes has something to do, or the phase can be closed; whether it can be.
+fn await_any<R: Wait>(rt: &R, shared: Shared, nodes: &[u32]) -> bool {
     let mut desk = shared.desk.lock(rt);
     for _ in rt.forever() {
         if desk.is_over() || desk.has_any_task(nodes) {
@@ -69,4 +99,5 @@ fn await_any<R: Wait>(rt: &R, shared: Shared, nodes: &[u32]) {
         desk = bell.wait(rt, desk);
     }
     desk.rise_all(nodes);
+    desk.may_close()
 }

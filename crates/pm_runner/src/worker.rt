@@ -1,3 +1,7 @@
+ghost use Rattle.std.specs.Prelude.{◌≡◌, None, IfSome};
+ghost use Rattle.pm_cluster.specs.Next.{IsNext};
+ghost use Rattle.pm_board.specs.Boards.{board_state};
+
 use crate::desk::{Desk, Job, Task};
 use pm_agent::DeviceAgent;
 use pm_market::Line;
@@ -52,7 +56,9 @@ impl<'p> Turn<'p> {
     }
 
     /// The last turn, with its line.
-    fn last_with(line: Option<Line>) -> Turn<'p> {
+    fn last_with(line: Option<Line>) -> Turn<'p>
+        ensures none { result.job ≡ None }
+    {
         Turn {
             line,
             over: true,
@@ -174,7 +180,7 @@ fn change<'p, R: Wait>(
 }
 
 /// Ends the turn of a node. The lock is free afterwards.
-fn end_turn<'a, 'p>(
+pub(crate) fn end_turn<'a, 'p>(
     shared: Shared<'a, 'p>,
     rings: &mut Vec<u32>,
     node: u32,
@@ -187,13 +193,18 @@ fn end_turn<'a, 'p>(
     turn
 }
 
-/// The turn of a node with this line, and what the node does next.
+/// The turn of a node with this line, and what the node does next: a device's next change is the one that the board names now,
+/// whatever came of the last.
 fn turn_with<'p>(
     shared: Shared<'_, 'p>,
     desk: &mut Desk<'p>,
     node: u32,
     line: Option<Line>,
-) -> Turn<'p> {
+) -> Turn<'p>
+    ensures next { let s = board_state desk.new.board in
+        IfSome result.job (λ job. IsNext desk.new.board.plan s.closed s.counts job.next.device job.next) }
+    ensures its { IfSome result.job (λ job. job.next.device ≡ node) }
+{
     if desk.is_over() {
         return Turn::last_with(line);
     }
@@ -223,7 +234,11 @@ fn rest_at(shared: Shared, desk: &mut Desk, node: u32) -> Option<Rest> {
 }
 
 /// Frees the lock, and rings the bells of those that the hold gave work.
-fn let_go<'a, 'p>(shared: Shared<'a, 'p>, rings: &mut Vec<u32>, desk: MutexGuard<'a, Desk<'p>>) {
+pub(crate) fn let_go<'a, 'p>(
+    shared: Shared<'a, 'p>,
+    rings: &mut Vec<u32>,
+    desk: MutexGuard<'a, Desk<'p>>,
+) {
     let mut desk = desk;
     desk.pending.hand_out(rings);
     drop(desk);

@@ -8,4 +8,6 @@ mod free;
 #[cfg(test)]
 mod locked;
 #[cfg(test)]
+mod posting;
+#[cfg(test)]
 mod runs;

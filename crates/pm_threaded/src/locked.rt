@@ -2,7 +2,7 @@
 
 use crate::runs::{LOOKS, REJOINS, TWO_BIDS, are_right, holding, meeting};
 use pm_board::Board;
-use pm_gates::{DrawingGate, Moment};
+use pm_gates::{ClosingGate, DrawingGate, Moment};
 use pm_gen::make_plan;
 use pm_market::{Journal, Line};
 use pm_plan::{MemberLine, PhaseEnd, Plan};
@@ -131,6 +131,28 @@ fn made_alone<'p, R: Threads + Wait + Sync, G: Gate>(
     } else {
         drain(alloc, plan, gate)
     }
+}
+
+/// A closing by the caller's thread is told for node 0: where the caller serves all nodes, and where it makes all moves.
+#[test]
+fn the_caller_closes_for_the_auctioneer(rt: HostRuntime) -> Result<(), Fail> {
+    let plan = read_scene(rt.alloc(), REJOINS)?;
+    must_close_for_the_auctioneer(&rt, rt.alloc(), &plan, true)?;
+    must_close_for_the_auctioneer(&rt, rt.alloc(), &plan, false)
+}
+
+fn must_close_for_the_auctioneer<R: Threads + Wait + Sync + Abort>(
+    rt: &R,
+    alloc: Global,
+    plan: &Plan,
+    by_threads: bool,
+) -> Result<(), Fail> {
+    let gate = ClosingGate::new();
+    let board = made_alone(rt, alloc, plan, &gate, by_threads)?;
+    assert!(rt; is_right(alloc, plan, &board)?);
+    assert_eq!(rt; gate.closings(), 10);
+    assert_eq!(rt; gate.for_auctioneer(), 10);
+    Ok(())
 }
 
 /// What the threads leave is completed where it runs an equal plan; where the plan differs a new board is.

@@ -2,8 +2,8 @@ use pm_market::Line;
 
 /// Is told of the turns of nodes, without the lock.
 ///
-/// A turn that the caller's thread makes for a node is told in the same way. A closing is told for the node in whose turn
-/// it was made, and for node 0 where the caller closes a phase that the threads left open.
+/// A turn that the caller's thread makes for a node is told in the same way. A closing that the caller's thread makes is told
+/// for node 0, whatever node it serves; one that a node's own thread makes is told for that node.
 pub trait Gate: Sync {
     /// A turn of the node comes.
     fn before(&self, node: u32);
