@@ -1,5 +1,7 @@
 ghost use Rattle.std.specs.Prelude.{◌≡◌, ◌<◌, All, IfOk, IfErr, IfSome, IfNone, length};
 ghost use Rattle.pm_cells.specs.Numbers.{newest_number};
+ghost use Rattle.pm_cells.specs.Calls.{PutsOne, TakesOne, LosesOne, FindsNone};
+ghost use Rattle.pm_cells.specs.declared.message.Message.TheVariants as Messages;
 ghost use Rattle.pm_cells.specs.Ends.{LinkEnd, bid_handed_back, after_put_bid, after_lost_bid, after_taken_bid, after_no_bid};
 
 use crate::ends::{BIDS, ChildEnd, ParentEnd};
@@ -17,6 +19,12 @@ pub fn put_bid(link: &FreeLink, end: &mut ChildEnd, message: UpMessage) -> Resul
     ensures put { IfOk result (λ _. end.new ≡ after_put_bid end.old message) }
     ensures lost { IfErr result (λ _. end.new ≡ after_lost_bid end.old) }
     ensures back { IfErr result (λ fault. fault ≡ bid_handed_back message) }
+
+    // The same in numbers and lists: `lost` rises by one exactly with `Busy`, and this message is the one that was put.
+    ensures puts_one { IfOk result (λ _.
+        PutsOne end.old.known.up end.new.known.up message.number (Messages.Bid message)) }
+    ensures loses_one { IfErr result (λ _. LosesOne end.old.known.up end.new.known.up) }
+    ensures prices_stay { end.new.known.down ≡ end.old.known.down }
 {
     let shared = &link.table.shared;
     let found = shared.fetch_or::<ClaimToPutBid>(&mut end.seat, BIDS, 1);
@@ -42,6 +50,14 @@ pub fn take_bid(link: &FreeLink, end: &mut ParentEnd) -> Result<Option<UpMessage
     ensures above { IfOk result (λ taken. IfSome taken (λ bid. All (λ n. n < bid.number) end.old.known.up.takes)) }
     ensures none { IfOk result (λ taken. IfNone taken (end.new ≡ after_no_bid end.old)) }
     ensures lost { IfErr result (λ _. end.new ≡ after_lost_bid end.old) }
+
+    // The same in numbers and lists: `empty` rises by one exactly with None and `lost` exactly with `Busy`, and this bid is the
+    // one that was taken.
+    ensures takes_one { IfOk result (λ taken. IfSome taken (λ bid.
+        TakesOne end.old.known.up end.new.known.up bid.number (Messages.Bid bid))) }
+    ensures finds_none { IfOk result (λ taken. IfNone taken (FindsNone end.old.known.up end.new.known.up)) }
+    ensures loses_one { IfErr result (λ _. LosesOne end.old.known.up end.new.known.up) }
+    ensures prices_stay { end.new.known.down ≡ end.old.known.down }
 {
     let shared = &link.table.shared;
     let found = shared.fetch_or::<ClaimToTakeBid>(&mut end.seat, BIDS, 1);

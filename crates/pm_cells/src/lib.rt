@@ -10,8 +10,9 @@
 //!
 //! The definitions stand in `specs/`: `Numbers` (lists of numbers that rise, and lists whose elements are all in
 //! another), `Cells` (what holds of the two cells between any two steps), `Steps` (what each of the eight kinds of step
-//! tells the end that makes it), `Ends` (an end, and what each call makes of it). An end knows the numbers and the whole
-//! messages that it put and took. No clause says that a message is ever taken, or a slot ever free.
+//! tells the end that makes it), `Ends` (an end, and what each call makes of it), `Calls` (the same in plain numbers and
+//! lists). An end knows the numbers and the whole messages that it put and took, and counts the claims that it lost and the
+//! takes that found nothing. No clause says that a message is ever taken, or a slot ever free.
 #![tactic(auto)]
 
 mod bids;

@@ -1,6 +1,7 @@
 ghost use Rattle.std.specs.Prelude.{◌≡◌, ◌≤◌, IfOk};
 ghost use Rattle.pm_cells.specs.Numbers.{AreRising, AllAmong};
 ghost use Rattle.pm_cells.specs.Steps.{child_view, parent_view};
+ghost use Rattle.pm_cells.specs.Calls.{IsUnused};
 ghost use Rattle.pm_cells.specs.Ends.{LinkEnd};
 
 use crate::ends::{BIDS, ChildEnd, PRICES, ParentEnd};
@@ -48,6 +49,12 @@ pub struct LinkLog {
 pub fn open_link(alloc: Global, room: usize) -> Result<(FreeLink, ChildEnd, ParentEnd), AllocError>
     ensures child { IfOk result (λ opened. opened.1 ≡ record { link = opened.0; known = child_view; room = room }) }
     ensures parent { IfOk result (λ opened. opened.2 ≡ record { link = opened.0; known = parent_view; room = room }) }
+
+    // The same in numbers and lists: both ends begin with no message and no count.
+    ensures child_bids { IfOk result (λ opened. IsUnused opened.1.known.up) }
+    ensures child_prices { IfOk result (λ opened. IsUnused opened.1.known.down) }
+    ensures parent_bids { IfOk result (λ opened. IsUnused opened.2.known.up) }
+    ensures parent_prices { IfOk result (λ opened. IsUnused opened.2.known.down) }
 {
     let bid_puts = Vec::with_capacity(alloc, room)?;
     let bid_takes = Vec::with_capacity(alloc, room)?;

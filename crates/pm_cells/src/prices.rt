@@ -1,6 +1,7 @@
 ghost use Rattle.std.specs.Prelude.{◌≡◌, ◌≢◌, ◌<◌, All, Contains, IfOk, IfErr, IfSome, IfNone, Some, None, length};
 ghost use Rattle.pm_cells.specs.declared.message.Message.TheVariants as Messages;
 ghost use Rattle.pm_cells.specs.Numbers.{newest_number};
+ghost use Rattle.pm_cells.specs.Calls.{PutsOne, TakesOne, LosesOne, FindsNone};
 ghost use Rattle.pm_cells.specs.Ends.{LinkEnd, price_handed_back, after_put_price, after_lost_price, after_taken_price, after_no_price};
 
 use crate::ends::{ChildEnd, PRICES, ParentEnd};
@@ -25,6 +26,12 @@ pub fn put_price(
     ensures put { IfOk result (λ _. end.new ≡ after_put_price end.old price) }
     ensures lost { IfErr result (λ _. end.new ≡ after_lost_price end.old) }
     ensures back { IfErr result (λ fault. fault ≡ price_handed_back price) }
+
+    // The same in numbers and lists: `lost` rises by one exactly with `Busy`, and this price is the one that was put.
+    ensures puts_one { IfOk result (λ _.
+        PutsOne end.old.known.down end.new.known.down price.index (Messages.Price price)) }
+    ensures loses_one { IfErr result (λ _. LosesOne end.old.known.down end.new.known.down) }
+    ensures bids_stay { end.new.known.up ≡ end.old.known.up }
 {
     let shared = &link.table.shared;
     let found = shared.fetch_or::<ClaimToPutPrice>(&mut end.seat, PRICES, 1);
@@ -49,6 +56,14 @@ pub fn take_price(link: &FreeLink, end: &mut ChildEnd) -> Result<Option<PriceUpd
     ensures names { IfOk result (λ taken. IfSome taken (λ price. Contains end.old.known.up.puts price.number)) }
     ensures none { IfOk result (λ taken. IfNone taken (end.new ≡ after_no_price end.old)) }
     ensures lost { IfErr result (λ _. end.new ≡ after_lost_price end.old) }
+
+    // The same in numbers and lists: `empty` rises by one exactly with None and `lost` exactly with `Busy`, and this price is
+    // the one that was taken.
+    ensures takes_one { IfOk result (λ taken. IfSome taken (λ price.
+        TakesOne end.old.known.down end.new.known.down price.index (Messages.Price price))) }
+    ensures finds_none { IfOk result (λ taken. IfNone taken (FindsNone end.old.known.down end.new.known.down)) }
+    ensures loses_one { IfErr result (λ _. LosesOne end.old.known.down end.new.known.down) }
+    ensures bids_stay { end.new.known.up ≡ end.old.known.up }
 {
     let shared = &link.table.shared;
     let found = shared.fetch_or::<ClaimToTakePrice>(&mut end.seat, PRICES, 1);

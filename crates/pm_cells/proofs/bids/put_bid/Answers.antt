@@ -1,4 +1,4 @@
-use Rattle.std.proofs.Common.{◌<◌, rules, refl, sym, arith, subst}
+use Rattle.std.proofs.Common.{◌<◌, rules, refl, sym, ap, arith, subst}
 use Rattle.pm_cells.specs.Numbers.{newest_number}
 use Rattle.pm_cells.specs.Ends.{LinkEnd}
 use Rattle.pm_cells.proofs.BidSteps.{may_claim_to_put_bid, may_end_put_bid, bid_was_put}
@@ -40,3 +40,18 @@ invariant_of-end-2 c =
     let is = exchanged _ _ _ 0 got.0 _ _ got.1 c.end.invariant.has_no_slot c.exchange-old.ensures.3 in
     let told = bid_was_put _ _ c.end.inside.seat.me.0 c.from.result _ is c.store.ensures.2 in
     search rules
+
+pub returns-clause-puts_one : goal.returns-clause-puts_one
+returns-clause-puts_one c =
+    let is = returns-clause-put c in
+    record {
+      puts = ap (λ (e : LinkEnd). e.known.up.puts) is;
+      sent = ap (λ (e : LinkEnd). e.known.up.sent) is;
+      takes = ap (λ (e : LinkEnd). e.known.up.takes) is;
+      received = ap (λ (e : LinkEnd). e.known.up.received) is;
+      lost = ap (λ (e : LinkEnd). e.known.up.lost) is;
+      empty = ap (λ (e : LinkEnd). e.known.up.empty) is;
+    }
+
+pub returns-clause-prices_stay : goal.returns-clause-prices_stay
+returns-clause-prices_stay c = ap (λ (e : LinkEnd). e.known.down) (returns-clause-put c)

@@ -32,3 +32,6 @@ returns-in-Some-Bid-clause-above c =
 
 pub returns-then-found-eq1-clause-none : goal.returns-then-found-eq1-clause-none
 returns-then-found-eq1-clause-none c = search rules
+
+pub returns-then-found-eq1-clause-finds_none : goal.returns-then-found-eq1-clause-finds_none
+returns-then-found-eq1-clause-finds_none c = search rules

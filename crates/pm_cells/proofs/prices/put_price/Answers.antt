@@ -1,4 +1,4 @@
-use Rattle.std.proofs.Common.{◌<◌, rules, refl, sym, arith, subst}
+use Rattle.std.proofs.Common.{◌<◌, rules, refl, sym, ap, arith, subst}
 use Rattle.std.specs.Prelude.{Contains}
 use Rattle.pm_cells.specs.Numbers.{newest_number}
 use Rattle.pm_cells.specs.Ends.{LinkEnd}
@@ -37,3 +37,18 @@ invariant_of-end-2 c =
     let is = exchanged _ _ _ 1 got.0 _ _ got.1 c.end.invariant.has_no_slot c.exchange-old.ensures.3 in
     let told = price_was_put _ _ c.end.inside.seat.me.0 c.from.result _ is c.store.ensures.2 in
     search rules
+
+pub returns-clause-puts_one : goal.returns-clause-puts_one
+returns-clause-puts_one c =
+    let is = returns-clause-put c in
+    record {
+      puts = ap (λ (e : LinkEnd). e.known.down.puts) is;
+      sent = ap (λ (e : LinkEnd). e.known.down.sent) is;
+      takes = ap (λ (e : LinkEnd). e.known.down.takes) is;
+      received = ap (λ (e : LinkEnd). e.known.down.received) is;
+      lost = ap (λ (e : LinkEnd). e.known.down.lost) is;
+      empty = ap (λ (e : LinkEnd). e.known.down.empty) is;
+    }
+
+pub returns-clause-bids_stay : goal.returns-clause-bids_stay
+returns-clause-bids_stay c = ap (λ (e : LinkEnd). e.known.up) (returns-clause-put c)
