@@ -4,3 +4,4 @@ pub mod BreakLists
 pub mod TargetLines
 pub mod TargetTexts
 pub mod OneCurve
+pub mod TargetBids

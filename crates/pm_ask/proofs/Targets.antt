@@ -6,7 +6,7 @@ use Rattle.std.proofs.lemmas.Bool.{cases_lt}
 use Rattle.std.proofs.lemmas.Int.{ints}
 use Rattle.std.proofs.lemmas.List.{get_or-map, length-map}
 use Rattle.pm_bid.specs.Bids.{demand_at, NeverRises}
-use Rattle.pm_bid.specs.Clearing.{IsFirstAtMost}
+use Rattle.pm_bid.specs.Clearing.{Clears}
 use Rattle.pm_bid.proofs.FoundStep.{first_at_most_is_first}
 use Rattle.pm_ask.specs.Asked.{less_target, asked_step}
 use Rattle.pm_ask.specs.Breaks.{IsTargetOf, IsLeastTarget, IsGreatestTarget}
@@ -29,13 +29,10 @@ pub record Meets (total : List ℤ) (target : ℤ) (step : ℕ) : Type 0 where
   -- at the step the total is at most the target, unless the step is the last
   pub met : step + 1 < length total → demand_at total step ≤ℤ target
 
--- so it is with the step of a target
-pub asked_step_meets : (target : ℤ) (total : List ℤ) → 1 ≤ length total → Meets total target (asked_step target total)
-asked_step_meets target total some =
-    let rest = less_target target total in
-    let same : length rest ≡ length total = length-less_target target total in
-    let first : IsFirstAtMost (pos 0) rest (asked_step target total) = first_at_most_is_first (pos 0) rest (omega arith) in
-    let step = asked_step target total in
+-- so it is with a step at which the rest clears
+pub clears_meets : (target : ℤ) (total : List ℤ) (step : ℕ) → Clears (less_target target total) step → Meets total target step
+clears_meets target total step first =
+    let same : length (less_target target total) ≡ length total = length-less_target target total in
     let inside : step < length total = omega (arith, first.inside, same) in
     record {
       inside = inside;
@@ -48,6 +45,15 @@ asked_step_meets target total some =
           let is = less_target-at target total step inside in
           omega (arith, ints, below, is);
     }
+
+-- the rest clears at the step of a target
+pub rest_clears : (target : ℤ) (total : List ℤ) → 1 ≤ length total → Clears (less_target target total) (asked_step target total)
+rest_clears target total some =
+    first_at_most_is_first (pos 0) (less_target target total) (omega (arith, length-less_target target total))
+
+-- so it is with the step of a target
+pub asked_step_meets : (target : ℤ) (total : List ℤ) → 1 ≤ length total → Meets total target (asked_step target total)
+asked_step_meets target total some = clears_meets target total (asked_step target total) (rest_clears target total some)
 
 -- of two such steps none is before the other
 pub not_before : (total : List ℤ) (target : ℤ) (step other : ℕ) → Meets total target step → Meets total target other → other ≤ step

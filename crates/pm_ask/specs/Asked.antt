@@ -1,5 +1,5 @@
 -- A target asked of a total: what comes of the market where so much power is to be taken off the total.
-use Rattle.std.specs.Prelude.{ℕ, ℤ, ◌-ℤ◌, List, map}
+use Rattle.std.specs.Prelude.{ℕ, ℤ, ◌-ℤ◌, neg_ℤ, List, map, replicate}
 use Rattle.pm_bid.specs.Bids.{demand_at}
 use Rattle.pm_bid.specs.Clearing.{clearing_step}
 
@@ -14,3 +14,7 @@ asked_step target total = clearing_step (less_target target total)
 -- the rest at that step
 abbrev pub asked_total : ℤ → List ℤ → ℤ
 asked_total target total = demand_at (less_target target total) (asked_step target total)
+
+-- the bid of a target: the negated target at each of so many steps, whatever the price
+abbrev pub target_bid : ℤ → ℕ → List ℤ
+target_bid target steps = replicate steps (neg_ℤ target)

@@ -4,10 +4,10 @@
 //! PowerMatcher", 2013). A target is a whole number of watts. It is taken off the total at every step, as one more bid
 //! of the negative target would do, and the market clears with the rest: so an objective agent learns at which price
 //! the cluster would take or deliver so much. A [`Curve`] answers one target after the other, each by a search that
-//! halves the steps, and tells which targets each step has. [`read_targets`] reads a list of targets, and [`ask_text`]
-//! writes the curve and the answers.
+//! halves the steps, and tells which targets each step has. [`targets_are_bids`] is the law that a target is one more bid.
+//! [`read_targets`] reads a list of targets, and [`ask_text`] writes the curve and the answers.
 //!
-//! The definitions stand in `specs/`: `Asked` (the step of a target, and the rest there), `Breaks` (the steps that
+//! The definitions stand in `specs/`: `Asked` (the step of a target, the rest there, and its bid), `Breaks` (the steps that
 //! have targets, with the least and the greatest of them), `Curves` (how they are read off a total), `TargetLists` (a
 //! list as text, and the first bad line), `Texts`, `Causes` (why a total has no curve). Targets and breaks, the lists
 //! and the texts are this project's own profile.
@@ -16,6 +16,7 @@
 mod breaks;
 mod curve;
 mod fault;
+mod laws;
 mod rise;
 mod search;
 mod target;
@@ -26,6 +27,7 @@ mod text;
 pub use breaks::Break;
 pub use curve::{Answer, Curve, breaks_are_unique};
 pub use fault::CurveFault;
+pub use laws::targets_are_bids;
 pub use target_fault::TargetsFault;
 pub use target_list::{MOST_TARGETS, read_targets, texts_have_one_reading};
 pub use text::ask_text;
