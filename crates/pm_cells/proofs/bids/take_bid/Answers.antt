@@ -28,7 +28,14 @@ returns-in-Some-Bid-clause-above c =
     let brought = c.in-Some-Bid.is ∙ ap Some c.in-Some-Bid.field-0-is in
     let same : got.0 ≡ Some (Bid bid) = found_slot _ _ _ _ _ got.0 _ got.1 c.exchange-message.ensures.2 ∙ brought in
     let above = bid_above c.end.inside.seat.me.0.up n got.0 got.2 bid same in
-    subst (λ (e : LinkEnd). All (λ k. k < bid.number) e.known.up.takes) c.end.view_is above
+    let is = subst (λ (e : LinkEnd). All (λ k. k < bid.number) e.known.up.takes) c.end.view_is above in
+    search rules
+
+pub returns-in-Some-Bid-clause-none : goal.returns-in-Some-Bid-clause-none
+returns-in-Some-Bid-clause-none c = search rules
+
+pub returns-in-Some-Bid-clause-finds_none : goal.returns-in-Some-Bid-clause-finds_none
+returns-in-Some-Bid-clause-finds_none c = search rules
 
 pub returns-then-found-eq1-clause-none : goal.returns-then-found-eq1-clause-none
 returns-then-found-eq1-clause-none c = search rules
