@@ -3,6 +3,7 @@ pub mod OneFrame
 pub mod Places
 pub mod ReadFrames
 pub mod Fed
+pub mod Replies
 pub mod Markets
 pub mod OneReading
 pub mod Taking

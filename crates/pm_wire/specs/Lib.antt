@@ -5,3 +5,4 @@ pub mod Readings
 pub mod Answers
 pub mod ServerFields
 pub mod Streams
+pub mod Memory

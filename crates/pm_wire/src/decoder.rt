@@ -1,7 +1,8 @@
-ghost use Rattle.std.specs.Prelude.{◌≡◌, ◌+◌, ◌≤◌, ◌++◌, ◌⊎◌, ℕ, List, true, length, drop, vec_len, IfOk, IfErr, IfSome, IfNone};
-ghost use Rattle.std.specs.Prelude.{OnOk, OnErr};
+ghost use Rattle.std.specs.Prelude.{◌≡◌, ◌+◌, ◌*◌, ◌<◌, ◌≤◌, ◌++◌, ◌⊎◌, ℕ, List, true, length, drop, vec_len};
+ghost use Rattle.std.specs.Prelude.{IfOk, IfErr, IfSome, IfNone, OnOk, OnErr};
 ghost use Rattle.pm_wire.specs.Frames.{frame_bytes, MayStand, IsUnfinished, BeginsBadly};
-ghost use Rattle.pm_wire.specs.Decoding.{nothing_fed, with_piece, with_refusal, GivesFrame};
+ghost use Rattle.pm_wire.specs.Decoding.{nothing_fed, with_piece, with_refusal, GivesFrame, HoldsLittle};
+ghost use Rattle.pm_wire.specs.Memory.{frame_limit};
 
 use crate::fault::DecodeFault;
 use crate::frame::Frame;
@@ -12,8 +13,9 @@ use std::marker::Model;
 /// Takes a stream of frames in pieces of any size, and gives the frames that are whole.
 ///
 /// Contracts see how many bytes the frames given have, the place behind them (before Hello, or behind a Hello of so many
-/// steps), the bytes fed that belong to no frame given, and whether a bad frame was told. Bytes of frames given are let go,
-/// and each byte is copied a bounded number of times, however the stream is cut.
+/// steps), the bytes fed that belong to no frame given, whether a bad frame was told, and how many bytes are in memory.
+/// Bytes of frames given are let go, so that at no time more than half of the bytes in memory are of these, and each byte is
+/// copied a bounded number of times, however the stream is cut.
 #[derive(Drop)]
 pub struct Decoder {
     alloc: Global,
@@ -37,11 +39,12 @@ impl Model for Decoder {
 }
 
 /// Takes the first `start` bytes off where they are at least as many as the others, so that each byte is moved at most once
-/// for each byte taken off. The answer is where the others begin now.
+/// for each byte taken off. The answer is where the others begin now: in the first half of what is left.
 fn drop_given(buffer: &mut Vec<u8>, start: usize) -> usize
     requires { start ≤ vec_len buffer.old }
     ensures rest { drop result buffer.new.items ≡ drop start buffer.old.items }
     ensures within { result ≤ vec_len buffer.new }
+    ensures half { 2 * result ≤ vec_len buffer.new }
 {
     let left = buffer.len() - start;
     if start < left {
@@ -73,8 +76,8 @@ impl Decoder {
         requires { self.old.offset + length self.old.rest + length piece.now ≤ 4294967296 }
         ensures fed { OnOk result (self.new ≡ with_piece self.old piece.now) }
         ensures unchanged { OnErr result (self.new ≡ self.old) }
+        ensures little { HoldsLittle self.new }
     {
-        self.start = drop_given(&mut self.buffer, self.start);
         self.buffer.extend_from_slice(piece)
     }
 
@@ -100,13 +103,17 @@ impl Decoder {
 
         // A bad frame that was told once is told always.
         ensures always { self.old.refused ≡ true → result ≡ Err (DecodeFault.Bad self.old.offset) }
+
+        // The bytes of frames given are let go, and None leaves less than a frame.
+        ensures little { HoldsLittle self.new }
+        ensures short { IfOk result (λ next. IfNone next (length self.new.rest < frame_limit)) }
     {
         if self.refused {
             return Err(DecodeFault::Bad { at: self.offset });
         }
         match read_frame(self.alloc, self.steps, &self.buffer[self.start..])? {
             Reading::Whole { frame, size } => {
-                self.start += size;
+                self.start = drop_given(&mut self.buffer, self.start + size);
                 self.offset += size as u64;
                 if let Frame::Hello { basis } = &frame {
                     self.steps = Some(basis.steps());
@@ -126,5 +133,13 @@ impl Decoder {
         ensures { result ≡ length self.now.rest }
     {
         self.buffer.len() - self.start
+    }
+
+    /// How many bytes are in memory: those that belong to no frame given, and at most as many of frames given.
+    pub fn bytes_held(&self) -> usize
+        ensures count { result ≡ self.now.held }
+        ensures little { HoldsLittle self.now }
+    {
+        self.buffer.len()
     }
 }

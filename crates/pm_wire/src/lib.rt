@@ -4,12 +4,12 @@
 //! own. A [`Decoder`] takes the stream in pieces of any size and gives the frames that are whole, or the offset of the
 //! first bad one. A [`Server`] keeps the newest bid of each of up to 256 children and their running sum, clears the market
 //! when it is asked to, and appends the bytes of its answers. [`serve`] does both over a source and a sink of pm_io. Memory
-//! is bounded by a piece, a frame and the children, and not by the stream. The market is Kok's ("The PowerMatcher", 2013):
+//! is bounded by a piece, a frame and the children, and not by the stream (`Memory`). The market is Kok's ("The PowerMatcher", 2013):
 //! bids are demand functions, and the price is where their sum turns. The frames are this project's own profile.
 //!
 //! The definitions stand in `specs/`: `Frames` (the frames as bytes, which frame may stand where, and which is bad),
 //! `Decoding` (what a decoder keeps, and what its calls do), `Answers` (what is answered to a list of frames), `Streams`
-//! (what a service reads and writes, by how it ends).
+//! (what a service reads and writes, by how it ends), `Memory` (how many bytes it holds at a time).
 #![tactic(auto)]
 
 mod answer;

@@ -6,6 +6,7 @@ ghost use Rattle.pm_bid.specs.Bids.{AllWithinLimit};
 ghost use Rattle.pm_cache.specs.Learning.{offered};
 ghost use Rattle.pm_wire.specs.Frames.{MayStand};
 ghost use Rattle.pm_wire.specs.Answers.{open_market, after_entry, after_clear, receipt, price_for, prices, reply_bytes, answers_to, market_after};
+ghost use Rattle.pm_wire.specs.Memory.{reply_limit};
 ghost use Rattle.pm_wire.specs.ServerFields.{IsMarket};
 
 use crate::answer::Answer;
@@ -146,6 +147,7 @@ impl Market {
         ensures answered { OnOk result (out.new.items ≡ out.old.items ++ reply_bytes (answers_to (Some self.old) frame.now)) }
         ensures unchanged { OnErr result ((self.new ≡ self.old) × (out.new.items ≡ out.old.items)) }
         ensures sound { IsMarket self.new }
+        ensures few { OnOk result (length out.new.items ≤ length out.old.items + reply_limit) }
     {
         match frame {
             Frame::Bid {

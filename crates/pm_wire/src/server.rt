@@ -1,6 +1,8 @@
-ghost use Rattle.std.specs.Prelude.{◌≡◌, ◌<◌, ◌++◌, ◌^◌, IfSome, OnOk, OnErr, None};
+ghost use Rattle.std.specs.Prelude.{◌≡◌, ◌+◌, ◌<◌, ◌≤◌, ◌++◌, ◌^◌, length, IfSome, OnOk, OnErr, None};
+ghost use Rattle.pm_base.specs.Limits.{most_nodes};
 ghost use Rattle.pm_wire.specs.Frames.{MayStand};
 ghost use Rattle.pm_wire.specs.Answers.{market_after, answers_to, reply_bytes, place_known};
+ghost use Rattle.pm_wire.specs.Memory.{reply_limit};
 
 use crate::frame::Frame;
 use crate::market::Market;
@@ -49,6 +51,10 @@ impl Server {
         ensures answered { OnOk result (out.new.items ≡ out.old.items ++ reply_bytes (answers_to self.old frame.now)) }
         ensures unchanged { OnErr result (self.new ≡ self.old) }
         ensures nothing_appended { OnErr result (out.new.items ≡ out.old.items) }
+
+        // What is in memory: the answers to a frame are few bytes, and the market has an entry for each child.
+        ensures few { length out.new.items ≤ length out.old.items + reply_limit }
+        ensures children { IfSome self.new (λ market. length market.cache.heads ≡ most_nodes) }
     {
         if let Some(market) = &mut self.market {
             return market.take(frame, out);

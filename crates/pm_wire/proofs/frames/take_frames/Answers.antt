@@ -1,8 +1,9 @@
-use Rattle.std.proofs.Common.{arith, ◌∙◌, sym, subst, Option, ℕ}
+use Rattle.std.proofs.Common.{arith, ◌∙◌, sym, ap, subst, length, Option, ℕ}
 use Rattle.std.proofs.lemmas.Result.{err_from_is_err_and}
 use Rattle.std.proofs.lemmas.Grind.{common_steps}
 use Rattle.pm_wire.specs.Frames.{MayStand}
 use Rattle.pm_wire.proofs.Taking.{takes_more, agrees_more, takes_length, few_clearings, takes_refused, bad_refused}
+use Rattle.pm_wire.proofs.Replies.{answers_paid}
 use Rattle.pm_wire.proofs.frames.take_frames.Goals as goal
 
 pub returns-in_err-frame-clause-bad : goal.returns-in_err-frame-clause-bad
@@ -31,18 +32,31 @@ take-requires-clause-clearings c =
 pub loop-frame-preserved : goal.loop-frame-preserved
 loop-frame-preserved c =
     let taken = c.loop-frame.invariant.taken in
+    let gives = rw c.in-Some.is at c.in_ok-frame.ensures.given in
     record {
-      taken = takes_more taken.0 c.in-Some.frame _ _ _ _ _ _ taken.1 _ _ _ taken.2 (rw c.in-Some.is at c.in_ok-frame.ensures.given)
+      taken = takes_more taken.0 c.in-Some.frame _ _ _ _ _ _ taken.1 _ _ _ taken.2 gives
           c.in_ok-take.ensures.taken taken.3 c.in_ok-take.ensures.answered;
+      answers = answers_paid _ _ _ _ _ _ _ gives c.in_ok-take.ensures.few c.loop-frame.invariant.answers;
     }
 
 pub loop-frame-preserved-in_ok-take : goal.loop-frame-preserved-in_ok-take
 loop-frame-preserved-in_ok-take c =
     let taken = c.loop-frame.invariant.taken in
+    let gives = rw c.in-Some.is at c.in_ok-frame.ensures.given in
     record {
-      taken = takes_more taken.0 c.in-Some.frame _ _ _ _ _ _ taken.1 _ _ _ taken.2 (rw c.in-Some.is at c.in_ok-frame.ensures.given)
+      taken = takes_more taken.0 c.in-Some.frame _ _ _ _ _ _ taken.1 _ _ _ taken.2 gives
           c.in_ok-take.ensures.taken taken.3 c.in_ok-take.ensures.answered;
+      answers = answers_paid _ _ _ _ _ _ _ gives c.in_ok-take.ensures.few c.loop-frame.invariant.answers;
     }
 
 pub loop-frame-smaller-in_ok-take : goal.loop-frame-smaller-in_ok-take
 loop-frame-smaller-in_ok-take c = grind (arith, common_steps)
+
+pub returns-in_err-frame-clause-answers : goal.returns-in_err-frame-clause-answers
+returns-in_err-frame-clause-answers c = omega (arith, c.loop-frame.invariant.answers)
+
+pub returns-in_err-take-clause-answers : goal.returns-in_err-take-clause-answers
+returns-in_err-take-clause-answers c = omega (arith, ap length c.in_err-take.ensures.nothing_appended, c.loop-frame.invariant.answers)
+
+pub returns-clause-answers : goal.returns-clause-answers
+returns-clause-answers c = omega (arith, c.loop-frame.invariant.answers)

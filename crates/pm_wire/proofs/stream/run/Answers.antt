@@ -64,6 +64,8 @@ loop-taken-preserved g c =
           (not_failed _ c.flush.result succeeds c.flush.ensures.all);
       within = omega (arith, c.in-Ok.ensures.bound.0);
       empty = not_failed _ c.flush.result succeeds c.flush.ensures.empty;
+      rest = c.in-Ok-take_piece.ensures.rest;
+      held = c.in-Ok-take_piece.ensures.held;
       source_count = omega (arith, kept.source_count, c.in-Ok.ensures.cause.later);
       sink_count = omega (arith, kept.sink_count, c.flush.ensures.count);
     }

@@ -1,4 +1,5 @@
-use Rattle.std.proofs.Common.{◌≡◌, ◌≤◌, ◌-◌, ◌+◌, []}
+use Rattle.std.proofs.Common.{◌≡◌, ◌<◌, ◌≤◌, ◌-◌, ◌+◌, [], length}
+use Rattle.pm_wire.specs.Memory.{frame_limit, rest_limit}
 use Rattle.pm_wire.specs.Streams.{Serving}
 use Rattle.pm_wire.proofs.stream.run.Given as goal
 
@@ -8,6 +9,8 @@ invariant-loop-taken g l = record {
       l.server l.taken;
   within : l.taken ≤ 1073741824 + 16384;
   empty : l.out.items ≡ [];
+  rest : length l.decoder.rest < frame_limit;
+  held : l.decoder.held < rest_limit;
   source_count : g.S.Source.faults l.initial.source ≤ g.S.Source.faults l.source;
   sink_count : g.K.Sink.faults l.initial.sink ≤ g.K.Sink.faults l.sink;
 }

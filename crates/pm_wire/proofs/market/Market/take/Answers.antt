@@ -3,6 +3,7 @@ use Rattle.std.proofs.lemmas.Grind.{common_steps}
 use Rattle.pm_wire.specs.declared.frame.Frame.{Frame}
 use Rattle.pm_wire.specs.Frames.{IsAccepted}
 use Rattle.pm_wire.proofs.Markets.{accepted_small}
+use Rattle.pm_wire.proofs.Replies.{clear_few, longer_by_few}
 use Rattle.pm_wire.proofs.market.Market.take.Goals as goal
 
 pub count-requires-clause-small : goal.count-requires-clause-small
@@ -12,3 +13,7 @@ count-requires-clause-small c =
 
 pub count-requires-in-Gone-clause-steps : goal.count-requires-in-Gone-clause-steps
 count-requires-in-Gone-clause-steps c = grind (arith, common_steps)
+
+pub returns-in-Clear-clause-few : goal.returns-in-Clear-clause-few
+returns-in-Clear-clause-few c =
+    longer_by_few c.clear.result _ _ _ c.clear.ensures.answered (clear_few c.args.self.now c.requires.sound.children)
