@@ -1,0 +1,223 @@
+#!/usr/bin/env python3
+"""Which goal each must-fail edit leaves open, and where its refusal comes from.
+
+    python3 checks/edits.py [CRATE ..]       tries the edits of these crates, of all where none is named
+    python3 checks/edits.py --log FILE       reads what `rt must-fail` or `rt ci` wrote
+    python3 checks/edits.py --self-test      reads fixed lines, and compares docs/EDITS.md with the edits that there are
+
+It prints a row of a table for each edit and ends with 'N passed, M failed'. An edit fails where it was not refused, where
+it is a bad edit, and where it is refused only because a proof names what it took away. An answer that does not fit is no
+proof that a goal is false: a right rewriting can leave one too. docs/EDITS.md says for each edit which clause is false.
+"""
+
+import re
+import subprocess
+import sys
+from collections.abc import Iterable, Iterator
+from dataclasses import dataclass
+from pathlib import Path
+
+TOP = Path(__file__).resolve().parent.parent
+TABLE = TOP / "docs" / "EDITS.md"
+
+# Where a refusal comes from.
+SOURCE = "a goal of the source"
+ANSWER = "an answer that does not fit"
+LEMMA = "a lemma that does not fit"
+UNSAID = "not told"
+GONE = "only a name that is gone"
+PROVED = "not refused"
+BAD = "a bad edit"
+FAILURES = (GONE, PROVED, BAD)
+
+LINE = re.compile(r"(?:rt: )?must-fail (\w+)/([\w.-]+)\.edit: (.*)")
+# A file in must-fail/ that is no edit, which only `rt ci` tells.
+STRAY = re.compile(r"(?:rt: )?crates/(\w+)/must-fail/(\S+): BAD EDIT: ")
+REFUSED = "refused, as it must be"
+NOTE = re.compile(r"(?:note: )?(?:\./)?(\S+?):(\d+):\d+: (?:error: )?(.*)")
+# The files that answer the goals of one function.
+OF_FUNCTION = re.compile(r"proofs/(.+)/(?:Answers|Invariants|Proof)\.antt")
+ROW = re.compile(r"\| `(\w+)` \| `([\w.-]+)` \| (.+) \| (.+) \|")
+
+
+@dataclass(frozen=True)
+class Edit:
+    """What came of one edit: the goal that is left open, and where the refusal comes from."""
+
+    crate: str
+    name: str
+    goal: str
+    origin: str
+
+    def row(self) -> str:
+        return f"| `{self.crate}` | `{self.name}` | {self.goal} | {self.origin} |"
+
+
+def function_at(path: str) -> str:
+    """The function whose proof stands at a path: `Basis::price` of basis/Basis/price."""
+    *owners, name = path.split("/")
+    owner = f"{owners[-1]}::" if owners and owners[-1][:1].isupper() else ""
+    return f"{owner}{name}"
+
+
+def goal_of(note: str) -> tuple[str, str]:
+    """The goal that a note tells, and where the refusal comes from."""
+    found = NOTE.match(note)
+    if not found:
+        return "", UNSAID
+    file, line, said = found.groups()
+    quoted = re.search(r"`([^`]+)`", said)
+    goal = f"`{quoted[1]}`" if quoted else "a goal"
+    if file.startswith("src/"):
+        # The name of the goal stands in brackets, and may be cut off.
+        named = re.search(r"\(`([^`]+)`\)", said)
+        return f"{f'`{named[1]}`' if named else 'a goal'} at `{file}:{line}`", SOURCE
+    of_function = OF_FUNCTION.fullmatch(file)
+    if of_function:
+        return f"{goal} of `{function_at(of_function[1])}`", ANSWER
+    return f"{goal} in `{file}`", LEMMA
+
+
+def read_line(line: str) -> Edit | None:
+    """What a line says of an edit; None of any other line."""
+    stray = STRAY.match(line)
+    if stray:
+        return Edit(stray[1], stray[2], "", BAD)
+    found = LINE.match(line)
+    if not found:
+        return None
+    crate, name, said = found.groups()
+    if said.startswith("NOT REFUSED"):
+        return Edit(crate, name, "", PROVED)
+    if not said.startswith(REFUSED):
+        return Edit(crate, name, "", BAD)
+    rest = said.removeprefix(REFUSED)
+    if rest.startswith(" (only because"):
+        return Edit(crate, name, goal_of(rest.partition("): ")[2])[0], GONE)
+    goal, origin = goal_of(rest.removeprefix(": "))
+    return Edit(crate, name, goal, origin)
+
+
+def tried(crates: list[str]) -> Iterator[str]:
+    """The lines of `rt must-fail` on these crates."""
+    with subprocess.Popen(["rt", "must-fail", *crates], cwd=TOP, stdout=subprocess.PIPE, text=True, errors="replace") as ran:
+        assert ran.stdout
+        yield from ran.stdout
+
+
+def print_table(lines: Iterable[str]) -> int:
+    """Prints the table of what the lines say, and returns the status."""
+    print("| Crate | Edit | Goal that is left open | Refused by |\n|---|---|---|---|")
+    read: set[Edit] = set()
+    for line in lines:
+        edit = read_line(line.rstrip("\n"))
+        if edit and edit not in read:
+            print(edit.row(), flush=True)
+            read.add(edit)
+    failed = sum(it.origin in FAILURES for it in read)
+    print(f"{len(read) - failed} passed, {failed} failed")
+    return 1 if failed or not read else 0
+
+
+# Lines as rt writes them, and what is read of them.
+KNOWN = [
+    (
+        "rt: must-fail pm_basis/wrong.edit: refused, as it must be: ./proofs/basis/Basis/price/Answers.antt:43:26: error: "
+        "`returns-clause-price`: as printed, the two types first differ where one has `Prim",
+        Edit("pm_basis", "wrong", "`returns-clause-price` of `Basis::price`", ANSWER),
+    ),
+    (
+        "must-fail pm_io/wrong.edit: refused, as it must be: ./proofs/all/write_all/Invariants.antt:11:17: error: "
+        "`loop-written-preserved`: `rw`: no part of the goal",
+        Edit("pm_io", "wrong", "`loop-written-preserved` of `write_all`", ANSWER),
+    ),
+    (
+        "rt: must-fail pm_basis/wrong.edit: refused, as it must be: note: src/basis.rt:87:5: it is not proved that what the "
+        "function ensures holds when it returns (`returns-clause-from_min`); `search`",
+        Edit("pm_basis", "wrong", "`returns-clause-from_min` at `src/basis.rt:87`", SOURCE),
+    ),
+    (
+        "rt: must-fail pm_basis/wrong.edit: refused, as it must be: src/basis.rt:87:5: error: it is not proved that `a` fits",
+        Edit("pm_basis", "wrong", "a goal at `src/basis.rt:87`", SOURCE),
+    ),
+    (
+        "rt: must-fail pm_bid/wrong.edit: refused, as it must be: ./proofs/Sums.antt:9:1: error: `sum_rises`: no proof",
+        Edit("pm_bid", "wrong", "`sum_rises` in `proofs/Sums.antt`", LEMMA),
+    ),
+    ("rt: must-fail pm_bid/wrong.edit: refused, as it must be", Edit("pm_bid", "wrong", "", UNSAID)),
+    (
+        "rt: must-fail pm_bid/wrong.edit: refused, as it must be (only because a proof file names what the edit took away, so "
+        "this says little of the contract: change a value and keep the names): ./proofs/head/new/Answers.antt:3:4: error: "
+        "`returns-clause-new`: `c.head` has no field `gone`",
+        Edit("pm_bid", "wrong", "`returns-clause-new` of `new`", GONE),
+    ),
+    (
+        "rt: must-fail pm_bid/wrong.edit: NOT REFUSED: the crate is still proved with this edit",
+        Edit("pm_bid", "wrong", "", PROVED),
+    ),
+    (
+        "rt: must-fail pm_bid/wrong.edit: BAD EDIT: an 'old:' text is in src/head.rt 2 times, and not once",
+        Edit("pm_bid", "wrong", "", BAD),
+    ),
+    (
+        "rt: crates/pm_bid/must-fail/notes.txt: BAD EDIT: an edit stands right in must-fail/, and its name is of letters",
+        Edit("pm_bid", "notes.txt", "", BAD),
+    ),
+    ("rt: pm_bid: trying its must-fail edits (9)", None),
+    ("fn pm_bid::head::new: proved", None),
+]
+
+
+def crates() -> list[str]:
+    """The crates of crates.txt, in its order."""
+    text = (TOP / "crates.txt").read_text()
+    return re.findall(r"(?m)^(\w+):", text)
+
+
+def misreadings() -> Iterator[str]:
+    """The fixed lines that are not read as they should be."""
+    for line, wanted in KNOWN:
+        if read_line(line) != wanted:
+            yield f"read as {read_line(line)}, and not as {wanted}: {line}"
+
+
+def unlisted() -> Iterator[str]:
+    """Where docs/EDITS.md has not just the edits that there are, in the order of crates.txt and of their names."""
+    files = [(it, path.stem) for it in crates() for path in sorted((TOP / "crates" / it / "must-fail").glob("*.edit"))]
+    listed = [(crate, name) for crate, name, _, _ in ROW.findall(TABLE.read_text())]
+    for crate, name in files:
+        if (crate, name) not in listed:
+            yield f"docs/EDITS.md has no row of {crate}/{name}.edit"
+    for crate, name in listed:
+        if (crate, name) not in files:
+            yield f"docs/EDITS.md has a row of {crate}/{name}.edit, which is none"
+    if sorted(files) == sorted(listed) and files != listed:
+        yield "the rows of docs/EDITS.md are not in the order of crates.txt and of the names"
+
+
+def test_self() -> int:
+    """Runs both comparisons, and returns the status."""
+    passed, failed = 0, 0
+    for check in (misreadings, unlisted):
+        findings = list(check())
+        for it in findings:
+            print(it)
+        failed += len(findings)
+        passed += not findings
+    print(f"{passed} passed, {failed} failed")
+    return 1 if failed else 0
+
+
+def main(words: list[str]) -> int:
+    if words == ["--self-test"]:
+        return test_self()
+    if len(words) == 2 and words[0] == "--log":
+        return print_table(Path(words[1]).read_text(errors="replace").splitlines())
+    if any(it not in crates() for it in words):
+        print(__doc__, file=sys.stderr)
+        return 2
+    return print_table(tried(words))
+
+
+if __name__ == "__main__":
+    sys.exit(main(sys.argv[1:]))
