@@ -6,8 +6,9 @@
     python3 checks/edits.py --self-test      reads fixed lines, and compares docs/EDITS.md with the edits that there are
 
 It prints a row of a table for each edit and ends with 'N passed, M failed'. An edit fails where it was not refused, where
-it is a bad edit, and where it is refused only because a proof names what it took away. An answer that does not fit is no
-proof that a goal is false: a right rewriting can leave one too. docs/EDITS.md says for each edit which clause is false.
+it is a bad edit, where it is refused only because a proof names what it took away, and where docs/EDITS.md names a clause of
+another function. An answer that does not fit is no proof that a goal is false: a right rewriting can leave one too. So that
+page says for each edit which clause is false, and where.
 """
 
 import re
@@ -98,6 +99,18 @@ def read_line(line: str) -> Edit | None:
     return Edit(crate, name, goal, origin)
 
 
+def listed() -> list[tuple[str, str, str, str]]:
+    """The rows of docs/EDITS.md."""
+    return ROW.findall(TABLE.read_text())
+
+
+def is_of_another(goal: str, clause: str) -> bool:
+    """Whether a goal is of no function that the clause of a row names. The owner of a method is left out, since the proof of a
+    trait's method stands under a name that has the trait's too."""
+    of_goal = re.search(r" of `(?:\w+::)?(\w+)`", goal)
+    return bool(of_goal and clause) and of_goal[1] not in re.findall(r"`(?:\w+::)?(\w+)`", clause)
+
+
 def tried(crates: list[str]) -> Iterator[str]:
     """The lines of `rt must-fail` on these crates."""
     with subprocess.Popen(["rt", "must-fail", *crates], cwd=TOP, stdout=subprocess.PIPE, text=True, errors="replace") as ran:
@@ -114,7 +127,11 @@ def print_table(lines: Iterable[str]) -> int:
         if edit and edit not in read:
             print(edit.row(), flush=True)
             read.add(edit)
-    failed = sum(it.origin in FAILURES for it in read)
+    clauses = {(crate, name): clause for crate, name, clause, _ in listed()}
+    others = [it for it in read if is_of_another(it.goal, clauses.get((it.crate, it.name), ""))]
+    for it in others:
+        print(f"docs/EDITS.md names a clause of another function than {it.goal}: {it.crate}/{it.name}.edit")
+    failed = len({it for it in read if it.origin in FAILURES}.union(others))
     print(f"{len(read) - failed} passed, {failed} failed")
     return 1 if failed or not read else 0
 
@@ -174,24 +191,38 @@ def crates() -> list[str]:
     return re.findall(r"(?m)^(\w+):", text)
 
 
+# Goals, clauses of rows, and whether the goal is of another function.
+COMPARED = [
+    ("`returns-clause-price` of `Basis::price`", "`price` of `Basis::price`", False),
+    ("`returns-clause-bound` of `MemSinkSink::write`", "`bound` of `MemSink::write`", False),
+    ("`pass_to_last-requires-clause-childless` of `Market::pass`", "`childless` of `pass_to_last`, called by `Market::pass`", False),
+    ("`returns-clause-price` of `Basis::price`", "the clause of `Basis::new`", True),
+    ("`sum_rises` in `proofs/Sums.antt`", "the clause of `add_each`", False),
+    ("`returns` of `rise`", "", False),
+]
+
+
 def misreadings() -> Iterator[str]:
     """The fixed lines that are not read as they should be."""
     for line, wanted in KNOWN:
         if read_line(line) != wanted:
             yield f"read as {read_line(line)}, and not as {wanted}: {line}"
+    for goal, clause, wanted in COMPARED:
+        if is_of_another(goal, clause) != wanted:
+            yield f"{goal} is {'' if wanted else 'not '}of another function than {clause or 'no clause'}"
 
 
 def unlisted() -> Iterator[str]:
     """Where docs/EDITS.md has not just the edits that there are, in the order of crates.txt and of their names."""
     files = [(it, path.stem) for it in crates() for path in sorted((TOP / "crates" / it / "must-fail").glob("*.edit"))]
-    listed = [(crate, name) for crate, name, _, _ in ROW.findall(TABLE.read_text())]
+    rows = [(crate, name) for crate, name, _, _ in listed()]
     for crate, name in files:
-        if (crate, name) not in listed:
+        if (crate, name) not in rows:
             yield f"docs/EDITS.md has no row of {crate}/{name}.edit"
-    for crate, name in listed:
+    for crate, name in rows:
         if (crate, name) not in files:
             yield f"docs/EDITS.md has a row of {crate}/{name}.edit, which is none"
-    if sorted(files) == sorted(listed) and files != listed:
+    if sorted(files) == sorted(rows) and files != rows:
         yield "the rows of docs/EDITS.md are not in the order of crates.txt and of the names"
 
 
