@@ -6,9 +6,9 @@
     python3 checks/edits.py --self-test      reads fixed lines, and compares docs/EDITS.md with the edits that there are
 
 It prints a row of a table for each edit and ends with 'N passed, M failed'. An edit fails where it was not refused, where
-it is a bad edit, where it is refused only because a proof names what it took away, and where docs/EDITS.md names a clause of
-another function. An answer that does not fit is no proof that a goal is false: a right rewriting can leave one too. So that
-page says for each edit which clause is false, and where.
+it is a bad edit, where no more is told than that a proof names what it took away or hangs on one that was rejected, and
+where docs/EDITS.md names a clause of another function. An answer that does not fit is no proof that a goal is false: a right
+rewriting can leave one too. So that page says for each edit which clause is false, and where.
 """
 
 import re
@@ -27,9 +27,10 @@ ANSWER = "an answer that does not fit"
 LEMMA = "a lemma that does not fit"
 UNSAID = "not told"
 GONE = "only a name that is gone"
+HANGS = "only what hangs on a rejected proof"
 PROVED = "not refused"
 BAD = "a bad edit"
-FAILURES = (GONE, PROVED, BAD)
+FAILURES = (GONE, HANGS, PROVED, BAD)
 
 LINE = re.compile(r"(?:rt: )?must-fail (\w+)/([\w.-]+)\.edit: (.*)")
 # A file in must-fail/ that is no edit, which only `rt ci` tells.
@@ -68,6 +69,7 @@ def goal_of(note: str) -> tuple[str, str]:
         return "", UNSAID
     file, line, said = found.groups()
     quoted = re.search(r"`([^`]+)`", said)
+    hangs = re.match(r"\d+ declarations? that depends? on ", said)
     goal = f"`{quoted[1]}`" if quoted else "a goal"
     if file.startswith("src/"):
         # The name of the goal stands in brackets, and may be cut off.
@@ -75,8 +77,8 @@ def goal_of(note: str) -> tuple[str, str]:
         return f"{f'`{named[1]}`' if named else 'a goal'} at `{file}:{line}`", SOURCE
     of_function = OF_FUNCTION.fullmatch(file)
     if of_function:
-        return f"{goal} of `{function_at(of_function[1])}`", ANSWER
-    return f"{goal} in `{file}`", LEMMA
+        return f"{goal} of `{function_at(of_function[1])}`", HANGS if hangs else ANSWER
+    return f"{goal} in `{file}`", HANGS if hangs else LEMMA
 
 
 def read_line(line: str) -> Edit | None:
@@ -160,6 +162,11 @@ KNOWN = [
     (
         "rt: must-fail pm_bid/wrong.edit: refused, as it must be: ./proofs/Sums.antt:9:1: error: `sum_rises`: no proof",
         Edit("pm_bid", "wrong", "`sum_rises` in `proofs/Sums.antt`", LEMMA),
+    ),
+    (
+        "rt: must-fail pm_top/wrong.edit: refused, as it must be: ./proofs/top/file/Answers.antt:29:5: error: 2 declarations that "
+        "depend on `is_due`, which was rejected, were not checked",
+        Edit("pm_top", "wrong", "`is_due` of `file`", HANGS),
     ),
     ("rt: must-fail pm_bid/wrong.edit: refused, as it must be", Edit("pm_bid", "wrong", "", UNSAID)),
     (
