@@ -1,5 +1,5 @@
 -- A part of the cluster with limits on its power: what it announces, and the step of the nodes below it.
-use Rattle.std.specs.Prelude.{ℕ, ℤ, int_lt, if◌then◌else◌, List, Option, Some, None}
+use Rattle.std.specs.Prelude.{ℕ, ◌<◌, ℤ, ◌≤ℤ◌, int_lt, if◌then◌else◌, List, length, Option, Some, None}
 use Rattle.pm_base.specs.declared.limits.Limits.{Limits}
 use Rattle.pm_bid.specs.Bids.{demand_at, clamped}
 use Rattle.pm_bid.specs.Clearing.{first_at_most, last_at_least}
@@ -22,3 +22,7 @@ step_within limits k sum =
 abbrev pub local_step : Option Limits → ℕ → List ℤ → ℕ
 local_step None k sum = k
 local_step (Some limits) k sum = step_within limits k sum
+
+-- no demand of a sum lies outside the limits, which do not bind it then
+abbrev pub NeverBind : Limits → List ℤ → Type 0
+NeverBind limits sum = (step : ℕ) → step < length sum → (limits.floor ≤ℤ demand_at sum step) × (demand_at sum step ≤ℤ limits.ceiling)

@@ -9,7 +9,8 @@ use Rattle.pm_plan.specs.Kept.{IsPlan}
 use Rattle.pm_plan.specs.Plans.{PlanData}
 use Rattle.pm_plan.specs.Market.{plan_lists}
 use Rattle.pm_stands.specs.Core.{child_at}
-use Rattle.pm_stands.proofs.Places.{placed, child_node, child_in_place}
+use Rattle.pm_plan.proofs.MarketLists.{child_node}
+use Rattle.pm_stands.proofs.Places.{placed, child_in_place}
 
 -- the node in a place of a list
 abbrev pub item : List NodeId → ℕ → ℕ
@@ -31,7 +32,7 @@ child_read plan is_plan entries items y k tree listed lt =
     let all : id_numbers items ≡ children_of plan.entries y = listed ∙ ap (λ e. children_of e y) tree in
     let read : item items k ≡ child_at plan y k =
     sym (get_or-map (λ (node : NodeId). node.0) items k (record { 0 = 0 }) 0 lt) ∙ ap (λ (l : List ℕ). get_or l k 0) all in
-    let at = child_node plan is_plan y k (omega (arith, lt, length-map items (λ (node : NodeId). node.0), ap length all)) in
+    let at = child_node plan y k (omega (arith, lt, length-map items (λ (node : NodeId). node.0), ap length all)) in
     record {
       at = read;
       node = subst (λ (x : ℕ). IsNode (plan_lists plan) x) (sym read) at.0;

@@ -22,7 +22,7 @@ use Rattle.pm_offer.proofs.Steps.{demand_is}
 use Rattle.pm_stands.specs.Current.{kept_power}
 use Rattle.pm_stands.specs.Made.{DidClose, closed_core}
 use Rattle.pm_stands.specs.Stands.{MakesMove}
-use Rattle.pm_stands.proofs.Alike.{local_alike}
+use Rattle.pm_offer.proofs.Alike.{local_alike}
 use Rattle.pm_stands.proofs.Closing.{close_made}
 use Rattle.pm_stands.proofs.QuietPowers.{power_current}
 use Rattle.pm_stands.proofs.MoveLaws.{quiet_is_idle}

@@ -19,10 +19,9 @@ use Rattle.pm_walk.specs.Parts.{members_to, limited_to}
 use Rattle.pm_offer.specs.Offers.{children_sum}
 use Rattle.pm_offer.proofs.Offers.{limited_sum}
 use Rattle.pm_offer.proofs.Steps.{no_member}
-use Rattle.pm_stands.proofs.Alike.{total_alike, plain_alike, group_step_alike}
+use Rattle.pm_offer.proofs.Alike.{sum_alike, total_alike, plain_alike, group_step_alike}
 use Rattle.pm_stands.proofs.Caches.{cache_root}
 use Rattle.pm_stands.proofs.Demands.{demands_are}
-use Rattle.pm_stands.proofs.Passing.{sum_alike}
 use Rattle.pm_stands.specs.Core.{Core, node_cache}
 use Rattle.pm_stands.specs.Stands.{StandsFor}
 use Rattle.pm_cluster.proofs.ClosesLegally.{power_alike}

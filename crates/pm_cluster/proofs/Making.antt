@@ -29,11 +29,12 @@ use Rattle.pm_plan.proofs.MarketLists.{phases-is}
 use Rattle.pm_offer.specs.Offers.{device_demand}
 use Rattle.pm_stands.specs.Core.{Core, link_at, seat_at}
 use Rattle.pm_stands.specs.Rows.{OneLink}
-use Rattle.pm_stands.specs.Stands.{is_gone, StandsFor, Stands, MakesMove}
+use Rattle.pm_laws.specs.Gone.{is_gone}
+use Rattle.pm_stands.specs.Stands.{StandsFor, Stands, MakesMove}
 use Rattle.pm_stands.specs.Made.{bid_demand, seat_after, DidChange, changed_core}
 use Rattle.pm_plan.proofs.MarketLists.{lawful}
 use Rattle.pm_stands.proofs.Places.{at_node, from_node}
-use Rattle.pm_stands.proofs.Gone.{gone_leaf}
+use Rattle.pm_laws.proofs.Gone.{gone_leaf}
 use Rattle.pm_stands.proofs.Changing.{change_did}
 use Rattle.pm_cluster.specs.Next.{count_of, IsNext}
 use Rattle.pm_cluster.proofs.NextChanges.{end_of_market, member_of_market, demand_of_member, demand_of_none}

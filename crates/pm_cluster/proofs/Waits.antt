@@ -12,7 +12,8 @@ use Rattle.pm_plan.specs.Market.{plan_lists}
 use Rattle.pm_stands.specs.Core.{Core, child_at, row_at, link_at, uplink_of, concentrator_of}
 use Rattle.pm_stands.specs.Quiet.{IsQuiet}
 use Rattle.pm_stands.specs.Rows.{CannotPublish}
-use Rattle.pm_stands.proofs.Places.{placed, child_node, at_node, from_node}
+use Rattle.pm_plan.proofs.MarketLists.{child_node}
+use Rattle.pm_stands.proofs.Places.{placed, at_node, from_node}
 use Rattle.pm_cluster.specs.Waiting.{NoBids, NothingToSend, NoPrice, IsTaken, NothingBelow, IsAtRest}
 
 -- no bid waits exactly where the bid that was offered last was taken
@@ -57,7 +58,7 @@ all_rest_is plan c is_plan = (
   },
   λ quiet x inside. record {
     below = λ k lt.
-        let at = child_node plan is_plan x k lt in
+        let at = child_node plan x k lt in
         let z : ℕ = child_at plan x k in
         from_node plan z x k (λ (i j : ℕ). IsTaken (link_at c.links i j)) (sym at.1) (sym at.2)
         (record { bid = quiet.bids z at.0; price = quiet.prices z at.0 });

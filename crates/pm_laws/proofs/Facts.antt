@@ -212,3 +212,16 @@ number_rises lists law s sound c i j node inner h le =
 pub window_of : (lists : Lists) (s : State) (c : ℕ) (cut : Cut) → IsInner lists c →
     newest lists s c - number lists s c cut ≡ length (s.published c) - greatest_number lists (s.published c) c cut (length (s.published c))
 window_of lists s c cut inner = omega (arith, newest_inner lists s.counts s.published c inner, number_inner lists s.published c cut inner)
+
+-- what stands among the indices passed to a node is at most the last
+pub contains_within : (lists : Lists) (s : State) → Sound lists s → (x i : ℕ) → Contains (s.passed x) i → i ≤ last s x
+contains_within lists s sound x i c =
+    omega (arith, last_most (s.passed x) (λ a b lt le. sound.passed_rise x a b lt le) c.0 c.1, get_or_default (s.passed x) c.0 0 i c.1 ∙ c.2)
+
+-- an index that came to a concentrator is at most the last passed to it
+pub came_last : (lists : Lists) (s : State) → Sound lists s → (y i : ℕ) → 1 ≤ y → Reached s y i → i ≤ last s y
+came_last lists s sound y i one came =
+    elim came [
+      | inl w ↦ absurd (omega (arith, w.0))
+      | inr among ↦ contains_within lists s sound y i among
+    ]

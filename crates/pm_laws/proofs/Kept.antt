@@ -482,3 +482,11 @@ sound_after_from lists law (m ∷ ms) s sound legal = sound_after_from lists law
 -- the state after a legal journal is sound
 pub sound_after : (lists : Lists) → Lawful lists → (journal : List Move) → LegalJournal lists journal → Sound lists (after lists journal)
 sound_after lists law journal legal = sound_after_from lists law journal start (sound_start lists law) legal
+
+-- at the start no node has a number
+pub newest_zero : (lists : Lists) (x : ℕ) → newest lists start x ≡ 0
+newest_zero lists x =
+    elim (cases_Bool (is_leaf lists x)) [
+      | inl leaf ↦ newest_leaf lists start.counts start.published x leaf
+      | inr inner ↦ newest_inner lists start.counts start.published x inner
+    ]

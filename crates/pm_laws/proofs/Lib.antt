@@ -14,3 +14,5 @@ pub mod Examples
 pub mod Published
 pub mod Learnt
 pub mod MoveLaws
+pub mod Gone
+pub mod Passes

@@ -1,7 +1,6 @@
 -- Journals: what stands in a list stays there, and no device goes back.
-use Rattle.std.proofs.Common.{◌≡◌, ℕ, ◌<◌, ◌≤◌, List, [], ◌∷◌, ◌++◌, length, refl, sym, ◌∙◌, ap, subst, arith}
+use Rattle.std.proofs.Common.{◌≡◌, ℕ, ◌<◌, ◌≤◌, List, [], ◌∷◌, ◌++◌, length, refl, sym, ◌∙◌, ap, subst, inl, inr, arith}
 use Rattle.std.specs.List.{Contains}
-use Rattle.std.proofs.lemmas.List.{get_or_default}
 use Rattle.pm_market.specs.Lists.{Lists, IsLeaf, Lawful}
 use Rattle.pm_market.specs.State.{State, start, known, last, clearings, cleared}
 use Rattle.pm_market.specs.Moves.{step, after_from, LegalFrom, after, LegalJournal}
@@ -9,7 +8,7 @@ use Rattle.pm_market.specs.Sound.{Sound}
 use Rattle.pm_market.specs.declared.moves.Move.{Move}
 use Rattle.pm_market.specs.declared.moves.Move.TheVariants.{Change, Learn, Publish, Clear, Pass, Close}
 use Rattle.pm_market.proofs.Cuts.{pushed_same, pushed_length_le, pushed_cut_at_kept}
-use Rattle.pm_laws.proofs.Facts.{pushed_contains, contains_last, last_most, cleared_within}
+use Rattle.pm_laws.proofs.Facts.{pushed_contains, contains_last, contains_within, last_cases, cleared_within}
 use Rattle.pm_laws.proofs.Kept.{sound_start, sound_step, sound_after_from}
 
 -- the state after two lists of moves in a row is that of the second from where the first ends
@@ -68,9 +67,14 @@ cleared_stays lists (m ∷ ms) s j h =
     let rest = cleared_stays lists ms (step lists s m) j one.0 in
     (rest.0, rest.1 ∙ one.1)
 
-contains_at_most : (s : State) (lists : Lists) → Sound lists s → (x j : ℕ) → Contains (s.passed x) j → j ≤ last s x
-contains_at_most s lists sound x j c =
-    omega (arith, sym (get_or_default (s.passed x) c.0 j 0 c.1) ∙ c.2, last_most (s.passed x) (sound.passed_rise x) c.0 c.1)
+-- the index passed to a node last never falls
+pub last_rises : (lists : Lists) → Lawful lists → (moves : List Move) (s : State) → Sound lists s → LegalFrom lists s moves → (x : ℕ) →
+    last s x ≤ last (after_from lists s moves) x
+last_rises lists law moves s sound legal x = elim (last_cases (s.passed x)) [
+  | inl none ↦ omega (arith, none.1)
+  | inr came ↦ contains_within lists (after_from lists s moves) (sound_after_from lists law moves s sound legal) x (last s x)
+      (passed_stays lists moves s x (last s x) came)
+]
 
 -- of two indices passed to a node the cut of the lower is within that of the greater
 pub passed_cuts : (lists : Lists) → Lawful lists → (s : State) → Sound lists s → (x i j : ℕ) → Contains (s.passed x) i →
@@ -97,7 +101,7 @@ two_passes lists law mid rest s sound x i j legal =
     subst (λ (l : List ℕ). Contains l j) (sym (pushed_same two.passed x j)) (contains_last (two.passed x) j) in
     let final : State = after_from lists three rest in
     let sound_final : Sound lists final = sound_after_from lists law rest three sound_three parts.1.1 in
-    let lt : i < j = omega (arith, contains_at_most two lists sound_two x i at_two, parts.1.0.2) in
+    let lt : i < j = omega (arith, contains_within lists two sound_two x i at_two, parts.1.0.2) in
     let same : after_from lists s (Pass x i ∷ (mid ++ Pass x j ∷ rest)) ≡ final = after_append lists mid (Pass x j ∷ rest) one in
     let i_final : Contains (final.passed x) i = passed_stays lists rest three x i (passed_step lists two (Pass x j) x i at_two) in
     let j_final : Contains (final.passed x) j = passed_stays lists rest three x j j_at_three in (

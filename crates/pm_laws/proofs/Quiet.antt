@@ -1,4 +1,4 @@
--- In an idle state the last clearing is current.
+-- In a state at rest the last clearing is current, and so in an idle one.
 use Rattle.std.proofs.Common.{◌≡◌, ℕ, zero, suc, ◌+◌, ◌-◌, ◌<◌, ◌≤◌, true, false, not, inl, inr, length, refl, sym, ◌∙◌, ap}
 use Rattle.std.proofs.Common.{subst, arith}
 use Rattle.std.proofs.lemmas.Bool.{cases_eq, cases_lt, cases_Bool, cond-true, cond-false, both_ways}
@@ -13,6 +13,7 @@ use Rattle.pm_market.specs.Sound.{Sound}
 use Rattle.pm_market.specs.declared.moves.Move.TheVariants.{Learn, Publish, Clear, Pass}
 use Rattle.pm_market.proofs.Tree.{leaf_node, leaf_of_itself, leaf_of_parent}
 use Rattle.pm_market.proofs.Cuts.{not_same, same_from, is_same_from, entry_zero, newest_leaf, newest_inner, part_leaf, part_inner, known_at, greatest_from}
+use Rattle.pm_laws.specs.Rest.{NothingUnanswered, Rests}
 use Rattle.pm_laws.proofs.Facts.{last_cases, last_within, window_of}
 
 -- after change 0, which is none, no device is a member
@@ -69,35 +70,36 @@ addressed_index lists law s j x h =
       | inr n ↦ omega arith
     ]
 
--- what idle says of each kind of move
+-- what rest says of each kind of move
 
-idle_learnt : (lists : Lists) (s : State) → Sound lists s → Idle lists s → (x : ℕ) → IsNode lists x → s.learnt x ≡ newest lists s x
-idle_learnt lists s sound idle x node =
+learnt_at_rest : (lists : Lists) (s : State) → Sound lists s → Rests lists s → (x : ℕ) → IsNode lists x → s.learnt x ≡ newest lists s x
+learnt_at_rest lists s sound rest x node =
     elim (cases_lt (s.learnt x) (newest lists s x)) [
-      | inl lt ↦ absurd (idle (Learn x (newest lists s x)) (node, lt, omega arith))
+      | inl lt ↦ absurd (rest.learn x (newest lists s x) (node, lt, omega arith))
       | inr ge ↦ omega (arith, sound.learnt_within x node)
     ]
 
-idle_known : (lists : Lists) → Lawful lists → (s : State) → Idle lists s → (c : ℕ) → IsConcentrator lists c →
+known_at_rest : (lists : Lists) → Lawful lists → (s : State) → Rests lists s → (c : ℕ) → IsConcentrator lists c →
     newest lists s c - number lists s c (cleared s (last s c)) < window_size → SameOn lists c (known lists s c) (part lists s c (newest lists s c))
-idle_known lists law s idle c conc room =
+known_at_rest lists law s rest c conc room =
     elim (cases_Bool (is_same_on lists c (known lists s c) (part lists s c (newest lists s c)))) [
       | inl e ↦ same_from lists law c (known lists s c) (part lists s c (newest lists s c)) e
-      | inr e ↦ absurd (idle (Publish c (newest lists s c + 1)) (conc, e, room, refl))
+      | inr e ↦ absurd (rest.publish c (newest lists s c + 1) (conc, e, room, refl))
     ]
 
-idle_cleared : (lists : Lists) → Lawful lists → (s : State) → Idle lists s → SameOn lists 0 (known lists s 0) (cleared s (clearings s))
-idle_cleared lists law s idle =
+cleared_at_rest : (lists : Lists) → Lawful lists → (s : State) → Rests lists s → SameOn lists 0 (known lists s 0) (cleared s (clearings s))
+cleared_at_rest lists law s rest =
     elim (cases_Bool (is_same_on lists 0 (known lists s 0) (cleared s (clearings s)))) [
       | inl e ↦ same_from lists law 0 (known lists s 0) (cleared s (clearings s)) e
-      | inr e ↦ absurd (idle (Clear (clearings s + 1)) (e, refl))
+      | inr e ↦ absurd (rest.clear (clearings s + 1) (e, refl))
     ]
 
-idle_passed : (lists : Lists) (s : State) → Sound lists s → Idle lists s → (x : ℕ) → IsNode lists x →
-    Reached s (parent lists x) (clearings s) → addresses lists s (clearings s) x ≡ true → last s x ≡ clearings s
-idle_passed lists s sound idle x node came addressed =
+passed_at_rest : (lists : Lists) (s : State) → Sound lists s → Rests lists s → (x : ℕ) → IsNode lists x →
+    NothingUnanswered lists s (parent lists x) → Reached s (parent lists x) (clearings s) → addresses lists s (clearings s) x ≡ true →
+    last s x ≡ clearings s
+passed_at_rest lists s sound rest x node answered came addressed =
     elim (cases_lt (last s x) (clearings s)) [
-      | inl lt ↦ absurd (idle (Pass x (clearings s)) (node, came, lt, addressed))
+      | inl lt ↦ absurd (rest.pass x answered (node, came, lt, addressed))
       | inr ge ↦ omega (arith, last_within lists s sound x)
     ]
 
@@ -137,26 +139,31 @@ current_answered lists law s sound c conc current =
           ]
     ]
 
-current_in : (lists : Lists) → Lawful lists → (s : State) → Sound lists s → Idle lists s → (bound x : ℕ) → x ≤ bound →
+current_in : (lists : Lists) → Lawful lists → (s : State) → Sound lists s → Rests lists s → (bound x : ℕ) → x ≤ bound →
     IsNode lists x → Current lists s x
-current_in lists law s sound idle zero x h node = absurd (omega arith)
-current_in lists law s sound idle (suc bound) x h node =
-    let learnt_is : s.learnt x ≡ newest lists s x = idle_learnt lists s sound idle x node in
+current_in lists law s sound rest zero x h node = absurd (omega arith)
+current_in lists law s sound rest (suc bound) x h node =
+    let learnt_is : s.learnt x ≡ newest lists s x = learnt_at_rest lists s sound rest x node in
     let at_parent : (d : ℕ) → IsLeafOf lists x d → known lists s (parent lists x) d ≡ part lists s x (newest lists s x) d =
     λ d leaf. known_at lists law s.published s.learnt x d node.0 leaf ∙ ap (λ (k : ℕ). part lists s x k d) learnt_is in
     elim (cases_eq (parent lists x) 0) [
       | inl e ↦ record {
         newest = λ d leaf.
-            sym (idle_cleared lists law s idle d (subst (λ (z : ℕ). IsLeafOf lists z d) e (leaf_of_parent lists law x d leaf)))
+            sym (cleared_at_rest lists law s rest d (subst (λ (z : ℕ). IsLeafOf lists z d) e (leaf_of_parent lists law x d leaf)))
             ∙ ap (λ (z : ℕ). known lists s z d) (sym e) ∙ at_parent d leaf;
-        passed = λ addressed. idle_passed lists s sound idle x node (inl (e, addressed_index lists law s (clearings s) x addressed, omega arith)) addressed;
+        passed = λ addressed. passed_at_rest lists s sound rest x node (λ ne. absurd (ne e)) (inl (
+          e,
+          addressed_index lists law s
+              (clearings s) x addressed,
+          omega arith,
+        )) addressed;
       }
       | inr n ↦
           let c : ℕ = parent lists x in
           let c_conc : IsConcentrator lists c = (omega arith, omega (arith, law.earlier x node, node.1), law.inner x node) in
-          let above : Current lists s c = current_in lists law s sound idle bound c (omega (arith, law.earlier x node)) (c_conc.0, c_conc.1) in
+          let above : Current lists s c = current_in lists law s sound rest bound c (omega (arith, law.earlier x node)) (c_conc.0, c_conc.1) in
           let room = current_answered lists law s sound c c_conc above in
-          let heard = idle_known lists law s idle c c_conc (omega arith) in
+          let heard = known_at_rest lists law s rest c c_conc (omega arith) in
           record {
             newest = λ d leaf.
                 above.newest d (leaf_of_parent lists law x d leaf) ∙ sym (heard d (leaf_of_parent lists law x d leaf)) ∙ at_parent d leaf;
@@ -167,31 +174,55 @@ current_in lists law s sound idle (suc bound) x h node =
                   | inl w ↦ absurd (omega (arith, w.1))
                   | inr w ↦ subst (λ (j : ℕ). Contains (s.passed c) j) last_is w
                 ] in
-                idle_passed lists s sound idle x node (inr came) addressed;
+                passed_at_rest lists s sound rest x node (λ ne. room) (inr came) addressed;
           }
     ]
 
-current : (lists : Lists) → Lawful lists → (s : State) → Sound lists s → Idle lists s → (x : ℕ) → IsNode lists x → Current lists s x
-current lists law s sound idle x node = current_in lists law s sound idle x x (omega arith) node
+current : (lists : Lists) → Lawful lists → (s : State) → Sound lists s → Rests lists s → (x : ℕ) → IsNode lists x → Current lists s x
+current lists law s sound rest x node = current_in lists law s sound rest x x (omega arith) node
 
--- the last cleared cut is the counts
-pub quiet_counts : (lists : Lists) → Lawful lists → (s : State) → Sound lists s → Idle lists s → (d : ℕ) → IsLeaf lists d →
+-- at rest the last cleared cut is the counts
+pub rest_counts : (lists : Lists) → Lawful lists → (s : State) → Sound lists s → Rests lists s → (d : ℕ) → IsLeaf lists d →
     cleared s (clearings s) d ≡ s.counts d
-quiet_counts lists law s sound idle d leaf =
-    (current lists law s sound idle d (leaf_node lists law d leaf)).newest d (leaf_of_itself lists law d leaf)
+rest_counts lists law s sound rest d leaf =
+    (current lists law s sound rest d (leaf_node lists law d leaf)).newest d (leaf_of_itself lists law d leaf)
     ∙ part_leaf lists s.published d (newest lists s d) d leaf
     ∙ newest_leaf lists s.counts s.published d leaf
 
--- each device that is in was passed the last clearing
-pub quiet_passed : (lists : Lists) → Lawful lists → (s : State) → Sound lists s → Idle lists s → (d : ℕ) → IsLeaf lists d →
+-- at rest each device that is a member was passed the last clearing
+pub rest_passed : (lists : Lists) → Lawful lists → (s : State) → Sound lists s → Rests lists s → (d : ℕ) → IsLeaf lists d →
     is_member lists d (s.counts d) ≡ true →
     (1 ≤ clearings s) × (last s d ≡ clearings s)
-quiet_passed lists law s sound idle d leaf at =
+rest_passed lists law s sound rest d leaf at =
     let addressed : addresses lists s (clearings s) d ≡ true =
-    addresses_leaf lists (cleared s (clearings s)) d leaf ∙ ap (is_member lists d) (quiet_counts lists law s sound idle d leaf) ∙ at in
-    (addressed_index lists law s (clearings s) d addressed, (current lists law s sound idle d (leaf_node lists law d leaf)).passed addressed)
+    addresses_leaf lists (cleared s (clearings s)) d leaf ∙ ap (is_member lists d) (rest_counts lists law s sound rest d leaf) ∙ at in
+    (addressed_index lists law s (clearings s) d addressed, (current lists law s sound rest d (leaf_node lists law d leaf)).passed addressed)
+
+-- at rest no number of a concentrator is unanswered
+pub rest_window : (lists : Lists) → Lawful lists → (s : State) → Sound lists s → Rests lists s → (c : ℕ) → IsConcentrator lists c →
+    newest lists s c - number lists s c (cleared s (last s c)) ≡ 0
+rest_window lists law s sound rest c conc = current_answered lists law s sound c conc (current lists law s sound rest c (conc.0, conc.1))
+
+-- an idle state is at rest
+pub idle_rests : (lists : Lists) (s : State) → Idle lists s → Rests lists s
+idle_rests lists s idle = record {
+  learn = λ x n. idle (Learn x n);
+  publish = λ c n. idle (Publish c n);
+  clear = λ j. idle (Clear j);
+  pass = λ x answered. idle (Pass x (clearings s));
+}
+
+-- in an idle state the last cleared cut is the counts
+pub quiet_counts : (lists : Lists) → Lawful lists → (s : State) → Sound lists s → Idle lists s → (d : ℕ) → IsLeaf lists d →
+    cleared s (clearings s) d ≡ s.counts d
+quiet_counts lists law s sound idle = rest_counts lists law s sound (idle_rests lists s idle)
+
+-- each device that is a member was passed the last clearing
+pub quiet_passed : (lists : Lists) → Lawful lists → (s : State) → Sound lists s → Idle lists s → (d : ℕ) → IsLeaf lists d →
+    is_member lists d (s.counts d) ≡ true → (1 ≤ clearings s) × (last s d ≡ clearings s)
+quiet_passed lists law s sound idle = rest_passed lists law s sound (idle_rests lists s idle)
 
 -- and no number of a concentrator is unanswered
 pub quiet_window : (lists : Lists) → Lawful lists → (s : State) → Sound lists s → Idle lists s → (c : ℕ) → IsConcentrator lists c →
     newest lists s c - number lists s c (cleared s (last s c)) ≡ 0
-quiet_window lists law s sound idle c conc = current_answered lists law s sound c conc (current lists law s sound idle c (conc.0, conc.1))
+quiet_window lists law s sound idle = rest_window lists law s sound (idle_rests lists s idle)

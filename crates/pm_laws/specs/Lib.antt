@@ -1,3 +1,5 @@
 pub mod Added
 pub mod Due
 pub mod Potential
+pub mod Gone
+pub mod Rest

@@ -16,6 +16,7 @@ ghost use Rattle.pm_market.specs.Offers.{sum_children, sum_on};
 ghost use Rattle.pm_market.specs.Legality.{are_legal, first_illegal, is_idle, is_legal};
 ghost use Rattle.pm_market.specs.declared.moves.Move.{Move};
 ghost use Rattle.pm_laws.specs.Potential.{counted};
+ghost use Rattle.pm_laws.specs.Rest.{Rests};
 
 use pm_market::Move;
 
@@ -37,6 +38,19 @@ pub fn no_device_goes_back()
         let journal = front ++ Move.Pass x i ∷ (mid ++ Move.Pass x j ∷ rest) in
         Lawful lists → LegalJournal lists journal →
         (i < j) × ((d : ℕ) → IsLeaf lists d → cleared (after lists journal) i d ≤ cleared (after lists journal) j d) }
+{}
+
+/// Rest is current. At rest the last cleared cut is that of all changes made (all zeros where none was cleared), each device
+/// that is a member was passed that clearing last, at its newest number, and nothing of a concentrator is unanswered. A state
+/// may be at rest and not idle: a clearing before the last one may still be legal to pass.
+pub fn rest_is_current()
+    ensures idle { (lists : Lists) (s : State) → Idle lists s → Rests lists s }
+    ensures counts { (lists : Lists) (s : State) → Lawful lists → Sound lists s → Rests lists s →
+        (d : ℕ) → IsLeaf lists d → cleared s (clearings s) d ≡ s.counts d }
+    ensures passed { (lists : Lists) (s : State) → Lawful lists → Sound lists s → Rests lists s →
+        (d : ℕ) → IsLeaf lists d → is_member lists d (s.counts d) ≡ true → (1 ≤ clearings s) × (last s d ≡ clearings s) }
+    ensures windows { (lists : Lists) (s : State) → Lawful lists → Sound lists s → Rests lists s →
+        (c : ℕ) → IsConcentrator lists c → newest lists s c - number lists s c (cleared s (last s c)) ≡ 0 }
 {}
 
 /// Quiet is current. Where a sound state is idle, the last cleared cut is that of all changes made (all zeros where none

@@ -9,5 +9,7 @@ pub mod PhaseChanges
 pub mod Laws
 pub mod Falls
 pub mod GroupPowers
+pub mod Alike
+pub mod Nothing
 pub mod EndLines
 pub mod OneEnd

@@ -1,6 +1,6 @@
 -- The lists of the market of cuts that a plan stands for are lawful, and say the same of the plan.
 use Rattle.std.proofs.Common.{◌≡◌, ◌∙◌, sym, ap, ℕ, zero, suc, ◌+◌, ◌*◌, ◌<◌, ◌≤◌, Bool, true, false, List, [], length, map}
-use Rattle.std.proofs.Common.{take, get_or, cond, refl, arith, add-one}
+use Rattle.std.proofs.Common.{Some, take, get_or, cond, refl, arith, add-one}
 use Rattle.std.specs.Prelude.{◌&&◌, not, nat_lt}
 use Rattle.std.specs.List.{count_by, sum_by}
 use Rattle.std.proofs.lemmas.Bool.Decides.{nat_tests}
@@ -9,19 +9,22 @@ use Rattle.std.proofs.lemmas.List.Sums.{sum_by_more, sum_by-cons}
 use Rattle.std.proofs.lemmas.List.FromFn.{get_or-map-range_with_len, length-map-range_with_len}
 use Rattle.pm_base.proofs.Numbers.{suc_is_not_zero}
 use Rattle.pm_tree.specs.Shape.{parent_at, leaf_at, concentrator_at, path_within, path_at, depth_at}
-use Rattle.pm_tree.specs.Entries.{parents_of, leaves_of}
+use Rattle.pm_tree.specs.Entries.{parents_of, leaves_of, children_of, place_of}
 use Rattle.pm_market.specs.Lists.{Lawful, nodes, parent, is_leaf, is_member, changes, IsNode, IsLeaf, path_depth_in, path_depth}
 use Rattle.pm_market.specs.Lists as market
 use Rattle.pm_market.specs.State.{sum_to}
 use Rattle.pm_market.specs.Bound as market_bound
 use Rattle.pm_plan.specs.declared.node.Node.TheVariants.{Concentrator}
-use Rattle.pm_plan.specs.Plans.{PlanData, NodeData, node, changes_of, phases, change_count, all_changes, plan_bound, end_cut, node_numbers}
+use Rattle.pm_plan.specs.Plans.{PlanData, NodeData, node, limits_of, changes_of, phases, change_count, all_changes, plan_bound, end_cut, node_numbers}
 use Rattle.pm_plan.specs.Plans as plans
 use Rattle.pm_plan.specs.Kept.{InPhases, IsPlan}
 use Rattle.pm_plan.specs.Market.{members_of, plan_lists}
 use Rattle.pm_plan.proofs.Leaves.{first_of, last_of}
-use Rattle.pm_plan.proofs.DeviceNodes.{changes_of-none}
+use Rattle.pm_plan.proofs.DeviceNodes.{changes_of-none, limits_of-tells}
 use Rattle.pm_tree.proofs.Named.{length-parents_of}
+use Rattle.pm_tree.proofs.Places.{child_entry}
+use Rattle.pm_base.specs.Limits.{AreLimits}
+use Rattle.pm_base.specs.declared.limits.Limits.{Limits}
 use Rattle.pm_plan.proofs.Ends.{end-none, end-rises, end-last}
 
 -- in the market's lists of a plan a node has the same parent as in the plan
@@ -170,3 +173,17 @@ bound-is plan is =
     ap (λ n. n * (nodes (plan_lists plan) + 15) + market.phases (plan_lists plan)) each
     ∙ ap (λ n. all_changes plan.nodes * (n + 15) + market.phases (plan_lists plan)) many
     ∙ ap (λ n. all_changes plan.nodes * (length plan.nodes + 15) + n) ends
+
+-- what stands in place k among the children of y is a node, with parent y and place k
+pub child_node : (plan : PlanData) (y k : ℕ) → k < length (children_of plan.entries y) →
+    IsNode (plan_lists plan) (get_or (children_of plan.entries y) k 0)
+    × (parent (plan_lists plan) (get_or (children_of plan.entries y) k 0) ≡ y)
+    × (place_of plan.entries (get_or (children_of plan.entries y) k 0) ≡ k)
+child_node plan y k lt =
+    let at = child_entry plan.entries y k lt in
+    let child : ℕ = get_or (children_of plan.entries y) k 0 in
+    ((at.0, omega (arith, at.1, length-parents_of plan.entries)), parent-is plan child ∙ at.2, at.3)
+
+-- limits of a node of a plan have power 0 between them, and are within the limit of a sum
+pub limits_around : (plan : PlanData) → IsPlan plan → (y : ℕ) (limits : Limits) → limits_of (node plan y) ≡ Some limits → AreLimits limits
+limits_around plan is_plan y limits told = is_plan.within.limits y limits (limits_of-tells (node plan y) limits told)

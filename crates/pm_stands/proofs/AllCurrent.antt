@@ -28,10 +28,9 @@ use Rattle.pm_stands.specs.Current.{held_price, IsCurrent}
 use Rattle.pm_plan.proofs.MarketLists.{lawful}
 use Rattle.pm_stands.proofs.Caches.{cache_root}
 use Rattle.pm_stands.proofs.Demands.{demands_are}
-use Rattle.pm_stands.proofs.Passing.{sum_alike}
 use Rattle.pm_stands.proofs.QuietParts.{all_known}
-use Rattle.pm_stands.proofs.Alike.{plain_alike, local_alike}
-use Rattle.pm_stands.proofs.Starting.{sum_of_none}
+use Rattle.pm_offer.proofs.Alike.{sum_alike, plain_alike, local_alike}
+use Rattle.pm_offer.proofs.Nothing.{sum_of_none}
 
 -- a market in which nobody takes anything clears at step 0
 clears_at_zero : (n : ℕ) → clearing_step (zeros n) ≡ 0

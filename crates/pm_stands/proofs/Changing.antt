@@ -20,7 +20,9 @@ use Rattle.pm_plan.specs.States.{state}
 use Rattle.pm_plan.specs.Market.{plan_lists}
 use Rattle.pm_offer.specs.Offers.{offer, device_demand}
 use Rattle.pm_stands.specs.Core.{Core, link_at, uplink_of, seat_at}
-use Rattle.pm_stands.specs.Stands.{is_gone, BidAgrees, IsNewestDue, StandsFor, MakesMove}
+use Rattle.pm_laws.specs.Due.{IsNewestDue}
+use Rattle.pm_laws.specs.Gone.{is_gone}
+use Rattle.pm_stands.specs.Stands.{BidAgrees, StandsFor, MakesMove}
 use Rattle.pm_stands.specs.Made.{DidChange, changed_core, seat_after}
 use Rattle.pm_plan.proofs.MarketLists.{lawful}
 use Rattle.pm_stands.proofs.Places.{one_place, at_node}

@@ -33,14 +33,16 @@ use Rattle.pm_plan.specs.Market.{plan_lists}
 use Rattle.pm_offer.specs.Offers.{offer, children_sum, local_at}
 use Rattle.pm_stands.specs.Core.{Core, limits_at, row_at, link_at, uplink_of, concentrator_of, node_cache}
 use Rattle.pm_stands.specs.Rows.{OneRow}
-use Rattle.pm_stands.specs.Stands.{is_gone, head_for, PriceAgrees, IsNewestDue, StandsFor, MakesMove}
+use Rattle.pm_laws.specs.Due.{IsNewestDue}
+use Rattle.pm_laws.specs.Gone.{is_gone}
+use Rattle.pm_stands.specs.Stands.{head_for, PriceAgrees, StandsFor, MakesMove}
 use Rattle.pm_plan.proofs.MarketLists.{lawful}
 use Rattle.pm_stands.proofs.Places.{placed}
 use Rattle.pm_stands.proofs.Caches.{cache_root, cache_inner}
 use Rattle.pm_stands.proofs.Offered.{offer_root}
 use Rattle.pm_stands.proofs.Demands.{demands_are}
 use Rattle.pm_laws.proofs.MoveLaws.{due_parts, due_from}
-use Rattle.pm_stands.proofs.Due.{gone_addresses}
+use Rattle.pm_laws.proofs.Gone.{gone_addresses}
 
 module _ (plan : PlanData) (is_plan : IsPlan plan) (c : Core) (s : State) (stands : StandsFor plan c s)
     (links : List (List Session)) (auctioneer : Auction) (j k : ℕ)

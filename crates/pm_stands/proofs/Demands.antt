@@ -24,7 +24,8 @@ use Rattle.pm_stands.specs.Core.{Core, child_at, node_cache}
 use Rattle.pm_stands.specs.Stands.{BidAgrees, StandsFor}
 use Rattle.pm_stands.specs.Made.{bid_demand}
 use Rattle.pm_plan.proofs.MarketLists.{lawful}
-use Rattle.pm_stands.proofs.Places.{placed, child_node, one_place}
+use Rattle.pm_plan.proofs.MarketLists.{child_node}
+use Rattle.pm_stands.proofs.Places.{placed, one_place}
 use Rattle.pm_offer.proofs.Steps.{offer_length}
 use Rattle.pm_stands.proofs.Offered.{offer_alike, offer_within}
 use Rattle.pm_stands.proofs.Learning.{gone_zeros}
@@ -43,7 +44,7 @@ demands_from plan is_plan s y ds count each =
     ∙ sym (length-map (children_of plan.entries y) (λ z. offer plan z (known (plan_lists plan) s y)))) (λ k lt.
     let lt' : k < length (children_of plan.entries y) = omega arith in
     let z : ℕ = child_at plan y k in
-    let at = child_node plan is_plan y k lt' in
+    let at = child_node plan y k lt' in
     let alike = offer_alike plan is_plan z (known (plan_lists plan) s y) (part (plan_lists plan) s z (s.learnt z)) (λ d leaf.
     ap (λ (c : ℕ). known (plan_lists plan) s c d) (sym at.1) ∙ known_at (plan_lists plan) (lawful plan is_plan) s.published s.learnt z d at.0.0 leaf) in
     ap (λ (i : ℕ). get_or ds i []) (sym at.2) ∙ each z at.0 at.1 ∙ sym alike

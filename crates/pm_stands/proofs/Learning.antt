@@ -29,7 +29,9 @@ use Rattle.pm_plan.specs.Market.{plan_lists}
 use Rattle.pm_offer.specs.Offers.{offer, device_demand}
 use Rattle.pm_stands.specs.Core.{Core, IsShaped, link_at, uplink_of, concentrator_of, node_cache, head_of_child, demand_of_child}
 use Rattle.pm_stands.specs.Rows.{OneLink, EntryLearnt}
-use Rattle.pm_stands.specs.Stands.{is_gone, head_for, BidAgrees, IsNewestDue, StandsFor, MakesMove}
+use Rattle.pm_laws.specs.Due.{IsNewestDue}
+use Rattle.pm_laws.specs.Gone.{is_gone}
+use Rattle.pm_stands.specs.Stands.{head_for, BidAgrees, StandsFor, MakesMove}
 use Rattle.pm_stands.specs.Made.{bid_demand}
 use Rattle.pm_plan.specs.Auction.{demand_in_cut, node_bid}
 use Rattle.pm_plan.specs.Plans as plans
@@ -37,7 +39,7 @@ use Rattle.pm_plan.proofs.MarketLists as market_lists
 use Rattle.pm_tree.proofs.Named.{length-parents_of}
 use Rattle.pm_plan.proofs.MarketLists.{lawful}
 use Rattle.pm_stands.proofs.Places.{placed, one_place}
-use Rattle.pm_stands.proofs.Gone.{gone_leaf, gone_inner}
+use Rattle.pm_laws.proofs.Gone.{gone_leaf, gone_inner}
 use Rattle.pm_stands.proofs.Offered.{offer_device}
 
 -- the entry of a bid, where the demand is zeros if it is gone

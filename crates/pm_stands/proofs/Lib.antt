@@ -1,6 +1,4 @@
 pub mod Places
-pub mod Gone
-pub mod Due
 pub mod Caches
 pub mod Offered
 pub mod Learning
@@ -13,7 +11,6 @@ pub mod Made
 pub mod Idle
 pub mod StillNodes
 pub mod MoveLaws
-pub mod Passes
 pub mod Passing
 pub mod MayPass
 pub mod Taking
@@ -21,7 +18,6 @@ pub mod Changing
 pub mod Closing
 pub mod Starting
 pub mod QuietParts
-pub mod Alike
 pub mod Holding
 pub mod AllCurrent
 pub mod QuietPowers

@@ -21,7 +21,8 @@ use Rattle.pm_stands.specs.Core.{Core, child_at, row_at, link_at, uplink_of}
 use Rattle.pm_stands.specs.Stands.{StandsFor, Stands}
 use Rattle.pm_stands.specs.Needs.{MayClear}
 use Rattle.pm_plan.proofs.MarketLists.{lawful}
-use Rattle.pm_stands.proofs.Places.{child_node, few_changes}
+use Rattle.pm_plan.proofs.MarketLists.{child_node}
+use Rattle.pm_stands.proofs.Places.{few_changes}
 use Rattle.pm_stands.proofs.Caches.{cache_root}
 
 may_clear_in : (plan : PlanData) → IsPlan plan → (c : Core) (s : State) → StandsFor plan c s → MayClear c
@@ -35,7 +36,7 @@ may_clear_in plan is_plan c s stands =
           ∙ ap (λ (q : Cache). length q.heads) (cache_root c.auctioneer c.concentrators 0 refl);
       fits = omega (arith, stands.index, few, weight_small lists 0, few_changes plan is_plan);
       index = λ k lt.
-          let at = child_node plan is_plan 0 k (omega (arith, lt, stands.shaped.rows 0 (omega arith))) in
+          let at = child_node plan 0 k (omega (arith, lt, stands.shaped.rows 0 (omega arith))) in
           let z : ℕ = child_at plan 0 k in
           let j : ℕ = (uplink_of plan c z).down.offered in
           let is : session_at (row_at c.links 0) k ≡ uplink_of plan c z =

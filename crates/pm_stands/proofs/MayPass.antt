@@ -25,11 +25,12 @@ use Rattle.pm_stands.specs.Rows.{OneLink}
 use Rattle.pm_stands.specs.Stands.{StandsFor, Stands, MakesMove}
 use Rattle.pm_stands.specs.Made.{DidPass, passed_core, MayPass}
 use Rattle.pm_plan.proofs.MarketLists.{lawful}
-use Rattle.pm_stands.proofs.Places.{child_node, at_node}
+use Rattle.pm_plan.proofs.MarketLists.{child_node}
+use Rattle.pm_stands.proofs.Places.{at_node}
 use Rattle.pm_stands.proofs.Caches.{cache_inner}
 use Rattle.pm_stands.proofs.Offered.{offer_inside}
 use Rattle.pm_laws.proofs.MoveLaws.{due_parts, due_from}
-use Rattle.pm_stands.proofs.Due.{came_last}
+use Rattle.pm_laws.proofs.Facts.{came_last}
 use Rattle.pm_stands.proofs.Passing.{pass_makes}
 
 -- what the code needs in order to pass on a price that it took
@@ -60,7 +61,7 @@ pass_condition plan c s x between price is_plan stands conc taken one =
           ∙ ap (λ (q : Cache). length q.heads) cache_is;
       index = λ k lt.
           let lt' : k < length (children_of plan.entries x) = omega (arith, lt, one.rows x, stands.shaped.rows x conc.1) in
-          let at = child_node plan is_plan x k lt' in
+          let at = child_node plan x k lt' in
           let z : ℕ = child_at plan x k in
           let is : session_at (row_at between x) k ≡ uplink_of plan c z =
           one.others x k (λ e f. omega (arith, e, (lawful plan is_plan).earlier x node)) ∙ ap (λ (i : ℕ). link_at c.links x i) (sym at.2)

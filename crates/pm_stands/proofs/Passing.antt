@@ -2,16 +2,13 @@
 use Rattle.std.proofs.Common.{◌≡◌, ◌∙◌, sym, ap, subst, ℕ, ◌<◌, ◌≤◌, true, false, not, ◌⊎◌, List, [], length, get_or, Option}
 use Rattle.std.proofs.Common.{Some, arith, inl, inr}
 use Rattle.std.proofs.lemmas.Bool.{cases_eq, cases_Bool, both_ways}
-use Rattle.std.proofs.lemmas.List.{ext_get_or, get_or-map, length-map}
 use Rattle.pm_base.specs.Cuts.{Cut}
 use Rattle.pm_bid.specs.declared.head.BidHead.{BidHead}
-use Rattle.pm_bid.specs.Bids.{sum_of}
 use Rattle.pm_tree.specs.Entries.{children_of, place_of}
-use Rattle.pm_market.specs.Lists.{parent, is_leaf, IsNode, IsLeaf, IsConcentrator, IsLeafOf}
+use Rattle.pm_market.specs.Lists.{parent, is_leaf, IsNode, IsLeaf, IsConcentrator}
 use Rattle.pm_market.specs.State.{State, SameOn, cut_at, number, last, clearings, cleared, addresses}
 use Rattle.pm_market.specs.Moves.{Legal, Reached, step}
 use Rattle.pm_market.specs.declared.moves.Move.TheVariants.{Pass}
-use Rattle.pm_market.proofs.Tree.{leaf_of_parent}
 use Rattle.pm_market.proofs.Cuts.{part_inner}
 use Rattle.pm_laws.specs.Due.{is_due}
 use Rattle.pm_laws.proofs.Facts.{last_cases}
@@ -29,31 +26,20 @@ use Rattle.pm_concentrator.specs.Concentrators.{Gathered, published_heads}
 use Rattle.pm_plan.specs.Kept.{IsPlan}
 use Rattle.pm_plan.specs.Plans.{PlanData}
 use Rattle.pm_plan.specs.Market.{plan_lists}
-use Rattle.pm_offer.specs.Offers.{offer, children_sum, offers_of, local_at}
-use Rattle.pm_stands.specs.Core.{Core, child_at, limits_at, row_at, link_at, uplink_of, gathered_at, concentrator_of, node_cache}
-use Rattle.pm_stands.specs.Stands.{head_for, PriceAgrees, IsNewestDue, StandsFor, MakesMove}
+use Rattle.pm_offer.specs.Offers.{children_sum, local_at}
+use Rattle.pm_stands.specs.Core.{Core, limits_at, row_at, link_at, uplink_of, gathered_at, concentrator_of, node_cache}
+use Rattle.pm_laws.specs.Due.{IsNewestDue}
+use Rattle.pm_stands.specs.Stands.{head_for, PriceAgrees, StandsFor, MakesMove}
 use Rattle.pm_stands.specs.Made.{DidPass, passed_core}
 use Rattle.pm_plan.proofs.MarketLists.{lawful}
-use Rattle.pm_stands.proofs.Places.{placed, child_node, one_place}
-use Rattle.pm_stands.proofs.Passes as passes
+use Rattle.pm_offer.proofs.Alike.{sum_alike}
+use Rattle.pm_stands.proofs.Places.{placed, one_place}
+use Rattle.pm_laws.proofs.Passes as passes
 use Rattle.pm_laws.proofs.MoveLaws.{due_parts}
-use Rattle.pm_stands.proofs.Due.{came_last, gone_addresses}
+use Rattle.pm_laws.proofs.Facts.{came_last}
+use Rattle.pm_laws.proofs.Gone.{gone_addresses}
 use Rattle.pm_stands.proofs.Caches.{cache_root, cache_inner}
-use Rattle.pm_stands.proofs.Offered.{offer_alike, offer_below}
-
--- the sum of offers sees the leaves alone
-pub sum_alike : (plan : PlanData) → IsPlan plan → (y : ℕ) (a b : Cut) → SameOn (plan_lists plan) y a b →
-    children_sum plan y a ≡ children_sum plan y b
-sum_alike plan is_plan y a b same =
-    ap (sum_of plan.basis.steps) (ext_get_or [] (offers_of plan y a) (offers_of plan y b)
-    (length-map (children_of plan.entries y) (λ z. offer plan z a) ∙ sym (length-map (children_of plan.entries y) (λ z. offer plan z b))) (λ k lt.
-    let lt' : k < length (children_of plan.entries y) = omega (arith, length-map (children_of plan.entries y) (λ z. offer plan z a)) in
-    let at = child_node plan is_plan y k lt' in
-    let z : ℕ = child_at plan y k in
-    get_or-map (λ z. offer plan z a) (children_of plan.entries y) k 0 [] lt'
-    ∙ offer_alike plan is_plan z a b (λ d leaf. same d (subst (λ (i : ℕ). IsLeafOf (plan_lists plan) i d) at.1 (
-    leaf_of_parent (plan_lists plan) (lawful plan is_plan) z d leaf)))
-    ∙ sym (get_or-map (λ z. offer plan z b) (children_of plan.entries y) k 0 [] lt')))
+use Rattle.pm_stands.proofs.Offered.{offer_below}
 
 module _ (plan : PlanData) (is_plan : IsPlan plan) (c : Core) (s : State) (stands : StandsFor plan c s) (x : ℕ) (conc : IsConcentrator (plan_lists plan) x)
     (between links : List (List Session)) (concentrators : List (Option Gathered)) (price : PriceUpdate)

@@ -1,36 +1,24 @@
 -- What every plan keeps of its tree: lawful lists, and the children of a node and their places.
-use Rattle.std.proofs.Common.{◌≡◌, ◌∙◌, sym, ap, subst, ℕ, zero, suc, ◌+◌, ◌*◌, ◌<◌, ◌≤◌, Bool, true, false, ◌⊎◌, List}
-use Rattle.std.proofs.Common.{[], ◌∷◌, ◌++◌, length, Some, arith, inl, inr}
+use Rattle.std.proofs.Common.{◌≡◌, ◌∙◌, sym, ap, subst, ℕ, zero, suc, ◌+◌, ◌*◌, ◌<◌, ◌≤◌, List}
+use Rattle.std.proofs.Common.{[], ◌∷◌, length, Some, arith, inl, inr}
 use Rattle.std.proofs.lemmas.Bool.{cases_lt}
-use Rattle.std.specs.Bool.{if◌then◌else◌}
-use Rattle.pm_base.specs.Limits.{AreLimits, most_changes}
-use Rattle.pm_base.specs.declared.limits.Limits.{Limits}
+use Rattle.pm_base.specs.Limits.{most_changes}
 use Rattle.pm_tree.specs.Entries.{children_of, place_of}
 use Rattle.pm_market.specs.Lists.{nodes, parent, IsNode}
-use Rattle.pm_market.specs.State.{last}
 use Rattle.pm_market.specs.Bound.{change_total}
-use Rattle.pm_laws.proofs.Published.{more}
 use Rattle.pm_plan.specs.Kept.{IsPlan}
 use Rattle.pm_plan.specs.Plans.{PlanData, end_cut}
 use Rattle.pm_plan.specs.Market.{plan_lists}
-use Rattle.pm_stands.specs.Core.{child_at, limits_at}
+use Rattle.pm_stands.specs.Core.{child_at}
 use Rattle.pm_plan.proofs.MarketLists as market_lists
-use Rattle.pm_tree.proofs.Places.{child_at_place, parent_of_child, place_of_child}
-use Rattle.pm_tree.proofs.Ranges.{children_among-more}
+use Rattle.pm_tree.proofs.Places.{child_at_place}
 use Rattle.pm_tree.proofs.Named.{length-parents_of}
-use Rattle.pm_tree.specs.Shape.{children_at, children_among, parent_at}
-use Rattle.pm_tree.specs.Entries.{parents_of}
-use Rattle.pm_plan.proofs.DeviceNodes.{limits_of-tells}
 use Rattle.pm_plan.specs.Plans.{node, limits_of, plan_bound, all_changes}
 use Rattle.pm_plan.specs.Plans as plans
-use Rattle.std.specs.Prelude.{slice_get, ◌==◌}
-use Rattle.std.proofs.lemmas.Option.{get_or_from_slice_get, slice_get-get_or}
+use Rattle.std.specs.Prelude.{slice_get}
+use Rattle.std.proofs.lemmas.Option.{get_or_from_slice_get}
 use Rattle.std.proofs.Math.Nat.{mul-le-mul_right, suc-mul}
 use Rattle.pm_market.specs.Lists.{phases}
-
--- limits of a node of a plan have power 0 between them, and are within the limit of a sum
-pub limits_around : (plan : PlanData) → IsPlan plan → (y : ℕ) (l : Limits) → limits_at plan y ≡ Some l → AreLimits l
-limits_around plan is_plan y l e = is_plan.within.limits y l (limits_of-tells (node plan y) l e)
 
 smaller_product : (a b k : ℕ) → a < b → a * suc k < b * suc k
 smaller_product a b k lt = omega (arith, mul-le-mul_right (suc k) (suc_le a b lt), suc-mul a (suc k))
@@ -86,40 +74,6 @@ pub child_in_place : (plan : PlanData) → IsPlan plan → (x : ℕ) → IsNode 
     child_at plan (parent (plan_lists plan) x) (place_of plan.entries x) ≡ x
 child_in_place plan is_plan x x_node =
     get_or_from_slice_get (children_of plan.entries (parent (plan_lists plan) x)) (place_of plan.entries x) x 0 (at_place plan x x_node)
-
--- of a list with at most one more, an element stands before, or is the one more
-among_more : (xs : List ℕ) (last k v : ℕ) (more : Bool) → slice_get (xs ++ (if more then last ∷ [] else [])) k ≡ Some v →
-    (slice_get xs k ≡ Some v) ⊎ (v ≡ last)
-among_more [] last k v false here = (cc)
-among_more [] last zero v true here = inr (cc)
-among_more [] last (suc k) v true here = (cc)
-among_more (x ∷ xs) last zero v more here = inl here
-among_more (x ∷ xs) last (suc k) v more here = among_more xs last k v more here
-
--- the children of a node are among the nodes
-child_inside : (parents : List ℕ) (count y k child : ℕ) → slice_get (children_among parents count y) k ≡ Some child →
-    (1 ≤ child) × (child ≤ count)
-child_inside parents zero y k child here = (cc)
-child_inside parents (suc count) y k child here =
-    let next : suc count ≡ count + 1 = omega arith in
-    let listed : slice_get (children_among parents (count + 1) y) k ≡ Some child =
-    subst (λ n. slice_get (children_among parents n y) k ≡ Some child) next here in
-    elim (among_more (children_among parents count y) (count + 1) k child (parent_at parents (count + 1) == y)
-    (ap (λ (l : List ℕ). slice_get l k) (sym (children_among-more parents count y)) ∙ listed)) [
-      | inl before ↦ let w = child_inside parents count y k child before in (w.0, omega (arith, w.1))
-      | inr last ↦ (omega (arith, last), omega (arith, last))
-    ]
-
--- what stands in place k among the children of y is a node, with parent y and place k
-pub child_node : (plan : PlanData) → IsPlan plan → (y k : ℕ) → k < length (children_of plan.entries y) →
-    IsNode (plan_lists plan) (child_at plan y k) × (parent (plan_lists plan) (child_at plan y k) ≡ y) × (place_of plan.entries (child_at plan y k) ≡ k)
-unfolding children_at
-child_node plan is_plan y k lt =
-    let here : slice_get (children_of plan.entries y) k ≡ Some (child_at plan y k) = slice_get-get_or (children_of plan.entries y) k 0 lt in (
-      child_inside (parents_of plan.entries) (length (parents_of plan.entries)) y k (child_at plan y k) here,
-      market_lists.parent-is plan (child_at plan y k) ∙ parent_of_child plan.entries y k (child_at plan y k) here,
-      place_of_child plan.entries y k (child_at plan y k) here,
-    )
 
 -- two nodes in one place are one
 pub one_place : (plan : PlanData) → IsPlan plan → (x y : ℕ) → IsNode (plan_lists plan) x → IsNode (plan_lists plan) y →

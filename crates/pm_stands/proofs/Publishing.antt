@@ -36,10 +36,12 @@ use Rattle.pm_plan.specs.Market.{plan_lists}
 use Rattle.pm_offer.specs.Offers.{offer, children_sum, local_at}
 use Rattle.pm_stands.specs.Core.{Core, child_at, limits_at, link_at, uplink_of, gathered_at, concentrator_of, node_cache}
 use Rattle.pm_stands.specs.Rows.{OneLink, OneConcentrator}
-use Rattle.pm_stands.specs.Stands.{head_for, BidAgrees, IsNewestDue, StandsFor, MakesMove}
+use Rattle.pm_laws.specs.Due.{IsNewestDue}
+use Rattle.pm_stands.specs.Stands.{head_for, BidAgrees, StandsFor, MakesMove}
 use Rattle.pm_plan.proofs.MarketLists.{lawful}
-use Rattle.pm_stands.proofs.Places.{child_node, one_place}
-use Rattle.pm_stands.proofs.Gone.{gone_inner}
+use Rattle.pm_plan.proofs.MarketLists.{child_node}
+use Rattle.pm_stands.proofs.Places.{one_place}
+use Rattle.pm_laws.proofs.Gone.{gone_inner}
 use Rattle.pm_stands.proofs.Caches.{cache_root, cache_inner}
 use Rattle.pm_stands.proofs.Offered.{offer_inner}
 use Rattle.pm_stands.proofs.Demands.{demands_are}
@@ -52,7 +54,7 @@ module _ (plan : PlanData) (is_plan : IsPlan plan) (c : Core) (s : State) (stand
       × (head_at (published_heads (concentrator_of c x)) k
       ≡ head_for (plan_lists plan) z (number (plan_lists plan) s z (cut_at (s.published x) (length (s.published x)))))
   head_known k lt =
-      let at = child_node plan is_plan x k lt in
+      let at = child_node plan x k lt in
       let z : ℕ = child_at plan x k in
       let conc' : IsConcentrator (plan_lists plan) (parent (plan_lists plan) z) = subst (λ (i : ℕ). IsConcentrator (plan_lists plan) i) (sym at.1) conc in (
         (at.0, at.1),

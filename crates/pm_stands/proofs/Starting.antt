@@ -1,24 +1,16 @@
 -- A core that was just opened stands for the start.
-use Rattle.std.proofs.Common.{◌≡◌, ◌∙◌, sym, ap, ℕ, zero, suc, ◌+◌, ◌<◌, ◌≤◌, ℤ, pos, Bool, true, not, [], ◌∷◌, length}
-use Rattle.std.proofs.Common.{replicate, Option, Some}
-use Rattle.std.proofs.Common.{None, refl, arith, inl, inr}
-use Rattle.std.proofs.lemmas.Bool.{cases_Bool, cond-false}
-use Rattle.std.proofs.lemmas.List.{ext_get_or, get_or-map, length-map, length-replicate, get_or-replicate}
-use Rattle.std.proofs.lemmas.Int.{ints, clamps}
-use Rattle.std.specs.Prelude.{◌≤ℤ◌}
+use Rattle.std.proofs.Common.{◌≡◌, ◌∙◌, sym, ap, ℕ, zero, suc, Bool, true, not, []}
+use Rattle.std.proofs.Common.{Some}
+use Rattle.std.proofs.Common.{None, refl, arith}
+use Rattle.std.proofs.lemmas.Bool.{cond-false}
 use Rattle.pm_base.specs.Cuts.{Cut}
-use Rattle.pm_base.specs.Limits.{AreLimits}
-use Rattle.pm_base.specs.declared.limits.Limits.{Limits}
 use Rattle.pm_bid.specs.Heads.{nothing_sent}
-use Rattle.pm_bid.specs.Bids.{zeros, sum_of, clamped, nearest}
-use Rattle.pm_bid.specs.Limited.{within_limits}
-use Rattle.pm_tree.specs.Entries.{children_of}
-use Rattle.pm_market.specs.Lists.{Lists, nodes, parent, is_leaf, is_member, child_at_or_above, IsNode, Lawful}
-use Rattle.pm_market.specs.State.{start, cut_at, known_of, last_of, newest, part, known, number, last, cleared}
+use Rattle.pm_market.specs.Lists.{Lists, nodes, parent, is_member, child_at_or_above, IsNode, Lawful}
+use Rattle.pm_market.specs.State.{start, cut_at, known_of, last_of, part, known, number, last, cleared}
 use Rattle.pm_market.specs.Held.{last_join}
-use Rattle.pm_market.proofs.Cuts.{part_zero, newest_leaf, newest_inner, is_same_from, entry_zero}
+use Rattle.pm_market.proofs.Cuts.{part_zero, is_same_from, entry_zero}
 use Rattle.pm_laws.specs.Due.{is_due}
-use Rattle.pm_laws.proofs.Kept.{sound_start}
+use Rattle.pm_laws.proofs.Kept.{sound_start, newest_zero}
 use Rattle.pm_laws.proofs.Quiet.{in_zero}
 use Rattle.pm_laws.proofs.Numbers.{number_of_part}
 use Rattle.pm_laws.proofs.Published.{due_within}
@@ -26,98 +18,16 @@ use Rattle.pm_session.specs.Links.{Session}
 use Rattle.pm_session.specs.Ports.{Seat}
 use Rattle.pm_plan.specs.Kept.{IsPlan}
 use Rattle.pm_plan.specs.Plans.{PlanData}
-use Rattle.pm_plan.specs.Auction.{demand_in_cut}
-use Rattle.pm_plan.specs.Plans as plans
-use Rattle.pm_bid.proofs.Sums.{sum_of-replicate_zeros}
 use Rattle.pm_plan.specs.Market.{plan_lists}
-use Rattle.pm_offer.specs.Offers.{offer, children_sum, offers_of, device_demand}
-use Rattle.pm_stands.specs.Core.{Core, child_at, limits_at}
-use Rattle.pm_stands.specs.Stands.{is_gone, head_for, StandsFor}
+use Rattle.pm_stands.specs.Core.{Core}
+use Rattle.pm_stands.specs.Stands.{head_for, StandsFor}
 use Rattle.pm_stands.specs.Opened.{IsOpened}
 use Rattle.pm_plan.proofs.MarketLists.{lawful}
-use Rattle.pm_stands.proofs.Places.{child_node, limits_around}
-use Rattle.pm_stands.proofs.Gone.{gone_leaf, gone_inner}
-use Rattle.pm_stands.proofs.Offered.{offer_device, offer_inner}
-
--- a device that made no change asks for nothing
-demand_zero : (plan : PlanData) (d : ℕ) → device_demand plan d 0 ≡ zeros plan.basis.steps
-unfolding demand_in_cut plans.is_member
-demand_zero plan d = refl
-
-clamped-zeros : (l : Limits) (n : ℕ) → AreLimits l → clamped l.floor l.ceiling (zeros n) ≡ zeros n
-clamped-zeros l zero are = refl
-clamped-zeros l (suc n) are =
-    ap (λ z. z ∷ clamped l.floor l.ceiling (zeros n)) (near l.floor l.ceiling are.floor_not_positive are.ceiling_not_negative)
-    ∙ ap (λ zs. pos 0 ∷ zs) (clamped-zeros l n are)
-  where
-    near : (f c : ℤ) → f ≤ℤ pos 0 → pos 0 ≤ℤ c → nearest f c (pos 0) ≡ pos 0
-    near f c low high = omega (arith, ints, clamps)
-
--- where no child offers anything the sum is zeros
-sum_zeros : (plan : PlanData) (y : ℕ) (cut : Cut) →
-    ((k : ℕ) → k < length (children_of plan.entries y) → offer plan (child_at plan y k) cut ≡ zeros plan.basis.steps) →
-    children_sum plan y cut ≡ zeros plan.basis.steps
-sum_zeros plan y cut each =
-    let n : ℕ = length (children_of plan.entries y) in
-    let among = length-map (children_of plan.entries y) (λ z. offer plan z cut) in
-    let all_zeros = replicate n (zeros plan.basis.steps) in
-    ap (sum_of plan.basis.steps) (ext_get_or [] (offers_of plan y cut) all_zeros (among ∙ sym (length-replicate n (zeros plan.basis.steps))) (λ k lt.
-    let lt' : k < n = omega (arith, among) in
-    get_or-map (λ z. offer plan z cut) (children_of plan.entries y) k 0 [] lt' ∙ each k lt' ∙ sym (get_or-replicate n k (zeros plan.basis.steps) [] lt')))
-    ∙ sum_of-replicate_zeros plan.basis.steps n
-
-within_limits-zeros : (plan : PlanData) → IsPlan plan → (y : ℕ) → within_limits (limits_at plan y) (zeros plan.basis.steps) ≡ zeros plan.basis.steps
-within_limits-zeros plan is_plan y = go (limits_at plan y) (λ l e. limits_around plan is_plan y l e)
-  where
-    go : (l : Option Limits) → ((k : Limits) → l ≡ Some k → AreLimits k) → within_limits l (zeros plan.basis.steps) ≡ zeros plan.basis.steps
-    go None h = refl
-    go (Some l) h = clamped-zeros l plan.basis.steps (h l refl)
-
--- over a cut of zeros a node whose children offer nothing offers nothing
-zero_from : (plan : PlanData) → IsPlan plan → (cut : Cut) → ((d : ℕ) → cut d ≡ 0) → (x : ℕ) → IsNode (plan_lists plan) x →
-    ((k : ℕ) → k < length (children_of plan.entries x) → offer plan (child_at plan x k) cut ≡ zeros plan.basis.steps) →
-    offer plan x cut ≡ zeros plan.basis.steps
-zero_from plan is_plan cut none x node each =
-    elim (cases_Bool (is_leaf (plan_lists plan) x)) [
-      | inl leaf ↦ offer_device plan is_plan x cut leaf ∙ ap (device_demand plan x) (none x) ∙ demand_zero plan x
-      | inr inner ↦
-          offer_inner plan is_plan x cut (node.0, node.1, inner) ∙ ap (within_limits (limits_at plan x)) (sum_zeros plan x cut each)
-          ∙ within_limits-zeros plan is_plan x
-    ]
-
--- nobody offers anything over a cut of zeros
-zero_offer : (plan : PlanData) → IsPlan plan → (cut : Cut) → ((d : ℕ) → cut d ≡ 0) → (far x : ℕ) → nodes (plan_lists plan) ≤ x + far →
-    IsNode (plan_lists plan) x → offer plan x cut ≡ zeros plan.basis.steps
-zero_offer plan is_plan cut none zero x h node = zero_from plan is_plan cut none x node (λ k lt.
-    let at = child_node plan is_plan x k lt in
-    absurd (omega (arith, h, at.0.1, at.1, (lawful plan is_plan).earlier (child_at plan x k) at.0)))
-zero_offer plan is_plan cut none (suc far) x h node = zero_from plan is_plan cut none x node (λ k lt.
-    let at = child_node plan is_plan x k lt in
-    zero_offer plan is_plan cut none far (child_at plan x k) (omega (arith, h, at.1, (lawful plan is_plan).earlier (child_at plan x k) at.0)) at.0)
-
--- over a cut of zeros the children of a node offer nothing together
-pub sum_of_none : (plan : PlanData) → IsPlan plan → (y : ℕ) (cut : Cut) → ((d : ℕ) → cut d ≡ 0) →
-    children_sum plan y cut ≡ zeros plan.basis.steps
-sum_of_none plan is_plan y cut none = sum_zeros plan y cut (λ k lt.
-    let at = child_node plan is_plan y k lt in
-    zero_offer plan is_plan cut none (nodes (plan_lists plan)) (child_at plan y k) (omega arith) at.0)
-
-gone_zero : (lists : Lists) (x : ℕ) → is_gone lists x 0 ≡ true
-gone_zero lists x =
-    elim (cases_Bool (is_leaf lists x)) [
-      | inl leaf ↦ gone_leaf lists x 0 leaf ∙ ap not (in_zero lists x)
-      | inr inner ↦ gone_inner lists x 0 inner
-    ]
+use Rattle.pm_offer.proofs.Nothing.{zero_offer}
+use Rattle.pm_laws.proofs.Gone.{gone_zero}
 
 nothing_is : (lists : Lists) (x n : ℕ) → n ≡ 0 → nothing_sent ≡ head_for lists x n
 nothing_is lists x n e = ap (λ (b : Bool). record { number = 0; gone = b }) (sym (gone_zero lists x)) ∙ ap (head_for lists x) (sym e)
-
-newest_zero : (lists : Lists) (x : ℕ) → newest lists start x ≡ 0
-newest_zero lists x =
-    elim (cases_Bool (is_leaf lists x)) [
-      | inl leaf ↦ newest_leaf lists start.counts start.published x leaf
-      | inr inner ↦ newest_inner lists start.counts start.published x inner
-    ]
 
 number_zero : (lists : Lists) → Lawful lists → (x : ℕ) (cut : Cut) → IsNode lists x → ((d : ℕ) → cut d ≡ 0) → number lists start x cut ≡ 0
 number_zero lists law x cut node none =

@@ -14,7 +14,8 @@ use Rattle.pm_stands.specs.Actors.{NoMoveOf}
 use Rattle.pm_stands.specs.Quiet.{IsQuiet}
 use Rattle.pm_stands.specs.Still.{IsStill}
 use Rattle.pm_plan.proofs.MarketLists.{lawful}
-use Rattle.pm_stands.proofs.Places.{placed, child_node, from_node}
+use Rattle.pm_plan.proofs.MarketLists.{child_node}
+use Rattle.pm_stands.proofs.Places.{placed, from_node}
 use Rattle.pm_stands.proofs.Made.{nothing_to_learn, cannot_publish}
 use Rattle.pm_stands.proofs.MayClear.{cannot_clear}
 use Rattle.pm_stands.proofs.Idle.{no_bid, no_pass, no_price, no_publish, no_news}
@@ -46,7 +47,7 @@ of_children : (plan : PlanData) (c : Core) (x k : ℕ) → IsPlan plan → k < l
     ((z : ℕ) → IsNode (plan_lists plan) z → parent (plan_lists plan) z ≡ x →
     Taken c (parent (plan_lists plan) z) (place_of plan.entries z)) → Taken c x k
 of_children plan c x k is_plan lt each =
-    let at = child_node plan is_plan x k lt in
+    let at = child_node plan x k lt in
     let z : ℕ = child_at plan x k in
     from_node plan z x k (Taken c) (sym at.1) (sym at.2) (each z at.0 at.1)
 

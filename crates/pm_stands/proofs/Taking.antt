@@ -19,11 +19,12 @@ use Rattle.pm_plan.specs.Plans.{PlanData}
 use Rattle.pm_plan.specs.Market.{plan_lists}
 use Rattle.pm_offer.specs.Offers.{local_at}
 use Rattle.pm_stands.specs.Core.{Core, link_at, uplink_of, seat_at}
-use Rattle.pm_stands.specs.Stands.{PriceAgrees, IsNewestDue, StandsFor, MakesMove}
+use Rattle.pm_laws.specs.Due.{IsNewestDue}
+use Rattle.pm_stands.specs.Stands.{PriceAgrees, StandsFor, MakesMove}
 use Rattle.pm_stands.specs.Made.{DidTake, taken_core}
 use Rattle.pm_plan.proofs.MarketLists.{lawful}
 use Rattle.pm_stands.proofs.Places.{one_place, at_node}
-use Rattle.pm_stands.proofs.Passes as passes
+use Rattle.pm_laws.proofs.Passes as passes
 use Rattle.pm_laws.proofs.MoveLaws.{due_parts}
 
 module _ (plan : PlanData) (is_plan : IsPlan plan) (c : Core) (s : State) (stands : StandsFor plan c s) (x : ℕ)

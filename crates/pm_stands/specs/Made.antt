@@ -17,7 +17,7 @@ use Rattle.pm_plan.specs.Market.{plan_lists}
 use Rattle.pm_offer.specs.Offers.{device_demand}
 use Rattle.pm_stands.specs.Core.{Core, row_at, link_at, gathered_at, concentrator_of, seat_at}
 use Rattle.pm_stands.specs.Rows.{OneLink, OneRow, OneConcentrator, EntryLearnt}
-use Rattle.pm_stands.specs.Stands.{is_gone}
+use Rattle.pm_laws.specs.Gone.{is_gone}
 
 -- the demand of a bid, none where it is gone
 abbrev pub bid_demand : Bool → List ℤ → Option (List ℤ)

@@ -2,17 +2,18 @@
 --
 -- A cluster keeps numbers, running sums and at most the records of a window; a state of the market keeps whole cuts for
 -- good, and no sums. The state cannot be computed from what is kept, so this is a relation.
-use Rattle.std.specs.Prelude.{◌≡◌, ℕ, ◌<◌, ◌≤◌, Bool, true, pos, cond, not, ◌==◌, length, slice_index_or, Some, None}
+use Rattle.std.specs.Prelude.{◌≡◌, ℕ, ◌<◌, ◌≤◌, true, pos, cond, not, ◌==◌, length, slice_index_or, Some, None}
 use Rattle.pm_bid.specs.declared.head.BidHead.{BidHead}
 use Rattle.pm_bid.specs.Clearing.{clearing_step}
 use Rattle.pm_tree.specs.Entries.{place_of}
-use Rattle.pm_market.specs.Lists.{Lists, parent, is_leaf, is_member, IsNode, IsLeaf, IsConcentrator}
+use Rattle.pm_market.specs.Lists.{Lists, parent, is_member, IsNode, IsLeaf, IsConcentrator}
 use Rattle.pm_market.specs.State.{State, is_same_on, cut_at, newest, part, known, number, last, clearings, cleared}
 use Rattle.pm_market.specs.Held.{last_join}
 use Rattle.pm_market.specs.Moves.{Legal, step}
 use Rattle.pm_market.specs.Sound.{Sound}
 use Rattle.pm_market.specs.declared.moves.Move.{Move}
-use Rattle.pm_laws.specs.Due.{is_due}
+use Rattle.pm_laws.specs.Due.{is_due, IsNewestDue}
+use Rattle.pm_laws.specs.Gone.{is_gone}
 use Rattle.pm_session.specs.Links.{UpBid}
 use Rattle.pm_session.specs.Ways.{Waits}
 use Rattle.pm_session.specs.Windows.{Keeps, record_of}
@@ -27,18 +28,9 @@ use Rattle.pm_plan.specs.Market.{plan_lists}
 use Rattle.pm_offer.specs.Offers.{offer, children_sum, local_at}
 use Rattle.pm_stands.specs.Core.{Core, IsShaped, limits_at, uplink_of, concentrator_of, head_of_child, demand_of_child, seat_of}
 
--- whether bid n of a node is gone: a device's where the device is no member then, a concentrator's where n is 0
-unfoldable pub is_gone : Lists → ℕ → ℕ → Bool
-is_gone lists x n = cond (is_leaf lists x) (not (is_member lists x n)) (n == 0)
-
 -- the head of bid n of a node
 abbrev pub head_for : Lists → ℕ → ℕ → BidHead
 head_for lists x n = record { number = n; gone = is_gone lists x n }
-
--- the greatest index of a clearing that is to be passed to the node, 0 where there is none
-pub record IsNewestDue (lists : Lists) (s : State) (x j : ℕ) : Type 0 where
-  pub due : 0 < j → is_due lists s x j ≡ true
-  pub most : (i : ℕ) → is_due lists s x i ≡ true → i ≤ j
 
 -- a bid that waits on its way up: newer than the one learnt last, and what the node offers over its number's part
 pub record BidAgrees (plan : PlanData) (s : State) (x : ℕ) (bid : UpBid) : Type 0 where

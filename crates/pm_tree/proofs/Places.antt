@@ -1,9 +1,11 @@
 -- A node's place among its parent's children, and the child at a place.
-use Rattle.std.proofs.Common.{◌≡◌, ℕ, ◌+◌, ◌-◌, ◌≤◌, zero, suc, true, List, [], ◌∷◌, ◌++◌, length, Some, slice_get}
+use Rattle.std.proofs.Common.{◌≡◌, ℕ, ◌+◌, ◌-◌, ◌<◌, ◌≤◌, get_or, zero, suc, true, List, [], ◌∷◌, ◌++◌, length, Some}
+use Rattle.std.proofs.Common.{slice_get}
 use Rattle.std.proofs.Common.{if◌then◌else◌, refl, sym, ap, subst, ◌∙◌}
 use Rattle.std.proofs.Common.{arith}
 use Rattle.std.proofs.Common.{Bool, false, ◌==◌, ◌⊎◌, inl, inr, append-nil}
 use Rattle.std.proofs.lemmas.Bool.Decides.{nat_tests}
+use Rattle.std.proofs.lemmas.Option.{slice_get-get_or}
 use Rattle.pm_base.proofs.Numbers.{same_number}
 use Rattle.pm_tree.specs.Shape.{parent_at, children_among, children_at, place_at}
 use Rattle.pm_tree.specs.Entries.{Entry, parents_of, parent_of, children_of, place_of}
@@ -127,3 +129,38 @@ unfolding children_at
 place_of_child entries node k child here =
     let found : IsChildAt (parents_of entries) node k child = child_from (parents_of entries) (length (parents_of entries)) node k child (omega arith) here in
     found.place_is
+
+-- of a list with at most one more, an element stands in the list, or is the one more
+among_more : (xs : List ℕ) (last k x : ℕ) (more : Bool) → slice_get (xs ++ (if more then last ∷ [] else [])) k ≡ Some x →
+    (slice_get xs k ≡ Some x) ⊎ (x ≡ last)
+among_more xs last k x false here = inl (ap (λ (l : List ℕ). slice_get l k) (sym (append-nil xs)) ∙ here)
+among_more xs last k x true here = elim (get-more xs last k x here) [ inl before ↦ inl before | inr w ↦ inr w.1 ]
+
+-- the children of a node are among the nodes
+child_inside : (parents : List ℕ) (count node k child : ℕ) → slice_get (children_among parents count node) k ≡ Some child →
+    (1 ≤ child) × (child ≤ count)
+child_inside parents zero node k child here = (cc)
+child_inside parents (suc count) node k child here =
+    let next : suc count ≡ count + 1 = omega arith in
+    let listed : slice_get (children_among parents (count + 1) node) k ≡ Some child =
+    subst (λ n. slice_get (children_among parents n node) k ≡ Some child) next here in
+    elim (among_more (children_among parents count node) (count + 1) k child (parent_at parents (count + 1) == node)
+    (ap (λ (l : List ℕ). slice_get l k) (sym (children_among-more parents count node)) ∙ listed)) [
+      | inl before ↦ let w = child_inside parents count node k child before in (w.0, omega (arith, w.1))
+      | inr last ↦ (omega (arith, last), omega (arith, last))
+    ]
+
+-- what stands in place k among the children of a node is an entry, with the node as its parent and k as its place
+pub child_entry : (entries : List Entry) (node k : ℕ) → k < length (children_of entries node) →
+    (1 ≤ get_or (children_of entries node) k 0) × (get_or (children_of entries node) k 0 ≤ length entries)
+    × (parent_of entries (get_or (children_of entries node) k 0) ≡ node) × (place_of entries (get_or (children_of entries node) k 0) ≡ k)
+unfolding children_at
+child_entry entries node k lt =
+    let child : ℕ = get_or (children_of entries node) k 0 in
+    let here : slice_get (children_of entries node) k ≡ Some child = slice_get-get_or (children_of entries node) k 0 lt in
+    let inside = child_inside (parents_of entries) (length (parents_of entries)) node k child here in (
+      inside.0,
+      omega (arith, inside.1, length-parents_of entries),
+      parent_of_child entries node k child here,
+      place_of_child entries node k child here,
+    )

@@ -7,7 +7,7 @@ use Rattle.pm_basis.specs.Prices.{BasisValue}
 use Rattle.pm_concentrator.specs.Concentrators.{IsNewConcentrator}
 use Rattle.pm_base.specs.declared.limits.Limits.{Limits}
 use Rattle.pm_plan.specs.Plans.{node, limits_of}
-use Rattle.pm_stands.proofs.Places.{limits_around}
+use Rattle.pm_plan.proofs.MarketLists.{limits_around}
 use Rattle.pm_tree.specs.declared.node.NodeId.{NodeId}
 use Rattle.pm_tree.specs.Entries.{Entry, children_of}
 use Rattle.pm_cluster.proofs.Parents.{nodes_are}

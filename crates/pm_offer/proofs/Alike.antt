@@ -1,22 +1,38 @@
--- Steps and sums of cuts that are the same on the leaves.
-use Rattle.std.proofs.Common.{◌≡◌, ◌∙◌, sym, ap, ℕ, ◌⊎◌, true, arith, inl, inr}
+-- Sums and steps of cuts that are the same on the leaves.
+use Rattle.std.proofs.Common.{◌≡◌, ◌∙◌, sym, ap, subst, ℕ, ◌<◌, ◌⊎◌, true, [], length, get_or, arith, inl, inr}
+use Rattle.std.proofs.lemmas.List.{ext_get_or, get_or-map, length-map}
 use Rattle.pm_base.specs.Cuts.{Cut}
+use Rattle.pm_bid.specs.Bids.{sum_of}
 use Rattle.pm_bid.specs.Clearing.{clearing_step}
 use Rattle.pm_bid.specs.Limited.{local_step}
-use Rattle.pm_market.specs.Lists.{IsNode}
+use Rattle.pm_tree.specs.Entries.{children_of}
+use Rattle.pm_market.specs.Lists.{IsNode, IsLeafOf}
 use Rattle.pm_market.specs.State.{SameOn}
-use Rattle.pm_market.proofs.Tree.{leaf_of_auctioneer, leaf_of_parts}
+use Rattle.pm_market.proofs.Tree.{leaf_of_auctioneer, leaf_of_parent, leaf_of_parts}
 use Rattle.pm_plan.specs.Kept.{IsPlan}
 use Rattle.pm_plan.specs.Plans.{PlanData, node, limits_of, is_limited, group}
 use Rattle.pm_plan.specs.Auction.{total, plain, local, group_step, sum_in}
 use Rattle.pm_plan.specs.States.{state}
 use Rattle.pm_plan.specs.Market.{plan_lists}
-use Rattle.pm_offer.specs.Offers.{local_at}
+use Rattle.pm_offer.specs.Offers.{offer, offers_of, children_sum, local_at}
 use Rattle.pm_offer.proofs.Laws as laws
 use Rattle.pm_offer.proofs.Offers.{limited_sum}
 use Rattle.pm_offer.proofs.GroupNodes.{group_kind, nodes_are}
-use Rattle.pm_plan.proofs.MarketLists.{lawful}
-use Rattle.pm_stands.proofs.Passing.{sum_alike}
+use Rattle.pm_plan.proofs.MarketLists.{lawful, child_node}
+
+-- the sum of offers sees the leaves alone
+pub sum_alike : (plan : PlanData) → IsPlan plan → (y : ℕ) (a b : Cut) → SameOn (plan_lists plan) y a b →
+    children_sum plan y a ≡ children_sum plan y b
+sum_alike plan is_plan y a b same =
+    ap (sum_of plan.basis.steps) (ext_get_or [] (offers_of plan y a) (offers_of plan y b)
+    (length-map (children_of plan.entries y) (λ z. offer plan z a) ∙ sym (length-map (children_of plan.entries y) (λ z. offer plan z b))) (λ k lt.
+    let lt' : k < length (children_of plan.entries y) = omega (arith, length-map (children_of plan.entries y) (λ z. offer plan z a)) in
+    let at = child_node plan y k lt' in
+    let z : ℕ = get_or (children_of plan.entries y) k 0 in
+    get_or-map (λ z. offer plan z a) (children_of plan.entries y) k 0 [] lt'
+    ∙ laws.offer_alike plan z a b is_plan (λ d leaf. same d (subst (λ (i : ℕ). IsLeafOf (plan_lists plan) i d) at.1 (
+    leaf_of_parent (plan_lists plan) (lawful plan is_plan) z d leaf)))
+    ∙ sym (get_or-map (λ z. offer plan z b) (children_of plan.entries y) k 0 [] lt')))
 
 module _ (plan : PlanData) (is_plan : IsPlan plan) (a b : Cut) (same : SameOn (plan_lists plan) 0 a b) where
   -- two cuts that are the same on all leaves have the same total

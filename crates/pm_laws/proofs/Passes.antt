@@ -5,10 +5,9 @@ use Rattle.pm_market.specs.State.{State, last_of, last, addresses}
 use Rattle.pm_market.specs.Moves.{step}
 use Rattle.pm_market.specs.declared.moves.Move.TheVariants.{Pass}
 use Rattle.pm_market.proofs.Cuts.{updated_same, updated_other}
-use Rattle.pm_laws.specs.Due.{is_due}
+use Rattle.pm_laws.specs.Due.{is_due, IsNewestDue}
 use Rattle.pm_laws.proofs.Facts.{last_push}
 use Rattle.pm_laws.proofs.MoveLaws.{due_passed}
-use Rattle.pm_stands.specs.Stands.{IsNewestDue}
 
 module _ (lists : Lists) (s : State) (x j : ℕ) where
   abbrev next : State
