@@ -1,0 +1,60 @@
+-- Lists of messages, and functions in which a place was replaced.
+use Rattle.std.proofs.Common.{◌≡◌, ℕ, zero, suc, ◌<◌, ◌≤◌, Bool, true, false, cond, eqb, inl, inr, List, [], ◌∷◌, ◌++◌}
+use Rattle.std.proofs.Common.{length, get_or, refl, sym, ◌∙◌, ap, subst, arith}
+use Rattle.std.proofs.lemmas.Bool.{cases_eq, cases_lt}
+use Rattle.std.proofs.lemmas.List.{get_or_append_left, get_or_push, length_push}
+use Rattle.pm_market.specs.State.{updated}
+use Rattle.pm_market.proofs.Cuts.{updated_same, updated_other}
+
+-- what holds on both ways of a test holds of the choice
+pub either : {A : Type 0} → (P : A → Type 0) (b : Bool) (x y : A) → (b ≡ true → P x) → (b ≡ false → P y) → P (cond b x y)
+either P true x y on_true on_false = on_true refl
+either P false x y on_true on_false = on_false refl
+
+-- functions that are the same at a place are so after the same replacement
+pub updated_alike : {A : Type 0} → (f g : ℕ → A) (x : ℕ) (v : A) (y : ℕ) → f y ≡ g y → updated f x v y ≡ updated g x v y
+unfolding updated
+updated_alike f g x v y h = ap (λ z. cond (eqb y x) v z) h
+
+-- a function of two numbers with one replaced
+pub two_same : {A : Type 0} → (f : ℕ → ℕ → A) (y m : ℕ) (v : A) (z n : ℕ) → z ≡ y → n ≡ m → updated f y (updated (f y) m v) z n ≡ v
+two_same f y m v z n e h =
+    ap (λ (i : ℕ). updated f y (updated (f y) m v) i n) e ∙ ap (λ q. q n) (updated_same f y (updated (f y) m v))
+    ∙ ap (λ (i : ℕ). updated (f y) m v i) h ∙ updated_same (f y) m v
+
+-- at any other two numbers it is the old one
+pub two_other : {A : Type 0} → (f : ℕ → ℕ → A) (y m : ℕ) (v : A) (z n : ℕ) → (z ≡ y → n ≡ m → ⊥) →
+    updated f y (updated (f y) m v) z n ≡ f z n
+two_other f y m v z n ne =
+    elim (cases_eq z y) [
+      | inl e ↦ ap (λ (i : ℕ). updated f y (updated (f y) m v) i n) e ∙ ap (λ q. q n) (updated_same f y (updated (f y) m v))
+          ∙ updated_other (f y) m v n (ne e) ∙ ap (λ (i : ℕ). f i n) (sym e)
+      | inr d ↦ ap (λ q. q n) (updated_other f y (updated (f y) m v) z d)
+    ]
+
+-- past the end of a list stands the default
+pub past : {A : Type 0} → (l : List A) (k : ℕ) (d : A) → length l ≤ k → get_or l k d ≡ d
+past [] zero d le = refl
+past [] (suc k) d le = refl
+past (x ∷ xs) zero d le = absurd (omega arith)
+past (x ∷ xs) (suc k) d le = past xs k d (omega arith)
+
+-- what holds of each message, and of one more, holds of each once that one is sent
+pub each_push : {A : Type 0} → (P : A → Type 0) (l : List A) (v d : A) → ((k : ℕ) → k < length l → P (get_or l k d)) → P v →
+    (k : ℕ) → k < length (l ++ v ∷ []) → P (get_or (l ++ v ∷ []) k d)
+each_push P l v d each new k lt =
+    elim (cases_lt k (length l)) [
+      | inl below ↦ subst P (sym (get_or_append_left l (v ∷ []) d k below)) (each k below)
+      | inr above ↦ let at : length l ≡ k = omega (arith, above, lt, length_push l v) in subst P (sym (get_or_push l v d k at)) new
+    ]
+
+-- what holds of some message does so still, and of the one that is sent
+pub some_push : {A : Type 0} → (P : A → Type 0) (l : List A) (v d : A) → ((k : ℕ) × (k < length l) × P (get_or l k d)) →
+    (k : ℕ) × (k < length (l ++ v ∷ [])) × P (get_or (l ++ v ∷ []) k d)
+some_push P l v d some =
+    (some.0, omega (arith, some.1, length_push l v), subst P (sym (get_or_append_left l (v ∷ []) d some.0 some.1)) some.2)
+
+-- a message that is sent is there
+pub new_push : {A : Type 0} → (P : A → Type 0) (l : List A) (v d : A) → P v →
+    (k : ℕ) × (k < length (l ++ v ∷ [])) × P (get_or (l ++ v ∷ []) k d)
+new_push P l v d new = (length l, omega (arith, length_push l v), subst P (sym (get_or_push l v d (length l) refl)) new)

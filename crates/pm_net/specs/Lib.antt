@@ -1,0 +1,11 @@
+pub mod Pricing
+pub mod Messages
+pub mod Network
+pub mod Running
+pub mod Restarts
+pub mod Events
+pub mod Agrees
+pub mod Settled
+pub mod TreeAuction
+pub mod HeldPrice
+pub mod SmallRuns

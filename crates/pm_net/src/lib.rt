@@ -1,0 +1,165 @@
+//! The law of the network: devices, relays and an auctioneer on machines of their own, whose channels lose, repeat and reorder
+//! messages and which restart, run the market of cuts.
+//!
+//! A channel is the list of all messages that were ever sent on it; a node takes any of them, at any time and as often as it
+//! likes. Each law is the contract of a function with an empty body.
+#![tactic(auto)]
+
+ghost use Rattle.std.specs.Prelude.{◌≡◌, ◌⊎◌, ℕ, ◌<◌, ◌≤◌, ℤ, true, false, negsuc, List, [], ◌∷◌, length, Option, Some, None};
+ghost use Rattle.pm_base.specs.Limits.{AreLimits, window_size};
+ghost use Rattle.pm_base.specs.declared.limits.Limits.{Limits};
+ghost use Rattle.pm_bid.specs.Bids.{zeros};
+ghost use Rattle.pm_market.specs.Lists.{Lists, phases, is_member, IsNode, IsLeaf, IsConcentrator, Lawful};
+ghost use Rattle.pm_market.specs.State.{State, start, last, clearings, cleared};
+ghost use Rattle.pm_market.specs.Moves.{after_from};
+ghost use Rattle.pm_market.specs.Held.{held};
+ghost use Rattle.pm_net.specs.Pricing.{Pricing, GoesByNodes};
+ghost use Rattle.pm_net.specs.Messages.{price_message};
+ghost use Rattle.pm_net.specs.Network.{Network, start_network, sent_price, IsUnbroken};
+ghost use Rattle.pm_net.specs.Running.{is_caught_up, can_send, can_clear};
+ghost use Rattle.pm_net.specs.Restarts.{can_rebuild};
+ghost use Rattle.pm_net.specs.Events.{Event, network_step, network_after, KeepsRunning, RunsOn, IsSameOrNewer};
+ghost use Rattle.pm_net.specs.Agrees.{price_of_clearing, HoldsIts, NetworkAgrees, GoesOn, GoesForward};
+ghost use Rattle.pm_net.specs.Settled.{IsSettledNetwork, AllTaken};
+ghost use Rattle.pm_net.specs.HeldPrice.{goes_by, IsOfItsClearing};
+ghost use Rattle.pm_net.specs.TreeAuction.{TreeDemand, IsTreeDemand, add_below, tree_pricing, AreAsGood, with_limits};
+ghost use Rattle.pm_net.specs.SmallRuns.{one_relay, run_of, device_holds, cleared_once, index_held, skipped, window_sent};
+
+/// Each run of a network, with whatever losses, repetitions and restarts, is a legal journal of the market of cuts: some
+/// legal moves lead from the start to a state that the network then stands for. An event goes on from whatever state the
+/// network stood for, so the journal of a longer run continues that of a shorter.
+pub fn networks_run_the_market()
+    ensures run { (lists : Lists) (p : Pricing) (events : List Event) → Lawful lists → phases lists ≡ 1 → GoesByNodes lists p →
+        GoesOn lists p start (network_after lists p (start_network p) events) }
+    ensures event { (lists : Lists) (p : Pricing) (net : Network) (s : State) (e : Event) → Lawful lists → phases lists ≡ 1 → GoesByNodes lists p →
+        NetworkAgrees lists p net s → GoesOn lists p s (network_step lists p net e) }
+{}
+
+/// Every price that was ever sent to a node names the node's own number in the cut of its clearing, and the node's local
+/// step there; of two of them the one of the greater index is over bids none of which is older.
+pub fn prices_answer_numbered_bids()
+    ensures named { (lists : Lists) (p : Pricing) (net : Network) (s : State) (x k : ℕ) → NetworkAgrees lists p net s → IsNode lists x →
+        k < length (net.prices_sent x) → sent_price net x k ≡ price_of_clearing lists p s x (sent_price net x k).index }
+    ensures back { (lists : Lists) (p : Pricing) (net : Network) (s : State) (x i j d : ℕ) → Lawful lists → NetworkAgrees lists p net s →
+        IsNode lists x →
+        i < length (net.prices_sent x) → j < length (net.prices_sent x) → (sent_price net x i).index ≤ (sent_price net x j).index → IsLeaf lists d →
+        cleared s (sent_price net x i).index d ≤ cleared s (sent_price net x j).index d }
+{}
+
+/// Nobody's place in the journal ever falls. What a node holds is nothing, or a price that is due to it, of no later clearing
+/// than the last one passed to it. A price that it is given makes no move where its clearing is not later than that one; else
+/// it is the last one then. What a node holds is replaced by prices of greater indices alone, except where the node itself
+/// restarts: it may then come back with an older one, and be given those after that one again, or for the first time.
+pub fn nobody_goes_back()
+    ensures place { (lists : Lists) (p : Pricing) (net : Network) (s : State) (goes : GoesOn lists p s net) (old : Network) (x : ℕ) → Lawful lists →
+        NetworkAgrees lists p old s → last s x ≤ last (after_from lists s goes.moves) x }
+    ensures held { (lists : Lists) (p : Pricing) (net : Network) (s : State) (x : ℕ) → NetworkAgrees lists p net s → IsNode lists x →
+        HoldsIts lists p s x (net.taken x) × ((net.taken x).index ≤ last s x) }
+    ensures forward { (lists : Lists) (p : Pricing) (net : Network) (s : State) (x k : ℕ) → Lawful lists → GoesByNodes lists p →
+        NetworkAgrees lists p net s →
+        GoesForward lists p s x (sent_price net x k).index (network_step lists p net (Event.TakesPrice x k)) }
+    ensures rises { (lists : Lists) (p : Pricing) (net : Network) (e : Event) (x : ℕ) → KeepsRunning x e →
+        IsSameOrNewer net x (network_step lists p net e) }
+    ensures since { (lists : Lists) (p : Pricing) (net : Network) (events : List Event) (x : ℕ) → RunsOn x events →
+        (net.taken x).index ≤ ((network_after lists p net events).taken x).index }
+    ensures restarts { (lists : Lists) (p : Pricing) (net : Network) (x k : ℕ) →
+        ((network_step lists p net (Event.Restarts x k)).taken x).index ≤ (net.taken x).index }
+{}
+
+/// A device drops the price of a former membership. What a device goes by that never restarted is what the market says that
+/// it holds. Whatever price a device came back with, what it goes by is of that price's clearing: its own number there and
+/// its local step, and no older than its last join. In a settled network each member goes by its newest bid at its local
+/// step over all bids ever made.
+pub fn devices_go_by_held_prices()
+    ensures held { (lists : Lists) (p : Pricing) (net : Network) (s : State) (d : ℕ) → Lawful lists → NetworkAgrees lists p net s → IsLeaf lists d →
+        net.restarts d ≡ 0 → goes_by lists net d ≡ held lists p.local s d }
+    ensures of_its_clearing { (lists : Lists) (p : Pricing) (net : Network) (s : State) (d step number : ℕ) → Lawful lists →
+        NetworkAgrees lists p net s →
+        IsLeaf lists d → goes_by lists net d ≡ Some (step, number) → IsOfItsClearing lists p net s d step number }
+    ensures settled { (lists : Lists) (p : Pricing) (net : Network) (s : State) (d : ℕ) → Lawful lists → GoesByNodes lists p →
+        NetworkAgrees lists p net s →
+        IsSettledNetwork lists net → IsLeaf lists d → is_member lists d (net.counts d) ≡ true →
+        goes_by lists net d ≡ Some (p.local net.counts d, net.counts d) }
+{}
+
+/// A relay, restarted or not, takes each newer price that was ever sent to it, once it holds of each child a number that is
+/// not below the one in its newest record, and has that record again if it can.
+pub fn relays_take_newer_prices()
+    ensures { (lists : Lists) (p : Pricing) (net : Network) (s : State) (c k : ℕ) → Lawful lists → NetworkAgrees lists p net s →
+        IsConcentrator lists c →
+        k < length (net.prices_sent c) → (net.taken c).index < (sent_price net c k).index → is_caught_up lists net c ≡ true →
+        can_rebuild lists net c ≡ false → (network_step lists p net (Event.TakesPrice c k)).taken c ≡ sent_price net c k }
+{}
+
+/// Settled is current, over restarts too. Where each parent holds the newest bid of each child, each node the newest price
+/// sent to it, and nothing new can be sent, the last clearing is over all bids ever made, and each member holds its local step
+/// over them, at its own newest number. While nothing restarted, a network is settled where no message is left that anybody
+/// would take, and nothing new can be sent.
+pub fn settled_networks_are_current()
+    ensures counted { (lists : Lists) (p : Pricing) (net : Network) (s : State) (d : ℕ) → Lawful lists → GoesByNodes lists p →
+        NetworkAgrees lists p net s →
+        IsSettledNetwork lists net → IsLeaf lists d → cleared s (clearings s) d ≡ net.counts d }
+    ensures held { (lists : Lists) (p : Pricing) (net : Network) (s : State) (d : ℕ) → Lawful lists → GoesByNodes lists p →
+        NetworkAgrees lists p net s →
+        IsSettledNetwork lists net → IsLeaf lists d → is_member lists d (net.counts d) ≡ true →
+        net.taken d ≡ price_message (net.counts d) (clearings s) (p.local net.counts d) }
+    ensures unbroken { (lists : Lists) (p : Pricing) (net : Network) (s : State) → Lawful lists → NetworkAgrees lists p net s → IsUnbroken net →
+        AllTaken lists p net → IsSettledNetwork lists net }
+{}
+
+/// The auction of a tree by its own definition, with limits at any relay, goes by nodes: so all of the above holds of it.
+/// Adding up the children in the order of the nodes is one way to add.
+pub fn tree_auctions_go_by_nodes()
+    ensures goes { (lists : Lists) (a : TreeDemand) → Lawful lists → IsTreeDemand lists a → GoesByNodes lists (tree_pricing lists a) }
+    ensures in_node_order { (lists : Lists) (a : TreeDemand) → a.add ≡ add_below lists a.steps → ((d : ℕ) → a.demand d 0 ≡ zeros a.steps) →
+        ((x : ℕ) (l : Limits) → a.limits x ≡ Some l → AreLimits l) → IsTreeDemand lists a }
+{}
+
+/// A relay whose limits never bind is a concentrator without limits: such limits may be taken out and put in, and the same
+/// offers go up and the same steps come down.
+pub fn limits_that_never_bind_change_nothing()
+    ensures { (lists : Lists) (p : Pricing) (limits : ℕ → Option Limits) → GoesByNodes lists p → AreAsGood lists p limits →
+        GoesByNodes lists (with_limits p limits) }
+{}
+
+/// Small networks, worked out: what a lost price, a repeated message and a restart do, and why less would not be enough.
+pub fn small_networks_are_as_worked_out()
+    // Every message comes twice, and the device holds the step of clearing 1 for its bid 1.
+    ensures repeated { device_holds (Event.Bids 2 ∷ Event.TakesBid 2 0 ∷ Event.TakesBid 2 0 ∷ Event.Sends 1 ∷ Event.Sends 1 ∷ Event.TakesBid 1 0
+        ∷ Event.Clears
+        ∷ Event.TakesBid 1 0 ∷ Event.Clears ∷ Event.TakesPrice 1 0 ∷ Event.TakesPrice 1 0 ∷ Event.TakesPrice 2 0 ∷ Event.TakesPrice 2 0 ∷ [])
+        ≡ price_message 1 1 1 }
+    // The price to the relay is lost, and the device holds none.
+    ensures lost { device_holds (cleared_once (Event.TakesPrice 2 0 ∷ [])) ≡ price_message 0 0 0 }
+    // A relay that restarts leaves the price of its newest bid until it has heard its children again, and then passes it on.
+    ensures waits { device_holds (cleared_once (Event.Restarts 1 0 ∷ Event.TakesPrice 1 0 ∷ Event.TakesPrice 2 0 ∷ [])) ≡ price_message 0 0 0 }
+    ensures rebuilt { device_holds (cleared_once (Event.Restarts 1 0 ∷ Event.TakesBid 2 0 ∷ Event.Rebuilds 1 ∷ Event.TakesPrice 1 0 ∷
+        Event.TakesPrice 2 0 ∷ []))
+        ≡ price_message 1 1 1 }
+    // A device that left and joined again drops the price of its former membership, though it holds it.
+    ensures dropped { goes_by one_relay (run_of one_relay (cleared_once
+        (Event.TakesPrice 1 0 ∷ Event.TakesPrice 2 0 ∷ Event.Bids 2 ∷ Event.Bids 2 ∷ []))) 2
+        ≡ None }
+    // A price that a relay skipped before it restarted is passed on after it: a journal that passes to the relay just what it
+    // took, clearing 1 and then 3, cannot go on.
+    ensures skipped_is_passed { index_held (skipped (Event.TakesPrice 2 2 ∷ [])) ≡ 2 }
+    // A device that took price 3 does not go back to it, but it does where it restarts itself with the index of price 1.
+    ensures not_back { index_held (skipped (Event.TakesPrice 2 1 ∷ Event.TakesPrice 2 2 ∷ [])) ≡ 3 }
+    ensures goes_back { index_held (skipped (Event.TakesPrice 2 1 ∷ Event.Restarts 2 0 ∷ Event.TakesPrice 2 2 ∷ [])) ≡ 2 }
+    // A relay that stops before its bid 1 is sent has no news then, and no message is left, though nobody is told anything; it
+    // has to send that bid again.
+    ensures stopped { let net = run_of one_relay (Event.Bids 2 ∷ Event.TakesBid 2 0 ∷ Event.StopsBidding 1 ∷ []) in
+        (can_send one_relay net 1 ≡ false) × (can_clear one_relay net ≡ false) × (net.bids_sent 1 ≡ []) }
+    ensures sent_again { device_holds (Event.Bids 2 ∷ Event.TakesBid 2 0 ∷ Event.StopsBidding 1 ∷ Event.Restarts 1 0 ∷ Event.TakesBid 2 0 ∷
+        Event.Rebuilds 1
+        ∷ Event.Resends 1 ∷ Event.TakesBid 1 0 ∷ Event.Clears ∷ Event.TakesPrice 1 0 ∷ Event.TakesPrice 2 0 ∷ []) ≡ price_message 1 1 1 }
+    // An auctioneer that stops before a price is sent has no news then either; it has to tell its children again.
+    ensures untold { let net = run_of one_relay (Event.Bids 2 ∷ Event.TakesBid 2 0 ∷ Event.Sends 1 ∷ Event.TakesBid 1 0 ∷ Event.StopsClearing ∷ []) in
+        (can_clear one_relay net ≡ false) × (net.prices_sent 1 ≡ []) }
+    ensures told_again { device_holds (Event.Bids 2 ∷ Event.TakesBid 2 0 ∷ Event.Sends 1 ∷ Event.TakesBid 1 0 ∷ Event.StopsClearing ∷
+        Event.Restarts 0 0
+        ∷ Event.TakesBid 1 0 ∷ Event.Rebuilds 0 ∷ Event.TellsOne 1 ∷ Event.TakesPrice 1 0 ∷ Event.TakesPrice 2 0 ∷ []) ≡ price_message 1 1 1 }
+    // As many bids were sent as the window has, and all are answered. With an older number answered than belongs to the index the window seems full,
+    // and no price would ever come to open it.
+    ensures seems_full { (can_send one_relay (window_sent window_size) 1 ≡ true) × (can_send one_relay (window_sent 0) 1 ≡ false) }
+{}
