@@ -1,0 +1,4 @@
+pub mod Offers
+pub mod Steps
+pub mod Told
+pub mod Membership
