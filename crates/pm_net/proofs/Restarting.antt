@@ -1,7 +1,8 @@
 -- A node restarts, or a relay has its newest record again: the market makes no move.
-use Rattle.std.proofs.Common.{◌≡◌, ◌∙◌, sym, ap, subst, ℕ, ◌+◌, ◌<◌, ◌≤◌, true, false, not, eqb, ltb, leb, [], arith, inl}
-use Rattle.std.proofs.Common.{inr, length}
-use Rattle.std.proofs.lemmas.Bool.{cases_eq, cases_lt, and_parts, ltb-true, leb-true, not-true}
+use Rattle.std.proofs.Common.{◌≡◌, ◌∙◌, sym, ap, subst, ℕ, ◌+◌, ◌<◌, ◌≤◌, Bool, cond, false, true, not, eqb, ltb, leb, []}
+use Rattle.std.proofs.Common.{arith, inl}
+use Rattle.std.proofs.Common.{inr, length, refl}
+use Rattle.std.proofs.lemmas.Bool.{cases_eq, cases_lt, and_parts, ltb-true, leb-true, not-true, eq-eqb}
 use Rattle.pm_market.specs.Lists.{Lists, parent, IsNode, Lawful}
 use Rattle.pm_market.specs.State.{State, updated, cut_at, number}
 use Rattle.pm_market.proofs.Cuts.{updated_same, updated_other}
@@ -9,8 +10,8 @@ use Rattle.pm_laws.proofs.Facts.{updated_at}
 use Rattle.pm_net.specs.Pricing.{Pricing, GoesByNodes}
 use Rattle.pm_net.specs.Messages.{BidMessage, PriceMessage, nothing_heard, no_price}
 use Rattle.pm_net.specs.Network.{Network, sent_price}
-use Rattle.pm_net.specs.Running.{has_news}
-use Rattle.pm_net.specs.Restarts.{with_restart, stored_price, number_alone, after_restart}
+use Rattle.pm_net.specs.Running.{recorded_number, has_news}
+use Rattle.pm_net.specs.Restarts.{with_restart, stored_price, number_alone, nothing_left, records_left, after_restart}
 use Rattle.pm_net.specs.Restarts.{can_rebuild, after_rebuilding}
 use Rattle.pm_net.specs.Agrees.{bid_of_number, IsItsBid, HoldsIts, NetworkAgrees, GoesOn}
 use Rattle.pm_net.proofs.Breaks.{broken, not_restarted, none_before}
@@ -35,8 +36,13 @@ module _ (lists : Lists) (law : Lawful lists) (p : Pricing) (by : GoesByNodes li
           | inr ge ↦ inl (past (net.prices_sent y) k no_price ge)
         ]) (λ e. agrees.taken y node)
 
-    abbrev numbers : ℕ → BidMessage
-    numbers x = number_alone (net.records y (net.last_number y) x)
+    abbrev left : ℕ → ℕ → BidMessage
+    left = records_left net y
+
+    -- of the newest record the numbers are left
+    left_number : (x : ℕ) → (left (net.last_number y) x).number ≡ recorded_number net y x
+    left_number x = ap (λ (b : Bool). (cond b (number_alone (net.records y (net.last_number y) x)) nothing_left).number)
+        (eq-eqb (net.last_number y) (net.last_number y) refl)
 
     -- a restart is no move
     pub restarting : GoesOn lists p s (after_restart lists p net y k)
@@ -52,16 +58,15 @@ module _ (lists : Lists) (law : Lawful lists) (p : Pricing) (by : GoesByNodes li
         learnt = agrees.learnt;
         last_number = agrees.last_number;
         newest_numbers = λ x node. elim (cases_eq (parent lists x) y) [
-          | inl up ↦ ap (λ (f : ℕ → BidMessage). (f x).number)
-              (two_same net.records y (net.last_number y) numbers (parent lists x) (net.last_number (parent lists x)) up (ap net.last_number up))
-              ∙ ap (λ (z : ℕ). (net.records z (net.last_number z) x).number) (sym up) ∙ agrees.newest_numbers x node
-          | inr ne ↦ ap (λ (f : ℕ → BidMessage). (f x).number)
-              (two_other net.records y (net.last_number y) numbers (parent lists x) (net.last_number (parent lists x)) (λ up e. ne up))
-              ∙ agrees.newest_numbers x node
+          | inl up ↦ ap (λ (z : ℕ). (updated net.records y left z (net.last_number z) x).number) up
+              ∙ ap (λ (f : ℕ → ℕ → BidMessage). (f (net.last_number y) x).number) (updated_same net.records y left) ∙ left_number x
+              ∙ ap (λ (z : ℕ). recorded_number net z x) (sym up) ∙ agrees.newest_numbers x node
+          | inr ne ↦ ap (λ (f : ℕ → ℕ → BidMessage). (f (net.last_number (parent lists x)) x).number)
+              (updated_other net.records y left (parent lists x) ne) ∙ agrees.newest_numbers x node
         ];
         records = λ x n node whole le. elim (updated_at net.whole_from y (net.last_number y + 1) (parent lists x)) [
           | inl w ↦ absurd (omega (arith, whole, w.1, ap net.last_number w.0, agrees.last_number (parent lists x) (law.inner x node), le))
-          | inr w ↦ ap (λ (f : ℕ → BidMessage). f x) (two_other net.records y (net.last_number y) numbers (parent lists x) n (λ up e. w.0 up))
+          | inr w ↦ ap (λ (f : ℕ → ℕ → BidMessage). f n x) (updated_other net.records y left (parent lists x) w.0)
               ∙ agrees.records x n node (omega (arith, whole, w.1)) le
         ];
         answered = λ c conc. elim (cases_eq c y) [

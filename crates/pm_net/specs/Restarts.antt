@@ -17,9 +17,16 @@ use Rattle.pm_net.specs.Running.{device_bid, with_record, has_news, is_new_price
 abbrev pub stored_price : Network → ℕ → ℕ → PriceMessage
 stored_price net y k = cond (nat_le (sent_price net y k).index (net.taken y).index) (sent_price net y k) (net.taken y)
 
--- what is left of a bid of which only the number was stored
+-- what is left of a bid of which only the number was stored, and of one of which nothing was
 abbrev pub number_alone : BidMessage → BidMessage
 number_alone bid = bid_message bid.number true []
+
+abbrev pub nothing_left : BidMessage
+nothing_left = bid_message 0 true []
+
+-- what is left of the records of y: of the newest one the numbers
+abbrev pub records_left : Network → ℕ → ℕ → ℕ → BidMessage
+records_left net y n x = cond (n == net.last_number y) (number_alone (net.records y n x)) nothing_left
 
 -- one restart or stop more of x
 abbrev pub with_restart : Network → ℕ → ℕ → ℕ
@@ -31,7 +38,7 @@ with_restart net x = updated net.restarts x (net.restarts x + 1)
 abbrev pub after_restart : Lists → Pricing → Network → ℕ → ℕ → Network
 after_restart lists p net y k = record net {
   heard = λ x. cond (parent lists x == y) (nothing_heard p) (net.heard x);
-  records = updated net.records y (updated (net.records y) (net.last_number y) (λ x. number_alone (net.records y (net.last_number y) x)));
+  records = updated net.records y (records_left net y);
   whole_from = updated net.whole_from y (net.last_number y + 1);
   answered = updated net.answered y (stored_price net y k).number;
   taken = updated net.taken y (stored_price net y k);

@@ -1,5 +1,5 @@
 -- Small networks, to be worked out.
-use Rattle.std.specs.Prelude.{ℕ, ◌+◌, pos, negsuc, true, false, if◌then◌else◌, List, [], ◌∷◌, None}
+use Rattle.std.specs.Prelude.{ℕ, ◌+◌, pos, negsuc, true, false, if◌then◌else◌, ◌==◌, List, [], ◌∷◌, Some, None}
 use Rattle.pm_base.specs.Limits.{window_size}
 use Rattle.pm_bid.specs.Bids.{zeros}
 use Rattle.pm_market.specs.Lists.{Lists, is_member}
@@ -34,6 +34,14 @@ small_demand lists = record {
   limits = λ c. None;
   add = add_below lists 2;
 }
+
+-- the same with a relay 1 that holds its part between -1 and 2 watts
+abbrev pub limited_demand : Lists → TreeDemand
+limited_demand lists = record (small_demand lists) { limits = λ c. if c == 1 then Some (record { floor = negsuc 0; ceiling = pos 2 }) else None }
+
+abbrev pub limited_run_of : Lists → List Event → Network
+limited_run_of lists events =
+    network_after lists (tree_pricing lists (limited_demand lists)) (start_network (tree_pricing lists (limited_demand lists))) events
 
 -- the network after these events, from the start
 abbrev pub run_of : Lists → List Event → Network

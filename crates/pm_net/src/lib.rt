@@ -5,7 +5,8 @@
 //! likes. Each law is the contract of a function with an empty body.
 #![tactic(auto)]
 
-ghost use Rattle.std.specs.Prelude.{◌≡◌, ◌⊎◌, ℕ, ◌<◌, ◌≤◌, ℤ, true, false, negsuc, List, [], ◌∷◌, length, Option, Some, None};
+ghost use Rattle.std.specs.Prelude.{◌≡◌, ◌⊎◌, ℕ, ◌<◌, ◌≤◌, ℤ, true, false, pos, negsuc, List, [], ◌∷◌, length, Option};
+ghost use Rattle.std.specs.Prelude.{Some, None};
 ghost use Rattle.pm_base.specs.Limits.{AreLimits, window_size};
 ghost use Rattle.pm_base.specs.declared.limits.Limits.{Limits};
 ghost use Rattle.pm_bid.specs.Bids.{zeros};
@@ -14,16 +15,16 @@ ghost use Rattle.pm_market.specs.State.{State, start, last, clearings, cleared};
 ghost use Rattle.pm_market.specs.Moves.{after_from};
 ghost use Rattle.pm_market.specs.Held.{held};
 ghost use Rattle.pm_net.specs.Pricing.{Pricing, GoesByNodes};
-ghost use Rattle.pm_net.specs.Messages.{price_message};
+ghost use Rattle.pm_net.specs.Messages.{bid_message, price_message};
 ghost use Rattle.pm_net.specs.Network.{Network, start_network, sent_price, IsUnbroken};
-ghost use Rattle.pm_net.specs.Running.{is_caught_up, can_send, can_clear};
+ghost use Rattle.pm_net.specs.Running.{recorded_number, is_caught_up, can_send, can_clear};
 ghost use Rattle.pm_net.specs.Restarts.{can_rebuild};
 ghost use Rattle.pm_net.specs.Events.{Event, network_step, network_after, KeepsRunning, RunsOn, IsSameOrNewer};
 ghost use Rattle.pm_net.specs.Agrees.{price_of_clearing, HoldsIts, NetworkAgrees, GoesOn, GoesForward};
 ghost use Rattle.pm_net.specs.Settled.{IsSettledNetwork, AllTaken};
 ghost use Rattle.pm_net.specs.HeldPrice.{goes_by, IsOfItsClearing};
 ghost use Rattle.pm_net.specs.TreeAuction.{TreeDemand, IsTreeDemand, add_below, tree_pricing, AreAsGood, with_limits};
-ghost use Rattle.pm_net.specs.SmallRuns.{one_relay, run_of, device_holds, cleared_once, index_held, skipped, window_sent};
+ghost use Rattle.pm_net.specs.SmallRuns.{one_relay, run_of, limited_run_of, device_holds, cleared_once, index_held, skipped, window_sent};
 
 /// Each run of a network, with whatever losses, repetitions and restarts, is a legal journal of the market of cuts: some
 /// legal moves lead from the start to a state that the network then stands for. An event goes on from whatever state the
@@ -162,4 +163,55 @@ pub fn small_networks_are_as_worked_out()
     // As many bids were sent as the window has, and all are answered. With an older number answered than belongs to the index the window seems full,
     // and no price would ever come to open it.
     ensures seems_full { (can_send one_relay (window_sent window_size) 1 ≡ true) × (can_send one_relay (window_sent 0) 1 ≡ false) }
+{}
+
+/// Small networks, worked out: each rule of a node, one by one.
+pub fn small_networks_keep_the_rules()
+    // Bids have numbers 1, 2, ..; the device leaves by its bid 2.
+    ensures numbered { (run_of one_relay (Event.Bids 2 ∷ Event.Bids 2 ∷ [])).bids_sent 2
+        ≡ bid_message 1 false (pos 5 ∷ negsuc 2 ∷ []) ∷ bid_message 2 true (pos 0 ∷ pos 0 ∷ []) ∷ [] }
+    // An older bid is not taken.
+    ensures newest_bid { ((run_of one_relay (Event.Bids 2 ∷ Event.Bids 2 ∷ Event.TakesBid 2 1 ∷ Event.TakesBid 2 0 ∷ [])).heard 2).number ≡ 2 }
+    // A relay between -1 and 2 watts announces 2 and -1. The market clears at the second step, where its device would deliver 3, so
+    // it passes the first step down.
+    ensures limited { let net = limited_run_of one_relay (cleared_once (Event.TakesPrice 1 0 ∷ [])) in
+        (net.bids_sent 1 ≡ bid_message 1 false (pos 2 ∷ negsuc 0 ∷ []) ∷ []) × (net.prices_sent 2 ≡ price_message 1 1 0 ∷ []) }
+    // The device left while the price was on its way, and its relay heard so; the price is passed by the record all the same, and
+    // at the step that the record's sum gives.
+    ensures by_record { (limited_run_of one_relay (cleared_once (Event.Bids 2 ∷ Event.TakesBid 2 1 ∷ Event.TakesPrice 1 0 ∷ []))).prices_sent 2
+        ≡ price_message 1 1 0 ∷ [] }
+    // A child that is gone in the record is told nothing.
+    ensures gone { (run_of one_relay (Event.Bids 2 ∷ Event.Bids 2 ∷ Event.TakesBid 2 1 ∷ Event.Sends 1 ∷ Event.TakesBid 1 0 ∷ Event.Clears
+        ∷ Event.TakesPrice 1 0 ∷ [])).prices_sent 2 ≡ [] }
+    // A price names the receiver's own number: bid 3 of the device, and bid 1 of the relay, which answers it.
+    ensures own_number { let net = run_of one_relay (Event.Bids 2 ∷ Event.Bids 2 ∷ Event.Bids 2 ∷ Event.TakesBid 2 2 ∷ Event.Sends 1 ∷
+        Event.TakesBid 1 0
+        ∷ Event.Clears ∷ Event.TakesPrice 1 0 ∷ []) in
+        (net.prices_sent 2 ≡ price_message 3 1 1 ∷ []) × (net.prices_sent 1 ≡ price_message 1 1 1 ∷ []) × (net.answered 1 ≡ 1) }
+    // Without news nothing is sent or cleared; nor is it after a restart, until the children are heard again.
+    ensures no_news { (can_send one_relay (run_of one_relay (cleared_once [])) 1 ≡ false) × (can_clear one_relay (run_of one_relay
+        (cleared_once [])) ≡ false) }
+    ensures guarded { (can_send one_relay (run_of one_relay (cleared_once (Event.Restarts 1 0 ∷ []))) 1 ≡ false)
+        × (can_clear one_relay (run_of one_relay (cleared_once (Event.Restarts 0 0 ∷ []))) ≡ false) }
+    // A relay that restarts knows its last number, its child's number, and one price with the number that it answers.
+    ensures stored { let net = run_of one_relay (cleared_once (Event.TakesPrice 1 0 ∷ Event.Restarts 1 0 ∷ [])) in
+        (net.last_number 1 ≡ 1) × (recorded_number net 1 2 ≡ 1) × (net.taken 1 ≡ price_message 1 1 1) × (net.answered 1 ≡ 1) ×
+        (net.restarts 1 ≡ 1) }
+    ensures none_stored { let net = run_of one_relay (cleared_once (Event.TakesPrice 1 0 ∷ Event.Restarts 1 7 ∷ [])) in
+        (net.taken 1 ≡ price_message 0 0 0) × (net.answered 1 ≡ 0) }
+    // A device that holds price 1 does not come back with price 3, which was sent to it and which it never took.
+    ensures never_newer { index_held (skipped (Event.TakesPrice 2 0 ∷ Event.Restarts 2 1 ∷ [])) ≡ 1 }
+    // The price of a record that can be had again is left for later; that of one which is overtaken is taken alone.
+    ensures left_for_later { device_holds (cleared_once (Event.Restarts 1 0 ∷ Event.TakesPrice 1 0 ∷ Event.TakesBid 2 0 ∷ Event.Rebuilds 1
+        ∷ Event.TakesPrice 1 0 ∷ Event.TakesPrice 2 0 ∷ [])) ≡ price_message 1 1 1 }
+    ensures overtaken { let net = run_of one_relay (cleared_once (Event.Restarts 1 0 ∷ Event.Bids 2 ∷ Event.TakesBid 2 1 ∷ Event.Rebuilds 1
+        ∷ Event.TakesPrice 1 0 ∷ [])) in (net.taken 1 ≡ price_message 1 1 1) × (net.prices_sent 2 ≡ []) × (net.whole_from 1 ≡ 2) }
+    // A relay that stops after it passed the price on has not taken it.
+    ensures to_one { let net = run_of one_relay (cleared_once (Event.PassesToOne 2 0 ∷ [])) in
+        (net.prices_sent 2 ≡ price_message 1 1 1 ∷ []) × (net.taken 1 ≡ price_message 0 0 0) }
+    // A bid that is sent again has its old number.
+    ensures again { (run_of one_relay (cleared_once (Event.Resends 1 ∷ []))).bids_sent 1
+        ≡ bid_message 1 false (pos 5 ∷ negsuc 2 ∷ []) ∷ bid_message 1 false (pos 5 ∷ negsuc 2 ∷ []) ∷ [] }
+    // A device that left goes by no price, though it holds one.
+    ensures left { goes_by one_relay (run_of one_relay (cleared_once (Event.TakesPrice 1 0 ∷ Event.TakesPrice 2 0 ∷ Event.Bids 2 ∷ []))) 2 ≡ None }
 {}
