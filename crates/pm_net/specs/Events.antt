@@ -1,5 +1,5 @@
 -- What may happen in a network, and its runs.
-use Rattle.std.specs.Prelude.{◌≡◌, ◌⊎◌, ◌<◌, ℕ, cond, ◌&&◌, nat_lt, Bool, List, [], ◌∷◌}
+use Rattle.std.specs.Prelude.{◌≡◌, ◌⊎◌, ◌<◌, ℕ, if◌then◌else◌, ◌&&◌, nat_lt, Bool, List, [], ◌∷◌}
 use Rattle.pm_market.specs.Lists.{Lists, parent, is_leaf, changes}
 use Rattle.pm_net.specs.Pricing.{Pricing}
 use Rattle.pm_net.specs.Network.{Network, sent_bid, sent_price}
@@ -41,19 +41,22 @@ may_bid lists net d = is_leaf lists d && nat_lt (net.counts d) (changes lists d)
 
 -- the network after an event; what may not happen changes nothing
 abbrev pub network_step : Lists → Pricing → Network → Event → Network
-network_step lists p net (Bids d) = cond (may_bid lists net d) (after_bidding lists p net d) net
-network_step lists p net (TakesBid x k) = cond (is_new_bid lists net x (sent_bid p net x k)) (after_taking_bid net x (sent_bid p net x k)) net
-network_step lists p net (Sends c) = cond (can_send lists net c) (after_sending p net c) net
-network_step lists p net Clears = cond (can_clear lists net) (after_clearing lists p net) net
+network_step lists p net (Bids d) = if may_bid lists net d then after_bidding lists p net d else net
+network_step lists p net (TakesBid x k) = if is_new_bid lists net x (sent_bid p net x k) then after_taking_bid net x (sent_bid p net x k) else net
+network_step lists p net (Sends c) = if can_send lists net c then after_sending p net c else net
+network_step lists p net Clears = if can_clear lists net then after_clearing lists p net else net
 network_step lists p net (TakesPrice x k) = after_given_price lists p net x (sent_price net x k)
 network_step lists p net (Restarts y k) = after_restart lists p net y k
-network_step lists p net (Rebuilds c) = cond (can_rebuild lists net c) (after_rebuilding net c) net
-network_step lists p net (StopsBidding x) = cond (may_bid lists net x) (device_stopped net x) (cond (can_send lists net x) (relay_stopped net x) net)
-network_step lists p net (Resends x) = cond (can_resend lists net x) (after_resending lists p net x) net
+network_step lists p net (Rebuilds c) = if can_rebuild lists net c then after_rebuilding net c else net
+network_step lists p net (StopsBidding x) =
+    if may_bid lists net x then device_stopped net x else (if can_send lists net x then relay_stopped net x else net)
+network_step lists p net (Resends x) = if can_resend lists net x then after_resending lists p net x else net
 network_step lists p net (PassesToOne z k) =
-    cond (can_pass_to_one lists net z (sent_price net (parent lists z) k)) (after_passing_to_one lists p net z (sent_price net (parent lists z) k)) net
-network_step lists p net StopsClearing = cond (can_clear lists net) (auctioneer_stopped net) net
-network_step lists p net (TellsOne z) = cond (can_tell_one lists net z) (after_telling_one p net z) net
+    if can_pass_to_one lists net z (sent_price net (parent lists z) k)
+    then after_passing_to_one lists p net z (sent_price net (parent lists z) k)
+    else net
+network_step lists p net StopsClearing = if can_clear lists net then auctioneer_stopped net else net
+network_step lists p net (TellsOne z) = if can_tell_one lists net z then after_telling_one p net z else net
 
 -- the network after events that begin in net
 abbrev pub network_after : Lists → Pricing → Network → List Event → Network

@@ -1,6 +1,7 @@
 -- What the nodes of a network do while they run: a device bids, a parent takes a bid, a relay sends, the auctioneer clears,
 -- and a node takes a price and passes it on.
-use Rattle.std.specs.Prelude.{ℕ, ◌+◌, ◌-◌, Bool, true, false, cond, ◌==◌, ◌&&◌, not, nat_lt, nat_le, ℤ, List, [], ◌∷◌, ◌++◌}
+use Rattle.std.specs.Prelude.{ℕ, ◌+◌, ◌-◌, Bool, true, false, cond, if◌then◌else◌, ◌==◌, ◌&&◌, not, nat_lt, nat_le, ℤ, List, []}
+use Rattle.std.specs.Prelude.{◌∷◌, ◌++◌}
 use Rattle.pm_base.specs.Limits.{window_size}
 use Rattle.pm_bid.specs.Clearing.{clearing_step}
 use Rattle.pm_bid.specs.Limited.{within_limits, local_step}
@@ -124,14 +125,14 @@ waits lists net c n = (n == net.last_number c) && not (is_overtaken lists net c)
 -- else takes the price alone
 abbrev pub after_relay_price : Lists → Pricing → Network → ℕ → PriceMessage → Network
 after_relay_price lists p net c price =
-    cond (names_a_bid net c price.number)
-    (cond (nat_le (net.whole_from c) price.number) (after_passing lists p net c price)
-    (cond (waits lists net c price.number) net (after_answer net c price)))
-    net
+    if names_a_bid net c price.number
+    then (if nat_le (net.whole_from c) price.number then after_passing lists p net c price
+    else (if waits lists net c price.number then net else after_answer net c price))
+    else net
 
 -- a node is given a price
 abbrev pub after_given_price : Lists → Pricing → Network → ℕ → PriceMessage → Network
 after_given_price lists p net x price =
-    cond (is_new_price lists net x price)
-    (cond (is_leaf lists x) (after_taking_price net x price) (after_relay_price lists p net x price))
-    net
+    if is_new_price lists net x price
+    then (if is_leaf lists x then after_taking_price net x price else after_relay_price lists p net x price)
+    else net

@@ -212,6 +212,10 @@ pub fn small_networks_keep_the_rules()
     // A bid that is sent again has its old number.
     ensures again { (run_of one_relay (cleared_once (Event.Resends 1 ∷ []))).bids_sent 1
         ≡ bid_message 1 false (pos 5 ∷ negsuc 2 ∷ []) ∷ bid_message 1 false (pos 5 ∷ negsuc 2 ∷ []) ∷ [] }
+    // A relay, or an auctioneer, that has its record's numbers alone sends neither its bid nor a price again.
+    ensures not_by_numbers { ((run_of one_relay (cleared_once (Event.Restarts 1 0 ∷ Event.Resends 1 ∷ []))).bids_sent 1
+        ≡ bid_message 1 false (pos 5 ∷ negsuc 2 ∷ []) ∷ [])
+        × ((run_of one_relay (cleared_once (Event.Restarts 0 0 ∷ Event.TellsOne 1 ∷ []))).prices_sent 1 ≡ price_message 1 1 1 ∷ []) }
     // A device that left goes by no price, though it holds one.
     ensures left { goes_by one_relay (run_of one_relay (cleared_once (Event.TakesPrice 1 0 ∷ Event.TakesPrice 2 0 ∷ Event.Bids 2 ∷ []))) 2 ≡ None }
 {}

@@ -1,9 +1,10 @@
 -- A network whose devices are agents, and what is to be said of the setpoints that they give.
-use Rattle.std.specs.Prelude.{◌≡◌, ℕ, ◌+◌, ◌<◌, ◌≤◌, ◌&&◌, ◌||◌, not, Bool, true, cond, nat_lt, pos, List, [], ◌∷◌}
+use Rattle.std.specs.Prelude.{◌≡◌, ℕ, ◌+◌, ◌<◌, ◌≤◌, ◌&&◌, ◌||◌, not, Bool, true, cond, if◌then◌else◌, pos, List, []}
+use Rattle.std.specs.Prelude.{◌∷◌}
 use Rattle.std.specs.Prelude.{◌++◌, slice_index_or, length}
 use Rattle.std.specs.List.{All, AllPairs, Contains}
 use Rattle.pm_base.specs.Limits.{window_size}
-use Rattle.pm_market.specs.Lists.{Lists, is_leaf, is_member, changes, IsLeaf}
+use Rattle.pm_market.specs.Lists.{Lists, is_leaf, is_member, IsLeaf}
 use Rattle.pm_market.specs.State.{State, updated, clearings, cleared}
 use Rattle.pm_market.specs.Held.{last_join}
 use Rattle.pm_market.specs.Moves.{LegalFrom, after_from}
@@ -12,7 +13,7 @@ use Rattle.pm_net.specs.Pricing.{Pricing}
 use Rattle.pm_net.specs.Network.{Network, start_network, sent_price}
 use Rattle.pm_net.specs.Running.{after_bidding}
 use Rattle.pm_net.specs.Restarts.{stored_price, device_stopped}
-use Rattle.pm_net.specs.Events.{network_step, Event, Bids, TakesPrice, Restarts, StopsBidding}
+use Rattle.pm_net.specs.Events.{may_bid, network_step, Event, Bids, TakesPrice, Restarts, StopsBidding}
 use Rattle.pm_net.specs.Agrees.{NetworkAgrees}
 use Rattle.pm_net_device.specs.Agents.{Offer, Setpoint, DeviceAgent, new_agent, may_offer, after_offer, after_leaving, setpoints_for, after_price}
 use Rattle.pm_net_device.specs.Agents.{after_coming_back}
@@ -30,7 +31,7 @@ start_devices p = record { net = start_network p; agents = λ d. new_agent; setp
 -- eight offers are unanswered.
 abbrev pub may_change : Lists → Devices → ℕ → Bool
 may_change lists devices d =
-    is_leaf lists d && nat_lt (devices.net.counts d) (changes lists d)
+    may_bid lists devices.net d
     && (not (is_member lists d (devices.net.counts d + 1)) || may_offer (devices.agents d))
 
 abbrev pub agent_after_change : Lists → Pricing → ℕ → ℕ → DeviceAgent → DeviceAgent
@@ -57,23 +58,25 @@ after_given devices x k net' = record {
   setpoints = updated devices.setpoints x (devices.setpoints x ++ setpoints_for (devices.agents x) (sent_price devices.net x k));
 }
 
+-- the rest of the network moves
+abbrev pub with_network : Devices → Network → Devices
+with_network devices net' = record devices { net = net' }
+
 abbrev pub devices_step : Lists → Pricing → Devices → Event → Devices
-devices_step lists p devices (Bids d) = cond (may_change lists devices d) (after_change lists p devices d) devices
+devices_step lists p devices (Bids d) = if may_change lists devices d then after_change lists p devices d else devices
 devices_step lists p devices (TakesPrice x k) =
-    cond (is_leaf lists x) (after_given devices x k (network_step lists p devices.net (TakesPrice x k))) (record devices {
-      net =
-          network_step lists p devices.net (TakesPrice x k);
-    })
+    if is_leaf lists x
+    then after_given devices x k (network_step lists p devices.net (TakesPrice x k))
+    else with_network devices (network_step lists p devices.net (TakesPrice x k))
 devices_step lists p devices (Restarts y k) = record devices {
   net = network_step lists p devices.net (Restarts y k);
   agents = updated devices.agents y (after_coming_back (devices.agents y) (stored_price devices.net y k).index);
 }
 devices_step lists p devices (StopsBidding x) =
-    cond (is_leaf lists x) (cond (may_change lists devices x) (after_stop lists p devices x) devices) (record devices {
-      net =
-          network_step lists p devices.net (StopsBidding x);
-    })
-devices_step lists p devices e = record devices { net = network_step lists p devices.net e }
+    if is_leaf lists x
+    then (if may_change lists devices x then after_stop lists p devices x else devices)
+    else with_network devices (network_step lists p devices.net (StopsBidding x))
+devices_step lists p devices e = with_network devices (network_step lists p devices.net e)
 
 abbrev pub devices_after : Lists → Pricing → Devices → List Event → Devices
 devices_after lists p devices [] = devices

@@ -103,3 +103,9 @@ unfolding parent is_leaf is_member changes updated all_to is_new_bid is_caught_u
     waits
     can_rebuild can_resend can_tell_one can_pass_to_one last_join add_to
 returns-clause-left c = refl
+
+pub returns-clause-not_by_numbers : goal.returns-clause-not_by_numbers
+unfolding parent is_leaf is_member changes updated all_to is_new_bid is_caught_up has_news can_send sent_down can_clear is_new_price names_a_bid is_overtaken
+    waits
+    can_rebuild can_resend can_tell_one can_pass_to_one last_join add_to
+returns-clause-not_by_numbers c = (refl, refl)
