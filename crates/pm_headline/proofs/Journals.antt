@@ -36,7 +36,7 @@ use Rattle.pm_offer.proofs.Steps.{demand_is}
 use Rattle.pm_offer.proofs.EndLines.{step_is}
 use Rattle.pm_offer.proofs.Laws.{powers_group}
 use Rattle.pm_offer.proofs.GroupNodes.{nodes_are}
-use Rattle.pm_stands.proofs.Alike.{local_alike}
+use Rattle.pm_offer.proofs.Alike.{local_alike}
 use Rattle.pm_report.specs.Report.{report_text}
 use Rattle.pm_report.specs.Trace.{trace_text, move_line, moves_line}
 use Rattle.pm_cluster.specs.Acts.{moves_of}
