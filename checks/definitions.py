@@ -4,8 +4,9 @@
 Begins at the definitions that the clauses `headline` and `refutation` of `market` name, and follows what each of them names,
 as its file imports it, through `specs/` of all crates. Words of the library (`Rattle.std`, `Rattle.serde_json`) are left out.
 
-    python3 checks/definitions.py          prints the table of docs/PROOF.md
-    python3 checks/definitions.py check    compares it with the page, and ends with 'N passed, M failed'
+    python3 checks/definitions.py table    prints the table of docs/PROOF.md
+    python3 checks/definitions.py words    prints the words of the theorem, as the page quotes them
+    python3 checks/definitions.py check    compares both with the page, and ends with 'N passed, M failed'
 """
 
 import re
@@ -19,6 +20,18 @@ PAGE = TOP / "docs" / "PROOF.md"
 # The clauses of the call of the program, and where they stand.
 CLAUSES = ("headline", "refutation")
 CALL = "pm_top/src/top.rt"
+
+# The files whose definitions the page quotes whole, as a reader goes through them.
+QUOTED = [
+    "pm_headline/specs/Promises.antt",
+    "pm_headline/specs/Reports.antt",
+    "pm_offer/specs/EndLines.antt",
+    "pm_offer/specs/LocalSteps.antt",
+    "pm_headline/specs/Traces.antt",
+    "pm_headline/specs/Bills.antt",
+    "pm_headline/specs/Targets.antt",
+    "pm_headline/specs/Demos.antt",
+]
 
 # What is read for each command, in this order: a definition is told where it is first needed.
 PROMISES = ("pm_headline", "Promises")
@@ -71,6 +84,13 @@ def definitions_in(crate: str, module: str, text: str) -> list[Definition]:
     return found
 
 
+def words_in(text: str, names: dict[str, tuple[str, str]]) -> list[str]:
+    """The names that stand in a text, with the operators among those that its file imports; a `do` stands for two of them."""
+    chains = {">>=", ">>"} if re.search(r"\bdo$", text, re.M) else set()
+    operators = [it for it in names if it.startswith("◌") and (it.strip("◌") in chains or re.search(rf"\s{re.escape(it.strip('◌'))}\s", text))]
+    return WORD.findall(text) + operators
+
+
 def read_all() -> tuple[dict[tuple[str, str, str], Definition], dict[tuple[str, str], tuple[dict, dict]]]:
     """All definitions by crate, module and name, and what each file imports."""
     by_name, imported = {}, {}
@@ -116,7 +136,7 @@ def needed() -> list[tuple[str, list[Definition]]]:
             seen.add(key)
             found.append(by_name[key])
             names, modules = imported[key[0], key[1]]
-            for word in WORD.findall("\n".join(by_name[key].lines)):
+            for word in words_in("\n".join(by_name[key].lines), names):
                 first, _, rest = word.partition(".")
                 if (key[0], key[1], word) in by_name:
                     todo.append((key[0], key[1], word))
@@ -151,17 +171,32 @@ def table() -> str:
     return "\n".join(rows) + "\n"
 
 
+def words() -> str:
+    """The definitions of the quoted files, without what they import, each file under its path."""
+    parts = []
+    for path in QUOTED:
+        lines = (CRATES / path).read_text().split("\n")
+        body = "\n".join(line for line in lines[1:] if not line.startswith("use ")).strip()
+        indented = "\n".join(f"    {line}".rstrip() for line in body.split("\n"))
+        parts.append(f"[`crates/{path}`](../crates/{path})\n\n{indented}\n")
+    return "\n".join(parts)
+
+
 def main() -> int:
-    """Prints the table, or compares it with the page."""
-    text = table()
-    if sys.argv[1:] != ["check"]:
-        print(text, end="")
+    """Prints the table or the words, or compares both with the page."""
+    asked = sys.argv[1] if len(sys.argv) == 2 else ""
+    if asked in ("table", "words"):
+        print(table() if asked == "table" else words(), end="")
         return 0
-    holds = text in PAGE.read_text()
-    if not holds:
-        print("the table of definitions in docs/PROOF.md is not the one that checks/definitions.py prints")
-    print(f"{int(holds)} passed, {int(not holds)} failed")
-    return int(not holds)
+    if asked != "check":
+        print(__doc__, file=sys.stderr)
+        return 2
+    page = PAGE.read_text()
+    wrong = [what for what, text in (("table", table()), ("words", words())) if text not in page]
+    for what in wrong:
+        print(f"docs/PROOF.md does not have what `python3 checks/definitions.py {what}` prints")
+    print(f"{2 - len(wrong)} passed, {len(wrong)} failed")
+    return int(bool(wrong))
 
 
 if __name__ == "__main__":

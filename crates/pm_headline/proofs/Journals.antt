@@ -39,12 +39,13 @@ use Rattle.pm_offer.proofs.GroupNodes.{nodes_are}
 use Rattle.pm_offer.proofs.Alike.{local_alike}
 use Rattle.pm_report.specs.Report.{report_text}
 use Rattle.pm_report.specs.Trace.{trace_text, move_line, moves_line}
-use Rattle.pm_cluster.specs.Acts.{moves_of}
+use Rattle.pm_cluster.specs.Acts.{moves_of, NeverGoesBack}
 use Rattle.pm_board.specs.Boards.{IsJournal}
 use Rattle.pm_answer.specs.Answers.{IsCompleteJournal}
 use Rattle.pm_answer.proofs.JournalLines.{traces_tell}
 use Rattle.pm_headline.proofs.Reports.{report_is, report_only}
-use Rattle.pm_headline.specs.Traces.{state_after_lines, clearing_cut, pass_line, close_line, HoldsItsOwn, HoldsOver, AllHold, IsMarketRun, TellsRun}
+use Rattle.pm_headline.specs.Traces.{state_after_lines, clearing_cut, pass_line, close_line, HoldsItsOwn, HoldsOver, AllHold}
+use Rattle.pm_headline.specs.Traces.{NobodyGoesBack, IsMarketRun, TellsRun}
 
 -- ---- lines and moves
 
@@ -208,15 +209,17 @@ module _ (plan : PlanData) (is_plan : IsPlan plan) where
             ∙ ap (λ (bid : List ℤ). demand_at bid (local_at plan (clearing_cut plan journal j) d)) (sym (demand_is plan (clearing_cut plan journal j) d));
       }
 
-  no_way_back : (journal : List Line) → IsJournal plan journal → (front mid rest : List Line) (d i j : ℕ) (first later : Option (ℕ × ℕ)) →
-      journal ≡ front ++ pass_line d i first ∷ (mid ++ pass_line d j later ∷ rest) →
-      (i < j) × ((e : ℕ) → IsLeaf lists e → clearing_cut plan journal i e ≤ clearing_cut plan journal j e)
-  no_way_back journal is front mid rest d i j first later split =
-      let moves_are : moves_of journal ≡ moves_of front ++ Pass d i ∷ (moves_of mid ++ Pass d j ∷ moves_of rest) =
-      ap moves_of split ∙ moves_split front (pass_line d i first ∷ (mid ++ pass_line d j later ∷ rest))
-      ∙ ap (λ (ms : List Move). moves_of front ++ Pass d i ∷ ms) (moves_split mid (pass_line d j later ∷ rest)) in
-      subst (λ (ms : List Move). (i < j) × ((e : ℕ) → IsLeaf lists e → cleared (after lists ms) i e ≤ cleared (after lists ms) j e)) (sym moves_are)
-      (never_back lists law (moves_of front) (moves_of mid) (moves_of rest) d i j (subst (LegalJournal lists) moves_are is.legal))
+  -- a journal whose moves never go back has lines that do not
+  pub forward_in_lines : (journal : List Line) → NeverGoesBack plan journal → NobodyGoesBack plan journal
+  forward_in_lines journal forward front mid rest x i j first later split =
+      forward (moves_of front) (moves_of mid) (moves_of rest) x i j
+      (ap moves_of split ∙ moves_split front (pass_line x i first ∷ (mid ++ pass_line x j later ∷ rest))
+      ∙ ap (λ (ms : List Move). moves_of front ++ Pass x i ∷ ms) (moves_split mid (pass_line x j later ∷ rest)))
+
+  no_way_back : (journal : List Line) → IsJournal plan journal → NobodyGoesBack plan journal
+  no_way_back journal is = forward_in_lines journal (λ front mid rest x i j moves_are.
+      subst (λ (ms : List Move). (i < j) × ((d : ℕ) → IsLeaf lists d → cleared (after lists ms) i d ≤ cleared (after lists ms) j d)) (sym moves_are)
+      (never_back lists law front mid rest x i j (subst (LegalJournal lists) moves_are is.legal)))
 
   held_at_close : (journal : List Line) → IsJournal plan journal → (front rest : List Line) (p : ℕ) (price : Option (ℕ × ℕ)) →
       journal ≡ front ++ close_line p price ∷ rest → AllHold plan (state_after_lines plan front) p
@@ -234,7 +237,7 @@ module _ (plan : PlanData) (is_plan : IsPlan plan) where
       (λ d leaf. sound.ended_counts is.complete d leaf ∙ sym (law.ends_last d leaf) ∙ ap (λ (p : ℕ). end_count lists p d) (phases-is plan))
 
   -- the lines of a complete journal are a run
-  is_run : (journal : List Line) → IsCompleteJournal plan journal → IsMarketRun plan journal
+  pub is_run : (journal : List Line) → IsCompleteJournal plan journal → IsMarketRun plan journal
   is_run journal is = record {
     is_journal = is.legal;
     complete = is.complete;

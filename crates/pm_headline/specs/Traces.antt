@@ -61,6 +61,12 @@ pub record AllHold (plan : PlanData) (s : State) (p : ℕ) : Type 0 where
   pub made : (d : ℕ) → IsLeaf (plan_lists plan) d → s.counts d ≡ end_cut plan p d
   pub hold : (d : ℕ) → IsLeaf (plan_lists plan) d → is_member plan d (end_cut plan p d) ≡ true → HoldsOver plan s (end_cut plan p) d
 
+-- nobody goes back: of two clearings passed to one node the later has the greater index, and is over no older bid of anyone
+abbrev pub NobodyGoesBack : PlanData → List Line → Type 0
+NobodyGoesBack plan journal = (front mid rest : List Line) (x i j : ℕ) (first later : Option (ℕ × ℕ)) →
+    journal ≡ front ++ pass_line x i first ∷ (mid ++ pass_line x j later ∷ rest) →
+    (i < j) × ((d : ℕ) → IsLeaf (plan_lists plan) d → clearing_cut plan journal i d ≤ clearing_cut plan journal j d)
+
 -- these lines are a run of the plan
 pub record IsMarketRun (plan : PlanData) (journal : List Line) : Type 0 where
   -- the moves are legal from the start, one after another, each line of a pass tells what the device then holds, and every
@@ -74,9 +80,7 @@ pub record IsMarketRun (plan : PlanData) (journal : List Line) : Type 0 where
   pub adds_up : (j g : ℕ) → let cut = clearing_cut plan journal j in
       group_power plan cut g ≡ demand_at (sum_in plan (state plan) cut g) (group_step plan (state plan) cut (plain plan (state plan) cut) g)
   -- of two clearings passed to one node the later is over no older bid of anyone
-  pub never_back : (front mid rest : List Line) (x i j : ℕ) (first later : Option (ℕ × ℕ)) →
-      journal ≡ front ++ pass_line x i first ∷ (mid ++ pass_line x j later ∷ rest) →
-      (i < j) × ((d : ℕ) → IsLeaf (plan_lists plan) d → clearing_cut plan journal i d ≤ clearing_cut plan journal j d)
+  pub never_back : NobodyGoesBack plan journal
   -- each phase is closed, where all hold what the report says; and so they do at the end
   pub closes : (p : ℕ) → 1 ≤ p → p ≤ phases plan →
       (front : List Line) × ((rest : List Line) × ((price : Option (ℕ × ℕ)) × (journal ≡ front ++ close_line p price ∷ rest)))

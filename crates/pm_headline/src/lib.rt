@@ -22,8 +22,11 @@ ghost use Rattle.pm_report.specs.Report.{report_text};
 ghost use Rattle.pm_report.specs.Trace.{trace_text};
 ghost use Rattle.pm_answer.specs.Inputs.{input_limit};
 ghost use Rattle.pm_answer.specs.Answers.{IsAnswer, IsSummary, IsCompleteJournal};
-ghost use Rattle.pm_headline.specs.Reports.{IsReport};
-ghost use Rattle.pm_headline.specs.Traces.{TellsRun};
+ghost use Rattle.pm_cluster.specs.Acts.{NeverGoesBack};
+ghost use Rattle.pm_board.specs.Boards.{BoardValue, kept_ends};
+ghost use Rattle.pm_turns.specs.Settled.{IsSettled};
+ghost use Rattle.pm_headline.specs.Reports.{AreAuctionEnds, IsReport};
+ghost use Rattle.pm_headline.specs.Traces.{NobodyGoesBack, IsMarketRun, TellsRun};
 ghost use Rattle.pm_headline.specs.Demos.{TellsDemo};
 ghost use Rattle.pm_headline.specs.Promises.{ReadFile, TellsFile, RefutesTrace, RefusesInput};
 
@@ -49,4 +52,12 @@ pub fn nothing_is_left_out()
     ensures report { (plan : PlanData) (text : List ℕ) → IsPlan plan → IsReport plan text → text ≡ report_text plan (all_ends plan) }
     ensures trace { (plan : PlanData) (journal : List Line) (text : List ℕ) → IsPlan plan → TellsRun plan journal text →
         IsCompleteJournal plan journal × (text ≡ trace_text plan (all_ends plan) journal) }
+{}
+
+/// A law: what the calls promise of a board and of a journal is what the texts tell. The journal of a settled board is a run of
+/// its plan, and its ends tell the plain auction; a journal whose moves never go back has lines that do not.
+pub fn boards_run_the_market()
+    ensures journal { (b : BoardValue) → IsPlan b.plan → IsSettled b → IsMarketRun b.plan b.lines }
+    ensures ends { (b : BoardValue) → IsPlan b.plan → IsSettled b → AreAuctionEnds b.plan (kept_ends b.ends) }
+    ensures forward { (plan : PlanData) (journal : List Line) → IsPlan plan → NeverGoesBack plan journal → NobodyGoesBack plan journal }
 {}

@@ -197,7 +197,7 @@ pub fn market<R: Threads + Wait + Sync, S: Source, K: Sink, G: Gate>(
         × Appends (K.held sink.old) (K.held sink.new) text }
 
     // The headline: a text that is written with Done tells the market, by what the arguments ask, and one that is written
-    // with Invalid refutes the trace.
+    // with Invalid refutes the trace. It does not say that a run ends, how long it takes, or how much memory.
     ensures headline { result ≡ Status.Done → (text : List ℕ)
         × TellsTheMarket (command (map string_bytes arguments.now)) (S.left source.old) (S.left source.new) text
         × Appends (K.held sink.old) (K.held sink.new) text }
