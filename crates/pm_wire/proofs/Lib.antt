@@ -10,3 +10,4 @@ pub mod Taking
 pub mod Following
 pub mod Ending
 pub mod Outcomes
+pub mod EarlyEnds

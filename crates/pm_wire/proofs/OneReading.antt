@@ -29,6 +29,18 @@ one_list place (h ∷ fs) (k ∷ gs) r s f g stop stop' e =
     let others = one_list (place_after place h) fs gs r s f.1 (subst P (sym first.0) g.1) stop (subst Q (sym first.0) stop') first.1 in
     (ap (λ x. x ∷ fs) first.0 ∙ ap (λ l. k ∷ l) others.0, others.1)
 
+-- frames that bytes begin with are the first of those behind which the bytes stop
+pub first_frames : (place : Option ℕ) (fs gs : List Frame) (r s : List ℕ) → AllStand place fs → AllStand place gs →
+    Stops (place_behind place gs) s → stream_bytes fs ++ r ≡ stream_bytes gs ++ s → (hs : List Frame) × (gs ≡ fs ++ hs)
+first_frames place [] gs r s f g stop e = (gs, refl)
+first_frames place (h ∷ fs) [] r s f g stop e = absurd (frame_not_stop place s h (stream_bytes fs ++ r) f.0 (sym e ∙ cut h fs r) stop)
+first_frames place (h ∷ fs) (k ∷ gs) r s f g stop e =
+    let first = whole_same place (stream_bytes (h ∷ fs) ++ r) h k (stream_bytes fs ++ r) (stream_bytes gs ++ s) f.0 g.0 (cut h fs r) (e ∙ cut k gs s) in
+    let P : Frame → Type 0 = λ x. AllStand (place_after place x) gs in
+    let Q : Frame → Type 0 = λ x. Stops (place_behind (place_after place x) gs) s in
+    let others = first_frames (place_after place h) fs gs r s f.1 (subst P (sym first.0) g.1) (subst Q (sym first.0) stop) first.1 in
+    (others.0, ap (λ x. x ∷ gs) (sym first.0) ∙ ap (λ l. h ∷ l) others.1)
+
 -- two lists of frames that the same bytes begin with are one, and so are their rests, where both stop
 pub same_reading : (bytes : List ℕ) (fs gs : List Frame) (r s : List ℕ) → BeginsWith bytes fs r → Stops (place_behind None fs) r →
     BeginsWith bytes gs s → Stops (place_behind None gs) s → (fs ≡ gs) × (r ≡ s)

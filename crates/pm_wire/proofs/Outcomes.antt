@@ -28,17 +28,19 @@ pub record Outcomes (old new held holds : Option (List ℕ)) (rose_source rose_s
   -- at WriteFault the sink failed
   pub write_fault : result ≡ WriteFault → rose_sink
 
--- the source had the bytes taken and others
-record Splits (all input : List ℕ) : Type 0 where
-  more : List ℕ
-  is : all ≡ input ++ more
+-- the source had the bytes taken, and these behind them
+pub record Splits (all input : List ℕ) : Type 0 where
+  -- the bytes that were left
+  pub more : List ℕ
+  pub is : all ≡ input ++ more
 
-splits : (all input : List ℕ) (new : Option (List ℕ)) → Consumes (Some all) new input → Splits all input
+-- the bytes left behind those that were taken
+pub splits : (all input : List ℕ) (new : Option (List ℕ)) → Consumes (Some all) new input → Splits all input
 splits all input None consumes = absurd consumes
 splits all input (Some left) consumes = record { more = left; is = consumes }
 
--- it had no others, at the end
-whole : (all input : List ℕ) (new : Option (List ℕ)) → Consumes (Some all) new input → IsAtEnd new → input ≡ all
+-- at the end of the source the bytes taken are all that it had
+pub whole : (all input : List ℕ) (new : Option (List ℕ)) → Consumes (Some all) new input → IsAtEnd new → input ≡ all
 whole all input None consumes at_end = absurd consumes
 whole all input (Some left) consumes at_end = sym (consumes ∙ ap (λ l. input ++ l) at_end ∙ append-nil input)
 
@@ -49,7 +51,7 @@ unfinished_not_bad : (input : List ℕ) (frames : List Frame) (n : ℕ) → HasF
 unfinished_not_bad input frames n has bad = bad_or_unfinished input bad.frames frames bad.rest has.rest bad.begins bad.bad has.begins has.unfinished
 
 -- a fault is a bad frame or an end within one
-fault_is : (new : Option (List ℕ)) (input : List ℕ) (frames : List Frame) → HasFault new input frames →
+pub fault_is : (new : Option (List ℕ)) (input : List ℕ) (frames : List Frame) → HasFault new input frames →
     HasBadFrame input (length (stream_bytes frames)) ⊎ (IsAtEnd new × (length input ≤ stream_limit) × EndsWithin input (length (stream_bytes frames)))
 fault_is new input frames fault = elim fault.bad [
   | inl bad ↦ inl (record { frames = frames; rest = fault.rest; begins = fault.begins; bad = bad; before = refl })
@@ -67,13 +69,15 @@ fault_is new input frames fault = elim fault.bad [
   )
 ]
 
-move_bad : (a b : List ℕ) (n : ℕ) → a ≡ b → HasBadFrame a n → HasBadFrame b n
+-- equal bytes have a bad frame at the same offset
+pub move_bad : (a b : List ℕ) (n : ℕ) → a ≡ b → HasBadFrame a n → HasBadFrame b n
 move_bad a b n e bad = let P : List ℕ → Type 0 = λ l. HasBadFrame l n in subst P e bad
 
 move_end : (a b : List ℕ) (n : ℕ) → a ≡ b → EndsWithin a n → EndsWithin b n
 move_end a b n e ends = let P : List ℕ → Type 0 = λ l. EndsWithin l n in subst P e ends
 
-move_frames : (a b : List ℕ) (frames : List Frame) → a ≡ b → AreFrames a frames → AreFrames b frames
+-- equal bytes are the same frames
+pub move_frames : (a b : List ℕ) (frames : List Frame) → a ≡ b → AreFrames a frames → AreFrames b frames
 move_frames a b frames e are = let P : List ℕ → Type 0 = λ l. AreFrames l frames in subst P e are
 
 -- where the bytes taken have a bad frame, the service ends with Refused, WriteFault or NoMemory
@@ -191,12 +195,16 @@ one_done all held new other holds kept a b =
     same_holds held (replies a.frames) (replies b.frames) holds kept (ap (λ l. replies l) same.0) a.appends b.appends
 
 -- the frames before a fault, and where they stop in all the bytes
-record StopsIn (all : List ℕ) (fs : List Frame) : Type 0 where
-  rest : List ℕ
-  begins : BeginsWith all fs rest
-  stops : Stops (place_behind None fs) rest
+pub record StopsIn (all : List ℕ) (fs : List Frame) : Type 0 where
+  -- what stands behind the frames
+  pub rest : List ℕ
+  pub begins : BeginsWith all fs rest
+  -- no further frame is whole there
+  pub stops : Stops (place_behind None fs) rest
 
-fault_stops : (all : List ℕ) (new : Option (List ℕ)) (x : List ℕ) (fs : List Frame) → Consumes (Some all) new x → HasFault new x fs → StopsIn all fs
+-- the frames before a fault stop there in all the bytes
+pub fault_stops : (all : List ℕ) (new : Option (List ℕ)) (x : List ℕ) (fs : List Frame) → Consumes (Some all) new x → HasFault new x fs →
+    StopsIn all fs
 fault_stops all new x fs consumes fault =
     let s = splits all x new consumes in
     let P : List ℕ → Type 0 = λ l. BeginsWith l fs (fault.rest ++ s.more) in

@@ -1,6 +1,6 @@
 -- What a service over a stream reads and writes, by how it ends. `old` and `new` are what the source had left before and
 -- after, `held` and `holds` what the sink held.
-use Rattle.std.specs.Prelude.{◌≡◌, ◌≢◌, ◌⊎◌, ℕ, ◌+◌, ◌<◌, ◌≤◌, IfSome, List, [], ◌++◌, length, take, Option, None}
+use Rattle.std.specs.Prelude.{◌≡◌, ◌≢◌, ◌⊎◌, ℕ, ◌+◌, ◌<◌, ◌≤◌, IfSome, List, [], ◌++◌, length, take, Option, None, Some}
 use Rattle.std.specs.Io.KnownBytes.{Appends, Consumes, IsAtEnd}
 use Rattle.pm_wire.specs.declared.frame.Frame.{Frame}
 use Rattle.pm_wire.specs.declared.answer.Answer.TheVariants.{Fault}
@@ -100,6 +100,27 @@ pub record IsBegun (old new held holds : Option (List ℕ)) : Type 0 where
   pub consumes : Consumes old new input
   pub begins : BeginsWith input frames rest
   pub appends : Appends held holds (replies frames)
+
+-- Done or Refused: the service answered its input to the end, or to a fault
+abbrev pub EndsWhole : Option (List ℕ) → Option (List ℕ) → Option (List ℕ) → Option (List ℕ) → Type 0
+EndsWhole old new held holds = IsDone old new held holds ⊎ IsRefused old new held holds
+
+-- one sink holds the answers to the first frames of the input behind `held`, and the other the same and more
+pub record HoldsFirstAnswers (all held : List ℕ) (holds kept : Option (List ℕ)) : Type 0 where
+  pub frames : List Frame
+  pub rest : List ℕ
+  pub more : List ℕ
+  pub begins : BeginsWith all frames rest
+  pub first : holds ≡ Some (held ++ replies frames)
+  pub whole : kept ≡ Some (held ++ (replies frames ++ more))
+
+-- one sink holds bytes behind `held`, and the other the same bytes and at least one more
+pub record HoldsLess (held : List ℕ) (holds kept : Option (List ℕ)) : Type 0 where
+  pub written : List ℕ
+  pub more : List ℕ
+  pub some : more ≢ []
+  pub first : holds ≡ Some (held ++ written)
+  pub whole : kept ≡ Some (held ++ (written ++ more))
 
 -- what is known of the reads and writes of a service that ended in this way; `rose_source` and `rose_sink` say that a fault of
 -- the source, or of the sink, was counted
