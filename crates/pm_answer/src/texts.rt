@@ -15,11 +15,12 @@ use crate::arguments::FileCommand;
 use pm_ask::{Curve, CurveFault, ask_text};
 use pm_bid::ArrayBid;
 use pm_bill::bill_of_run;
+use pm_free::settle_free;
 use pm_gen::{GenFault, make_plan};
 use pm_market::Journal;
 use pm_plan::{PhaseEnd, Plan};
 use pm_report::{report_text, summary_text, trace_text};
-use pm_runner::{Gate, settle, settle_free};
+use pm_runner::{Gate, settle};
 use std::alloc::{AllocError, Global};
 use std::sync::Wait;
 use std::thread::Threads;
@@ -69,6 +70,7 @@ fn last_curve<R: Threads + Wait + Sync, G: Gate>(
 ) -> Result<Curve, AllocError>
     ensures { IfOk result (λ curve. curve ≡ last_total plan.now) }
 {
+    // The call tells a fact of the type: the plan keeps its limits.
     let _basis = plan.basis();
     let board = settle(rt, alloc, plan, gate)?;
     curve_of(alloc, board.aggregate())

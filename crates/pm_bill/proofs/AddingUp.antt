@@ -1,5 +1,5 @@
 -- The bill of a plan adds up: what all devices and the grid pay comes to 0, and so does what they take less what they give.
-use Rattle.std.proofs.Common.{◌≡◌, ◌∙◌, sym, ap, refl, ℕ, ◌+◌, ◌<◌, ℤ, pos, neg_ℤ, ◌+ℤ◌, ◌*ℤ◌, Bool, true, false}
+use Rattle.std.proofs.Common.{◌≡◌, ◌∙◌, sym, ap, refl, ℕ, ◌+◌, ℤ, pos, neg_ℤ, ◌+ℤ◌, ◌*ℤ◌, Bool, true, false}
 use Rattle.std.proofs.Common.{cond, List, [], ◌∷◌, length, map, arith, inl, inr}
 use Rattle.std.specs.Prelude.{filter}
 use Rattle.std.proofs.Math.IntN.{zero-*ℤ}
@@ -9,7 +9,6 @@ use Rattle.std.proofs.lemmas.Int.{ints}
 use Rattle.std.proofs.lemmas.List.{length-map}
 use Rattle.std.proofs.lemmas.List.FromFn.{length-range_with_len}
 use Rattle.pm_base.specs.Cuts.{Cut}
-use Rattle.pm_tree.specs.Shape.{leaf_at}
 use Rattle.pm_tree.specs.Entries.{leaves_of}
 use Rattle.pm_tree.proofs.Named.{length-leaves_of}
 use Rattle.pm_plan.specs.Plans.{PlanData, is_leaf, node_numbers}

@@ -1,7 +1,7 @@
 -- The shares and the sums of groups at an end are those of the plain auction of its cut, and it may be charged.
-use Rattle.std.proofs.Common.{◌≡◌, ◌∙◌, sym, ap, ℕ, ◌≤◌, ◌<◌, Bool, true, false, cond, List, [], ◌∷◌, length, map, get_or, refl}
+use Rattle.std.proofs.Common.{◌≡◌, ◌∙◌, sym, ap, ℕ, ◌≤◌, ◌<◌, Bool, List, [], ◌∷◌, length, map, get_or, refl}
 use Rattle.std.proofs.Common.{arith}
-use Rattle.std.specs.Prelude.{All, filter, ◌==◌, ◌&&◌, not}
+use Rattle.std.specs.Prelude.{All, filter, ◌==◌, not}
 use Rattle.std.proofs.lemmas.Simd.{map-map}
 use Rattle.std.proofs.lemmas.List.{length-map}
 use Rattle.std.proofs.lemmas.List.Elements.{All-map, All-filter, All-head, All-tail}

@@ -1,7 +1,7 @@
 -- What a judge keeps of the clearings, after each move.
-use Rattle.std.proofs.Common.{◌≡◌, ◌∙◌, sym, ap, subst, refl, ℕ, zero, suc, ◌+◌, ◌-◌, ◌<◌, ◌≤◌, Bool, true, false, cond, List}
+use Rattle.std.proofs.Common.{◌≡◌, ◌∙◌, sym, ap, subst, refl, ℕ, ◌+◌, ◌-◌, ◌<◌, ◌≤◌, Bool, true, false, cond, List}
 use Rattle.std.proofs.Common.{[], ◌∷◌, ◌++◌, length, map, get_or, arith, inl, inr}
-use Rattle.std.specs.Prelude.{All, ℤ, ◌==◌}
+use Rattle.std.specs.Prelude.{ℤ, ◌==◌}
 use Rattle.std.proofs.Math.Path.{fun_ext}
 use Rattle.std.proofs.lemmas.Bool.{cases_Bool, cases_eq, cases_lt}
 use Rattle.std.proofs.lemmas.List.{get_or_append_left, get_or_push, length-append}
@@ -10,14 +10,14 @@ use Rattle.pm_base.specs.Cuts.{Cut, cut_of}
 use Rattle.pm_bid.specs.Bids.{zeros, sum_of}
 use Rattle.pm_bid.specs.Clearing.{clearing_step}
 use Rattle.pm_bid.specs.Limited.{local_step}
-use Rattle.pm_market.specs.Lists.{Lists, IsNode, IsLeaf, IsConcentrator, end_count, phases, Lawful}
-use Rattle.pm_market.specs.State.{State, start, updated, cut_at, clearings, cleared, known, newest, number}
+use Rattle.pm_market.specs.Lists.{Lists, IsNode, IsLeaf, phases, Lawful}
+use Rattle.pm_market.specs.State.{State, start, cut_at, clearings, cleared, known}
 use Rattle.pm_market.specs.Moves.{Legal, step}
 use Rattle.pm_market.specs.Sound.{Sound}
 use Rattle.pm_market.specs.declared.moves.Move.{Move}
 use Rattle.pm_market.specs.declared.moves.Move.TheVariants.{Change, Learn, Publish, Clear, Pass, Close}
-use Rattle.pm_market.proofs.Tree.{leaf_node, leaf_zero, leaf_of_itself, leaf_of_auctioneer}
-use Rattle.pm_market.proofs.Cuts.{updated_other, updated_same, entry_zero, entry_kept, cut_at_new, newest_leaf, part_leaf}
+use Rattle.pm_market.proofs.Tree.{leaf_node, leaf_zero, leaf_of_auctioneer}
+use Rattle.pm_market.proofs.Cuts.{updated_other, updated_same, entry_zero, entry_kept, cut_at_new, newest_leaf}
 use Rattle.pm_laws.proofs.Kept.{sound_step}
 use Rattle.pm_laws.proofs.Numbers.{cleared_is_part, number_leaf}
 use Rattle.pm_laws.proofs.Quiet.{quiet_counts}
@@ -25,7 +25,7 @@ use Rattle.pm_plan.specs.Plans.{PlanData, NodeData, node, is_device, limits_of, 
 use Rattle.pm_plan.specs.Plans as plans
 use Rattle.pm_plan.specs.Kept.{IsPlan}
 use Rattle.pm_plan.specs.declared.node.Node.TheVariants.{Concentrator, Limited, Device}
-use Rattle.pm_plan.specs.Auction.{States, node_bid, demand_in_cut, part_in, sum_in, total, plain, group_step, local}
+use Rattle.pm_plan.specs.Auction.{States, node_bid, demand_in_cut, part_in, sum_in, plain, group_step, local}
 use Rattle.pm_plan.specs.States.{state}
 use Rattle.pm_plan.specs.Market.{plan_lists}
 use Rattle.pm_plan.proofs.MarketLists.{lawful, end-is, is_leaf-is, phases-is}
@@ -36,7 +36,7 @@ use Rattle.pm_walk.specs.Auctions.{IsAuction, auction_cut}
 use Rattle.pm_walk.specs.Clearing.{AreGroupSteps}
 use Rattle.pm_walk.proofs.Nodes.{group_inside}
 use Rattle.pm_check.specs.declared.steps.ClearedSteps.{ClearedSteps}
-use Rattle.pm_check.specs.Judges.{rows_of, AreRows, HasRow, AreStepsOf, AreCleared}
+use Rattle.pm_check.specs.Judges.{rows_of, AreRows, HasRow, AreCleared}
 use Rattle.pm_check.proofs.Dues.{no_more}
 
 -- ---- the plain auction knows of a cut the numbers of the devices alone

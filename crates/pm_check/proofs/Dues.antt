@@ -1,16 +1,14 @@
 -- Which line is due after the lines of a legal journal, and after its count.
-use Rattle.std.proofs.Common.{◌≡◌, ◌≢◌, ◌∙◌, sym, ap, subst, refl, ℕ, suc, ◌+◌, ◌<◌, ◌≤◌, ◌⊎◌, List, [], ◌∷◌}
+use Rattle.std.proofs.Common.{◌≡◌, ◌≢◌, ◌∙◌, sym, ap, subst, refl, ℕ, ◌+◌, ◌⊎◌, List, [], ◌∷◌}
 use Rattle.std.proofs.Common.{◌++◌, length, map, append_assoc, arith, inl, inr}
 use Rattle.std.proofs.lemmas.List.{append-nil, append_cancel_left, length-append}
-use Rattle.std.specs.Prelude.{All}
 use Rattle.pm_market.specs.Lists.{Lists, phases, Lawful}
 use Rattle.pm_market.specs.State.{State, start}
-use Rattle.pm_market.specs.Moves.{Legal, LegalFrom, LegalJournal, IsComplete, step, after, after_from}
+use Rattle.pm_market.specs.Moves.{Legal, LegalJournal, IsComplete, step, after, after_from}
 use Rattle.pm_market.specs.Held.{line_of, lines_from}
 use Rattle.pm_market.specs.Sound.{Sound}
 use Rattle.pm_market.specs.declared.moves.Move.{Move}
 use Rattle.pm_market.specs.declared.moves.Move.TheVariants.{Change, Learn, Publish, Clear, Pass, Close}
-use Rattle.pm_market.specs.declared.journal.Line.{Line}
 use Rattle.pm_laws.proofs.Kept.{sound_after}
 use Rattle.pm_laws.proofs.Order.{after_append, legal_append, legal_parts}
 use Rattle.pm_plan.specs.Plans.{PlanData}
@@ -18,7 +16,7 @@ use Rattle.pm_plan.specs.Kept.{IsPlan}
 use Rattle.pm_plan.specs.Market.{plan_lists}
 use Rattle.pm_plan.proofs.MarketLists.{lawful}
 use Rattle.pm_offer.specs.Offers.{local_at}
-use Rattle.pm_report.specs.Trace.{move_line, moves_line}
+use Rattle.pm_report.specs.Trace.{move_line}
 use Rattle.pm_check.specs.Traces.{journal_lines, next_line, count_line, IsLineDue, in_report, next_move, count, AreLinesDue}
 use Rattle.pm_check.proofs.RunLines.{no_count, same_moves}
 

@@ -1,15 +1,14 @@
 -- What is said of a trace at the end of its reading.
-use Rattle.std.proofs.Common.{◌≡◌, ◌≢◌, ◌∙◌, sym, ap, subst, refl, ℕ, suc, ◌+◌, ◌<◌, ◌≤◌, List, [], ◌∷◌, ◌++◌}
-use Rattle.std.proofs.Common.{length, map, append_assoc, arith, inl, inr}
+use Rattle.std.proofs.Common.{◌≡◌, ◌≢◌, ◌∙◌, sym, ap, subst, refl, ℕ, ◌+◌, ◌<◌, ◌≤◌, List, [], ◌∷◌, ◌++◌}
+use Rattle.std.proofs.Common.{length, append_assoc, arith, inl, inr}
 use Rattle.std.specs.Prelude.{All}
 use Rattle.std.proofs.lemmas.List.{append-nil, append_cancel_left, length-append, length-map}
-use Rattle.std.proofs.lemmas.List.Elements.{All-append, All-cons, All-nil, All-head, All-tail}
+use Rattle.std.proofs.lemmas.List.Elements.{All-append, All-cons, All-nil, All-head}
 use Rattle.std.proofs.lemmas.Bool.{cases_eq, cases_lt}
-use Rattle.pm_market.specs.Lists.{Lists, phases, Lawful}
-use Rattle.pm_market.specs.State.{State, start}
+use Rattle.pm_market.specs.Lists.{Lists, phases}
+use Rattle.pm_market.specs.State.{start}
 use Rattle.pm_market.specs.Moves.{Legal, LegalJournal, IsComplete, after}
 use Rattle.pm_market.specs.Held.{lines}
-use Rattle.pm_market.specs.Sound.{Sound}
 use Rattle.pm_market.specs.declared.moves.Move.{Move}
 use Rattle.pm_laws.proofs.Kept.{sound_start, sound_after}
 use Rattle.pm_laws.proofs.Progress.{progress}
@@ -25,8 +24,8 @@ use Rattle.pm_check.specs.Traces.{journal_lines, next_line, count_line, IsLineDu
 use Rattle.pm_check.specs.Traces.{no_end, missing, IsBadLine}
 use Rattle.pm_check.specs.Reading.{IsReported, HasReadTo}
 use Rattle.pm_check.proofs.TextLines.{joined-append, joined-push, lines_within, one_list, same_lines, lines_before, line_before, no_lines, lines_exist}
-use Rattle.pm_check.proofs.RunLines.{whole_from, whole_count, count_lines, bound_small}
-use Rattle.pm_check.proofs.Dues.{report_due, journal_due, count_due, due_push, no_move_due, no_count_due, nothing_due}
+use Rattle.pm_check.proofs.RunLines.{whole_from, whole_count, count_lines}
+use Rattle.pm_check.proofs.Dues.{report_due, journal_due, count_due, no_move_due, no_count_due, nothing_due}
 
 no_bytes : (bytes : List ℕ) → length bytes ≡ 0 → bytes ≡ []
 no_bytes [] none = refl

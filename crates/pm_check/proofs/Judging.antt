@@ -1,12 +1,12 @@
 -- What a judge says of a line, and of the whole trace.
-use Rattle.std.proofs.Common.{◌≡◌, ◌≢◌, ◌∙◌, sym, ap, subst, refl, ℕ, ◌+◌, ◌≤◌, Bool, true, false, List, [], ◌∷◌, ◌++◌}
+use Rattle.std.proofs.Common.{◌≡◌, ◌≢◌, ◌∙◌, sym, ap, subst, refl, ℕ, ◌+◌, ◌≤◌, true, false, List, [], ◌∷◌, ◌++◌}
 use Rattle.std.proofs.Common.{length, append_assoc, arith}
 use Rattle.std.specs.Prelude.{Option, Some, None, decimal, codes}
 use Rattle.std.proofs.lemmas.Bool.{false≢true}
 use Rattle.std.proofs.lemmas.List.{length-append}
 use Rattle.pm_market.specs.Lists.{Lists, phases}
 use Rattle.pm_market.specs.State.{State}
-use Rattle.pm_market.specs.Moves.{Legal, LegalJournal, IsComplete, step, after}
+use Rattle.pm_market.specs.Moves.{Legal, IsComplete, step, after}
 use Rattle.pm_market.specs.Held.{held_after, line_of, lines}
 use Rattle.pm_market.specs.Legality.{is_legal}
 use Rattle.pm_market.specs.Market.{market_lists, market_state}
@@ -24,10 +24,10 @@ use Rattle.pm_report.proofs.Traces.{same_one}
 use Rattle.pm_lines.specs.Reading.{Reads}
 use Rattle.pm_envelope.specs.Lines.{HasNoLineFeed}
 use Rattle.pm_check.specs.declared.judge.Judge.{Judge}
-use Rattle.pm_check.specs.Lines.{IsWholeLine, joined, AreLinesOf}
+use Rattle.pm_check.specs.Lines.{IsWholeLine, joined}
 use Rattle.pm_check.specs.Traces.{journal_lines, next_line, count_line, IsValidTrace, IsBadLine}
 use Rattle.pm_check.specs.Judges.{IsJudge, HasMade, HasTaken, TellsNone, held_in}
-use Rattle.pm_check.specs.Reading.{IsReported, HasReadTo, IsJudging}
+use Rattle.pm_check.specs.Reading.{IsReported, IsJudging}
 use Rattle.pm_check.proofs.TextLines.{joined-push}
 use Rattle.pm_check.proofs.RunLines.{line_is, count_lines}
 use Rattle.pm_check.proofs.Dues.{legal_push, after_push, journal_push}

@@ -1,20 +1,19 @@
 -- A judge makes a move, and says what is then held.
-use Rattle.std.proofs.Common.{◌≡◌, ◌≢◌, ◌∙◌, sym, ap, subst, refl, ℕ, ◌+◌, ◌-◌, ◌<◌, ◌≤◌, Bool, true, false, cond, List}
+use Rattle.std.proofs.Common.{◌≡◌, ◌∙◌, sym, ap, subst, refl, ℕ, ◌+◌, ◌-◌, ◌<◌, ◌≤◌, true, List}
 use Rattle.std.proofs.Common.{[], length, get_or, arith}
-use Rattle.std.specs.Prelude.{Option, Some, None, Result, Ok, Err, OnOk, nat_lt, nat_le, ◌&&◌}
+use Rattle.std.specs.Prelude.{Some, None, Result, Ok, Err, OnOk, nat_lt, ◌&&◌}
 use Rattle.std.proofs.lemmas.Bool.{and_parts, ltb-true, cond-true}
 use Rattle.pm_base.specs.Cuts.{Cut, cut_of}
-use Rattle.pm_market.specs.Lists.{Lists, is_leaf, is_member, IsLeaf, Lawful}
+use Rattle.pm_market.specs.Lists.{Lists, is_leaf, is_member, IsLeaf}
 use Rattle.pm_market.specs.State.{State, start, last, clearings, cleared}
 use Rattle.pm_market.specs.Moves.{Legal, step}
-use Rattle.pm_market.specs.Held.{holds_price, last_join, held, held_after, line_of}
+use Rattle.pm_market.specs.Held.{holds_price, held, held_after}
 use Rattle.pm_market.specs.Legality.{is_legal}
 use Rattle.pm_market.specs.Sound.{Sound}
 use Rattle.pm_market.specs.Market.{market_lists, market_state}
 use Rattle.pm_market.specs.declared.market.Market.{Market}
 use Rattle.pm_market.specs.declared.moves.Move.{Move}
 use Rattle.pm_market.specs.declared.moves.Move.TheVariants.{Change, Learn, Publish, Clear, Pass, Close}
-use Rattle.pm_market.specs.declared.journal.Line.{Line}
 use Rattle.pm_market.proofs.Tree.{leaf_node}
 use Rattle.pm_laws.proofs.Facts.{last_within}
 use Rattle.pm_laws.proofs.Kept.{sound_start, sound_step}
@@ -29,7 +28,7 @@ use Rattle.pm_walk.specs.Auctions.{IsAuction, auction_cut}
 use Rattle.pm_check.specs.declared.judge.Judge.{Judge}
 use Rattle.pm_check.specs.declared.steps.ClearedSteps.{ClearedSteps}
 use Rattle.pm_check.specs.Judges.{rows_of, HasRow, AreCleared, IsJudge, HasMade, held_at, held_in}
-use Rattle.pm_check.proofs.Cleared.{change_keeps, learn_keeps, pass_keeps, publish_keeps, phase_open, clearings_are, cut_rises, cut_planned, clear_adds}
+use Rattle.pm_check.proofs.Cleared.{change_keeps, learn_keeps, pass_keeps, publish_keeps, phase_open, cut_rises, cut_planned, clear_adds}
 use Rattle.pm_check.proofs.Cleared.{ends_closed, close_keeps, cleared_start}
 
 -- what follows from one fact on success follows from another

@@ -1,17 +1,17 @@
 -- The lists of a plan, as far as they are made.
-use Rattle.std.proofs.Common.{◌≡◌, ◌∙◌, sym, ap, refl, ℕ, zero, suc, ◌+◌, ◌-◌, ◌<◌, ◌≤◌, Bool, true, false, List, [], ◌∷◌}
+use Rattle.std.proofs.Common.{◌≡◌, ◌∙◌, sym, ap, refl, ℕ, zero, suc, ◌+◌, ◌-◌, ◌<◌, Bool, false, List, [], ◌∷◌}
 use Rattle.std.proofs.Common.{◌++◌, length, map, take, get_or, arith, add-one}
 use Rattle.std.specs.Prelude.{replicate}
 use Rattle.std.specs.List.{range_with_len}
 use Rattle.std.proofs.Math.Path.{fun_ext}
-use Rattle.std.proofs.lemmas.List.{take_more, map-append}
+use Rattle.std.proofs.lemmas.List.{take_more}
 use Rattle.std.proofs.lemmas.List.FromFn.{map-range_with_len_more}
 use Rattle.std.proofs.lemmas.List.Sums.{fold-append}
 use Rattle.pm_tree.specs.Entries.{Entry, parents_of, leaves_of, parent_of, is_leaf_at}
 use Rattle.pm_tree.proofs.Named.{length-parents_of, length-leaves_of}
 use Rattle.pm_plan.specs.Devices.{member_after, is_member_after}
 use Rattle.pm_plan.specs.declared.planned.Change.{Change}
-use Rattle.pm_plan.specs.Plans.{PlanData, node, changes_of, change_count, is_member, is_leaf, end_cut, node_numbers}
+use Rattle.pm_plan.specs.Plans.{PlanData, node, changes_of, change_count, is_member, end_cut, node_numbers}
 use Rattle.pm_plan.specs.Kept.{IsPlan, change_at, no_change}
 use Rattle.pm_plan.proofs.Ends.{end-none}
 

@@ -1,15 +1,14 @@
 -- The lines that tell legal moves: they are of the plan, they are whole lines, and they tell the moves.
 use Rattle.std.proofs.Common.{◌≡◌, ◌≢◌, ◌∙◌, sym, ap, subst, refl, ℕ, suc, ◌+◌, ◌<◌, ◌≤◌, ◌^◌, Bool, true, false, List}
 use Rattle.std.proofs.Common.{[], ◌∷◌, ◌++◌, length, map, cond, get_or, append_assoc, arith, mul-le-mul, inl, inr}
-use Rattle.std.specs.Prelude.{All, Option, Some, None, IfSome, nat_lt, ◌&&◌, decimal, codes}
+use Rattle.std.specs.Prelude.{All, Option, Some, None, IfSome, nat_lt, decimal, codes}
 use Rattle.std.specs.List.{list_all}
 use Rattle.std.proofs.lemmas.Bool.{cases_Bool, cond-true, cond-false, ltb-true}
-use Rattle.std.proofs.lemmas.List.{length-map}
-use Rattle.std.proofs.lemmas.List.Elements.{All-nil, All-cons, All-append, All-head, All-tail}
+use Rattle.std.proofs.lemmas.List.Elements.{All-nil, All-cons, All-append}
 use Rattle.pm_base.specs.Limits.{most_changes}
 use Rattle.pm_market.specs.Lists.{Lists, nodes, parent, is_leaf, IsNode, IsLeaf, Lawful}
 use Rattle.pm_market.specs.State.{State, start, newest, number, last, last_of, clearings, cleared}
-use Rattle.pm_market.specs.Moves.{Legal, Reached, step, LegalFrom, LegalJournal, after_from}
+use Rattle.pm_market.specs.Moves.{Legal, step, LegalFrom, LegalJournal}
 use Rattle.pm_market.specs.Bound.{bound, change_total}
 use Rattle.pm_market.specs.Held.{holds_price, held_after, line_of, lines_from, lines}
 use Rattle.pm_market.specs.Sound.{Sound}
@@ -31,7 +30,7 @@ use Rattle.pm_offer.specs.Offers.{local_at}
 use Rattle.pm_offer.proofs.Laws.{local_inside}
 use Rattle.pm_offer.proofs.GroupNodes as group_nodes
 use Rattle.pm_report.specs.Words.{text_line}
-use Rattle.pm_report.specs.Trace.{IsLineOf, IsLineOfRun, move_words, move_line, moves_line}
+use Rattle.pm_report.specs.Trace.{IsLineOfRun, move_words, move_line, moves_line}
 use Rattle.pm_report.proofs.LineWords.{IsWord, AreWords, decimal_word}
 use Rattle.pm_report.proofs.Moves.{move_are_words}
 use Rattle.pm_report.proofs.Traces.{same_one}

@@ -32,6 +32,7 @@ pub fn check(alloc: Global, plan: &Plan, report: &[u8], trace: &[u8]) -> Result<
     ensures accepted { (moves : ℕ) → IsValidTrace plan.now report.now trace.now moves → IfErr result (λ fault. fault ≡ CheckFault.NoMemory) }
     ensures refused { (line : ℕ) → IsBadLine plan.now report.now trace.now line → IfOk result (λ moves. ⊥) }
 {
+    // The call tells a fact of the type: the plan keeps its limits.
     let _phases = plan.phases();
     match read_report(report, trace) {
         Ok(reported) => check_moves(alloc, plan, report, trace, reported),

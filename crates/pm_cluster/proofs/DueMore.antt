@@ -9,7 +9,7 @@ use Rattle.pm_plan.specs.Kept.{IsPlan}
 use Rattle.pm_plan.specs.Plans.{PlanData, end_cut, phase_changes}
 use Rattle.pm_plan.specs.Market.{plan_lists}
 use Rattle.pm_plan.proofs.Ends.{end-rises, end-within}
-use Rattle.pm_walk.proofs.Devices.{few_changes}
+use Rattle.pm_plan.proofs.PlannedChanges.{few_changes}
 
 -- the changes of the next phase come on top of those of the phases before it
 pub one_phase_more : (plan : PlanData) (closed d count more : ℕ) → count ≡ end_cut plan closed d →

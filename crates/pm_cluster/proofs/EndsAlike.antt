@@ -14,8 +14,8 @@ use Rattle.pm_plan.specs.Plans.{PlanData, is_member, is_limited, node_numbers}
 use Rattle.pm_plan.specs.Auction.{plain, total, sum_in, group_step, power, member_line, limited_line, end_in}
 use Rattle.pm_plan.specs.States.{state, end_of}
 use Rattle.pm_plan.specs.Market.{plan_lists}
-use Rattle.pm_walk.proofs.EndLines.{member_line_is, limited_line_is, end_is}
-use Rattle.pm_walk.specs.Parts.{members_to, limited_to}
+use Rattle.pm_plan.proofs.EndLines.{member_line_is, limited_line_is, end_is}
+use Rattle.pm_plan.specs.EndLines.{members_to, limited_to}
 use Rattle.pm_offer.specs.Offers.{children_sum}
 use Rattle.pm_offer.proofs.Offers.{limited_sum}
 use Rattle.pm_offer.proofs.Steps.{no_member}

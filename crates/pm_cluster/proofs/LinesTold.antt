@@ -19,8 +19,8 @@ use Rattle.pm_cache.specs.Cache.{aggregate_of}
 use Rattle.pm_plan.specs.Auction.{EndData}
 use Rattle.pm_plan.specs.Ends.{EndValue}
 use Rattle.pm_plan.specs.States.{end_of}
-use Rattle.pm_walk.specs.Parts.{members_to, limited_to}
-use Rattle.pm_walk.proofs.EndLines.{members-yes, members-no, limited-yes, limited-no, end_is}
+use Rattle.pm_plan.specs.EndLines.{members_to, limited_to}
+use Rattle.pm_plan.proofs.EndLines.{members-yes, members-no, limited-yes, limited-no, end_is}
 use Rattle.pm_offer.proofs.Steps.{no_member}
 use Rattle.pm_stands.specs.Core.{Core}
 use Rattle.pm_stands.specs.Stands.{StandsFor}

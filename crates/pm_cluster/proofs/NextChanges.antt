@@ -23,7 +23,7 @@ use Rattle.pm_plan.specs.declared.planned.Planned.{Planned}
 use Rattle.pm_plan.specs.declared.planned.Planned.TheVariants.{Tick}
 use Rattle.pm_plan.specs.Devices.{is_member_after, member_after}
 use Rattle.pm_plan.specs.Plans.{PlanData, NodeData, node, kind_of, changes_of, is_member, change_count, end_cut, phases}
-use Rattle.pm_walk.proofs.Devices.{planned-is}
+use Rattle.pm_plan.proofs.PlannedChanges.{planned-is}
 use Rattle.pm_plan.specs.Kept.{IsPlan, no_change, change_at, change_fits}
 use Rattle.pm_plan.specs.Auction.{power, node_bid, demand_in_cut, local}
 use Rattle.pm_plan.specs.States.{state, changed_state}

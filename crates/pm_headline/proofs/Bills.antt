@@ -1,17 +1,15 @@
 -- The bill of a plan, by the steps that its devices go by.
-use Rattle.std.proofs.Common.{◌≡◌, ◌∙◌, sym, ap, refl, ℕ, ◌<◌, ℤ, ◌*ℤ◌, Bool, true, List, [], ◌∷◌, length, map, arith}
-use Rattle.std.proofs.lemmas.Bool.{cond-true}
+use Rattle.std.proofs.Common.{◌≡◌, ap, refl, ℕ, ℤ, ◌*ℤ◌, List, []}
 use Rattle.pm_bid.specs.Bids.{demand_at}
 use Rattle.pm_basis.specs.Prices.{price_at}
-use Rattle.pm_plan.specs.Plans.{PlanData, is_leaf, node_numbers}
+use Rattle.pm_plan.specs.Plans.{PlanData}
 use Rattle.pm_plan.specs.Kept.{IsPlan}
-use Rattle.pm_plan.specs.Auction.{local, power}
-use Rattle.pm_plan.specs.States.{state}
-use Rattle.pm_offer.specs.Offers.{device_demand, local_at}
+use Rattle.pm_plan.specs.Auction.{power}
+use Rattle.pm_offer.specs.Offers.{local_at}
 use Rattle.pm_offer.proofs.EndLines.{step_is}
 use Rattle.pm_offer.proofs.Steps.{demand_is}
-use Rattle.pm_bill.specs.Accounts.{account_at, account_total, account_of, no_account}
-use Rattle.pm_bill.specs.Runs.{tick_phases, tick_minutes, cut_before, device_gain, node_account, bill_over, plan_bill}
+use Rattle.pm_bill.specs.Accounts.{account_of}
+use Rattle.pm_bill.specs.Runs.{tick_phases, tick_minutes, cut_before, device_gain, bill_over, plan_bill}
 use Rattle.pm_bill.specs.Text.{bill_text}
 use Rattle.pm_bill.proofs.AddingUp.{bills_add_up, account-device}
 use Rattle.pm_headline.specs.Bills.{IsGain, TellsBill}

@@ -1,7 +1,6 @@
 -- A settled board tells the market.
-use Rattle.std.proofs.Common.{◌≡◌, sym, subst, List}
+use Rattle.std.proofs.Common.{sym, subst}
 use Rattle.pm_plan.specs.Kept.{IsPlan}
-use Rattle.pm_plan.specs.Auction.{EndData}
 use Rattle.pm_board.specs.Boards.{BoardValue, kept_ends}
 use Rattle.pm_turns.specs.Settled.{IsSettled}
 use Rattle.pm_headline.specs.Reports.{AreAuctionEnds}

@@ -1,27 +1,23 @@
 -- What is due for an input tells the market.
-use Rattle.std.proofs.Common.{◌≡◌, ◌∙◌, sym, ap, subst, refl, ℕ, ◌≤◌, ℤ, true, List, length, Option, Some, Ok}
+use Rattle.std.proofs.Common.{◌≡◌, sym, subst, refl, ℕ, ◌≤◌, ℤ, true, List, length, Option}
 use Rattle.std.specs.Io.KnownBytes.{Consumes, IsAtEnd}
-use Rattle.std.proofs.lemmas.List.{length-map}
-use Rattle.pm_market.specs.declared.journal.Line.{Line}
 use Rattle.pm_plan.specs.Plans.{PlanData}
 use Rattle.pm_plan.specs.Kept.{IsPlan}
 use Rattle.pm_plan.specs.States.{all_ends}
 use Rattle.pm_scene.proofs.PlansOfFiles.{files_plan}
-use Rattle.pm_gen.specs.Demo.{is_size, demo_plan}
+use Rattle.pm_gen.specs.Demo.{is_size}
 use Rattle.pm_gen.proofs.PlansOfDemos.{demos_plan}
-use Rattle.pm_check.specs.Traces.{IsValidTrace, IsBadLine}
 use Rattle.pm_answer.specs.Inputs.{input_limit, HasPlan, AreAsked, report_of}
-use Rattle.pm_answer.specs.Answers.{IsAnswer, IsTextOf, IsSummary, refused, planned, valid, invalid, valid_line, invalid_line}
+use Rattle.pm_answer.specs.Answers.{IsAnswer, IsTextOf, IsSummary, refused, planned, valid, invalid}
 use Rattle.pm_answer.specs.declared.arguments.FileCommand.{FileCommand}
 use Rattle.pm_answer.specs.declared.arguments.FileCommand.TheVariants.{Run, Trace, Check, Bill, Ask, Free}
 use Rattle.pm_answer.specs.declared.status.Status.{Status}
 use Rattle.pm_answer.specs.declared.status.Status.TheVariants.{Done, Invalid, Refused}
-use Rattle.pm_headline.specs.Traces.{TellsRun}
 use Rattle.pm_headline.specs.Demos.{TellsDemo}
 use Rattle.pm_answer.proofs.Meanings.{not_both, no_judgement}
 use Rattle.pm_headline.specs.Promises.{ReadFile, TellsPlan, TellsFile, ConfirmsTrace, RefutesTrace, RefusesInput}
 use Rattle.pm_headline.proofs.Reports.{ends_tell, report_is}
-use Rattle.pm_headline.proofs.Journals.{tells_run, told_run}
+use Rattle.pm_headline.proofs.Journals.{tells_run}
 use Rattle.pm_headline.proofs.Judgements.{confirmed, refuted}
 use Rattle.pm_headline.proofs.Bills.{bill_is}
 use Rattle.pm_headline.proofs.Targets.{answers_are}

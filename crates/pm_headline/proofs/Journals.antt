@@ -8,7 +8,7 @@ use Rattle.std.proofs.lemmas.List.{map-append}
 use Rattle.std.proofs.lemmas.List.Elements.{Contains-push}
 use Rattle.pm_base.specs.Cuts.{Cut}
 use Rattle.pm_bid.specs.Bids.{demand_at}
-use Rattle.pm_market.specs.Lists.{Lists, is_leaf, changes, end_count, IsLeaf, Lawful}
+use Rattle.pm_market.specs.Lists.{Lists, is_leaf, end_count, IsLeaf, Lawful}
 use Rattle.pm_market.specs.Lists as market
 use Rattle.pm_market.specs.State.{State, SameOn, start, last, last_of, clearings, cleared}
 use Rattle.pm_market.specs.Moves.{Legal, LegalFrom, LegalJournal, Idle, step, after, after_from}

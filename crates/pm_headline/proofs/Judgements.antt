@@ -6,7 +6,7 @@ use Rattle.pm_base.specs.Cuts.{Cut}
 use Rattle.pm_market.specs.Lists.{Lists}
 use Rattle.pm_market.specs.State.{State, start}
 use Rattle.pm_market.specs.Moves.{LegalJournal, IsComplete, step}
-use Rattle.pm_market.specs.Held.{line_of, lines, lines_from}
+use Rattle.pm_market.specs.Held.{lines, lines_from}
 use Rattle.pm_market.specs.declared.moves.Move.{Move}
 use Rattle.pm_market.specs.declared.journal.Line.{Line}
 use Rattle.pm_plan.specs.Plans.{PlanData}
@@ -23,7 +23,6 @@ use Rattle.pm_check.proofs.RunLines.{count_lines}
 use Rattle.pm_cluster.specs.Acts.{moves_of}
 use Rattle.pm_answer.specs.Inputs.{report_of}
 use Rattle.pm_answer.specs.Answers.{IsCompleteJournal, valid_line, invalid_line}
-use Rattle.pm_headline.specs.Traces.{TellsRun}
 use Rattle.pm_headline.specs.Promises.{ConfirmsTrace, RefutesTrace}
 use Rattle.pm_headline.proofs.Journals.{tells_run, told_run}
 

@@ -1,7 +1,6 @@
 -- The answers to targets, over the total of the last phase's end.
-use Rattle.std.proofs.Common.{◌≡◌, ◌∙◌, sym, ap, subst, refl, ℕ, ◌<◌, ℤ, pos, ◌-ℤ◌, List, length, arith}
+use Rattle.std.proofs.Common.{◌≡◌, refl, ℕ, ℤ, pos, ◌-ℤ◌, List, length, arith}
 use Rattle.std.proofs.lemmas.List.{length-map}
-use Rattle.pm_bid.specs.Bids.{NeverRises}
 use Rattle.pm_bid.proofs.FoundStep.{first_at_most_is_first}
 use Rattle.pm_plan.specs.Plans.{PlanData, phases, end_cut}
 use Rattle.pm_plan.specs.Kept.{IsPlan}

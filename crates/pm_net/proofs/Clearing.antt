@@ -6,7 +6,7 @@ use Rattle.pm_base.specs.Cuts.{Cut}
 use Rattle.pm_bid.specs.Clearing.{clearing_step}
 use Rattle.pm_market.specs.Lists.{Lists, nodes, parent, IsNode, IsInner, Lawful}
 use Rattle.pm_laws.proofs.Facts.{last_within}
-use Rattle.pm_market.specs.State.{State, updated, cut_at, known, number, last, clearings, cleared, addresses, addresses_of}
+use Rattle.pm_market.specs.State.{State, known, number, last, clearings, cleared, addresses, addresses_of}
 use Rattle.pm_market.specs.Moves.{step, Legal, LegalFrom, after_from}
 use Rattle.pm_market.specs.Sound.{Sound}
 use Rattle.pm_market.specs.declared.moves.Move.{Move}

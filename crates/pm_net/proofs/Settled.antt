@@ -1,5 +1,5 @@
 -- Where everything was taken and nothing can be sent, everything is over all current bids.
-use Rattle.std.proofs.Common.{◌≡◌, ◌∙◌, sym, ap, subst, ℕ, ◌+◌, ◌-◌, ◌<◌, ◌≤◌, Bool, true, false, not, ltb, ◌&&◌, inl}
+use Rattle.std.proofs.Common.{◌≡◌, ◌∙◌, sym, ap, ℕ, ◌-◌, ◌<◌, ◌≤◌, Bool, true, false, not, ltb, ◌&&◌, inl}
 use Rattle.std.proofs.Common.{inr, length, arith}
 use Rattle.std.proofs.lemmas.Bool.{cases_eq, cases_Bool, cond-true, cond-false, and_from, lt-ltb, not_from_false, both_ways}
 use Rattle.pm_base.specs.Cuts.{Cut}

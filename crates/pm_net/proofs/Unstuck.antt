@@ -3,7 +3,7 @@ use Rattle.std.proofs.Common.{◌≡◌, ◌∙◌, ap, ℕ, ◌<◌, ◌≤◌,
 use Rattle.std.proofs.lemmas.Bool.{cases_Bool, and_parts, and_from, cond-true, cond-false, lt-ltb, le-leb, leb-false, eqb-true, not-true, not_from_false}
 use Rattle.std.proofs.lemmas.Bool.{both_ways}
 use Rattle.pm_market.specs.Lists.{Lists, is_leaf, IsNode, IsConcentrator, Lawful}
-use Rattle.pm_market.specs.State.{State, number, last, cleared}
+use Rattle.pm_market.specs.State.{State, number, cleared}
 use Rattle.pm_market.proofs.Cuts.{updated_same, newest_inner}
 use Rattle.pm_market.proofs.Legality.{is_node_at}
 use Rattle.pm_laws.proofs.Numbers.{addressed_number, cleared_is_part, cleared_number_rises}

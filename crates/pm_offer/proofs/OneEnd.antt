@@ -1,6 +1,5 @@
 -- The end over a cut is the only one whose lines tell the plain auction over it: the words of `TellsEnd` leave nothing open.
-use Rattle.std.proofs.Common.{◌≡◌, ◌∙◌, sym, ap, subst, refl, ℕ, ℤ, List, [], ◌∷◌, map, Option, Some, arith}
-use Rattle.std.proofs.Common.{◌≤ℤ◌, pos}
+use Rattle.std.proofs.Common.{◌≡◌, ◌∙◌, sym, ap, subst, refl, ℕ, ℤ, List, [], ◌∷◌, map, Option}
 use Rattle.std.specs.Prelude.{filter, All}
 use Rattle.std.proofs.lemmas.Bool.{cond-true}
 use Rattle.std.proofs.lemmas.List.Elements.{All-head, All-tail}
@@ -9,19 +8,16 @@ use Rattle.pm_base.specs.declared.limits.Limits.{Limits}
 use Rattle.pm_basis.specs.Prices.{price_at}
 use Rattle.pm_bid.specs.Bids.{demand_at}
 use Rattle.pm_bid.specs.Clearing.{Clears}
-use Rattle.pm_bid.specs.Limited.{local_step}
 use Rattle.pm_strategy.specs.Strategies.{bid_of}
 use Rattle.pm_plan.specs.declared.end.MemberLine.{MemberLine}
 use Rattle.pm_plan.specs.declared.end.LimitedLine.{LimitedLine}
-use Rattle.pm_plan.specs.declared.node.Node.TheVariants.{Device}
-use Rattle.pm_plan.specs.Plans.{PlanData, NodeData, node, limits_of, is_member, node_numbers}
+use Rattle.pm_plan.specs.Plans.{PlanData, NodeData, node, is_member, node_numbers}
 use Rattle.pm_plan.specs.Kept.{IsPlan}
-use Rattle.pm_plan.specs.Auction.{EndData, demand_in_cut, sum_in, limited, total, plain, group_step, local, power, node_bid}
+use Rattle.pm_plan.specs.Auction.{EndData, demand_in_cut, sum_in, limited, total, plain, group_step, power, node_bid}
 use Rattle.pm_plan.specs.Auction.{member_line, limited_line, end_in}
 use Rattle.pm_plan.specs.States.{state, end_of}
 use Rattle.pm_offer.specs.Offers.{local_at}
 use Rattle.pm_offer.specs.LocalSteps.{IsLocalStep}
-use Rattle.pm_offer.specs.Powers.{group_power}
 use Rattle.pm_offer.specs.EndLines.{TellsMember, told_power, TellsLimited, TellsEnd}
 use Rattle.pm_offer.proofs.EndLines.{clears_once, step_only, group_step_only, told_is}
 use Rattle.pm_offer.proofs.GroupPowers.{powers_group}

@@ -18,3 +18,5 @@ pub mod Fits
 pub mod MarketLists
 pub mod PublicLaws
 pub mod Equals
+pub mod EndLines
+pub mod PlannedChanges

@@ -10,3 +10,4 @@ pub mod Refusals
 pub mod Building
 pub mod Ends
 pub mod Keys
+pub mod EndLines

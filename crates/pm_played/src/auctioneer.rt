@@ -34,6 +34,7 @@ fn learn(auctioneer: &mut Auctioneer, bid: &ArrayBid) -> Result<(), CacheFault>
     ensures single { HasSingleBids auctioneer.new.cache }
     ensures index { auctioneer.new.index ≡ auctioneer.old.index }
 {
+    // The call tells a fact of the type: the sum is that of the bids kept.
     let _heads = auctioneer.cache().heads();
     auctioneer.learn(0, 1, Some(bid))
 }

@@ -38,6 +38,7 @@ fn learn(
     ensures single { HasSingleBids cache.new }
 {
     let mut counter = Steps::<Brand>::start();
+    // The call tells a fact of the type: the sum is that of the bids kept.
     let _heads = cache.heads();
     cache.learn(child, number, bid, &mut counter)
 }

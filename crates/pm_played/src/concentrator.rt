@@ -39,6 +39,7 @@ fn learn(c: &mut Concentrator, child: usize, number: u32, bid: &ArrayBid) -> Res
     ensures window { c.new.window ≡ c.old.window }
     ensures limits { c.new.limits ≡ c.old.limits }
 {
+    // The call tells a fact of the type: the sum is that of the bids kept.
     let _heads = c.cache().heads();
     c.learn(child, number, Some(bid))
 }

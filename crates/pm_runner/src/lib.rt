@@ -7,8 +7,6 @@
 //! closed rests on no thread, no wake-up and no fairness. These are its two stages: [`run_threads`], and [`complete`] of
 //! `pm_turns`.
 //!
-//! [`settle_free`] finds the same ends with threads whose messages pass links without a lock.
-//!
 //! [`Gate`] is told of each turn.
 #![tactic(auto)]
 
@@ -22,6 +20,5 @@ mod sleeping;
 mod threads;
 mod worker;
 
-pub use pm_free::settle_free;
 pub use pm_turns::{Gate, OpenGate, complete};
 pub use threads::{run_threads, settle};

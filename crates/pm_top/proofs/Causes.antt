@@ -1,12 +1,12 @@
 -- A text that is due has its cause.
-use Rattle.std.proofs.Common.{◌≡◌, ◌≢◌, ◌∙◌, sym, ap, subst, refl, inl, inr, ℕ, ◌<◌, List, length, Option, Some, None, arith}
+use Rattle.std.proofs.Common.{◌≡◌, ◌≢◌, ◌∙◌, sym, ap, refl, inl, inr, ℕ, ◌<◌, List, length, Option, Some, None, arith}
 use Rattle.std.proofs.lemmas.List.{length-append}
 use Rattle.std.specs.Io.KnownBytes.{Consumes}
-use Rattle.pm_wire.specs.Streams.{stream_limit, replies_and_fault}
+use Rattle.pm_wire.specs.Streams.{stream_limit}
 use Rattle.pm_answer.specs.declared.arguments.Command.{Command}
 use Rattle.pm_answer.specs.declared.arguments.Command.TheVariants.{File, Serve}
 use Rattle.pm_answer.specs.declared.status.Status.{Status}
-use Rattle.pm_answer.specs.declared.status.Status.TheVariants.{Done, Invalid, Usage, TooLong, Refused, ReadFault, WriteFault, NoMemory}
+use Rattle.pm_answer.specs.declared.status.Status.TheVariants.{Done, Usage, TooLong, Refused, ReadFault, WriteFault, NoMemory}
 use Rattle.pm_answer.specs.Answers.{IsAnswer, refused, planned, valid, invalid}
 use Rattle.pm_answer.specs.declared.arguments.FileCommand.{FileCommand}
 use Rattle.pm_headline.proofs.Headline.{answer_refuses}

@@ -1,14 +1,13 @@
 -- What is due with the status Done tells the market, and with the status Invalid refutes a trace.
-use Rattle.std.proofs.Common.{◌≡◌, ◌≢◌, ◌∙◌, sym, ap, subst, refl, ℕ, true, List, Option, Some, None}
+use Rattle.std.proofs.Common.{◌≡◌, ◌≢◌, ◌∙◌, sym, ap, subst, ℕ, true, List, Option, Some}
 use Rattle.std.specs.Io.KnownBytes.{Appends}
 use Rattle.pm_gen.specs.Demo.{is_size}
 use Rattle.pm_answer.specs.declared.arguments.Command.{Command}
 use Rattle.pm_answer.specs.declared.arguments.Command.TheVariants.{File, Demo, Serve}
 use Rattle.pm_answer.specs.declared.arguments.FileCommand.{FileCommand}
-use Rattle.pm_answer.specs.declared.arguments.FileCommand.TheVariants.{Check}
 use Rattle.pm_answer.specs.declared.status.Status.{Status}
 use Rattle.pm_answer.specs.declared.status.Status.TheVariants.{Done, Invalid, ReadFault, WriteFault, NoMemory}
-use Rattle.pm_headline.specs.Promises.{TellsTheMarket, RefutesFile, ReadFile, RefutesTrace}
+use Rattle.pm_headline.specs.Promises.{TellsTheMarket, RefutesFile, ReadFile}
 use Rattle.pm_headline.proofs.Headline.{answer_tells, answer_refutes, summary_tells}
 use Rattle.pm_answer.specs.Answers.{IsSummary}
 use Rattle.pm_top.specs.Top.{WrotePrefix, IsDue, usage, too_long, answered, summary, served, served_fault, served_long}

@@ -1,7 +1,7 @@
 -- What a text that is due says of its cause, by its status, for the statuses that no text of the market has.
 use Rattle.std.specs.Prelude.{◌≡◌, ℕ, ◌<◌, ◌⊎◌, List, length, Option, Some}
 use Rattle.std.specs.Io.KnownBytes.{Consumes, IsAtEnd}
-use Rattle.pm_wire.specs.Streams.{stream_limit, HasFault, HasFrames, replies, replies_and_fault}
+use Rattle.pm_wire.specs.Streams.{stream_limit, HasFault, replies, replies_and_fault}
 use Rattle.pm_wire.specs.Frames.{AreFrames}
 use Rattle.pm_wire.specs.declared.frame.Frame.{Frame}
 use Rattle.pm_answer.specs.declared.arguments.Command.{Command}

@@ -56,6 +56,7 @@ fn is_settled(board: &Board)
     requires done { (board_state board.now).closed ≡ phases board.now.plan }
     ensures settled { IsSettled board.now }
 {
+    // Each call tells a fact of the type: the plan keeps its limits, the journal is legal, the ends are those of its phases.
     let _plan = board.plan().basis();
     let _journal = board.journal();
     let _ends = board.ends();
@@ -89,6 +90,7 @@ pub fn make_move<G: Gate>(board: &mut Board, agents: &mut [Option<DeviceAgent>],
             None => close(board, gate),
         }
     }
+    // The call tells a fact of the type: the journal is legal, and so within its bound.
     let _journal = board.journal();
 }
 
@@ -184,6 +186,7 @@ fn make_change<G: Gate>(board: &mut Board, agent: &mut DeviceAgent, next: Next, 
     ensures adds { AddsLine board.old board.new (record { what = Move.Change next.device next.number; held = None }) }
     ensures ends { board.new.ends ≡ board.old.ends }
 {
+    // The call tells a fact of the type: the plan keeps its limits.
     let _basis = board.plan().basis();
     gate.before(next.device);
     let made = agent.work(next, board.plan().arrays());
@@ -201,6 +204,7 @@ fn close<G: Gate>(board: &mut Board, gate: &G)
     ensures plan { board.new.plan ≡ board.old.plan }
     ensures closes { ClosesPhase board.old board.new }
 {
+    // Each call tells a fact of the type: the plan keeps its limits, and the journal is legal.
     let _basis = board.plan().basis();
     let _journal = board.journal();
     gate.before(0);

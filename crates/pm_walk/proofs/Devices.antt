@@ -22,6 +22,7 @@ use Rattle.pm_walk.specs.Standing.{HasCome}
 use Rattle.pm_plan.proofs.Ends.{end-within}
 use Rattle.pm_plan.proofs.DeviceNodes.{HasKind, kind_of-tells}
 use Rattle.pm_plan.proofs.StateLaws.{phase_up_to, state-next}
+use Rattle.pm_plan.proofs.PlannedChanges.{planned-is}
 use Rattle.pm_plan.proofs.Fits.{change-fits, state-fits, power-within}
 
 -- a change behind the end of the phases up to p is of a later phase
@@ -40,16 +41,6 @@ pub used-within : (plan : PlanData) (p d : ℕ) (used : ℤ) → IsPlan plan →
     IsWithin demand_limit used
 used-within plan p d used is used_is =
     subst (IsWithin demand_limit) (sym used_is) (power-within plan (end_cut plan p) d is (end-within plan p d))
-
--- the change with the number n + 1
-planned_at-is : (changes : List Change) (n : ℕ) → n < length changes → planned_at changes n ≡ Some (get_or changes n no_change).what
-planned_at-is [] n inside = absurd (omega arith)
-planned_at-is (c ∷ cs) zero inside = refl
-planned_at-is (c ∷ cs) (suc n) inside = planned_at-is cs n (omega arith)
-
--- change number n + 1 of a device, where it has so many, is that at place n, counted from 0
-pub planned-is : (plan : PlanData) (d n : ℕ) → n < change_count plan d → planned plan d (n + 1) ≡ Some (change_at plan d n).what
-planned-is plan d n inside = (let e : n + 1 ≡ suc n = omega arith in ap (planned plan d) e) ∙ planned_at-is (changes_of (node plan d)) n inside
 
 is_member-next : (plan : PlanData) (d n : ℕ) → n < change_count plan d →
     is_member plan d (n + 1) ≡ member_after (is_member plan d n) (change_at plan d n).what
@@ -126,14 +117,3 @@ next-fits plan d n found what kind is inside next kind_is =
     subst (λ (k : Kind). IsTrue (change_fits k what)) has.kind_is
     (subst (λ (w : Planned). IsTrue (change_fits has.planned.kind w)) (sym (next-is plan d n found what inside next))
     (change-fits plan d n has.planned is has.is inside))
-
--- no device has more changes than all devices have
-few_of : (nodes : List NodeData) (x : ℕ) → length (changes_of (node_at nodes x)) ≤ all_changes nodes
-few_of nodes zero = omega arith
-few_of [] (suc x) = omega arith
-few_of (n ∷ ns) (suc zero) = omega (arith, sum_by-cons (λ (m : NodeData). length (changes_of m)) n ns)
-few_of (n ∷ ns) (suc (suc x)) = omega (arith, sum_by-cons (λ (m : NodeData). length (changes_of m)) n ns, few_of ns (suc x))
-
--- no device has more changes than a run may have
-pub few_changes : (plan : PlanData) (d : ℕ) → IsPlan plan → change_count plan d ≤ most_changes
-few_changes plan d is = omega (arith, few_of plan.nodes d, is.within.few_changes)

@@ -3,6 +3,5 @@ pub mod Devices
 pub mod Sums
 pub mod Standings
 pub mod GroupTotals
-pub mod EndLines
 pub mod Phases
 pub mod DeviceCuts

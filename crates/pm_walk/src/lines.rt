@@ -3,7 +3,7 @@ ghost use Rattle.pm_plan.specs.Auction.{member_line, limited_line};
 ghost use Rattle.pm_plan.specs.States.{state, end_of};
 ghost use Rattle.pm_walk.specs.Standing.{IsStanding, cut_made};
 ghost use Rattle.pm_walk.specs.Clearing.{IsClearing, AreGroupSteps, ArePowers};
-ghost use Rattle.pm_walk.specs.Parts.{members_to, limited_to};
+ghost use Rattle.pm_plan.specs.EndLines.{members_to, limited_to};
 
 use crate::clearing::Clearing;
 use crate::standing::Standing;

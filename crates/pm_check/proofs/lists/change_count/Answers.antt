@@ -1,8 +1,7 @@
 use Rattle.std.proofs.Common.{◌≡◌, ◌∙◌, ◌-◌, ◌+◌, sym, ap, ℕ, arith}
-use Rattle.pm_base.specs.Limits.{most_changes}
 use Rattle.pm_plan.specs.Plans.{end_cut, phases}
 use Rattle.pm_plan.proofs.Ends.{end-none, end-rises, end-within, end-last}
-use Rattle.pm_walk.proofs.Devices.{few_changes}
+use Rattle.pm_plan.proofs.PlannedChanges.{few_changes}
 use Rattle.pm_check.proofs.lists.change_count.Goals as goal
 
 pub loop-phase-init : goal.loop-phase-init

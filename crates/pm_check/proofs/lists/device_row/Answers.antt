@@ -1,11 +1,11 @@
 use Rattle.std.proofs.Common.{◌≡◌, ◌∙◌, sym, ap, refl, subst, ◌<◌, arith}
-use Rattle.std.specs.Prelude.{Option, Some}
+use Rattle.std.specs.Prelude.{Option}
 use Rattle.std.specs.Option.{IsSome}
 use Rattle.pm_plan.specs.declared.planned.Planned.{Planned}
 use Rattle.pm_plan.specs.Devices.{member_after}
 use Rattle.pm_plan.specs.Plans.{is_member, change_count}
 use Rattle.pm_plan.specs.Kept.{change_at}
-use Rattle.pm_walk.proofs.Devices.{planned-is}
+use Rattle.pm_plan.proofs.PlannedChanges.{planned-is}
 use Rattle.pm_check.proofs.PlanLists.{next_mapped, next_member}
 use Rattle.pm_check.proofs.lists.device_row.Goals as goal
 

@@ -3,7 +3,7 @@ use Rattle.std.specs.List.{range_with_len}
 use Rattle.std.proofs.lemmas.List.FromFn.{length-map-range_with_len, get_or-map-range_with_len}
 use Rattle.pm_plan.specs.Plans.{end_cut}
 use Rattle.pm_plan.proofs.Ends.{end-rises, end-within}
-use Rattle.pm_walk.proofs.Devices.{few_changes}
+use Rattle.pm_plan.proofs.PlannedChanges.{few_changes}
 use Rattle.pm_check.proofs.PlanLists.{next_mapped}
 use Rattle.pm_check.proofs.lists.ends_row.Goals as goal
 

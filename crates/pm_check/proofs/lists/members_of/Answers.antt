@@ -1,4 +1,4 @@
-use Rattle.std.proofs.Common.{◌≡◌, ◌∙◌, ap, List, Bool, length, map, arith}
+use Rattle.std.proofs.Common.{◌≡◌, ◌∙◌, ap, length, map, arith}
 use Rattle.std.proofs.lemmas.List.{map-append}
 use Rattle.std.specs.List.{range_with_len}
 use Rattle.pm_plan.specs.Market.{members_of}

@@ -8,7 +8,8 @@ use Rattle.pm_plan.specs.Plans.{change_count}
 use Rattle.pm_plan.specs.States.{changed_state}
 use Rattle.pm_plan.proofs.DeviceNodes.{kind_of-tells}
 use Rattle.pm_plan.proofs.Ends.{end-within}
-use Rattle.pm_walk.proofs.Devices.{few_changes, kind-valid, planned-is, next-is, next-fits, reached-fits, reached-more, used-within}
+use Rattle.pm_plan.proofs.PlannedChanges.{few_changes, planned-is}
+use Rattle.pm_walk.proofs.Devices.{kind-valid, next-is, next-fits, reached-fits, reached-more, used-within}
 use Rattle.pm_walk.proofs.changes.make_changes.Goals as goal
 
 pub overflow_add-here : goal.overflow_add-here

@@ -5,7 +5,7 @@ use mir.Syntax.{w64}
 use mir.Val.{SFits}
 use Rattle.pm_basis.specs.Prices.{price_at}
 use Rattle.pm_walk.specs.Standing.{cut_made}
-use Rattle.pm_walk.proofs.EndLines.{end_is}
+use Rattle.pm_plan.proofs.EndLines.{end_is}
 use Rattle.pm_walk.proofs.lines.end_of.Goals as goal
 
 pub returns : goal.returns

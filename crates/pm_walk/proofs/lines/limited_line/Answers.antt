@@ -4,7 +4,7 @@ use mir.Syntax.{w64}
 use mir.Val.{SFits}
 use Rattle.pm_plan.specs.States.{state}
 use Rattle.pm_walk.specs.Standing.{cut_made}
-use Rattle.pm_walk.proofs.EndLines.{limited_line_is}
+use Rattle.pm_plan.proofs.EndLines.{limited_line_is}
 use Rattle.pm_walk.proofs.lines.limited_line.Goals as goal
 
 pub returns : goal.returns

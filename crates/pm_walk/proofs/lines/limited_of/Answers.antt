@@ -4,9 +4,9 @@ use Rattle.std.specs.Prelude.{is_some}
 use Rattle.pm_plan.specs.Plans.{node, limits_of, is_limited}
 use Rattle.pm_base.proofs.Options.{is_some-option_map}
 use Rattle.pm_plan.specs.declared.end.LimitedLine.{LimitedLine}
-use Rattle.pm_walk.specs.Parts.{limited_to}
+use Rattle.pm_plan.specs.EndLines.{limited_to}
 use Rattle.pm_walk.specs.Standing.{cut_made}
-use Rattle.pm_walk.proofs.EndLines.{line_put, limited-yes, limited-no}
+use Rattle.pm_plan.proofs.EndLines.{line_put, limited-yes, limited-no}
 use Rattle.pm_walk.proofs.lines.limited_of.Goals as goal
 use Rattle.pm_walk.proofs.lines.limited_of.Goals.{then-is_some+in_ok-push, else-is_some}
 

@@ -1,6 +1,6 @@
 use Rattle.std.proofs.Common.{◌≡◌, ◌-◌}
 use Rattle.pm_walk.specs.Standing.{cut_made}
-use Rattle.pm_walk.specs.Parts.{limited_to}
+use Rattle.pm_plan.specs.EndLines.{limited_to}
 use Rattle.pm_walk.proofs.lines.limited_of.Given as goal
 
 abbrev pub invariant-loop-number : goal.invariant-loop-number

@@ -5,7 +5,7 @@ use mir.Val.{SFits}
 use Rattle.pm_plan.specs.States.{state}
 use Rattle.pm_walk.specs.declared.changes.Progress.{Progress}
 use Rattle.pm_walk.specs.Standing.{cut_made}
-use Rattle.pm_walk.proofs.EndLines.{member_line_is}
+use Rattle.pm_plan.proofs.EndLines.{member_line_is}
 use Rattle.pm_walk.proofs.lines.member_line.Goals as goal
 
 pub returns : goal.returns

@@ -3,9 +3,9 @@ use Rattle.std.proofs.lemmas.Result.{IfOk-from_err}
 use Rattle.pm_plan.specs.Plans.{is_member}
 use Rattle.pm_plan.specs.declared.end.MemberLine.{MemberLine}
 use Rattle.pm_walk.specs.declared.changes.Progress.{Progress}
-use Rattle.pm_walk.specs.Parts.{members_to}
+use Rattle.pm_plan.specs.EndLines.{members_to}
 use Rattle.pm_walk.specs.Standing.{cut_made}
-use Rattle.pm_walk.proofs.EndLines.{line_put, members-yes, members-no}
+use Rattle.pm_plan.proofs.EndLines.{line_put, members-yes, members-no}
 use Rattle.pm_walk.proofs.lines.members_of.Goals as goal
 use Rattle.pm_walk.proofs.lines.members_of.Goals.{then-progress+in_ok-push, else-progress}
 

@@ -1,6 +1,6 @@
 use Rattle.std.proofs.Common.{◌≡◌, ◌-◌}
 use Rattle.pm_walk.specs.Standing.{cut_made}
-use Rattle.pm_walk.specs.Parts.{members_to}
+use Rattle.pm_plan.specs.EndLines.{members_to}
 use Rattle.pm_walk.proofs.lines.members_of.Given as goal
 
 abbrev pub invariant-loop-number : goal.invariant-loop-number

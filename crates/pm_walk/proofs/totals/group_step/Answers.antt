@@ -1,7 +1,7 @@
 use Rattle.std.proofs.Common.{sym}
 use Rattle.pm_plan.specs.States.{state}
 use Rattle.pm_walk.specs.Standing.{cut_made}
-use Rattle.pm_walk.proofs.EndLines.{limited_step, free_step}
+use Rattle.pm_plan.proofs.EndLines.{limited_step, free_step}
 use Rattle.pm_walk.proofs.totals.group_step.Goals as goal
 
 pub returns-in-Some-clause-step : goal.returns-in-Some-clause-step

@@ -4,7 +4,7 @@ use mir.Syntax.{w64}
 use mir.Val.{SFits}
 use Rattle.pm_plan.specs.States.{state}
 use Rattle.pm_walk.specs.Standing.{cut_made}
-use Rattle.pm_walk.proofs.EndLines.{power_is}
+use Rattle.pm_plan.proofs.EndLines.{power_is}
 use Rattle.pm_walk.proofs.totals.power_of.Goals as goal
 
 pub at-requires : goal.at-requires

@@ -1,4 +1,4 @@
-use Rattle.std.proofs.Common.{◌≡◌, ◌∙◌, sym, ap, subst, refl, ℕ, ◌≤◌, length, arith}
+use Rattle.std.proofs.Common.{◌≡◌, ◌∙◌, sym, ap, subst, refl, ℕ}
 use Rattle.std.specs.Prelude.{None}
 use Rattle.pm_market.specs.State.{State}
 use Rattle.pm_market.specs.Market.{market_state}

@@ -1,5 +1,4 @@
-use Rattle.std.proofs.Common.{◌≡◌, ◌∙◌, sym, ap, true, false}
-use Rattle.pm_market.specs.Market.{market_lists, market_state}
+use Rattle.std.proofs.Common.{◌∙◌, sym, true, false}
 use Rattle.pm_check.proofs.Making.{legal_is}
 use Rattle.pm_check.proofs.Judging.{reads_none, tells_illegal, tells_other, tells_legal}
 use Rattle.pm_check.proofs.judge.Judge.take.Goals as goal

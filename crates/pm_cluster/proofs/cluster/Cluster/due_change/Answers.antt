@@ -3,7 +3,7 @@ use Rattle.std.specs.Prelude.{Option, MatchOption}
 use Rattle.pm_plan.specs.declared.planned.Planned.{Planned}
 use Rattle.pm_plan.specs.Plans.{change_count, end_cut, planned}
 use Rattle.pm_plan.proofs.Ends.{end-within}
-use Rattle.pm_walk.proofs.Devices.{planned-is}
+use Rattle.pm_plan.proofs.PlannedChanges.{planned-is}
 use Rattle.pm_cluster.specs.Clusters.{ClusterValue}
 use Rattle.pm_cluster.specs.ClusterFields.{core_of}
 use Rattle.pm_cluster.specs.Next.{HasNoNext, IsDueChange, count_of}

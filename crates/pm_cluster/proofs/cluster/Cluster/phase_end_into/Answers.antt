@@ -12,7 +12,7 @@ use Rattle.pm_plan.specs.States.{end_of}
 use Rattle.pm_plan.specs.Market.{plan_lists}
 use Rattle.pm_offer.specs.EndLines.{TellsEnd}
 use Rattle.pm_offer.proofs.EndLines.{tells_end}
-use Rattle.pm_walk.specs.Parts.{members_to}
+use Rattle.pm_plan.specs.EndLines.{members_to}
 use Rattle.pm_stands.specs.Stands.{StandsFor}
 use Rattle.pm_stands.specs.Quiet.{IsQuiet}
 use Rattle.pm_cluster.specs.Ends.{AreMade}

@@ -16,7 +16,7 @@ use Rattle.pm_base.specs.Cuts.{Cut}
 use Rattle.pm_plan.specs.States.{state, end_of}
 use Rattle.pm_plan.specs.declared.end.MemberLine.{MemberLine}
 use Rattle.pm_plan.specs.declared.end.LimitedLine.{LimitedLine}
-use Rattle.pm_walk.specs.Parts.{members_to, limited_to}
+use Rattle.pm_plan.specs.EndLines.{members_to, limited_to}
 use Rattle.pm_base.proofs.Lists.{range_with_len-more}
 
 -- the step of a group, by its limits
