@@ -1,26 +1,20 @@
 #!/usr/bin/env bash
-# Runs the built program on each case of checks/cases and on larger inputs, and compares what it writes and its exit
-# status. The last line is 'N passed, M failed'; the status is 1 where any failed.
+# Runs the proved program on each case of checks/cases and on larger inputs, and compares what it writes and its exit
+# status. If no program is proved from the sources of today, it proves and builds it first. The last line is 'N passed,
+# M failed'; the status is 1 if any failed.
 cd "$(dirname "$0")/.." || exit 1
-program=crates/market/out/market
-
-# Whether a build is there and no source that it stands on is newer.
-is_current() {
-    [ -x "$1" ] && [ -z "$(find crates.txt crates/*/src crates/*/specs crates/*/proofs -newer "$1" -print -quit 2>/dev/null)" ]
-}
-
-if ! is_current "$program"; then
-    log="$(mktemp)" || exit 1
-    (cd crates/market && rt run </dev/null >"$log" 2>&1)
-    if [ ! -x "$program" ]; then
-        cat "$log"
+top="$PWD"
+. script/program.sh
+if ! is_current; then
+    echo "no program is proved from the sources of today: ./market prove makes it first"
+    if ! ./market prove; then
         echo "0 passed, 1 failed"
         exit 1
     fi
-    rm -f "$log"
 fi
 programs=("$program")
-if is_current "$program.by-rattle"; then
+# What Rattle's own compiler built goes by if it is of the same run: rt ci builds it last.
+if [ "$program.by-rattle" -nt "$program" ]; then
     programs+=("$program.by-rattle")
 fi
 exec python3 checks/cases.py "${programs[@]}"

@@ -1,110 +1,406 @@
 #!/usr/bin/env bash
-# Runs the script `market` in a folder of three crates with an rt of its own, which proves nothing, and looks at what the
-# script writes and its status. The last line is 'N passed, M failed'; the status is 1 where any failed.
+# Runs the script `market`, the gate and checks/program.sh in a folder of four crates with an rt and a script/prove.py of its
+# own, which prove nothing, and compares what each writes, what it says and its status. The last line is 'N passed, M
+# failed'; the status is 1 if any failed.
+# shellcheck disable=SC2016,SC2034 # The commands of the cases are evaluated one by one.
 cd "$(dirname "$0")/.." || exit 1
+repository="$PWD"
 folder="$(mktemp -d)" || exit 1
 trap 'rm -rf "$folder"' EXIT
-mkdir -p "$folder"/crates/{low,high,other,market}/src "$folder/bin"
-touch "$folder"/crates/{low,high,other,market}/src/lib.rt
-cp market "$folder/market"
-cat >"$folder/crates.txt" <<'END'
-# A comment.
-low: kit
-high: low
-other:
-market: high low
-END
+# The folder has a blank in its name.
+top="$folder/a clone"
+mkdir -p "$top"/crates/{low,high,other,market}/src "$top"/{script,.ci,checks,docs} "$folder"/{bin,tools,git}
+cp market "$top/market"
+cp script/words.sh script/program.sh script/run.sh "$top/script"
+cp .ci/run "$top/.ci"
+cp checks/program.sh "$top/checks/program.sh.kept"
+for crate in low high other market; do
+    echo "a source" >"$top/crates/$crate/src/lib.rt"
+done
+printf '%s\n' '# A comment.' 'low: kit # another' 'high: low' 'other:' 'market: high, low' >"$top/crates.txt"
+printf '%s\n' '# The kit.' 'kit: kit-1' 'debian: bash' >"$top/kit.txt"
+echo 1.2.3 >"$top/VERSION"
+echo input >"$folder/input"
 
-# The program writes its arguments and standard input, and ends with the status that its first argument names.
-cat >"$folder/program" <<'END'
+# The program. Its input names what it does; it writes `proved` before its text, or `tried` where rt tries it.
+cat >"$top/program" <<'END_OF_PROGRAM'
 #!/usr/bin/env bash
-echo "$*: $(cat)"
-exit "${1:-2}"
-END
+case "$*" in
+    run | serve) given="$(cat)" ;;
+    "demo "*) given="no input" ;;
+    *) echo "usage: ..."; exit 2 ;;
+esac
+case "$given" in
+    "status "*) exit "${given#status }" ;;
+    refused*) echo "$given"; exit 5 ;;
+    *) echo "${tried:-proved} $*: $given" ;;
+esac
+END_OF_PROGRAM
+cp "$top/program" "$top/sources"
 
-# rt proves the crates that the file `anew` names, and fails where there is no such file.
-cat >"$folder/bin/rt" <<'END'
+# rt tries the program as it would: it waits for standard input only for a while.
+cat >"$folder/bin/rt" <<'END_OF_RT'
 #!/usr/bin/env bash
-top="$(cd ../.. && pwd)"
-case "$1" in
-    run)
-        [ -f "$top/anew" ] || { echo "error: not proved"; exit 1; }
-        for crate in $(cat "$top/anew"); do
-            echo "fn $crate::first: proved"
-            echo "crate $crate: modules loaded=0 checked=1"
-            echo "logic=proved functions=1"
-        done
-        mkdir -p out && cp "$top/program" out/market && chmod +x out/market
-        echo "rt: running out/market; to give it other input, run that file yourself"
-        out/market
+case "$*" in
+    version) echo "kit-1 of today" ;;
+    ci)
+        mkdir -p crates/market/out
+        [ -f no-build ] || cp program crates/market/out/market
+        [ ! -f meanwhile ] || echo "an edit" >>crates/low/src/lib.rt
+        exit "$(cat ci-status 2>/dev/null || echo 0)"
         ;;
-    try)
-        shift 2
-        [ "$1" != faulty ] || { echo "checked: fault" >&2; exit 4; }
-        bash "$top/program" "$@"
+    "try --seconds 60 --"*)
+        IFS= read -r -d "" -t 0.3 given
+        case "$given" in
+            long*) echo "checked: no-answer: the program wrote more than 1048576 bytes to standard output" >&2; exit 6 ;;
+            endless*) echo "checked: no-answer: the program did not end within the time limit" >&2; exit 6 ;;
+            broken*) echo "error: src/lib.rt" >&2; exit 1 ;;
+        esac
+        printf %s "$given" | tried=tried bash ../../sources "${@:5}"
         status=$?
-        echo "run=ended status=$status runners=1 proved=no" >&2
+        printf '%s\n' "checked: ended" "run=ended status=$status runners=1 races=unchecked proved=no" >&2
         exit "$status"
         ;;
 esac
-END
-chmod +x "$folder/bin/rt"
+END_OF_RT
+
+# The scheduler of proofs: the file `meanwhile` names what is done to a source while it proves.
+cat >"$top/script/prove.py" <<'END_OF_PROVE'
+import os, shutil, sys
+source = "crates/low/src/lib.rt"
+kept = open(source).read()
+print("proves", *sys.argv[1:], file=sys.stderr)
+if "bad" in kept:
+    sys.exit("low is not proved")
+if not os.path.exists("no-build"):
+    os.makedirs("crates/market/out", exist_ok=True)
+    shutil.copy("program", "crates/market/out/market")
+if os.path.exists("meanwhile"):
+    open(source, "a").write("an edit\n")
+    if "restore" in open("meanwhile").read():
+        open(source, "w").write(kept)
+END_OF_PROVE
+echo 'import sys; print(*sys.argv[1:])' >"$top/checks/cases.py"
+
+# All that the script needs beside rt. git lies elsewhere.
+for tool in bash env cat cp cut date dirname find grep head mkdir mktemp mv nproc readlink rm sed sha256sum sleep sort tail \
+    wc xargs; do
+    ln -s "$(command -v "$tool")" "$folder/tools/$tool" || exit 1
+done
+ln -s "$(python3 -c 'import sys; print(sys.executable)')" "$folder/tools/python3"
+ln -s "$(command -v git)" "$folder/git/git"
+chmod +x "$top/program" "$folder/bin/rt"
+ln -s "$top/market" "$folder/link"
+for tool in awk chmod ln mkfifo script touch tr; do
+    eval "$tool() { $(command -v "$tool") \"\$@\"; }"
+done
+mkfifo "$folder/keys"
+exec 9<>"$folder/keys"
+export TMPDIR="$folder"
+kept="$PATH"
+PATH="$folder/bin:$folder/tools"
+cd "$top" || exit 1
 passed=0
 failed=0
 
-# is NAME STATUS TEXT TOLD ARGUMENTS..: whether the script ends with the status, writes the text, and tells the rest.
+# is NAME STATUS TEXT TOLD COMMAND: whether the command ends with the status, writes the text and says the rest.
 is() {
-    local name="$1" status="$2" text="$3" told="$4" ended wrote
-    shift 4
-    wrote="$(echo input | PATH="$folder/bin:$PATH" bash "$folder/market" "$@" 2>"$folder/told")"
+    local wrote ended told
+    wrote="$(eval "$5" 2>"$folder/told" <"$folder/input")"
     ended=$?
-    if [ "$ended" = "$status" ] && [ "$wrote" = "$text" ] && [ "$(cat "$folder/told")" = "$told" ]; then
+    told="$(<"$folder/told")"
+    if [ "$ended" = "$2" ] && [ "$wrote" = "$3" ] && [ "$told" = "$4" ]; then
         passed=$((passed + 1))
     else
         failed=$((failed + 1))
-        printf '%s: status %s, wrote %s, told:\n%s\n' "$name" "$ended" "$wrote" "$(cat "$folder/told")"
+        printf 'FAILED %s: %s\nstatus %s, due %s\nwrote, and due:\n%s\n%s\ntold, and due:\n%s\n%s\n\n' \
+            "$1" "$5" "$ended" "$2" "$wrote" "$3" "$told" "$4"
     fi
 }
 
-first="it is proved and built first, as 3 crates, but for those that are proved already"
-is "a proof that fails" 1 "" "market: the program is not built yet: $first
-error: not proved
-market: it was not proved and built: what rt said stands above" run
-echo low high market >"$folder/anew"
-is "the first run" 0 "0 word: input" "market: the program is not built yet: $first
-market: 1 of 3 proved: low, after 0 minutes
-market: 2 of 3 proved: high, after 0 minutes
-market: 3 of 3 proved: market, after 0 minutes" 0 word
-is "the second run" 5 "5: input" "" 5
-touch -d "1 hour" "$folder/crates/other/src/lib.rt"
-is "a newer source of another crate" 0 "0: input" "" 0
-echo high market >"$folder/anew"
-touch -d "2 minutes ago" "$folder/crates/market/out/market"
-touch -d "1 minute ago" "$folder/crates/high/src/lib.rt"
-is "a newer source" 0 "0: input" "market: a source of the program is newer than it: $first
-market: 2 of 3 proved: high, after 0 minutes
-market: 3 of 3 proved: market, after 0 minutes" 0
-is "after the newer source" 0 "0: input" "" 0
-rm "$folder/anew"
-touch -d "1 hour" "$folder/crates/low/src/lib.rt"
-is "a newer source that is not proved" 1 "" "market: a source of the program is newer than it: $first
-error: not proved
-market: it was not proved and built: what rt said stands above" 0
-touch -d "1 hour ago" "$folder/crates/low/src/lib.rt"
-is "a fault of reading" 3 "3: input" \
-    "market: standard input could not be read: give it a file, as in ./market run < examples/village.json" 3
-is "a fault of writing" 6 "6: input" \
-    "market: standard output did not take the whole text: look whether the disk is full or the reader has gone" 6
-is "no memory" 7 "7: input" \
-    "market: memory did not suffice: raise its limit (ulimit -v), end other programs, or split the cluster" 7
-is "arguments that are no text" 8 "8: input" "market: the arguments are not text: write them in UTF-8" 8
-unproved="market: nothing is proved of this run"
-is "unproved" 0 "0 word: input" "$unproved" --unproved 0 word
-is "unproved, refused" 5 "5: input" "$unproved" --unproved 5
-is "unproved, no arguments" 2 ": input" "$unproved" --unproved
-is "unproved, no memory" 7 "7: input" "$unproved
-market: memory did not suffice: raise its limit (ulimit -v), end other programs, or split the cluster" --unproved 7
-is "unproved, with a fault" 1 "" "checked: fault
-$unproved" --unproved faulty
+# Runs a command on a terminal, on which nobody types but who writes to 9, and writes what is seen there.
+screen() {
+    local ended
+    script -qec "$1" /dev/null >"$folder/screen" <&9
+    ended=$?
+    tr -d '\r' <"$folder/screen"
+    return "$ended"
+}
+
+# Takes the proof away, or makes one.
+forget() { rm -rf crates/market/out; }
+prove() { ./market prove 2>/dev/null; }
+
+nproc() { echo 4; }
+export -f nproc
+none="no program is proved here; ./market prove makes one in about 12 minutes"
+stale="the sources changed since they were proved; ./market prove takes at most about 12 minutes"
+other="the program is not the one that was proved; ./market prove takes at most about 12 minutes"
+first="market: this run is unproved and takes about half a minute:"
+asked="market: nothing is proved of this run; it takes about half a minute"
+made="proves
+market: proved: ./market now runs the proved program"
+read_fault="market: standard input could not be read: give it a file, as in ./market run < examples/village.json"
+write_fault="market: standard output did not take the whole text: look whether the disk is full or the reader has gone"
+memory="market: memory did not suffice: raise its limit (ulimit -v), end other programs, or split the cluster"
+text="market: the arguments are not text: write them in UTF-8"
+parent="the parent is not known, is no concentrator, or comes later"
+meaning="market: refused: $parent; ./market help 9 and docs/CLUSTER_FILE.md say more"
+unknown="market: the input is refused: ./market help refusals says what the code means"
+absolute="$(printf %q "$top")"
+in_status() { echo "$2" | ./market "${@:3}" "$1"; }
+
+# Without a proof.
+is "a fresh folder" 0 "tried run: input" "$first $none" './market run'
+is "slow input" 0 "tried run: input" "$first $none" '(sleep 1; cat) <"$folder/input" | ./market run'
+is "an empty input" 0 "tried run: " "$first $none" './market run </dev/null'
+is "from another folder" 0 "tried run: input" "$first ${none/.\//$absolute/}" '(cd / && "$top/market" run)'
+is "by a link" 0 "tried run: input" "$first ${none/.\/market/$folder\/link}" '"$folder/link" run'
+is "by a relative path" 0 "tried run: input" "$first ${none/.\//../}" '(cd checks && ../market run)'
+is "by bash" 0 "tried run: input" "$first $none" 'bash market run'
+is "on two processors" 0 "tried run: input" "$first ${none/12/22}" '(nproc() { echo 2; }; ./market run)'
+is "on one processor" 0 "tried run: input" "$first ${none/12/45}" '(nproc() { echo 1; }; ./market run)'
+is "a demo" 0 "tried demo 1 2: no input" "$first $none" './market demo 1 2'
+is "a demo on a terminal" 0 "$first $none
+tried demo 1 2: no input" "" 'screen "./market demo 1 2"'
+is "an input from a terminal" 0 "tried run: typed" "" 'printf "typed\n\004" >&9; screen "./market run" | tail -n 1'
+is "serve" 1 "" "market: serve needs a stream, and so the proved program: $none" './market serve'
+is "a file as argument" 2 "" "market: run reads standard input: ./market run < ../input" './market run ../input'
+is "a file with a blank" 2 "" "market: run reads standard input: ./market run < $absolute/VERSION" \
+    './market run "$top/VERSION"'
+is "a file for serve" 2 "" "market: serve reads standard input: ./market serve < ../input" './market serve ../input'
+is "no command" 2 "" "market: these arguments are no command: ./market help lists the commands" './market rum'
+is "a demo of one number" 2 "" "market: these arguments are no command: ./market help lists the commands" './market demo 1'
+is "an input that cannot be read" 3 "" "$first $none
+$read_fault" './market run </'
+is "a closed input" 3 "" "$first $none
+$read_fault" './market run <&-'
+is "a full output" 6 "" "$first $none
+$write_fault" './market run >/dev/full'
+is "a closed output" 6 "" "$first $none
+$write_fault" './market run >&-'
+is "no memory" 7 "" "$first $none
+$memory" 'echo status 7 | ./market run'
+is "refused" 5 "refused 9 node 1" "$first $none" 'echo refused 9 node 1 | ./market run'
+is "refused on a terminal" 5 "$first $none
+refused 9 node 1
+$meaning" "" 'echo refused 9 node 1 >bad; screen "./market run <bad"'
+is "a long text" 1 "" "$first $none
+market: a text of more than 1048576 bytes needs the proved program: ./market prove makes it" 'echo long | ./market run'
+is "a long run" 1 "" "$first $none
+market: the unproved run did not end within 60 seconds, so it needs the proved program: ./market prove makes it" \
+    'echo endless | ./market run'
+is "a long input" 1 "" "$first $none
+market: an input of more than 67108864 bytes needs the proved program: ./market prove makes it" \
+    'head -c 67108865 /dev/zero | ./market run'
+is "sources that do not compile" 1 "" "$first $none
+error: src/lib.rt
+market: the sources gave no answer: what rt said is above" 'echo broken | ./market run'
+is "another kit" 0 "tried run: input" "$first $none
+market: the kit at hand is kit-1, and kit.txt names kit-2: what follows holds by the kit at hand" \
+    'sed -i s/kit-1/kit-2/ kit.txt; ./market run; sed -i s/kit-2/kit-1/ kit.txt'
+is "no rt" 1 "" "market: there is no proved program to run, and no rt to try the sources: README.md names its kit" \
+    'PATH="$folder/tools" ./market run'
+is "no folder for notes" 1 "" "market: no folder can be made in /none: look whether the disk is full" \
+    'TMPDIR=/none ./market run'
+is "--unproved" 0 "tried run: input" "$asked" './market --unproved run'
+is "--unproved with no arguments" 2 "usage: ..." "$asked" './market --unproved'
+is "--unproved with a file as argument" 2 "" "market: run reads standard input: ./market run < ../input" \
+    './market --unproved run ../input'
+is "--unproved serve of a file" 0 "tried serve: input" "$asked" './market --unproved serve'
+is "--unproved serve of a stream" 1 "" \
+    "market: serve needs a stream, which an unproved run has not: give it a file, or run ./market prove" \
+    'cat | ./market --unproved serve'
+is "--proved" 1 "" "market: $none" './market --proved run'
+is "the notes are gone" 0 "" "" 'find "$folder" -mindepth 1 -maxdepth 1 -name "tmp.*"'
+
+# The proof.
+is "no rt to prove" 1 "" "market: there is no rt to prove the program: README.md names its kit" \
+    'PATH="$folder/tools" ./market prove'
+is "a proof that fails" 1 "" "proves
+low is not proved
+market: the program is not proved: what is wrong is above" \
+    'echo bad >crates/low/src/lib.rt; ./market prove; s=$?; echo "a source" >crates/low/src/lib.rt; (exit $s)'
+is "nothing is built" 1 "" "proves
+market: the program is not built: script/prove.py left no $top/crates/market/out/market" \
+    'touch no-build; ./market prove; s=$?; rm no-build; (exit $s)'
+is "sources edited meanwhile" 1 "" "proves
+market: the sources changed while they were proved: run ./market prove again; it keeps what still holds" \
+    'touch meanwhile; ./market prove'
+is "and not proved then" 0 "tried run: input" "$first $none" './market run'
+is "sources edited and put back meanwhile" 1 "" "proves
+market: the sources changed while they were proved: run ./market prove again; it keeps what still holds" \
+    'echo restore >meanwhile; ./market prove; s=$?; rm meanwhile; (exit $s)'
+echo "a source" >crates/low/src/lib.rt
+is "a proof by another kit" 0 "" "market: the kit at hand is kit-1, and kit.txt names kit-2: what follows holds by the kit at hand
+$made" 'sed -i s/kit-1/kit-2/ kit.txt; ./market prove; sed -i s/kit-2/kit-1/ kit.txt'
+is "a proof" 0 "" "${made/proves/proves --jobs 3}" './market prove --jobs 3'
+is "the stamp" 0 "program: $(sha256sum <crates/market/out/market | cut -d " " -f 1)
+kit: kit-1 of today
+date: $(date +%Y-%m-%d)" "" 'grep -E "^(program|kit|date)" crates/market/out/proved'
+
+# With the proof.
+is "a proved run" 0 "proved run: input" "" './market run'
+is "without rt" 0 "proved run: input" "" 'PATH="$folder/tools" ./market run'
+is "from another folder, proved" 0 "proved run: input" "" '(cd / && "$folder/link" run)'
+is "a stream" 0 "proved serve: input" "" 'cat | ./market serve'
+is "--proved, proved" 0 "proved run: input" "" './market --proved run'
+is "--unproved, proved" 0 "tried run: input" "$asked" './market --unproved run'
+is "a file as argument, proved" 2 "usage: ..." "market: run reads standard input: ./market run < ../input" \
+    './market run ../input'
+is "no command, proved" 2 "usage: ..." "" './market rum'
+is "a fault of reading" 3 "" "$read_fault" 'echo status 3 | ./market run'
+is "a fault of writing" 6 "" "$write_fault" 'echo status 6 | ./market run'
+is "no memory, proved" 7 "" "$memory" 'echo status 7 | ./market run'
+is "arguments that are no text" 8 "" "$text" 'echo status 8 | ./market run'
+is "by its name" 6 "" "$write_fault" 'echo status 6 | "$folder/link" run'
+is "too long" 4 "" "" 'echo status 4 | ./market run'
+is "refused, and no terminal" 5 "refused 9 node 1" "" './market run <bad'
+is "refused on a terminal, proved" 5 "refused 9 node 1
+$meaning" "" 'screen "./market run <bad"'
+is "a text on a terminal" 0 "proved run: input" "" 'screen "./market run <../input"'
+is "no room for notes on a terminal" 5 "refused 9 node 1
+$unknown" "" 'screen "TMPDIR=/none ./market run <bad"'
+is "refused into a file" 5 "$meaning
+refused 9 node 1" "" 'screen "./market run <bad >wrote"; s=$?; cat wrote; (exit $s)'
+is "refused behind other lines" 5 "$meaning
+refused 1 document
+refused 9 node 1" "" 'echo refused 1 document >wrote; screen "./market run <bad >>wrote"; s=$?; cat wrote; (exit $s)'
+is "refused before other lines" 5 "$meaning" "" \
+    'printf "%40s\n" x "refused 1 document" >wrote; screen "./market run <bad 1<>wrote"'
+is "refused into a pipe" 0 "$unknown
+refused 9 node 1" "" 'screen "./market run <bad | cat >wrote"; cat wrote'
+is "a refused stream" 5 "refused 9 node 1
+market: refused: serve: a frame is bad; a Fault tells its offset; ./market help 24 and docs/CLUSTER_FILE.md say more" "" \
+    'screen "./market serve <bad"'
+is "a code that is not known" 5 "refused 77 document
+$unknown" "" 'echo refused 77 document >worse; screen "./market run <worse"'
+
+# What is current, and what is not.
+is "an edit of another crate" 0 "proved run: input" "" 'echo more >>crates/other/src/lib.rt; ./market run'
+is "an edit" 0 "tried run: input" "$first $stale" 'echo more >>crates/low/src/lib.rt; ./market run'
+is "an edit, --proved" 1 "" "market: $stale" './market --proved run'
+is "an edit, serve" 1 "" "market: serve needs a stream, and so the proved program: $stale" './market serve'
+is "an edit, no rt" 1 "" "market: there is no proved program to run, and no rt to try the sources: README.md names its kit" \
+    'PATH="$folder/tools" ./market run'
+is "put back" 0 "proved run: input" "" 'echo "a source" >crates/low/src/lib.rt; ./market run'
+is "an older file in its place" 0 "tried run: input" "$first $stale" \
+    'echo older >old; touch -d "1 year ago" old; cp -p old crates/high/src/lib.rt; ./market run'
+is "put back again" 0 "proved run: input" "" 'cp crates/low/src/lib.rt crates/high/src/lib.rt; ./market run'
+is "of the same size and date" 0 "tried run: input" "$first ${stale/.\//../../../}" \
+    'cd crates/high/src; touch -r lib.rt ../date; echo "A source" >lib.rt; touch -r ../date lib.rt; ../../../market run'
+echo "a source" >crates/high/src/lib.rt
+is "a file gone" 0 "tried run: input" "$first $stale" 'mv crates/high/src/lib.rt old; ./market run'
+is "a file back" 0 "proved run: input" "" 'mv old crates/high/src/lib.rt; ./market run'
+is "a file more" 0 "tried run: input" "$first $stale" \
+    'mkdir crates/high/specs; touch crates/high/specs/S.antt; ./market run'
+is "a file less" 0 "proved run: input" "" 'rm -r crates/high/specs; ./market run'
+is "a line of crates.txt for the kit" 0 "tried run: input" "$first $stale" \
+    'sed -i "s/^low: kit/&s/" crates.txt; ./market run'
+is "that line put back" 0 "proved run: input" "" 'sed -i "s/^low: kits/low: kit/" crates.txt; ./market run'
+is "a line of crates.txt" 0 "tried run: input" "$first $stale" 'sed -i "s/^high: low/& other/" crates.txt; ./market run'
+is "the line put back" 0 "proved run: input" "" 'sed -i "s/^high: low other/high: low/" crates.txt; ./market run'
+is "a later date" 0 "proved run: input" "" 'touch crates/low/src/lib.rt crates/market/out/market; ./market run'
+is "another program" 0 "tried run: input" "$first $other" \
+    'cp crates/market/out/market old; cp -p program crates/market/out/market; echo "# more" >>crates/market/out/market; ./market run'
+is "the program put back" 0 "proved run: input" "" 'cp old crates/market/out/market; ./market run'
+is "a copy" 0 "proved run: input" "" 'cp -r . "$folder/copy"; cd "$folder/copy" && ./market --proved run'
+is "a copy of what changed" 1 "" "market: $stale" \
+    'echo more >>crates/high/src/lib.rt; cp -r . "$folder/other"; cd "$folder/other" && ./market --proved run'
+echo "a source" >crates/high/src/lib.rt
+cat >"$folder/git/sha256sum" <<'END_OF_SUM'
+#!/usr/bin/env bash
+"$TMPDIR/tools/sha256sum" "$@"
+[ $# = 0 ] || echo "an edit" >>low/src/lib.rt
+END_OF_SUM
+chmod +x "$folder/git/sha256sum"
+touch crates/low/src/lib.rt
+is "an edit while it is summed" 1 "" "market: $stale" \
+    'PATH="$folder/git:$PATH" ./market --proved run >/dev/null; ./market --proved run </dev/null'
+rm "$folder/git/sha256sum"
+echo "a source" >crates/low/src/lib.rt
+is "nothing read if nothing changed" 0 "proved run: input" "" \
+    './market demo 1 2 >/dev/null; rm "$folder/tools/cut"; cd checks && "$folder/link" demo 1 2 >/dev/null && ../market run'
+ln -s "$(PATH="$kept" command -v cut)" "$folder/tools/cut"
+is "a stamp that cannot be kept" 0 "proved demo 1 2: no input
+proved run: input" "" 'touch crates/low/src/lib.rt; mv() { false; }; export -f mv; ./market demo 1 2; ./market run; unset -f mv'
+is "a stamp for another sum" 1 "" "" '(. script/program.sh; write_stamp "$(sha256sum <old)")'
+is "a stamp for no sum" 1 "" "" '(. script/program.sh; write_stamp "")'
+is "a program without a stamp" 1 "" "market: $none" 'rm crates/market/out/proved; ./market --proved run'
+
+# The gate and the checks of the program.
+echo './market run <../input' >checks/a.sh
+is "the gate" 0 "proved run: input" "" 'forget; .ci/run'
+is "the gate from elsewhere" 0 "proved run: input" "" 'forget; (cd / && "$top/.ci/run")'
+is "a gate that fails" 3 "tried run: input" "$first $none" \
+    'forget; echo 3 >ci-status; .ci/run; s=$?; rm ci-status; (exit $s)'
+is "a gate that builds nothing" 0 "tried run: input" "$first $none" \
+    'rm -f crates/market/out/proved; touch no-build; .ci/run; rm no-build'
+is "an edit during the gate" 0 "tried run: input" \
+    "market: the sources changed during the proof, so the program does not count as proved
+$first $none" 'forget; touch meanwhile; .ci/run; rm meanwhile; echo "a source" >crates/low/src/lib.rt'
+is "the gate by another kit" 0 "proved run: input" \
+    "market: the kit at hand is kit-1, and kit.txt names kit-2: what follows holds by the kit at hand" \
+    'sed -i s/kit-1/kit-2/ kit.txt; .ci/run; sed -i s/kit-2/kit-1/ kit.txt'
+is "a check that fails" 4 "" "" 'echo exit 4 >checks/a.sh; .ci/run'
+rm checks/a.sh
+mv checks/program.sh.kept checks/program.sh
+is "the program's checks" 0 "crates/market/out/market" "" 'bash checks/program.sh | sed "s|$top/||g"'
+is "of both builds" 0 "crates/market/out/market crates/market/out/market.by-rattle" "" \
+    'touch crates/market/out/market.by-rattle; bash checks/program.sh | sed "s|$top/||g"'
+is "of an older build" 0 "crates/market/out/market" "" \
+    'touch -d "1 day ago" crates/market/out/market.by-rattle; bash checks/program.sh | sed "s|$top/||g"'
+is "the program's checks prove first" 0 "no program is proved from the sources of today: ./market prove makes it first
+crates/market/out/market" "$made" 'forget; bash checks/program.sh | sed "s|$top/||g"'
+is "the program's checks without a proof" 1 "no program is proved from the sources of today: ./market prove makes it first
+0 passed, 1 failed" "proves
+low is not proved
+market: the program is not proved: what is wrong is above" \
+    'echo bad >crates/low/src/lib.rt; bash checks/program.sh; s=$?; echo "a source" >crates/low/src/lib.rt; (exit $s)'
+
+# Help and versions, with nothing but the script.
+forget
+bare='PATH="$folder/tools"; cd /;'
+help="$(./market help)"
+is "the help" 0 "$help" "" "$bare"' "$top/market" help | sed "s|$absolute|.|g; s|${absolute//\\/\\\\}|.|g"'
+is "--help" 0 "$help" "" './market --help'
+is "-h" 0 "$help" "" './market -h'
+is "by a link, the help" 0 "${help//.\/market C/$folder\/link C}" "" "$bare"' "$folder/link" help'
+is "nothing" 2 "$help" "" './market'
+is "the help's size" 0 "" "" 'awk "length > 80 || NR > 45" <<<"$help"'
+is "the help names all" 0 "run trace bill free check ask serve demo help version prove --proved --unproved 0 1 2 3 4 5 6 7 8 " "" \
+    'awk "/^  [-a-z0-9]/ { printf \"%s \", \$1 }" <<<"$help"'
+is "the help when installed" 0 "run trace bill free check ask serve demo help version 0 1 2 3 4 5 6 7 8 More: man market " "" \
+    '(called=market pages="man market" installed=yes; . script/words.sh; help_text) |
+        awk "/^  [-a-z0-9]/ { printf \"%s \", \$1 } /^More/ { printf \"%s \", \$0 } /prove/ { print }"'
+is "the codes" 0 "$(echo {1..25})" "" 'echo $(./market help refusals | awk "\$1 ~ /^[0-9]+\$/ { print \$1 }")'
+is "the codes of the page" 0 "$(echo {1..20} 22 23 25)" "" \
+    'echo $(sed -n "s/^| .refused \([0-9]*\) .*/\1/p" "$repository/docs/CLUSTER_FILE.md")'
+is "one code" 0 "refused 9: $parent
+What to do: name auctioneer or an earlier concentrator
+More: docs/CLUSTER_FILE.md" "" "$bare"' "$top/market" help 9'
+is "each code whole" 0 75 "" '(. script/words.sh; for code in {1..25}; do help_refusal "$code"; done) |
+    grep -cE "^(refused [0-9]+|What to do|More): .+"'
+is "no such code" 2 "" "market: there is no help on 26: ./market help lists the commands, ./market help refusals the codes" \
+    './market help 26'
+is "the version" 0 "market 1.2.3
+no proved program is at hand: $none" "" './market version'
+is "the version, bare" 0 "market 1.2.3" "" "$bare"' "$top/market" --version | head -n 1'
+rm -rf "$folder/copy" "$folder/other"
+{
+    git() { "$folder/git/git" -c user.name=a -c user.email=b "$@"; }
+    git init -q . && git add market VERSION crates && git commit -qm "A commit"
+    commit="$(git rev-parse --short HEAD)"
+    unset -f git
+} >/dev/null 2>&1
+with_git='PATH="$folder/git:$PATH";'
+is "a commit" 0 "market 1.2.3 ($commit)" "" "$with_git"' touch VERSION; ./market version | head -n 1'
+is "an edit of a commit" 0 "market 1.2.3 ($commit-modified)" "" "$with_git"' echo 1.2.3 >old; echo >>old; cp old VERSION; ./market version | head -n 1'
+is "without git" 0 "market 1.2.3" "" './market version | head -n 1'
+prove
+is "the version, proved" 0 "a proved program is at hand, proved on $(date +%Y-%m-%d) with kit-1" "" \
+    './market version | tail -n 1'
+echo more >>crates/low/src/lib.rt
+is "the version, changed" 0 "no proved program is at hand: $stale" "" './market version | tail -n 1'
 echo "$passed passed, $failed failed"
 [ "$failed" = 0 ]
