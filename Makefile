@@ -1,0 +1,54 @@
+# Installs, releases and checks market. `make` alone lists what it can do. GNU make.
+PREFIX ?= /usr/local
+DESTDIR ?=
+prefix = $(PREFIX)
+exec_prefix = $(prefix)
+bindir = $(exec_prefix)/bin
+libexecdir = $(exec_prefix)/libexec
+datarootdir = $(prefix)/share
+datadir = $(datarootdir)
+docdir = $(datarootdir)/doc/market
+mandir = $(datarootdir)/man
+unitdir = $(datadir)/market/units
+bashcompletiondir = $(datadir)/bash-completion/completions
+zshcompletiondir = $(datadir)/zsh/site-functions
+fishcompletiondir = $(datadir)/fish/vendor_completions.d
+places = DESTDIR bindir libexecdir datadir mandir docdir unitdir bashcompletiondir zshcompletiondir fishcompletiondir
+# They go to the scripts by the environment, each as it is.
+export $(places)
+
+VERSION := $(shell cat VERSION)
+tarball = build/market-$(VERSION).tar.gz
+package = build/market_$(VERSION)_amd64.deb
+
+.PHONY: help prove check install uninstall installcheck dist deb clean
+help: ## lists the targets, and the variables that say where to
+	@awk -F ':.*## ' '/^[a-z]+:.*## / { printf "make %-13s %s\n", $$1, $$2 }' Makefile
+	@echo
+	@echo "PREFIX is $(PREFIX). DESTDIR is put before all places: make install DESTDIR=/tmp/stage PREFIX=/usr"
+	@echo "Also: bindir libexecdir datadir docdir mandir unitdir, and bash-, zsh- and fishcompletiondir."
+
+prove: ## proves and builds the program, which takes most of an hour from nothing
+	./market prove
+
+check: ## runs the gate: every proof, must-fail edit, test and check
+	.ci/run
+
+install: ## installs the proved program, its pages, completions, examples and units
+	@bash packaging/install.sh install
+
+uninstall: ## removes what install made
+	@bash packaging/install.sh uninstall
+
+installcheck: ## runs the installed program on the village, and compares the text
+	@bash packaging/installcheck.sh
+
+dist: ## packs the committed sources into build/
+	@bash packaging/dist.sh $(tarball)
+
+deb: ## builds a Debian package of the proved program in build/
+	@bash packaging/deb.sh $(package)
+
+clean: ## removes what dist and deb made
+	rm -f build/market-*.tar.gz build/market_*.deb
+	[ ! -d build ] || rmdir build

@@ -1,0 +1,15 @@
+# Completes the commands of market and its pages of help, for fish.
+complete -c market -f
+complete -c market -n __fish_use_subcommand -a run -d 'the price and the powers of each phase of a cluster file'
+complete -c market -n __fish_use_subcommand -a trace -d 'the same, and each move of the run'
+complete -c market -n __fish_use_subcommand -a bill -d 'what each device pays, takes and gives'
+complete -c market -n __fish_use_subcommand -a ask -d 'the price at which a cluster takes or delivers so much'
+complete -c market -n __fish_use_subcommand -a check -d 'whether a trace is a run of its cluster file'
+complete -c market -n __fish_use_subcommand -a serve -d 'the auctioneer alone, over a stream of bids'
+complete -c market -n __fish_use_subcommand -a free -d 'the same as run, on threads that share no lock'
+complete -c market -n __fish_use_subcommand -a demo -d 'a made cluster of SIZE devices'
+complete -c market -n __fish_use_subcommand -a help -d 'what the commands are, and what a refusal means'
+complete -c market -n __fish_use_subcommand -a version -d 'the version'
+complete -c market -n __fish_use_subcommand -s h -l help -d 'what the commands are'
+complete -c market -n __fish_use_subcommand -l version -d 'the version'
+complete -c market -n '__fish_seen_subcommand_from help' -a refusals -d 'what each refusal means'

@@ -1,0 +1,14 @@
+#!/usr/bin/env bash
+# Runs the installed program on the village, and compares the text byte for byte; `make` says where it is installed.
+# shellcheck disable=SC2154 # make gives the places
+cd "$(dirname "$0")/.." || exit 1
+program="$DESTDIR$bindir/market"
+if ! [ -x "$program" ]; then
+    echo "make: nothing is installed there: $program is missing" >&2
+    exit 1
+fi
+if ! "$program" run <examples/village.json | cmp - examples/village.txt; then
+    echo "make: $program does not give the text of the village" >&2
+    exit 1
+fi
+echo "$program gives the text of the village"
