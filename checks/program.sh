@@ -17,4 +17,4 @@ programs=("$program")
 if [ "$program.by-rattle" -nt "$program" ]; then
     programs+=("$program.by-rattle")
 fi
-exec python3 checks/cases.py "${programs[@]}"
+exec python3 -B -m checks.drive.cases "${programs[@]}"

@@ -1,3 +1,4 @@
 #!/usr/bin/env bash
-# Whether cluster.schema.json agrees with the program: checks/schema.py says how.
-exec python3 "$(dirname "$0")/schema.py"
+# Whether cluster.schema.json agrees with the program: checks/lint/schema.py says how.
+cd "$(dirname "$0")/.." || exit 1
+exec python3 -B -m checks.lint.schema

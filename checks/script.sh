@@ -9,7 +9,7 @@ folder="$(mktemp -d)" || exit 1
 trap 'rm -rf "$folder"' EXIT
 # The folder has a blank in its name.
 top="$folder/a clone"
-mkdir -p "$top"/crates/{low,high,other,market}/src "$top"/{script,.ci,checks,docs} "$folder"/{bin,tools,git}
+mkdir -p "$top"/crates/{low,high,other,market}/src "$top"/{script,.ci,checks/drive,docs} "$folder"/{bin,tools,git}
 cp market "$top/market"
 cp script/words.sh script/program.sh script/run.sh "$top/script"
 cp .ci/run "$top/.ci"
@@ -80,7 +80,7 @@ if os.path.exists("meanwhile"):
     if "restore" in open("meanwhile").read():
         open(source, "w").write(kept)
 END_OF_PROVE
-echo 'import sys; print(*sys.argv[1:])' >"$top/checks/cases.py"
+echo 'import sys; print(*sys.argv[1:])' >"$top/checks/drive/cases.py"
 
 # All that the script needs beside rt. git lies elsewhere.
 for tool in bash env cat cp cut date dirname find grep head mkdir mktemp mv nproc readlink rm sed sha256sum sleep sort tail \

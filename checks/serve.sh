@@ -1,5 +1,5 @@
 #!/usr/bin/env bash
-# Compares `market serve` of the built program with checks/stream.py: checks/serve.py says how. With `all` many more streams are
+# Compares `market serve` of the built program with checks/oracle/stream.py: checks/drive/serve.py says how. With `all` many more streams are
 # tried, and those of a gigabyte.
 cd "$(dirname "$0")/.." || exit 1
 program=crates/market/out/market
@@ -8,4 +8,4 @@ if [ ! -x "$program" ]; then
     echo "0 passed, 1 failed"
     exit 1
 fi
-exec python3 checks/serve.py "$program" "$@"
+exec python3 -B -m checks.drive.serve "$program" "$@"

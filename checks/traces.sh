@@ -1,5 +1,5 @@
 #!/usr/bin/env bash
-# Compares `market check` of the built program with checks/judge.py on traces, right and wrong: checks/traces.py says how.
+# Compares `market check` of the built program with checks/oracle/judge.py on traces, right and wrong: checks/drive/traces.py says how.
 # With `all` every variant of each trace is tried, else a sample.
 cd "$(dirname "$0")/.." || exit 1
 program=crates/market/out/market
@@ -8,4 +8,4 @@ if [ ! -x "$program" ]; then
     echo "0 passed, 1 failed"
     exit 1
 fi
-exec python3 checks/traces.py "$program" "$@"
+exec python3 -B -m checks.drive.traces "$program" "$@"

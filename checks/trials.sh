@@ -1,5 +1,5 @@
 #!/usr/bin/env bash
-# Tries the top call of the program in hostile surroundings within one process: checks/trials.py says how. With `all` every call
+# Tries the top call of the program in hostile surroundings within one process: checks/drive/trials.py says how. With `all` every call
 # and length is tried, on every input, else a sample. Where the program `trials` is not built, or a source is newer, it is
 # proved and built first.
 cd "$(dirname "$0")/.." || exit 1
@@ -22,4 +22,4 @@ if ! is_current; then
     fi
     rm -f "$log"
 fi
-exec python3 checks/trials.py "$program" "$@"
+exec python3 -B -m checks.drive.trials "$program" "$@"

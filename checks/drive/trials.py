@@ -1,7 +1,6 @@
-#!/usr/bin/env python3
 """Tries the top call in hostile surroundings, by the program `trials`, which calls it in its own memory.
 
-    python3 checks/trials.py PROGRAM [all]
+    python3 -m checks.drive.trials PROGRAM [all]
 
 `trials faults` is run with every command, on the files of examples/ and cases/ and on streams of bids; `trials gates` on files
 that have a plan. Without `all` a sample of the inputs is taken, and of each so many of the calls and lengths; with it all.
@@ -12,14 +11,12 @@ import random
 import re
 import sys
 from concurrent.futures import ThreadPoolExecutor
-from pathlib import Path
 
-sys.dont_write_bytecode = True
-import streams
-from built import Hangs, ended, sampled
-from oracle import envelope
+from checks import TOP
+from checks.drive.built import Hangs, ended, sampled
+from checks.make import streams
+from checks.oracle.oracle import envelope
 
-TOP = Path(__file__).resolve().parent.parent
 TARGETS = b"0\n100\n-60\n"
 # The cluster files and the demo cluster of a sample.
 PLANS = ("two_bids", "limited_feeder", "village")

@@ -1,14 +1,13 @@
-#!/usr/bin/env python3
 """Whether cluster.schema.json agrees with the program: each file that has a plan passes it, and each file that is refused
 for its shape or for a number in it fails it, but for those of BEYOND. The files are those of examples/ and checks/cases, and
-those of checks/members.py."""
+those of checks/make/members.py."""
 
 import json
 import re
 import sys
 
-sys.dont_write_bytecode = True
-from cases import TOP, edited_members, examples, stored_cases
+from checks import TOP
+from checks.make.cases import edited_members, examples, stored_cases
 
 # The codes that are no matter of a schema: no reading at all, and what names and places have to do with each other.
 NOT_OF_SHAPE = {1, 8, 9, 10, 14, 15, 16, 22}

@@ -1,10 +1,9 @@
-#!/usr/bin/env python3
 """Bytes from nowhere: mutates cluster files, envelopes, traces and streams of bids, and looks whether the program answers each
 as it has to.
 
-    python3 checks/fuzz.py PROGRAM MINUTES [SEED]
+    python3 -m checks.drive.fuzz PROGRAM MINUTES [SEED]
 
-What is due is worked out by checks/oracle.py, so each refusal, report, bill, answer and judgement is compared byte by byte; a
+What is due is worked out by checks/oracle/oracle.py, so each refusal, report, bill, answer and judgement is compared byte by byte; a
 trace is judged. Of an input that is accepted the text is compared with that of a second run too. A failing input is kept in a
 file that is named. The inputs follow from the seed and from the traces that the program makes, whose moves come in another
 order each time: two runs of one seed begin alike, and may part later.
@@ -15,16 +14,13 @@ import sys
 import tempfile
 import time
 from collections import Counter
-from pathlib import Path
 
-sys.dont_write_bytecode = True
-from built import Hangs, ended
-from mutations import NUMBERS, exchanged_lines, mutated
-from oracle import due_of, envelope, why_wrong
-from streams import random_stream
+from checks import CASES, TOP
+from checks.drive.built import Hangs, ended
+from checks.make.mutations import NUMBERS, exchanged_lines, mutated
+from checks.make.streams import random_stream
+from checks.oracle.oracle import due_of, envelope, why_wrong
 
-TOP = Path(__file__).resolve().parent.parent
-CASES = TOP / "checks" / "cases"
 SEED = 2012
 SECONDS = 20
 

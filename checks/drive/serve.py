@@ -1,5 +1,4 @@
-#!/usr/bin/env python3
-"""Compares `market serve` of the built program with checks/stream.py, byte for byte, and with a client that waits for answers.
+"""Compares `market serve` of the built program with checks/oracle/stream.py, byte for byte, and with a client that waits for answers.
 
 With `all` behind the program many more streams are tried, and those of a gigabyte.
 """
@@ -13,13 +12,12 @@ import threading
 import time
 from pathlib import Path
 
-sys.dont_write_bytecode = True
-import faults
-import stream
-from built import Hangs, ended
-from streams import CLEAR, bid, hello, many_frames, price, random_pieces, random_stream, rows, small_stream
+from checks import TOP
+from checks.drive import faults
+from checks.drive.built import Hangs, ended
+from checks.make.streams import CLEAR, bid, hello, many_frames, price, random_pieces, random_stream, rows, small_stream
+from checks.oracle import stream
 
-TOP = Path(__file__).resolve().parent.parent
 sys.path.insert(0, str(TOP / "examples" / "serve"))
 from client import Market, NotChanged, Old, Price
 

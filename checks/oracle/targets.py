@@ -1,10 +1,7 @@
 """What `ask` has to write for a cluster file and targets, worked out from the bids by the formulas of docs/CLUSTER_FILE.md."""
 
 import json
-import sys
-from pathlib import Path
 
-sys.path.insert(0, str(Path(__file__).resolve().parent.parent / "pictures"))
 from auction import clearing_step, ends_of, prices_of
 
 

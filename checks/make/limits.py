@@ -1,14 +1,8 @@
-"""Clusters at the limits of the market, through the threads of each command: texts by checks/oracle.py, traces judged."""
+"""Clusters at the limits of the market."""
 
 import json
-import sys
-
-sys.dont_write_bytecode = True
-from built import Hangs, ended
-from oracle import due_of, envelope, why_wrong
 
 NODES, DEPTH, STEPS, PHASES, EVENTS, CHANGES, MOST = 256, 6, 1_000, 1_000, 4_096, 20_000, 1_000_000_000
-SECONDS = 120
 
 
 def chain():
@@ -75,21 +69,3 @@ def files(everything):
     yield "the widest limits", greatest_limits(), all_commands
     if everything:
         yield "20,000 changes below 6 concentrators", most_events(5, CHANGES // 5), all_commands
-
-
-def why_not(program, command, text):
-    try:
-        return why_wrong(command, text, ended(program, [command], text, SECONDS), due_of(command, text))
-    except Hangs as it:
-        return str(it)
-
-
-def tried(program, everything):
-    for name, file, commands in files(everything):
-        for command in commands:
-            text = envelope(file, b"0\n%d\n-%d\n" % (MOST, MOST)) if command == "ask" else file
-            yield f"{command} of {name}", why_not(program, command, text)
-        if "trace" in commands:
-            trace = ended(program, ["trace"], file, SECONDS)[1]
-            yield f"check of {name}", why_not(program, "check", envelope(file, trace))
-            yield f"check of {name}, without the last line", why_not(program, "check", envelope(file, trace[: trace.rindex(b"moves")]))

@@ -1,10 +1,8 @@
 """Streams of bids: rows worked by hand, random ones, and long ones."""
 
 import struct
-import sys
 
-sys.dont_write_bytecode = True
-import stream
+from checks.oracle import stream
 
 
 def hello(steps=2, least=0, greatest=9):

@@ -1,4 +1,3 @@
-#!/usr/bin/env python3
 """Whether each concept has one home: one meaning a name, one place a lemma, one name a limit. And whether what is written
 can be read: no line above a limit, a comment on each public lemma.
 
@@ -9,9 +8,10 @@ and ends with 'N passed, M failed'.
 import re
 import sys
 from collections import defaultdict
-from pathlib import Path
 
-CRATES = Path(__file__).resolve().parent.parent / "crates"
+from checks import TOP
+
+CRATES = TOP / "crates"
 
 # Names that two crates use for one thing: of a plan, and of the lists of the market of cuts that it stands for.
 OF_PLAN_AND_LISTS = {"is_leaf", "is_member", "parent", "phases"}

@@ -1,25 +1,17 @@
-#!/usr/bin/env python3
-"""Runs each of the named programs on the cases, and compares what it writes and its exit status.
+"""The cases of the program: of checks/cases, of examples, and those made here, whose input is large or that have no file at all.
 
 A case is a list of arguments, a standard input, the text due and the status due. checks/README.md says how the files of
-checks/cases and examples make one. Here stand the cases whose input is large, or that have no file at all.
+checks/cases and examples make one.
 """
 
-import os
-import subprocess
-import sys
 import tempfile
 from dataclasses import dataclass
-from pathlib import Path
 
-sys.dont_write_bytecode = True
-import members
-import streams
-from accounts import bill_of
-from targets import answers_of, envelope
+from checks import CASES, TOP
+from checks.make import members, streams
+from checks.oracle.accounts import bill_of
+from checks.oracle.targets import answers_of, envelope
 
-TOP = Path(__file__).resolve().parent.parent
-CASES = TOP / "checks" / "cases"
 EXAMPLES = TOP / "examples"
 # The text of each command on the example NAME.json stands beside it, under NAME with this ending.
 TEXTS = {"run": ".txt", "free": ".txt"}
@@ -44,45 +36,6 @@ class Case:
     status: int
     # "pipe", "full" or "closed".
     sink: str = "pipe"
-
-
-def ended(program, case):
-    """The exit status, and what was written."""
-    closed = [0] * (case.stdin is None) + [1] * (case.sink == "closed")
-    settings = {"stderr": subprocess.DEVNULL, "preexec_fn": lambda: [os.close(it) for it in closed], "timeout": 120}
-    opened = []
-    try:
-        if isinstance(case.stdin, bytes):
-            settings["input"] = case.stdin
-        elif case.stdin is not None:
-            opened.append(os.open(case.stdin, os.O_RDONLY))
-            settings["stdin"] = opened[0]
-        if case.sink == "pipe":
-            settings["stdout"] = subprocess.PIPE
-        elif case.sink == "full":
-            opened.append(os.open("/dev/full", os.O_WRONLY))
-            settings["stdout"] = opened[-1]
-        done = subprocess.run([program, *case.arguments], **settings)
-        return done.returncode, done.stdout or b""
-    finally:
-        for it in opened:
-            os.close(it)
-
-
-def why_failed(program, case):
-    """What is wrong with the program's answer, or None."""
-    try:
-        status, text = ended(program, case)
-    except subprocess.TimeoutExpired:
-        return "had not ended after 120 seconds"
-    if status != case.status:
-        return f"status {status}, and not {case.status}; it wrote {text[:120]!r}"
-    if callable(case.stdout):
-        return None if case.stdout(text) else f"wrote {text[:120]!r}"
-    if case.stdout is not None and text != case.stdout:
-        at = next((i for i, (a, b) in enumerate(zip(text, case.stdout)) if a != b), min(len(text), len(case.stdout)))
-        return f"line {case.stdout[:at].count(10) + 1} differs: wrote {text[max(0, at - 60) : at + 60]!r}"
-    return None
 
 
 def stored_cases():
@@ -190,13 +143,6 @@ def first_phases():
     )
 
 
-def demos(program):
-    """The largest demo is the same each time."""
-    front = b"demo size 200 number 7 nodes 210 phases 21 changes "
-    first = ended(program, Case("", ["demo", "200", "7"], CASES, None, DONE))[1]
-    yield Case("demo 200 7", ["demo", "200", "7"], CASES, lambda it: it.startswith(front) and it == first, DONE)
-
-
 def with_reports():
     """The examples and the files of checks/cases/run, each with its report."""
     for folder, ending in ((EXAMPLES, ".txt"), (CASES / "run", ".stdout")):
@@ -281,34 +227,15 @@ def faults():
             yield Case(f"{name}, standard output {sink}", arguments, stdin, None, WRITE_FAULT, sink)
 
 
-def cases(program):
+def cases():
     yield from stored_cases()
     yield from examples()
     yield from edited_members()
     yield from first_phases()
     yield from cut_files()
     yield from large_files()
-    yield from demos(program)
     yield from bills_and_answers()
     yield from asked()
     yield from longest_trace()
     yield from served()
     yield from faults()
-
-
-def main(programs):
-    passed, failed = 0, 0
-    for program in programs:
-        for case in cases(program):
-            why = why_failed(str(TOP / program), case)
-            if why is None:
-                passed += 1
-            else:
-                failed += 1
-                print(f"{program}: {case.name}: {why}")
-    print(f"{passed} passed, {failed} failed")
-    return 1 if failed else 0
-
-
-if __name__ == "__main__":
-    sys.exit(main(sys.argv[1:]))

@@ -1,10 +1,9 @@
-#!/usr/bin/env python3
 """Runs the built program where memory is wanting, and looks whether it ends as it should: with its whole text, or with the
 status of an allocation failure and no text. A trace is tried on files of which only one journal is legal.
 
 Each allocation of a run is refused in turn, alone and with all that come after it; and the address space is limited, so
 that some threads cannot be started, or none. A service may have written a part of the answers before. Without an argument a
-sample is tried, with `all` each number. checks/refuse.c refuses the allocations; where there is no C compiler only the limits
+sample is tried, with `all` each number. checks/drive/refuse.c refuses the allocations; where there is no C compiler only the limits
 are tried.
 """
 
@@ -16,11 +15,8 @@ import sys
 import tempfile
 from pathlib import Path
 
-sys.dont_write_bytecode = True
-from streams import small_stream
-
-TOP = Path(__file__).resolve().parent.parent
-CASES = TOP / "checks" / "cases"
+from checks import CASES, TOP
+from checks.make.streams import small_stream
 
 DONE, NO_MEMORY = 0, 7
 SECONDS = 60
@@ -67,7 +63,7 @@ def built_shim(folder):
     if compiler is None:
         return None
     library = folder / "refuse.so"
-    subprocess.run([compiler, "-O1", "-shared", "-fPIC", "-o", library, TOP / "checks" / "refuse.c"], check=True)
+    subprocess.run([compiler, "-O1", "-shared", "-fPIC", "-o", library, TOP / "checks" / "drive" / "refuse.c"], check=True)
     return library
 
 

@@ -1,9 +1,8 @@
-#!/usr/bin/env python3
 """Which goal each must-fail edit leaves open, and where its refusal comes from.
 
-    python3 checks/edits.py [CRATE ..]       tries the edits of these crates, of all where none is named
-    python3 checks/edits.py --log FILE       reads what `rt must-fail` or `rt ci` wrote
-    python3 checks/edits.py --self-test      reads fixed lines, and compares docs/EDITS.md with the edits that there are
+    python3 -m checks.lint.edits [CRATE ..]   tries the edits of these crates, of all where none is named
+    python3 -m checks.lint.edits --log FILE   reads what `rt must-fail` or `rt ci` wrote
+    python3 -m checks.lint.edits --self-test  reads fixed lines, and compares docs/EDITS.md with the edits that there are
 
 It prints a row of a table for each edit and ends with 'N passed, M failed'. An edit fails where it was not refused, where
 it is a bad edit, where no more is told than that a proof names what it took away or hangs on one that was rejected, and
@@ -18,7 +17,8 @@ from collections.abc import Iterable, Iterator
 from dataclasses import dataclass
 from pathlib import Path
 
-TOP = Path(__file__).resolve().parent.parent
+from checks import TOP
+
 TABLE = TOP / "docs" / "EDITS.md"
 
 # Where a refusal comes from.

@@ -1,19 +1,12 @@
 """What each command has to answer to any input, worked out from the rules of docs/ and from nothing of the program."""
 
-import json
 import re
-import sys
-from pathlib import Path
 
-sys.dont_write_bytecode = True
-import judge
-import stream
-from accounts import bill_of
-from scene import Refused, scene_of
-from targets import answers_of
-
-sys.path.insert(0, str(Path(__file__).resolve().parent.parent / "pictures"))
 from auction import ends_of, lines_of
+from checks.oracle import judge, stream
+from checks.oracle.accounts import bill_of
+from checks.oracle.scene import Refused, scene_of
+from checks.oracle.targets import answers_of
 
 FILE_LIMIT, ASK_LIMIT = 4_194_304, 8_388_608
 TARGETS = 100_000

@@ -1,8 +1,7 @@
-#!/usr/bin/env python3
 """Uses the built program as nobody should: standard streams that fail, clusters at the limits, hostile schedules, threads that are
 refused, and mutated inputs.
 
-    python3 checks/hostile.py PROGRAM [all [MINUTES]]
+    python3 -m checks.drive.hostile PROGRAM [all [MINUTES]]
 
 Each run has to end with the status and the text that docs/CLUSTER_FILE.md gives. Without `all` a sample is tried; with it all
 lengths, limits and schedules, and mutated inputs for so many minutes, 10 where none are named.
@@ -13,11 +12,7 @@ import tempfile
 from collections import Counter
 from pathlib import Path
 
-sys.dont_write_bytecode = True
-import faults
-import fuzz
-import limits
-import schedules
+from checks.drive import faults, fuzz, limits, schedules
 
 # How many mutated inputs a sample tries.
 MUTATED = 1_500

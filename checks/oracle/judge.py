@@ -1,7 +1,6 @@
-#!/usr/bin/env python3
 """Decides whether a trace is a legal and complete run of its cluster file, whoever wrote it, and names the bad line.
 
-    (wc -c < FILE; cat FILE; cat TRACE) | python3 checks/judge.py
+    (wc -c < FILE; cat FILE; cat TRACE) | python3 -m checks.oracle.judge
 
 Standard input is an envelope: a line with the number of bytes of the cluster file, the file, and the trace. It prints
 `valid moves M`, or `invalid line N` with status 1, or with status 5 the refusal of the envelope or of the file.
@@ -13,13 +12,9 @@ those of scene.py. Nothing here knows the program.
 
 import re
 import sys
-from pathlib import Path
 
-sys.dont_write_bytecode = True
-from scene import Refused, scene_of
-
-sys.path.insert(0, str(Path(__file__).resolve().parent.parent / "pictures"))
 from auction import CONCENTRATORS, TICKING, after_tick, bid_of, ends_of, lines_of, parts_at, part_of, prices_of, state_of
+from checks.oracle.scene import Refused, scene_of
 
 ROOT = "auctioneer"
 # The numbers of a concentrator that may lie above the one that the last price passed to it names.

@@ -1,5 +1,4 @@
-#!/usr/bin/env python3
-"""Compares `market check` of the built program with checks/judge.py on traces, right and wrong.
+"""Compares `market check` of the built program with checks/oracle/judge.py on traces, right and wrong.
 
 For each example and each small file of checks/cases/run there are the trace that `market trace` makes and some that are made
 here, whose moves come in any order that is legal; and of each of them a variant for each line dropped, doubled, exchanged with
@@ -8,19 +7,15 @@ reasoned where that can be told from the change alone, and compared with the jud
 Where there are more variants than MOST, so many of them are tried, evenly; with `all` after the program each of them.
 """
 
-import json
 import random
 import re
 import sys
-from pathlib import Path
 
-sys.dont_write_bytecode = True
-import judge
-import journals
-from built import ended, sampled
+from checks import CASES, TOP
+from checks.drive.built import ended, sampled
+from checks.make import journals
+from checks.oracle import judge
 
-TOP = Path(__file__).resolve().parent.parent
-CASES = TOP / "checks" / "cases"
 SEED = 12
 # Variants that are tried of one trace, and the lines of the longest report of checks/cases/run of which traces are made.
 MOST = 60

@@ -1,4 +1,3 @@
-#!/usr/bin/env python3
 """Whether pictures/auction.py gives the text of each cluster file that runs, and refuses texts with a line changed, taken out
 or added, and whether pictures/draw_answers.py reads each account and each answer. They know nothing of the program, so the texts
 due are worked out a second time. Nothing is drawn."""
@@ -6,11 +5,8 @@ due are worked out a second time. Nothing is drawn."""
 import json
 import sys
 
-sys.dont_write_bytecode = True
-from cases import DONE, TOP, bills_and_answers, examples, stored_cases
-
-sys.path.insert(0, str(TOP / "pictures"))
 from auction import Misfit, fitting_ends
+from checks.make.cases import DONE, bills_and_answers, examples, stored_cases
 from draw_answers import accounts_of, answers_of, curve_of
 
 

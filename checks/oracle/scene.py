@@ -3,10 +3,7 @@
 import json
 import math
 import re
-import sys
-from pathlib import Path
 
-sys.path.insert(0, str(Path(__file__).resolve().parent.parent / "pictures"))
 from auction import CONCENTRATORS, TICKING
 
 NESTING = 127

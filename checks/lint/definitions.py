@@ -1,19 +1,18 @@
-#!/usr/bin/env python3
 """Which definitions the headline stands on: all that a reader has to believe, beside the toolchain.
 
 Begins at the definitions that the clauses `headline` and `refutation` of `market` name, and follows what each of them names,
 as its file imports it, through `specs/` of all crates. Words of the library (`Rattle.std`, `Rattle.serde_json`) are left out.
 
-    python3 checks/definitions.py table    prints the table of docs/PROOF.md
-    python3 checks/definitions.py words    prints the words of the theorem, as the page quotes them
-    python3 checks/definitions.py check    compares both with the page, and ends with 'N passed, M failed'
+    python3 -m checks.lint.definitions table    prints the table of docs/PROOF.md
+    python3 -m checks.lint.definitions words    prints the words of the theorem, as the page quotes them
+    python3 -m checks.lint.definitions check    compares both with the page, and ends with 'N passed, M failed'
 """
 
 import re
 import sys
-from pathlib import Path
 
-TOP = Path(__file__).resolve().parent.parent
+from checks import TOP
+
 CRATES = TOP / "crates"
 PAGE = TOP / "docs" / "PROOF.md"
 
@@ -194,7 +193,7 @@ def main() -> int:
     page = PAGE.read_text()
     wrong = [what for what, text in (("table", table()), ("words", words())) if text not in page]
     for what in wrong:
-        print(f"docs/PROOF.md does not have what `python3 checks/definitions.py {what}` prints")
+        print(f"docs/PROOF.md does not have what `python3 -m checks.lint.definitions {what}` prints")
     print(f"{2 - len(wrong)} passed, {len(wrong)} failed")
     return int(bool(wrong))
 

@@ -1,4 +1,3 @@
-#!/usr/bin/env python3
 """Answers a stream of bid frames by the definitions of frames and answers in docs/SERVE.md, and from nothing of the program.
 
 As a program it stands where `market serve` would: it reads standard input in pieces and answers as frames come, with the same
@@ -8,8 +7,6 @@ exit status.
 import os
 import struct
 import sys
-
-sys.dont_write_bytecode = True
 from dataclasses import dataclass
 
 HELLO, BID, GONE, CLEAR, PRICE, NOT_CHANGED, OLD, FAULT = range(1, 9)

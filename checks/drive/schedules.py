@@ -1,21 +1,18 @@
 """Hostile schedules: few processors, a loaded machine, threads that cannot be started, little room for addresses. Each run has to
-give the text that it gives anywhere, and a trace that checks/judge.py finds legal."""
+give the text that it gives anywhere, and a trace that checks/oracle/judge.py finds legal."""
 
 import itertools
 import os
 import resource
 import shutil
 import subprocess
-import sys
 from concurrent.futures import ThreadPoolExecutor
-from pathlib import Path
 
-sys.dont_write_bytecode = True
-from built import SECONDS, ended
-from limits import DEPTH, chain, document, joins
-from oracle import due_of, envelope, why_wrong
+from checks import TOP
+from checks.drive.built import SECONDS, ended
+from checks.make.limits import DEPTH, chain, document, joins
+from checks.oracle.oracle import due_of, envelope, why_wrong
 
-TOP = Path(__file__).resolve().parent.parent
 DONE, USAGE, NO_MEMORY = 0, 2, 7
 # What a thread takes of the address space: its stack, and a page that guards it.
 THREAD = 270_336

@@ -10,16 +10,12 @@ import resource
 import signal
 import socket
 import subprocess
-import sys
 import threading
-from pathlib import Path
 
-sys.dont_write_bytecode = True
-from built import SECONDS, ended, sampled
-from oracle import due_of, envelope, why_wrong
+from checks import CASES
+from checks.drive.built import SECONDS, ended, sampled
+from checks.oracle.oracle import due_of, envelope, why_wrong
 
-TOP = Path(__file__).resolve().parent.parent
-CASES = TOP / "checks" / "cases"
 DONE, READ_FAULT, WRITE_FAULT = 0, 3, 6
 TARGETS = b"0\n100\n-60\n"
 LEAST_PIPE = 4_096
