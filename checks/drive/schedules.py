@@ -92,7 +92,7 @@ def when_idle():
 def busy(count):
     """Busy loops, which end by themselves where nobody ends them."""
     loop = f"exec timeout {LOAD_SECONDS} sh -c 'while :; do :; done'"
-    return [subprocess.Popen(["nice", "-n", "10", "sh", "-c", loop], start_new_session=True) for _ in range(count)]
+    return [subprocess.Popen(["nice", "-n", "10", "sh", "-c", loop], stdout=subprocess.DEVNULL, start_new_session=True) for _ in range(count)]
 
 
 def end(loops):

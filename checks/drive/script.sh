@@ -1,19 +1,19 @@
 #!/usr/bin/env bash
-# Runs the script `market`, the gate and checks/program.sh in a folder of four crates with an rt and a script/prove.py of its
-# own, which prove nothing, and compares what each writes, what it says and its status. The last line is 'N passed, M
+# Runs the script `market`, the gate and checks/run in a folder of four crates with an rt, a script/prove.py and checks of its
+# own, which prove and try nothing, and compares what each writes, what it says and its status. The last line is 'N passed, M
 # failed'; the status is 1 if any failed.
 # shellcheck disable=SC2016,SC2034 # The commands of the cases are evaluated one by one.
-cd "$(dirname "$0")/.." || exit 1
+cd "$(dirname "$0")/../.." || exit 1
 repository="$PWD"
 folder="$(mktemp -d)" || exit 1
 trap 'rm -rf "$folder"' EXIT
 # The folder has a blank in its name.
 top="$folder/a clone"
-mkdir -p "$top"/crates/{low,high,other,market}/src "$top"/{script,.ci,checks/drive,docs} "$folder"/{bin,tools,git}
+mkdir -p "$top"/crates/{low,high,other,market}/src "$top"/{script,.ci,checks/{drive,lint},docs} "$folder"/{bin,tools,git}
 cp market "$top/market"
 cp script/words.sh script/program.sh script/run.sh "$top/script"
 cp .ci/run "$top/.ci"
-cp checks/program.sh "$top/checks/program.sh.kept"
+cp checks/run "$top/checks/run.kept"
 for crate in low high other market; do
     echo "a source" >"$top/crates/$crate/src/lib.rt"
 done
@@ -49,6 +49,10 @@ case "$*" in
         [ ! -f meanwhile ] || echo "an edit" >>crates/low/src/lib.rt
         exit "$(cat ci-status 2>/dev/null || echo 0)"
         ;;
+    "run -- "*)
+        [ -f ../../no-build ] || { mkdir -p out && cp ../../program out/trials; }
+        echo "error: trials ${*:3}"
+        ;;
     "try --seconds 60 --"*)
         IFS= read -r -d "" -t 0.3 given
         case "$given" in
@@ -80,10 +84,31 @@ if os.path.exists("meanwhile"):
     if "restore" in open("meanwhile").read():
         open(source, "w").write(kept)
 END_OF_PROVE
+# The checks tell their arguments and a last line; that of the program tells its arguments alone.
+all="program traces serve trials memory hostile script install schema pictures names definitions edits"
+folder_of() {
+    case "$1" in
+        cases | traces | serve | trials | memory | hostile) echo "$top/checks/drive" ;;
+        *) echo "$top/checks/lint" ;;
+    esac
+}
+stub() {
+    local name
+    for name in "$@"; do
+        echo 'import sys; print(*sys.argv[1:]); print("1 passed, 0 failed")' >"$(folder_of "$name")/$name.py"
+    done
+}
+stub traces serve trials memory hostile schema pictures names definitions edits
+for name in script install; do
+    echo 'echo "1 passed, 0 failed"' >"$top/checks/drive/$name.sh"
+done
+mkdir "$top/crates/trials"
+echo 7 >"$top/crates/trials/args"
+echo >"$top/crates/trials/stdin"
 echo 'import sys; print(*sys.argv[1:])' >"$top/checks/drive/cases.py"
 
 # All that the script needs beside rt. git lies elsewhere.
-for tool in bash env cat cp cut date dirname find grep head mkdir mktemp mv nproc readlink rm sed sha256sum sleep sort tail \
+for tool in bash env cat cp cut date dirname find grep head mkdir mktemp mv nproc readlink rm sed sha256sum sleep sort tail tee \
     wc xargs; do
     ln -s "$(command -v "$tool")" "$folder/tools/$tool" || exit 1
 done
@@ -328,8 +353,9 @@ is "a stamp for another sum" 1 "" "" '(. script/program.sh; write_stamp "$(sha25
 is "a stamp for no sum" 1 "" "" '(. script/program.sh; write_stamp "")'
 is "a program without a stamp" 1 "" "market: $none" 'rm crates/market/out/proved; ./market --proved run'
 
-# The gate and the checks of the program.
-echo './market run <../input' >checks/a.sh
+# The gate, with a stand-in for checks/run.
+printf '%s\n' '#!/usr/bin/env bash' '[ "$*" = all ] && ./market run <../input' >checks/run
+chmod +x checks/run
 is "the gate" 0 "proved run: input" "" 'forget; .ci/run'
 is "the gate from elsewhere" 0 "proved run: input" "" 'forget; (cd / && "$top/.ci/run")'
 is "a gate that fails" 3 "tried run: input" "$first $none" \
@@ -342,21 +368,72 @@ $first $none" 'forget; touch meanwhile; .ci/run; rm meanwhile; echo "a source" >
 is "the gate by another kit" 0 "proved run: input" \
     "market: the kit at hand is kit-1, and kit.txt names kit-2: what follows holds by the kit at hand" \
     'sed -i s/kit-1/kit-2/ kit.txt; .ci/run; sed -i s/kit-2/kit-1/ kit.txt'
-is "a check that fails" 4 "" "" 'echo exit 4 >checks/a.sh; .ci/run'
-rm checks/a.sh
-mv checks/program.sh.kept checks/program.sh
-is "the program's checks" 0 "crates/market/out/market" "" 'bash checks/program.sh | sed "s|$top/||g"'
+is "a check that fails" 4 "" "" 'echo exit 4 >checks/run; .ci/run'
+mv checks/run.kept checks/run
+
+# The runner of the checks.
+is "the program's checks" 0 "crates/market/out/market" "" 'checks/run program | sed "s|$top/||g"'
 is "of both builds" 0 "crates/market/out/market crates/market/out/market.by-rattle" "" \
-    'touch crates/market/out/market.by-rattle; bash checks/program.sh | sed "s|$top/||g"'
+    'touch crates/market/out/market.by-rattle; checks/run program | sed "s|$top/||g"'
 is "of an older build" 0 "crates/market/out/market" "" \
-    'touch -d "1 day ago" crates/market/out/market.by-rattle; bash checks/program.sh | sed "s|$top/||g"'
+    'touch -d "1 day ago" crates/market/out/market.by-rattle; checks/run program | sed "s|$top/||g"'
 is "the program's checks prove first" 0 "no program is proved from the sources of today: ./market prove makes it first
-crates/market/out/market" "$made" 'forget; bash checks/program.sh | sed "s|$top/||g"'
+crates/market/out/market" "$made" 'forget; checks/run program | sed "s|$top/||g"'
 is "the program's checks without a proof" 1 "no program is proved from the sources of today: ./market prove makes it first
 0 passed, 1 failed" "proves
 low is not proved
 market: the program is not proved: what is wrong is above" \
-    'echo bad >crates/low/src/lib.rt; bash checks/program.sh; s=$?; echo "a source" >crates/low/src/lib.rt; (exit $s)'
+    'echo bad >crates/low/src/lib.rt; checks/run program; s=$?; echo "a source" >crates/low/src/lib.rt; (exit $s)'
+
+is "another check without a proof" 1 "no program is proved from the sources of today: checks/run program proves it first
+0 passed, 1 failed" "" 'forget; checks/run traces'
+prove
+is "the list" 0 "$all" "" 'echo $(checks/run | cut -d " " -f 1)'
+is "the list says how long and why" 0 13 "" 'checks/run | grep -cE "^[a-z]+ +([0-9]+|some) s +[A-Z].*[?]$"'
+is "no such check" 2 "" "no check has the name rum: checks/run lists them" 'checks/run rum'
+is "all of something" 2 "" "checks/run all takes no arguments; checks/run NAME may" 'checks/run all traces'
+is "a check with arguments" 0 "crates/market/out/market all 10
+1 passed, 0 failed" "" 'checks/run hostile all 10 | sed "s|$top/||g"'
+is "a check from elsewhere" 0 "check
+1 passed, 0 failed" "" '(cd / && "$top/checks/run" definitions)'
+is "an argument in place of its own" 0 "--log file
+1 passed, 0 failed" "" 'checks/run edits --log file'
+is "no python3" 1 "there is no python3, which every check needs: kit.txt names the packages
+0 passed, 1 failed" "" 'mv "$folder/tools/python3" "$folder"; checks/run names; s=$?; mv "$folder/python3" "$folder/tools"; (exit $s)'
+is "trials, built first" 0 "crates/trials/out/trials
+1 passed, 0 failed" "" 'checks/run trials'
+is "trials, built" 0 "crates/trials/out/trials
+1 passed, 0 failed" "" 'touch no-build; checks/run trials'
+is "trials, not built" 1 "error: trials 7
+0 passed, 1 failed" "" 'touch crates/low/src/lib.rt; checks/run trials'
+rm no-build
+stub cases
+# Prints what a check writes.
+due_of() {
+    case "$1" in
+        program | traces | serve | memory | hostile) echo crates/market/out/market ;;
+        trials) echo crates/trials/out/trials ;;
+        schema | pictures | names) echo ;;
+        definitions) echo check ;;
+        edits) echo --self-test ;;
+    esac
+    echo "1 passed, 0 failed"
+}
+is "all checks" 0 "$(for name in $all; do echo "checks/run $name"; due_of "$name"; done)" "" \
+    'checks/run all >wrote; s=$?; sed "s|$top/||g" wrote; (exit $s)'
+is "all checks, one fails" 3 "these checks failed: serve (status 3)" "" \
+    'echo "print(\"0 passed, 1 failed\"); raise SystemExit(3)" >checks/drive/serve.py; checks/run all >wrote; s=$?; tail -n 1 wrote; (exit $s)'
+is "and the others are run" 0 "$(for name in $all; do echo "checks/run $name"; done)" "" 'grep "^checks/run" wrote'
+is "all checks, one is killed" 137 "these checks failed: serve (status 3) memory (status 137)" "" \
+    'echo "import os; os.kill(os.getpid(), 9)" >checks/drive/memory.py; checks/run all >wrote 2>/dev/null; s=$?; tail -n 1 wrote; (exit $s)'
+stub serve memory
+is "all checks, one stops without its last line" 1 "these checks failed: names (status 1)" "" \
+    'echo "print(\"5 passed\")" >checks/lint/names.py; checks/run all >wrote; s=$?; tail -n 1 wrote; (exit $s)'
+is "all checks, one counts a failure and hides it" 1 "these checks failed: names (status 1)" "" \
+    'echo "print(\"5 passed, 1 failed\")" >checks/lint/names.py; checks/run all >wrote; s=$?; tail -n 1 wrote; (exit $s)'
+is "all checks, one is gone" 1 "these checks failed: names (status 1) edits (status 1)" "" \
+    'rm checks/lint/edits.py; checks/run all >wrote 2>/dev/null; s=$?; tail -n 1 wrote; (exit $s)'
+stub names edits
 
 # Help and versions, with nothing but the script.
 forget

@@ -3,7 +3,7 @@
 # them, and is wholly removed; then the same of a release and of the Debian package. A trial whose tool is missing is skipped, and
 # the check says so. The last line is 'N passed, M failed'; the status is 1 where any failed.
 # shellcheck disable=SC2317 # `passes` calls the functions
-cd "$(dirname "$0")/.." || exit 1
+cd "$(dirname "$0")/../.." || exit 1
 top="$PWD"
 passed=0
 failed=0
