@@ -3,9 +3,9 @@
 Begins at the definitions that the clauses `headline` and `refutation` of `market` name, and follows what each of them names,
 as its file imports it, through `specs/` of all crates. Words of the library (`Rattle.std`, `Rattle.serde_json`) are left out.
 
-    python3 -m checks.lint.definitions table    prints the table of docs/PROOF.md
-    python3 -m checks.lint.definitions words    prints the words of the theorem, as the page quotes them
-    python3 -m checks.lint.definitions check    compares both with the page, and ends with 'N passed, M failed'
+    checks/run definitions table    prints the table of docs/PROOF.md
+    checks/run definitions words    prints the words of the theorem, as the page quotes them
+    checks/run definitions check    compares both with the page, and ends with 'N passed, M failed'
 """
 
 import re
@@ -193,7 +193,7 @@ def main() -> int:
     page = PAGE.read_text()
     wrong = [what for what, text in (("table", table()), ("words", words())) if text not in page]
     for what in wrong:
-        print(f"docs/PROOF.md does not have what `python3 -m checks.lint.definitions {what}` prints")
+        print(f"docs/PROOF.md does not have what `checks/run definitions {what}` prints")
     print(f"{2 - len(wrong)} passed, {len(wrong)} failed")
     return int(bool(wrong))
 
