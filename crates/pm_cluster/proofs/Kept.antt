@@ -9,9 +9,7 @@ use Rattle.pm_market.specs.declared.moves.Move.{Move}
 use Rattle.pm_market.proofs.Tree.{leaf_node}
 use Rattle.pm_plan.specs.Kept.{IsPlan}
 use Rattle.pm_plan.specs.Plans.{PlanData}
-use Rattle.pm_plan.specs.Plans as plans
 use Rattle.pm_plan.specs.Market.{plan_lists}
-use Rattle.pm_plan.proofs.MarketLists.{is_leaf-is}
 use Rattle.pm_stands.specs.Core.{Core}
 use Rattle.pm_stands.specs.Stands.{StandsFor, Stands, MakesMove}
 use Rattle.pm_plan.proofs.MarketLists.{lawful}
@@ -95,7 +93,3 @@ leaf_in inside v d e leaf = subst (λ (w : ClusterValue). IsLeaf (plan_lists w.p
 -- a device has its place in each list
 pub leaf_has_place : (plan : PlanData) → IsPlan plan → (d : ℕ) → IsLeaf (plan_lists plan) d → d < nodes (plan_lists plan) + 1
 leaf_has_place plan is_plan d leaf = omega (arith, leaf_node (plan_lists plan) (lawful plan is_plan) d leaf)
-
--- a device of the market is one of the plan
-pub leaf_of_plan : (plan : PlanData) (d : ℕ) → IsLeaf (plan_lists plan) d → plans.is_leaf plan d ≡ true
-leaf_of_plan plan d leaf = sym (is_leaf-is plan d) ∙ leaf

@@ -10,7 +10,7 @@ use Rattle.std.proofs.lemmas.List.Sums.{fold-append}
 use Rattle.pm_base.specs.Limits.{demand_limit, IsWithin}
 use Rattle.pm_bid.specs.Bids.{demand_at, zeros}
 use Rattle.pm_bid.proofs.Sums.{zeros-at}
-use Rattle.pm_device.specs.Kinds.{is_valid, state_fits, minutes_limit}
+use Rattle.pm_device.specs.Kinds.{state_fits, minutes_limit}
 use Rattle.pm_device.specs.declared.kind.Kind.{Kind}
 use Rattle.pm_device.proofs.Between.{Between, is_between-tells}
 use Rattle.pm_strategy.specs.Strategies.{bid_of}
@@ -39,7 +39,7 @@ use Rattle.pm_stands.specs.Core.{Core}
 use Rattle.pm_stands.specs.Stands.{StandsFor, Stands}
 use Rattle.pm_plan.proofs.MarketLists.{lawful}
 use Rattle.pm_cluster.proofs.Parents as parents
-use Rattle.pm_cluster.proofs.Kept.{leaf_of_plan}
+use Rattle.pm_plan.proofs.MarketLists.{leaf_of_plan}
 use Rattle.pm_base.specs.Cuts.{Cut}
 use Rattle.pm_cluster.specs.Next.{count_of, HasNoNext, IsDueChange}
 
@@ -157,12 +157,6 @@ what_fits plan is_plan d n kind what kind_is inside e =
     let has = kind_of-tells (node plan d) kind kind_is in
     subst (λ (k : Kind). IsTrue (change_fits k what)) has.kind_is
     (subst (λ (w : Planned). IsTrue (change_fits has.planned.kind w)) (sym e) (change-fits plan d n has.planned is_plan has.is inside))
-
--- the parameters of a planned device's kind lie within their limits
-pub kind_valid : (plan : PlanData) → IsPlan plan → (d : ℕ) (kind : Kind) → kind_of (node plan d) ≡ Some kind → IsTrue (is_valid kind)
-kind_valid plan is_plan d kind kind_is =
-    let has = kind_of-tells (node plan d) kind kind_is in
-    subst (λ (k : Kind). IsTrue (is_valid k)) has.kind_is (is_plan.within.devices d has.planned has.is).kind
 
 -- the state of a device after its first n changes, for each n up to the last, is one its kind may have
 pub state_valid : (plan : PlanData) → IsPlan plan → (d n : ℕ) (kind : Kind) (z : ℤ) → kind_of (node plan d) ≡ Some kind →

@@ -3,12 +3,12 @@ use Rattle.std.proofs.Common.{◌≡◌, sym, ℕ, ◌<◌, false, arith}
 use Rattle.std.specs.Prelude.{length, ◌≤◌}
 use Rattle.pm_market.specs.Lists.{nodes, parent, is_leaf, IsLeaf}
 use Rattle.pm_market.proofs.Tree.{leaf_node, leaf_past}
-use Rattle.pm_tree.proofs.Named.{length-parents_of}
 use Rattle.pm_plan.specs.Kept.{IsPlan}
 use Rattle.pm_plan.specs.Plans.{PlanData}
 use Rattle.pm_plan.specs.Plans as plans
 use Rattle.pm_plan.specs.Market.{plan_lists}
 use Rattle.pm_plan.proofs.MarketLists.{lawful, parent-is, is_leaf-is}
+pub use Rattle.pm_plan.proofs.MarketLists.{nodes_are}
 
 -- the parent of a node is the same by the plan and by the plan's lists
 pub parent_is : (plan : PlanData) (x : ℕ) → plans.parent plan x ≡ parent (plan_lists plan) x
@@ -17,10 +17,6 @@ parent_is plan x = sym (parent-is plan x)
 -- whether a node is a leaf is the same by the plan and by the plan's lists
 pub leaf_is : (plan : PlanData) (x : ℕ) → plans.is_leaf plan x ≡ is_leaf (plan_lists plan) x
 leaf_is plan x = sym (is_leaf-is plan x)
-
--- a plan has as many entries as its lists have nodes
-pub nodes_are : (plan : PlanData) → length plan.entries ≡ nodes (plan_lists plan)
-nodes_are plan = sym (length-parents_of plan.entries)
 
 -- a device is one of the nodes
 pub leaf_inside : (plan : PlanData) → IsPlan plan → (d : ℕ) → IsLeaf (plan_lists plan) d → (1 ≤ d) × (d ≤ nodes (plan_lists plan))

@@ -1,16 +1,17 @@
 ghost use Rattle.std.specs.Prelude.{◌≡◌, IfOk};
 ghost use Rattle.pm_plan.specs.Plans.{phases};
 ghost use Rattle.pm_board.specs.Boards.{kept_ends, ends_to};
-ghost use Rattle.pm_turns.specs.Alone.{AreAgents};
+ghost use Rattle.pm_nodes.specs.DeviceAgents.{AreAgents};
 ghost use Rattle.pm_turns.specs.Settled.{IsSettled};
 
 use pm_agent::DeviceAgent;
 use pm_board::Board;
 use pm_device::Next;
+use pm_nodes::{Gate, OpenGate, make_agents};
 use pm_phase::{NodeWork, run_phase};
 use pm_plan::{PhaseEnd, Plan};
 use pm_tree::NodeId;
-use pm_turns::{Gate, OpenGate, change, finish, first_next, make_agents, make_move, turn_of};
+use pm_turns::{change, finish, first_next, make_move, turn_of};
 use std::alloc::{AllocError, Global};
 use std::sync::Wait;
 use std::thread::Threads;

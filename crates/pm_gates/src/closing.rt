@@ -1,5 +1,5 @@
 use pm_market::{Line, Move};
-use pm_turns::Gate;
+use pm_nodes::Gate;
 use std::sync::atomic::{AtomicU64, Ordering};
 
 /// Counts the closings that it is told of. It serves one thread, whose turns it is told in their order.

@@ -1,5 +1,5 @@
 use pm_market::Line;
-use pm_turns::Gate;
+use pm_nodes::Gate;
 use std::sync::atomic::{AtomicU64, Ordering};
 use std::thread;
 

@@ -1,5 +1,5 @@
 use pm_market::Line;
-use pm_turns::Gate;
+use pm_nodes::Gate;
 use std::thread;
 
 /// Some nodes wait before each of their turns.

@@ -2,7 +2,7 @@ use crate::drawing::DrawingGate;
 use crate::holding::HoldingGate;
 use crate::meeting::MeetingGate;
 use pm_market::Line;
-use pm_turns::Gate;
+use pm_nodes::Gate;
 
 /// A gate of any schedule.
 #[derive(Drop)]

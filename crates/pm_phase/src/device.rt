@@ -2,9 +2,9 @@ use pm_agent::DeviceAgent;
 use pm_bid::{ArrayBid, Steps};
 use pm_cells::{PriceUpdate, UpMessage};
 use pm_device::Next;
+use pm_nodes::can_work;
 use pm_plan::Plan;
 use pm_session::Port;
-use pm_turns::can_work;
 use std::alloc::{AllocError, Global};
 use std::marker::Brand;
 

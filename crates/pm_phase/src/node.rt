@@ -8,8 +8,8 @@ use crate::ends::{
 use crate::parent::ParentWork;
 use pm_cells::{FreeLink, PriceUpdate, UpMessage};
 use pm_device::Next;
+use pm_nodes::{Gate, agent_of};
 use pm_plan::Plan;
-use pm_turns::{Gate, agent_of};
 use std::alloc::{AllocError, Global};
 use std::sync::atomic::{AtomicU64, Ordering};
 use std::thread;

@@ -1,6 +1,6 @@
 -- The state of each device fits its kind, and so its bid lies within the limits.
 use Rattle.std.proofs.Common.{◌≡◌, ◌∙◌, sym, ap, ℕ, zero, suc, ◌-◌, ◌<◌, ◌≤◌, ℤ, pos, ◌≤ℤ◌, ◌+ℤ◌, ◌-ℤ◌}
-use Rattle.std.proofs.Common.{◌*ℤ◌, neg_ℤ, List, length, get_or, refl, arith, subst, add-one, IsTrue, inl, inr}
+use Rattle.std.proofs.Common.{◌*ℤ◌, neg_ℤ, List, length, get_or, refl, arith, subst, add-one, IsTrue, Some, inl, inr}
 use Rattle.std.proofs.Math.ListN.{get_or-eq_default}
 use Rattle.std.proofs.lemmas.Bool.{cases_lt}
 use Rattle.std.proofs.lemmas.Int.{ints, clamps}
@@ -20,11 +20,12 @@ use Rattle.pm_plan.specs.declared.planned.Planned.{Planned}
 use Rattle.pm_plan.specs.declared.planned.Planned.TheVariants.{Join, Leave, Set, Tick}
 use Rattle.pm_plan.specs.Devices.{DeviceData}
 use Rattle.pm_plan.specs.declared.node.Node.TheVariants.{Concentrator, Limited, Device}
-use Rattle.pm_plan.specs.Plans.{PlanData, NodeData, node, changes_of, change_count, is_member, end_cut}
+use Rattle.pm_plan.specs.Plans.{PlanData, NodeData, node, kind_of, changes_of, change_count, is_member, end_cut}
 use Rattle.pm_plan.specs.Auction.{node_bid, local, power, demand_in_cut}
 use Rattle.pm_base.specs.Cuts.{Cut}
 use Rattle.pm_plan.specs.States.{changed_state, state}
 use Rattle.pm_plan.specs.Kept.{IsPlan, no_change, change_fits, change_at}
+use Rattle.pm_plan.proofs.DeviceNodes.{kind_of-tells}
 use Rattle.pm_plan.proofs.StateLaws.{state-start, state-next}
 
 nearest-fits : (low high x : ℤ) → low ≤ℤ high → IsTrue (is_between low high (nearest_between low high x))
@@ -55,6 +56,12 @@ changed-fits kind state power Join valid fits change = fits
 changed-fits kind state power Leave valid fits change = fits
 changed-fits kind state power (Set value) valid fits change = change
 changed-fits kind state power (Tick minutes) valid fits change = tick-fits kind state power minutes valid fits
+
+-- the parameters of a planned device's kind lie within their limits
+pub kind_valid : (plan : PlanData) → IsPlan plan → (d : ℕ) (kind : Kind) → kind_of (node plan d) ≡ Some kind → IsTrue (is_valid kind)
+kind_valid plan is_plan d kind kind_is =
+    let has = kind_of-tells (node plan d) kind kind_is in
+    subst (λ (k : Kind). IsTrue (is_valid k)) has.kind_is (is_plan.within.devices d has.planned has.is).kind
 
 -- each change of a device fits its kind
 pub change-fits : (plan : PlanData) (d n : ℕ) (planned : DeviceData) → IsPlan plan → node plan d ≡ Device planned → n < change_count plan d →

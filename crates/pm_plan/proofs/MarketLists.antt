@@ -37,6 +37,14 @@ pub is_leaf-is : (plan : PlanData) (x : ℕ) → is_leaf (plan_lists plan) x ≡
 unfolding is_leaf
 is_leaf-is plan x = refl
 
+-- a plan has as many entries as its lists have nodes
+pub nodes_are : (plan : PlanData) → length plan.entries ≡ nodes (plan_lists plan)
+nodes_are plan = sym (length-parents_of plan.entries)
+
+-- a device of the market is one of the plan
+pub leaf_of_plan : (plan : PlanData) (d : ℕ) → IsLeaf (plan_lists plan) d → plans.is_leaf plan d ≡ true
+leaf_of_plan plan d leaf = sym (is_leaf-is plan d) ∙ leaf
+
 -- in the market's lists of a plan a planned node has as many changes as in the plan
 pub changes-is : (plan : PlanData) (d : ℕ) → 1 ≤ d → d ≤ length plan.nodes → changes (plan_lists plan) d ≡ change_count plan d
 unfolding changes

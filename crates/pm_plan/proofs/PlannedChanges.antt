@@ -1,11 +1,10 @@
 -- The changes of a device by their numbers, and how many there are.
 use Rattle.std.proofs.Common.{◌≡◌, ◌∙◌, ap, ℕ, zero, suc, ◌+◌, ◌<◌, ◌≤◌, List, [], ◌∷◌}
 use Rattle.std.proofs.Common.{length, get_or, arith, refl}
-use Rattle.std.specs.Prelude.{Option, Some}
+use Rattle.std.specs.Prelude.{Some}
 use Rattle.std.proofs.lemmas.List.Sums.{sum_by-cons}
 use Rattle.pm_base.specs.Limits.{most_changes}
 use Rattle.pm_plan.specs.declared.planned.Change.{Change}
-use Rattle.pm_plan.specs.declared.planned.Planned.{Planned}
 use Rattle.pm_plan.specs.Plans.{PlanData, NodeData, node, node_at, changes_of, change_count, all_changes, planned, planned_at}
 use Rattle.pm_plan.specs.Kept.{IsPlan, no_change, change_at}
 

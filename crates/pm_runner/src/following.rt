@@ -4,9 +4,10 @@ use crate::pending::Pending;
 use pm_board::Board;
 use pm_device::Next;
 use pm_market::Move;
+use pm_nodes::is_device;
 use pm_plan::Plan;
 use pm_tree::NodeId;
-use pm_turns::{is_device, next_of};
+use pm_turns::next_of;
 
 impl Pending {
     /// A phase was opened: which devices change in it, and who owes whom.

@@ -20,5 +20,6 @@ mod sleeping;
 mod threads;
 mod worker;
 
-pub use pm_turns::{Gate, OpenGate, complete};
+pub use pm_nodes::{Gate, OpenGate};
+pub use pm_turns::complete;
 pub use threads::{run_threads, settle};

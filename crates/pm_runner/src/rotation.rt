@@ -1,6 +1,6 @@
 use crate::worker::{Shared, Turn, Worker, end_turn, give_up, let_go, take_turn};
 use pm_market::Line;
-use pm_turns::Gate;
+use pm_nodes::Gate;
 use std::sync::Wait;
 
 /// Makes the turns of the nodes whose threads could not be started, in rotation, until the run is over. Where a phase can be

@@ -1,9 +1,9 @@
 //! Where nodes sleep, and which bells are to be rung.
 
 use crate::pending::Pending;
+use pm_nodes::is_device;
 use pm_plan::Plan;
 use pm_tree::NodeId;
-use pm_turns::is_device;
 use std::mem;
 
 impl Pending {
@@ -72,7 +72,7 @@ impl Pending {
 }
 
 /// Whether a device changes in the phase after the open one, where so many are closed.
-#[tactic(auto, using(pm_turns::proofs::Devices::leaf_of_plan))]
+#[tactic(auto, using(pm_plan::proofs::MarketLists::leaf_of_plan))]
 fn changes_after(plan: &Plan, closed: usize, node: u32) -> bool {
     if !is_device(plan, node) {
         return false;

@@ -5,7 +5,7 @@ ghost use Rattle.pm_board.specs.Boards.{board_state};
 use crate::desk::{Desk, Job, Task};
 use pm_agent::DeviceAgent;
 use pm_market::Line;
-use pm_turns::{Gate, can_work};
+use pm_nodes::{Gate, can_work};
 use std::sync::{Condvar, Mutex, MutexGuard, Wait};
 use std::thread;
 

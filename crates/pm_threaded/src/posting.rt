@@ -4,9 +4,10 @@ use crate::runs::REJOINS;
 use pm_agent::DeviceAgent;
 use pm_board::Board;
 use pm_device::{Kind, Next};
+use pm_nodes::{agent_of, can_work};
 use pm_plan::Plan;
 use pm_scene::read_scene;
-use pm_turns::{Posted, agent_of, can_work, next_of, post_made};
+use pm_turns::{Posted, next_of, post_made};
 use std::alloc::Global;
 use std::test::Fail;
 

@@ -25,7 +25,7 @@ use Rattle.pm_cluster.specs.declared.fault.ChangeFault.{ChangeFault}
 use Rattle.pm_cluster.specs.declared.fault.ChangeFault.TheVariants as change_faults
 use Rattle.pm_board.specs.Boards.{BoardValue, board_state, IsJournal, kept_ends, ends_to}
 use Rattle.pm_turns.specs.Settled.{IsSettled}
-use Rattle.pm_turns.proofs.Devices.{nodes_are}
+use Rattle.pm_plan.proofs.MarketLists.{nodes_are}
 
 -- the state after the journal of a board
 pub sound_board : (b : BoardValue) → IsPlan b.plan → IsJournal b.plan b.lines → Sound (plan_lists b.plan) (board_state b)

@@ -2,9 +2,9 @@ ghost use Rattle.std.specs.Prelude.{◌≡◌, IfOk};
 ghost use Rattle.pm_turns.specs.Settled.{IsSettled};
 ghost use Rattle.pm_turns.specs.Turns.{Continues};
 
-use crate::gate::Gate;
 use crate::one_thread::{drain, finish};
 use pm_board::Board;
+use pm_nodes::Gate;
 use pm_plan::Plan;
 use std::alloc::{AllocError, Global};
 

@@ -11,16 +11,14 @@ ghost use Rattle.pm_cluster.specs.Next.{HasNoNext, IsNext};
 ghost use Rattle.pm_board.specs.Boards.{board_state, AddsLine, ClosesPhase};
 ghost use Rattle.pm_turns.specs.Settled.{IsSettled};
 ghost use Rattle.pm_turns.specs.Turns.{Grows, Continues, TakesTurn};
-ghost use Rattle.pm_turns.specs.Alone.{AreAgents, IsAgentOf};
+ghost use Rattle.pm_nodes.specs.DeviceAgents.{AreAgents, IsAgentOf};
 
-use crate::agents::make_agents;
-use crate::gate::Gate;
 use crate::lines::newest_line;
-use crate::plans::is_device;
 use pm_agent::DeviceAgent;
 use pm_board::Board;
 use pm_device::Next;
 use pm_market::Line;
+use pm_nodes::{Gate, is_device, make_agents};
 use pm_plan::Plan;
 use pm_tree::NodeId;
 use std::alloc::{AllocError, Global};
@@ -95,7 +93,7 @@ pub fn make_move<G: Gate>(board: &mut Board, agents: &mut [Option<DeviceAgent>],
 }
 
 /// A turn of each node, until one makes a move; whether one did.
-#[tactic(auto, using(crate::proofs::Devices::nodes_are))]
+#[tactic(auto, using(pm_plan::proofs::MarketLists::nodes_are))]
 fn take_turn<G: Gate>(board: &mut Board, gate: &G) -> bool
     ensures plan { board.new.plan ≡ board.old.plan }
     ensures made { result ≡ true → Grows board.old board.new }

@@ -9,7 +9,8 @@ use Rattle.pm_plan.proofs.MarketLists.{lawful}
 use Rattle.pm_offer.specs.Offers.{device_demand}
 use Rattle.pm_offer.proofs.Steps.{demand_steps}
 use Rattle.pm_cluster.proofs.Making.{read_steps, offered_demand}
-use Rattle.pm_cluster.proofs.NextChanges.{demand_of_member, kind_valid, state_valid}
+use Rattle.pm_plan.proofs.Fits.{kind_valid}
+use Rattle.pm_cluster.proofs.NextChanges.{demand_of_member, state_valid}
 use Rattle.std.proofs.lemmas.List.{length-replicate}
 use Rattle.pm_cluster.proofs.changes.offer_demand.Goals as goal
 

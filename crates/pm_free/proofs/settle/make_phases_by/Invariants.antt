@@ -1,5 +1,5 @@
 use Rattle.std.proofs.Common.{◌≡◌}
-use Rattle.pm_turns.specs.Alone.{AreAgents}
+use Rattle.pm_nodes.specs.DeviceAgents.{AreAgents}
 use Rattle.pm_free.proofs.settle.make_phases_by.Given as goal
 
 abbrev pub invariant-loop : goal.invariant-loop

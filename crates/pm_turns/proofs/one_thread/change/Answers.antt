@@ -1,4 +1,4 @@
-use Rattle.pm_turns.proofs.Devices.{agent_here}
+use Rattle.pm_nodes.proofs.DeviceAgents.{agent_here}
 use Rattle.pm_turns.proofs.one_thread.change.Goals as goal
 
 pub make_change-requires-clause-its : goal.make_change-requires-clause-its

@@ -8,7 +8,7 @@ use Rattle.pm_market.proofs.Tree.{leaf_node}
 use Rattle.pm_plan.specs.Kept.{IsPlan}
 use Rattle.pm_plan.specs.Market.{plan_lists}
 use Rattle.pm_plan.proofs.MarketLists.{lawful}
-use Rattle.pm_turns.proofs.Devices.{nodes_are}
+use Rattle.pm_plan.proofs.MarketLists.{nodes_are}
 use Rattle.pm_turns.proofs.one_thread.first_next.Goals as goal
 
 pub loop-number-preserved : goal.loop-number-preserved

@@ -6,7 +6,8 @@ use Rattle.pm_market.specs.Lists.{IsLeaf}
 use Rattle.pm_plan.specs.Kept.{IsPlan}
 use Rattle.pm_plan.specs.Market.{plan_lists}
 use Rattle.pm_plan.specs.Plans.{node, kind_of}
-use Rattle.pm_turns.proofs.Devices.{next_fits, arrays_fit}
+use Rattle.pm_nodes.proofs.DeviceAgents.{arrays_fit}
+use Rattle.pm_turns.proofs.Devices.{next_fits}
 use Rattle.pm_turns.proofs.Finishing.{not_refused}
 use Rattle.pm_turns.proofs.one_thread.make_change.Goals as goal
 

@@ -6,7 +6,7 @@ use Rattle.pm_plan.specs.Kept.{IsPlan}
 use Rattle.pm_plan.specs.Market.{plan_lists}
 use Rattle.pm_plan.proofs.MarketLists.{lawful}
 use Rattle.pm_stands.specs.Actors.{NoMoveOf}
-use Rattle.pm_turns.proofs.Devices.{nodes_are}
+use Rattle.pm_plan.proofs.MarketLists.{nodes_are}
 use Rattle.pm_turns.proofs.Finishing.{idle}
 use Rattle.pm_turns.proofs.one_thread.take_turn.Goals as goal
 

@@ -9,7 +9,7 @@ use Rattle.pm_plan.specs.Market.{plan_lists}
 use Rattle.pm_cluster.specs.Next.{count_of, IsNext}
 use Rattle.pm_cluster.specs.Acts.{IsNextOrNone}
 use Rattle.pm_cluster.specs.Clusters.{ClusterValue}
-use Rattle.pm_cluster.proofs.Kept.{leaf_of_plan}
+use Rattle.pm_plan.proofs.MarketLists.{leaf_of_plan}
 use Rattle.pm_cluster.proofs.Making.{made_demand}
 use Rattle.pm_cluster.proofs.SameNext.{same_found, same_kind, not_differ, do_differ}
 use Rattle.pm_cluster.proofs.cluster.Cluster.change.Goals as goal

@@ -4,7 +4,7 @@ use Rattle.pm_cluster.specs.ClusterFields.{core_of}
 use Rattle.pm_cluster.specs.Next.{HasNoNext, count_of}
 use Rattle.pm_plan.specs.Market.{plan_lists}
 use Rattle.pm_cluster.specs.Clusters.{ClusterValue}
-use Rattle.pm_cluster.proofs.Kept.{leaf_of_plan}
+use Rattle.pm_plan.proofs.MarketLists.{leaf_of_plan}
 use Rattle.pm_cluster.proofs.ActForms.{no_leaf, none_legal}
 use Rattle.pm_cluster.proofs.MadeBy.{made_none}
 use Rattle.pm_market.specs.declared.moves.Act.TheVariants as act

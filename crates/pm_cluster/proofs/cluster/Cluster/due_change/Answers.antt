@@ -7,7 +7,8 @@ use Rattle.pm_plan.proofs.PlannedChanges.{planned-is}
 use Rattle.pm_cluster.specs.Clusters.{ClusterValue}
 use Rattle.pm_cluster.specs.ClusterFields.{core_of}
 use Rattle.pm_cluster.specs.Next.{HasNoNext, IsDueChange, count_of}
-use Rattle.pm_cluster.proofs.Kept.{leaf_in, leaf_of_plan}
+use Rattle.pm_plan.proofs.MarketLists.{leaf_of_plan}
+use Rattle.pm_cluster.proofs.Kept.{leaf_in}
 use Rattle.pm_cluster.proofs.NextChanges.{keeps_device, no_next}
 use Rattle.pm_cluster.proofs.DeviceFields.{placed, count_read, due_read}
 use Rattle.pm_cluster.proofs.cluster.Cluster.due_change.Goals as goal

@@ -15,7 +15,8 @@ use Rattle.pm_cluster.specs.Clusters.{ClusterValue}
 use Rattle.pm_cluster.specs.ClusterFields.{core_of}
 use Rattle.pm_cluster.specs.Next.{IsDueChange, count_of}
 use Rattle.pm_cluster.proofs.Kept.{leaf_in}
-use Rattle.pm_cluster.proofs.NextChanges.{keeps_device, kind_valid, state_valid, power_valid, minutes_valid, due_inside, due_is}
+use Rattle.pm_plan.proofs.Fits.{kind_valid}
+use Rattle.pm_cluster.proofs.NextChanges.{keeps_device, state_valid, power_valid, minutes_valid, due_inside, due_is}
 use Rattle.pm_cluster.proofs.DeviceFields.{state_read, state_made, due_in}
 use Rattle.pm_cluster.proofs.cluster.Cluster.state_after_tick.Goals as goal
 use Rattle.pm_cluster.proofs.cluster.Cluster.state_after_tick.Goals.{After-power_before}

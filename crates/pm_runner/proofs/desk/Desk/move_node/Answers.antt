@@ -1,5 +1,5 @@
 use Rattle.std.proofs.Common.{◌∙◌, ap, length, arith}
-use Rattle.pm_turns.proofs.Devices.{nodes_are}
+use Rattle.pm_plan.proofs.MarketLists.{nodes_are}
 use Rattle.pm_runner.proofs.desk.Desk.move_node.Goals as goal
 
 pub turn-requires : goal.turn-requires

@@ -1,5 +1,5 @@
-use Rattle.pm_turns.proofs.Devices.{one_more}
-use Rattle.pm_turns.proofs.agents.make_agents.Goals as goal
+use Rattle.pm_nodes.proofs.DeviceAgents.{one_more}
+use Rattle.pm_nodes.proofs.agents.make_agents.Goals as goal
 
 pub loop-number-preserved : goal.loop-number-preserved
 loop-number-preserved c =

@@ -3,9 +3,9 @@ ghost use Rattle.pm_bid.specs.Bids.{HaveSteps};
 ghost use Rattle.pm_device.specs.Kinds.{state_fits};
 ghost use Rattle.pm_market.specs.Lists.{nodes, IsLeaf};
 ghost use Rattle.pm_plan.specs.Market.{plan_lists};
-ghost use Rattle.pm_turns.specs.Alone.{AreAgents, AreOnlyAgents, IsAgentOf};
+ghost use Rattle.pm_nodes.specs.DeviceAgents.{AreAgents, AreOnlyAgents, IsAgentOf};
 
-use crate::plans::is_device;
+use crate::devices::is_device;
 use pm_agent::DeviceAgent;
 use pm_device::Next;
 use pm_plan::Plan;
@@ -13,7 +13,7 @@ use pm_tree::NodeId;
 use std::alloc::{AllocError, Global};
 
 /// The agents of the devices of a plan, each in the place of its node; none elsewhere.
-#[tactic(auto, using(crate::proofs::Devices::no_agents, crate::proofs::Devices::all_agents, crate::proofs::Devices::nodes_are))]
+#[tactic(auto, using(crate::proofs::DeviceAgents::no_agents, crate::proofs::DeviceAgents::all_agents, pm_plan::proofs::MarketLists::nodes_are))]
 pub fn make_agents(alloc: Global, plan: &Plan) -> Result<Vec<Option<DeviceAgent>>, AllocError>
     ensures places { IfOk result (λ agents. length agents.items ≡ nodes (plan_lists plan.now) + 1) }
     ensures each { IfOk result (λ agents. AreAgents plan.now agents.items) }
@@ -28,7 +28,7 @@ pub fn make_agents(alloc: Global, plan: &Plan) -> Result<Vec<Option<DeviceAgent>
 }
 
 /// The agent of a device; none of another node.
-#[tactic(auto, using(crate::proofs::Devices::leaf_of_plan, crate::proofs::Devices::kind_valid, crate::proofs::Devices::agent_is))]
+#[tactic(auto, using(pm_plan::proofs::MarketLists::leaf_of_plan, pm_plan::proofs::Fits::kind_valid, crate::proofs::DeviceAgents::agent_is))]
 pub fn agent_of(alloc: Global, plan: &Plan, number: u32) -> Result<Option<DeviceAgent>, AllocError>
     ensures agent { IfOk result (λ agent. IfSome agent (IsAgentOf plan.now number)) }
     ensures none { IfOk result (λ agent. agent ≡ None → IsLeaf (plan_lists plan.now) number → ⊥) }
@@ -42,7 +42,7 @@ pub fn agent_of(alloc: Global, plan: &Plan, number: u32) -> Result<Option<Device
 }
 
 /// Whether a change is one of the agent's device, in a state of its kind, and of its steps.
-#[tactic(auto, using(crate::proofs::Devices::plan_arrays))]
+#[tactic(auto, using(crate::proofs::DeviceAgents::plan_arrays))]
 pub fn can_work(agent: &DeviceAgent, next: Next, plan: &Plan) -> bool
     ensures device { result ≡ true → next.device ≡ agent.now.device }
     ensures fits { result ≡ true → IsTrue (state_fits agent.now.kind next.state.0) }

@@ -1,7 +1,7 @@
 use Rattle.std.proofs.Common.{◌∙◌, sym, ap, length, arith}
 use Rattle.std.proofs.lemmas.Bool.{both_ways}
-use Rattle.pm_turns.proofs.Devices.{far, leaf_told}
-use Rattle.pm_turns.proofs.plans.is_device.Goals as goal
+use Rattle.pm_nodes.proofs.DeviceAgents.{far, leaf_told}
+use Rattle.pm_nodes.proofs.devices.is_device.Goals as goal
 
 pub returns-then-len-number-clause-no : goal.returns-then-len-number-clause-no
 returns-then-len-number-clause-no c off leaf = far c.args.plan.now c.tree-tree.ensures.sound c.args.number

@@ -1,4 +1,4 @@
--- The agents of the devices, where one thread makes all moves.
+-- The agents of the devices of a plan.
 use Rattle.std.specs.Prelude.{◌≡◌, ℕ, List, Option, Some, slice_get}
 use Rattle.pm_market.specs.Lists.{IsLeaf}
 use Rattle.pm_agent.specs.Agents.{Agent}

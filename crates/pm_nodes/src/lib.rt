@@ -1,0 +1,13 @@
+//! What the nodes of a run have, whoever makes their moves.
+//!
+//! [`make_agents`] makes the agents of the devices of a plan, and a [`Gate`] is told of each turn of a node. The runs by one
+//! thread (`pm_turns`), by threads over a lock (`pm_runner`) and by threads over links (`pm_phase`) all stand on them.
+#![tactic(auto)]
+
+mod agents;
+mod devices;
+mod gate;
+
+pub use agents::{agent_of, can_work, make_agents};
+pub use devices::is_device;
+pub use gate::{Gate, OpenGate};
