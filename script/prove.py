@@ -1,0 +1,334 @@
+#!/usr/bin/env python3
+"""Proves and builds the program, with all processors: the crates that it stands on side by side, the longest chain first.
+
+    python3 script/prove.py [--jobs N]
+
+`rt run` proves one crate after the other, and `rt ci` also every test and every must-fail edit. This script asks the kit's
+own calls behind `rt ci` for the proofs alone that the program stands on. Each crate is proved from nothing, and the program is
+held to HANDLES.
+What is proved is kept in crates/NAME/out/prove, so a run that is stopped goes on with the crates that were open. What the
+kit says of a crate is in crates/NAME/out/prove/log. Progress goes to standard error. The status is 0 only if all is proved and
+crates/market/out/market is built. A kit without these calls is asked for `rt run` instead.
+"""
+
+import argparse
+import copy
+import hashlib
+import importlib.util
+import os
+import queue
+import re
+import shutil
+import signal
+import subprocess
+import sys
+import threading
+import time
+from collections.abc import Callable
+from importlib.machinery import SourceFileLoader
+from pathlib import Path
+from types import ModuleType
+from typing import Any
+
+TOP = Path(__file__).resolve().parent.parent
+PROGRAM = "market"
+
+# The seconds between two lines that say how far the proofs are.
+PERIOD = 60
+
+# Of the lines, so much has to be proved before the rest is estimated by it.
+ENOUGH = 0.1
+
+# The most processors that one proof takes well, and what each further one takes of the memory of the first.
+MOST_JOBS = 4
+FURTHER_JOB = 0.6
+
+# What it costs to read the libraries below a crate, in lines of code.
+LEAST_WORK = 80
+
+# The priority (nice) of proofs that the longest chain does not wait for.
+STANDS_BACK = 10
+
+# A crate is on the longest chain if this part of its length is above it.
+NEARLY = 0.9
+
+# What this script calls of the kit's `rt`, and of its crates.
+CALLS = ("need", "handles_of", "rtlib", "Crate", "KIT")
+CRATE_CALLS = ("below", "words", "call", "link")
+
+
+def say(text: str) -> None:
+    """Tells the user on standard error."""
+    print(f"market: {text}", file=sys.stderr, flush=True)
+
+
+def load_kit() -> Any | None:
+    """The kit's `rt` as a module; none if it lacks a call that this script makes."""
+    found = shutil.which("rt")
+    if found is None:
+        return None
+    sys.dont_write_bytecode = True
+    loader = SourceFileLoader("rt_of_kit", os.path.realpath(found))
+    spec = importlib.util.spec_from_loader("rt_of_kit", loader)
+    if spec is None:
+        return None
+    kit: ModuleType = importlib.util.module_from_spec(spec)
+    try:
+        loader.exec_module(kit)
+    except (SyntaxError, OSError, ImportError):
+        return None
+    crate = getattr(kit, "Crate", None)
+    has_all = all(hasattr(kit, name) for name in CALLS) and all(hasattr(crate, name) for name in CRATE_CALLS)
+    return kit if has_all else None
+
+
+class Progress:
+    """How much is proved, in lines of code, and what is under way."""
+
+    def __init__(self, lines: dict[str, int], kept: set[str]) -> None:
+        self.lines = lines
+        self.kept = sum(lines[name] for name in kept)
+        self.proved = 0
+        self.under_way: list[str] = []
+        self.begun = time.monotonic()
+        self.lock = threading.Lock()
+
+    def minutes(self) -> float:
+        """The minutes since the begin."""
+        return (time.monotonic() - self.begun) / 60
+
+    def tell(self, before: str = "") -> None:
+        """Says how far the proofs are, at which crates, and about how long the rest takes by the pace so far."""
+        whole = sum(self.lines.values())
+        left = whole - self.kept - self.proved
+        text = f"{before}{(whole - left) * 100 // whole} % of {whole} lines of code proved after {self.minutes():.1f} minutes"
+        if self.under_way:
+            text += f"; at {', '.join(self.under_way)}"
+        if left and self.proved > ENOUGH * (left + self.proved):
+            rest = round(self.minutes() * left / self.proved)
+            text += f"; about {rest} minutes to go" if rest > 1 else "; about a minute to go"
+        say(text)
+
+    def run(self, name: str, work: Callable[[], bool]) -> bool:
+        """Does the work at a crate, and counts its lines if the crate is then proved."""
+        with self.lock:
+            self.under_way.append(name)
+        is_proved = work()
+        with self.lock:
+            self.under_way.remove(name)
+            self.proved += self.lines[name] * is_proved
+            self.tell(f"{name}: " if is_proved else "")
+        return is_proved
+
+    def tell_at_times(self) -> None:
+        """Says how far the proofs are, each minute, for as long as the process runs."""
+        while True:
+            time.sleep(PERIOD)
+            with self.lock:
+                self.tell()
+
+
+class Lanes:
+    """Proofs that run side by side, each once those below it have ended, and first those with the longest chain above them.
+
+    A proof takes one processor well, and up to four in some of its stages. What the longest chain waits for gets four, beside
+    proofs of other crates: so half as many jobs again as there are processors keep all of these at work.
+    """
+
+    def __init__(self, crates: list[Any], lines: dict[str, int], processors: int, need: Callable[[Any], float]) -> None:
+        self.waiting = crates
+        self.open = {it.name for it in crates}
+        self.processors = processors
+        self.jobs = processors * 3 // 2
+        self.need = need
+        self.memory = 0.85 * free_memory()
+        # By its name, the jobs and the memory of each proof that runs.
+        self.running: dict[str, tuple[int, float]] = {}
+        self.ended: queue.Queue[tuple[Any, bool]] = queue.Queue()
+        # The work from a crate to the top of the longest chain above it: its lines, and as much for each crate as some lines cost.
+        work = {it.name: lines[it.name] + LEAST_WORK for it in crates}
+        self.above = dict(work)
+        for crate in reversed(crates):
+            for below in crate.below():
+                if below.name in self.open:
+                    self.above[below.name] = max(self.above[below.name], work[below.name] + self.above[crate.name])
+
+    def run(self, prove: Callable[[Any, int], bool]) -> list[Any]:
+        """Runs all proofs, and returns those that failed; once one did, none begins."""
+        failed: list[Any] = []
+        while (self.waiting and not failed) or self.running:
+            if not failed:
+                self.start(prove)
+            crate, is_proved = self.ended.get()
+            del self.running[crate.name]
+            if is_proved:
+                self.open.remove(crate.name)
+            else:
+                failed.append(crate)
+        return failed
+
+    def start(self, prove: Callable[[Any, int], bool]) -> None:
+        """Starts the proofs that can begin, as many as there are processors and memory."""
+        ready = [it for it in self.waiting if not any(below.name in self.open for below in it.below())]
+        ready.sort(key=lambda it: -self.above[it.name])
+        longest = max(self.above[name] for name in self.open)
+        for place, crate in enumerate(ready):
+            idle = self.jobs - sum(jobs for jobs, _ in self.running.values())
+            room = self.memory - sum(memory for _, memory in self.running.values())
+            is_first = self.above[crate.name] > NEARLY * longest
+            if idle <= 0 and not is_first and self.running:
+                continue
+            jobs = max(min(MOST_JOBS, self.processors) if is_first else 1, min(MOST_JOBS, idle // (len(ready) - place)))
+            need = self.need(crate)
+            while jobs > 1 and need * (1 + FURTHER_JOB * (jobs - 1)) > room:
+                jobs -= 1
+            if self.running and need > room:
+                continue
+            self.waiting.remove(crate)
+            self.running[crate.name] = (jobs, need * (1 + FURTHER_JOB * (jobs - 1)))
+            threading.Thread(target=self.work, args=(crate, jobs, is_first, prove), daemon=True).start()
+
+    def work(self, crate: Any, jobs: int, is_first: bool, prove: Callable[[Any, int], bool]) -> None:
+        """Does one proof, on a thread of its own, whose priority is that of the processes that it starts."""
+        is_proved = False
+        try:
+            if not is_first:
+                os.setpriority(os.PRIO_PROCESS, threading.get_native_id(), STANDS_BACK)
+            is_proved = prove(crate, jobs)
+        finally:
+            self.ended.put((crate, is_proved))
+
+
+class Proofs:
+    """The proofs of the program and of the crates below it, by the calls of the kit."""
+
+    def __init__(self, kit: Any) -> None:
+        self.kit = kit
+        # As `rt ci` sets the kit up: a library is built of its statements, and the program held to HANDLES.
+        kit.rtlib.Crate = kit.Crate
+        kit.Crate.cuts_libraries = True
+        kit.Crate.allowed = kit.handles_of(str(TOP))
+        self.program = kit.Crate(str(TOP / "crates" / PROGRAM), str(TOP), {})
+        self.crates = [*self.program.below(), self.program]
+        for crate in self.crates:
+            crate.rlib = f"{crate.folder}/out/prove/{crate.name}.rlib"
+        self.sums = {it.name: sum_of(it) for it in self.crates}
+
+    def stamp_of(self, crate: Any) -> Path:
+        """The file that says from which sources a crate was proved."""
+        return Path(crate.folder) / "out" / "prove" / "stamp"
+
+    def sources_of(self, crate: Any) -> str:
+        """What a crate is proved from: the kit, the crate and those below it, each by a sum."""
+        names = [crate.name, *(it.name for it in crate.below())]
+        return "\n".join([Path(f"{self.kit.KIT}/KIT-ID").read_text().strip(), *(f"{it} {self.sums[it]}" for it in names)])
+
+    def is_kept(self, crate: Any) -> bool:
+        """Whether an earlier run proved the crate from these sources."""
+        stamp = self.stamp_of(crate)
+        made = Path(crate.rlib) if crate is not self.program else Path(crate.folder) / "out" / PROGRAM
+        return made.exists() and stamp.is_file() and stamp.read_text() == self.sources_of(crate)
+
+    def prove(self, crate: Any, jobs: int) -> bool:
+        """Proves a crate from nothing, and builds it."""
+        folder = self.stamp_of(crate).parent
+        shutil.rmtree(folder, ignore_errors=True)
+        folder.mkdir(parents=True)
+        crate = copy.copy(crate)
+        with (folder / "log").open("w+", encoding="utf-8") as crate.out:
+            status = self.build(crate, jobs)
+            if status == -signal.SIGKILL and jobs > 1:
+                # Most likely memory did not suffice.
+                status = self.build(crate, 1)
+        if status == 0 and sum_of(crate) == self.sums[crate.name]:
+            (folder / "stamp").write_text(self.sources_of(crate))
+        return status == 0
+
+    def build(self, crate: Any, jobs: int) -> int:
+        """Asks the kit for the proof and the build, and returns the status."""
+        rattle = self.kit.rtlib.RATTLE
+        words = crate.words(["--jobs", str(jobs)], keeps=False)
+        if crate.name != PROGRAM:
+            return int(crate.call(rattle, "build", *words, "--statements", "-o", crate.rlib))
+        words += ["--toolchain", f"{self.kit.KIT}/toolchain", "--backend", "llvm"]
+        status = crate.call(rattle, "build", *words, "-o", f"out/{PROGRAM}.o")
+        return int(status or crate.link(f"out/{PROGRAM}.o", f"out/{PROGRAM}"))
+
+    def run(self, processors: int) -> bool:
+        """Proves what is not kept, side by side, and returns whether all is proved."""
+        lines = {it.name: lines_of(it) for it in self.crates}
+        kept = {it.name for it in self.crates if self.is_kept(it)}
+        progress = Progress(lines, kept)
+        threading.Thread(target=progress.tell_at_times, daemon=True).start()
+        progress.tell()
+        lanes = Lanes([it for it in self.crates if it.name not in kept], lines, processors, self.kit.need)
+        failed = lanes.run(lambda crate, jobs: progress.run(crate.name, lambda: self.prove(crate, jobs)))
+        for crate in failed:
+            self.tell_of(crate)
+        return not failed
+
+    def tell_of(self, crate: Any) -> None:
+        """Shows the end of what the kit said of a crate that is not proved."""
+        log = self.stamp_of(crate).with_name("log")
+        print("\n".join(log.read_text(errors="replace").splitlines()[-30:]), file=sys.stderr)
+        say(f"{crate.name} is not proved: the end of {log.relative_to(TOP)} is above")
+
+
+def free_memory() -> int:
+    """The free memory in bytes."""
+    found = re.search(r"MemAvailable:\s+(\d+)", Path("/proc/meminfo").read_text())
+    return 1024 * int(found[1]) if found else 0
+
+
+def files_of(crate: Any) -> list[Path]:
+    """The files that a crate is proved from."""
+    folders = (Path(crate.folder) / part for part in ("src", "specs", "proofs"))
+    return sorted(it for folder in folders for it in folder.rglob("*") if it.is_file())
+
+
+def lines_of(crate: Any) -> int:
+    """How many lines of code a crate has. Its proof costs about so much, whatever lines of proof it has."""
+    return sum(it.read_bytes().count(b"\n") for it in files_of(crate) if it.suffix == ".rt")
+
+
+def sum_of(crate: Any) -> str:
+    """A sum of the names and contents of a crate's files, and of what crates.txt says of it."""
+    whole = hashlib.sha256(repr(crate.said).encode())
+    for it in files_of(crate):
+        whole.update(f"{it.relative_to(crate.folder)}\0".encode() + hashlib.sha256(it.read_bytes()).digest())
+    return whole.hexdigest()
+
+
+def run_by_turns() -> bool:
+    """Lets `rt run` prove one crate after the other, and build the program."""
+    say("this kit proves one crate after the other, so it takes longer")
+    how: dict[str, Any] = {"cwd": TOP / "crates" / PROGRAM, "stdin": subprocess.DEVNULL, "capture_output": True, "text": True, "errors": "replace"}
+    ran = subprocess.run(["rt", "run"], check=False, **how)
+    if f"rt: running out/{PROGRAM}" in ran.stderr + ran.stdout:
+        return True
+    print(ran.stdout + ran.stderr, file=sys.stderr)
+    return False
+
+
+def main() -> int:
+    """Proves and builds the program, and returns the status."""
+    parser = argparse.ArgumentParser(prog="./market prove", description="Proves and builds the program.")
+    processors = sorted(os.sched_getaffinity(0))
+    parser.add_argument("--jobs", type=int, default=len(processors), help="how many processors to use; all, if not said")
+    jobs = parser.parse_args().jobs
+    if jobs < 1:
+        parser.error("--jobs takes a number from 1 on")
+    os.sched_setaffinity(0, processors[:jobs])
+    os.chdir(TOP)
+    kit = load_kit()
+    if kit is None:
+        return 0 if run_by_turns() else 1
+    # The first call sets a signal's handler, which only the main thread may. What it starts ends with this process.
+    kit.rtlib.guarded()
+    for it in (signal.SIGTERM, signal.SIGHUP, signal.SIGINT):
+        signal.signal(it, lambda number, _: os._exit(128 + number))
+    return 0 if Proofs(kit).run(jobs) else 1
+
+
+if __name__ == "__main__":
+    sys.exit(main())
