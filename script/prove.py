@@ -147,7 +147,7 @@ class Lanes:
         self.ended: queue.Queue[tuple[Any, bool]] = queue.Queue()
         # The work from a crate to the top of the longest chain above it: its lines, and as much for each crate as some lines cost.
         work = {it.name: lines[it.name] + LEAST_WORK for it in crates}
-        self.above = dict(work)
+        self.above: dict[str, int] = dict(work)
         for crate in reversed(crates):
             for below in crate.below():
                 if below.name in self.open:
@@ -167,10 +167,14 @@ class Lanes:
                 failed.append(crate)
         return failed
 
+    def work_above(self, crate: Any) -> int:
+        """The work from a crate to the top of the longest chain above it."""
+        return self.above[str(crate.name)]
+
     def start(self, prove: Callable[[Any, int], bool]) -> None:
         """Starts the proofs that can begin, as many as there are processors and memory."""
         ready = [it for it in self.waiting if not any(below.name in self.open for below in it.below())]
-        ready.sort(key=lambda it: -self.above[it.name])
+        ready.sort(key=self.work_above, reverse=True)
         longest = max(self.above[name] for name in self.open)
         for place, crate in enumerate(ready):
             idle = self.jobs - sum(jobs for jobs, _ in self.running.values())
@@ -218,16 +222,19 @@ class Proofs:
         """The file that says from which sources a crate was proved."""
         return Path(crate.folder) / "out" / "prove" / "stamp"
 
-    def sources_of(self, crate: Any) -> str:
-        """What a crate is proved from: the kit, the crate and those below it, each by a sum."""
+    def due_in_stamp(self, crate: Any) -> str:
+        """What the stamp of a proved crate says: the kit, and a sum of the crate and of each below it, and of the built program."""
         names = [crate.name, *(it.name for it in crate.below())]
-        return "\n".join([Path(f"{self.kit.KIT}/KIT-ID").read_text().strip(), *(f"{it} {self.sums[it]}" for it in names)])
+        lines = [Path(f"{self.kit.KIT}/KIT-ID").read_text().strip(), *(f"{it} {self.sums[it]}" for it in names)]
+        if crate.name == PROGRAM:
+            lines.append(f"program {hashlib.sha256(built_program().read_bytes()).hexdigest()}")
+        return "\n".join(lines)
 
     def is_kept(self, crate: Any) -> bool:
-        """Whether an earlier run proved the crate from these sources."""
+        """Whether an earlier run proved the crate from these sources, and what it built is there."""
         stamp = self.stamp_of(crate)
-        made = Path(crate.rlib) if crate is not self.program else Path(crate.folder) / "out" / PROGRAM
-        return made.exists() and stamp.is_file() and stamp.read_text() == self.sources_of(crate)
+        made = built_program() if crate.name == PROGRAM else Path(crate.rlib)
+        return made.exists() and stamp.is_file() and stamp.read_text() == self.due_in_stamp(crate)
 
     def prove(self, crate: Any, jobs: int) -> bool:
         """Proves a crate from nothing, and builds it."""
@@ -237,11 +244,8 @@ class Proofs:
         crate = copy.copy(crate)
         with (folder / "log").open("w+", encoding="utf-8") as crate.out:
             status = self.build(crate, jobs)
-            if status == -signal.SIGKILL and jobs > 1:
-                # Most likely memory did not suffice.
-                status = self.build(crate, 1)
         if status == 0 and sum_of(crate) == self.sums[crate.name]:
-            (folder / "stamp").write_text(self.sources_of(crate))
+            (folder / "stamp").write_text(self.due_in_stamp(crate))
         return status == 0
 
     def build(self, crate: Any, jobs: int) -> int:
@@ -272,6 +276,11 @@ class Proofs:
         log = self.stamp_of(crate).with_name("log")
         print("\n".join(log.read_text(errors="replace").splitlines()[-30:]), file=sys.stderr)
         say(f"{crate.name} is not proved: the end of {log.relative_to(TOP)} is above")
+
+
+def built_program() -> Path:
+    """Where the built program is."""
+    return TOP / "crates" / PROGRAM / "out" / PROGRAM
 
 
 def free_memory() -> int:
