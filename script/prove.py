@@ -39,9 +39,13 @@ PERIOD = 60
 # Of the lines, so much has to be proved before the rest is estimated by it.
 ENOUGH = 0.1
 
-# The most processors that one proof takes well, and what each further one takes of the memory of the first.
+# The most processors that one proof takes well.
 MOST_JOBS = 4
-FURTHER_JOB = 0.6
+
+# Of the free memory so much is given to proofs. Of what the kit plans for a proof so much may come later: what was seen is
+# a third of the plan at most.
+SAFE = 0.85
+STILL_TAKEN = 0.25
 
 # What it costs to read the libraries below a crate, in lines of code.
 LEAST_WORK = 80
@@ -132,16 +136,15 @@ class Lanes:
     """Proofs that run side by side, each once those below it have ended, and first those with the longest chain above them.
 
     A proof takes one processor well, and up to four in some of its stages. What the longest chain waits for gets four, beside
-    proofs of other crates: so half as many jobs again as there are processors keep all of these at work.
+    proofs of other crates, which stand back for it: so there are twice as many jobs as processors.
     """
 
     def __init__(self, crates: list[Any], lines: dict[str, int], processors: int, need: Callable[[Any], float]) -> None:
         self.waiting = crates
         self.open = {it.name for it in crates}
         self.processors = processors
-        self.jobs = processors * 3 // 2
+        self.jobs = 2 * processors
         self.need = need
-        self.memory = 0.85 * free_memory()
         # By its name, the jobs and the memory of each proof that runs.
         self.running: dict[str, tuple[int, float]] = {}
         self.ended: queue.Queue[tuple[Any, bool]] = queue.Queue()
@@ -167,6 +170,11 @@ class Lanes:
                 failed.append(crate)
         return failed
 
+    def room(self, is_first: bool) -> float:
+        """The memory for one more proof, in bytes. Those that run may still take a part of what the kit plans for them."""
+        later = 0 if is_first else STILL_TAKEN * sum(memory for _, memory in self.running.values())
+        return SAFE * free_memory() - later
+
     def work_above(self, crate: Any) -> int:
         """The work from a crate to the top of the longest chain above it."""
         return self.above[str(crate.name)]
@@ -178,18 +186,15 @@ class Lanes:
         longest = max(self.above[name] for name in self.open)
         for place, crate in enumerate(ready):
             idle = self.jobs - sum(jobs for jobs, _ in self.running.values())
-            room = self.memory - sum(memory for _, memory in self.running.values())
             is_first = self.above[crate.name] > NEARLY * longest
             if idle <= 0 and not is_first and self.running:
                 continue
             jobs = max(min(MOST_JOBS, self.processors) if is_first else 1, min(MOST_JOBS, idle // (len(ready) - place)))
             need = self.need(crate)
-            while jobs > 1 and need * (1 + FURTHER_JOB * (jobs - 1)) > room:
-                jobs -= 1
-            if self.running and need > room:
+            if self.running and need > self.room(is_first):
                 continue
             self.waiting.remove(crate)
-            self.running[crate.name] = (jobs, need * (1 + FURTHER_JOB * (jobs - 1)))
+            self.running[crate.name] = (jobs, need)
             threading.Thread(target=self.work, args=(crate, jobs, is_first, prove), daemon=True).start()
 
     def work(self, crate: Any, jobs: int, is_first: bool, prove: Callable[[Any, int], bool]) -> None:
