@@ -40,7 +40,7 @@ usage: $called COMMAND < INPUT > OUTPUT
 END_OF_HELP
     [ "$installed" = yes ] || cat <<END_OF_HELP
   prove [--jobs N]
-           proves and builds the program, N crates at a time
+           proves and builds the program, on N processors
   --proved COMMAND
            runs the command only if a proved program is at hand
   --unproved COMMAND
