@@ -28,7 +28,7 @@ help: ## lists the targets, and the variables that say where to
 	@echo "PREFIX is $(PREFIX). DESTDIR is put before all places: make install DESTDIR=/tmp/stage PREFIX=/usr"
 	@echo "Also: bindir libexecdir datadir docdir mandir unitdir, and bash-, zsh- and fishcompletiondir."
 
-prove: ## proves and builds the program, in about 12 minutes on four processors
+prove: ## proves and builds the program, in about 13 minutes on four processors
 	./market prove
 
 check: ## runs the gate: every proof, must-fail edit, test and check

@@ -134,15 +134,16 @@ date: $(date +%Y-%m-%d)
 state: $now"
 }
 
-# Prints about how many minutes the proof of all these crates takes here.
+# Prints about how many minutes the proof of all these crates takes here. On four processors it was measured
+# (docs/measured/PROVE.md); for fewer it is worked out from the 42 processor minutes that it took there.
 minutes_to_prove() {
     local processors
     processors="$(nproc 2>/dev/null)" || processors=1
     case "$processors" in
         1) echo 45 ;;
-        2) echo 22 ;;
-        3) echo 16 ;;
-        *) echo 12 ;;
+        2) echo 24 ;;
+        3) echo 17 ;;
+        *) echo 13 ;;
     esac
 }
 

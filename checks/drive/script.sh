@@ -158,9 +158,9 @@ prove() { ./market prove 2>/dev/null; }
 
 nproc() { echo 4; }
 export -f nproc
-none="no program is proved here; ./market prove makes one in about 12 minutes"
-stale="the sources changed since they were proved; ./market prove takes at most about 12 minutes"
-other="the program is not the one that was proved; ./market prove takes at most about 12 minutes"
+none="no program is proved here; ./market prove makes one in about 13 minutes"
+stale="the sources changed since they were proved; ./market prove takes at most about 13 minutes"
+other="the program is not the one that was proved; ./market prove takes at most about 13 minutes"
 first="market: this run is unproved and takes about half a minute:"
 asked="market: nothing is proved of this run; it takes about half a minute"
 made="proves
@@ -183,8 +183,8 @@ is "from another folder" 0 "tried run: input" "$first ${none/.\//$absolute/}" '(
 is "by a link" 0 "tried run: input" "$first ${none/.\/market/$folder\/link}" '"$folder/link" run'
 is "by a relative path" 0 "tried run: input" "$first ${none/.\//../}" '(cd checks && ../market run)'
 is "by bash" 0 "tried run: input" "$first $none" 'bash market run'
-is "on two processors" 0 "tried run: input" "$first ${none/12/22}" '(nproc() { echo 2; }; ./market run)'
-is "on one processor" 0 "tried run: input" "$first ${none/12/45}" '(nproc() { echo 1; }; ./market run)'
+is "on two processors" 0 "tried run: input" "$first ${none/13/24}" '(nproc() { echo 2; }; ./market run)'
+is "on one processor" 0 "tried run: input" "$first ${none/13/45}" '(nproc() { echo 1; }; ./market run)'
 is "a demo" 0 "tried demo 1 2: no input" "$first $none" './market demo 1 2'
 is "a demo on a terminal" 0 "$first $none
 tried demo 1 2: no input" "" 'screen "./market demo 1 2"'
