@@ -1,5 +1,5 @@
 -- What is charged in a tick: the shares and the sums of groups that a phase's end gives.
-use Rattle.std.specs.Prelude.{◌≡◌, ℕ, ◌<◌, ◌≤◌, ◌==◌, ℤ, cond, List, ◌∷◌, length, map, filter, find, All}
+use Rattle.std.specs.Prelude.{◌≡◌, ℕ, ◌<◌, ◌≤◌, ◌==◌, ℤ, if◌then◌else◌, List, ◌∷◌, length, map, filter, find, All}
 use Rattle.std.specs.Option.{option_map_or}
 use Rattle.pm_base.specs.Cuts.{Cut}
 use Rattle.pm_base.specs.Limits.{IsWithin, demand_limit, most_nodes}
@@ -56,6 +56,6 @@ pub record AreCharges (plan : PlanData) (cut : Cut) (shares : List Share) (group
   pub are_groups : AreGroups groups
   pub same : ComeToTheSame shares groups
   pub own : (minutes : ℤ) (x : ℕ) → account_of_shares minutes (shares_of x shares)
-      ≡ cond (is_leaf plan x) (account_of_share minutes (device_share plan cut x)) no_account
+      ≡ (if is_leaf plan x then account_of_share minutes (device_share plan cut x) else no_account)
   pub power : sum_each (λ share. share.power) shares ≡ sum_each (λ share. share.power) (device_shares plan cut)
   pub cost : sum_each group_cost groups ≡ sum_each group_cost (group_sums plan cut)

@@ -1,6 +1,6 @@
 -- The bill of a run, from its plan alone: over the minutes of a tick phase the devices take and give what they do at the
 -- end of the phase before, and an account is the sum over all tick phases.
-use Rattle.std.specs.Prelude.{ℕ, ◌-◌, ℤ, pos, cond, List, ◌∷◌, length, map, filter, is_some, unwrap_or}
+use Rattle.std.specs.Prelude.{ℕ, ◌-◌, ℤ, pos, if◌then◌else◌, List, ◌∷◌, length, map, filter, is_some, unwrap_or}
 use Rattle.std.specs.List.{range_with_len}
 use Rattle.pm_base.specs.Cuts.{Cut}
 use Rattle.pm_basis.specs.Prices.{price_at}
@@ -59,7 +59,7 @@ grid_gain plan p =
 
 -- the account of a node over tick phases: of a device the sum of what it gains, and nothing for any other node
 unfoldable pub node_account : PlanData → List ℕ → ℕ → Account
-node_account plan ticks x = cond (is_leaf plan x) (account_total (map (device_gain plan x) ticks)) no_account
+node_account plan ticks x = if is_leaf plan x then account_total (map (device_gain plan x) ticks) else no_account
 
 -- the bill of tick phases: the account of each node, the auctioneer's first; that of the grid; how many tick phases there
 -- are, and the sum of their minutes

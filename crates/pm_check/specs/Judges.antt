@@ -1,5 +1,5 @@
 -- What a judge of traces keeps of a run, and what it says of a line.
-use Rattle.std.specs.Prelude.{◌≡◌, ◌≢◌, ℕ, ◌+◌, ◌-◌, ◌≤◌, List, [], ◌∷◌, ◌++◌, length, map, cond, slice_index_or, All}
+use Rattle.std.specs.Prelude.{◌≡◌, ◌≢◌, ℕ, ◌+◌, ◌-◌, ◌≤◌, List, [], ◌∷◌, ◌++◌, length, map, if◌then◌else◌, slice_index_or, All}
 use Rattle.std.specs.Prelude.{Option, None}
 use Rattle.pm_market.specs.Lists.{IsNode, IsLeaf, is_leaf}
 use Rattle.pm_market.specs.State.{State, clearings, cleared}
@@ -57,7 +57,7 @@ pub record HasMade (plan : PlanData) (old new : Judge) (m : Move) : Type 0 where
 
 -- what a device holds; nothing for any other node
 abbrev pub held_at : PlanData → State → ℕ → Option (ℕ × ℕ)
-held_at plan s x = cond (is_leaf (plan_lists plan) x) (held (plan_lists plan) (local_at plan) s x) None
+held_at plan s x = if is_leaf (plan_lists plan) x then held (plan_lists plan) (local_at plan) s x else None
 
 -- what is held in the state after a move: after a pass to a device what that holds
 abbrev pub held_in : PlanData → State → Move → Option (ℕ × ℕ)

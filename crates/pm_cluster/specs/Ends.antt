@@ -1,5 +1,5 @@
 -- The lines that a node adds to a phase's end, and when a phase may be closed.
-use Rattle.std.specs.Prelude.{◌≡◌, ℕ, ℤ, ◌+◌, ◌<◌, true, cond, List, [], ◌∷◌, length, slice_index_or, Option, Some, None, is_some}
+use Rattle.std.specs.Prelude.{◌≡◌, ℕ, ℤ, ◌+◌, ◌<◌, true, if◌then◌else◌, List, [], ◌∷◌, length, slice_index_or, Option, Some, None, is_some}
 use Rattle.pm_tree.specs.Entries.{place_of}
 use Rattle.pm_cache.specs.Cache.{child_demand}
 use Rattle.pm_session.specs.Ports.{Seat, held_by}
@@ -23,10 +23,10 @@ use Rattle.pm_cluster.specs.Next.{count_of}
 
 -- the line of a node that is a member, and of one that is a limited concentrator
 abbrev pub member_at : PlanData → Cut → ℕ → List MemberLine
-member_at plan cut x = cond (is_member plan x (cut x)) (member_line plan (state plan) cut x ∷ []) []
+member_at plan cut x = if is_member plan x (cut x) then (member_line plan (state plan) cut x ∷ []) else []
 
 abbrev pub limited_at : PlanData → Cut → ℕ → List LimitedLine
-limited_at plan cut x = cond (is_limited plan x) (limited_line plan (state plan) cut x ∷ []) []
+limited_at plan cut x = if is_limited plan x then (limited_line plan (state plan) cut x ∷ []) else []
 
 -- the changes made are those of the phases up to p
 abbrev pub AreMade : PlanData → Cut → ℕ → Type 0

@@ -1,7 +1,7 @@
 -- When a bid is gone.
-use Rattle.std.specs.Prelude.{ℕ, Bool, cond, not, ◌==◌}
+use Rattle.std.specs.Prelude.{ℕ, Bool, if◌then◌else◌, not, ◌==◌}
 use Rattle.pm_market.specs.Lists.{Lists, is_leaf, is_member}
 
 -- whether bid n of a node is gone: a device's where the device is no member then, a concentrator's where n is 0
 unfoldable pub is_gone : Lists → ℕ → ℕ → Bool
-is_gone lists x n = cond (is_leaf lists x) (not (is_member lists x n)) (n == 0)
+is_gone lists x n = if is_leaf lists x then not (is_member lists x n) else (n == 0)

@@ -1,5 +1,5 @@
 -- The greatest index of a clearing that is due to a node: that reached its parent and addresses it.
-use Rattle.std.specs.Prelude.{◌≡◌, ℕ, ◌<◌, ◌≤◌, Bool, true, cond, ◌==◌, ◌&&◌, nat_lt, List, length, slice_index_or}
+use Rattle.std.specs.Prelude.{◌≡◌, ℕ, ◌<◌, ◌≤◌, Bool, true, if◌then◌else◌, ◌==◌, ◌&&◌, nat_lt, List, length, slice_index_or}
 use Rattle.pm_base.specs.Cuts.{Cut}
 use Rattle.pm_market.specs.Lists.{Lists, parent, IsNode}
 use Rattle.pm_market.specs.State.{State, clearings, addresses, addresses_of}
@@ -15,7 +15,9 @@ pub record KnowsDue (lists : Lists) (s : State) (due : ℕ → ℕ) : Type 0 whe
 
 -- the greatest index of a clearing that is due to x, once clearing j, of this cut, reached y
 abbrev pub due_after : Lists → (ℕ → ℕ) → ℕ → ℕ → Cut → ℕ → ℕ
-due_after lists due y j cut x = cond (nat_lt (due x) j && (parent lists x == y) && addresses_of lists cut x) j (due x)
+due_after lists due y j cut x =
+    if nat_lt (due x) j && (parent lists x == y) && addresses_of lists cut x then j
+    else due x
 
 -- each node that is a parent is marked so
 abbrev pub AreParents : List ℕ → List Bool → Type 0

@@ -1,5 +1,5 @@
 -- Which price a device holds, and the lines of a journal.
-use Rattle.std.specs.Prelude.{ℕ, zero, suc, Bool, cond, ◌&&◌, not, nat_lt, nat_le, Option, Some, None, List, [], ◌∷◌}
+use Rattle.std.specs.Prelude.{ℕ, zero, suc, Bool, if◌then◌else◌, ◌&&◌, not, nat_lt, nat_le, Option, Some, None, List, [], ◌∷◌}
 use Rattle.pm_market.specs.Lists.{Lists, is_leaf, is_member}
 use Rattle.pm_market.specs.State.{State, start, last, cleared}
 use Rattle.pm_base.specs.Cuts.{Cut}
@@ -12,7 +12,9 @@ use Rattle.pm_market.specs.declared.journal.Line.{Line}
 -- the device is a member after it and was none before it
 unfoldable pub last_join : Lists → ℕ → ℕ → ℕ
 last_join lists d zero = 0
-last_join lists d (suc n) = cond (is_member lists d (suc n) && not (is_member lists d n)) (suc n) (last_join lists d n)
+last_join lists d (suc n) =
+    if is_member lists d (suc n) && not (is_member lists d n) then suc n
+    else last_join lists d n
 
 -- whether a device holds a price: that of the clearing passed to it last, where it is a member now and the number that
 -- the price names is at least that of its last join; a price of a former membership is dropped
@@ -26,11 +28,11 @@ held_number s d = cleared s (last s d) d
 
 -- the step and the number that a device holds, or none; local gives the step of a cut at a node
 abbrev pub held : Lists → (Cut → ℕ → ℕ) → State → ℕ → Option (ℕ × ℕ)
-held lists local s d = cond (holds_price lists s d) (Some (local (cleared s (last s d)) d, held_number s d)) None
+held lists local s d = if holds_price lists s d then Some (local (cleared s (last s d)) d, held_number s d) else None
 
 -- what the line of a move says beside the move: after a Pass to a device what the device then holds
 abbrev pub held_after : Lists → (Cut → ℕ → ℕ) → State → Move → Option (ℕ × ℕ)
-held_after lists local s (Pass x j) = cond (is_leaf lists x) (held lists local (step lists s (Pass x j)) x) None
+held_after lists local s (Pass x j) = if is_leaf lists x then held lists local (step lists s (Pass x j)) x else None
 held_after lists local s m = None
 
 -- the line of a move that is made in state s

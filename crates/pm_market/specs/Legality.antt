@@ -1,6 +1,6 @@
 -- Legality as tests that compute. For lawful lists and a sound state each agrees with the definition in Moves that it is
 -- named for.
-use Rattle.std.specs.Prelude.{ℕ, suc, ◌+◌, ◌-◌, Bool, true, false, cond, ◌==◌, ◌&&◌, ◌||◌, not, nat_lt, nat_le, List, [], ◌∷◌}
+use Rattle.std.specs.Prelude.{ℕ, suc, ◌+◌, ◌-◌, Bool, true, false, if◌then◌else◌, ◌==◌, ◌&&◌, ◌||◌, not, nat_lt, nat_le, List, [], ◌∷◌}
 use Rattle.pm_base.specs.Limits.{window_size}
 use Rattle.pm_market.specs.Lists.{Lists, nodes, phases, parent, is_leaf, end_count}
 use Rattle.pm_market.specs.State.{State, all_to, is_same_on, known, newest, part, number, last, clearings, cleared, addresses}
@@ -54,7 +54,7 @@ change_is_legal lists s d n = is_leaf lists d && nat_lt s.closed (phases lists) 
 
 -- whether the changes made are just those of the phases up to p
 unfoldable pub are_made : Lists → State → ℕ → Bool
-are_made lists s p = all_to (nodes lists) (λ d. cond (is_leaf lists d) (s.counts d == end_count lists p d) true)
+are_made lists s p = all_to (nodes lists) (λ d. if is_leaf lists d then (s.counts d == end_count lists p d) else true)
 
 unfoldable pub close_is_legal : Lists → State → ℕ → Bool
 close_is_legal lists s p = (p == s.closed + 1) && nat_le p (phases lists) && are_made lists s p && is_idle lists s
@@ -76,4 +76,4 @@ are_legal lists s (m ∷ ms) = is_legal lists s m && are_legal lists (step lists
 -- the place of the first move that is not legal, from 0; the length where all are
 unfoldable pub first_illegal : Lists → State → List Move → ℕ
 first_illegal lists s [] = 0
-first_illegal lists s (m ∷ ms) = cond (is_legal lists s m) (suc (first_illegal lists (step lists s m) ms)) 0
+first_illegal lists s (m ∷ ms) = if is_legal lists s m then suc (first_illegal lists (step lists s m) ms) else 0

@@ -1,5 +1,5 @@
 -- The four lists that a market stands on, and the tree that they give.
-use Rattle.std.specs.Prelude.{◌≡◌, ℕ, zero, suc, ◌+◌, ◌<◌, ◌≤◌, Bool, true, false, cond, ◌==◌, ◌&&◌, ◌||◌, List, []}
+use Rattle.std.specs.Prelude.{◌≡◌, ℕ, zero, suc, ◌+◌, ◌<◌, ◌≤◌, Bool, true, false, if◌then◌else◌, ◌==◌, ◌&&◌, ◌||◌, List, []}
 use Rattle.std.specs.Prelude.{◌∷◌, length, slice_index_or, unwrap_or}
 use Rattle.std.specs.List.{find}
 use Rattle.pm_base.specs.Limits.{most_depth}
@@ -87,7 +87,7 @@ child_at_or_above lists y d = unwrap_or (find (λ x. parent lists x == y) (way_u
 unfoldable pub path_depth_in : Lists → ℕ → ℕ → ℕ
 path_depth_in lists zero x = 0
 path_depth_in lists (suc levels) x =
-    cond (x == 0) 0 (cond (is_leaf lists x) 0 1 + path_depth_in lists levels (parent lists x))
+    if x == 0 then 0 else ((if is_leaf lists x then 0 else 1) + path_depth_in lists levels (parent lists x))
 
 -- how many concentrators stand on the path from x to the auctioneer, x included
 unfoldable pub path_depth : Lists → ℕ → ℕ

@@ -1,5 +1,5 @@
 -- Cuts, and the states of the market.
-use Rattle.std.specs.Prelude.{◌≡◌, ℕ, zero, suc, ◌+◌, ◌≤◌, Bool, true, false, cond, ◌==◌, ◌&&◌, not, List, [], ◌∷◌, length}
+use Rattle.std.specs.Prelude.{◌≡◌, ℕ, zero, suc, ◌+◌, ◌≤◌, Bool, true, false, if◌then◌else◌, ◌==◌, ◌&&◌, not, List, [], ◌∷◌, length}
 use Rattle.std.specs.Prelude.{slice_index_or}
 use Rattle.pm_base.specs.Cuts.{Cut}
 use Rattle.pm_market.specs.Lists.{Lists, nodes, is_leaf, is_member, is_leaf_of, IsLeafOf, child_at_or_above}
@@ -10,7 +10,7 @@ no_changes d = 0
 
 -- f, with the value at x replaced by v
 unfoldable pub updated : {A : Type 0} → (ℕ → A) → ℕ → A → ℕ → A
-updated f x v y = cond (y == x) v (f y)
+updated f x v y = if y == x then v else f y
 
 -- whether each number from 1 to n passes the test
 unfoldable pub all_to : ℕ → (ℕ → Bool) → Bool
@@ -24,7 +24,7 @@ sum_to (suc n) f = f (suc n) + sum_to n f
 
 -- whether two cuts are the same on the leaves of x
 unfoldable pub is_same_on : Lists → ℕ → Cut → Cut → Bool
-is_same_on lists x a b = all_to (nodes lists) (λ d. cond (is_leaf_of lists x d) (a d == b d) true)
+is_same_on lists x a b = all_to (nodes lists) (λ d. if is_leaf_of lists x d then (a d == b d) else true)
 
 -- two cuts are the same on the leaves of x
 abbrev pub SameOn : Lists → ℕ → Cut → Cut → Type 0
@@ -71,12 +71,12 @@ cut_at cuts i = slice_index_or (no_changes ∷ cuts) i no_changes
 
 -- the newest number of a node: of a device its count, of a concentrator how many cuts it published
 unfoldable pub newest_of : Lists → Cut → (ℕ → List Cut) → ℕ → ℕ
-newest_of lists counts published x = cond (is_leaf lists x) (counts x) (length (published x))
+newest_of lists counts published x = if is_leaf lists x then counts x else length (published x)
 
 -- what number i of a node stands for on its leaves: of a device the number itself, of a concentrator the cut
 -- that it published under that number
 unfoldable pub part_of : Lists → (ℕ → List Cut) → ℕ → ℕ → Cut
-part_of lists published x i = cond (is_leaf lists x) (λ d. i) (cut_at (published x) i)
+part_of lists published x i = if is_leaf lists x then (λ d. i) else cut_at (published x) i
 
 -- what y knows of a device below it: the part of the number that y learnt from its child at or above the device
 unfoldable pub known_of : Lists → (ℕ → List Cut) → (ℕ → ℕ) → ℕ → Cut
@@ -85,12 +85,16 @@ known_of lists published learnt y d = let x = child_at_or_above lists y d in par
 -- the greatest number up to n under which this cut stands in the list, on the leaves of x; 0 where there is none
 unfoldable pub greatest_number : Lists → List Cut → ℕ → Cut → ℕ → ℕ
 greatest_number lists cuts x cut zero = 0
-greatest_number lists cuts x cut (suc n) = cond (is_same_on lists x (cut_at cuts (suc n)) cut) (suc n) (greatest_number lists cuts x cut n)
+greatest_number lists cuts x cut (suc n) =
+    if is_same_on lists x (cut_at cuts (suc n)) cut then suc n
+    else greatest_number lists cuts x cut n
 
 -- the number that a cut contains of a node: of a device the cut's number, of a concentrator the greatest number
 -- under which it published this cut, and 0 where there is none
 unfoldable pub number_of : Lists → (ℕ → List Cut) → ℕ → Cut → ℕ
-number_of lists published x cut = cond (is_leaf lists x) (cut x) (greatest_number lists (published x) x cut (length (published x)))
+number_of lists published x cut =
+    if is_leaf lists x then cut x
+    else greatest_number lists (published x) x cut (length (published x))
 
 -- the last index of a list of indices, 0 where it is empty
 unfoldable pub last_of : List ℕ → ℕ
@@ -99,7 +103,9 @@ last_of indices = slice_index_or (0 ∷ indices) (length indices) 0
 -- whether a clearing of this cut addresses x: a device where it is a member at the cut's number, a concentrator
 -- where the cut is not all zeros on its leaves
 unfoldable pub addresses_of : Lists → Cut → ℕ → Bool
-addresses_of lists cut x = cond (is_leaf lists x) (is_member lists x (cut x)) (not (is_same_on lists x cut no_changes))
+addresses_of lists cut x =
+    if is_leaf lists x then is_member lists x (cut x)
+    else not (is_same_on lists x cut no_changes)
 
 -- the newest number of a node
 abbrev pub newest : Lists → State → ℕ → ℕ

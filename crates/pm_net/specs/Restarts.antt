@@ -1,5 +1,5 @@
 -- Nodes that restart with what they stored, stop between storing and sending, and send again.
-use Rattle.std.specs.Prelude.{ℕ, ◌+◌, Bool, true, false, cond, ◌==◌, ◌&&◌, ◌||◌, not, nat_lt, nat_le, [], ◌∷◌, ◌++◌}
+use Rattle.std.specs.Prelude.{ℕ, ◌+◌, Bool, true, false, if◌then◌else◌, ◌==◌, ◌&&◌, ◌||◌, not, nat_lt, nat_le, [], ◌∷◌, ◌++◌}
 use Rattle.pm_bid.specs.Clearing.{clearing_step}
 use Rattle.pm_bid.specs.Limited.{within_limits}
 use Rattle.pm_market.specs.Lists.{Lists, parent, is_leaf}
@@ -15,7 +15,9 @@ use Rattle.pm_net.specs.Running.{device_bid, with_record, has_news, is_new_price
 -- What y may have stored of the prices that it took: the one that it holds, or any that was ever sent to it and has no
 -- greater index, in place k; past the last place, none.
 abbrev pub stored_price : Network → ℕ → ℕ → PriceMessage
-stored_price net y k = cond (nat_le (sent_price net y k).index (net.taken y).index) (sent_price net y k) (net.taken y)
+stored_price net y k =
+    if nat_le (sent_price net y k).index (net.taken y).index then sent_price net y k
+    else net.taken y
 
 -- what is left of a bid of which only the number was stored, and of one of which nothing was
 abbrev pub number_alone : BidMessage → BidMessage
@@ -26,7 +28,7 @@ nothing_left = bid_message 0 true []
 
 -- what is left of the records of y: of the newest one the numbers
 abbrev pub records_left : Network → ℕ → ℕ → ℕ → BidMessage
-records_left net y n x = cond (n == net.last_number y) (number_alone (net.records y n x)) nothing_left
+records_left net y n x = if n == net.last_number y then number_alone (net.records y n x) else nothing_left
 
 -- one restart or stop more of x
 abbrev pub with_restart : Network → ℕ → ℕ → ℕ
@@ -37,7 +39,7 @@ with_restart net x = updated net.restarts x (net.restarts x + 1)
 -- its children, and no record is whole.
 abbrev pub after_restart : Lists → Pricing → Network → ℕ → ℕ → Network
 after_restart lists p net y k = record net {
-  heard = λ x. cond (parent lists x == y) (nothing_heard p) (net.heard x);
+  heard = λ x. if parent lists x == y then nothing_heard p else net.heard x;
   records = updated net.records y (records_left net y);
   whole_from = updated net.whole_from y (net.last_number y + 1);
   answered = updated net.answered y (stored_price net y k).number;
@@ -89,8 +91,8 @@ can_resend lists net x = is_node lists x && (is_leaf lists x || (nat_le (net.who
 
 abbrev pub newest_bid : Lists → Pricing → Network → ℕ → BidMessage
 newest_bid lists p net x =
-    cond (is_leaf lists x) (device_bid lists p x (net.counts x))
-    (bid_message (net.last_number x) false (within_limits (p.limits x) (p.add x (λ z. (net.records x (net.last_number x) z).demand))))
+    if is_leaf lists x then device_bid lists p x (net.counts x)
+    else bid_message (net.last_number x) false (within_limits (p.limits x) (p.add x (λ z. (net.records x (net.last_number x) z).demand)))
 
 abbrev pub after_resending : Lists → Pricing → Network → ℕ → Network
 after_resending lists p net x = record net { bids_sent = updated net.bids_sent x (net.bids_sent x ++ newest_bid lists p net x ∷ []) }

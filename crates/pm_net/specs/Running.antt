@@ -1,6 +1,6 @@
 -- What the nodes of a network do while they run: a device bids, a parent takes a bid, a relay sends, the auctioneer clears,
 -- and a node takes a price and passes it on.
-use Rattle.std.specs.Prelude.{ℕ, ◌+◌, ◌-◌, Bool, true, false, cond, if◌then◌else◌, ◌==◌, ◌&&◌, not, nat_lt, nat_le, ℤ, List, []}
+use Rattle.std.specs.Prelude.{ℕ, ◌+◌, ◌-◌, Bool, true, false, if◌then◌else◌, ◌==◌, ◌&&◌, not, nat_lt, nat_le, ℤ, List, []}
 use Rattle.std.specs.Prelude.{◌∷◌, ◌++◌}
 use Rattle.pm_base.specs.Limits.{window_size}
 use Rattle.pm_bid.specs.Clearing.{clearing_step}
@@ -37,7 +37,7 @@ recorded_number net y x = (net.records y (net.last_number y) x).number
 
 -- whether each child of y passes a test
 abbrev pub all_children : Lists → ℕ → (ℕ → Bool) → Bool
-all_children lists y test = all_to (nodes lists) (λ x. cond (parent lists x == y) (test x) true)
+all_children lists y test = all_to (nodes lists) (λ x. if parent lists x == y then test x else true)
 
 -- whether y holds of each child a number that is at least the one in its newest record; this fails only between a restart
 -- and the time when it has heard the children again
@@ -77,7 +77,8 @@ after_sending p net c = record (with_record net c) { bids_sent = updated net.bid
 -- with the child's number there
 unfoldable pub sent_down : Lists → (ℕ → List PriceMessage) → ℕ → (ℕ → BidMessage) → ℕ → ℕ → ℕ → List PriceMessage
 sent_down lists prices y basis index step x =
-    cond ((parent lists x == y) && not (basis x).gone) (prices x ++ price_message (basis x).number index step ∷ []) (prices x)
+    if (parent lists x == y) && not (basis x).gone then (prices x ++ price_message (basis x).number index step ∷ [])
+    else prices x
 
 -- an auctioneer that is caught up and has news clears, and sends the price to its children
 unfoldable pub can_clear : Lists → Network → Bool

@@ -1,5 +1,5 @@
 -- A network in which everything was taken, and nothing new can be sent.
-use Rattle.std.specs.Prelude.{◌≡◌, ℕ, ◌<◌, ◌≤◌, false, cond, length}
+use Rattle.std.specs.Prelude.{◌≡◌, ℕ, ◌<◌, ◌≤◌, false, if◌then◌else◌, length}
 use Rattle.pm_market.specs.Lists.{Lists, parent, is_leaf, IsNode, IsConcentrator}
 use Rattle.pm_net.specs.Pricing.{Pricing}
 use Rattle.pm_net.specs.Network.{Network, sent_bid, sent_price, WasSent}
@@ -7,7 +7,7 @@ use Rattle.pm_net.specs.Running.{can_send, can_clear}
 
 -- the number of a node's newest bid, sent or not
 abbrev pub made_number : Lists → Network → ℕ → ℕ
-made_number lists net x = cond (is_leaf lists x) (net.counts x) (net.last_number x)
+made_number lists net x = if is_leaf lists x then net.counts x else net.last_number x
 
 -- Each parent holds the newest bid of its child, each node the newest price that was sent to it, and the auctioneer sent the
 -- price of its newest clearing to each child that is not gone.

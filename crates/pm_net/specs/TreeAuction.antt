@@ -1,5 +1,5 @@
 -- The auction of a tree by its own definition: any depth, any number of nodes, and limits at every relay, also one below another.
-use Rattle.std.specs.Prelude.{◌≡◌, ◌⊎◌, ℕ, zero, suc, ℤ, cond, ◌==◌, List, Option, Some, None}
+use Rattle.std.specs.Prelude.{◌≡◌, ◌⊎◌, ℕ, zero, suc, ℤ, if◌then◌else◌, ◌==◌, List, Option, Some, None}
 use Rattle.pm_base.specs.Cuts.{Cut}
 use Rattle.pm_base.specs.Limits.{AreLimits}
 use Rattle.pm_base.specs.declared.limits.Limits.{Limits}
@@ -29,7 +29,9 @@ pub record IsTreeDemand (lists : Lists) (a : TreeDemand) : Type 0 where
 -- one way to add: over those of the nodes 1 to n whose parent is y, in this order
 unfoldable pub add_to : Lists → ℕ → ℕ → (ℕ → List ℤ) → ℕ → List ℤ
 add_to lists steps y f zero = zeros steps
-add_to lists steps y f (suc n) = cond (parent lists (suc n) == y) (added (f (suc n)) (add_to lists steps y f n)) (add_to lists steps y f n)
+add_to lists steps y f (suc n) =
+    if parent lists (suc n) == y then added (f (suc n)) (add_to lists steps y f n)
+    else add_to lists steps y f n
 
 abbrev pub add_below : Lists → ℕ → ℕ → (ℕ → List ℤ) → List ℤ
 add_below lists steps y f = add_to lists steps y f (nodes lists)
@@ -39,7 +41,7 @@ add_below lists steps y f = add_to lists steps y f (nodes lists)
 unfoldable pub offer_in : Lists → TreeDemand → Cut → ℕ → ℕ → List ℤ
 offer_in lists a cut zero x = zeros a.steps
 offer_in lists a cut (suc levels) x =
-    cond (is_leaf lists x) (a.demand x (cut x)) (within_limits (a.limits x) (a.add x (offer_in lists a cut levels)))
+    if is_leaf lists x then a.demand x (cut x) else within_limits (a.limits x) (a.add x (offer_in lists a cut levels))
 
 -- children have greater numbers, so as many levels as there are nodes, and one, reach every device
 unfoldable pub tree_offer : Lists → TreeDemand → ℕ → Cut → List ℤ
@@ -50,9 +52,9 @@ tree_offer lists a x cut = offer_in lists a cut (suc (nodes lists)) x
 unfoldable pub step_in : Lists → TreeDemand → Cut → ℕ → ℕ → ℕ
 step_in lists a cut zero x = 0
 step_in lists a cut (suc levels) x =
-    cond (parent lists x == 0) (clearing_step (a.add 0 (λ z. tree_offer lists a z cut)))
-    (local_step (a.limits (parent lists x)) (step_in lists a cut levels (parent lists x))
-    (a.add (parent lists x) (λ z. tree_offer lists a z cut)))
+    if parent lists x == 0 then clearing_step (a.add 0 (λ z. tree_offer lists a z cut))
+    else local_step (a.limits (parent lists x)) (step_in lists a cut levels (parent lists x))
+    (a.add (parent lists x) (λ z. tree_offer lists a z cut))
 
 unfoldable pub tree_step : Lists → TreeDemand → Cut → ℕ → ℕ
 tree_step lists a cut x = step_in lists a cut (suc (nodes lists)) x

@@ -1,5 +1,5 @@
 -- The agent of a device as a value: it gives the offers of the device's own control numbers, and turns prices into setpoints.
-use Rattle.std.specs.Prelude.{ℕ, ◌+◌, ◌-◌, Bool, cond, ◌==◌, nat_lt, nat_le, ℤ, pos, List, [], ◌∷◌, ◌++◌, slice_index_or}
+use Rattle.std.specs.Prelude.{ℕ, ◌+◌, ◌-◌, Bool, if◌then◌else◌, ◌==◌, nat_lt, nat_le, ℤ, pos, List, [], ◌∷◌, ◌++◌, slice_index_or}
 use Rattle.std.specs.Prelude.{Option, Some, None}
 use Rattle.std.specs.List.{find, filter}
 use Rattle.pm_base.specs.Limits.{window_size}
@@ -71,7 +71,9 @@ setpoints_of price (Some offer) = setpoint_of price offer ∷ []
 -- a price gives a setpoint where its index is above the last and the offer that it names is kept; an offer of a former
 -- membership is not
 abbrev pub setpoints_for : DeviceAgent → PriceMessage → List Setpoint
-setpoints_for agent price = cond (nat_lt agent.index price.index) (setpoints_of price (kept_offer agent price.number)) []
+setpoints_for agent price =
+    if nat_lt agent.index price.index then setpoints_of price (kept_offer agent price.number)
+    else []
 
 -- a later price names the same number or a later one, so the offers before it are let go
 abbrev pub answered_by : DeviceAgent → PriceMessage → Option Offer → DeviceAgent
@@ -80,7 +82,9 @@ answered_by agent price (Some offer) =
     record agent { answered = price.number; offers = offers_from price.number agent.offers; index = price.index }
 
 abbrev pub after_price : DeviceAgent → PriceMessage → DeviceAgent
-after_price agent price = cond (nat_lt agent.index price.index) (answered_by agent price (kept_offer agent price.number)) agent
+after_price agent price =
+    if nat_lt agent.index price.index then answered_by agent price (kept_offer agent price.number)
+    else agent
 
 -- ---- a restart
 

@@ -1,5 +1,5 @@
 -- A network whose devices are agents, and what is to be said of the setpoints that they give.
-use Rattle.std.specs.Prelude.{◌≡◌, ℕ, ◌+◌, ◌<◌, ◌≤◌, ◌&&◌, ◌||◌, not, Bool, true, cond, if◌then◌else◌, pos, List, []}
+use Rattle.std.specs.Prelude.{◌≡◌, ℕ, ◌+◌, ◌<◌, ◌≤◌, ◌&&◌, ◌||◌, not, Bool, true, if◌then◌else◌, pos, List, []}
 use Rattle.std.specs.Prelude.{◌∷◌}
 use Rattle.std.specs.Prelude.{◌++◌, slice_index_or, length}
 use Rattle.std.specs.List.{All, AllPairs, Contains}
@@ -35,7 +35,9 @@ may_change lists devices d =
     && (not (is_member lists d (devices.net.counts d + 1)) || may_offer (devices.agents d))
 
 abbrev pub agent_after_change : Lists → Pricing → ℕ → ℕ → DeviceAgent → DeviceAgent
-agent_after_change lists p d n agent = cond (is_member lists d n) (after_offer agent (p.demand d n)) (after_leaving agent)
+agent_after_change lists p d n agent =
+    if is_member lists d n then after_offer agent (p.demand d n)
+    else after_leaving agent
 
 abbrev pub after_change : Lists → Pricing → Devices → ℕ → Devices
 after_change lists p devices d = record devices {

@@ -1,5 +1,5 @@
 -- The places of the children at each node, and sums in the order of the places.
-use Rattle.std.specs.Prelude.{◌≡◌, ℕ, zero, suc, ◌-◌, ◌<◌, ◌≤◌, ℤ, cond, ◌==◌, List, [], ◌∷◌, ◌++◌, length, map}
+use Rattle.std.specs.Prelude.{◌≡◌, ℕ, zero, suc, ◌-◌, ◌<◌, ◌≤◌, ℤ, if◌then◌else◌, ◌==◌, List, [], ◌∷◌, ◌++◌, length, map}
 use Rattle.std.specs.Prelude.{slice_index_or}
 use Rattle.std.specs.List.{range_with_len}
 use Rattle.pm_base.specs.Limits.{most_nodes}
@@ -26,7 +26,9 @@ pub record IsNumbering (lists : Lists) (numbering : Numbering) : Type 0 where
 -- the children of y among the nodes 1 to n, in this order
 unfoldable pub children_to : Lists → ℕ → ℕ → List ℕ
 children_to lists y zero = []
-children_to lists y (suc n) = cond (parent lists (suc n) == y) (children_to lists y n ++ suc n ∷ []) (children_to lists y n)
+children_to lists y (suc n) =
+    if parent lists (suc n) == y then (children_to lists y n ++ suc n ∷ [])
+    else children_to lists y n
 
 -- A node's place is the number of earlier nodes with its parent, so the child in place k is the k-th from 0.
 unfoldable pub place_in : Lists → ℕ → ℕ
@@ -46,7 +48,7 @@ HasFewChildren lists = (y : ℕ) → length (children_to lists y (nodes lists)) 
 
 -- what stands in a place of y: what its child there has, else zeros
 abbrev pub demand_in : ℕ → Numbering → ℕ → (ℕ → List ℤ) → ℕ → List ℤ
-demand_in steps numbering y f k = cond (numbering.child y k == 0) (zeros steps) (f (numbering.child y k))
+demand_in steps numbering y f k = if numbering.child y k == 0 then zeros steps else f (numbering.child y k)
 
 unfoldable pub demands_of : ℕ → Numbering → ℕ → (ℕ → List ℤ) → List (List ℤ)
 demands_of steps numbering y f = map (demand_in steps numbering y f) (range_with_len 0 most_nodes)

@@ -1,6 +1,6 @@
 -- What a node of the tree offers to its parent over a cut, in watts at each step: its bid, as the plain auction gives it.
 -- The states of the devices are the plan's own.
-use Rattle.std.specs.Prelude.{ℕ, ℤ, Bool, ◌&&◌, not, cond, List, map}
+use Rattle.std.specs.Prelude.{ℕ, ℤ, Bool, ◌&&◌, not, if◌then◌else◌, List, map}
 use Rattle.pm_base.specs.Cuts.{Cut}
 use Rattle.pm_bid.specs.Bids.{added, zeros, sum_of}
 use Rattle.pm_tree.specs.Entries.{children_of}
@@ -22,11 +22,14 @@ is_limited_at plan x g = is_limited plan g && is_below (plan_lists plan) x g
 -- stands above it; else zeros
 unfoldable pub own_part : PlanData → ℕ → Cut → ℕ → List ℤ
 own_part plan x cut d =
-    cond (is_leaf_of (plan_lists plan) x d && not (is_limited_at plan x (group plan d))) (device_demand plan d (cut d)) (zeros plan.basis.steps)
+    if is_leaf_of (plan_lists plan) x d && not (is_limited_at plan x (group plan d)) then device_demand plan d (cut d)
+    else zeros plan.basis.steps
 
 -- what a limited concentrator adds that is x or stands below x: what it announces
 unfoldable pub limited_part : PlanData → ℕ → Cut → ℕ → List ℤ
-limited_part plan x cut g = cond (is_limited_at plan x g) (announced plan (state plan) cut g) (zeros plan.basis.steps)
+limited_part plan x cut g =
+    if is_limited_at plan x g then announced plan (state plan) cut g
+    else zeros plan.basis.steps
 
 -- the offer of x: what the devices add themselves, and what the limited concentrators add
 unfoldable pub offer : PlanData → ℕ → Cut → List ℤ

@@ -1,5 +1,5 @@
 -- The plain auction over a cut, for any states of the devices after their changes.
-use Rattle.std.specs.Prelude.{ℕ, ◌==◌, ℤ, cond, List, ◌∷◌, map, filter}
+use Rattle.std.specs.Prelude.{ℕ, ◌==◌, ℤ, if◌then◌else◌, List, ◌∷◌, map, filter}
 use Rattle.pm_base.specs.Cuts.{Cut}
 use Rattle.pm_basis.specs.Prices.{price_at}
 use Rattle.pm_bid.specs.Bids.{demand_at, zeros, sum_of}
@@ -23,11 +23,11 @@ node_bid plan _ state = zeros plan.basis.steps
 -- the demand of a device in a cut: its bid where it is a member, else zeros
 unfoldable pub demand_in_cut : PlanData → States → Cut → ℕ → List ℤ
 demand_in_cut plan states cut d =
-    cond (is_member plan d (cut d)) (node_bid plan (node plan d) (states d (cut d))) (zeros plan.basis.steps)
+    if is_member plan d (cut d) then node_bid plan (node plan d) (states d (cut d)) else zeros plan.basis.steps
 
 -- what a device adds to a group: its demand where it belongs to the group
 unfoldable pub part_in : PlanData → States → Cut → ℕ → ℕ → List ℤ
-part_in plan states cut g d = cond (group plan d == g) (demand_in_cut plan states cut d) (zeros plan.basis.steps)
+part_in plan states cut g d = if group plan d == g then demand_in_cut plan states cut d else zeros plan.basis.steps
 
 -- the sum of a group: of the devices below the limited concentrator g, and of those below none where g is 0
 unfoldable pub sum_in : PlanData → States → Cut → ℕ → List ℤ

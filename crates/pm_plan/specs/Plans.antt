@@ -1,5 +1,5 @@
 -- A plan: the basis, the tree, what is planned for each node, the arrays, and the minutes of the phases.
-use Rattle.std.specs.Prelude.{ℕ, zero, suc, ◌-◌, ◌==◌, nat_le, ℤ, Bool, true, false, cond, List, [], ◌∷◌, length, take, Option, Some, None}
+use Rattle.std.specs.Prelude.{ℕ, zero, suc, ◌-◌, ◌==◌, nat_le, ℤ, Bool, true, false, if◌then◌else◌, List, [], ◌∷◌, length, take, Option, Some, None}
 use Rattle.std.specs.Prelude.{is_some, option_map, slice_get, slice_index_or}
 use Rattle.std.specs.List.{sum_by, count_by, prefix_len, range_with_len}
 use Rattle.pm_base.specs.Limits.{move_bound}
@@ -77,7 +77,9 @@ is_limited plan x = is_some (limits_of (node plan x))
 -- the limited concentrator above a node, at most so many levels up; 0 where there is none
 unfoldable pub group_in : PlanData → ℕ → ℕ → ℕ
 group_in plan zero x = 0
-group_in plan (suc levels) x = cond (is_limited plan (parent plan x)) (parent plan x) (group_in plan levels (parent plan x))
+group_in plan (suc levels) x =
+    if is_limited plan (parent plan x) then parent plan x
+    else group_in plan levels (parent plan x)
 
 -- the limited concentrator above a node, 0 where there is none: the group that a device belongs to. Parents have
 -- smaller numbers, so a node has no more nodes above it than its number

@@ -1,5 +1,5 @@
 -- What a cluster keeps, and where each node's part of it stands.
-use Rattle.std.specs.Prelude.{◌≡◌, ℕ, ◌+◌, ◌≤◌, ℤ, cond, ◌==◌, List, [], length, slice_index_or, Option, Some, None}
+use Rattle.std.specs.Prelude.{◌≡◌, ℕ, ◌+◌, ◌≤◌, ℤ, if◌then◌else◌, ◌==◌, List, [], length, slice_index_or, Option, Some, None}
 use Rattle.pm_base.specs.declared.limits.Limits.{Limits}
 use Rattle.pm_tree.specs.Entries.{children_of, place_of}
 use Rattle.pm_bid.specs.declared.head.BidHead.{BidHead}
@@ -72,7 +72,7 @@ concentrator_of c y = gathered_at c.concentrators y
 
 -- the cache of the auctioneer, node 0, or of a concentrator
 unfoldable pub cache_in : Auction → List (Option Gathered) → ℕ → Cache
-cache_in auctioneer concentrators y = cond (y == 0) auctioneer.cache (gathered_at concentrators y).cache
+cache_in auctioneer concentrators y = if y == 0 then auctioneer.cache else (gathered_at concentrators y).cache
 
 abbrev pub node_cache : Core → ℕ → Cache
 node_cache c y = cache_in c.auctioneer c.concentrators y

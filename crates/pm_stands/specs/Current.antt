@@ -1,5 +1,5 @@
 -- The price that a device holds, and that everyone holds the newest one where nothing is pending.
-use Rattle.std.specs.Prelude.{◌≡◌, ℕ, ℤ, pos, true, cond, List, Option, Some, None}
+use Rattle.std.specs.Prelude.{◌≡◌, ℕ, ℤ, pos, true, if◌then◌else◌, List, Option, Some, None}
 use Rattle.pm_bid.specs.Bids.{demand_at}
 use Rattle.pm_bid.specs.Limited.{local_step}
 use Rattle.pm_cache.specs.Cache.{aggregate_of}
@@ -20,8 +20,8 @@ use Rattle.pm_stands.specs.Core.{Core, limits_at, concentrator_of, seat_of, dema
 -- the price that a device holds: that of the clearing passed to it last, unless it is of a former membership
 abbrev pub held_price : PlanData → State → ℕ → Option Held
 held_price plan s d =
-    cond (holds_price (plan_lists plan) s d)
-    (Some (record { step = local_at plan (cleared s (last s d)) d; number = cleared s (last s d) d; index = last s d })) None
+    if holds_price (plan_lists plan) s d then Some (record { step = local_at plan (cleared s (last s d)) d; number = cleared s (last s d) d; index = last s d })
+    else None
 
 -- everything is over all current bids: the last clearing is of all changes made; each member holds its local step over
 -- them; the auctioneer's sum is the total, and its step that of the plain auction; and nothing of a concentrator is

@@ -1,5 +1,5 @@
 -- What the calls on a cluster's parts did, for each move.
-use Rattle.std.specs.Prelude.{◌≡◌, ℕ, ◌<◌, ℤ, Bool, pos, if◌then◌else◌, cond, List, length, slice_index_or, Option, Some, None}
+use Rattle.std.specs.Prelude.{◌≡◌, ℕ, ◌<◌, ℤ, Bool, pos, if◌then◌else◌, List, length, slice_index_or, Option, Some, None}
 use Rattle.pm_session.specs.Links.{Session, UpBid, BidOffered, BidTaken, PriceTaken}
 use Rattle.pm_session.specs.Ports.{Seat}
 use Rattle.pm_session.specs.Windows.{Keeps, record_of}
@@ -86,7 +86,9 @@ taken_core c links ports = record c { links = links; ports = ports }
 
 -- the seat of a device after a change, by whether it was a member before and is one afterwards
 abbrev pub seat_after : Seat → Bool → Bool → ℕ → Seat
-seat_after seat before after n = cond after (cond before seat (record seat { joined = Some n })) (record seat { joined = None })
+seat_after seat before after n =
+    if after then (if before then seat else (record seat { joined = Some n }))
+    else (record seat { joined = None })
 
 -- device x, the child of y in place k, made its change n, and offered its bid
 pub record DidChange (plan : PlanData) (c : Core) (x n : ℕ) (links : List (List Session)) (counts : List ℕ) (states : List ℤ)

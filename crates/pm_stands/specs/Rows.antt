@@ -1,5 +1,5 @@
 -- A cluster's lists with one place changed.
-use Rattle.std.specs.Prelude.{◌≡◌, ℕ, ◌==◌, ◌⊎◌, ℤ, true, cond, List, length, slice_index_or, Option, Some, None}
+use Rattle.std.specs.Prelude.{◌≡◌, ℕ, ◌==◌, ◌⊎◌, ℤ, true, if◌then◌else◌, List, length, slice_index_or, Option, Some, None}
 use Rattle.pm_base.specs.Limits.{window_size}
 use Rattle.pm_session.specs.Links.{Session}
 use Rattle.pm_session.specs.Windows.{unanswered}
@@ -40,7 +40,7 @@ pub record EntryLearnt (old_a new_a : Auction) (old_c new_c : List (Option Gathe
   pub all : length new_c ≡ length old_c
   pub index : new_a.index ≡ old_a.index
   pub step : new_a.step ≡ old_a.step
-  pub changed : new_a.changed ≡ cond (y == 0) true old_a.changed
+  pub changed : new_a.changed ≡ (if y == 0 then true else old_a.changed)
 
 -- the concentrator has nothing to publish, or its window is full
 abbrev pub CannotPublish : Gathered → Type 0

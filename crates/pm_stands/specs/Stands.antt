@@ -2,7 +2,7 @@
 --
 -- A cluster keeps numbers, running sums and at most the records of a window; a state of the market keeps whole cuts for
 -- good, and no sums. The state cannot be computed from what is kept, so this is a relation.
-use Rattle.std.specs.Prelude.{◌≡◌, ℕ, ◌<◌, ◌≤◌, true, pos, cond, not, ◌==◌, length, slice_index_or, Some, None}
+use Rattle.std.specs.Prelude.{◌≡◌, ℕ, ◌<◌, ◌≤◌, true, pos, if◌then◌else◌, not, ◌==◌, length, slice_index_or, Some, None}
 use Rattle.pm_bid.specs.declared.head.BidHead.{BidHead}
 use Rattle.pm_bid.specs.Clearing.{clearing_step}
 use Rattle.pm_tree.specs.Entries.{place_of}
@@ -85,11 +85,15 @@ pub record StandsFor (plan : PlanData) (c : Core) (s : State) : Type 0 where
       (cut_at (s.published (parent (plan_lists plan) x)) (length (s.published (parent (plan_lists plan) x)))))
   -- the auctioneer: the index and the step of the last clearing, and whether something was learnt since
   pub index : c.auctioneer.index ≡ clearings s
-  pub auction_step : c.auctioneer.step ≡ cond (clearings s == 0) 0 (clearing_step (children_sum plan 0 (cleared s (clearings s))))
+  pub auction_step : c.auctioneer.step ≡ (if clearings s == 0
+      then 0
+      else clearing_step (children_sum plan 0 (cleared s (clearings s))))
   pub changed : c.auctioneer.changed ≡ not (is_same_on (plan_lists plan) 0 (known (plan_lists plan) s 0) (cleared s (clearings s)))
   -- the ports: the last join while the device is a member, and the price passed to it last
   pub joined : (d : ℕ) → IsLeaf (plan_lists plan) d → (seat_of c d).joined
-      ≡ cond (is_member (plan_lists plan) d (s.counts d)) (Some (last_join (plan_lists plan) d (s.counts d))) None
+      ≡ (if is_member (plan_lists plan) d (s.counts d)
+      then Some (last_join (plan_lists plan) d (s.counts d))
+      else None)
   pub given_none : (d : ℕ) → IsLeaf (plan_lists plan) d → last s d ≡ 0 → (seat_of c d).given ≡ None
   pub given : (d : ℕ) → IsLeaf (plan_lists plan) d → 0 < last s d → (seat_of c d).given
       ≡ Some (record { step = local_at plan (cleared s (last s d)) d; number = cleared s (last s d) d; index = last s d })

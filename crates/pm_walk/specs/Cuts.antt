@@ -1,5 +1,5 @@
 -- A cut as a list of numbers, and where the devices stop on the way to it.
-use Rattle.std.specs.Prelude.{◌≡◌, ℕ, min, cond, List, ◌∷◌}
+use Rattle.std.specs.Prelude.{◌≡◌, ℕ, min, if◌then◌else◌, List, ◌∷◌}
 use Rattle.pm_plan.specs.Plans.{PlanData, is_leaf, end_cut}
 use Rattle.pm_base.specs.Cuts.{Cut, cut_of}
 use Rattle.pm_walk.specs.Standing.{HaveCome, cut_made}
@@ -20,4 +20,4 @@ pub record AreStops (plan : PlanData) (counts : List ℕ) (p : ℕ) (progress : 
 
 -- the numbers that a cut has of the devices alone
 abbrev pub device_cut : PlanData → Cut → Cut
-device_cut plan cut x = cond (is_leaf plan x) (cut x) 0
+device_cut plan cut x = if is_leaf plan x then cut x else 0

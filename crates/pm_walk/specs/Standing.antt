@@ -1,6 +1,6 @@
 -- How far a run has come: each node's changes made with the state and the membership after them, each node's demand,
 -- and each group's sum.
-use Rattle.std.specs.Prelude.{◌≡◌, ℕ, ◌+◌, ◌≤◌, ℤ, pos, true, false, cond, List, [], length, slice_index_or}
+use Rattle.std.specs.Prelude.{◌≡◌, ℕ, ◌+◌, ◌≤◌, ℤ, pos, true, false, if◌then◌else◌, List, [], length, slice_index_or}
 use Rattle.pm_bid.specs.Bids.{zeros}
 use Rattle.pm_plan.specs.Plans.{PlanData, node, is_leaf, is_member, change_count}
 use Rattle.pm_plan.specs.Kept.{IsPlan}
@@ -18,7 +18,7 @@ pub record HasCome (plan : PlanData) (x : ℕ) (progress : Progress) : Type 0 wh
 -- the demand of a device that has come so far
 abbrev pub demand_come : PlanData → ℕ → Progress → List ℤ
 demand_come plan d progress =
-    cond progress.member (node_bid plan (node plan d) progress.state.0) (zeros plan.basis.steps)
+    if progress.member then node_bid plan (node plan d) progress.state.0 else zeros plan.basis.steps
 
 -- place 0 of each list is the auctioneer's: the sum of group 0 is that of the devices below no limited concentrator
 pub record StandingValue : Type 0 where
