@@ -12,7 +12,7 @@ use Rattle.pm_plan.specs.declared.end.MemberLine.{MemberLine}
 use Rattle.pm_plan.specs.declared.end.LimitedLine.{LimitedLine}
 use Rattle.pm_plan.specs.Plans.{PlanData, node, limits_of, phases, change_count, is_limited, is_member, end_cut, node_numbers}
 use Rattle.pm_plan.specs.Kept.{IsPlan}
-use Rattle.pm_plan.specs.Auction.{sum_in, total, plain, group_step, member_line, limited_line, end_in}
+use Rattle.pm_plan.specs.Auction.{sum_in, total, plain_step, local_step_of_group, member_line, limited_line, end_in}
 use Rattle.pm_base.specs.Cuts.{Cut}
 use Rattle.pm_base.proofs.Bools.{chosen}
 use Rattle.pm_plan.specs.States.{state, end_of, all_ends}
@@ -55,20 +55,20 @@ limited-node plan cut g inside = inside
 abbrev pub IsCutOf : PlanData → Cut → Type 0
 IsCutOf plan cut = (d : ℕ) → d ≤ length plan.nodes → cut d ≤ change_count plan d
 
-plain-inside : (plan : PlanData) (cut : Cut) → IsPlan plan → IsCutOf plan cut → plain plan (state plan) cut < plan.basis.steps
-unfolding plain
-plain-inside plan cut is within =
+plain_step-inside : (plan : PlanData) (cut : Cut) → IsPlan plan → IsCutOf plan cut → plain_step plan (state plan) cut < plan.basis.steps
+unfolding plain_step
+plain_step-inside plan cut is within =
     let fit = fits plan cut is within in
     let long = ap (λ (l : List ℤ). length l) (sym (total_to-all plan (state plan) cut)) ∙ total_to-steps plan (state plan) cut (length plan.nodes) fit in
     first_inside (pos 0) (total plan (state plan) cut) plan.basis.steps long (let some = is.basis.steps.least in omega arith)
 
 limited-step : (plan : PlanData) (cut : Cut) (g : ℕ) → IsPlan plan → IsCutOf plan cut → (limited_line plan (state plan) cut g).step < plan.basis.steps
-unfolding limited_line group_step
+unfolding limited_line local_step_of_group
 limited-step plan cut g is within =
     let fit = fits plan cut is within in
-    local_inside (limits_of (node plan g)) (plain plan (state plan) cut) plan.basis.steps (sum_in plan (state plan) cut g)
+    local_inside (limits_of (node plan g)) (plain_step plan (state plan) cut) plan.basis.steps (sum_in plan (state plan) cut g)
     (sum_fits plan (state plan) cut g fit)
-    (let some = is.basis.steps.least in omega arith) (plain-inside plan cut is within)
+    (let some = is.basis.steps.least in omega arith) (plain_step-inside plan cut is within)
 
 -- the end over a cut with no more than the plan's changes names nodes and steps of the plan alone
 pub end-is : (plan : PlanData) (cut : Cut) → IsPlan plan → IsCutOf plan cut → IsEndOf plan (end_of plan cut)

@@ -2,7 +2,7 @@
 use Rattle.std.proofs.Common.{◌≡◌, ◌∙◌, sym, ap, subst, ℕ, zero, suc, ◌≤◌, ℤ, ◌+ℤ◌, ◌-ℤ◌, neg_ℤ, List, [], ◌∷◌}
 use Rattle.std.proofs.Common.{length, refl, arith}
 use Rattle.std.proofs.lemmas.Int.{ints}
-use Rattle.pm_bid.specs.Bids.{demand_at, added, sum_of, HaveSteps}
+use Rattle.pm_bid.specs.Bids.{demand_at, pairwise_sum, sum_of, HaveSteps}
 use Rattle.pm_bid.specs.Clearing.{Clears, IsFirstAtMost}
 use Rattle.pm_bid.proofs.Sums.{length-sum_of}
 use Rattle.pm_bid.proofs.SumLaws.{added_comm}
@@ -16,7 +16,7 @@ length-target_bid target (suc steps) = ap suc (length-target_bid target steps)
 
 -- a total with a target taken off is the total with the bid of the target added
 pub less_target-added : (target : ℤ) (steps : ℕ) (total : List ℤ) → length total ≡ steps
-    → less_target target total ≡ added total (target_bid target steps)
+    → less_target target total ≡ pairwise_sum total (target_bid target steps)
 less_target-added target zero [] same = refl
 less_target-added target (suc steps) [] same = absurd (omega arith)
 less_target-added target zero (x ∷ xs) same = absurd (omega arith)
@@ -34,13 +34,13 @@ less_target-sum_of target steps bids all =
 
 -- a market with one more bid clears at the step of the target
 pub target_clears : (target : ℤ) (steps : ℕ) (total : List ℤ) → length total ≡ steps → 1 ≤ steps
-    → Clears (added total (target_bid target steps)) (asked_step target total)
+    → Clears (pairwise_sum total (target_bid target steps)) (asked_step target total)
 target_clears target steps total same some =
     subst (λ rest. Clears rest (asked_step target total)) (less_target-added target steps total same) (rest_clears target total (omega arith))
 
 -- and at no other
 pub target_clears_only : (target : ℤ) (steps : ℕ) (total : List ℤ) (step : ℕ) → length total ≡ steps
-    → Clears (added total (target_bid target steps)) step → step ≡ asked_step target total
+    → Clears (pairwise_sum total (target_bid target steps)) step → step ≡ asked_step target total
 target_clears_only target steps total step same clears =
     let first = subst (λ rest. Clears rest step) (sym (less_target-added target steps total same)) clears in
     sym (meets_is_asked target total step (clears_meets target total step first))

@@ -1,7 +1,7 @@
 //! What a target is: one more bid.
 
 ghost use Rattle.std.specs.Prelude.{◌≡◌, ◌≤◌, ◌∷◌, ℕ, ℤ, ◌-ℤ◌, List, length};
-ghost use Rattle.pm_bid.specs.Bids.{demand_at, added, sum_of, HaveSteps};
+ghost use Rattle.pm_bid.specs.Bids.{demand_at, pairwise_sum, sum_of, HaveSteps};
 ghost use Rattle.pm_bid.specs.Clearing.{Clears, IsFirstAtMost, clearing_step};
 ghost use Rattle.pm_ask.specs.Asked.{asked_step, asked_total, target_bid};
 
@@ -15,13 +15,13 @@ pub fn targets_are_bids()
 
     // Of a total alone: with the bid of the target the market clears at the step that is answered, and at no other.
     ensures clears { (target : ℤ) (steps : ℕ) (total : List ℤ) → length total ≡ steps → 1 ≤ steps
-        → Clears (added total (target_bid target steps)) (asked_step target total) }
+        → Clears (pairwise_sum total (target_bid target steps)) (asked_step target total) }
     ensures only { (target : ℤ) (steps : ℕ) (total : List ℤ) (step : ℕ) → length total ≡ steps
-        → Clears (added total (target_bid target steps)) step → step ≡ asked_step target total }
+        → Clears (pairwise_sum total (target_bid target steps)) step → step ≡ asked_step target total }
 
     // What is left over is the total of that market at its step: the watts of the cluster there less the target.
     ensures left_over { (target : ℤ) (steps : ℕ) (total : List ℤ) → length total ≡ steps
-        → asked_total target total ≡ demand_at (added total (target_bid target steps)) (asked_step target total) }
+        → asked_total target total ≡ demand_at (pairwise_sum total (target_bid target steps)) (asked_step target total) }
     ensures less { (target : ℤ) (total : List ℤ) → 1 ≤ length total
         → asked_total target total ≡ demand_at total (asked_step target total) -ℤ target }
 

@@ -2,7 +2,7 @@ ghost use Rattle.std.specs.Prelude.{◌≡◌, ◌+◌, ◌<◌, ◌≤◌, ◌^
 ghost use Rattle.std.specs.Option.{option_copied};
 ghost use Rattle.pm_base.specs.Limits.{AreSteps, most_nodes};
 ghost use Rattle.pm_cache.specs.Cache.{kept_number, answer_to};
-ghost use Rattle.pm_cache.specs.Learning.{CanLearn, learnt};
+ghost use Rattle.pm_cache.specs.Learning.{CanLearn, after_learning};
 ghost use Rattle.pm_session.specs.Prices.{IsNewIndex};
 ghost use Rattle.pm_auctioneer.specs.Auctions.{new_auction, ClearedAt};
 ghost use Rattle.pm_auctioneer.specs.declared.fault.ClearFault.TheVariants.{NotChanged};
@@ -74,7 +74,7 @@ impl Auctioneer {
         requires bid { CanLearn self.old.cache child (option_copied demand) }
         ensures answer { result ≡ answer_to (kept_number self.old.cache child) number }
         ensures learnt { self.new ≡ record self.old {
-          cache = learnt self.old.cache child number (option_copied demand.entry);
+          cache = after_learning self.old.cache child number (option_copied demand.entry);
           changed = self.old.changed || not (nat_le number (kept_number self.old.cache child));
         } }
     {

@@ -1,13 +1,13 @@
 -- A part of the cluster with limits on its power: what it announces, and the step of the nodes below it.
 use Rattle.std.specs.Prelude.{ℕ, ◌<◌, ℤ, ◌≤ℤ◌, int_lt, if◌then◌else◌, List, length, Option, Some, None}
 use Rattle.pm_base.specs.declared.limits.Limits.{Limits}
-use Rattle.pm_bid.specs.Bids.{demand_at, clamped}
+use Rattle.pm_bid.specs.Bids.{demand_at, clamp}
 use Rattle.pm_bid.specs.Clearing.{first_at_most, last_at_least}
 
 -- a sum with each demand moved to the nearest number within the limits, where there are some
 abbrev pub within_limits : Option Limits → List ℤ → List ℤ
 within_limits None sum = sum
-within_limits (Some limits) sum = clamped limits.floor limits.ceiling sum
+within_limits (Some limits) sum = clamp limits.floor limits.ceiling sum
 
 -- the step at which a sum stays within limits, where the whole cluster clears at step k: k where the sum there lies
 -- within them; where it is above the ceiling, the first step at which it is at most the ceiling; where it is below

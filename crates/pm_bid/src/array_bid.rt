@@ -1,5 +1,5 @@
 ghost use Rattle.std.specs.Prelude.{◌≡◌, ◌+◌, ◌*◌, ◌<◌, ◌≤◌, ◌≤ℤ◌, length, slice_set, pos, IfOk, vec_len};
-ghost use Rattle.pm_bid.specs.Bids.{demand_at, added, taken_off, zeros, clamped, AllWithinLimit, NeverRises};
+ghost use Rattle.pm_bid.specs.Bids.{demand_at, pairwise_sum, pairwise_difference, zeros, clamp, AllWithinLimit, NeverRises};
 ghost use Rattle.pm_base.specs.Limits.{AreSteps, most_steps, IsWithin, sum_limit, demand_limit};
 ghost use Rattle.pm_bid.specs.Checks.{checked_bid};
 ghost use Rattle.pm_bid.specs.Limited.{step_within};
@@ -126,8 +126,8 @@ impl ArrayBid {
     /// ±256,000,000,000 watts.
     pub fn add_into<L: Ledger>(&mut self, other: &ArrayBid, counter: &mut Steps<L>)
         requires equal_lengths { length self.old ≡ length other.now }
-        requires within { AllWithinLimit sum_limit (added self.old other.now) }
-        ensures sum { self.new ≡ added self.old other.now }
+        requires within { AllWithinLimit sum_limit (pairwise_sum self.old other.now) }
+        ensures sum { self.new ≡ pairwise_sum self.old other.now }
         ensures cost { counter.new ≡ counter.old + length self.old }
     {
         add_each(&mut self.demands, &other.demands, counter);
@@ -136,8 +136,8 @@ impl ArrayBid {
     /// Takes the other bid off at every step, under the conditions of [`ArrayBid::add_into`].
     pub fn take_from<L: Ledger>(&mut self, other: &ArrayBid, counter: &mut Steps<L>)
         requires equal_lengths { length self.old ≡ length other.now }
-        requires within { AllWithinLimit sum_limit (taken_off self.old other.now) }
-        ensures rest { self.new ≡ taken_off self.old other.now }
+        requires within { AllWithinLimit sum_limit (pairwise_difference self.old other.now) }
+        ensures rest { self.new ≡ pairwise_difference self.old other.now }
         ensures cost { counter.new ≡ counter.old + length self.old }
     {
         take_each(&mut self.demands, &other.demands, counter);
@@ -148,8 +148,8 @@ impl ArrayBid {
     pub fn exchange<L: Ledger>(&mut self, old: &ArrayBid, new: &ArrayBid, counter: &mut Steps<L>)
         requires old_length { length self.old ≡ length old.now }
         requires new_length { length self.old ≡ length new.now }
-        requires within { AllWithinLimit sum_limit (added (taken_off self.old old.now) new.now) }
-        ensures exchanged { self.new ≡ added (taken_off self.old old.now) new.now }
+        requires within { AllWithinLimit sum_limit (pairwise_sum (pairwise_difference self.old old.now) new.now) }
+        ensures exchanged { self.new ≡ pairwise_sum (pairwise_difference self.old old.now) new.now }
         ensures cost { counter.new ≡ counter.old + 2 * length self.old }
     {
         exchange_each(&mut self.demands, &old.demands, &new.demands, counter);
@@ -250,7 +250,7 @@ impl ArrayBid {
         requires ceiling_not_negative { pos 0 ≤ℤ ceiling }
         requires floor_within { IsWithin sum_limit floor }
         requires ceiling_within { IsWithin sum_limit ceiling }
-        ensures bid { target.new ≡ clamped floor ceiling self.now }
+        ensures bid { target.new ≡ clamp floor ceiling self.now }
         ensures cost { counter.new ≡ counter.old + length self.now }
     {
         clamp_each(&self.demands, floor, ceiling, &mut target.demands, counter);

@@ -1,5 +1,5 @@
 ghost use Rattle.std.specs.Prelude.{◌≡◌, ◌+◌, ◌*◌, ◌≤ℤ◌, length};
-ghost use Rattle.pm_bid.specs.Bids.{added, taken_off, zeros, clamped, AllWithinLimit};
+ghost use Rattle.pm_bid.specs.Bids.{pairwise_sum, pairwise_difference, zeros, clamp, AllWithinLimit};
 ghost use Rattle.pm_base.specs.Limits.{sum_limit, IsWithin};
 
 use crate::steps::Steps;
@@ -8,8 +8,8 @@ use std::sync::ledger::Ledger;
 /// Adds the others step by step.
 pub(crate) fn add_each<L: Ledger>(demands: &mut [i64], others: &[i64], counter: &mut Steps<L>)
     requires equal_lengths { length demands.old ≡ length others.now }
-    requires within { AllWithinLimit sum_limit (added demands.old others.now) }
-    ensures sum { demands.new ≡ added demands.old others.now }
+    requires within { AllWithinLimit sum_limit (pairwise_sum demands.old others.now) }
+    ensures sum { demands.new ≡ pairwise_sum demands.old others.now }
     ensures cost { counter.new ≡ counter.old + length demands.old }
 {
     for (step, demand) in demands.iter_mut().enumerate() {
@@ -21,8 +21,8 @@ pub(crate) fn add_each<L: Ledger>(demands: &mut [i64], others: &[i64], counter: 
 /// Takes the others off step by step.
 pub(crate) fn take_each<L: Ledger>(demands: &mut [i64], others: &[i64], counter: &mut Steps<L>)
     requires equal_lengths { length demands.old ≡ length others.now }
-    requires within { AllWithinLimit sum_limit (taken_off demands.old others.now) }
-    ensures rest { demands.new ≡ taken_off demands.old others.now }
+    requires within { AllWithinLimit sum_limit (pairwise_difference demands.old others.now) }
+    ensures rest { demands.new ≡ pairwise_difference demands.old others.now }
     ensures cost { counter.new ≡ counter.old + length demands.old }
 {
     for (step, demand) in demands.iter_mut().enumerate() {
@@ -42,8 +42,8 @@ pub(crate) fn exchange_each<L: Ledger>(
     requires new_length { length demands.old ≡ length news.now }
     requires demands_within { AllWithinLimit sum_limit demands.old }
     requires olds_within { AllWithinLimit sum_limit olds.now }
-    requires within { AllWithinLimit sum_limit (added (taken_off demands.old olds.now) news.now) }
-    ensures exchanged { demands.new ≡ added (taken_off demands.old olds.now) news.now }
+    requires within { AllWithinLimit sum_limit (pairwise_sum (pairwise_difference demands.old olds.now) news.now) }
+    ensures exchanged { demands.new ≡ pairwise_sum (pairwise_difference demands.old olds.now) news.now }
     ensures cost { counter.new ≡ counter.old + 2 * length demands.old }
 {
     for (step, demand) in demands.iter_mut().enumerate() {
@@ -66,7 +66,7 @@ pub(crate) fn clamp_each<L: Ledger>(
     requires order { floor ≤ℤ ceiling }
     requires floor_within { IsWithin sum_limit floor }
     requires ceiling_within { IsWithin sum_limit ceiling }
-    ensures clamped { targets.new ≡ clamped floor ceiling demands.now }
+    ensures clamped { targets.new ≡ clamp floor ceiling demands.now }
     ensures within { AllWithinLimit sum_limit targets.new }
     ensures cost { counter.new ≡ counter.old + length demands.now }
 {

@@ -22,7 +22,7 @@ use Rattle.pm_market.specs.Offers.{int_sum_to}
 use Rattle.pm_tree.specs.Entries.{leaves_of}
 use Rattle.pm_plan.specs.Plans.{PlanData, is_leaf, is_member, is_limited, group, node_numbers, change_count, end_cut}
 use Rattle.pm_plan.specs.Kept.{IsPlan}
-use Rattle.pm_plan.specs.Auction.{limited, local, power}
+use Rattle.pm_plan.specs.Auction.{limited_nodes, local_step_in, power}
 use Rattle.pm_plan.specs.States.{state}
 use Rattle.pm_plan.proofs.Ends.{end-none}
 use Rattle.pm_plan.proofs.Fits.{power-within}
@@ -163,7 +163,7 @@ group_price_within : (plan : PlanData) (cut : Cut) → IsPlan plan → (g : ℕ)
 group_price_within plan cut is g = price_within plan.basis (step_of plan cut g) is.basis (group_step_inside plan cut g is)
 
 device_price_within : (plan : PlanData) (cut : Cut) → IsPlan plan → (d : ℕ) → IsWithin price_limit (device_share plan cut d).price
-unfolding local
+unfolding local_step_in
 device_price_within plan cut is d = group_price_within plan cut is (group plan d)
 
 where_within : (limit : ℕ) (b : Bool) (z : ℤ) → IsWithin limit z → IsWithin limit (cond b z (pos 0))
@@ -234,7 +234,7 @@ shares_are plan cut is planned =
 
 groups_are : (plan : PlanData) (cut : Cut) → IsPlan plan → IsPlanned plan cut → AreGroups (group_sums plan cut)
 groups_are plan cut is planned =
-    let gs = 0 ∷ limited plan in
+    let gs = 0 ∷ limited_nodes plan in
     record {
       few =
           let lines = length-map gs (group_sum plan cut) in

@@ -15,7 +15,7 @@ use Rattle.pm_plan.specs.declared.end.LimitedLine.{LimitedLine}
 use Rattle.pm_basis.specs.Prices.{price_at}
 use Rattle.pm_plan.specs.Plans.{PlanData, is_member, is_limited, group, node_numbers, end_cut}
 use Rattle.pm_plan.specs.Kept.{IsPlan}
-use Rattle.pm_plan.specs.Auction.{limited, plain, local, power, member_line, limited_line, end_in}
+use Rattle.pm_plan.specs.Auction.{limited_nodes, plain_step, local_step_in, power, member_line, limited_line, end_in}
 use Rattle.pm_plan.specs.States.{state, end_of}
 use Rattle.pm_plan.proofs.Ends.{end-within}
 use Rattle.pm_plan.proofs.Fits.{power-within}
@@ -54,7 +54,7 @@ members plan cut = filter (λ d. is_member plan d (cut d)) (node_numbers plan)
 
 line_share : (plan : PlanData) (cut : Cut) (d : ℕ) → IsPlan plan → d ≤ length plan.nodes →
     member_share plan (end_of plan cut) (member_line plan (state plan) cut d) ≡ device_share plan cut d
-unfolding member_line local
+unfolding member_line local_step_in
 line_share plan cut d is inside =
     ap (λ z. record { node = d; price = z; power = power plan (state plan) cut d })
     (price-in_end plan cut (group plan d) (λ bounded. group_inside plan is d inside))
@@ -93,11 +93,11 @@ line_groups plan cut gs = map-map (limited_group plan) (limited_line plan (state
 pub groups_at_end : (plan : PlanData) (cut : Cut) → IsPlan plan → end_groups plan (end_of plan cut) ≡ group_sums plan cut
 unfolding end_in
 groups_at_end plan cut is =
-    let rest : List GroupSum = map (limited_group plan) (map (limited_line plan (state plan) cut) (limited plan)) in
-    let step : ℕ = plain plan (state plan) cut in
+    let rest : List GroupSum = map (limited_group plan) (map (limited_line plan (state plan) cut) (limited_nodes plan)) in
+    let step : ℕ = plain_step plan (state plan) cut in
     ap (λ z. record { price = price_at plan.basis step; power = z } ∷ rest) (free_power_is plan cut is)
     ∙ ap (λ k. record { price = price_at plan.basis k; power = (group_sum plan cut 0).power } ∷ rest) (unlimited_step plan cut 0 refl)
-    ∙ ap (λ sums. group_sum plan cut 0 ∷ sums) (line_groups plan cut (limited plan))
+    ∙ ap (λ sums. group_sum plan cut 0 ∷ sums) (line_groups plan cut (limited_nodes plan))
 
 -- ---- bounds
 
@@ -112,7 +112,7 @@ may_charge plan p is =
           All-map (λ (line : MemberLine). line.node ≤ length plan.nodes) (member_line plan (state plan) cut) (members plan cut)
           (All-filter (λ d. is_member plan d (cut d)) (λ d. d ≤ length plan.nodes) (node_numbers plan) all);
       steps =
-          All-map (λ (line : LimitedLine). line.step < plan.basis.steps) (limited_line plan (state plan) cut) (limited plan)
+          All-map (λ (line : LimitedLine). line.step < plan.basis.steps) (limited_line plan (state plan) cut) (limited_nodes plan)
           (All-filter (is_limited plan) (λ g. step_of plan cut g < plan.basis.steps) (node_numbers plan)
           (λ i d inside. group_step_inside plan cut (get_or (node_numbers plan) i d) is));
       powers =

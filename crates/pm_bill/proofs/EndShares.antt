@@ -17,7 +17,7 @@ use Rattle.pm_basis.specs.Prices.{price_at}
 use Rattle.pm_bid.specs.Limited.{local_step}
 use Rattle.pm_plan.specs.declared.end.LimitedLine.{LimitedLine}
 use Rattle.pm_plan.specs.Plans.{PlanData, node, limits_of, is_limited, node_numbers}
-use Rattle.pm_plan.specs.Auction.{sum_in, plain, group_step, limited_line, end_in}
+use Rattle.pm_plan.specs.Auction.{sum_in, plain_step, local_step_of_group, limited_line, end_in}
 use Rattle.pm_plan.specs.States.{state, end_of}
 use Rattle.pm_plan.proofs.Drafts.{limited_is_no_root}
 use Rattle.pm_offer.proofs.GroupPowers.{step_of}
@@ -96,10 +96,10 @@ unfolding limited_line
 line_price plan cut g = refl
 
 -- the step of a group without limits is that of the whole
-pub unlimited_step : (plan : PlanData) (cut : Cut) (g : ℕ) → is_limited plan g ≡ false → plain plan (state plan) cut ≡ step_of plan cut g
-unfolding group_step
+pub unlimited_step : (plan : PlanData) (cut : Cut) (g : ℕ) → is_limited plan g ≡ false → plain_step plan (state plan) cut ≡ step_of plan cut g
+unfolding local_step_of_group
 unlimited_step plan cut g free =
-    sym (ap (λ (own : Option Limits). local_step own (plain plan (state plan) cut) (sum_in plan (state plan) cut g)) (none_of (limits_of (node plan g)) free))
+    sym (ap (λ (own : Option Limits). local_step own (plain_step plan (state plan) cut) (sum_in plan (state plan) cut g)) (none_of (limits_of (node plan g)) free))
 
 -- the price of a group at an end
 pub price-in_end : (plan : PlanData) (cut : Cut) (g : ℕ) → (is_limited plan g ≡ true → g ≤ length plan.nodes) →
@@ -108,7 +108,7 @@ unfolding end_in
 price-in_end plan cut g inside =
     let line : ℕ → LimitedLine = limited_line plan (state plan) cut in
     let price : Option LimitedLine → ℤ = λ found.
-    option_map_or (λ line. price_at plan.basis line.step) found (price_at plan.basis (plain plan (state plan) cut)) in
+    option_map_or (λ line. price_at plan.basis line.step) found (price_at plan.basis (plain_step plan (state plan) cut)) in
     elim (cases_Bool (is_limited plan g)) [
       | inl bounded ↦
           ap price (line_found line (is_limited plan) (length plan.nodes) g (line_node plan cut) bounded (limited_is_no_root plan g bounded) (inside bounded))

@@ -14,7 +14,7 @@ use Rattle.pm_market.specs.Offers.{int_sum_to}
 use Rattle.pm_laws.proofs.Offers.{int_sum_same, int_sum_add, int_sum_only, int_sum_swap}
 use Rattle.pm_plan.specs.Plans.{PlanData, is_member, is_limited, group, node_numbers}
 use Rattle.pm_plan.specs.Kept.{IsPlan}
-use Rattle.pm_plan.specs.Auction.{demand_in_cut, limited, local, power}
+use Rattle.pm_plan.specs.Auction.{demand_in_cut, limited_nodes, local_step_in, power}
 use Rattle.pm_plan.specs.States.{state}
 use Rattle.pm_plan.proofs.Drafts.{limited_is_no_root}
 use Rattle.pm_offer.specs.Powers.{members_in, group_power}
@@ -33,8 +33,8 @@ use Rattle.pm_bill.proofs.NodeSums.{sum_each-map, sum_each-same, watts-sum_each,
 pub no_power : (plan : PlanData) (cut : Cut) (d : ℕ) → is_member plan d (cut d) ≡ false → power plan (state plan) cut d ≡ pos 0
 unfolding power demand_in_cut
 no_power plan cut d absent =
-    ap (λ bid. demand_at bid (local plan (state plan) cut d)) (cond-false {A = List ℤ} (is_member plan d (cut d)) _ (zeros plan.basis.steps) absent)
-    ∙ zeros-at plan.basis.steps (local plan (state plan) cut d)
+    ap (λ bid. demand_at bid (local_step_in plan (state plan) cut d)) (cond-false {A = List ℤ} (is_member plan d (cut d)) _ (zeros plan.basis.steps) absent)
+    ∙ zeros-at plan.basis.steps (local_step_in plan (state plan) cut d)
 
 -- ---- each device belongs to one group
 
@@ -72,7 +72,7 @@ one_group plan is d v inside =
 
 -- what all groups have is what all devices have
 pub in_all_groups : (plan : PlanData) → IsPlan plan → (f : ℕ → ℤ) →
-    sum_each (in_group plan f) (0 ∷ limited plan) ≡ int_sum_to (length plan.nodes) f
+    sum_each (in_group plan f) (0 ∷ limited_nodes plan) ≡ int_sum_to (length plan.nodes) f
 in_all_groups plan is f =
     let n : ℕ = length plan.nodes in
     let own : ℕ → ℤ = λ d. cond (eqb (group plan d) 0) (f d) (pos 0) in
@@ -111,7 +111,7 @@ power_in_group plan cut g is =
 
 -- the price of a device is that of its group
 share_price : (plan : PlanData) (cut : Cut) (d : ℕ) → (device_share plan cut d).price ≡ group_price plan cut (group plan d)
-unfolding local
+unfolding local_step_in
 share_price plan cut d = refl
 
 -- what a device costs a minute
@@ -142,8 +142,8 @@ cost_in_group plan cut g is =
 pub groups_power : (plan : PlanData) (cut : Cut) → IsPlan plan →
     sum_each (λ group. group.power) (group_sums plan cut) ≡ int_sum_to (length plan.nodes) (power plan (state plan) cut)
 groups_power plan cut is =
-    sum_each-map (λ (sum : GroupSum). sum.power) (group_sum plan cut) (0 ∷ limited plan)
-    ∙ sum_each-same (λ g. (group_sum plan cut g).power) (in_group plan (power plan (state plan) cut)) (0 ∷ limited plan)
+    sum_each-map (λ (sum : GroupSum). sum.power) (group_sum plan cut) (0 ∷ limited_nodes plan)
+    ∙ sum_each-same (λ g. (group_sum plan cut g).power) (in_group plan (power plan (state plan) cut)) (0 ∷ limited_nodes plan)
     (λ g. power_in_group plan cut g is)
     ∙ in_all_groups plan is (power plan (state plan) cut)
 
@@ -151,8 +151,8 @@ groups_power plan cut is =
 pub groups_cost : (plan : PlanData) (cut : Cut) → IsPlan plan →
     sum_each group_cost (group_sums plan cut) ≡ int_sum_to (length plan.nodes) (λ d. share_cost (device_share plan cut d))
 groups_cost plan cut is =
-    sum_each-map group_cost (group_sum plan cut) (0 ∷ limited plan)
-    ∙ sum_each-same (λ g. group_cost (group_sum plan cut g)) (in_group plan (device_cost plan cut)) (0 ∷ limited plan)
+    sum_each-map group_cost (group_sum plan cut) (0 ∷ limited_nodes plan)
+    ∙ sum_each-same (λ g. group_cost (group_sum plan cut g)) (in_group plan (device_cost plan cut)) (0 ∷ limited_nodes plan)
     (λ g. cost_in_group plan cut g is)
     ∙ in_all_groups plan is (device_cost plan cut)
 

@@ -7,7 +7,7 @@ use Rattle.pm_basis.specs.Prices.{price_at}
 use Rattle.pm_bid.specs.Bids.{demand_at}
 use Rattle.pm_tree.specs.Entries.{leaves_of}
 use Rattle.pm_plan.specs.Plans.{PlanData, is_leaf, node_numbers, phases, minutes_of, end_cut}
-use Rattle.pm_plan.specs.Auction.{sum_in, limited, plain, group_step, local, power}
+use Rattle.pm_plan.specs.Auction.{sum_in, limited_nodes, plain_step, local_step_of_group, local_step_in, power}
 use Rattle.pm_plan.specs.States.{state}
 use Rattle.pm_bill.specs.declared.account.Account.{Account}
 use Rattle.pm_bill.specs.declared.share.Share.{Share}
@@ -32,7 +32,7 @@ cut_before plan p = end_cut plan (p - 1)
 -- the share of a device in a cut: the price of its local step, and its power, which is 0 where it is no member
 abbrev pub device_share : PlanData → Cut → ℕ → Share
 device_share plan cut d =
-    record { node = d; price = price_at plan.basis (local plan (state plan) cut d); power = power plan (state plan) cut d }
+    record { node = d; price = price_at plan.basis (local_step_in plan (state plan) cut d); power = power plan (state plan) cut d }
 
 -- the shares of all devices in file order
 abbrev pub device_shares : PlanData → Cut → List Share
@@ -41,12 +41,12 @@ device_shares plan cut = map (device_share plan cut) (devices plan)
 -- what a group comes to in a cut: the price of the group's step, and the sum of the group there
 abbrev pub group_sum : PlanData → Cut → ℕ → GroupSum
 group_sum plan cut g =
-    let step = group_step plan (state plan) cut (plain plan (state plan) cut) g in
+    let step = local_step_of_group plan (state plan) cut (plain_step plan (state plan) cut) g in
     record { price = price_at plan.basis step; power = demand_at (sum_in plan (state plan) cut g) step }
 
 -- all groups: that of the devices below no limited concentrator, and that of each limited concentrator
 abbrev pub group_sums : PlanData → Cut → List GroupSum
-group_sums plan cut = map (group_sum plan cut) (0 ∷ limited plan)
+group_sums plan cut = map (group_sum plan cut) (0 ∷ limited_nodes plan)
 
 -- what a device gains in tick phase p
 unfoldable pub device_gain : PlanData → ℕ → ℕ → Account

@@ -11,7 +11,7 @@ use Rattle.pm_plan.specs.Auction.{EndData}
 use Rattle.pm_plan.specs.Ends.{EndValue}
 use Rattle.pm_plan.specs.States.{end_of}
 use Rattle.pm_plan.specs.Market.{plan_lists}
-use Rattle.pm_offer.specs.Offers.{local_at}
+use Rattle.pm_offer.specs.Offers.{local_step_at}
 use Rattle.pm_cluster.specs.Acts.{moves_of}
 
 -- the plan, the lines of the journal, and the ends of the closed phases
@@ -27,7 +27,7 @@ board_state b = after (plan_lists b.plan) (moves_of b.lines)
 -- a journal of a plan: its moves are legal, and its lines tell what devices held
 pub record IsJournal (plan : PlanData) (journal : List Line) : Type 0 where
   pub legal : LegalJournal (plan_lists plan) (moves_of journal)
-  pub told : journal ≡ lines (plan_lists plan) (local_at plan) (moves_of journal)
+  pub told : journal ≡ lines (plan_lists plan) (local_step_at plan) (moves_of journal)
 
 abbrev pub kept_ends : List EndValue → List EndData
 kept_ends ends = map (λ e. e.end) ends
@@ -40,7 +40,7 @@ ends_to plan p = map (λ q. end_of plan (end_cut plan q)) (range_with_len 1 p)
 pub record AddsLine (old new : BoardValue) (line' : Line) : Type 0 where
   pub plan : new.plan ≡ old.plan
   pub legal : Legal (plan_lists old.plan) (board_state old) line'.what
-  pub told : line' ≡ line_of (plan_lists old.plan) (local_at old.plan) (board_state old) line'.what
+  pub told : line' ≡ line_of (plan_lists old.plan) (local_step_at old.plan) (board_state old) line'.what
   pub lines : new.lines ≡ old.lines ++ line' ∷ []
 
 -- the open phase was closed, and its end is kept

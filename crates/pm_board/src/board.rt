@@ -1,12 +1,12 @@
 ghost use Rattle.std.specs.Prelude.{◌≡◌, ◌≤◌, ◌↔◌, [], All, length, true, Some, IfOk, IsTrue, IfSome, MatchOption};
 ghost use Rattle.pm_market.specs.Lists.{IsLeaf, is_member};
-ghost use Rattle.pm_market.specs.State.{known, clearings, cleared};
+ghost use Rattle.pm_market.specs.State.{knowledge, clearings, cleared_cut};
 ghost use Rattle.pm_market.specs.Moves.{Idle};
 ghost use Rattle.pm_plan.specs.Plans.{phases, plan_bound};
 ghost use Rattle.pm_plan.specs.Auction.{total};
 ghost use Rattle.pm_plan.specs.States.{state};
 ghost use Rattle.pm_plan.specs.Market.{plan_lists};
-ghost use Rattle.pm_offer.specs.Offers.{children_sum, local_at};
+ghost use Rattle.pm_offer.specs.Offers.{children_sum, local_step_at};
 ghost use Rattle.pm_stands.specs.Current.{held_price};
 ghost use Rattle.pm_cluster.specs.Next.{HasNoNext, IsNext};
 ghost use Rattle.pm_cluster.specs.Acts.{NeverGoesBack};
@@ -106,13 +106,13 @@ impl<'p> Board<'p> {
         ensures held { result ≡ held_price self.now.plan (board_state self.now) device.0 }
         ensures current { let s = board_state self.now in Idle (plan_lists self.now.plan) s →
             is_member (plan_lists self.now.plan) device.0 (s.counts device.0) ≡ true →
-            result ≡ Some (record { step = local_at self.now.plan s.counts device.0; number = s.counts device.0; index = clearings s }) }
+            result ≡ Some (record { step = local_step_at self.now.plan s.counts device.0; number = s.counts device.0; index = clearings s }) }
         ensures member { IfSome result (λ price. is_member (plan_lists self.now.plan) device.0 price.number ≡ true) }
         ensures made { let s = board_state self.now in IfSome result (λ price. price.number ≤ s.counts device.0) }
         ensures cleared { let s = board_state self.now in IfSome result (λ price. (1 ≤ price.index) × (price.index ≤ clearings s)) }
-        ensures own { let s = board_state self.now in IfSome result (λ price. price.number ≡ cleared s price.index device.0) }
+        ensures own { let s = board_state self.now in IfSome result (λ price. price.number ≡ cleared_cut s price.index device.0) }
         ensures step { let s = board_state self.now in
-            IfSome result (λ price. price.step ≡ local_at self.now.plan (cleared s price.index) device.0) }
+            IfSome result (λ price. price.step ≡ local_step_at self.now.plan (cleared_cut s price.index) device.0) }
     {
         self.cluster.held(device)
     }
@@ -153,7 +153,7 @@ impl<'p> Board<'p> {
     /// The auctioneer's sum of the bids that it learnt last, in watts at each step; where nothing is pending the total over
     /// all current bids.
     pub fn aggregate(&self) -> &ArrayBid
-        ensures sum { result.now ≡ children_sum self.now.plan 0 (known (plan_lists self.now.plan) (board_state self.now) 0) }
+        ensures sum { result.now ≡ children_sum self.now.plan 0 (knowledge (plan_lists self.now.plan) (board_state self.now) 0) }
         ensures current { let s = board_state self.now in Idle (plan_lists self.now.plan) s →
             result.now ≡ total self.now.plan (state self.now.plan) s.counts }
     {

@@ -6,11 +6,11 @@ use native.Mathlib.Decide.{ℕ_discrete}
 use Rattle.std.specs.Prelude.{IfSome}
 use Rattle.pm_base.specs.Limits.{sum_limit, IsWithin}
 use Rattle.pm_base.proofs.Lists.{get_or-replicate_same}
-use Rattle.pm_bid.specs.Bids.{demand_at, added, taken_off, AllWithinLimit}
-use Rattle.pm_bid.proofs.EachStep.{added-at, taken_off-at, length-added, length-taken_off}
+use Rattle.pm_bid.specs.Bids.{demand_at, pairwise_sum, pairwise_difference, AllWithinLimit}
+use Rattle.pm_bid.proofs.EachStep.{pairwise_sum-at, pairwise_difference-at, length-added, length-taken_off}
 use Rattle.pm_bid.proofs.Sums.{length-sum_of, length-zeros}
 use Rattle.pm_cache.specs.Cache.{Cache, IsCache, aggregate_of, aggregate_with, child_demand}
-use Rattle.pm_cache.specs.Learning.{CanLearn, IsWithinAt, offered, offered_at}
+use Rattle.pm_cache.specs.Learning.{CanLearn, IsWithinAt, demand_of_offer, offered_at}
 use Rattle.pm_cache.proofs.Entries.{replaced}
 
 -- what holds of the numbers below one, and of that one, holds of one more
@@ -18,12 +18,12 @@ pub one_more : (P : ℕ → Type 0) (n : ℕ) → ((k : ℕ) → k < n → P k) 
 one_more P n before here k below = dite (ℕ_discrete k n) (λ e. subst P (sym e) here) (λ not. before k (omega (arith, below, not)))
 
 -- the demand that is offered is that of the offer's list
-offered_is : (cache : Cache) (demand : Option (List ℤ)) (k : ℕ) → offered_at demand k ≡ demand_at (offered cache demand) k
+offered_is : (cache : Cache) (demand : Option (List ℤ)) (k : ℕ) → offered_at demand k ≡ demand_at (demand_of_offer cache demand) k
 offered_is cache None k = sym (get_or-replicate_same cache.steps k (pos 0))
 offered_is cache (Some bid) k = refl
 
 offered_steps : (cache : Cache) (demand : Option (List ℤ)) → IfSome demand (λ bid. length bid ≡ cache.steps)
-    → length (offered cache demand) ≡ cache.steps
+    → length (demand_of_offer cache demand) ≡ cache.steps
 offered_steps cache None h = length-zeros cache.steps
 offered_steps cache (Some bid) h = h
 
@@ -31,13 +31,13 @@ offered_steps cache (Some bid) h = h
 module _ (cache : Cache) (child : ℕ) (demand : Option (List ℤ)) (sound : IsCache cache) (inside : child < length cache.heads)
     (has_steps : IfSome demand (λ bid. length bid ≡ cache.steps)) where
   abbrev new : List ℤ
-  new = offered cache demand
+  new = demand_of_offer cache demand
 
   same : length new ≡ cache.steps
   same = offered_steps cache demand has_steps
 
   abbrev rest : List ℤ
-  rest = taken_off (aggregate_of cache) (child_demand cache child)
+  rest = pairwise_difference (aggregate_of cache) (child_demand cache child)
 
   long : length (aggregate_of cache) ≡ cache.steps
   long = length-sum_of cache.steps cache.demands sound.same_steps
@@ -48,19 +48,19 @@ module _ (cache : Cache) (child : ℕ) (demand : Option (List ℤ)) (sound : IsC
   rest_steps : length rest ≡ cache.steps
   rest_steps = length-taken_off (aggregate_of cache) (child_demand cache child) (long ∙ sym own_steps) ∙ long
 
-  is : added rest new ≡ aggregate_with cache child new
+  is : pairwise_sum rest new ≡ aggregate_with cache child new
   is = replaced cache (aggregate_of cache) (child_demand cache child) new child sound refl inside refl same
 
-  whole : length (added rest new) ≡ cache.steps
+  whole : length (pairwise_sum rest new) ≡ cache.steps
   whole = length-added rest new (rest_steps ∙ sym same) ∙ rest_steps
 
   -- the sum with the offer in the child's place, at a step
-  at : (k : ℕ) → k < cache.steps → demand_at (added rest new) k
+  at : (k : ℕ) → k < cache.steps → demand_at (pairwise_sum rest new) k
       ≡ ((demand_at (aggregate_of cache) k -ℤ demand_at (child_demand cache child) k) +ℤ offered_at demand k)
   at k within =
-      added-at rest new k (omega (arith, within, rest_steps)) (rest_steps ∙ sym same)
+      pairwise_sum-at rest new k (omega (arith, within, rest_steps)) (rest_steps ∙ sym same)
       ∙ ap (λ z. z +ℤ demand_at new k)
-      (taken_off-at (aggregate_of cache) (child_demand cache child) k (omega (arith, within, long)) (long ∙ sym own_steps))
+      (pairwise_difference-at (aggregate_of cache) (child_demand cache child) k (omega (arith, within, long)) (long ∙ sym own_steps))
       ∙ ap (λ z. (demand_at (aggregate_of cache) k -ℤ demand_at (child_demand cache child) k) +ℤ z) (sym (offered_is cache demand k))
 
   -- a bid with which the sum is within the limit at every step may be learnt
@@ -76,5 +76,5 @@ module _ (cache : Cache) (child : ℕ) (demand : Option (List ℤ)) (sound : IsC
   -- with a bid that may be learnt the sum is within the limit at every step
   pub within_at : CanLearn cache child demand → (k : ℕ) → k < cache.steps → IsWithinAt cache child demand k
   within_at may k here =
-      let all : AllWithinLimit sum_limit (added rest new) = subst (AllWithinLimit sum_limit) (sym is) may.within in
+      let all : AllWithinLimit sum_limit (pairwise_sum rest new) = subst (AllWithinLimit sum_limit) (sym is) may.within in
       subst (λ (z : ℤ). IsWithin sum_limit z) (at k here) (all k (omega (arith, here, whole)))

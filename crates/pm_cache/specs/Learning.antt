@@ -5,16 +5,16 @@ use Rattle.pm_base.specs.Limits.{demand_limit, sum_limit, IsWithin}
 use Rattle.pm_cache.specs.Cache.{Cache, with_bid, with_gone, kept_number, child_demand, aggregate_of, aggregate_with}
 
 -- the demand that a child offers: none is all zeros
-abbrev pub offered : Cache → Option (List ℤ) → List ℤ
-offered cache None = zeros cache.steps
-offered cache (Some bid) = bid
+abbrev pub demand_of_offer : Cache → Option (List ℤ) → List ℤ
+demand_of_offer cache None = zeros cache.steps
+demand_of_offer cache (Some bid) = bid
 
 -- a bid may be learnt: it is a child's, it has the cache's steps, and all entries with it in the
 -- child's place sum within the limit
 pub record CanLearn (cache : Cache) (child : ℕ) (demand : Option (List ℤ)) : Type 0 where
   pub is_child : child < length cache.heads
-  pub equal_lengths : length (offered cache demand) ≡ cache.steps
-  pub within : AllWithinLimit sum_limit (aggregate_with cache child (offered cache demand))
+  pub equal_lengths : length (demand_of_offer cache demand) ≡ cache.steps
+  pub within : AllWithinLimit sum_limit (aggregate_with cache child (demand_of_offer cache demand))
 
 -- the demand that is offered at a step: none is 0
 abbrev pub offered_at : Option (List ℤ) → ℕ → ℤ
@@ -27,13 +27,13 @@ IsWithinAt cache child demand step =
     IsWithin sum_limit ((demand_at (aggregate_of cache) step -ℤ demand_at (child_demand cache child) step) +ℤ offered_at demand step)
 
 -- the cache with the child's newer bid; none makes the child gone
-abbrev pub entered : Cache → ℕ → ℕ → Option (List ℤ) → Cache
-entered cache child number None = with_gone cache child number
-entered cache child number (Some bid) = with_bid cache child number bid
+abbrev pub with_newer_bid : Cache → ℕ → ℕ → Option (List ℤ) → Cache
+with_newer_bid cache child number None = with_gone cache child number
+with_newer_bid cache child number (Some bid) = with_bid cache child number bid
 
 -- the cache after a bid of that number: a bid that is not newer changes nothing
-abbrev pub learnt : Cache → ℕ → ℕ → Option (List ℤ) → Cache
-learnt cache child number demand = if nat_le number (kept_number cache child) then cache else entered cache child number demand
+abbrev pub after_learning : Cache → ℕ → ℕ → Option (List ℤ) → Cache
+after_learning cache child number demand = if nat_le number (kept_number cache child) then cache else with_newer_bid cache child number demand
 
 -- each entry is one bid and no sum: within the limit of one demand
 abbrev pub HasSingleBids : Cache → Type 0

@@ -2,7 +2,7 @@ ghost use Rattle.std.specs.Prelude.{◌≡◌, ◌+◌, ◌*◌, ◌<◌, ◌≤
 ghost use Rattle.pm_bid.specs.Bids.{AllWithinLimit, demand_at, zeros};
 ghost use Rattle.pm_base.specs.Limits.{AreSteps, most_nodes, sum_limit, IsWithin};
 ghost use Rattle.std.specs.Option.{option_copied};
-ghost use Rattle.pm_cache.specs.Learning.{CanLearn, learnt};
+ghost use Rattle.pm_cache.specs.Learning.{CanLearn, after_learning};
 ghost use Rattle.pm_cache.specs.Cache.{kept_number, aggregate_of, aggregate_with, empty_cache, with_bid, with_gone, answer_to, IsCache, child_demand};
 
 use crate::fault::CacheFault;
@@ -24,7 +24,7 @@ pub struct BidCache {
 
 impl Model for BidCache {
     ghost use Rattle.std.specs.Option.{option_copied};
-    ghost use Rattle.pm_cache.specs.Learning.{CanLearn, learnt};
+    ghost use Rattle.pm_cache.specs.Learning.{CanLearn, after_learning};
     ghost use Rattle.pm_cache.specs.Cache.{Cache};
 
     ghost Value = { Cache };
@@ -147,7 +147,7 @@ impl BidCache {
     ) -> Result<(), CacheFault>
         requires bid { CanLearn self.old child (option_copied demand) }
         ensures answer { result ≡ answer_to (kept_number self.old child) number }
-        ensures learnt { self.new ≡ learnt self.old child number (option_copied demand.entry) }
+        ensures learnt { self.new ≡ after_learning self.old child number (option_copied demand.entry) }
         ensures cost { counter.new ≤ counter.old + 3 * self.old.steps }
         ensures passes { OnOk result (counter.old + 2 * self.old.steps ≤ counter.new) }
         ensures rises { counter.old ≤ counter.new }

@@ -8,7 +8,7 @@ use native.Mathlib.Decide.{dec_le}
 use Rattle.std.proofs.lemmas.List.Elements.{Contains-append_left, Contains-push}
 use Rattle.pm_cells.specs.Numbers.{newest_number, AllAmong}
 use Rattle.pm_cells.specs.Cells.{CellSlot, IsCell, HoldsNewest, IsPriceOf, WasPut, messages_in, fresh_cell}
-use Rattle.pm_cells.specs.Steps.{putting, taking, having_lost, having_put, having_taken, having_found_none}
+use Rattle.pm_cells.specs.Steps.{with_claim_to_put, with_claim_to_take, after_loss, after_put, after_take, after_empty_take}
 use Rattle.pm_cells.specs.declared.view.CellView.{CellView}
 use Rattle.pm_cells.specs.declared.message.Message.{Message}
 use Rattle.pm_cells.proofs.Numbers.{last_above-push, RiseAbove-push, contains_newest, newest_at_most}
@@ -57,7 +57,7 @@ module _ (F : ℕ → Message → Type 0) (w : ℕ) (h : opt.Option CellSlot) (p
   taken_at_most = newest_at_most take.takes put.puts c.puts_rise c.takes_were_put
 
   -- a claim of a free slot, to put
-  pub claimed_to_put : w % 2 ≡ 0 → IsCell F (bit_or w 1) opt.none (putting put) take
+  pub claimed_to_put : w % 2 ≡ 0 → IsCell F (bit_or w 1) opt.none (with_claim_to_put put) take
   claimed_to_put even = let a = c.word_is in let b = none_holds even in let o = bit_or-even w even in record {
     word_is = omega arith;
     one_holds = omega arith;
@@ -72,7 +72,7 @@ module _ (F : ℕ → Message → Type 0) (w : ℕ) (h : opt.Option CellSlot) (p
 
   -- a claim of a free slot in which this is, to take
   pub claimed_to_take : (x : CellSlot) → AllAmong (messages_in x) put.sent → w % 2 ≡ 0
-      → IsCell F (bit_or w 1) opt.none put (taking take (w / 2) x)
+      → IsCell F (bit_or w 1) opt.none put (with_claim_to_take take (w / 2) x)
   claimed_to_take x was_put even = let a = c.word_is in let b = none_holds even in let o = bit_or-even w even in record {
     word_is = omega arith;
     one_holds = omega arith;
@@ -86,7 +86,7 @@ module _ (F : ℕ → Message → Type 0) (w : ℕ) (h : opt.Option CellSlot) (p
   }
 
   -- a claim of the putting end that is lost
-  pub lost_to_put : w % 2 ≡ 1 → IsCell F (bit_or w 1) h (having_lost put) take
+  pub lost_to_put : w % 2 ≡ 1 → IsCell F (bit_or w 1) h (after_loss put) take
   lost_to_put odd = record {
     word_is = bit_or-odd w odd ∙ c.word_is;
     one_holds = c.one_holds;
@@ -100,7 +100,7 @@ module _ (F : ℕ → Message → Type 0) (w : ℕ) (h : opt.Option CellSlot) (p
   }
 
   -- a claim of the taking end that is lost
-  pub lost_to_take : w % 2 ≡ 1 → IsCell F (bit_or w 1) h put (having_lost take)
+  pub lost_to_take : w % 2 ≡ 1 → IsCell F (bit_or w 1) h put (after_loss take)
   lost_to_take odd = record {
     word_is = bit_or-odd w odd ∙ c.word_is;
     one_holds = c.one_holds;
@@ -128,7 +128,7 @@ module _ (F : ℕ → Message → Type 0) (w : ℕ) (h : opt.Option CellSlot) (p
 
   -- a release with a message under a newer number
   pub released_put : (n : ℕ) (m : Message) → put.holds ≡ 1 → newest_number put.puts < n → F n m
-      → IsCell F (n * 2) (opt.some (Some m)) (having_put put n m) take
+      → IsCell F (n * 2) (opt.some (Some m)) (after_put put n m) take
   released_put n m holds above fits =
       let b = c.one_holds in let last = last_above-push 0 put.puts n in let t = taken_at_most in record {
         word_is = omega arith;
@@ -148,7 +148,7 @@ module _ (F : ℕ → Message → Type 0) (w : ℕ) (h : opt.Option CellSlot) (p
 
   -- a release after a take of a newer number
   pub released_taken : (k : ℕ) → take.holds ≡ 1 → k ≡ 2 * take.found → newest_number take.takes < take.found
-      → IsCell F k (opt.some None) put (having_taken take)
+      → IsCell F k (opt.some None) put (after_take take)
   released_taken k holds is above =
       let b = c.one_holds in let f = c.found_is holds in let last = last_above-push 0 take.takes take.found in
       let was_put = subst (Contains put.puts) (sym f) (contains_newest put.puts (omega arith)) in record {
@@ -165,7 +165,7 @@ module _ (F : ℕ → Message → Type 0) (w : ℕ) (h : opt.Option CellSlot) (p
 
   -- a release after a take that found no newer number
   pub released_none : (k : ℕ) → take.holds ≡ 1 → k ≡ 2 * take.found → take.found ≤ newest_number take.takes
-      → IsCell F k (opt.some None) put (having_found_none take)
+      → IsCell F k (opt.some None) put (after_empty_take take)
   released_none k holds is old = let b = c.one_holds in let f = c.found_is holds in record {
     word_is = omega arith;
     one_holds = omega arith;

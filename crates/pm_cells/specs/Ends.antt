@@ -3,7 +3,7 @@ use Rattle.std.specs.Prelude.{◌≡◌, ℕ, ◌≤◌, List, [], Some, None}
 pub use Rattle.atomic_table.specs.Seated.{TableId}
 use Rattle.pm_session.specs.declared.price.PriceUpdate.{PriceUpdate}
 use Rattle.pm_cells.specs.Numbers.{newest_number}
-use Rattle.pm_cells.specs.Steps.{Seated, having_lost, taking, having_put, having_taken, having_found_none, with_up, with_down}
+use Rattle.pm_cells.specs.Steps.{Seated, after_loss, with_claim_to_take, after_put, after_take, after_empty_take, with_up, with_down}
 use Rattle.pm_cells.specs.declared.message.UpMessage.{UpMessage}
 use Rattle.pm_cells.specs.declared.message.Message.TheVariants.{Bid, Price}
 use Rattle.pm_cells.specs.declared.fault.PutPriceFault.{PutPriceFault}
@@ -40,31 +40,31 @@ pub record RestsBetweenCalls (role : Role) (seat : Seated) (put take : CellView)
   pub takes_fit : room ≤ for_takes
 
 -- the end with another view
-abbrev pub knowing : LinkEnd → EndView → LinkEnd
-knowing e v = record { link = e.link; known = v; room = e.room }
+abbrev pub with_view : LinkEnd → EndView → LinkEnd
+with_view e v = record { link = e.link; known = v; room = e.room }
 
 -- after a put of this message, and after a claim that was lost
 abbrev pub after_put_bid : LinkEnd → UpMessage → LinkEnd
-after_put_bid e bid = knowing e (with_up e.known (having_put e.known.up bid.number (Bid bid)))
+after_put_bid e bid = with_view e (with_up e.known (after_put e.known.up bid.number (Bid bid)))
 
 abbrev pub after_lost_bid : LinkEnd → LinkEnd
-after_lost_bid e = knowing e (with_up e.known (having_lost e.known.up))
+after_lost_bid e = with_view e (with_up e.known (after_loss e.known.up))
 
 abbrev pub after_put_price : LinkEnd → PriceUpdate → LinkEnd
-after_put_price e price = knowing e (with_down e.known (having_put e.known.down price.index (Price price)))
+after_put_price e price = with_view e (with_down e.known (after_put e.known.down price.index (Price price)))
 
 abbrev pub after_lost_price : LinkEnd → LinkEnd
-after_lost_price e = knowing e (with_down e.known (having_lost e.known.down))
+after_lost_price e = with_view e (with_down e.known (after_loss e.known.down))
 
 -- after a take of this message, and after one that found the number taken last
 abbrev pub after_taken_bid : LinkEnd → UpMessage → LinkEnd
-after_taken_bid e bid = knowing e (with_up e.known (having_taken (taking e.known.up bid.number (Some (Bid bid)))))
+after_taken_bid e bid = with_view e (with_up e.known (after_take (with_claim_to_take e.known.up bid.number (Some (Bid bid)))))
 
 abbrev pub after_no_bid : LinkEnd → LinkEnd
-after_no_bid e = knowing e (with_up e.known (having_found_none (taking e.known.up (newest_number e.known.up.takes) None)))
+after_no_bid e = with_view e (with_up e.known (after_empty_take (with_claim_to_take e.known.up (newest_number e.known.up.takes) None)))
 
 abbrev pub after_taken_price : LinkEnd → PriceUpdate → LinkEnd
-after_taken_price e price = knowing e (with_down e.known (having_taken (taking e.known.down price.index (Some (Price price)))))
+after_taken_price e price = with_view e (with_down e.known (after_take (with_claim_to_take e.known.down price.index (Some (Price price)))))
 
 abbrev pub after_no_price : LinkEnd → LinkEnd
-after_no_price e = knowing e (with_down e.known (having_found_none (taking e.known.down (newest_number e.known.down.takes) None)))
+after_no_price e = with_view e (with_down e.known (after_empty_take (with_claim_to_take e.known.down (newest_number e.known.down.takes) None)))

@@ -39,8 +39,8 @@ abbrev pub spent_view : EndView
 spent_view = record { role = Spent; up = fresh_cell; down = fresh_cell }
 
 -- the end has the slot, to put
-abbrev pub putting : CellView → CellView
-putting a = record {
+abbrev pub with_claim_to_put : CellView → CellView
+with_claim_to_put a = record {
   puts = a.puts;
   takes = a.takes;
   sent = a.sent;
@@ -53,8 +53,8 @@ putting a = record {
 }
 
 -- the end has the slot, to take, and found this number and this in the slot
-abbrev pub taking : CellView → ℕ → CellSlot → CellView
-taking a n slot = record {
+abbrev pub with_claim_to_take : CellView → ℕ → CellSlot → CellView
+with_claim_to_take a n slot = record {
   puts = a.puts;
   takes = a.takes;
   sent = a.sent;
@@ -67,8 +67,8 @@ taking a n slot = record {
 }
 
 -- one more claim found that the other end has the slot
-abbrev pub having_lost : CellView → CellView
-having_lost a = record {
+abbrev pub after_loss : CellView → CellView
+after_loss a = record {
   puts = a.puts;
   takes = a.takes;
   sent = a.sent;
@@ -81,8 +81,8 @@ having_lost a = record {
 }
 
 -- this message was put under this number
-abbrev pub having_put : CellView → ℕ → Message → CellView
-having_put a n message = record {
+abbrev pub after_put : CellView → ℕ → Message → CellView
+after_put a n message = record {
   puts = a.puts ++ n ∷ [];
   takes = a.takes;
   sent = a.sent ++ message ∷ [];
@@ -95,8 +95,8 @@ having_put a n message = record {
 }
 
 -- the number found was taken, and the message found
-abbrev pub having_taken : CellView → CellView
-having_taken a = record {
+abbrev pub after_take : CellView → CellView
+after_take a = record {
   puts = a.puts;
   takes = a.takes ++ a.found ∷ [];
   sent = a.sent;
@@ -109,8 +109,8 @@ having_taken a = record {
 }
 
 -- one more take found no newer number
-abbrev pub having_found_none : CellView → CellView
-having_found_none a = record {
+abbrev pub after_empty_take : CellView → CellView
+after_empty_take a = record {
   puts = a.puts;
   takes = a.takes;
   sent = a.sent;
@@ -158,32 +158,32 @@ ReleasesTaken a took none m m' = (newest_number a.takes < a.found → m' ≡ (to
 
 -- the eight kinds of step: the child puts bids, which the parent takes
 abbrev pub claims_to_put_bid : StepKind
-claims_to_put_bid step m word m' = Claims (λ slot. with_up m.0 (putting m.0.up)) (with_up m.0 (having_lost m.0.up)) 0 (λ slot. Unit {0}) m word m'
+claims_to_put_bid step m word m' = Claims (λ slot. with_up m.0 (with_claim_to_put m.0.up)) (with_up m.0 (after_loss m.0.up)) 0 (λ slot. Unit {0}) m word m'
 
 abbrev pub releases_put_bid : StepKind
-releases_put_bid step m word m' = ReleasesPut 0 (λ message. with_up m.0 (having_put m.0.up (word / 2) message)) m m'
+releases_put_bid step m word m' = ReleasesPut 0 (λ message. with_up m.0 (after_put m.0.up (word / 2) message)) m m'
 
 abbrev pub claims_to_take_bid : StepKind
 claims_to_take_bid step m word m' =
-    Claims (λ slot. with_up m.0 (taking m.0.up (word / 2) slot)) (with_up m.0 (having_lost m.0.up)) 0
+    Claims (λ slot. with_up m.0 (with_claim_to_take m.0.up (word / 2) slot)) (with_up m.0 (after_loss m.0.up)) 0
     (ShowsNewest IsBidWith m.0.up (word / 2)) m word m'
 
 abbrev pub releases_taken_bid : StepKind
-releases_taken_bid step m word m' = ReleasesTaken m.0.up (with_up m.0 (having_taken m.0.up)) (with_up m.0 (having_found_none m.0.up)) m m'
+releases_taken_bid step m word m' = ReleasesTaken m.0.up (with_up m.0 (after_take m.0.up)) (with_up m.0 (after_empty_take m.0.up)) m m'
 
 -- and the parent puts prices, which the child takes
 abbrev pub claims_to_put_price : StepKind
 claims_to_put_price step m word m' =
-    Claims (λ slot. with_down m.0 (putting m.0.down)) (with_down m.0 (having_lost m.0.down)) 1 (λ slot. Unit {0}) m word m'
+    Claims (λ slot. with_down m.0 (with_claim_to_put m.0.down)) (with_down m.0 (after_loss m.0.down)) 1 (λ slot. Unit {0}) m word m'
 
 abbrev pub releases_put_price : StepKind
-releases_put_price step m word m' = ReleasesPut 1 (λ message. with_down m.0 (having_put m.0.down (word / 2) message)) m m'
+releases_put_price step m word m' = ReleasesPut 1 (λ message. with_down m.0 (after_put m.0.down (word / 2) message)) m m'
 
 abbrev pub claims_to_take_price : StepKind
 claims_to_take_price step m word m' =
-    Claims (λ slot. with_down m.0 (taking m.0.down (word / 2) slot)) (with_down m.0 (having_lost m.0.down)) 1
+    Claims (λ slot. with_down m.0 (with_claim_to_take m.0.down (word / 2) slot)) (with_down m.0 (after_loss m.0.down)) 1
     (ShowsNewest (IsPriceOf m.0.up.puts) m.0.down (word / 2)) m word m'
 
 abbrev pub releases_taken_price : StepKind
 releases_taken_price step m word m' =
-    ReleasesTaken m.0.down (with_down m.0 (having_taken m.0.down)) (with_down m.0 (having_found_none m.0.down)) m m'
+    ReleasesTaken m.0.down (with_down m.0 (after_take m.0.down)) (with_down m.0 (after_empty_take m.0.down)) m m'

@@ -11,7 +11,7 @@ use Rattle.pm_bid.specs.Bids.{zeros, sum_of}
 use Rattle.pm_bid.specs.Clearing.{clearing_step}
 use Rattle.pm_bid.specs.Limited.{local_step}
 use Rattle.pm_market.specs.Lists.{Lists, IsNode, IsLeaf, phases, Lawful}
-use Rattle.pm_market.specs.State.{State, start, cut_at, clearings, cleared, known}
+use Rattle.pm_market.specs.State.{State, start, cut_at, clearings, cleared_cut, knowledge}
 use Rattle.pm_market.specs.Moves.{Legal, step}
 use Rattle.pm_market.specs.Sound.{Sound}
 use Rattle.pm_market.specs.declared.moves.Move.{Move}
@@ -25,11 +25,11 @@ use Rattle.pm_plan.specs.Plans.{PlanData, NodeData, node, is_device, limits_of, 
 use Rattle.pm_plan.specs.Plans as plans
 use Rattle.pm_plan.specs.Kept.{IsPlan}
 use Rattle.pm_plan.specs.declared.node.Node.TheVariants.{Concentrator, Limited, Device}
-use Rattle.pm_plan.specs.Auction.{States, node_bid, demand_in_cut, part_in, sum_in, plain, group_step, local}
+use Rattle.pm_plan.specs.Auction.{States, node_bid, demand_in_cut, part_in, sum_in, plain_step, local_step_of_group, local_step_in}
 use Rattle.pm_plan.specs.States.{state}
 use Rattle.pm_plan.specs.Market.{plan_lists}
 use Rattle.pm_plan.proofs.MarketLists.{lawful, end-is, is_leaf-is, phases-is}
-use Rattle.pm_offer.specs.Offers.{local_at}
+use Rattle.pm_offer.specs.Offers.{local_step_at}
 use Rattle.pm_offer.proofs.Laws.{total_alike}
 use Rattle.pm_offer.proofs.GroupNodes as group_nodes
 use Rattle.pm_walk.specs.Auctions.{IsAuction, auction_cut}
@@ -76,19 +76,19 @@ module _ (plan : PlanData) (is_plan : IsPlan plan) (a b : Cut) (same : (d : ℕ)
   unfolding sum_in
   same_sum g = ap (λ (part : ℕ → List ℤ). sum_of plan.basis.steps (map part (node_numbers plan))) (fun_ext (same_part g))
 
-  same_plain : plain plan (state plan) a ≡ plain plan (state plan) b
-  unfolding plain
+  same_plain : plain_step plan (state plan) a ≡ plain_step plan (state plan) b
+  unfolding plain_step
   same_plain = ap clearing_step (total_alike plan a b is_plan same)
 
-  same_group_step : (g : ℕ) → group_step plan (state plan) a (plain plan (state plan) a) g ≡ group_step plan (state plan) b (plain plan (state plan) b) g
-  unfolding group_step
+  same_group_step : (g : ℕ) → local_step_of_group plan (state plan) a (plain_step plan (state plan) a) g ≡ local_step_of_group plan (state plan) b (plain_step plan (state plan) b) g
+  unfolding local_step_of_group
   same_group_step g =
       ap (λ k. local_step (limits_of (node plan g)) k (sum_in plan (state plan) a g)) same_plain
-      ∙ ap (local_step (limits_of (node plan g)) (plain plan (state plan) b)) (same_sum g)
+      ∙ ap (local_step (limits_of (node plan g)) (plain_step plan (state plan) b)) (same_sum g)
 
   -- the steps of one cut are those of the other
-  steps_of : (row : List ℕ) → AreGroupSteps plan a row → (x : ℕ) → IsNode (plan_lists plan) x → get_or row (group plan x) 0 ≡ local_at plan b x
-  unfolding local
+  steps_of : (row : List ℕ) → AreGroupSteps plan a row → (x : ℕ) → IsNode (plan_lists plan) x → get_or row (group plan x) 0 ≡ local_step_at plan b x
+  unfolding local_step_in
   steps_of row are x node =
       are.same (group plan x) (group_inside plan x is_plan (omega (arith, node.1, group_nodes.nodes_are plan is_plan))) ∙ same_group_step (group plan x)
 
@@ -106,7 +106,7 @@ cleared_alike plan s t steps same closed are = record {
     one_each = are.steps_are.one_each ∙ ap (λ (cuts : List Cut). length cuts) (sym same);
     steps = λ j x low high node.
         are.steps_are.steps j x low (omega (arith, high, ap (λ (cuts : List Cut). length cuts) same)) node
-        ∙ ap (λ (cuts : List Cut). local_at plan (cut_at cuts j) x) (sym same);
+        ∙ ap (λ (cuts : List Cut). local_step_at plan (cut_at cuts j) x) (sym same);
   };
 }
 
@@ -130,7 +130,7 @@ pub publish_keeps : (plan : PlanData) (s : State) (steps : ClearedSteps) (c n : 
     AreCleared plan (step (plan_lists plan) s (Publish c n)) steps
 publish_keeps plan s steps c n low are =
     cleared_alike plan s (step (plan_lists plan) s (Publish c n)) steps
-    (updated_other s.published c (s.published c ++ known (plan_lists plan) s c ∷ []) 0 (λ same. omega (arith, same, low))) refl are
+    (updated_other s.published c (s.published c ++ knowledge (plan_lists plan) s c ∷ []) 0 (λ same. omega (arith, same, low))) refl are
 
 -- ---- clearings
 
@@ -155,33 +155,33 @@ module _ (plan : PlanData) (is_plan : IsPlan plan) (s : State) (sound : Sound (p
     abbrev next : State
     next = step lists s (Clear j)
 
-    cuts_are : next.published 0 ≡ s.published 0 ++ known lists s 0 ∷ []
-    cuts_are = updated_same s.published 0 (s.published 0 ++ known lists s 0 ∷ [])
+    cuts_are : next.published 0 ≡ s.published 0 ++ knowledge lists s 0 ∷ []
+    cuts_are = updated_same s.published 0 (s.published 0 ++ knowledge lists s 0 ∷ [])
 
     -- after a legal clearing there is one clearing more
     pub clearings_are : clearings next ≡ clearings s + 1
-    clearings_are = omega (arith, ap (λ (cuts : List Cut). length cuts) cuts_are, length-append (s.published 0) (known lists s 0 ∷ []))
+    clearings_are = omega (arith, ap (λ (cuts : List Cut). length cuts) cuts_are, length-append (s.published 0) (knowledge lists s 0 ∷ []))
 
     -- the cut of the new clearing is what the auctioneer knew before it
-    pub cleared_new : cleared next (clearings s + 1) ≡ known lists s 0
-    cleared_new = ap (λ (cuts : List Cut). cut_at cuts (clearings s + 1)) cuts_are ∙ cut_at_new (s.published 0) (known lists s 0) (clearings s + 1) refl
+    pub cleared_new : cleared_cut next (clearings s + 1) ≡ knowledge lists s 0
+    cleared_new = ap (λ (cuts : List Cut). cut_at cuts (clearings s + 1)) cuts_are ∙ cut_at_new (s.published 0) (knowledge lists s 0) (clearings s + 1) refl
 
-    cleared_kept : (i : ℕ) → i ≤ clearings s → cleared next i ≡ cleared s i
-    cleared_kept i le = ap (λ (cuts : List Cut). cut_at cuts i) cuts_are ∙ entry_kept (s.published 0) (known lists s 0) i le
+    cleared_kept : (i : ℕ) → i ≤ clearings s → cleared_cut next i ≡ cleared_cut s i
+    cleared_kept i le = ap (λ (cuts : List Cut). cut_at cuts i) cuts_are ∙ entry_kept (s.published 0) (knowledge lists s 0) i le
 
     -- a clearing is nowhere below the one before it
-    pub cut_rises : (d : ℕ) → IsLeaf lists d → cleared s (clearings s) d ≤ cleared next (clearings s + 1) d
+    pub cut_rises : (d : ℕ) → IsLeaf lists d → cleared_cut s (clearings s) d ≤ cleared_cut next (clearings s + 1) d
     cut_rises d leaf =
         omega (arith, sound.published_known 0 (leaf_zero lists) d (leaf_of_auctioneer lists law d leaf), ap (λ (cut : Cut). cut d) cleared_new)
 
     -- nor above the end of the open phase
-    pub cut_planned : (d : ℕ) → IsLeaf lists d → cleared next (clearings s + 1) d ≤ end_cut plan (s.closed + 1) d
+    pub cut_planned : (d : ℕ) → IsLeaf lists d → cleared_cut next (clearings s + 1) d ≤ end_cut plan (s.closed + 1) d
     cut_planned d leaf =
         let node = leaf_node lists law d leaf in
         let after' = sound_step lists law s sound (Clear j) legal in
         let part = cleared_is_part lists law next after' d (clearings s + 1) node (omega (arith, clearings_are)) in
         let going = phase_open (Clear j) legal in
-        let is_number = number_leaf lists next.published d (cleared next (clearings s + 1)) leaf in
+        let is_number = number_leaf lists next.published d (cleared_cut next (clearings s + 1)) leaf in
         let end = end-is plan (s.closed + 1) d node.0 (omega (arith, node.1, group_nodes.nodes_are plan is_plan)) (omega (arith, going)) is_plan.in_phases in
         omega (
           arith,
@@ -193,21 +193,21 @@ module _ (plan : PlanData) (is_plan : IsPlan plan) (s : State) (sound : Sound (p
           end,
         )
 
-    module _ (old new : ClearedSteps) (cut : List ℕ) (are : AreCleared plan s old) (cut_is : cut_of cut ≡ cleared next (clearings s + 1)) where
+    module _ (old new : ClearedSteps) (cut : List ℕ) (are : AreCleared plan s old) (cut_is : cut_of cut ≡ cleared_cut next (clearings s + 1)) where
       -- the steps of one clearing more
       pub clear_adds : new.closed ≡ old.closed → IsAuction plan new.closed new.auction →
           ((d : ℕ) → plans.is_leaf plan d ≡ true → auction_cut new.auction d ≡ cut_of cut d) →
           HasRow plan old new → AreCleared plan next new
       clear_adds closed auction cut' row =
           let here : (d : ℕ) → IsLeaf lists d →
-          auction_cut new.auction d ≡ cleared next (clearings s + 1) d = λ d leaf. cut' d (leaf_in_plan d leaf) ∙ ap (λ (c : Cut). c d) cut_is in
+          auction_cut new.auction d ≡ cleared_cut next (clearings s + 1) d = λ d leaf. cut' d (leaf_in_plan d leaf) ∙ ap (λ (c : Cut). c d) cut_is in
           let long : AreRows plan (rows_of new) = subst (AreRows plan) (sym row.1.1)
           (All-append (λ (r : List ℕ). length r ≡ length plan.nodes + 1) (rows_of old) (row.0 ∷ []) are.steps_are.long
           (All-cons (λ (r : List ℕ). length r ≡ length plan.nodes + 1) row.0 [] row.1.0.one_each (All-nil _))) in
           record {
             closed = closed ∙ are.closed;
             auction = subst (λ (p : ℕ). IsAuction plan p new.auction) (closed ∙ are.closed) auction;
-            cut = λ d leaf. here d leaf ∙ ap (λ (i : ℕ). cleared next i d) (sym clearings_are);
+            cut = λ d leaf. here d leaf ∙ ap (λ (i : ℕ). cleared_cut next i d) (sym clearings_are);
             steps_are = record {
               long = long;
               one_each = omega (
@@ -223,15 +223,15 @@ module _ (plan : PlanData) (is_plan : IsPlan plan) (s : State) (sound : Sound (p
                     ap (λ (rs : List (List ℕ)). get_or (get_or rs (i - 1) []) (group plan x) 0) row.1.1
                     ∙ ap (λ (r : List ℕ). get_or r (group plan x) 0)
                     (get_or_push (rows_of old) row.0 [] (i - 1) (omega (arith, last, are.steps_are.one_each)))
-                    ∙ steps_of plan is_plan (auction_cut new.auction) (cleared next (clearings s + 1)) here row.0 row.1.0 x node
-                    ∙ ap (λ (k : ℕ). local_at plan (cleared next k) x) (sym last)
+                    ∙ steps_of plan is_plan (auction_cut new.auction) (cleared_cut next (clearings s + 1)) here row.0 row.1.0 x node
+                    ∙ ap (λ (k : ℕ). local_step_at plan (cleared_cut next k) x) (sym last)
                 | inr before ↦
                     let within : i ≤ clearings s = omega (arith, before, high, clearings_are) in
                     ap (λ (rs : List (List ℕ)). get_or (get_or rs (i - 1) []) (group plan x) 0) row.1.1
                     ∙ ap (λ (r : List ℕ). get_or r (group plan x) 0)
                     (get_or_append_left (rows_of old) (row.0 ∷ []) [] (i - 1) (omega (arith, low, within, are.steps_are.one_each)))
                     ∙ are.steps_are.steps i x low within node
-                    ∙ ap (λ (c : Cut). local_at plan c x) (sym (cleared_kept i within))
+                    ∙ ap (λ (c : Cut). local_step_at plan c x) (sym (cleared_kept i within))
               ];
             };
           }

@@ -15,7 +15,7 @@ use Rattle.pm_plan.specs.Plans.{PlanData}
 use Rattle.pm_plan.specs.Kept.{IsPlan}
 use Rattle.pm_plan.specs.Market.{plan_lists}
 use Rattle.pm_plan.proofs.MarketLists.{lawful}
-use Rattle.pm_offer.specs.Offers.{local_at}
+use Rattle.pm_offer.specs.Offers.{local_step_at}
 use Rattle.pm_report.specs.Trace.{move_line}
 use Rattle.pm_check.specs.Traces.{journal_lines, next_line, count_line, IsLineDue, in_report, next_move, count, AreLinesDue}
 use Rattle.pm_check.proofs.RunLines.{no_count, same_moves}
@@ -51,11 +51,11 @@ mapped_at f (x ∷ xs) (z ∷ front) back y same = let later : map f xs ≡ fron
 
 -- the lines of a journal with one move more
 lines_push : (plan : PlanData) (ms : List Move) (m : Move) (s : State) →
-    map (move_line plan) (lines_from (plan_lists plan) (local_at plan) s (ms ++ m ∷ []))
-    ≡ map (move_line plan) (lines_from (plan_lists plan) (local_at plan) s ms)
-    ++ move_line plan (line_of (plan_lists plan) (local_at plan) (after_from (plan_lists plan) s ms) m) ∷ []
+    map (move_line plan) (lines_from (plan_lists plan) (local_step_at plan) s (ms ++ m ∷ []))
+    ≡ map (move_line plan) (lines_from (plan_lists plan) (local_step_at plan) s ms)
+    ++ move_line plan (line_of (plan_lists plan) (local_step_at plan) (after_from (plan_lists plan) s ms) m) ∷ []
 lines_push plan [] m s = refl
-lines_push plan (n ∷ ms) m s = ap (λ l. move_line plan (line_of (plan_lists plan) (local_at plan) s n) ∷ l)
+lines_push plan (n ∷ ms) m s = ap (λ l. move_line plan (line_of (plan_lists plan) (local_step_at plan) s n) ∷ l)
     (lines_push plan ms m (step (plan_lists plan) s n))
 
 -- the lines of a journal with one move more are its lines and then the line of that move

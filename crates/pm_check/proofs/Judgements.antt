@@ -16,14 +16,14 @@ use Rattle.pm_plan.specs.Plans.{PlanData}
 use Rattle.pm_plan.specs.Kept.{IsPlan}
 use Rattle.pm_plan.specs.Market.{plan_lists}
 use Rattle.pm_plan.proofs.MarketLists.{lawful}
-use Rattle.pm_offer.specs.Offers.{local_at}
+use Rattle.pm_offer.specs.Offers.{local_step_at}
 use Rattle.pm_report.specs.Trace.{move_line}
 use Rattle.pm_envelope.specs.Lines.{HasNoLineFeed}
-use Rattle.pm_check.specs.Lines.{IsWholeLine, joined, AreLinesOf}
+use Rattle.pm_check.specs.Lines.{IsWholeLine, text_of_lines, AreLinesOf}
 use Rattle.pm_check.specs.Traces.{journal_lines, next_line, count_line, IsLineDue, in_report, next_move, count, AreLinesDue, IsValidTrace, IsBadAmong, not_due}
 use Rattle.pm_check.specs.Traces.{no_end, missing, IsBadLine}
 use Rattle.pm_check.specs.Reading.{IsReported, HasReadTo}
-use Rattle.pm_check.proofs.TextLines.{joined-append, joined-push, lines_within, one_list, same_lines, lines_before, line_before, no_lines, lines_exist}
+use Rattle.pm_check.proofs.TextLines.{text_of_lines-append, text_of_lines-push, lines_within, one_list, same_lines, lines_before, line_before, no_lines, lines_exist}
 use Rattle.pm_check.proofs.RunLines.{whole_from, whole_count, count_lines}
 use Rattle.pm_check.proofs.Dues.{report_due, journal_due, count_due, no_move_due, no_count_due, nothing_due}
 
@@ -40,7 +40,7 @@ pub record AreRead (plan : PlanData) (report : List (List ℕ)) (trace : List �
   -- each line that was read is due after those before it
   pub due : AreLinesDue plan report done
   -- the trace is the lines that were read, and then the rest
-  pub parts : trace ≡ joined done ++ rest
+  pub parts : trace ≡ text_of_lines done ++ rest
 
 module _ (plan : PlanData) (report : List (List ℕ)) (trace : List ℕ) (done : List (List ℕ)) (rest : List ℕ)
     (read : AreRead plan report trace done rest) where
@@ -82,7 +82,7 @@ module _ (plan : PlanData) (report : List (List ℕ)) (trace : List ℕ) (done :
       IsBadAmong plan report trace (length done + 1)
   bad_behind [] end some none_due are = bad_end (subst HasNoLineFeed (sym are.parts) are.no_end) some
   bad_behind (line ∷ lines) end some none_due are =
-      bad_line line (joined lines ++ end) (All-head IsWholeLine line lines are.whole) (are.parts ∙ append_assoc line (joined lines) end) (none_due line)
+      bad_line line (text_of_lines lines ++ end) (All-head IsWholeLine line lines are.whole) (are.parts ∙ append_assoc line (text_of_lines lines) end) (none_due line)
 
   -- where nothing is due and the trace goes on, its bad line is the one behind those read
   pub bad_more : rest ≢ [] → ((line : List ℕ) → IsLineDue plan report done line → ⊥) → IsBadAmong plan report trace (length done + 1)
@@ -97,9 +97,9 @@ pub record IsMatched (report trace : List ℕ) (lines : ℕ) (done : List (List 
   -- so many lines of the report were read
   pub count : lines ≡ length done
   -- the report is the lines that were read, and then what is left of it
-  pub report_is : report ≡ joined done ++ later
+  pub report_is : report ≡ text_of_lines done ++ later
   -- the trace is the lines that were read, and then what is left of it
-  pub trace_is : trace ≡ joined done ++ rest
+  pub trace_is : trace ≡ text_of_lines done ++ rest
 
 module _ (report trace : List ℕ) (lines : ℕ) (done : List (List ℕ)) (later rest : List ℕ) (matched : IsMatched report trace lines done later rest)
     (report_lines : List (List ℕ)) (are : AreLinesOf report report_lines []) where
@@ -181,7 +181,7 @@ module _ (report trace : List ℕ) (lines : ℕ) (done : List (List ℕ)) (later
         report_lines = report_lines;
         lines_are = are;
         count = matched.count ∙ ap (λ (ls : List (List ℕ)). length ls) (sym same);
-        parts = matched.trace_is ∙ ap (λ (ls : List (List ℕ)). joined ls ++ rest) (sym same);
+        parts = matched.trace_is ∙ ap (λ (ls : List (List ℕ)). text_of_lines ls ++ rest) (sym same);
       }
 
 -- ---- the moves
@@ -202,15 +202,15 @@ module _ (plan : PlanData) (is_plan : IsPlan plan) where
       whole = whole_lines;
       due = journal_due plan is_plan report_lines journal read.legal;
       parts =
-          read.parts ∙ sym (append_assoc (joined report_lines) (joined (journal_lines plan journal)) rest)
-          ∙ ap (λ t. t ++ rest) (sym (joined-append report_lines (journal_lines plan journal)));
+          read.parts ∙ sym (append_assoc (text_of_lines report_lines) (text_of_lines (journal_lines plan journal)) rest)
+          ∙ ap (λ t. t ++ rest) (sym (text_of_lines-append report_lines (journal_lines plan journal)));
     }
 
     many : length (report_lines ++ journal_lines plan journal) ≡ length report_lines + length journal
     many = omega (
       arith,
       length-append report_lines (journal_lines plan journal),
-      length-map (lines lists (local_at plan) journal)
+      length-map (lines lists (local_step_at plan) journal)
           (move_line plan),
       count_lines plan is_plan journal,
     )
@@ -223,7 +223,7 @@ module _ (plan : PlanData) (is_plan : IsPlan plan) where
           many,
           lines_within (report_lines ++ journal_lines plan journal) whole_lines,
           ap (λ l. length l) lines_read.parts,
-          length-append (joined (report_lines ++ journal_lines plan journal)) rest,
+          length-append (text_of_lines (report_lines ++ journal_lines plan journal)) rest,
         )
 
     bad_at : IsBadAmong plan report_lines trace (length (report_lines ++ journal_lines plan journal) + 1) →
@@ -271,9 +271,9 @@ module _ (plan : PlanData) (is_plan : IsPlan plan) where
             (All-cons IsWholeLine (count_line plan journal) [] (whole_count plan is_plan journal read.legal) (All-nil IsWholeLine));
         due = count_due plan is_plan report_lines journal read.legal complete;
         parts =
-            lines_read.parts ∙ ap (λ t. joined (report_lines ++ journal_lines plan journal) ++ t) parts
-            ∙ sym (append_assoc (joined (report_lines ++ journal_lines plan journal)) (count_line plan journal) more)
-            ∙ ap (λ t. t ++ more) (sym (joined-push (report_lines ++ journal_lines plan journal) (count_line plan journal)));
+            lines_read.parts ∙ ap (λ t. text_of_lines (report_lines ++ journal_lines plan journal) ++ t) parts
+            ∙ sym (append_assoc (text_of_lines (report_lines ++ journal_lines plan journal)) (count_line plan journal) more)
+            ∙ ap (λ t. t ++ more) (sym (text_of_lines-push (report_lines ++ journal_lines plan journal) (count_line plan journal)));
       }
 
       -- something stands behind the number of moves
@@ -293,9 +293,9 @@ module _ (plan : PlanData) (is_plan : IsPlan plan) where
         legal = read.legal;
         complete = complete;
         text =
-            read.parts ∙ ap (λ t. joined report_lines ++ (joined (journal_lines plan journal) ++ t))
+            read.parts ∙ ap (λ t. text_of_lines report_lines ++ (text_of_lines (journal_lines plan journal) ++ t))
             (parts ∙ ap (λ t. count_line plan journal ++ t) none ∙ append-nil _)
-            ∙ ap (λ t. t ++ (joined (journal_lines plan journal) ++ count_line plan journal)) (sym (append-nil _) ∙ sym are.parts);
+            ∙ ap (λ t. t ++ (text_of_lines (journal_lines plan journal) ++ count_line plan journal)) (sym (append-nil _) ∙ sym are.parts);
         count = refl;
       }
 
@@ -313,10 +313,10 @@ module _ (plan : PlanData) (is_plan : IsPlan plan) where
             (All-cons IsWholeLine (count_line plan valid.journal) [] (whole_count plan is_plan valid.journal valid.legal) (All-nil IsWholeLine));
         no_end = All-nil (λ (b : ℕ). b ≢ 10);
         parts =
-            valid.text ∙ ap (λ t. t ++ (joined (journal_lines plan valid.journal) ++ count_line plan valid.journal)) (are.parts ∙ append-nil _)
-            ∙ sym (append_assoc (joined report_lines) (joined (journal_lines plan valid.journal)) (count_line plan valid.journal))
-            ∙ ap (λ t. t ++ count_line plan valid.journal) (sym (joined-append report_lines (journal_lines plan valid.journal)))
-            ∙ sym (joined-push (report_lines ++ journal_lines plan valid.journal) (count_line plan valid.journal)) ∙ sym (append-nil _);
+            valid.text ∙ ap (λ t. t ++ (text_of_lines (journal_lines plan valid.journal) ++ count_line plan valid.journal)) (are.parts ∙ append-nil _)
+            ∙ sym (append_assoc (text_of_lines report_lines) (text_of_lines (journal_lines plan valid.journal)) (count_line plan valid.journal))
+            ∙ ap (λ t. t ++ count_line plan valid.journal) (sym (text_of_lines-append report_lines (journal_lines plan valid.journal)))
+            ∙ sym (text_of_lines-push (report_lines ++ journal_lines plan valid.journal) (count_line plan valid.journal)) ∙ sym (append-nil _);
       }
 
   not_bad_among : (report trace : List ℕ) (moves number : ℕ) (report_lines : List (List ℕ)) → AreLinesOf report report_lines [] →
@@ -343,7 +343,7 @@ module _ (plan : PlanData) (is_plan : IsPlan plan) where
       let whole = λ (v : List Move) (legal : LegalJournal lists v).
       All-append IsWholeLine (journal_lines plan v) (count_line plan v ∷ []) (whole_from plan is_plan v start (sound_start lists (lawful plan is_plan)) legal)
       (All-cons IsWholeLine (count_line plan v) [] (whole_count plan is_plan v legal) (All-nil IsWholeLine)) in
-      let text = λ (v : List Move). joined-push (journal_lines plan v) (count_line plan v) in
+      let text = λ (v : List Move). text_of_lines-push (journal_lines plan v) (count_line plan v) in
       let rest = append_cancel_left report _ _ (sym valid.text ∙ also.text) in
       let same = same_lines (lines_of valid.journal) (lines_of also.journal) [] [] (whole valid.journal valid.legal) (whole also.journal also.legal)
       (All-nil (λ (b : ℕ). b ≢ 10)) (All-nil (λ (b : ℕ). b ≢ 10)) (ap (λ t. t ++ []) (text valid.journal ∙ rest ∙ sym (text also.journal))) in
@@ -354,8 +354,8 @@ module _ (plan : PlanData) (is_plan : IsPlan plan) where
         ap (λ l. length l) same.0,
         length-append (journal_lines plan valid.journal) (count_line plan valid.journal ∷ []),
         length-append (journal_lines plan also.journal) (count_line plan also.journal ∷ []),
-        length-map (lines lists (local_at plan) valid.journal) (move_line plan),
-        length-map (lines lists (local_at plan) also.journal) (move_line plan),
+        length-map (lines lists (local_step_at plan) valid.journal) (move_line plan),
+        length-map (lines lists (local_step_at plan) also.journal) (move_line plan),
         count_lines plan is_plan valid.journal,
         count_lines plan is_plan also.journal,
       )

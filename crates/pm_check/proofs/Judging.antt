@@ -7,7 +7,7 @@ use Rattle.std.proofs.lemmas.List.{length-append}
 use Rattle.pm_market.specs.Lists.{Lists, phases}
 use Rattle.pm_market.specs.State.{State}
 use Rattle.pm_market.specs.Moves.{Legal, IsComplete, step, after}
-use Rattle.pm_market.specs.Held.{held_after, line_of, lines}
+use Rattle.pm_market.specs.Held.{holding_after, line_of, lines}
 use Rattle.pm_market.specs.Legality.{is_legal}
 use Rattle.pm_market.specs.Market.{market_lists, market_state}
 use Rattle.pm_market.specs.declared.moves.Move.{Move}
@@ -17,18 +17,18 @@ use Rattle.pm_plan.specs.Plans.{PlanData}
 use Rattle.pm_plan.specs.Kept.{IsPlan}
 use Rattle.pm_plan.specs.Market.{plan_lists}
 use Rattle.pm_plan.proofs.MarketLists.{lawful}
-use Rattle.pm_offer.specs.Offers.{local_at}
+use Rattle.pm_offer.specs.Offers.{local_step_at}
 use Rattle.pm_report.specs.Words.{text_line}
 use Rattle.pm_report.specs.Trace.{IsLineOfRun, move_line}
 use Rattle.pm_report.proofs.Traces.{same_one}
 use Rattle.pm_lines.specs.Reading.{Reads}
 use Rattle.pm_envelope.specs.Lines.{HasNoLineFeed}
 use Rattle.pm_check.specs.declared.judge.Judge.{Judge}
-use Rattle.pm_check.specs.Lines.{IsWholeLine, joined}
+use Rattle.pm_check.specs.Lines.{IsWholeLine, text_of_lines}
 use Rattle.pm_check.specs.Traces.{journal_lines, next_line, count_line, IsValidTrace, IsBadLine}
 use Rattle.pm_check.specs.Judges.{IsJudge, HasMade, HasTaken, TellsNone, held_in}
 use Rattle.pm_check.specs.Reading.{IsReported, IsJudging}
-use Rattle.pm_check.proofs.TextLines.{joined-push}
+use Rattle.pm_check.proofs.TextLines.{text_of_lines-push}
 use Rattle.pm_check.proofs.RunLines.{line_is, count_lines}
 use Rattle.pm_check.proofs.Dues.{legal_push, after_push, journal_push}
 use Rattle.pm_check.proofs.Judgements.{lines_small, bad_move, bad_count, bad_cut, bad_tail, valid_trace}
@@ -44,7 +44,7 @@ module _ (plan : PlanData) (judge : Judge) (is : IsJudge plan judge) (text : Lis
   s = market_state judge.market
 
   abbrev next : Move → Line
-  next m = line_of lists (local_at plan) s m
+  next m = line_of lists (local_step_at plan) s m
 
   -- what is no line of a run tells no legal move
   pub reads_none : (answer : Option Line) → Reads (IsLineOfRun plan) (move_line plan) text answer → answer ≡ None → TellsNone plan judge text
@@ -53,10 +53,10 @@ module _ (plan : PlanData) (judge : Judge) (is : IsJudge plan judge) (text : Lis
 
   module _ (line : Line) (of_run : IsLineOfRun plan line) (tells : move_line plan line ≡ text) where
     -- a legal move that the text tells is that of the line
-    same_line : (m : Move) → Legal lists s m → text ≡ move_line plan (line_of lists (local_at plan) s m) → line ≡ line_of lists (local_at plan) s m
+    same_line : (m : Move) → Legal lists s m → text ≡ move_line plan (line_of lists (local_step_at plan) s m) → line ≡ line_of lists (local_step_at plan) s m
     same_line m legal same =
         let is_plan = plan_of plan judge is in
-        same_one plan line (line_of lists (local_at plan) s m) is_plan of_run (line_is plan is_plan s is.sound m legal) (tells ∙ same)
+        same_one plan line (line_of lists (local_step_at plan) s m) is_plan of_run (line_is plan is_plan s is.sound m legal) (tells ∙ same)
 
     -- the line of a move that is not legal
     pub tells_illegal : is_legal (market_lists judge.market) s line.what ≡ false → TellsNone plan judge text
@@ -72,7 +72,7 @@ module _ (plan : PlanData) (judge : Judge) (is : IsJudge plan judge) (text : Lis
     tells_other new made other m legal same =
         let all = same_line m legal same in
         let here : line.what ≡ m = ap (λ (l : Line). l.what) all in
-        other (ap (λ (l : Line). l.held) all ∙ ap (held_after lists (local_at plan) s) (sym here) ∙ sym (held_same plan s line.what)
+        other (ap (λ (l : Line). l.held) all ∙ ap (holding_after lists (local_step_at plan) s) (sym here) ∙ sym (held_same plan s line.what)
         ∙ ap (λ (t : State). held_in plan t line.what) (sym made.made))
 
     -- the line of a legal move, with what is then held
@@ -81,7 +81,7 @@ module _ (plan : PlanData) (judge : Judge) (is : IsJudge plan judge) (text : Lis
         HasTaken plan judge new text line.what
     tells_legal new legal made held_is =
         let held_now = held_is ∙ ap (λ (t : State). held_in plan t line.what) made.made ∙ held_same plan s line.what in
-        let whole : line ≡ line_of lists (local_at plan) s line.what = (λ i. record { what = line.what; held = held_now i }) in
+        let whole : line ≡ line_of lists (local_step_at plan) s line.what = (λ i. record { what = line.what; held = held_now i }) in
         record { legal = legal; told = sym tells ∙ ap (move_line plan) whole; made = made }
 
 -- ---- the trace
@@ -122,7 +122,7 @@ module _ (plan : PlanData) (report trace : List ℕ) (above : ℕ) (judge : Judg
 
   count_is : text_line (codes "moves" ∷ decimal moves ∷ []) ≡ count_line plan judging.journal
   count_is =
-      let many : moves ≡ length (lines (plan_lists plan) (local_at plan) judging.journal) = judging.many ∙ sym (count_lines plan is_plan judging.journal) in
+      let many : moves ≡ length (lines (plan_lists plan) (local_step_at plan) judging.journal) = judging.many ∙ sym (count_lines plan is_plan judging.journal) in
       ap (λ (n : ℕ). text_line (codes "moves" ∷ decimal n ∷ [])) many
 
   at_line : (n : ℕ) → IsBadLine plan report trace (length judging.report_lines + length judging.journal + n) →
@@ -141,7 +141,7 @@ module _ (plan : PlanData) (report trace : List ℕ) (above : ℕ) (judge : Judg
         at_line 1 (bad_move plan is_plan report trace judging.report_lines judging.lines_are judging.journal rest judging.read line more whole parts
         (λ complete. going (complete_back complete))
         (λ m legal same. none m (subst (λ (t : State). Legal (plan_lists plan) t m) (sym judging.made) legal)
-        (same ∙ ap (λ (t : State). move_line plan (line_of (plan_lists plan) (local_at plan) t m)) (sym judging.made))))
+        (same ∙ ap (λ (t : State). move_line plan (line_of (plan_lists plan) (local_step_at plan) t m)) (sym judging.made))))
 
     -- a line that tells another number of moves
     pub not_the_count : (market_state judge.market).closed ≡ phases (market_lists judge.market) →
@@ -174,7 +174,7 @@ module _ (plan : PlanData) (report trace : List ℕ) (above : ℕ) (judge : Judg
     judging_next new m taken =
         let legal = subst (λ (t : State). Legal (plan_lists plan) t m) judging.made taken.legal in
         let told : line ≡ next_line plan judging.journal m =
-        taken.told ∙ ap (λ (t : State). move_line plan (line_of (plan_lists plan) (local_at plan) t m)) judging.made in
+        taken.told ∙ ap (λ (t : State). move_line plan (line_of (plan_lists plan) (local_step_at plan) t m)) judging.made in
         record {
           report_lines = judging.report_lines;
           lines_are = judging.lines_are;
@@ -184,13 +184,13 @@ module _ (plan : PlanData) (report trace : List ℕ) (above : ℕ) (judge : Judg
             legal = legal_push plan is_plan judging.journal m judging.read.legal legal;
             parts =
                 judging.read.parts
-                ∙ ap (λ t. joined judging.report_lines ++ (joined (journal_lines plan judging.journal) ++ t))
+                ∙ ap (λ t. text_of_lines judging.report_lines ++ (text_of_lines (journal_lines plan judging.journal) ++ t))
                 (parts ∙ ap (λ (l : List ℕ). l ++ more) told)
-                ∙ ap (λ t. joined judging.report_lines ++ t)
-                (sym (append_assoc (joined (journal_lines plan judging.journal)) (next_line plan judging.journal m) more)
+                ∙ ap (λ t. text_of_lines judging.report_lines ++ t)
+                (sym (append_assoc (text_of_lines (journal_lines plan judging.journal)) (next_line plan judging.journal m) more)
                 ∙ ap (λ t. t ++ more)
-                (sym (ap joined (journal_push plan judging.journal m)
-                ∙ joined-push (journal_lines plan judging.journal) (next_line plan judging.journal m))));
+                (sym (ap text_of_lines (journal_push plan judging.journal m)
+                ∙ text_of_lines-push (journal_lines plan judging.journal) (next_line plan judging.journal m))));
           };
           sound = taken.made.judge;
           made = taken.made.made ∙ ap (λ (t : State). step (plan_lists plan) t m) judging.made ∙ sym (after_push plan is_plan judging.journal m);

@@ -5,9 +5,9 @@ use Rattle.std.specs.Prelude.{Some, None, Result, Ok, Err, OnOk, nat_lt, ◌&&�
 use Rattle.std.proofs.lemmas.Bool.{and_parts, ltb-true, cond-true}
 use Rattle.pm_base.specs.Cuts.{Cut, cut_of}
 use Rattle.pm_market.specs.Lists.{Lists, is_leaf, is_member, IsLeaf}
-use Rattle.pm_market.specs.State.{State, start, last, clearings, cleared}
+use Rattle.pm_market.specs.State.{State, start, last_index, clearings, cleared_cut}
 use Rattle.pm_market.specs.Moves.{Legal, step}
-use Rattle.pm_market.specs.Held.{holds_price, held, held_after}
+use Rattle.pm_market.specs.Held.{holds_price, holding, holding_after}
 use Rattle.pm_market.specs.Legality.{is_legal}
 use Rattle.pm_market.specs.Sound.{Sound}
 use Rattle.pm_market.specs.Market.{market_lists, market_state}
@@ -23,11 +23,11 @@ use Rattle.pm_plan.specs.Plans as plans
 use Rattle.pm_plan.specs.Kept.{IsPlan}
 use Rattle.pm_plan.specs.Market.{plan_lists}
 use Rattle.pm_plan.proofs.MarketLists.{lawful, is_leaf-is}
-use Rattle.pm_offer.specs.Offers.{local_at}
+use Rattle.pm_offer.specs.Offers.{local_step_at}
 use Rattle.pm_walk.specs.Auctions.{IsAuction, auction_cut}
 use Rattle.pm_check.specs.declared.judge.Judge.{Judge}
 use Rattle.pm_check.specs.declared.steps.ClearedSteps.{ClearedSteps}
-use Rattle.pm_check.specs.Judges.{rows_of, HasRow, AreCleared, IsJudge, HasMade, held_at, held_in}
+use Rattle.pm_check.specs.Judges.{rows_of, HasRow, AreCleared, IsJudge, HasMade, holding_at, held_in}
 use Rattle.pm_check.proofs.Cleared.{change_keeps, learn_keeps, pass_keeps, publish_keeps, phase_open, cut_rises, cut_planned, clear_adds}
 use Rattle.pm_check.proofs.Cleared.{ends_closed, close_keeps, cleared_start}
 
@@ -84,14 +84,14 @@ module _ (plan : PlanData) (old : Judge) (judge : IsJudge plan old) (m : Move)
       made = made_is;
     }
 
-    module _ (j : ℕ) (is : m ≡ Clear j) (cut : List ℕ) (cut_is : cut_of cut ≡ cleared (market_state market) j) where
+    module _ (j : ℕ) (is : m ≡ Clear j) (cut : List ℕ) (cut_is : cut_of cut ≡ cleared_cut (market_state market) j) where
       legal_clear : Legal lists s (Clear j)
       legal_clear = subst (Legal lists s) is legal_is
 
-      cut_cleared : cut_of cut ≡ cleared (step lists s (Clear j)) (clearings s + 1)
+      cut_cleared : cut_of cut ≡ cleared_cut (step lists s (Clear j)) (clearings s + 1)
       cut_cleared =
-          cut_is ∙ ap (λ (t : State). cleared t j) (made_is ∙ ap (step lists s) is)
-          ∙ ap (cleared (step lists s (Clear j))) legal_clear.1
+          cut_is ∙ ap (λ (t : State). cleared_cut t j) (made_is ∙ ap (step lists s) is)
+          ∙ ap (cleared_cut (step lists s (Clear j))) legal_clear.1
 
       -- the cut of a clearing is at no device below the cut at which the auction stands
       pub clear_rises : (d : ℕ) → plans.is_leaf plan d ≡ true → auction_cut old.steps.auction d ≤ cut_of cut d
@@ -157,22 +157,22 @@ module _ (plan : PlanData) (judge : Judge) (is : IsJudge plan judge) (d : ℕ) (
   holds_in_plan = subst (λ (ls : Lists). holds_price ls (market_state judge.market) d ≡ true) is.lists holds
 
   -- a price was passed to a device that holds one
-  pub was_passed : 1 ≤ last (market_state judge.market) d
+  pub was_passed : 1 ≤ last_index (market_state judge.market) d
   unfolding holds_price
   was_passed =
       let t = market_state judge.market in
-      let parts = and_parts (nat_lt 0 (last t d) && is_member (plan_lists plan) d (t.counts d)) _ holds_in_plan in
-      let first = and_parts (nat_lt 0 (last t d)) (is_member (plan_lists plan) d (t.counts d)) parts.0 in
-      omega (arith, ltb-true 0 (last t d) first.0)
+      let parts = and_parts (nat_lt 0 (last_index t d) && is_member (plan_lists plan) d (t.counts d)) _ holds_in_plan in
+      let first = and_parts (nat_lt 0 (last_index t d)) (is_member (plan_lists plan) d (t.counts d)) parts.0 in
+      omega (arith, ltb-true 0 (last_index t d) first.0)
 
   -- for the last clearing passed to a device that holds a price there is a row of steps
-  pub has_steps : last (market_state judge.market) d ≤ length (rows_of judge.steps)
+  pub has_steps : last_index (market_state judge.market) d ≤ length (rows_of judge.steps)
   has_steps =
       omega (arith, is.cleared.steps_are.one_each, last_within (plan_lists plan) (market_state judge.market) is.sound d)
 
   -- the step in the row of the clearing passed last and the number in its cut are what the device holds
-  pub told_held : (index number step : ℕ) → index ≡ last (market_state judge.market) d → number ≡ cleared (market_state judge.market) index d →
-      step ≡ get_or (get_or (rows_of judge.steps) (index - 1) []) (group plan d) 0 → Some (step, number) ≡ held_at plan (market_state judge.market) d
+  pub told_held : (index number step : ℕ) → index ≡ last_index (market_state judge.market) d → number ≡ cleared_cut (market_state judge.market) index d →
+      step ≡ get_or (get_or (rows_of judge.steps) (index - 1) []) (group plan d) 0 → Some (step, number) ≡ holding_at plan (market_state judge.market) d
   told_held index number step index_is number_is step_is =
       let t = market_state judge.market in
       let node = leaf_node (plan_lists plan) (lawful plan (plan_of plan judge is)) d leaf in
@@ -180,14 +180,14 @@ module _ (plan : PlanData) (judge : Judge) (is : IsJudge plan judge) (d : ℕ) (
       let low = was_passed in
       let steps = step_is ∙ is.cleared.steps_are.steps index d (omega (arith, index_is, low))
       (omega (arith, index_is, within, is.cleared.steps_are.one_each)) node
-      ∙ ap (λ (j : ℕ). local_at plan (cleared t j) d) index_is in
-      let numbers = number_is ∙ ap (λ (j : ℕ). cleared t j d) index_is in
+      ∙ ap (λ (j : ℕ). local_step_at plan (cleared_cut t j) d) index_is in
+      let numbers = number_is ∙ ap (λ (j : ℕ). cleared_cut t j d) index_is in
       (λ i. Some (steps i, numbers i))
-      ∙ sym (cond-true (holds_price (plan_lists plan) t d) (Some (local_at plan (cleared t (last t d)) d, cleared t (last t d) d)) None holds_in_plan)
-      ∙ sym (cond-true (is_leaf (plan_lists plan) d) (held (plan_lists plan) (local_at plan) t d) None leaf)
+      ∙ sym (cond-true (holds_price (plan_lists plan) t d) (Some (local_step_at plan (cleared_cut t (last_index t d)) d, cleared_cut t (last_index t d) d)) None holds_in_plan)
+      ∙ sym (cond-true (is_leaf (plan_lists plan) d) (holding (plan_lists plan) (local_step_at plan) t d) None leaf)
 
 -- the line of a move says what is held after it
-pub held_same : (plan : PlanData) (s : State) (m : Move) → held_in plan (step (plan_lists plan) s m) m ≡ held_after (plan_lists plan) (local_at plan) s m
+pub held_same : (plan : PlanData) (s : State) (m : Move) → held_in plan (step (plan_lists plan) s m) m ≡ holding_after (plan_lists plan) (local_step_at plan) s m
 held_same plan s (Change d n) = refl
 held_same plan s (Learn x n) = refl
 held_same plan s (Publish c n) = refl

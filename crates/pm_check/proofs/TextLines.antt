@@ -8,23 +8,23 @@ use Rattle.std.proofs.lemmas.List.{append-nil, length-append}
 use Rattle.std.proofs.lemmas.List.Elements.{All-append, All-cons, All-head, All-nil, All-tail}
 use Rattle.pm_envelope.specs.Lines.{HasNoLineFeed, IsFirstLine}
 use Rattle.pm_envelope.proofs.FirstLines.{same_first_line, no_first_line}
-use Rattle.pm_check.specs.Lines.{IsWholeLine, joined, AreLinesOf}
+use Rattle.pm_check.specs.Lines.{IsWholeLine, text_of_lines, AreLinesOf}
 
 -- the text of two lists of lines, one behind the other
-pub joined-append : (lines more : List (List ℕ)) → joined (lines ++ more) ≡ joined lines ++ joined more
-joined-append lines more = flat_map-append (λ (line : List ℕ). line) lines more
+pub text_of_lines-append : (lines more : List (List ℕ)) → text_of_lines (lines ++ more) ≡ text_of_lines lines ++ text_of_lines more
+text_of_lines-append lines more = flat_map-append (λ (line : List ℕ). line) lines more
 
 -- the text of one line more
-pub joined-push : (lines : List (List ℕ)) (line : List ℕ) → joined (lines ++ line ∷ []) ≡ joined lines ++ line
-joined-push lines line = joined-append lines (line ∷ []) ∙ ap (λ text. joined lines ++ text) (append-nil line)
+pub text_of_lines-push : (lines : List (List ℕ)) (line : List ℕ) → text_of_lines (lines ++ line ∷ []) ≡ text_of_lines lines ++ line
+text_of_lines-push lines line = text_of_lines-append lines (line ∷ []) ∙ ap (λ text. text_of_lines lines ++ text) (append-nil line)
 
 -- a line has at least one byte, so there are no more lines than bytes
-pub lines_within : (lines : List (List ℕ)) → All IsWholeLine lines → length lines ≤ length (joined lines)
+pub lines_within : (lines : List (List ℕ)) → All IsWholeLine lines → length lines ≤ length (text_of_lines lines)
 lines_within [] whole = omega arith
 lines_within (line ∷ lines) whole =
     let first = All-head IsWholeLine line lines whole in
     let more = lines_within lines (All-tail IsWholeLine line lines whole) in
-    omega (arith, more, length-append line (joined lines), ap (λ l. length l) first.1.1, length-append first.0 (10 ∷ []))
+    omega (arith, more, length-append line (text_of_lines lines), ap (λ l. length l) first.1.1, length-append first.0 (10 ∷ []))
 
 -- a text that begins with a whole line begins with a first line
 first_of : (line rest text : List ℕ) (whole : IsWholeLine line) → text ≡ line ++ rest → IsFirstLine text whole.0 rest
@@ -44,19 +44,19 @@ no_rest line rest text whole none parts = no_first_line text whole.0 rest none (
 
 -- two lists of whole lines, each with a rest without a line feed behind it, that are one text, are the same
 pub same_lines : (a b : List (List ℕ)) (r s : List ℕ) → All IsWholeLine a → All IsWholeLine b → HasNoLineFeed r → HasNoLineFeed s →
-    joined a ++ r ≡ joined b ++ s → (a ≡ b) × (r ≡ s)
+    text_of_lines a ++ r ≡ text_of_lines b ++ s → (a ≡ b) × (r ≡ s)
 same_lines [] [] r s a_are b_are r_none s_none same = (refl, same)
 same_lines [] (y ∷ b) r s a_are b_are r_none s_none same =
-    absurd (no_rest y (joined b ++ s) r (All-head IsWholeLine y b b_are) r_none (same ∙ append_assoc y (joined b) s))
+    absurd (no_rest y (text_of_lines b ++ s) r (All-head IsWholeLine y b b_are) r_none (same ∙ append_assoc y (text_of_lines b) s))
 same_lines (x ∷ a) [] r s a_are b_are r_none s_none same =
-    absurd (no_rest x (joined a ++ r) s (All-head IsWholeLine x a a_are) s_none (sym same ∙ append_assoc x (joined a) r))
+    absurd (no_rest x (text_of_lines a ++ r) s (All-head IsWholeLine x a a_are) s_none (sym same ∙ append_assoc x (text_of_lines a) r))
 same_lines (x ∷ a) (y ∷ b) r s a_are b_are r_none s_none same =
     let x_is = All-head IsWholeLine x a a_are in
     let y_is = All-head IsWholeLine y b b_are in
-    let text = x ++ (joined a ++ r) in
-    let other : text ≡ y ++ (joined b ++ s) = sym (append_assoc x (joined a) r) ∙ same ∙ append_assoc y (joined b) s in
-    let first = same_first_line text x_is.0 (joined a ++ r) y_is.0 (joined b ++ s)
-    (first_of x (joined a ++ r) text x_is refl) (first_of y (joined b ++ s) text y_is other) in
+    let text = x ++ (text_of_lines a ++ r) in
+    let other : text ≡ y ++ (text_of_lines b ++ s) = sym (append_assoc x (text_of_lines a) r) ∙ same ∙ append_assoc y (text_of_lines b) s in
+    let first = same_first_line text x_is.0 (text_of_lines a ++ r) y_is.0 (text_of_lines b ++ s)
+    (first_of x (text_of_lines a ++ r) text x_is refl) (first_of y (text_of_lines b ++ s) text y_is other) in
     let here : x ≡ y = x_is.1.1 ∙ ap (λ bytes. bytes ++ 10 ∷ []) first.0 ∙ sym y_is.1.1 in
     let later = same_lines a b r s (All-tail IsWholeLine x a a_are) (All-tail IsWholeLine y b b_are) r_none s_none first.1 in
     ((λ i. here i ∷ later.0 i), later.1)
@@ -68,12 +68,12 @@ one_list text a b r s is also = same_lines a b r s is.whole also.whole is.no_end
 -- lines in front of a text stand in front of its lines
 pub lines_before : (front : List (List ℕ)) (text : List ℕ) (lines : List (List ℕ)) (rest : List ℕ) → All IsWholeLine front →
     AreLinesOf text lines rest →
-    AreLinesOf (joined front ++ text) (front ++ lines) rest
+    AreLinesOf (text_of_lines front ++ text) (front ++ lines) rest
 lines_before front text lines rest whole are = record {
   whole = All-append IsWholeLine front lines whole are.whole;
   no_end = are.no_end;
-  parts = ap (λ t. joined front ++ t) are.parts ∙ sym (append_assoc (joined front) (joined lines) rest)
-      ∙ ap (λ t. t ++ rest) (sym (joined-append front lines));
+  parts = ap (λ t. text_of_lines front ++ t) are.parts ∙ sym (append_assoc (text_of_lines front) (text_of_lines lines) rest)
+      ∙ ap (λ t. t ++ rest) (sym (text_of_lines-append front lines));
 }
 
 -- a text without a line feed is a rest alone
@@ -86,7 +86,7 @@ pub line_before : (line text : List ℕ) (lines : List (List ℕ)) (rest : List 
 line_before line text lines rest whole are = record {
   whole = All-cons IsWholeLine line lines whole are.whole;
   no_end = are.no_end;
-  parts = ap (λ t. line ++ t) are.parts ∙ sym (append_assoc line (joined lines) rest);
+  parts = ap (λ t. line ++ t) are.parts ∙ sym (append_assoc line (text_of_lines lines) rest);
 }
 
 -- ---- each text has lines
@@ -144,7 +144,7 @@ ended_lines front =
         whole = All-append IsWholeLine are.0 _ are.1.1.whole (All-cons IsWholeLine _ [] last (All-nil IsWholeLine));
         no_end = All-nil (λ (b : ℕ). b ≢ 10);
         parts =
-            ap (λ t. t ++ 10 ∷ []) are.1.1.parts ∙ append_assoc (joined are.0) are.1.0 (10 ∷ [])
-            ∙ sym (joined-push are.0 (are.1.0 ++ 10 ∷ [])) ∙ sym (append-nil _);
+            ap (λ t. t ++ 10 ∷ []) are.1.1.parts ∙ append_assoc (text_of_lines are.0) are.1.0 (10 ∷ [])
+            ∙ sym (text_of_lines-push are.0 (are.1.0 ++ 10 ∷ [])) ∙ sym (append-nil _);
       },
     )

@@ -5,23 +5,23 @@ use Rattle.pm_market.specs.Held.{line_of, lines}
 use Rattle.pm_market.specs.declared.moves.Move.{Move}
 use Rattle.pm_plan.specs.Plans.{PlanData}
 use Rattle.pm_plan.specs.Market.{plan_lists}
-use Rattle.pm_offer.specs.Offers.{local_at}
+use Rattle.pm_offer.specs.Offers.{local_step_at}
 use Rattle.pm_report.specs.Trace.{move_line, moves_line}
 use Rattle.pm_check.specs.declared.fault.CheckFault.{CheckFault}
 use Rattle.pm_check.specs.declared.fault.CheckFault.TheVariants.{Invalid, NoMemory}
-use Rattle.pm_check.specs.Lines.{AreLinesOf, joined}
+use Rattle.pm_check.specs.Lines.{AreLinesOf, text_of_lines}
 
 -- the lines that tell the moves of a journal, with what devices then held
 abbrev pub journal_lines : PlanData → List Move → List (List ℕ)
-journal_lines plan journal = map (move_line plan) (lines (plan_lists plan) (local_at plan) journal)
+journal_lines plan journal = map (move_line plan) (lines (plan_lists plan) (local_step_at plan) journal)
 
 -- the line that tells a move which is made after a journal
 abbrev pub next_line : PlanData → List Move → Move → List ℕ
-next_line plan journal m = move_line plan (line_of (plan_lists plan) (local_at plan) (after (plan_lists plan) journal) m)
+next_line plan journal m = move_line plan (line_of (plan_lists plan) (local_step_at plan) (after (plan_lists plan) journal) m)
 
 -- moves M, with the number of moves of a journal
 abbrev pub count_line : PlanData → List Move → List ℕ
-count_line plan journal = moves_line (lines (plan_lists plan) (local_at plan) journal)
+count_line plan journal = moves_line (lines (plan_lists plan) (local_step_at plan) journal)
 
 -- the line is due after the lines before it
 pub data IsLineDue (plan : PlanData) (report before : List (List ℕ)) (line : List ℕ) : Type 0 where
@@ -44,7 +44,7 @@ pub record IsValidTrace (plan : PlanData) (report trace : List ℕ) (moves : ℕ
   pub journal : List Move
   pub legal : LegalJournal (plan_lists plan) journal
   pub complete : IsComplete (plan_lists plan) journal
-  pub text : trace ≡ report ++ (joined (journal_lines plan journal) ++ count_line plan journal)
+  pub text : trace ≡ report ++ (text_of_lines (journal_lines plan journal) ++ count_line plan journal)
   pub count : moves ≡ length journal
 
 -- the first line, counted from 1, that is not one due or has no end, or the first line due that is missing

@@ -32,7 +32,7 @@ impl Drop for Judge {
 }
 
 impl Judge {
-    ghost use Rattle.pm_check.specs.Judges.{IsJudge, HasMade, HasTaken, TellsNone, held_at, held_in};
+    ghost use Rattle.pm_check.specs.Judges.{IsJudge, HasMade, HasTaken, TellsNone, holding_at, held_in};
 
     /// Before the first move.
     pub(crate) fn start(alloc: Global, plan: &Plan) -> Result<Judge, AllocError>
@@ -101,7 +101,7 @@ impl Judge {
     fn held(&self, plan: &Plan, node: u32) -> Option<(u32, u32)>
         requires judge { IsJudge plan.now self.now }
         requires node { node ≤ length plan.now.nodes }
-        ensures { result ≡ held_at plan.now (market_state self.now.market) node }
+        ensures { result ≡ holding_at plan.now (market_state self.now.market) node }
     {
         let at = node as usize;
         if !plan.tree().is_leaf(NodeId(node)) {

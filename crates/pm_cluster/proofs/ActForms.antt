@@ -14,10 +14,10 @@ use Rattle.pm_market.specs.declared.moves.Move.TheVariants.{Change, Learn, Publi
 use Rattle.pm_market.specs.declared.moves.Act.{Act}
 use Rattle.pm_market.specs.declared.moves.Act.TheVariants as act
 use Rattle.std.proofs.Common.{cond}
-use Rattle.pm_market.specs.State.{last, cleared}
-use Rattle.pm_market.specs.Held.{holds_price, held}
+use Rattle.pm_market.specs.State.{last_index, cleared_cut}
+use Rattle.pm_market.specs.Held.{holds_price, holding}
 use Rattle.pm_session.specs.declared.price.Held.{Held}
-use Rattle.pm_offer.specs.Offers.{local_at}
+use Rattle.pm_offer.specs.Offers.{local_step_at}
 use Rattle.pm_stands.specs.Current.{held_price}
 use Rattle.pm_plan.specs.Kept.{IsPlan}
 use Rattle.pm_plan.specs.Plans.{PlanData, end_cut}
@@ -105,8 +105,8 @@ pair_of None = None
 pair_of (Some price) = Some (price.step, price.number)
 
 -- the price that a device holds in a state, as step and number, is what the market's lists say it holds
-pub pairs_are : (plan : PlanData) (s : State) (d : ℕ) → pair_of (held_price plan s d) ≡ held (plan_lists plan) (local_at plan) s d
-pairs_are plan s d = go (holds_price (plan_lists plan) s d) (local_at plan (cleared s (last s d)) d) (cleared s (last s d) d) (last s d)
+pub pairs_are : (plan : PlanData) (s : State) (d : ℕ) → pair_of (held_price plan s d) ≡ holding (plan_lists plan) (local_step_at plan) s d
+pairs_are plan s d = go (holds_price (plan_lists plan) s d) (local_step_at plan (cleared_cut s (last_index s d)) d) (cleared_cut s (last_index s d) d) (last_index s d)
   where
     go : (b : Bool) (k n i : ℕ) → pair_of (cond b (Some (record { step = k; number = n; index = i })) None) ≡ cond b (Some (k, n)) None
     go true k n i = refl

@@ -17,7 +17,7 @@ use Rattle.pm_market.specs.State.{SameOn}
 use Rattle.pm_market.proofs.Tree.{leaf_of_parts}
 use Rattle.pm_plan.specs.Auction.{power, demand_in_cut}
 use Rattle.pm_plan.specs.States.{state}
-use Rattle.pm_offer.specs.Offers.{device_demand, local_at}
+use Rattle.pm_offer.specs.Offers.{device_demand, local_step_at}
 use Rattle.pm_offer.proofs.Steps.{demand_is}
 use Rattle.pm_stands.specs.Current.{kept_power}
 use Rattle.pm_stands.specs.Made.{DidClose, closed_core}
@@ -74,7 +74,7 @@ pub power_alike : (plan : PlanData) (a b : Cut) (d : ℕ) → IsPlan plan → Is
     power plan (state plan) a d ≡ power plan (state plan) b d
 unfolding power
 power_alike plan a b d is_plan leaf same here =
-    ap (λ (demand : List ℤ). demand_at demand (local_at plan a d)) (demand_is plan a d ∙ ap (device_demand plan d) here ∙ sym (demand_is plan b d))
+    ap (λ (demand : List ℤ). demand_at demand (local_step_at plan a d)) (demand_is plan a d ∙ ap (device_demand plan d) here ∙ sym (demand_is plan b d))
     ∙ ap (demand_at (demand_in_cut plan (state plan) b d)) (local_alike plan is_plan a b same d (leaf_inside plan is_plan d leaf))
 
 -- the powers that are kept are those at the end of the phase

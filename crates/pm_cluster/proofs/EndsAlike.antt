@@ -7,11 +7,11 @@ use Rattle.pm_basis.specs.Prices.{price_at}
 use Rattle.pm_bid.specs.Bids.{demand_at, sum_of}
 use Rattle.pm_cache.specs.Cache.{aggregate_of}
 use Rattle.pm_market.specs.Lists.{is_leaf, IsLeaf}
-use Rattle.pm_market.specs.State.{State, SameOn, known}
+use Rattle.pm_market.specs.State.{State, SameOn, knowledge}
 use Rattle.pm_market.proofs.Tree.{leaf_zero, leaf_of_parts}
 use Rattle.pm_plan.specs.Kept.{IsPlan}
 use Rattle.pm_plan.specs.Plans.{PlanData, is_member, is_limited, node_numbers}
-use Rattle.pm_plan.specs.Auction.{plain, total, sum_in, group_step, power, member_line, limited_line, end_in}
+use Rattle.pm_plan.specs.Auction.{plain_step, total, sum_in, local_step_of_group, power, member_line, limited_line, end_in}
 use Rattle.pm_plan.specs.States.{state, end_of}
 use Rattle.pm_plan.specs.Market.{plan_lists}
 use Rattle.pm_plan.proofs.EndLines.{member_line_is, limited_line_is, end_is}
@@ -63,7 +63,7 @@ module _ (plan : PlanData) (is_plan : IsPlan plan) (a b : Cut) (same : (d : ℕ)
   same_limited : (g : ℕ) → is_limited plan g ≡ true → limited_line plan (state plan) a g ≡ limited_line plan (state plan) b g
   unfolding limited_line
   same_limited g has =
-      let k = group_step plan (state plan) a (plain plan (state plan) a) g in
+      let k = local_step_of_group plan (state plan) a (plain_step plan (state plan) a) g in
       limited_line_is plan (state plan) b g k (sum_in plan (state plan) a g) (demand_at (sum_in plan (state plan) a g) k)
       (group_step_alike plan is_plan a b (same_below 0) g (inr has)) (same_sum g has) refl
 
@@ -71,7 +71,7 @@ module _ (plan : PlanData) (is_plan : IsPlan plan) (a b : Cut) (same : (d : ℕ)
   pub end_alike : end_of plan a ≡ end_of plan b
   unfolding end_in members_to limited_to
   end_alike =
-      let k = plain plan (state plan) a in
+      let k = plain_step plan (state plan) a in
       end_is plan b k (price_at plan.basis k) (demand_at (total plan (state plan) a) k) (total plan (state plan) a) _ _
       (plain_alike plan is_plan a b (same_below 0)) refl refl (total_alike plan is_plan a b (same_below 0))
       (listed_alike _ _ (λ x. is_member plan x (a x)) (λ x. is_member plan x (b x)) same_member same_line (node_numbers plan))
@@ -79,7 +79,7 @@ module _ (plan : PlanData) (is_plan : IsPlan plan) (a b : Cut) (same : (d : ℕ)
 
 -- the auctioneer's sum is of what its children offer over the changes that it knows
 pub sum_of_known : (plan : PlanData) (c : Core) (s : State) → IsPlan plan → StandsFor plan c s →
-    aggregate_of c.auctioneer.cache ≡ children_sum plan 0 (known (plan_lists plan) s 0)
+    aggregate_of c.auctioneer.cache ≡ children_sum plan 0 (knowledge (plan_lists plan) s 0)
 sum_of_known plan c s is_plan stands =
     let lists = plan_lists plan in
     ap aggregate_of (sym (cache_root c.auctioneer c.concentrators 0 refl))

@@ -4,7 +4,7 @@ use Rattle.std.specs.Prelude.{IfSome}
 use Rattle.std.proofs.lemmas.Bool.{cond_both, and_parts, ltb-true}
 use Rattle.pm_session.specs.declared.price.Held.{Held}
 use Rattle.pm_market.specs.Lists.{Lists, IsLeaf, is_member, Lawful}
-use Rattle.pm_market.specs.State.{State, last, clearings, cleared}
+use Rattle.pm_market.specs.State.{State, last_index, clearings, cleared_cut}
 use Rattle.pm_market.specs.Held.{holds_price}
 use Rattle.pm_market.specs.Sound.{Sound}
 use Rattle.pm_market.proofs.Tree.{leaf_node, leaf_of_itself}
@@ -15,12 +15,12 @@ use Rattle.pm_plan.specs.Plans.{PlanData}
 use Rattle.pm_plan.specs.Market.{plan_lists}
 use Rattle.pm_plan.specs.Kept.{IsPlan}
 use Rattle.pm_plan.proofs.MarketLists.{lawful}
-use Rattle.pm_offer.specs.Offers.{local_at}
+use Rattle.pm_offer.specs.Offers.{local_step_at}
 use Rattle.pm_stands.specs.Current.{held_price}
 
 -- the number that a clearing contains of a device is at most how many changes the device made
 cleared_made : (lists : Lists) → Lawful lists → (s : State) → Sound lists s → (d j : ℕ) → IsLeaf lists d → j ≤ clearings s →
-    cleared s j d ≤ s.counts d
+    cleared_cut s j d ≤ s.counts d
 cleared_made lists law s sound d j leaf le =
     let node = leaf_node lists law d leaf in
     let r = clearing_part lists law s sound d j node le in
@@ -44,9 +44,9 @@ pub record HoldsOwn (plan : PlanData) (s : State) (d : ℕ) (price : Held) : Typ
   -- that was made
   pub to : price.index ≤ clearings s
   -- the number is the device's in the clearing's cut
-  pub own : price.number ≡ cleared s price.index d
+  pub own : price.number ≡ cleared_cut s price.index d
   -- the step is the device's local step over that cut
-  pub step : price.step ≡ local_at plan (cleared s price.index) d
+  pub step : price.step ≡ local_step_at plan (cleared_cut s price.index) d
 
 -- the price that a device holds in a sound state is over its own bid
 pub holds_own : (plan : PlanData) → IsPlan plan → (s : State) → Sound (plan_lists plan) s → (d : ℕ) → IsLeaf (plan_lists plan) d →
@@ -57,8 +57,8 @@ holds_own plan is_plan s sound d leaf =
     cond_both (holds_price lists s d) _ None (λ o. IfSome o (HoldsOwn plan s d))
     (λ on. record {
       member = holder_included lists s sound d leaf on;
-      made = cleared_made lists (lawful plan is_plan) s sound d (last s d) leaf (last_within lists s sound d);
-      from = omega (arith, ltb-true 0 (last s d) (and_parts _ _ (and_parts _ _ on).0).0);
+      made = cleared_made lists (lawful plan is_plan) s sound d (last_index s d) leaf (last_within lists s sound d);
+      from = omega (arith, ltb-true 0 (last_index s d) (and_parts _ _ (and_parts _ _ on).0).0);
       to = last_within lists s sound d;
       own = refl;
       step = refl;

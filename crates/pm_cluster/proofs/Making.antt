@@ -15,7 +15,7 @@ use Rattle.pm_market.specs.Lists.{nodes, parent, IsNode, IsLeaf}
 use Rattle.pm_market.specs.Lists as market
 use Rattle.pm_market.specs.Moves.{Legal, step}
 use Rattle.pm_market.specs.declared.moves.Move.TheVariants.{Change}
-use Rattle.pm_market.specs.State.{State, updated}
+use Rattle.pm_market.specs.State.{State, update}
 use Rattle.pm_market.proofs.Tree.{leaf_node}
 use Rattle.pm_market.proofs.Cuts.{updated_same, updated_other, newest_leaf}
 use Rattle.pm_session.specs.Links.{Session, BidOffered, bid_offered}
@@ -131,11 +131,11 @@ bid_is plan is_plan x n steps kind member leaf kind_is le member_is steps_are =
     go false none = ap (λ (d : List ℤ). record { number = n; gone = true; demand = d }) (ap zeros steps_are ∙ sym (none refl))
 
 set_updated : {A : Type 0} (xs : List A) (x : ℕ) (v d : A) → x < length xs → (e : ℕ) →
-    get_or (set xs x v) e d ≡ updated (λ (i : ℕ). get_or xs i d) x v e
+    get_or (set xs x v) e d ≡ update (λ (i : ℕ). get_or xs i d) x v e
 set_updated xs x v d lt e = elim (cases_eq e x) [
   | inl is ↦
       ap (λ (i : ℕ). get_or (set xs x v) i d) is ∙ get_or-set_same xs x v d lt
-      ∙ sym (ap (updated (λ (i : ℕ). get_or xs i d) x v) is ∙ updated_same (λ (i : ℕ). get_or xs i d) x v)
+      ∙ sym (ap (update (λ (i : ℕ). get_or xs i d) x v) is ∙ updated_same (λ (i : ℕ). get_or xs i d) x v)
   | inr ne ↦ get_or-set_other xs x e v d ne ∙ sym (updated_other (λ (i : ℕ). get_or xs i d) x v e ne)
 ]
 
@@ -187,7 +187,7 @@ did_change plan is_plan c next kind follows before y k links seat written =
       same_states = length-set c.states x next.state.0;
       moved = λ d leaf.
           set_updated c.states x next.state.0 (pos 0) written.place_states d
-          ∙ ap (λ (z : ℤ). updated (λ (e : ℕ). get_or c.states e (pos 0)) x z d) follows.its_next.state;
+          ∙ ap (λ (z : ℤ). update (λ (e : ℕ). get_or c.states e (pos 0)) x z d) follows.its_next.state;
       same_ports = length-set c.ports x seat;
       seated =
           seat_set c.ports x seat written.place_ports ∙ written.seat_is

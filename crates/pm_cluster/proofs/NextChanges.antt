@@ -23,9 +23,9 @@ use Rattle.pm_plan.specs.declared.planned.Planned.{Planned}
 use Rattle.pm_plan.specs.declared.planned.Planned.TheVariants.{Tick}
 use Rattle.pm_plan.specs.Devices.{is_member_after, member_after}
 use Rattle.pm_plan.specs.Plans.{PlanData, NodeData, node, kind_of, changes_of, is_member, change_count, end_cut, phases}
-use Rattle.pm_plan.proofs.PlannedChanges.{planned-is}
+use Rattle.pm_plan.proofs.PlannedChanges.{planned_change-is}
 use Rattle.pm_plan.specs.Kept.{IsPlan, no_change, change_at, change_fits}
-use Rattle.pm_plan.specs.Auction.{power, node_bid, demand_in_cut, local}
+use Rattle.pm_plan.specs.Auction.{power, node_bid, demand_in_cut, local_step_in}
 use Rattle.pm_plan.specs.States.{state, changed_state}
 use Rattle.pm_plan.specs.Market.{plan_lists}
 use Rattle.pm_plan.proofs.Ends.{end-none, end-within}
@@ -111,9 +111,9 @@ pub power_first : (plan : PlanData) → IsPlan plan → (d : ℕ) → power plan
 unfolding power demand_in_cut is_member
 power_first plan is_plan d =
     let none : is_member plan d (end_cut plan 0 d) ≡ false = ap (is_member plan d) (end-none plan d is_plan.in_phases) in
-    ap (λ bid. demand_at bid (local plan (state plan) (end_cut plan 0) d))
+    ap (λ bid. demand_at bid (local_step_in plan (state plan) (end_cut plan 0) d))
     (cond-false (is_member plan d (end_cut plan 0 d)) _ _ none)
-    ∙ zeros-at plan.basis.steps (local plan (state plan) (end_cut plan 0) d)
+    ∙ zeros-at plan.basis.steps (local_step_in plan (state plan) (end_cut plan 0) d)
 
 -- whether it makes the device a member
 pub member_next : (plan : PlanData) (d n : ℕ) → n < change_count plan d → member_after (is_member plan d n) (change_at plan d n).what
@@ -147,7 +147,7 @@ pub due_is : (plan : PlanData) (closed : ℕ) (counts : Cut) (d : ℕ) (what : P
     what ≡ (change_at plan d (counts d)).what
 due_is plan closed counts d what due =
     let same : Some what ≡ Some (change_at plan d (counts d)).what =
-    sym due.planned ∙ planned-is plan d (counts d) (due_inside plan closed counts d what due) in
+    sym due.planned ∙ planned_change-is plan d (counts d) (due_inside plan closed counts d what due) in
     cc same
 
 -- it fits the device's kind

@@ -4,7 +4,7 @@ use Rattle.std.specs.Prelude.{Some, slice_get}
 use Rattle.std.proofs.lemmas.List.{map-append, length-map}
 use Rattle.pm_base.specs.Cuts.{Cut}
 use Rattle.pm_market.specs.Lists.{Lists, IsLeaf}
-use Rattle.pm_market.specs.State.{State, start, cleared}
+use Rattle.pm_market.specs.State.{State, start, cleared_cut}
 use Rattle.pm_market.specs.Moves.{LegalJournal, after, after_from, step, act_of}
 use Rattle.pm_market.specs.Held.{lines, lines_from, line_of}
 use Rattle.pm_market.specs.declared.moves.Move.{Move}
@@ -16,7 +16,7 @@ use Rattle.pm_plan.specs.Kept.{IsPlan}
 use Rattle.pm_plan.specs.Plans.{PlanData, plan_bound}
 use Rattle.pm_plan.specs.Market.{plan_lists}
 use Rattle.pm_plan.proofs.MarketLists.{bound-is}
-use Rattle.pm_offer.specs.Offers.{local_at}
+use Rattle.pm_offer.specs.Offers.{local_step_at}
 use Rattle.pm_stands.specs.Core.{Core}
 use Rattle.pm_stands.specs.Stands.{StandsFor}
 use Rattle.pm_stands.specs.Actors.{IsMadeLine}
@@ -49,8 +49,8 @@ run_more plan acts a old new journal line run form made =
           ∙ ap (λ (x : Act). acts ++ x ∷ []) form;
       lines =
           ap (λ (l : List Line). l ++ line ∷ []) run.lines
-          ∙ ap (λ (x : Line). lines lists (local_at plan) ms ++ x ∷ []) made.line
-          ∙ sym (lines_more lists (local_at plan) ms m start) ∙ ap (lines lists (local_at plan)) (sym moves);
+          ∙ ap (λ (x : Line). lines lists (local_step_at plan) ms ++ x ∷ []) made.line
+          ∙ sym (lines_more lists (local_step_at plan) ms m start) ∙ ap (lines lists (local_step_at plan)) (sym moves);
       stands = subst (λ (t : State). StandsFor plan new t)
           (sym (ap (after lists) moves ∙ after_append lists ms (m ∷ []) start)) made.makes.stands;
     }
@@ -60,7 +60,7 @@ pub run_forward : (plan : PlanData) → IsPlan plan → (acts : List Act) (c : C
     (journal : List Line) → IsRunOf plan acts c journal → NeverGoesBack plan journal
 run_forward plan is_plan acts c journal run front mid rest x i j is =
     let lists : Lists = plan_lists plan in
-    let Back : List Move → Type 0 = λ l. (i < j) × ((d : ℕ) → IsLeaf lists d → cleared (after lists l) i d ≤ cleared (after lists l) j d) in
+    let Back : List Move → Type 0 = λ l. (i < j) × ((d : ℕ) → IsLeaf lists d → cleared_cut (after lists l) i d ≤ cleared_cut (after lists l) j d) in
     subst Back (sym is) (never_back lists (lawful plan is_plan) front mid rest x i j (subst (λ (l : List Move). LegalJournal lists l) is run.legal))
 
 -- the journal of a run has at most as many lines as the plan's bound on moves

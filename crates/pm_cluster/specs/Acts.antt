@@ -5,7 +5,7 @@ use Rattle.pm_base.specs.Cuts.{Cut}
 use Rattle.pm_agent.specs.MadeBids.{MadeBid}
 use Rattle.pm_device.specs.declared.state.Next.{Next}
 use Rattle.pm_market.specs.Lists.{is_leaf, IsLeaf}
-use Rattle.pm_market.specs.State.{State, cleared}
+use Rattle.pm_market.specs.State.{State, cleared_cut}
 use Rattle.pm_market.specs.Moves.{Legal, LegalJournal, after, act_of}
 use Rattle.pm_market.specs.Held.{lines}
 use Rattle.pm_market.specs.declared.moves.Move.{Move}
@@ -14,7 +14,7 @@ use Rattle.pm_market.specs.declared.moves.Act.{Act}
 use Rattle.pm_market.specs.declared.journal.Line.{Line}
 use Rattle.pm_plan.specs.Plans.{PlanData, node, kind_of}
 use Rattle.pm_plan.specs.Market.{plan_lists}
-use Rattle.pm_offer.specs.Offers.{local_at}
+use Rattle.pm_offer.specs.Offers.{local_step_at}
 use Rattle.pm_stands.specs.Core.{Core}
 use Rattle.pm_stands.specs.Stands.{StandsFor, MakesMove}
 use Rattle.pm_stands.specs.Actors.{IsMoveOf, NoMoveOf}
@@ -80,7 +80,7 @@ moves_of journal = map (λ line. line.what) journal
 pub record IsRunOf (plan : PlanData) (acts : List Act) (c : Core) (journal : List Line) : Type 0 where
   pub legal : LegalJournal (plan_lists plan) (moves_of journal)
   pub forms : map act_of (moves_of journal) ≡ acts
-  pub lines : journal ≡ lines (plan_lists plan) (local_at plan) (moves_of journal)
+  pub lines : journal ≡ lines (plan_lists plan) (local_step_at plan) (moves_of journal)
   pub stands : StandsFor plan c (after (plan_lists plan) (moves_of journal))
 
 -- of two prices that are passed to a device the later is over no older bid of anyone
@@ -88,7 +88,7 @@ abbrev pub NeverGoesBack : PlanData → List Line → Type 0
 NeverGoesBack plan journal = (front mid rest : List Move) (x i j : ℕ) →
     moves_of journal ≡ front ++ Pass x i ∷ (mid ++ Pass x j ∷ rest) →
     (i < j) × ((d : ℕ) → IsLeaf (plan_lists plan) d →
-    cleared (after (plan_lists plan) (moves_of journal)) i d ≤ cleared (after (plan_lists plan) (moves_of journal)) j d)
+    cleared_cut (after (plan_lists plan) (moves_of journal)) i d ≤ cleared_cut (after (plan_lists plan) (moves_of journal)) j d)
 
 -- the act in a place is the first that is not legal: the acts before it have a legal journal, after which no move of its
 -- form is legal

@@ -2,7 +2,7 @@
 use Rattle.std.specs.Prelude.{◌≡◌, ℕ, ◌+◌, ◌<◌, ◌≤◌, ◌⊎◌, slice_index_or, Some}
 use Rattle.pm_base.specs.Cuts.{Cut}
 use Rattle.pm_device.specs.declared.state.Next.{Next}
-use Rattle.pm_plan.specs.Plans.{PlanData, phases, end_cut, is_member, planned}
+use Rattle.pm_plan.specs.Plans.{PlanData, phases, end_cut, is_member, planned_change}
 use Rattle.pm_plan.specs.declared.planned.Planned.{Planned}
 use Rattle.pm_plan.specs.States.{state}
 use Rattle.pm_stands.specs.Core.{Core}
@@ -21,7 +21,7 @@ HasNoNext plan closed counts d = (phases plan ≤ closed) ⊎ (counts d ≡ end_
 pub record IsDueChange (plan : PlanData) (closed : ℕ) (counts : Cut) (d : ℕ) (what : Planned) : Type 0 where
   pub open_phase : closed < phases plan
   pub of_phase : counts d < end_cut plan (closed + 1) d
-  pub planned : planned plan d (counts d + 1) ≡ Some what
+  pub planned : planned_change plan d (counts d + 1) ≡ Some what
 
 -- the next change of a device belongs to the open phase; what it makes of the device is what the plan's changes do
 pub record IsNext (plan : PlanData) (closed : ℕ) (counts : Cut) (d : ℕ) (next : Next) : Type 0 where

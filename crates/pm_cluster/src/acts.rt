@@ -5,8 +5,8 @@ ghost use Rattle.pm_market.specs.State.{State, start};
 ghost use Rattle.pm_market.specs.Moves.{act_of};
 ghost use Rattle.pm_plan.specs.Market.{plan_lists};
 ghost use Rattle.pm_plan.specs.Plans.{plan_bound};
-ghost use Rattle.pm_market.specs.Held.{held};
-ghost use Rattle.pm_offer.specs.Offers.{local_at};
+ghost use Rattle.pm_market.specs.Held.{holding};
+ghost use Rattle.pm_offer.specs.Offers.{local_step_at};
 ghost use Rattle.pm_stands.specs.Stands.{StandsFor, MakesMove};
 ghost use Rattle.pm_stands.specs.Actors.{IsMoveOf, NoMoveOf, IsMadeLine};
 ghost use Rattle.pm_market.specs.declared.moves.Act.{Act};
@@ -57,7 +57,7 @@ impl<'p> Cluster<'p> {
     /// The step and the number that a device holds; none for any other node.
     fn held_by(&self, node: NodeId) -> Option<(u32, u32)>
         ensures held { (s : State) → StandsFor self.now.plan self.now.core s →
-            result ≡ (if is_leaf (plan_lists self.now.plan) node.0 then held (plan_lists self.now.plan) (local_at self.now.plan) s node.0 else None) }
+            result ≡ (if is_leaf (plan_lists self.now.plan) node.0 then holding (plan_lists self.now.plan) (local_step_at self.now.plan) s node.0 else None) }
     {
         if !is_device(self.plan, node) {
             return None;

@@ -7,7 +7,7 @@ ghost use Rattle.pm_cache.specs.Cache.{kept_number};
 ghost use Rattle.pm_cache.specs.Learning.{CanLearn};
 ghost use Rattle.pm_session.specs.Windows.{Keeps, record_of};
 ghost use Rattle.pm_session.specs.Prices.{PricesOffered, IsNewIndex};
-ghost use Rattle.pm_concentrator.specs.Limited.{passed_step};
+ghost use Rattle.pm_concentrator.specs.Limited.{local_step_of_record};
 ghost use Rattle.pm_concentrator.specs.Concentrators.{Published, Passed};
 ghost use Rattle.pm_auctioneer.specs.Auctions.{ClearedAt};
 ghost use Rattle.pm_stands.specs.Core.{row_at, link_at, gathered_at, cache_in};
@@ -92,7 +92,7 @@ pub(crate) fn pass(
     ensures alone { OneConcentrator concentrators.old.items concentrators.new.items node }
     ensures prices { let g = gathered_at concentrators.old.items node in
         let sent = record_of g.window price.number in
-        PricesOffered sent.heads (passed_step g.limits price.step sent.sum) price.index
+        PricesOffered sent.heads (local_step_of_record g.limits price.step sent.sum) price.index
         (row_at (map (λ row. row.items) links.old.items) node) (row_at (map (λ row. row.items) links.new.items) node) }
     ensures row { OneRow (map (λ row. row.items) links.old.items) (map (λ row. row.items) links.new.items) node }
 {

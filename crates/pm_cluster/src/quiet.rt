@@ -2,13 +2,13 @@ ghost use Rattle.std.specs.Prelude.{◌≡◌, ℕ, ◌<◌, ◌≤◌, ◌↔�
 ghost use Rattle.pm_basis.specs.Prices.{price_at};
 ghost use Rattle.pm_cache.specs.Cache.{aggregate_of};
 ghost use Rattle.pm_market.specs.Lists.{nodes, IsLeaf, is_member};
-ghost use Rattle.pm_market.specs.State.{State, known, clearings, cleared};
+ghost use Rattle.pm_market.specs.State.{State, knowledge, clearings, cleared_cut};
 ghost use Rattle.pm_market.specs.Moves.{Idle};
 ghost use Rattle.pm_session.specs.Prices.{session_at};
-ghost use Rattle.pm_plan.specs.Auction.{total, plain};
+ghost use Rattle.pm_plan.specs.Auction.{total, plain_step};
 ghost use Rattle.pm_plan.specs.States.{state};
 ghost use Rattle.pm_plan.specs.Market.{plan_lists};
-ghost use Rattle.pm_offer.specs.Offers.{children_sum, local_at};
+ghost use Rattle.pm_offer.specs.Offers.{children_sum, local_step_at};
 ghost use Rattle.pm_plan.specs.Kept.{IsPlan};
 ghost use Rattle.pm_stands.specs.Rows.{CannotPublish};
 ghost use Rattle.pm_stands.specs.Quiet.{IsQuiet};
@@ -131,16 +131,16 @@ impl<'p> Cluster<'p> {
         ensures held { (s : State) → StandsFor self.now.plan self.now.core s → result ≡ held_price self.now.plan s device.0 }
         ensures current { (s : State) → StandsFor self.now.plan self.now.core s → Idle (plan_lists self.now.plan) s →
             is_member (plan_lists self.now.plan) device.0 (s.counts device.0) ≡ true →
-            result ≡ Some (record { step = local_at self.now.plan s.counts device.0; number = s.counts device.0; index = clearings s }) }
+            result ≡ Some (record { step = local_step_at self.now.plan s.counts device.0; number = s.counts device.0; index = clearings s }) }
         ensures member { (s : State) → StandsFor self.now.plan self.now.core s →
             IfSome result (λ price. is_member (plan_lists self.now.plan) device.0 price.number ≡ true) }
         ensures made { (s : State) → StandsFor self.now.plan self.now.core s → IfSome result (λ price. price.number ≤ s.counts device.0) }
         ensures cleared { (s : State) → StandsFor self.now.plan self.now.core s →
             IfSome result (λ price. (1 ≤ price.index) × (price.index ≤ clearings s)) }
         ensures own { (s : State) → StandsFor self.now.plan self.now.core s →
-            IfSome result (λ price. price.number ≡ cleared s price.index device.0) }
+            IfSome result (λ price. price.number ≡ cleared_cut s price.index device.0) }
         ensures step { (s : State) → StandsFor self.now.plan self.now.core s →
-            IfSome result (λ price. price.step ≡ local_at self.now.plan (cleared s price.index) device.0) }
+            IfSome result (λ price. price.step ≡ local_step_at self.now.plan (cleared_cut s price.index) device.0) }
     {
         self.ports[device.0 as usize].held()
     }
@@ -149,7 +149,7 @@ impl<'p> Cluster<'p> {
     pub fn price(&self) -> i64
         ensures price { result ≡ price_at self.now.plan.basis self.now.core.auctioneer.step }
         ensures current { (s : State) → StandsFor self.now.plan self.now.core s → Idle (plan_lists self.now.plan) s →
-            result ≡ price_at self.now.plan.basis (plain self.now.plan (state self.now.plan) s.counts) }
+            result ≡ price_at self.now.plan.basis (plain_step self.now.plan (state self.now.plan) s.counts) }
     {
         self.plan.basis().price(self.auctioneer.step() as usize)
     }
@@ -159,7 +159,7 @@ impl<'p> Cluster<'p> {
     pub fn aggregate(&self) -> &ArrayBid
         ensures sum { result.now ≡ aggregate_of self.now.core.auctioneer.cache }
         ensures known { (s : State) → StandsFor self.now.plan self.now.core s →
-            result.now ≡ children_sum self.now.plan 0 (known (plan_lists self.now.plan) s 0) }
+            result.now ≡ children_sum self.now.plan 0 (knowledge (plan_lists self.now.plan) s 0) }
         ensures current { (s : State) → StandsFor self.now.plan self.now.core s → Idle (plan_lists self.now.plan) s →
             result.now ≡ total self.now.plan (state self.now.plan) s.counts }
     {

@@ -6,7 +6,7 @@ use Rattle.pm_bid.specs.Limited.{within_limits}
 use Rattle.pm_bid.specs.declared.head.BidHead.{BidHead}
 use Rattle.pm_cache.specs.Cache.{Cache, aggregate_of, empty_cache}
 use Rattle.pm_session.specs.Links.{Session, BidOffered}
-use Rattle.pm_session.specs.Windows.{newest_record, unanswered, RecordSent, RecordAnswered, IsNewWindow, WindowValue}
+use Rattle.pm_session.specs.Windows.{newest_record, unanswered_count, RecordSent, RecordAnswered, IsNewWindow, WindowValue}
 use Rattle.pm_concentrator.specs.Limited.{sum_kept, sum_steps}
 
 -- the entries of the children, the records of what was published, and the limits where there are some
@@ -29,7 +29,7 @@ pub record IsNewConcentrator (children steps : ℕ) (limits' : Option Limits) (c
 -- heads that went into it are its record
 pub record Published (old new : Gathered) (up_old up_new : Session) (number' : ℕ) : Type 0 where
   pub changed : old.cache.heads ≡ published_heads old → ⊥
-  pub room : unanswered old.window < window_size
+  pub room : unanswered_count old.window < window_size
   pub number : number' ≡ old.window.last + 1
   pub bid : BidOffered up_old up_new (record { number = number'; gone = false; demand = within_limits old.limits (aggregate_of old.cache) })
   pub sent : RecordSent old.window new.window (record { number = number'; heads = old.cache.heads; sum = sum_kept old.limits (aggregate_of old.cache) })

@@ -19,9 +19,9 @@ sum_steps None steps = None
 sum_steps (Some limits) steps = Some steps
 
 -- the step that is passed down for a price of step k and the sum that its record keeps
-abbrev pub passed_step : Option Limits → ℕ → Option (List ℤ) → ℕ
-passed_step limits k None = k
-passed_step limits k (Some sum) = local_step limits k sum
+abbrev pub local_step_of_record : Option Limits → ℕ → Option (List ℤ) → ℕ
+local_step_of_record limits k None = k
+local_step_of_record limits k (Some sum) = local_step limits k sum
 
 -- where there are limits, the step of a price is one of the steps
 abbrev pub IsStepOf : Option Limits → ℕ → ℕ → Type 0

@@ -4,11 +4,11 @@ ghost use Rattle.std.specs.Option.{option_copied};
 ghost use Rattle.pm_base.specs.Limits.{AreSteps, AreLimits, most_nodes, window_size};
 ghost use Rattle.pm_bid.specs.Limited.{within_limits};
 ghost use Rattle.pm_cache.specs.Cache.{aggregate_of, kept_number, answer_to};
-ghost use Rattle.pm_cache.specs.Learning.{CanLearn, learnt};
+ghost use Rattle.pm_cache.specs.Learning.{CanLearn, after_learning};
 ghost use Rattle.pm_session.specs.Links.{BidOffered};
 ghost use Rattle.pm_session.specs.Prices.{PricesOffered, IsNewIndex};
-ghost use Rattle.pm_session.specs.Windows.{Keeps, unanswered, record_of, RecordSent, IsWindow, steps_of};
-ghost use Rattle.pm_concentrator.specs.Limited.{LimitedValue, sum_kept, sum_steps, passed_step, IsStepOf};
+ghost use Rattle.pm_session.specs.Windows.{Keeps, unanswered_count, record_of, RecordSent, IsWindow, steps_of};
+ghost use Rattle.pm_concentrator.specs.Limited.{LimitedValue, sum_kept, sum_steps, local_step_of_record, IsStepOf};
 ghost use Rattle.pm_concentrator.specs.Concentrators.{published_heads, IsNewConcentrator, Published, Passed, IsGathered};
 ghost use Rattle.pm_concentrator.specs.Faults.{NotPublished};
 
@@ -104,7 +104,7 @@ impl Concentrator {
     ) -> Result<(), CacheFault>
         requires bid { CanLearn self.old.cache child (option_copied demand) }
         ensures answer { result ≡ answer_to (kept_number self.old.cache child) number }
-        ensures learnt { self.new ≡ record self.old { cache = learnt self.old.cache child number (option_copied demand.entry) } }
+        ensures learnt { self.new ≡ record self.old { cache = after_learning self.old.cache child number (option_copied demand.entry) } }
     {
         self.cache
             .learn(child, number, demand, &mut Steps::<Brand>::start())
@@ -148,9 +148,9 @@ impl Concentrator {
         ensures ok { result ≡ Ok tt }
         ensures passed { Passed self.old self.new price.number }
         ensures prices { let sent = record_of self.old.window price.number in
-            PricesOffered sent.heads (passed_step self.old.limits price.step sent.sum) price.index downs.old downs.new }
+            PricesOffered sent.heads (local_step_of_record self.old.limits price.step sent.sum) price.index downs.old downs.new }
         ensures inside { price.step < self.old.cache.steps
-            → passed_step self.old.limits price.step (record_of self.old.window price.number).sum < self.old.cache.steps }
+            → local_step_of_record self.old.limits price.step (record_of self.old.window price.number).sum < self.old.cache.steps }
     {
         let record = self.window.answered(price.number);
         let step = step_below(&self.limited, price.step, record);
@@ -168,7 +168,7 @@ impl Concentrator {
 
     /// How many more numbers may be published: 8 less those that are unanswered.
     pub fn room(&self) -> usize
-        ensures room { result ≡ window_size - unanswered self.now.window }
+        ensures room { result ≡ window_size - unanswered_count self.now.window }
         ensures sound { IsWindow self.now.window }
     {
         self.window.room()
@@ -207,7 +207,7 @@ fn send(
 )
     requires up_steps { up.old.steps ≡ cache.now.steps }
     requires limits { (limits : LimitedValue) → limited.old ≡ Some limits → limits.steps ≡ cache.now.steps }
-    requires room { unanswered window.old < window_size }
+    requires room { unanswered_count window.old < window_size }
     requires number { number ≡ window.old.last + 1 }
     requires offered { up.old.up.offered < number }
     requires children { window.old.children ≡ length cache.now.heads }
@@ -236,7 +236,7 @@ fn step_below(limited: &Option<Limited>, step: u32, sent: &Record) -> u32
     requires step { (limits : LimitedValue) → limited.now ≡ Some limits → step < limits.steps }
     requires sums { (limits : LimitedValue) → limited.now ≡ Some limits → steps_of sent.now.sum ≡ Some limits.steps }
     requires no_sums { limited.now ≡ None → sent.now.sum ≡ None }
-    ensures step { result ≡ passed_step (option_map (λ l. l.limits) limited.now) step sent.now.sum }
+    ensures step { result ≡ local_step_of_record (option_map (λ l. l.limits) limited.now) step sent.now.sum }
     ensures inside { (limits : LimitedValue) → limited.now ≡ Some limits → result < limits.steps }
     ensures same { limited.now ≡ None → result ≡ step }
 {

@@ -1,6 +1,6 @@
 ghost use Rattle.std.specs.Prelude.{◌≡◌, ◌<◌, false, length, IfOk};
 ghost use Rattle.pm_base.specs.Limits.{AreSteps, AreLimits};
-ghost use Rattle.pm_bid.specs.Bids.{clamped};
+ghost use Rattle.pm_bid.specs.Bids.{clamp};
 ghost use Rattle.pm_bid.specs.Limited.{step_within};
 ghost use Rattle.pm_session.specs.Links.{BidOffered};
 
@@ -47,7 +47,7 @@ impl Limited {
         requires steps { length sum.now ≡ self.old.steps }
         requires up_steps { up.old.steps ≡ self.old.steps }
         ensures bid { BidOffered up.old up.new
-            (record { number = number; gone = false; demand = clamped self.old.limits.floor self.old.limits.ceiling sum.now }) }
+            (record { number = number; gone = false; demand = clamp self.old.limits.floor self.old.limits.ceiling sum.now }) }
         ensures same { self.new ≡ self.old }
     {
         let mut counter = Steps::<Brand>::start();

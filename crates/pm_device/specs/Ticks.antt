@@ -14,11 +14,11 @@ abbrev pub floor_div : ℤ → ℤ → ℤ
 floor_div number divisor = int_div_euclid number divisor
 
 -- whether the device took power from the cluster, and whether it delivered power
-abbrev pub took : ℤ → Bool
-took power = int_lt (pos 0) power
+abbrev pub takes_power : ℤ → Bool
+takes_power power = int_lt (pos 0) power
 
-abbrev pub delivered : ℤ → Bool
-delivered power = int_lt power (pos 0)
+abbrev pub delivers_power : ℤ → Bool
+delivers_power power = int_lt power (pos 0)
 
 -- a change of the temperature where it is so, else none
 abbrev pub change_if : Bool → ℤ → ℤ
@@ -43,10 +43,10 @@ charge_after capacity stored power minutes =
 
 -- the state after a tick of so many minutes at a power in watts; kinds without ticks keep their state
 unfoldable pub tick : Kind → ℤ → ℤ → ℤ → ℤ
-tick (Freezer low high rated warm cool) temperature power minutes = freezer_after temperature warm cool (took power)
-tick (HeatPump low high rated loss gain) temperature power minutes = heated_after temperature loss gain (took power)
+tick (Freezer low high rated warm cool) temperature power minutes = freezer_after temperature warm cool (takes_power power)
+tick (HeatPump low high rated loss gain) temperature power minutes = heated_after temperature loss gain (takes_power power)
 tick (Cogeneration low high rated loss gain) temperature power minutes =
-    heated_after temperature loss gain (delivered power)
+    heated_after temperature loss gain (delivers_power power)
 tick (Battery capacity charge discharge spread) stored power minutes = charge_after capacity stored power minutes
 tick Solar output power minutes = output
 tick Load taken power minutes = taken

@@ -2,7 +2,7 @@
 use Rattle.std.proofs.Common.{◌≡◌, refl, pos, [], ◌∷◌, take}
 use Rattle.pm_device.specs.declared.kind.Kind.TheVariants.{Load}
 use Rattle.pm_plan.specs.Parts.{number, device, join, leave, events, tick}
-use Rattle.pm_gen.specs.Draws.{next, drawn, first_seed}
+use Rattle.pm_gen.specs.Draws.{next, draw_below, first_seed}
 use Rattle.pm_gen.specs.Nodes.{device_of, drawn_device, drawn_devices, device_name}
 use Rattle.pm_gen.specs.Rounds.{picks, is_joined, turns, rounds, demo_phases, seed_after}
 
@@ -14,7 +14,7 @@ second_draw : next 599 ≡ 44999
 unfolding next
 second_draw = refl
 
-first_kind : drawn 6 (first_seed 7) ≡ 5
+first_kind : draw_below 6 (first_seed 7) ≡ 5
 unfolding next
 first_kind = refl
 

@@ -9,7 +9,7 @@ use Rattle.std.proofs.lemmas.List.Sums.{fold-append}
 use Rattle.std.proofs.lemmas.Bool.{cases_eq}
 use Rattle.std.proofs.lemmas.Bool.Decides.{nat_tests}
 use Rattle.pm_plan.specs.Parts.{EventPart, PhasePart, events, tick, join, leave}
-use Rattle.pm_gen.specs.Draws.{next, drawn}
+use Rattle.pm_gen.specs.Draws.{next, draw_below}
 use Rattle.pm_gen.specs.Nodes.{device_name}
 use Rattle.pm_gen.specs.Rounds.{picks, is_joined, joined_flags, turn, turns, round_len, round_picks, rounds, seed_after}
 use Rattle.pm_gen.proofs.Ranges.{range_with_len-append}
@@ -24,12 +24,12 @@ unfolding seed_after
 after-more zero seed = refl
 after-more (suc n) seed = let one : suc n + 1 ≡ suc (n + 1) = omega arith in ap (λ m. seed_after m seed) one ∙ after-more n (next seed)
 
-picks-more : (n size seed : ℕ) → picks (n + 1) size seed ≡ picks n size seed ++ (1 + drawn size (seed_after n seed)) ∷ []
+picks-more : (n size seed : ℕ) → picks (n + 1) size seed ≡ picks n size seed ++ (1 + draw_below size (seed_after n seed)) ∷ []
 unfolding picks seed_after
 picks-more zero size seed = refl
 picks-more (suc n) size seed =
     let one : suc n + 1 ≡ suc (n + 1) = omega arith in
-    ap (λ m. picks m size seed) one ∙ ap (λ devices. (1 + drawn size seed) ∷ devices) (picks-more n size (next seed))
+    ap (λ m. picks m size seed) one ∙ ap (λ devices. (1 + draw_below size seed) ∷ devices) (picks-more n size (next seed))
 
 turns-more : (earlier devices : List ℕ) (i : ℕ) → turns earlier (devices ++ i ∷ []) ≡ turns earlier devices ++ turn (earlier ++ devices) i ∷ []
 unfolding turns
@@ -93,7 +93,7 @@ after-none seed = refl
 
 -- with the next drawn device's flag turned and its event made, the round has come one event further
 pub turned-more : (size : ℕ) (earlier : List ℕ) (first count k : ℕ) (members new : List Bool) (made more : List EventPart)
-    (event : EventPart) → k < size → k ≡ drawn size (seed_after count first)
+    (event : EventPart) → k < size → k ≡ draw_below size (seed_after count first)
     → Turned size earlier first count members made
     → new ≡ set members k (not (get_or members k false)) →
     event ≡ (if get_or members k false then leave (device_name (1 + k)) else join (device_name (1 + k))) → more ≡ made ++ event ∷ []

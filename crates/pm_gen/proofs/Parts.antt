@@ -17,7 +17,7 @@ use Rattle.pm_plan.specs.Plans.{PlanData, NodeData}
 use Rattle.pm_plan.specs.Plans as plans
 use Rattle.pm_plan.specs.Building.{add_node, with_node, state_of, is_manual}
 use Rattle.pm_base.specs.Outcomes.{◌>>=◌, fold_from}
-use Rattle.pm_gen.specs.Draws.{next, drawn}
+use Rattle.pm_gen.specs.Draws.{next, draw_below}
 use Rattle.pm_gen.specs.Nodes.{with_start, at_power, device_of, drawn_power, drawn_device, drawn_devices, demo_nodes, demo_entries, concentrator_entry}
 use Rattle.pm_gen.specs.Nodes.{device_entry, concentrator_entries, device_entries, concentrator_count}
 
@@ -105,7 +105,7 @@ module _ (power : ℤ) (seed : ℕ) (rated : is_power power ≡ true) where
   freezer = record {
     valid = ap (λ b. b && true) rated;
     no_bid = refl;
-    fits = between (neg_ℤ (pos temperature_limit)) (pos temperature_limit) (neg_ℤ (pos 2200) +ℤ pos (drawn 401 seed))
+    fits = between (neg_ℤ (pos temperature_limit)) (pos temperature_limit) (neg_ℤ (pos 2200) +ℤ pos (draw_below 401 seed))
         (omega (arith, ints)) (omega (arith, ints));
   }
 
@@ -113,21 +113,21 @@ module _ (power : ℤ) (seed : ℕ) (rated : is_power power ≡ true) where
   heat_pump = record {
     valid = ap (λ b. b && true) rated;
     no_bid = refl;
-    fits = between (neg_ℤ (pos temperature_limit)) (pos temperature_limit) (pos 1900 +ℤ pos (drawn 301 seed)) (omega (arith, ints)) (omega (arith, ints));
+    fits = between (neg_ℤ (pos temperature_limit)) (pos temperature_limit) (pos 1900 +ℤ pos (draw_below 301 seed)) (omega (arith, ints)) (omega (arith, ints));
   }
 
   cogeneration : IsPlain (with_start (Cogeneration (pos 5000) (pos 8000) power (pos 100) (pos 300)) (pos 5000) 3001 seed).0
   cogeneration = record {
     valid = ap (λ b. b && true) rated;
     no_bid = refl;
-    fits = between (neg_ℤ (pos temperature_limit)) (pos temperature_limit) (pos 5000 +ℤ pos (drawn 3001 seed)) (omega (arith, ints)) (omega (arith, ints));
+    fits = between (neg_ℤ (pos temperature_limit)) (pos temperature_limit) (pos 5000 +ℤ pos (draw_below 3001 seed)) (omega (arith, ints)) (omega (arith, ints));
   }
 
   battery : IsPlain (with_start (Battery (pos 1000) power power (pos 5)) (pos 0) 1001 seed).0
   battery = record {
     valid = ap (λ b. b && b && true) rated;
     no_bid = refl;
-    fits = between (pos 0) (pos 1000) (pos 0 +ℤ pos (drawn 1001 seed)) (omega (arith, ints)) (omega (arith, ints));
+    fits = between (pos 0) (pos 1000) (pos 0 +ℤ pos (draw_below 1001 seed)) (omega (arith, ints)) (omega (arith, ints));
   }
 
   solar : IsPlain (at_power Solar power seed).0
@@ -146,7 +146,7 @@ drawn_power-rated seed = between (pos 0) (pos power_limit) (drawn_power seed) (o
 
 drawn_device-plain : (seed : ℕ) → IsPlain (drawn_device seed).0
 unfolding drawn_device
-drawn_device-plain seed = device_of-plain (drawn_power (next seed)) (next (next seed)) (drawn_power-rated (next seed)) (drawn 6 seed)
+drawn_device-plain seed = device_of-plain (drawn_power (next seed)) (next (next seed)) (drawn_power-rated (next seed)) (draw_below 6 seed)
 
 drawn_devices-plain : (n seed : ℕ) → AllByRecursion IsPlain (drawn_devices n seed).0
 unfolding drawn_devices
@@ -190,7 +190,7 @@ devices_are_devices : (n seed : ℕ) → map is_device (drawn_devices n seed).0 
 unfolding drawn_devices drawn_device
 devices_are_devices zero seed = refl
 devices_are_devices (suc n) seed =
-    let first = device_of-is_device (drawn 6 seed) (drawn_power (next seed)) (next (next seed)) in
+    let first = device_of-is_device (draw_below 6 seed) (drawn_power (next seed)) (next (next seed)) in
     let rest = devices_are_devices n (drawn_device seed).1 in
     (λ i. first i ∷ rest i)
 

@@ -6,8 +6,8 @@ unfoldable pub next : ℕ → ℕ
 next seed = (75 * seed + 74) % 65537
 
 -- the number below n that a draw gives, where n is above 0
-abbrev pub drawn : ℕ → ℕ → ℕ
-drawn n seed = next seed % n
+abbrev pub draw_below : ℕ → ℕ → ℕ
+draw_below n seed = next seed % n
 
 -- the seed of the first draw
 abbrev pub first_seed : ℕ → ℕ

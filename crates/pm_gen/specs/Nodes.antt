@@ -7,7 +7,7 @@ use Rattle.pm_device.specs.declared.kind.Kind.TheVariants.{Freezer, HeatPump, Co
 use Rattle.pm_tree.specs.Names.{auctioneer}
 use Rattle.pm_tree.specs.Entries.{Entry}
 use Rattle.pm_plan.specs.Parts.{number, NodePart, concentrator, device}
-use Rattle.pm_gen.specs.Draws.{next, drawn}
+use Rattle.pm_gen.specs.Draws.{next, draw_below}
 
 -- ---- names and parents
 
@@ -48,7 +48,7 @@ demo_entries size = concentrator_entries (concentrator_count size) ++ device_ent
 
 -- a device whose start is one of so many, from the least on, with the seed after that draw
 abbrev pub with_start : Kind → ℤ → ℕ → ℕ → NodePart × ℕ
-with_start kind least count seed = (device kind (number (least +ℤ pos (drawn count seed))), next seed)
+with_start kind least count seed = (device kind (number (least +ℤ pos (draw_below count seed))), next seed)
 
 -- a device whose start is its power, without a draw
 abbrev pub at_power : Kind → ℤ → ℕ → NodePart × ℕ
@@ -66,11 +66,11 @@ device_of kind power seed =
 
 -- the power of a device in watts: 100, 200, .. or 2000
 abbrev pub drawn_power : ℕ → ℤ
-drawn_power seed = pos (100 * (1 + drawn 20 seed))
+drawn_power seed = pos (100 * (1 + draw_below 20 seed))
 
 -- a device by its draws, first of its kind, then of its power, then of its start, with the seed after them
 unfoldable pub drawn_device : ℕ → NodePart × ℕ
-drawn_device seed = device_of (drawn 6 seed) (drawn_power (next seed)) (next (next seed))
+drawn_device seed = device_of (draw_below 6 seed) (drawn_power (next seed)) (next (next seed))
 
 abbrev pub with_first : NodePart → List NodePart × ℕ → List NodePart × ℕ
 with_first first rest = (first ∷ rest.0, rest.1)

@@ -3,13 +3,13 @@
 use Rattle.std.specs.Prelude.{ℕ, zero, suc, ◌+◌, ◌/◌, ◌==◌, pos, Bool, false, not, if◌then◌else◌, List, [], ◌∷◌, ◌++◌, map}
 use Rattle.std.specs.List.{range_with_len, fold}
 use Rattle.pm_plan.specs.Parts.{EventPart, join, leave, PhasePart, events, tick}
-use Rattle.pm_gen.specs.Draws.{next, drawn}
+use Rattle.pm_gen.specs.Draws.{next, draw_below}
 use Rattle.pm_gen.specs.Nodes.{device_name}
 
 -- so many drawn devices of a cluster of this size, one draw for each
 unfoldable pub picks : ℕ → ℕ → ℕ → List ℕ
 picks zero size seed = []
-picks (suc n) size seed = (1 + drawn size seed) ∷ picks n size (next seed)
+picks (suc n) size seed = (1 + draw_below size seed) ∷ picks n size (next seed)
 
 -- the seed after so many draws
 unfoldable pub seed_after : ℕ → ℕ → ℕ

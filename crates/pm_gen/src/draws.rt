@@ -1,5 +1,5 @@
 ghost use Rattle.std.specs.Prelude.{◌≡◌, ◌<◌};
-ghost use Rattle.pm_gen.specs.Draws.{next, drawn, first_seed};
+ghost use Rattle.pm_gen.specs.Draws.{next, draw_below, first_seed};
 
 /// The numbers of the generator: each draw changes the seed, and gives its rest by the number of choices.
 #[derive(Clone, Copy)]
@@ -21,7 +21,7 @@ impl Draws {
     #[tactic(auto, unfolding(crate::specs::Draws::next))]
     pub(crate) fn draw(&mut self, choices: u32) -> u32
         requires { 0 < choices }
-        ensures drawn { result ≡ drawn choices self.old.seed }
+        ensures drawn { result ≡ draw_below choices self.old.seed }
         ensures below { result < choices }
         ensures seed { self.new.seed ≡ next self.old.seed }
     {

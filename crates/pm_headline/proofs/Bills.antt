@@ -5,7 +5,7 @@ use Rattle.pm_basis.specs.Prices.{price_at}
 use Rattle.pm_plan.specs.Plans.{PlanData}
 use Rattle.pm_plan.specs.Kept.{IsPlan}
 use Rattle.pm_plan.specs.Auction.{power}
-use Rattle.pm_offer.specs.Offers.{local_at}
+use Rattle.pm_offer.specs.Offers.{local_step_at}
 use Rattle.pm_offer.proofs.EndLines.{step_is}
 use Rattle.pm_offer.proofs.Steps.{demand_is}
 use Rattle.pm_bill.specs.Accounts.{account_of}
@@ -18,7 +18,7 @@ module _ (plan : PlanData) (is : IsPlan plan) where
   gain_is : (d p : ℕ) → IsGain plan d p (device_gain plan d p)
   unfolding device_gain power
   gain_is d p =
-      let step : ℕ = local_at plan (cut_before plan p) d in
+      let step : ℕ = local_step_at plan (cut_before plan p) d in
       record {
         step = step;
         goes_by = step_is plan is (cut_before plan p) d;

@@ -10,10 +10,10 @@ use Rattle.pm_base.specs.Cuts.{Cut}
 use Rattle.pm_bid.specs.Bids.{demand_at}
 use Rattle.pm_market.specs.Lists.{Lists, is_leaf, end_count, IsLeaf, Lawful}
 use Rattle.pm_market.specs.Lists as market
-use Rattle.pm_market.specs.State.{State, SameOn, start, last, last_of, clearings, cleared}
+use Rattle.pm_market.specs.State.{State, SameOn, start, last_index, last_of, clearings, cleared_cut}
 use Rattle.pm_market.specs.Moves.{Legal, LegalFrom, LegalJournal, Idle, step, after, after_from}
 use Rattle.pm_market.specs.Sound.{Sound}
-use Rattle.pm_market.specs.Held.{holds_price, held, held_after, line_of, lines_from}
+use Rattle.pm_market.specs.Held.{holds_price, holding, holding_after, line_of, lines_from}
 use Rattle.pm_market.specs.declared.moves.Move.{Move}
 use Rattle.pm_market.specs.declared.moves.Move.TheVariants.{Change, Learn, Publish, Clear, Pass, Close}
 use Rattle.pm_market.specs.declared.journal.Line.{Line}
@@ -30,7 +30,7 @@ use Rattle.pm_plan.specs.Auction.{power}
 use Rattle.pm_plan.specs.States.{all_ends}
 use Rattle.pm_plan.specs.Market.{plan_lists}
 use Rattle.pm_plan.proofs.MarketLists.{lawful, phases-is, end-is, changes-is, is_member-is}
-use Rattle.pm_offer.specs.Offers.{device_demand, local_at}
+use Rattle.pm_offer.specs.Offers.{device_demand, local_step_at}
 use Rattle.pm_offer.specs.LocalSteps.{IsAuctionStep}
 use Rattle.pm_offer.proofs.Steps.{demand_is}
 use Rattle.pm_offer.proofs.EndLines.{step_is}
@@ -110,7 +110,7 @@ module _ (plan : PlanData) (is_plan : IsPlan plan) where
   inside d leaf = let here = leaf_node lists law d leaf in (here.0, omega (arith, here.1, nodes_are plan is_plan))
 
   -- a clearing has no more changes of a device than it makes
-  cleared_few : (s : State) → Sound lists s → (d j : ℕ) → IsLeaf lists d → j ≤ clearings s → cleared s j d ≤ change_count plan d
+  cleared_few : (s : State) → Sound lists s → (d j : ℕ) → IsLeaf lists d → j ≤ clearings s → cleared_cut s j d ≤ change_count plan d
   cleared_few s sound d j leaf made =
       let here = leaf_node lists law d leaf in
       let part_is = clearing_part lists law s sound d j here made in
@@ -134,27 +134,27 @@ module _ (plan : PlanData) (is_plan : IsPlan plan) where
       made : (d : ℕ) → IsLeaf lists d → s.counts d ≡ end_cut plan p d
       made d leaf = counts d leaf ∙ end-is plan p d (inside d leaf).0 (inside d leaf).1 few is_plan.in_phases
 
-      same : SameOn lists 0 (cleared s (clearings s)) (end_cut plan p)
+      same : SameOn lists 0 (cleared_cut s (clearings s)) (end_cut plan p)
       same d below = let leaf = (leaf_of_parts lists 0 d below).0 in quiet_counts lists law s sound idle d leaf ∙ made d leaf
 
       holds : (d : ℕ) → IsLeaf lists d → is_member plan d (end_cut plan p d) ≡ true →
-          held lists (local_at plan) s d ≡ Some (local_at plan (end_cut plan p) d, end_cut plan p d)
+          holding lists (local_step_at plan) s d ≡ Some (local_step_at plan (end_cut plan p) d, end_cut plan p d)
       holds d leaf member =
           let few_changes : s.counts d ≤ change_count plan d =
           omega (arith, sound.counts_within d leaf, changes-is plan d (inside d leaf).0 (inside d leaf).1) in
           let here : market.is_member lists d (s.counts d) ≡ true =
           is_member-is plan d (s.counts d) (inside d leaf).0 (inside d leaf).1 few_changes ∙ ap (is_member plan d) (made d leaf) ∙ member in
-          let is_last : last s d ≡ clearings s = (quiet_passed lists law s sound idle d leaf here).1 in
-          cond-true (holds_price lists s d) (Some (local_at plan (cleared s (last s d)) d, cleared s (last s d) d)) None
+          let is_last : last_index s d ≡ clearings s = (quiet_passed lists law s sound idle d leaf here).1 in
+          cond-true (holds_price lists s d) (Some (local_step_at plan (cleared_cut s (last_index s d)) d, cleared_cut s (last_index s d) d)) None
           (quiet_holds lists law s sound idle d leaf here)
-          ∙ ap (λ (j : ℕ). Some (local_at plan (cleared s j) d, cleared s j d)) is_last
-          ∙ ap (λ (k : ℕ). Some (k, cleared s (clearings s) d))
-          (local_alike plan is_plan (cleared s (clearings s)) (end_cut plan p) same d (leaf_node lists law d leaf))
-          ∙ ap (λ (n : ℕ). Some (local_at plan (end_cut plan p) d, n)) (quiet_counts lists law s sound idle d leaf ∙ made d leaf)
+          ∙ ap (λ (j : ℕ). Some (local_step_at plan (cleared_cut s j) d, cleared_cut s j d)) is_last
+          ∙ ap (λ (k : ℕ). Some (k, cleared_cut s (clearings s) d))
+          (local_alike plan is_plan (cleared_cut s (clearings s)) (end_cut plan p) same d (leaf_node lists law d leaf))
+          ∙ ap (λ (n : ℕ). Some (local_step_at plan (end_cut plan p) d, n)) (quiet_counts lists law s sound idle d leaf ∙ made d leaf)
 
       hold : (d : ℕ) → IsLeaf lists d → is_member plan d (end_cut plan p d) ≡ true → HoldsOver plan s (end_cut plan p) d
       hold d leaf member = record {
-        step = local_at plan (end_cut plan p) d;
+        step = local_step_at plan (end_cut plan p) d;
         goes_by = step_is plan is_plan (end_cut plan p) d;
         holds = holds d leaf member;
       }
@@ -174,26 +174,26 @@ module _ (plan : PlanData) (is_plan : IsPlan plan) where
       let sound : Sound lists s = sound_after lists law (moves_of front) parts.0 in
       let t : State = step lists s (Pass d j) in
       let sound_t : Sound lists t = sound_step lists law s sound (Pass d j) parts.1.0 in
-      let told : front ++ l ∷ rest ≡ lines_from lists (local_at plan) start (moves_of (front ++ l ∷ rest)) =
-      subst (λ (ls : List Line). ls ≡ lines_from lists (local_at plan) start (moves_of ls)) split is.told in
-      let holds : Some (k, n) ≡ held_after lists (local_at plan) s (Pass d j) =
-      ap (λ (m : Line). m.held) (told_at lists (local_at plan) front rest l start told) in
-      let what = held_parts (is_leaf lists d) (holds_price lists t d) (local_at plan (cleared t (last t d)) d, cleared t (last t d) d) (k, n) holds in
+      let told : front ++ l ∷ rest ≡ lines_from lists (local_step_at plan) start (moves_of (front ++ l ∷ rest)) =
+      subst (λ (ls : List Line). ls ≡ lines_from lists (local_step_at plan) start (moves_of ls)) split is.told in
+      let holds : Some (k, n) ≡ holding_after lists (local_step_at plan) s (Pass d j) =
+      ap (λ (m : Line). m.held) (told_at lists (local_step_at plan) front rest l start told) in
+      let what = held_parts (is_leaf lists d) (holds_price lists t d) (local_step_at plan (cleared_cut t (last_index t d)) d, cleared_cut t (last_index t d) d) (k, n) holds in
       let leaf : IsLeaf lists d = what.0 in
-      let last_is : last t d ≡ j = ap last_of (pushed_same s.passed d j) ∙ last_push (s.passed d) j in
+      let last_is : last_index t d ≡ j = ap last_of (pushed_same s.passed d j) ∙ last_push (s.passed d) j in
       let there : Contains (t.passed d) j = subst (λ (is' : List ℕ). Contains is' j) (sym (pushed_same s.passed d j)) (Contains-push (s.passed d) j) in
       let made = sound_t.passed_within d j there in
       let final : after lists (moves_of journal) ≡ after_from lists t (moves_of rest) =
       ap (after lists) moves_are ∙ after_append lists (moves_of front) (Pass d j ∷ moves_of rest) start in
       let stays = cleared_stays lists (moves_of rest) t j made.1 in
-      let cut_is : cleared t (last t d) ≡ clearing_cut plan journal j =
-      ap (cleared t) last_is ∙ sym stays.1 ∙ ap (λ (u : State). cleared u j) (sym final) in
+      let cut_is : cleared_cut t (last_index t d) ≡ clearing_cut plan journal j =
+      ap (cleared_cut t) last_is ∙ sym stays.1 ∙ ap (λ (u : State). cleared_cut u j) (sym final) in
       let number : n ≡ clearing_cut plan journal j d = ap (λ (price : ℕ × ℕ). price.1) what.2 ∙ ap (λ (cut : Cut). cut d) cut_is in
-      let at_step : k ≡ local_at plan (clearing_cut plan journal j) d =
-      ap (λ (price : ℕ × ℕ). price.0) what.2 ∙ ap (λ (cut : Cut). local_at plan cut d) cut_is in
-      let number_t : n ≡ cleared t (last t d) d = ap (λ (price : ℕ × ℕ). price.1) what.2 in
+      let at_step : k ≡ local_step_at plan (clearing_cut plan journal j) d =
+      ap (λ (price : ℕ × ℕ). price.0) what.2 ∙ ap (λ (cut : Cut). local_step_at plan cut d) cut_is in
+      let number_t : n ≡ cleared_cut t (last_index t d) d = ap (λ (price : ℕ × ℕ). price.1) what.2 in
       let few : n ≤ change_count plan d =
-      omega (arith, number_t, ap (λ (i : ℕ). cleared t i d) last_is, cleared_few t sound_t d j leaf made.1) in
+      omega (arith, number_t, ap (λ (i : ℕ). cleared_cut t i d) last_is, cleared_few t sound_t d j leaf made.1) in
       record {
         device = leaf;
         made = (made.0, subst (λ (u : State). j ≤ clearings u) (sym final) stays.0);
@@ -206,7 +206,7 @@ module _ (plan : PlanData) (is_plan : IsPlan plan) where
         counted =
             ap (λ (i : ℕ). demand_at (device_demand plan d i) k) number
             ∙ ap (demand_at (device_demand plan d (clearing_cut plan journal j d))) at_step
-            ∙ ap (λ (bid : List ℤ). demand_at bid (local_at plan (clearing_cut plan journal j) d)) (sym (demand_is plan (clearing_cut plan journal j) d));
+            ∙ ap (λ (bid : List ℤ). demand_at bid (local_step_at plan (clearing_cut plan journal j) d)) (sym (demand_is plan (clearing_cut plan journal j) d));
       }
 
   -- a journal whose moves never go back has lines that do not
@@ -218,7 +218,7 @@ module _ (plan : PlanData) (is_plan : IsPlan plan) where
 
   no_way_back : (journal : List Line) → IsJournal plan journal → NobodyGoesBack plan journal
   no_way_back journal is = forward_in_lines journal (λ front mid rest x i j moves_are.
-      subst (λ (ms : List Move). (i < j) × ((d : ℕ) → IsLeaf lists d → cleared (after lists ms) i d ≤ cleared (after lists ms) j d)) (sym moves_are)
+      subst (λ (ms : List Move). (i < j) × ((d : ℕ) → IsLeaf lists d → cleared_cut (after lists ms) i d ≤ cleared_cut (after lists ms) j d)) (sym moves_are)
       (never_back lists law front mid rest x i j (subst (LegalJournal lists) moves_are is.legal)))
 
   held_at_close : (journal : List Line) → IsJournal plan journal → (front rest : List Line) (p : ℕ) (price : Option (ℕ × ℕ)) →

@@ -13,10 +13,10 @@ use Rattle.pm_plan.specs.Plans.{PlanData}
 use Rattle.pm_plan.specs.Kept.{IsPlan}
 use Rattle.pm_plan.specs.States.{all_ends}
 use Rattle.pm_plan.specs.Market.{plan_lists}
-use Rattle.pm_offer.specs.Offers.{local_at}
+use Rattle.pm_offer.specs.Offers.{local_step_at}
 use Rattle.pm_report.specs.Report.{report_text}
 use Rattle.pm_report.specs.Trace.{trace_text, move_line, moves_line}
-use Rattle.pm_check.specs.Lines.{joined}
+use Rattle.pm_check.specs.Lines.{text_of_lines}
 use Rattle.pm_check.specs.Traces.{journal_lines, count_line, IsValidTrace, IsBadLine}
 use Rattle.pm_check.proofs.Judgements.{not_both as not_judged_twice}
 use Rattle.pm_check.proofs.RunLines.{count_lines}
@@ -35,26 +35,26 @@ module _ (plan : PlanData) (is_plan : IsPlan plan) where
   abbrev lists : Lists
   lists = plan_lists plan
 
-  lines_joined : (moves : List Line) → joined (map (move_line plan) moves) ≡ flat_map (move_line plan) moves
+  lines_joined : (moves : List Line) → text_of_lines (map (move_line plan) moves) ≡ flat_map (move_line plan) moves
   lines_joined moves = flat_map-map (λ (line : List ℕ). line) (move_line plan) moves
 
   -- the text of a trace that a judge calls valid is that of its journal
-  valid_text : (moves : List Move) → let journal = lines lists (local_at plan) moves in
-      report_of plan ++ (joined (journal_lines plan moves) ++ count_line plan moves) ≡ trace_text plan (all_ends plan) journal
+  valid_text : (moves : List Move) → let journal = lines lists (local_step_at plan) moves in
+      report_of plan ++ (text_of_lines (journal_lines plan moves) ++ count_line plan moves) ≡ trace_text plan (all_ends plan) journal
   unfolding report_of trace_text
   valid_text moves =
-      let journal = lines lists (local_at plan) moves in
+      let journal = lines lists (local_step_at plan) moves in
       ap (λ (text : List ℕ). report_text plan (all_ends plan) ++ (text ++ moves_line journal)) (lines_joined journal)
 
   -- a valid trace is confirmed
   pub confirmed : (trace : List ℕ) (moves : ℕ) → IsValidTrace plan (report_of plan) trace moves → ConfirmsTrace plan trace (valid_line moves)
   confirmed trace moves is =
-      let journal : List Line = lines lists (local_at plan) is.journal in
-      let again : moves_of journal ≡ is.journal = moves_again lists (local_at plan) is.journal start in
+      let journal : List Line = lines lists (local_step_at plan) is.journal in
+      let again : moves_of journal ≡ is.journal = moves_again lists (local_step_at plan) is.journal start in
       let whole : IsCompleteJournal plan journal = record {
         legal = record {
           legal = subst (LegalJournal lists) (sym again) is.legal;
-          told = ap (lines lists (local_at plan)) (sym again);
+          told = ap (lines lists (local_step_at plan)) (sym again);
         };
         complete = subst (IsComplete lists) (sym again) is.complete;
       } in (
@@ -71,8 +71,8 @@ module _ (plan : PlanData) (is_plan : IsPlan plan) where
     λ journal tells.
         let told = told_run plan is_plan journal trace tells in
         let moves : List Move = moves_of journal in
-        let same : journal ≡ lines lists (local_at plan) moves = told.0.legal.told in
-        let text : trace ≡ report_of plan ++ (joined (journal_lines plan moves) ++ count_line plan moves) =
+        let same : journal ≡ lines lists (local_step_at plan) moves = told.0.legal.told in
+        let text : trace ≡ report_of plan ++ (text_of_lines (journal_lines plan moves) ++ count_line plan moves) =
         told.1 ∙ ap (trace_text plan (all_ends plan)) same ∙ sym (valid_text moves) in
         not_judged_twice plan is_plan (report_of plan) trace (length moves) line
         (record { journal = moves; legal = told.0.legal.legal; complete = told.0.complete; text = text; count = refl }) bad,

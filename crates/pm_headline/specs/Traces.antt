@@ -3,16 +3,16 @@ use Rattle.std.specs.Prelude.{◌≡◌, ℕ, ◌<◌, ◌≤◌, true, List, �
 use Rattle.pm_base.specs.Cuts.{Cut}
 use Rattle.pm_bid.specs.Bids.{demand_at}
 use Rattle.pm_market.specs.Lists.{IsLeaf}
-use Rattle.pm_market.specs.State.{State, clearings, cleared}
+use Rattle.pm_market.specs.State.{State, clearings, cleared_cut}
 use Rattle.pm_market.specs.Moves.{IsComplete, after}
-use Rattle.pm_market.specs.Held.{held}
+use Rattle.pm_market.specs.Held.{holding}
 use Rattle.pm_market.specs.declared.moves.Move.TheVariants.{Pass, Close}
 use Rattle.pm_market.specs.declared.journal.Line.{Line}
 use Rattle.pm_plan.specs.Plans.{PlanData, is_member, phases, end_cut}
-use Rattle.pm_plan.specs.Auction.{sum_in, plain, group_step, power}
+use Rattle.pm_plan.specs.Auction.{sum_in, plain_step, local_step_of_group, power}
 use Rattle.pm_plan.specs.States.{state, all_ends}
 use Rattle.pm_plan.specs.Market.{plan_lists}
-use Rattle.pm_offer.specs.Offers.{device_demand, local_at}
+use Rattle.pm_offer.specs.Offers.{device_demand, local_step_at}
 use Rattle.pm_offer.specs.LocalSteps.{IsAuctionStep}
 use Rattle.pm_offer.specs.Powers.{group_power}
 use Rattle.pm_report.specs.Trace.{trace_text, move_line, moves_line}
@@ -29,7 +29,7 @@ abbrev pub clearings_in : PlanData → List Line → ℕ
 clearings_in plan journal = clearings (state_after_lines plan journal)
 
 abbrev pub clearing_cut : PlanData → List Line → ℕ → Cut
-clearing_cut plan journal j = cleared (state_after_lines plan journal) j
+clearing_cut plan journal j = cleared_cut (state_after_lines plan journal) j
 
 -- the line of a clearing's price that is passed to a device, with what the device then holds; and that of a phase that is closed
 abbrev pub pass_line : ℕ → ℕ → Option (ℕ × ℕ) → Line
@@ -53,7 +53,7 @@ pub record HoldsItsOwn (plan : PlanData) (journal : List Line) (d j : ℕ) (step
 pub record HoldsOver (plan : PlanData) (s : State) (cut : Cut) (d : ℕ) : Type 0 where
   pub step : ℕ
   pub goes_by : IsAuctionStep plan cut d step
-  pub holds : held (plan_lists plan) (local_at plan) s d ≡ Some (step, cut d)
+  pub holds : holding (plan_lists plan) (local_step_at plan) s d ≡ Some (step, cut d)
 
 -- in a state all changes up to phase p are made, and no others, and each member holds its own last bid at its local step in the
 -- plain auction over all of them, which is the one that the report's end of phase p tells
@@ -78,7 +78,7 @@ pub record IsMarketRun (plan : PlanData) (journal : List Line) : Type 0 where
       HoldsItsOwn plan journal d j step number
   -- in each clearing the powers of a group's members add up to the group's sum at its step
   pub adds_up : (j g : ℕ) → let cut = clearing_cut plan journal j in
-      group_power plan cut g ≡ demand_at (sum_in plan (state plan) cut g) (group_step plan (state plan) cut (plain plan (state plan) cut) g)
+      group_power plan cut g ≡ demand_at (sum_in plan (state plan) cut g) (local_step_of_group plan (state plan) cut (plain_step plan (state plan) cut) g)
   -- of two clearings passed to one node the later is over no older bid of anyone
   pub never_back : NobodyGoesBack plan journal
   -- each phase is closed, where all hold what the report says; and so they do at the end

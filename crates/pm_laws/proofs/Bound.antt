@@ -6,12 +6,12 @@ use Rattle.std.proofs.lemmas.List.{get_or_default}
 use Rattle.std.proofs.lemmas.Bool.{cases_eq, cases_lt, cases_Bool, eq-eqb, ne_eqb, cond-true, cond-false, both_ways}
 use Rattle.pm_market.specs.Lists.{Lists, nodes, parent, is_leaf, changes, IsNode, IsLeaf, IsInner, IsLeafOf, is_leaf_of, is_below_in, is_below, Lawful}
 use Rattle.pm_market.specs.Lists.{path_depth_in, path_depth}
-use Rattle.pm_market.specs.State.{State, start, is_same_on, sum_to, AtMostOn, RisesOn, cut_at, newest_of, newest, part, known, clearings}
+use Rattle.pm_market.specs.State.{State, start, is_same_on, sum_to, AtMostOn, RisesOn, cut_at, newest_of, newest_number_of, part, knowledge, clearings}
 use Rattle.pm_base.specs.Cuts.{Cut}
 use Rattle.pm_market.specs.Moves.{Legal, step, after_from, LegalFrom, after, LegalJournal}
 use Rattle.pm_market.specs.Sound.{Sound}
 use Rattle.pm_market.specs.Bound.{bound, change_total}
-use Rattle.pm_laws.specs.Potential.{counted_at, counted}
+use Rattle.pm_laws.specs.Potential.{potential_at, potential}
 use Rattle.pm_market.specs.declared.moves.Move.{Move}
 use Rattle.pm_market.specs.declared.moves.Move.TheVariants.{Change, Learn, Publish, Clear, Pass, Close}
 use Rattle.pm_market.proofs.Tree.{leaf_node, leaf_zero, parent_smaller, leaf_of_parts, leaf_of_itself, leaf_of_leaf, child_of, up_from_below, up_from_below_in}
@@ -24,23 +24,23 @@ use Rattle.pm_laws.proofs.Sums.{sum_le, sum_lt, sum_at, sum_add, sum_same, sum_s
 
 -- each legal move raises this
 counted_more : (lists : Lists) (s t : State) → clearings s ≤ clearings t → s.closed ≤ t.closed →
-    ((x : ℕ) → 1 ≤ x → x ≤ nodes lists → counted_at lists s x ≤ counted_at lists t x) → (k : ℕ) → 1 ≤ k → k ≤ nodes lists →
-    counted_at lists s k < counted_at lists t k → counted lists s < counted lists t
-unfolding counted
-counted_more lists s t c p le k one k_le lt = omega (arith, sum_lt (nodes lists) (counted_at lists s) (counted_at lists t) le k one k_le lt)
+    ((x : ℕ) → 1 ≤ x → x ≤ nodes lists → potential_at lists s x ≤ potential_at lists t x) → (k : ℕ) → 1 ≤ k → k ≤ nodes lists →
+    potential_at lists s k < potential_at lists t k → potential lists s < potential lists t
+unfolding potential
+counted_more lists s t c p le k one k_le lt = omega (arith, sum_lt (nodes lists) (potential_at lists s) (potential_at lists t) le k one k_le lt)
 
 counted_same : (lists : Lists) (s t : State) → clearings s + s.closed < clearings t + t.closed →
-    ((x : ℕ) → 1 ≤ x → x ≤ nodes lists → counted_at lists s x ≤ counted_at lists t x) → counted lists s < counted lists t
-unfolding counted
-counted_same lists s t lt le = omega (arith, sum_le (nodes lists) (counted_at lists s) (counted_at lists t) le)
+    ((x : ℕ) → 1 ≤ x → x ≤ nodes lists → potential_at lists s x ≤ potential_at lists t x) → potential lists s < potential lists t
+unfolding potential
+counted_same lists s t lt le = omega (arith, sum_le (nodes lists) (potential_at lists s) (potential_at lists t) le)
 
 -- each legal move raises what is counted of the state
-pub counted_step : (lists : Lists) → Lawful lists → (s : State) (m : Move) → Legal lists s m → counted lists s < counted lists (step lists s m)
-unfolding counted_at
+pub counted_step : (lists : Lists) → Lawful lists → (s : State) (m : Move) → Legal lists s m → potential lists s < potential lists (step lists s m)
+unfolding potential_at
 counted_step lists law s (Change d n) legal =
     let node = leaf_node lists law d legal.0 in
     let t : State = step lists s (Change d n) in
-    let newest_d : newest lists s d < newest lists t d = omega (
+    let newest_d : newest_number_of lists s d < newest_number_of lists t d = omega (
       arith,
       newest_leaf lists s.counts s.published d legal.0,
       newest_leaf lists t.counts s.published d legal.0,
@@ -49,7 +49,7 @@ counted_step lists law s (Change d n) legal =
     ) in
     counted_more lists s t (omega arith) (omega arith) (λ x one le.
     elim (cases_eq x d) [
-      | inl e ↦ omega (arith, ap (newest lists s) e, ap (newest lists t) e, newest_d)
+      | inl e ↦ omega (arith, ap (newest_number_of lists s) e, ap (newest_number_of lists t) e, newest_d)
       | inr ne ↦ omega (
         arith,
         ap (λ (k : ℕ). newest_of lists (λ z. k) s.published x) (updated_other s.counts d n x ne),
@@ -73,12 +73,12 @@ counted_step lists law s (Learn c n) legal =
 counted_step lists law s (Publish c n) legal =
     let t : State = step lists s (Publish c n) in
     let p : ℕ → List Cut = s.published in
-    let cut : Cut = known lists s c in
-    let newest_c : newest lists s c < newest lists t c =
+    let cut : Cut = knowledge lists s c in
+    let newest_c : newest_number_of lists s c < newest_number_of lists t c =
     omega (arith, newest_inner lists s.counts p c legal.0.2, newest_inner lists s.counts t.published c legal.0.2, pushed_length_same p c cut) in
     counted_more lists s t (omega (arith, pushed_length_other p c cut 0 (λ e. omega (arith, legal.0.0)))) (omega arith) (λ x one le.
     elim (cases_eq x c) [
-      | inl e ↦ omega (arith, ap (newest lists s) e, ap (newest lists t) e, newest_c)
+      | inl e ↦ omega (arith, ap (newest_number_of lists s) e, ap (newest_number_of lists t) e, newest_c)
       | inr ne ↦ elim (cases_Bool (is_leaf lists x)) [
         | inl leaf ↦ omega (arith, newest_leaf lists s.counts p x leaf, newest_leaf lists s.counts t.published x leaf)
         | inr inner ↦ omega (arith, newest_inner lists s.counts p x inner, newest_inner lists s.counts t.published x inner, pushed_length_other p c cut x ne)
@@ -87,7 +87,7 @@ counted_step lists law s (Publish c n) legal =
 counted_step lists law s (Clear j) legal =
     let t : State = step lists s (Clear j) in
     let p : ℕ → List Cut = s.published in
-    let cut : Cut = known lists s 0 in
+    let cut : Cut = knowledge lists s 0 in
     counted_same lists s t (omega (arith, pushed_length_same p 0 cut)) (λ x one le.
     elim (cases_Bool (is_leaf lists x)) [
       | inl leaf ↦ omega (arith, newest_leaf lists s.counts p x leaf, newest_leaf lists s.counts t.published x leaf)
@@ -109,7 +109,7 @@ counted_step lists law s (Pass c j) legal =
 counted_step lists law s (Close p) legal = counted_same lists s (step lists s (Close p)) (omega (arith, legal.0)) (λ x one le. omega arith)
 
 counted_journal : (lists : Lists) → Lawful lists → (journal : List Move) (s : State) → LegalFrom lists s journal →
-    length journal + counted lists s ≤ counted lists (after_from lists s journal)
+    length journal + potential lists s ≤ potential lists (after_from lists s journal)
 counted_journal lists law [] s legal = omega arith
 counted_journal lists law (m ∷ ms) s legal = omega (arith, counted_step lists law s m legal.0, counted_journal lists law ms (step lists s m) legal.1)
 
@@ -118,12 +118,12 @@ below_le lists law x d leaf = let r = up_from_below lists x d (leaf_of_parts lis
 
 -- what a part says of a device is no more than the device's count
 part_counts_leaf : (lists : Lists) → Lawful lists → (s : State) (x d i : ℕ) → IsLeaf lists x → IsLeafOf lists x d →
-    i ≤ newest lists s x → part lists s x i d ≤ s.counts d
+    i ≤ newest_number_of lists s x → part lists s x i d ≤ s.counts d
 part_counts_leaf lists law s x d i e leaf le =
     omega (arith, part_leaf lists s.published x i d e, newest_leaf lists s.counts s.published x e, ap s.counts (leaf_of_leaf lists law x d e leaf))
 
 part_counts_in : (lists : Lists) → Lawful lists → (s : State) → Sound lists s → (far x d i : ℕ) → d ≤ x + far → IsNode lists x →
-    IsLeafOf lists x d → i ≤ newest lists s x → part lists s x i d ≤ s.counts d
+    IsLeafOf lists x d → i ≤ newest_number_of lists s x → part lists s x i d ≤ s.counts d
 part_counts_in lists law s sound zero x d i h node leaf le =
     elim (cases_Bool (is_leaf lists x)) [
       | inl e ↦ part_counts_leaf lists law s x d i e leaf le
@@ -148,14 +148,14 @@ part_counts_in lists law s sound (suc far) x d i h node leaf le =
     ]
 
 known_counts : (lists : Lists) → Lawful lists → (s : State) → Sound lists s → (y d : ℕ) → IsInner lists y → IsLeafOf lists y d →
-    known lists s y d ≤ s.counts d
+    knowledge lists s y d ≤ s.counts d
 known_counts lists law s sound y d inner leaf =
     let x = child_of lists law y d inner leaf in
-    let at : known lists s (parent lists x.0) d ≡ part lists s x.0 (s.learnt x.0) d = known_at lists law s.published s.learnt x.0 d x.1.0 x.3 in
+    let at : knowledge lists s (parent lists x.0) d ≡ part lists s x.0 (s.learnt x.0) d = known_at lists law s.published s.learnt x.0 d x.1.0 x.3 in
     omega (
       arith,
       at,
-      ap (λ (z : ℕ). known lists s z d) x.2,
+      ap (λ (z : ℕ). knowledge lists s z d) x.2,
       part_counts_in lists law s sound d x.0 d (s.learnt x.0)
           (omega arith) x.1 x.3 (sound.learnt_within x.0 x.1),
     )
@@ -234,7 +234,7 @@ list_weight lists law s sound c inner =
     )
 
 -- in a sound state a node's newest number is at most the number of changes of its leaves
-pub newest_weight : (lists : Lists) → Lawful lists → (s : State) → Sound lists s → (x : ℕ) → IsNode lists x → newest lists s x ≤ weight lists x
+pub newest_weight : (lists : Lists) → Lawful lists → (s : State) → Sound lists s → (x : ℕ) → IsNode lists x → newest_number_of lists s x ≤ weight lists x
 unfolding weight
 newest_weight lists law s sound x node =
     elim (cases_Bool (is_leaf lists x)) [
@@ -422,15 +422,15 @@ all_weights lists law =
     )
 
 -- what is counted of a sound state is at most the bound on moves
-pub counted_bound : (lists : Lists) → Lawful lists → (s : State) → Sound lists s → counted lists s ≤ bound lists
-unfolding counted counted_at
+pub counted_bound : (lists : Lists) → Lawful lists → (s : State) → Sound lists s → potential lists s ≤ bound lists
+unfolding potential potential_at
 counted_bound lists law s sound =
     let n : ℕ = nodes lists in
     let c : ℕ = change_total lists in
     let j : ℕ = clearings s in
     let j_le : j ≤ c = omega (arith, list_weight lists law s sound 0 (leaf_zero lists), weight_small lists 0) in
-    let each : sum_to n (counted_at lists s) ≤ sum_to n (λ x. (weight lists x + weight lists x) + j) =
-    sum_le n (counted_at lists s) (λ x. (weight lists x + weight lists x) + j) (λ x one le.
+    let each : sum_to n (potential_at lists s) ≤ sum_to n (λ x. (weight lists x + weight lists x) + j) =
+    sum_le n (potential_at lists s) (λ x. (weight lists x + weight lists x) + j) (λ x one le.
     omega (arith, newest_weight lists law s sound x (one, le), sound.learnt_within x (one, le), passed_length lists s sound x)) in
     let parted : sum_to n (λ x. (weight lists x + weight lists x) + j) ≡ (sum_to n (weight lists) + sum_to n (weight lists)) + n * j =
     sum_add n (λ x. weight lists x + weight lists x) (λ x. j)
@@ -449,19 +449,19 @@ journal_bound lists law journal legal =
 
 -- so is every number of a node
 pub newest_small : (lists : Lists) → Lawful lists → (s : State) → Sound lists s → (x : ℕ) → IsNode lists x →
-    newest lists s x ≤ change_total lists
+    newest_number_of lists s x ≤ change_total lists
 newest_small lists law s sound x node = omega (arith, newest_weight lists law s sound x node, weight_small lists x)
 
 -- each legal move raises what is counted, with state and move before the premises
-pub move_counts : (lists : Lists) (s : State) (m : Move) → Lawful lists → Legal lists s m → counted lists s < counted lists (step lists s m)
+pub move_counts : (lists : Lists) (s : State) (m : Move) → Lawful lists → Legal lists s m → potential lists s < potential lists (step lists s m)
 move_counts lists s m law legal = counted_step lists law s m legal
 
 -- what is counted of a sound state is at most the bound, with the state before the premises
-pub counts_end : (lists : Lists) (s : State) → Lawful lists → Sound lists s → counted lists s ≤ bound lists
+pub counts_end : (lists : Lists) (s : State) → Lawful lists → Sound lists s → potential lists s ≤ bound lists
 counts_end lists s law sound = counted_bound lists law s sound
 
 -- no newest number of a node is above the number of all changes, with state and node before the premises
-pub newest_end : (lists : Lists) (s : State) (x : ℕ) → Lawful lists → Sound lists s → IsNode lists x → newest lists s x ≤ change_total lists
+pub newest_end : (lists : Lists) (s : State) (x : ℕ) → Lawful lists → Sound lists s → IsNode lists x → newest_number_of lists s x ≤ change_total lists
 newest_end lists s x law sound node = newest_small lists law s sound x node
 
 -- the bound of a journal and what its proof rests on

@@ -6,8 +6,8 @@ use Rattle.pm_base.specs.Limits.{most_depth}
 use Rattle.pm_market.specs.Lists.{Lists, IsNode, IsLeaf, IsInner, Lawful, parent, is_leaf, is_member, changes, is_below_in, is_below, is_leaf_of, path_depth_in}
 use Rattle.pm_market.specs.Lists.{path_depth, end_count}
 use Rattle.pm_market.specs.Lists.{way_up, child_at_or_above}
-use Rattle.pm_market.specs.State.{start, updated, all_to, sum_to, is_same_on, cut_at, newest_of, part_of, known_of, greatest_number, number_of, last_of}
-use Rattle.pm_market.specs.State.{addresses_of, last, clearings, cleared}
+use Rattle.pm_market.specs.State.{start, update, all_to, sum_to, is_same_on, cut_at, newest_of, part_of, knowledge_of, greatest_number, number_of, last_of}
+use Rattle.pm_market.specs.State.{addresses_of, last_index, clearings, cleared_cut}
 use Rattle.pm_market.specs.Moves.{after, LegalJournal}
 use Rattle.pm_market.specs.Held.{last_join, holds_price}
 use Rattle.pm_laws.proofs.Facts.{end_zero}
@@ -33,26 +33,26 @@ rejoins = Change 1 1 ∷ Learn 1 1 ∷ Clear 1 ∷ Change 1 2 ∷ Change 1 3 ∷
 
 rejoins_legal : first_illegal one_device start rejoins ≡ 6
 unfolding parent is_leaf is_member changes end_count is_below_in
-    is_below is_leaf_of way_up child_at_or_above updated all_to is_same_on cut_at newest_of part_of known_of greatest_number number_of last_of addresses_of
+    is_below is_leaf_of way_up child_at_or_above update all_to is_same_on cut_at newest_of part_of knowledge_of greatest_number number_of last_of addresses_of
     is_one_of learn_is_legal publish_is_legal clear_is_legal pass_is_legal is_idle_at is_idle change_is_legal are_made close_is_legal is_legal first_illegal
 rejoins_legal = refl
 
 -- the clearing passed last has number 1 of the device
-rejoins_number : cleared (after one_device rejoins) (last (after one_device rejoins) 1) 1 ≡ 1
+rejoins_number : cleared_cut (after one_device rejoins) (last_index (after one_device rejoins) 1) 1 ≡ 1
 unfolding parent is_leaf is_member changes end_count is_below_in
-    is_below is_leaf_of way_up child_at_or_above updated all_to is_same_on cut_at newest_of part_of known_of greatest_number number_of last_of addresses_of
+    is_below is_leaf_of way_up child_at_or_above update all_to is_same_on cut_at newest_of part_of knowledge_of greatest_number number_of last_of addresses_of
 rejoins_number = refl
 
 rejoins_to_the_end : first_illegal one_device start (rejoins ++ Learn 1 3 ∷ Clear 2 ∷ Pass 1 2 ∷ Close 1 ∷ []) ≡ 10
 unfolding parent is_leaf is_member changes end_count is_below_in
-    is_below is_leaf_of way_up child_at_or_above updated all_to is_same_on cut_at newest_of part_of known_of greatest_number number_of last_of addresses_of
+    is_below is_leaf_of way_up child_at_or_above update all_to is_same_on cut_at newest_of part_of knowledge_of greatest_number number_of last_of addresses_of
     is_one_of learn_is_legal publish_is_legal clear_is_legal pass_is_legal is_idle_at is_idle change_is_legal are_made close_is_legal is_legal first_illegal
 rejoins_to_the_end = refl
 
 -- it may not be closed before
 rejoins_not_closed : first_illegal one_device start (rejoins ++ Close 1 ∷ []) ≡ 6
 unfolding parent is_leaf is_member changes end_count is_below_in
-    is_below is_leaf_of way_up child_at_or_above updated all_to is_same_on cut_at newest_of part_of known_of greatest_number number_of last_of addresses_of
+    is_below is_leaf_of way_up child_at_or_above update all_to is_same_on cut_at newest_of part_of knowledge_of greatest_number number_of last_of addresses_of
     is_one_of learn_is_legal publish_is_legal clear_is_legal pass_is_legal is_idle_at is_idle change_is_legal are_made close_is_legal is_legal first_illegal
 rejoins_not_closed = refl
 
@@ -73,13 +73,13 @@ eight_rounds = flat_map round (1 ∷ 2 ∷ 3 ∷ 4 ∷ 5 ∷ 6 ∷ 7 ∷ 8 ∷ [
 
 window_full : first_illegal one_under start (eight_rounds ++ Change 2 9 ∷ Learn 2 9 ∷ Publish 1 9 ∷ []) ≡ 26
 unfolding parent is_leaf is_member changes end_count is_below_in
-    is_below is_leaf_of way_up child_at_or_above updated all_to is_same_on cut_at newest_of part_of known_of greatest_number number_of last_of addresses_of
+    is_below is_leaf_of way_up child_at_or_above update all_to is_same_on cut_at newest_of part_of knowledge_of greatest_number number_of last_of addresses_of
     is_one_of learn_is_legal publish_is_legal clear_is_legal pass_is_legal is_idle_at is_idle change_is_legal are_made close_is_legal is_legal first_illegal
 window_full = refl
 
 window_opens : first_illegal one_under start (eight_rounds ++ Change 2 9 ∷ Learn 2 9 ∷ Learn 1 8 ∷ Clear 1 ∷ Pass 1 1 ∷ Publish 1 9 ∷ []) ≡ 30
 unfolding parent is_leaf is_member changes end_count is_below_in
-    is_below is_leaf_of way_up child_at_or_above updated all_to is_same_on cut_at newest_of part_of known_of greatest_number number_of last_of addresses_of
+    is_below is_leaf_of way_up child_at_or_above update all_to is_same_on cut_at newest_of part_of knowledge_of greatest_number number_of last_of addresses_of
     is_one_of learn_is_legal publish_is_legal clear_is_legal pass_is_legal is_idle_at is_idle change_is_legal are_made close_is_legal is_legal first_illegal
 window_opens = refl
 
@@ -102,13 +102,13 @@ both_full = flat_map upward (1 ∷ 2 ∷ 3 ∷ 4 ∷ 5 ∷ 6 ∷ 7 ∷ 8 ∷ [])
 -- 44 moves are legal, then neither concentrator may publish
 both_full_lower : first_illegal two_levels start (both_full ++ Publish 2 9 ∷ []) ≡ 44
 unfolding parent is_leaf is_member changes end_count is_below_in
-    is_below is_leaf_of way_up child_at_or_above updated all_to is_same_on cut_at newest_of part_of known_of greatest_number number_of last_of addresses_of
+    is_below is_leaf_of way_up child_at_or_above update all_to is_same_on cut_at newest_of part_of knowledge_of greatest_number number_of last_of addresses_of
     is_one_of learn_is_legal publish_is_legal clear_is_legal pass_is_legal is_idle_at is_idle change_is_legal are_made close_is_legal is_legal first_illegal
 both_full_lower = refl
 
 both_full_upper : first_illegal two_levels start (both_full ++ Publish 1 9 ∷ []) ≡ 44
 unfolding parent is_leaf is_member changes end_count is_below_in
-    is_below is_leaf_of way_up child_at_or_above updated all_to is_same_on cut_at newest_of part_of known_of greatest_number number_of last_of addresses_of
+    is_below is_leaf_of way_up child_at_or_above update all_to is_same_on cut_at newest_of part_of knowledge_of greatest_number number_of last_of addresses_of
     is_one_of learn_is_legal publish_is_legal clear_is_legal pass_is_legal is_idle_at is_idle change_is_legal are_made close_is_legal is_legal first_illegal
 both_full_upper = refl
 
@@ -130,22 +130,22 @@ unwound = both_full ++ Learn 1 8 ∷ Clear 1 ∷ Pass 1 1 ∷ Pass 2 1 ∷ Publi
 
 unwound_closes : first_illegal two_levels start (unwound ++ Close 1 ∷ []) ≡ 66
 unfolding parent is_leaf is_member changes end_count is_below_in
-    is_below is_leaf_of way_up child_at_or_above updated all_to is_same_on cut_at newest_of part_of known_of greatest_number number_of last_of addresses_of
+    is_below is_leaf_of way_up child_at_or_above update all_to is_same_on cut_at newest_of part_of knowledge_of greatest_number number_of last_of addresses_of
     is_one_of learn_is_legal publish_is_legal clear_is_legal pass_is_legal is_idle_at is_idle change_is_legal are_made close_is_legal is_legal first_illegal
 unwound_closes = refl
 
 -- every device was passed the last clearing, with its number 1
-unwound_last : (last (after two_levels unwound) 3 ≡ 2) × (last (after two_levels unwound) 12 ≡ 2)
-    × (cleared (after two_levels unwound) 2 12 ≡ 1) × (clearings (after two_levels unwound) ≡ 2)
+unwound_last : (last_index (after two_levels unwound) 3 ≡ 2) × (last_index (after two_levels unwound) 12 ≡ 2)
+    × (cleared_cut (after two_levels unwound) 2 12 ≡ 1) × (clearings (after two_levels unwound) ≡ 2)
 unfolding parent is_leaf is_member changes end_count is_below_in
-    is_below is_leaf_of way_up child_at_or_above updated all_to is_same_on cut_at newest_of part_of known_of greatest_number number_of last_of addresses_of
+    is_below is_leaf_of way_up child_at_or_above update all_to is_same_on cut_at newest_of part_of knowledge_of greatest_number number_of last_of addresses_of
     is_one_of learn_is_legal publish_is_legal clear_is_legal pass_is_legal is_idle_at is_idle change_is_legal are_made close_is_legal is_legal first_illegal
 unwound_last = (refl, refl, refl, refl)
 
 only_the_auctioneer : (is_legal two_levels (after two_levels both_full) (Learn 1 8) ≡ true)
     × (is_legal two_levels (after two_levels both_full) (Clear 1) ≡ false)
 unfolding parent is_leaf is_member changes end_count is_below_in
-    is_below is_leaf_of way_up child_at_or_above updated all_to is_same_on cut_at newest_of part_of known_of greatest_number number_of last_of addresses_of
+    is_below is_leaf_of way_up child_at_or_above update all_to is_same_on cut_at newest_of part_of knowledge_of greatest_number number_of last_of addresses_of
     is_one_of learn_is_legal publish_is_legal clear_is_legal pass_is_legal is_idle_at is_idle change_is_legal are_made close_is_legal is_legal first_illegal
 only_the_auctioneer = (refl, refl)
 
@@ -192,7 +192,7 @@ one_device_journal = journal_from one_device one_device_lawful (rejoins ++ Learn
 rejoins_holds : (holds_price one_device (after one_device rejoins) 1 ≡ false)
     × (holds_price one_device (after one_device (rejoins ++ Learn 1 3 ∷ Clear 2 ∷ Pass 1 2 ∷ [])) 1 ≡ true)
 unfolding parent is_leaf is_member changes end_count is_below_in
-    is_below is_leaf_of way_up child_at_or_above updated all_to is_same_on cut_at newest_of part_of known_of greatest_number number_of last_of addresses_of
+    is_below is_leaf_of way_up child_at_or_above update all_to is_same_on cut_at newest_of part_of knowledge_of greatest_number number_of last_of addresses_of
     is_one_of learn_is_legal publish_is_legal clear_is_legal pass_is_legal is_idle_at is_idle change_is_legal are_made close_is_legal is_legal first_illegal
     last_join holds_price
 rejoins_holds = (refl, refl)

@@ -5,7 +5,7 @@ use Rattle.std.proofs.lemmas.Bool.{cases_eq, cases_lt, cases_Bool}
 use Rattle.std.proofs.lemmas.List.{get_or_append_left, get_or_push, length_push, get_or_default}
 use Rattle.std.specs.List.{Contains}
 use Rattle.pm_market.specs.Lists.{Lists, phases, parent, is_leaf, changes, IsNode, IsLeaf, IsInner, Lawful, end_count}
-use Rattle.pm_market.specs.State.{State, updated, SameOn, AtMostOn, cut_at, greatest_number, last_of, newest, part, number, last, clearings, cleared}
+use Rattle.pm_market.specs.State.{State, update, SameOn, AtMostOn, cut_at, greatest_number, last_of, newest_number_of, part, number, last_index, clearings, cleared_cut}
 use Rattle.pm_base.specs.Cuts.{Cut}
 use Rattle.pm_market.specs.Moves.{Reached}
 use Rattle.pm_market.specs.Sound.{Sound}
@@ -30,11 +30,11 @@ pub end_within : (lists : Lists) → Lawful lists → (p d : ℕ) → IsLeaf lis
 end_within lists law p d leaf h = omega (arith, end_up lists law (phases lists - p) p d leaf (omega arith), law.ends_last d leaf)
 
 -- a function with one value replaced has the new value there, and the old value everywhere else
-pub updated_at : {A : Type 0} → (f : ℕ → A) (x : ℕ) (v : A) (y : ℕ) → ((y ≡ x) × (updated f x v y ≡ v))
-    ⊎ ((y ≡ x → ⊥) × (updated f x v y ≡ f y))
+pub updated_at : {A : Type 0} → (f : ℕ → A) (x : ℕ) (v : A) (y : ℕ) → ((y ≡ x) × (update f x v y ≡ v))
+    ⊎ ((y ≡ x → ⊥) × (update f x v y ≡ f y))
 updated_at f x v y =
     elim (cases_eq y x) [
-      | inl e ↦ inl (e, ap (λ z. updated f x v z) e ∙ updated_same f x v)
+      | inl e ↦ inl (e, ap (λ z. update f x v z) e ∙ updated_same f x v)
       | inr n ↦ inr (n, updated_other f x v y n)
     ]
 
@@ -115,11 +115,11 @@ reached_within lists s sound y j came =
     ]
 
 -- in a sound state the index passed to a node last is at most the number of clearings
-pub last_within : (lists : Lists) (s : State) → Sound lists s → (x : ℕ) → last s x ≤ clearings s
+pub last_within : (lists : Lists) (s : State) → Sound lists s → (x : ℕ) → last_index s x ≤ clearings s
 last_within lists s sound x =
     elim (last_cases (s.passed x)) [
       | inl w ↦ omega (arith, w.1)
-      | inr c ↦ (sound.passed_within x (last s x) c).1
+      | inr c ↦ (sound.passed_within x (last_index s x) c).1
     ]
 
 -- cuts
@@ -139,7 +139,7 @@ pub learnt_of_inner : (lists : Lists) (s : State) → Sound lists s → (x : ℕ
 learnt_of_inner lists s sound x node inner = omega (arith, sound.learnt_within x node, newest_inner lists s.counts s.published x inner)
 
 -- on a node's leaves the part of an earlier number is at most that of a later one, up to the newest
-pub part_within : (lists : Lists) (s : State) → Sound lists s → (x i j : ℕ) → i ≤ j → j ≤ newest lists s x →
+pub part_within : (lists : Lists) (s : State) → Sound lists s → (x i j : ℕ) → i ≤ j → j ≤ newest_number_of lists s x →
     AtMostOn lists x (part lists s x i) (part lists s x j)
 part_within lists s sound x i j h le d leaf =
     elim (cases_Bool (is_leaf lists x)) [
@@ -155,7 +155,7 @@ part_within lists s sound x i j h le d leaf =
 -- on the leaves of a node each clearing is one of the node's parts
 clearing_part_in : (lists : Lists) → Lawful lists → (s : State) → Sound lists s → (bound x j : ℕ) → x ≤ bound → IsNode lists x →
     j ≤ clearings s →
-    (n : ℕ) × (n ≤ s.learnt x) × SameOn lists x (cleared s j) (part lists s x n)
+    (n : ℕ) × (n ≤ s.learnt x) × SameOn lists x (cleared_cut s j) (part lists s x n)
 clearing_part_in lists law s sound zero x j h node le = absurd (omega arith)
 clearing_part_in lists law s sound (suc bound) x j h node le =
     elim (cases_eq (parent lists x) 0) [
@@ -176,50 +176,50 @@ clearing_part_in lists law s sound (suc bound) x j h node le =
 
 -- on the leaves of a node each clearing is the node's part of a number up to the one learnt last
 pub clearing_part : (lists : Lists) → Lawful lists → (s : State) → Sound lists s → (x j : ℕ) → IsNode lists x → j ≤ clearings s →
-    (n : ℕ) × (n ≤ s.learnt x) × SameOn lists x (cleared s j) (part lists s x n)
+    (n : ℕ) × (n ≤ s.learnt x) × SameOn lists x (cleared_cut s j) (part lists s x n)
 clearing_part lists law s sound x j node le = clearing_part_in lists law s sound x x j (omega arith) node le
 
 -- of two clearings the cut of the earlier is within that of the later, and so is its number at a concentrator
 pub cleared_within : (lists : Lists) → Lawful lists → (s : State) → Sound lists s → (i j : ℕ) → i ≤ j → j ≤ clearings s → (d : ℕ) →
-    IsLeaf lists d → cleared s i d ≤ cleared s j d
+    IsLeaf lists d → cleared_cut s i d ≤ cleared_cut s j d
 cleared_within lists law s sound i j h le d leaf = rise_within lists s sound 0 i j (leaf_zero lists) h le d (leaf_of_auctioneer lists law d leaf)
 
 -- of two clearings the later has no smaller greatest number in a concentrator's list of published cuts
 pub number_rises : (lists : Lists) → Lawful lists → (s : State) → Sound lists s → (c i j : ℕ) → IsNode lists c → IsInner lists c →
     i ≤ j → j ≤ clearings s →
-    greatest_number lists (s.published c) c (cleared s i) (length (s.published c)) ≤ greatest_number lists (s.published c) c
-    (cleared s j) (length (s.published c))
+    greatest_number lists (s.published c) c (cleared_cut s i) (length (s.published c)) ≤ greatest_number lists (s.published c) c
+    (cleared_cut s j) (length (s.published c))
 number_rises lists law s sound c i j node inner h le =
-    let m : ℕ = greatest_number lists (s.published c) c (cleared s i) (length (s.published c)) in
-    elim (greatest_same lists law (s.published c) c (cleared s i) (length (s.published c))) [
+    let m : ℕ = greatest_number lists (s.published c) c (cleared_cut s i) (length (s.published c)) in
+    elim (greatest_same lists law (s.published c) c (cleared_cut s i) (length (s.published c))) [
       | inl e ↦ omega arith
       | inr same ↦
           let r = clearing_part lists law s sound c j node le in
           let n : ℕ = r.0 in
           let n_le : n ≤ length (s.published c) = omega (arith, r.1, learnt_of_inner lists s sound c node inner) in
-          let at : SameOn lists c (cut_at (s.published c) n) (cleared s j) =
+          let at : SameOn lists c (cut_at (s.published c) n) (cleared_cut s j) =
           λ d leaf. sym (r.2 d leaf ∙ ap (λ (a : Cut). a d) (part_inner lists s.published c n inner)) in
           elim (cases_lt n m) [
             | inl lt ↦
-                let rise = sound.published_rise c n m inner lt (greatest_le lists (s.published c) c (cleared s i) (length (s.published c))) in
+                let rise = sound.published_rise c n m inner lt (greatest_le lists (s.published c) c (cleared_cut s i) (length (s.published c))) in
                 absurd (not_same lists c (cut_at (s.published c) n) (cut_at (s.published c) m) rise.not_same (λ d leaf.
                 omega (arith, rise.within d leaf, same d leaf, at d leaf, cleared_within lists law s sound i j h le d (leaf_of_parts lists c d leaf).0)))
-            | inr ge ↦ let top = greatest_from lists (s.published c) c (cleared s j) (length (s.published c)) n n_le at in omega arith
+            | inr ge ↦ let top = greatest_from lists (s.published c) c (cleared_cut s j) (length (s.published c)) n n_le at in omega arith
           ]
     ]
 
 -- the window by the list alone
 pub window_of : (lists : Lists) (s : State) (c : ℕ) (cut : Cut) → IsInner lists c →
-    newest lists s c - number lists s c cut ≡ length (s.published c) - greatest_number lists (s.published c) c cut (length (s.published c))
+    newest_number_of lists s c - number lists s c cut ≡ length (s.published c) - greatest_number lists (s.published c) c cut (length (s.published c))
 window_of lists s c cut inner = omega (arith, newest_inner lists s.counts s.published c inner, number_inner lists s.published c cut inner)
 
 -- what stands among the indices passed to a node is at most the last
-pub contains_within : (lists : Lists) (s : State) → Sound lists s → (x i : ℕ) → Contains (s.passed x) i → i ≤ last s x
+pub contains_within : (lists : Lists) (s : State) → Sound lists s → (x i : ℕ) → Contains (s.passed x) i → i ≤ last_index s x
 contains_within lists s sound x i c =
     omega (arith, last_most (s.passed x) (λ a b lt le. sound.passed_rise x a b lt le) c.0 c.1, get_or_default (s.passed x) c.0 0 i c.1 ∙ c.2)
 
 -- an index that came to a concentrator is at most the last passed to it
-pub came_last : (lists : Lists) (s : State) → Sound lists s → (y i : ℕ) → 1 ≤ y → Reached s y i → i ≤ last s y
+pub came_last : (lists : Lists) (s : State) → Sound lists s → (y i : ℕ) → 1 ≤ y → Reached s y i → i ≤ last_index s y
 came_last lists s sound y i one came =
     elim came [
       | inl w ↦ absurd (omega (arith, w.0))

@@ -2,7 +2,7 @@
 use Rattle.std.proofs.Common.{◌≡◌, ◌∙◌, sym, ap, ℕ, ◌≤◌, true, not, eqb, arith, inl, inr}
 use Rattle.std.proofs.lemmas.Bool.{cases_eq, cases_Bool, both_ways, cond-true, cond-false, eq-eqb, ne_eqb}
 use Rattle.pm_market.specs.Lists.{Lists, is_leaf, is_member, IsNode, IsLeaf, IsInner, IsConcentrator, Lawful}
-use Rattle.pm_market.specs.State.{State, number, clearings, cleared, addresses}
+use Rattle.pm_market.specs.State.{State, number, clearings, cleared_cut, addresses}
 use Rattle.pm_market.specs.Sound.{Sound}
 use Rattle.pm_laws.specs.Gone.{is_gone}
 use Rattle.pm_laws.proofs.Quiet.{in_zero, addresses_leaf}
@@ -28,14 +28,14 @@ gone_zero lists x =
 
 -- the bid of a node in a clearing is gone exactly where the clearing does not address the node
 pub gone_addresses : (lists : Lists) → Lawful lists → (s : State) → Sound lists s → (y j : ℕ) → IsNode lists y → j ≤ clearings s →
-    is_gone lists y (number lists s y (cleared s j)) ≡ not (addresses lists s j y)
+    is_gone lists y (number lists s y (cleared_cut s j)) ≡ not (addresses lists s j y)
 gone_addresses lists law s sound y j node le =
     elim (cases_Bool (is_leaf lists y)) [
-      | inl leaf ↦ gone_leaf lists y (number lists s y (cleared s j)) leaf
-          ∙ ap (λ (k : ℕ). not (is_member lists y k)) (number_leaf lists s.published y (cleared s j) leaf)
-          ∙ ap not (sym (addresses_leaf lists (cleared s j) y leaf))
+      | inl leaf ↦ gone_leaf lists y (number lists s y (cleared_cut s j)) leaf
+          ∙ ap (λ (k : ℕ). not (is_member lists y k)) (number_leaf lists s.published y (cleared_cut s j) leaf)
+          ∙ ap not (sym (addresses_leaf lists (cleared_cut s j) y leaf))
       | inr inner ↦
-          let n : ℕ = number lists s y (cleared s j) in
+          let n : ℕ = number lists s y (cleared_cut s j) in
           let conc : IsConcentrator lists y = (node.0, node.1, inner) in
           let iff = addressed_number lists law s sound y j conc le in
           gone_inner lists y n inner

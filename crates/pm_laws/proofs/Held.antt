@@ -2,7 +2,7 @@
 use Rattle.std.proofs.Common.{◌≡◌, ℕ, zero, suc, ◌<◌, ◌≤◌, true, ◌&&◌, not, inl, inr, sym, ◌∙◌, ap, arith}
 use Rattle.std.proofs.lemmas.Bool.{cases_Bool, and_from, and_parts, lt-ltb, le-leb, ltb-true, cond-true, cond-false}
 use Rattle.pm_market.specs.Lists.{Lists, is_member, IsLeaf, Lawful}
-use Rattle.pm_market.specs.State.{State, last, cleared}
+use Rattle.pm_market.specs.State.{State, last_index, cleared_cut}
 use Rattle.pm_market.specs.Moves.{Idle}
 use Rattle.pm_market.specs.Sound.{Sound}
 use Rattle.pm_market.specs.Held.{last_join, holds_price}
@@ -25,18 +25,18 @@ pub quiet_holds : (lists : Lists) → Lawful lists → (s : State) → Sound lis
 unfolding holds_price
 quiet_holds lists law s sound idle d leaf at =
     let passed = quiet_passed lists law s sound idle d leaf at in
-    let number_is : cleared s (last s d) d ≡ s.counts d = ap (λ (j : ℕ). cleared s j d) passed.1 ∙ quiet_counts lists law s sound idle d leaf in
-    and_from _ _ (and_from _ _ (lt-ltb 0 (last s d) (omega (arith, passed.0, passed.1))) at)
-    (le-leb (last_join lists d (s.counts d)) (cleared s (last s d) d) (omega (arith, number_is, last_join_le lists d (s.counts d))))
+    let number_is : cleared_cut s (last_index s d) d ≡ s.counts d = ap (λ (j : ℕ). cleared_cut s j d) passed.1 ∙ quiet_counts lists law s sound idle d leaf in
+    and_from _ _ (and_from _ _ (lt-ltb 0 (last_index s d) (omega (arith, passed.0, passed.1))) at)
+    (le-leb (last_join lists d (s.counts d)) (cleared_cut s (last_index s d) d) (omega (arith, number_is, last_join_le lists d (s.counts d))))
 
 -- the device is a member of the cut whose price it holds_price
 pub holder_included : (lists : Lists) → (s : State) → Sound lists s → (d : ℕ) → IsLeaf lists d → holds_price lists s d ≡ true →
-    is_member lists d (cleared s (last s d) d) ≡ true
+    is_member lists d (cleared_cut s (last_index s d) d) ≡ true
 unfolding holds_price
 holder_included lists s sound d leaf h =
     let parts = and_parts _ _ (and_parts _ _ h).0 in
-    let some : 0 < last s d = ltb-true 0 (last s d) parts.0 in
+    let some : 0 < last_index s d = ltb-true 0 (last_index s d) parts.0 in
     elim (last_cases (s.passed d)) [
       | inl w ↦ absurd (omega (arith, w.1))
-      | inr c ↦ sym (addresses_leaf lists (cleared s (last s d)) d leaf) ∙ sound.passed_addressed d (last s d) c
+      | inr c ↦ sym (addresses_leaf lists (cleared_cut s (last_index s d)) d leaf) ∙ sound.passed_addressed d (last_index s d) c
     ]

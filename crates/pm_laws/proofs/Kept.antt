@@ -6,8 +6,8 @@ use Rattle.std.proofs.lemmas.List.{get_or_append_left, get_or_push, length_push}
 use Rattle.std.specs.List.{Contains}
 use Rattle.pm_base.specs.Limits.{window_size}
 use Rattle.pm_market.specs.Lists.{Lists, phases, child_at_or_above, parent, is_leaf, changes, IsInner, IsConcentrator, IsLeafOf, Lawful, end_count}
-use Rattle.pm_market.specs.State.{State, start, updated, is_same_on, RisesOn, cut_at, part_of, known_of, greatest_number, last_of, newest, part, known, number}
-use Rattle.pm_market.specs.State.{last, clearings, cleared, addresses, addresses_of}
+use Rattle.pm_market.specs.State.{State, start, update, is_same_on, RisesOn, cut_at, part_of, knowledge_of, greatest_number, last_of, newest_number_of, part, knowledge, number}
+use Rattle.pm_market.specs.State.{last_index, clearings, cleared_cut, addresses, addresses_of}
 use Rattle.pm_base.specs.Cuts.{Cut}
 use Rattle.pm_market.specs.Moves.{Idle, Legal, step, after_from, LegalFrom, after, LegalJournal}
 use Rattle.pm_market.specs.Sound.{Sound}
@@ -22,7 +22,7 @@ use Rattle.pm_laws.proofs.Facts.{learnt_of_inner, part_within, number_rises, win
 
 -- at the start no node move is legal
 start_idle : (lists : Lists) → Idle lists start
-unfolding known_of
+unfolding knowledge_of
 start_idle lists (Change d n) legal = legal
 start_idle lists (Learn x n) legal =
     elim (cases_Bool (is_leaf lists x)) [
@@ -30,11 +30,11 @@ start_idle lists (Learn x n) legal =
       | inr e ↦ omega (arith, legal.1, legal.2, newest_inner lists start.counts start.published x e)
     ]
 start_idle lists (Publish c n) legal =
-    not_same lists c (known lists start c) (part lists start c (newest lists start c)) legal.1 (λ d leaf.
+    not_same lists c (knowledge lists start c) (part lists start c (newest_number_of lists start c)) legal.1 (λ d leaf.
     part_zero lists start.published (child_at_or_above lists c d) d
     ∙ sym (ap (λ (k : ℕ). part lists start c k d) (newest_inner lists start.counts start.published c legal.0.2) ∙ part_zero lists start.published c d))
 start_idle lists (Clear j) legal =
-    not_same lists 0 (known lists start 0) (cleared start 0) legal.0 (λ d leaf.
+    not_same lists 0 (knowledge lists start 0) (cleared_cut start 0) legal.0 (λ d leaf.
     part_zero lists start.published (child_at_or_above lists 0 d) d ∙ sym (ap (λ (a : Cut). a d) (entry_zero [])))
 start_idle lists (Pass x j) (legal) =
     elim legal.1 [
@@ -105,21 +105,21 @@ sound_change lists law s sound d n legal = record {
         ap s.counts w.0,
         sound.learnt_within x node,
         newest_leaf lists s.counts s.published x e,
-        newest_leaf lists (updated s.counts d n) s.published x e,
+        newest_leaf lists (update s.counts d n) s.published x e,
       )
       | inr w ↦ omega (
         arith,
         w.1,
         sound.learnt_within x node,
         newest_leaf lists s.counts s.published x e,
-        newest_leaf lists (updated s.counts d n) s.published x e,
+        newest_leaf lists (update s.counts d n) s.published x e,
       )
     ]
     | inr e ↦ omega (
       arith,
       sound.learnt_within x node,
       newest_inner lists s.counts s.published x e,
-      newest_inner lists (updated s.counts d n) s.published x e,
+      newest_inner lists (update s.counts d n) s.published x e,
     )
   ];
   published_rise = sound.published_rise;
@@ -132,8 +132,8 @@ sound_change lists law s sound d n legal = record {
   window = λ c conc. omega (
     arith,
     sound.window c conc,
-    window_of lists s c (cleared s (last s c)) conc.2,
-    window_of lists (step lists s (Change d n)) c (cleared s (last s c)) conc.2,
+    window_of lists s c (cleared_cut s (last_index s c)) conc.2,
+    window_of lists (step lists s (Change d n)) c (cleared_cut s (last_index s c)) conc.2,
   );
 }
 
@@ -147,27 +147,27 @@ sound_learn lists law s sound x n legal = record {
   ended_counts = λ e. absurd (sound.ended_idle e (Learn x n) legal);
   ended_idle = λ e. absurd (sound.ended_idle e (Learn x n) legal);
   learnt_within = λ y node. elim (updated_at s.learnt x n y) [
-    | inl w ↦ omega (arith, w.1, legal.2, ap (newest lists s) w.0)
+    | inl w ↦ omega (arith, w.1, legal.2, ap (newest_number_of lists s) w.0)
     | inr w ↦ omega (arith, w.1, sound.learnt_within y node)
   ];
   published_rise = sound.published_rise;
   published_known = λ c inner d leaf.
       let y = child_of lists law c d inner leaf in
-      let old : known lists s (parent lists y.0) d ≡ part lists s y.0 (s.learnt y.0) d = known_at lists law s.published s.learnt y.0 d y.1.0 y.3 in
-      let new : known_of lists s.published (updated s.learnt x n) (parent lists y.0) d
-      ≡ part lists s y.0 (updated s.learnt x n y.0) d = known_at lists law s.published (updated s.learnt x n) y.0 d y.1.0 y.3 in
-      let more : (s.learnt y.0 ≤ updated s.learnt x n y.0) × (updated s.learnt x n y.0 ≤ newest lists s y.0) = elim (updated_at s.learnt x n y.0) [
-        | inl w ↦ (omega (arith, w.1, legal.1, ap s.learnt w.0), omega (arith, w.1, legal.2, ap (newest lists s) w.0))
+      let old : knowledge lists s (parent lists y.0) d ≡ part lists s y.0 (s.learnt y.0) d = known_at lists law s.published s.learnt y.0 d y.1.0 y.3 in
+      let new : knowledge_of lists s.published (update s.learnt x n) (parent lists y.0) d
+      ≡ part lists s y.0 (update s.learnt x n y.0) d = known_at lists law s.published (update s.learnt x n) y.0 d y.1.0 y.3 in
+      let more : (s.learnt y.0 ≤ update s.learnt x n y.0) × (update s.learnt x n y.0 ≤ newest_number_of lists s y.0) = elim (updated_at s.learnt x n y.0) [
+        | inl w ↦ (omega (arith, w.1, legal.1, ap s.learnt w.0), omega (arith, w.1, legal.2, ap (newest_number_of lists s) w.0))
         | inr w ↦ (omega (arith, w.1), omega (arith, w.1, sound.learnt_within y.0 y.1))
       ] in
       omega (
         arith,
         sound.published_known c inner d leaf,
-        ap (λ (z : ℕ). known lists s z d) y.2,
-        ap (λ (z : ℕ). known_of lists s.published (updated s.learnt x n) z d) y.2,
+        ap (λ (z : ℕ). knowledge lists s z d) y.2,
+        ap (λ (z : ℕ). knowledge_of lists s.published (update s.learnt x n) z d) y.2,
         old,
         new,
-        part_within lists s sound y.0 (s.learnt y.0) (updated s.learnt x n y.0) more.0 more.1 d y.3,
+        part_within lists s sound y.0 (s.learnt y.0) (update s.learnt x n y.0) more.0 more.1 d y.3,
       );
   published_parts = λ y i node le.
       let r = sound.published_parts y i node le in (
@@ -188,27 +188,27 @@ sound_learn lists law s sound x n legal = record {
 -- on the leaves of an inner node it knows the same after something is published
 known_kept : (lists : Lists) → Lawful lists → (s : State) → Sound lists s → (c : ℕ) (cut : Cut) (y d : ℕ) → IsInner lists c →
     IsInner lists y → IsLeafOf lists y d →
-    known_of lists (pushed s.published c cut) s.learnt y d ≡ known lists s y d
+    knowledge_of lists (pushed s.published c cut) s.learnt y d ≡ knowledge lists s y d
 known_kept lists law s sound c cut y d c_inner inner leaf =
     let x = child_of lists law y d inner leaf in
-    let old : known lists s (parent lists x.0) d ≡ part lists s x.0 (s.learnt x.0) d = known_at lists law s.published s.learnt x.0 d x.1.0 x.3 in
-    let new : known_of lists (pushed s.published c cut) s.learnt (parent lists x.0) d ≡ part_of lists (pushed s.published c cut) x.0
+    let old : knowledge lists s (parent lists x.0) d ≡ part lists s x.0 (s.learnt x.0) d = known_at lists law s.published s.learnt x.0 d x.1.0 x.3 in
+    let new : knowledge_of lists (pushed s.published c cut) s.learnt (parent lists x.0) d ≡ part_of lists (pushed s.published c cut) x.0
     (s.learnt x.0) d = known_at lists law (pushed s.published c cut) s.learnt x.0 d x.1.0 x.3 in
     let kept : part_of lists (pushed s.published c cut) x.0 (s.learnt x.0) ≡ part lists s x.0 (s.learnt x.0) =
     part_kept lists s.published c cut x.0 (s.learnt x.0)
     (λ e. omega (arith, learnt_of_inner lists s sound x.0 x.1 (ap (is_leaf lists) e ∙ c_inner), ap (λ (z : ℕ). length (s.published z)) e)) in
-    ap (λ (z : ℕ). known_of lists (pushed s.published c cut) s.learnt z d) (sym x.2) ∙ new ∙ ap (λ (a : Cut). a d) kept ∙ sym old
-    ∙ ap (λ (z : ℕ). known lists s z d) x.2
+    ap (λ (z : ℕ). knowledge_of lists (pushed s.published c cut) s.learnt z d) (sym x.2) ∙ new ∙ ap (λ (a : Cut). a d) kept ∙ sym old
+    ∙ ap (λ (z : ℕ). knowledge lists s z d) x.2
 
 -- what c knows joins its list
 sound_push : (lists : Lists) → Lawful lists → (s : State) → Sound lists s → (c : ℕ) → IsInner lists c →
-    is_same_on lists c (known lists s c) (cut_at (s.published c) (length (s.published c))) ≡ false →
-    (IsConcentrator lists c → newest lists s c - number lists s c (cleared s (last s c)) < window_size) →
+    is_same_on lists c (knowledge lists s c) (cut_at (s.published c) (length (s.published c))) ≡ false →
+    (IsConcentrator lists c → newest_number_of lists s c - number lists s c (cleared_cut s (last_index s c)) < window_size) →
     (s.closed ≡ phases lists → ⊥) →
-    Sound lists (record s { published = pushed s.published c (known lists s c) })
+    Sound lists (record s { published = pushed s.published c (knowledge lists s c) })
 sound_push lists law s sound c c_inner differs room not_ended =
     let p : ℕ → List Cut = s.published in
-    let cut : Cut = known lists s c in
+    let cut : Cut = knowledge lists s c in
     let q : ℕ → List Cut = pushed p c cut in
     let len : ℕ = length (p c) in
     let new_s : State = record s { published = q } in
@@ -237,7 +237,7 @@ sound_push lists law s sound c c_inner differs room not_ended =
           (subst (λ (a : Cut). RisesOn lists c a (cut_at (p c) j)) (sym i_old) (sound.published_rise c i j c_inner lt (omega arith)))
     ] in
     let more_clearings : clearings s ≤ clearings new_s = pushed_length_le p c cut 0 in
-    let cleared_kept : (j : ℕ) → j ≤ clearings s → cleared new_s j ≡ cleared s j =
+    let cleared_kept : (j : ℕ) → j ≤ clearings s → cleared_cut new_s j ≡ cleared_cut s j =
     λ j le. kept 0 j (λ e. omega (arith, ap (λ (z : ℕ). length (p z)) e)) in
     record {
       counts_within = sound.counts_within;
@@ -267,7 +267,7 @@ sound_push lists law s sound c c_inner differs room not_ended =
           ap (λ (z : ℕ). cut_at (q z) (length (q z)) d) e,
           ap (λ (k : ℕ). cut_at (q c) k d) same_len,
           ap (λ (a : Cut). a d) new_entry,
-          ap (λ (z : ℕ). known lists s z d) e,
+          ap (λ (z : ℕ). knowledge lists s z d) e,
         )
         | inr n ↦ omega (
           arith,
@@ -292,7 +292,7 @@ sound_push lists law s sound c c_inner differs room not_ended =
                 λ d leaf.
                     let at : i ≡ len + 1 = omega (arith, above, le, ap (λ (z : ℕ). length (p z)) e, ap (λ (z : ℕ). length (q z)) e, same_len) in
                     ap (λ (z : ℕ). cut_at (q z) i d) e ∙ ap (λ (k : ℕ). cut_at (q c) k d) at ∙ ap (λ (a : Cut). a d) new_entry
-                    ∙ ap (λ (z : ℕ). known lists s z d) (sym e) ∙ known_at lists law p s.learnt x d node.0 leaf
+                    ∙ ap (λ (z : ℕ). knowledge lists s z d) (sym e) ∙ known_at lists law p s.learnt x d node.0 leaf
                     ∙ ap (λ (a : Cut). a d) (sym (x_kept (s.learnt x) (omega arith))),
               )
               | inr n ↦ absurd (omega (arith, above, le, pushed_length_other p c cut (parent lists x) n))
@@ -314,22 +314,22 @@ sound_push lists law s sound c c_inner differs room not_ended =
         | inr w ↦ inr w
       ];
       window = λ y conc.
-          let same_cut : cleared new_s (last s y) ≡ cleared s (last s y) = cleared_kept (last s y) (last_within lists s sound y) in
-          let old_cut : Cut = cleared s (last s y) in
-          let new_window : newest lists new_s y - number lists new_s y (cleared new_s (last s y))
+          let same_cut : cleared_cut new_s (last_index s y) ≡ cleared_cut s (last_index s y) = cleared_kept (last_index s y) (last_within lists s sound y) in
+          let old_cut : Cut = cleared_cut s (last_index s y) in
+          let new_window : newest_number_of lists new_s y - number lists new_s y (cleared_cut new_s (last_index s y))
           ≡ length (q y) - greatest_number lists (q y) y old_cut (length (q y)) =
-          window_of lists new_s y (cleared new_s (last s y)) conc.2
+          window_of lists new_s y (cleared_cut new_s (last_index s y)) conc.2
           ∙ ap (λ (a : Cut). length (q y) - greatest_number lists (q y) y a (length (q y))) same_cut in
           elim (cases_eq y c) [
             | inl e ↦
                 let c_conc : IsConcentrator lists c = subst (IsConcentrator lists) e conc in
                 let at_c : length (q y) - greatest_number lists (q y) y old_cut (length (q y)) ≡ length (q c) - greatest_number lists
-                (q c) c (cleared s (last s c)) (length (q c)) =
-                ap (λ (z : ℕ). length (q z) - greatest_number lists (q z) z (cleared s (last s z)) (length (q z))) e in
-                let more : greatest_number lists (q c) c (cleared s (last s c)) len ≤ greatest_number lists (q c) c
-                (cleared s (last s c)) (suc len) = greatest_more lists (q c) c (cleared s (last s c)) len in
-                let old : greatest_number lists (q c) c (cleared s (last s c)) len ≡ greatest_number lists (p c) c
-                (cleared s (last s c)) len = greatest_kept lists (p c) (q c) c (cleared s (last s c)) len (λ i le. kept c i (λ w. le)) in
+                (q c) c (cleared_cut s (last_index s c)) (length (q c)) =
+                ap (λ (z : ℕ). length (q z) - greatest_number lists (q z) z (cleared_cut s (last_index s z)) (length (q z))) e in
+                let more : greatest_number lists (q c) c (cleared_cut s (last_index s c)) len ≤ greatest_number lists (q c) c
+                (cleared_cut s (last_index s c)) (suc len) = greatest_more lists (q c) c (cleared_cut s (last_index s c)) len in
+                let old : greatest_number lists (q c) c (cleared_cut s (last_index s c)) len ≡ greatest_number lists (p c) c
+                (cleared_cut s (last_index s c)) len = greatest_kept lists (p c) (q c) c (cleared_cut s (last_index s c)) len (λ i le. kept c i (λ w. le)) in
                 let suc_len : length (q c) ≡ suc len = omega (arith, same_len) in
                 omega (
                   arith,
@@ -337,10 +337,10 @@ sound_push lists law s sound c c_inner differs room not_ended =
                   at_c,
                   more,
                   old,
-                  ap (λ (k : ℕ). greatest_number lists (q c) c (cleared s (last s c)) k) suc_len,
+                  ap (λ (k : ℕ). greatest_number lists (q c) c (cleared_cut s (last_index s c)) k) suc_len,
                   suc_len,
                   room c_conc,
-                  window_of lists s c (cleared s (last s c)) c_inner,
+                  window_of lists s c (cleared_cut s (last_index s c)) c_inner,
                 )
             | inr n ↦ omega (
               arith,
@@ -419,21 +419,21 @@ sound_pass lists law s sound x j legal =
       window = λ c conc. elim (updated_at s.passed x (s.passed x ++ j ∷ []) c) [
         | inl w ↦
             let now : last_of (q c) ≡ j = ap last_of w.1 ∙ last_push (s.passed x) j in
-            let before : last s c < j = omega (arith, legal.2, ap (last s) w.0) in
+            let before : last_index s c < j = omega (arith, legal.2, ap (last_index s) w.0) in
             omega (
               arith,
               sound.window c conc,
-              window_of lists s c (cleared s (last s c)) conc.2,
-              window_of lists (step lists s (Pass x j)) c (cleared s (last_of (q c))) conc.2,
-              ap (λ (i : ℕ). greatest_number lists (s.published c) c (cleared s i) (length (s.published c))) now,
-              number_rises lists law s sound c (last s c) j (conc.0, conc.1) conc.2 (omega arith) came.1,
+              window_of lists s c (cleared_cut s (last_index s c)) conc.2,
+              window_of lists (step lists s (Pass x j)) c (cleared_cut s (last_of (q c))) conc.2,
+              ap (λ (i : ℕ). greatest_number lists (s.published c) c (cleared_cut s i) (length (s.published c))) now,
+              number_rises lists law s sound c (last_index s c) j (conc.0, conc.1) conc.2 (omega arith) came.1,
             )
         | inr w ↦ omega (
           arith,
           sound.window c conc,
-          window_of lists s c (cleared s (last s c)) conc.2,
-          window_of lists (step lists s (Pass x j)) c (cleared s (last_of (q c))) conc.2,
-          ap (λ (l : List ℕ). greatest_number lists (s.published c) c (cleared s (last_of l)) (length (s.published c))) w.1,
+          window_of lists s c (cleared_cut s (last_index s c)) conc.2,
+          window_of lists (step lists s (Pass x j)) c (cleared_cut s (last_of (q c))) conc.2,
+          ap (λ (l : List ℕ). greatest_number lists (s.published c) c (cleared_cut s (last_of l)) (length (s.published c))) w.1,
         )
       ];
     }
@@ -463,10 +463,10 @@ pub sound_step : (lists : Lists) → Lawful lists → (s : State) → Sound list
 sound_step lists law s sound (Change d n) legal = sound_change lists law s sound d n legal
 sound_step lists law s sound (Learn x n) legal = sound_learn lists law s sound x n legal
 sound_step lists law s sound (Publish c n) legal =
-    let e : newest lists s c ≡ length (s.published c) = newest_inner lists s.counts s.published c legal.0.2 in
-    let same : part lists s c (newest lists s c) ≡ cut_at (s.published c) (length (s.published c)) =
-    part_inner lists s.published c (newest lists s c) legal.0.2 ∙ ap (cut_at (s.published c)) e in
-    sound_push lists law s sound c legal.0.2 (subst (λ (a : Cut). is_same_on lists c (known lists s c) a ≡ false) same legal.1)
+    let e : newest_number_of lists s c ≡ length (s.published c) = newest_inner lists s.counts s.published c legal.0.2 in
+    let same : part lists s c (newest_number_of lists s c) ≡ cut_at (s.published c) (length (s.published c)) =
+    part_inner lists s.published c (newest_number_of lists s c) legal.0.2 ∙ ap (cut_at (s.published c)) e in
+    sound_push lists law s sound c legal.0.2 (subst (λ (a : Cut). is_same_on lists c (knowledge lists s c) a ≡ false) same legal.1)
     (λ conc. legal.2) (λ e. sound.ended_idle e (Publish c n) legal)
 sound_step lists law s sound (Clear j) legal =
     sound_push lists law s sound 0 (leaf_zero lists) legal.0 (λ conc. absurd (omega (arith, conc.0))) (λ e. sound.ended_idle e (Clear j) legal)
@@ -484,7 +484,7 @@ pub sound_after : (lists : Lists) → Lawful lists → (journal : List Move) →
 sound_after lists law journal legal = sound_after_from lists law journal start (sound_start lists law) legal
 
 -- at the start no node has a number
-pub newest_zero : (lists : Lists) (x : ℕ) → newest lists start x ≡ 0
+pub newest_zero : (lists : Lists) (x : ℕ) → newest_number_of lists start x ≡ 0
 newest_zero lists x =
     elim (cases_Bool (is_leaf lists x)) [
       | inl leaf ↦ newest_leaf lists start.counts start.published x leaf

@@ -2,7 +2,7 @@
 use Rattle.std.proofs.Common.{◌≡◌, ◌∙◌, sym, ap, ℕ, false, length, refl, arith, inl, inr}
 use Rattle.std.proofs.lemmas.Bool.{cases_Bool, both_ways}
 use Rattle.pm_market.specs.Lists.{Lists, parent, IsInner, Lawful}
-use Rattle.pm_market.specs.State.{State, updated, is_same_on, SameOn, cut_at, known_of, part, known}
+use Rattle.pm_market.specs.State.{State, update, is_same_on, SameOn, cut_at, knowledge_of, part, knowledge}
 use Rattle.pm_base.specs.Cuts.{Cut}
 use Rattle.pm_market.specs.Moves.{Legal, step}
 use Rattle.pm_market.specs.Sound.{Sound}
@@ -23,24 +23,24 @@ is_same_alike lists law x a a' b alike =
 
 -- what y knows after x was learnt, where x is no child of y
 pub known_elsewhere : (lists : Lists) → Lawful lists → (s : State) (x n y : ℕ) → IsInner lists y → (parent lists x ≡ y → ⊥) →
-    SameOn lists y (known lists s y) (known lists (step lists s (Learn x n)) y)
+    SameOn lists y (knowledge lists s y) (knowledge lists (step lists s (Learn x n)) y)
 known_elsewhere lists law s x n y inner ne d leaf =
     let w = child_of lists law y d inner leaf in
     let other : w.0 ≡ x → ⊥ = λ e. ne (sym (ap (parent lists) e) ∙ w.2) in
-    ap (λ (z : ℕ). known lists s z d) (sym w.2) ∙ known_at lists law s.published s.learnt w.0 d w.1.0 w.3
+    ap (λ (z : ℕ). knowledge lists s z d) (sym w.2) ∙ known_at lists law s.published s.learnt w.0 d w.1.0 w.3
     ∙ ap (λ (k : ℕ). part lists s w.0 k d) (sym (updated_other s.learnt x n w.0 other))
-    ∙ sym (ap (λ (z : ℕ). known_of lists s.published (updated s.learnt x n) z d) (sym w.2)
-    ∙ known_at lists law s.published (updated s.learnt x n) w.0 d w.1.0 w.3)
+    ∙ sym (ap (λ (z : ℕ). knowledge_of lists s.published (update s.learnt x n) z d) (sym w.2)
+    ∙ known_at lists law s.published (update s.learnt x n) w.0 d w.1.0 w.3)
 
 -- what a node knows after it learnt something is not what it published or cleared last
 pub learnt_differs : (lists : Lists) → Lawful lists → (s : State) → Sound lists s → (x n : ℕ) → Legal lists s (Learn x n) →
-    is_same_on lists (parent lists x) (known lists (step lists s (Learn x n)) (parent lists x))
+    is_same_on lists (parent lists x) (knowledge lists (step lists s (Learn x n)) (parent lists x))
     (cut_at (s.published (parent lists x)) (length (s.published (parent lists x)))) ≡ false
 learnt_differs lists law s sound x n legal =
     let y : ℕ = parent lists x in
     let s' : State = step lists s (Learn x n) in
     let sound' = sound_step lists law s sound (Learn x n) legal in
-    elim (cases_Bool (is_same_on lists y (known lists s' y) (cut_at (s.published y) (length (s.published y))))) [
+    elim (cases_Bool (is_same_on lists y (knowledge lists s' y) (cut_at (s.published y) (length (s.published y))))) [
       | inl e ↦
           let all = (known_heads lists law s' sound' y (law.inner x legal.0)).0 e x legal.0 refl in
           let at = (published_is_part lists law s sound x (length (s.published y)) legal.0 (omega arith)).1 in

@@ -4,7 +4,7 @@ use Rattle.std.proofs.Common.{◌∷◌, length, refl, sym, ◌∙◌, arith}
 use Rattle.std.proofs.lemmas.Bool.{cases_Bool, eqb-true, eq-eqb, ltb-true, leb-true, lt-ltb, le-leb, and_parts, and_from, not-false, and_cases, not_from_false}
 use Rattle.std.proofs.lemmas.Bool.{both_ways, cond-true, cond-false, false_from_ne_true}
 use Rattle.pm_market.specs.Lists.{Lists, nodes, phases, parent, is_leaf, Lawful, end_count}
-use Rattle.pm_market.specs.State.{start, State, all_to, newest, clearings}
+use Rattle.pm_market.specs.State.{start, State, all_to, newest_number_of, clearings}
 use Rattle.pm_market.specs.Moves.{after_from, after, LegalJournal, NodeLegal, Idle, Legal, step, LegalFrom}
 use Rattle.pm_market.specs.Sound.{Sound}
 use Rattle.pm_market.specs.Legality.{learn_is_legal, publish_is_legal, clear_is_legal, pass_is_legal, is_idle_at, is_idle, change_is_legal, are_made}
@@ -23,10 +23,10 @@ pub idle_from : (lists : Lists) (s : State) → Sound lists s → is_idle lists 
 idle_from lists s sound h (Change d n) legal = legal
 idle_from lists s sound h (Learn x n) legal =
     let at = at_parts lists s x ((idle_parts lists s h).0 x legal.0) in
-    both_ways (learn_is_legal lists s x (newest lists s x)) at.0 (learn_at lists s x (newest lists s x) (legal.0, omega (arith, legal.1, legal.2), omega arith))
+    both_ways (learn_is_legal lists s x (newest_number_of lists s x)) at.0 (learn_at lists s x (newest_number_of lists s x) (legal.0, omega (arith, legal.1, legal.2), omega arith))
 idle_from lists s sound h (Publish c n) legal =
     let at = at_parts lists s c ((idle_parts lists s h).0 c (legal.0.0, legal.0.1)) in
-    both_ways (publish_is_legal lists s c (newest lists s c + 1)) at.1 (publish_at lists s c (newest lists s c + 1) (legal.0, legal.1, legal.2, refl))
+    both_ways (publish_is_legal lists s c (newest_number_of lists s c + 1)) at.1 (publish_at lists s c (newest_number_of lists s c + 1) (legal.0, legal.1, legal.2, refl))
 idle_from lists s sound h (Clear j) legal =
     both_ways (clear_is_legal lists s (clearings s + 1)) (idle_parts lists s h).1 (clear_at lists s (clearings s + 1) (legal.0, refl))
 idle_from lists s sound h (Pass x j) legal =
@@ -41,8 +41,8 @@ unfolding is_idle is_idle_at
 idle_to lists s idle =
     and_from _ _ (all_to_from (nodes lists) _ (λ x one le.
     and_from _ _ (and_from _ _
-    (not_from_false _ (false_from_ne_true _ (λ e. idle (Learn x (newest lists s x)) (learn_from lists s x (newest lists s x) e))))
-    (not_from_false _ (false_from_ne_true _ (λ e. idle (Publish x (newest lists s x + 1)) (publish_from lists s x (newest lists s x + 1) e)))))
+    (not_from_false _ (false_from_ne_true _ (λ e. idle (Learn x (newest_number_of lists s x)) (learn_from lists s x (newest_number_of lists s x) e))))
+    (not_from_false _ (false_from_ne_true _ (λ e. idle (Publish x (newest_number_of lists s x + 1)) (publish_from lists s x (newest_number_of lists s x + 1) e)))))
     (all_to_from (clearings s) _ (λ j j_one j_le. not_from_false _ (false_from_ne_true _ (λ e. idle (Pass x j) (pass_from lists s x j e)))))))
     (not_from_false _ (false_from_ne_true _ (λ e. idle (Clear (clearings s + 1)) (clear_from lists s (clearings s + 1) e))))
 
@@ -150,13 +150,13 @@ illegal_tested lists before m rest law = (
 node_move_at : (lists : Lists) (s : State) (x : ℕ) → is_idle_at lists s x ≡ false → (m : Move) × NodeLegal lists s m
 unfolding is_idle_at
 node_move_at lists s x h =
-    elim (and_cases (not (learn_is_legal lists s x (newest lists s x)) && not (publish_is_legal lists s x (newest lists s x + 1)))
+    elim (and_cases (not (learn_is_legal lists s x (newest_number_of lists s x)) && not (publish_is_legal lists s x (newest_number_of lists s x + 1)))
     (all_to (clearings s) (λ j. not (pass_is_legal lists s x j))) h) [
-      | inl a ↦ elim (and_cases (not (learn_is_legal lists s x (newest lists s x))) (not (publish_is_legal lists s x (newest lists s x + 1))) a) [
-        | inl e ↦ (Learn x (newest lists s x), learn_from lists s x (newest lists s x) (not-false (learn_is_legal lists s x (newest lists s x)) e))
+      | inl a ↦ elim (and_cases (not (learn_is_legal lists s x (newest_number_of lists s x))) (not (publish_is_legal lists s x (newest_number_of lists s x + 1))) a) [
+        | inl e ↦ (Learn x (newest_number_of lists s x), learn_from lists s x (newest_number_of lists s x) (not-false (learn_is_legal lists s x (newest_number_of lists s x)) e))
         | inr e ↦ (
-          Publish x (newest lists s x + 1),
-          publish_from lists s x (newest lists s x + 1) (not-false (publish_is_legal lists s x (newest lists s x + 1)) e),
+          Publish x (newest_number_of lists s x + 1),
+          publish_from lists s x (newest_number_of lists s x + 1) (not-false (publish_is_legal lists s x (newest_number_of lists s x + 1)) e),
         )
       ]
       | inr a ↦ let r = all_to_fails (clearings s) (λ j. not (pass_is_legal lists s x j)) a in

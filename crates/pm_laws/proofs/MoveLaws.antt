@@ -5,7 +5,7 @@ use Rattle.std.specs.List.{Contains}
 use Rattle.std.proofs.lemmas.Bool.{cases_lt, and_parts, and_from}
 use Rattle.pm_base.specs.Cuts.{Cut}
 use Rattle.pm_market.specs.Lists.{Lists, parent, IsNode, IsInner, IsConcentrator, IsLeafOf, Lawful}
-use Rattle.pm_market.specs.State.{State, SameOn, DifferOn, cut_at, part, known, clearings, addresses, addresses_of}
+use Rattle.pm_market.specs.State.{State, SameOn, DifferOn, cut_at, part, knowledge, clearings, addresses, addresses_of}
 use Rattle.pm_market.specs.Legality.{has_reached}
 use Rattle.pm_market.specs.Moves.{Reached, Legal, step}
 use Rattle.pm_market.specs.Sound.{Sound}
@@ -51,25 +51,25 @@ clearing lists s j law sound legal = has_added lists law s sound 0 (leaf_zero li
 
 -- after Learn x n the parent of x knows of each leaf of x what part n of x says
 pub learning_here : (lists : Lists) (s : State) (x n d : ℕ) → Lawful lists → IsNode lists x → IsLeafOf lists x d →
-    known lists (step lists s (Learn x n)) (parent lists x) d ≡ part lists s x n d
+    knowledge lists (step lists s (Learn x n)) (parent lists x) d ≡ part lists s x n d
 learning_here lists s x n d law node leaf =
     known_at lists law s.published _ x d node.0 leaf ∙ ap (λ (k : ℕ). part lists s x k d) (updated_same s.learnt x n)
 
 -- after Learn x n the parent of any other node z knows of the leaves of z what it knew
 pub learning_beside : (lists : Lists) (s : State) (x z n d : ℕ) → Lawful lists → IsNode lists z → z ≢ x → IsLeafOf lists z d →
-    known lists (step lists s (Learn x n)) (parent lists z) d ≡ known lists s (parent lists z) d
+    knowledge lists (step lists s (Learn x n)) (parent lists z) d ≡ knowledge lists s (parent lists z) d
 learning_beside lists s x z n d law node other leaf =
     known_at lists law s.published _ z d node.0 leaf ∙ ap (λ (k : ℕ). part lists s z k d) (updated_other s.learnt x n z other)
     ∙ sym (known_at lists law s.published s.learnt z d node.0 leaf)
 
 -- after Learn x n each inner node but the parent of x knows of its leaves what it knew
 pub learning_elsewhere : (lists : Lists) (s : State) (x n y : ℕ) → Lawful lists → IsInner lists y → parent lists x ≢ y →
-    SameOn lists y (known lists s y) (known lists (step lists s (Learn x n)) y)
+    SameOn lists y (knowledge lists s y) (knowledge lists (step lists s (Learn x n)) y)
 learning_elsewhere lists s x n y law inner other = known_elsewhere lists law s x n y inner other
 
 -- after a legal Learn the parent knows something other than it published or cleared last
 pub learning_differs : (lists : Lists) (s : State) (x n : ℕ) → Lawful lists → Sound lists s → Legal lists s (Learn x n) →
-    DifferOn lists (parent lists x) (known lists (step lists s (Learn x n)) (parent lists x))
+    DifferOn lists (parent lists x) (knowledge lists (step lists s (Learn x n)) (parent lists x))
     (cut_at (s.published (parent lists x)) (length (s.published (parent lists x))))
 learning_differs lists s x n law sound legal = learnt_differs lists law s sound x n legal
 
@@ -140,11 +140,11 @@ module _ (lists : Lists) (law : Lawful lists) (s : State) (sound : Sound lists s
   same : j ≤ clearings s → addresses lists next j x ≡ addresses lists s j x
   same old = ap (λ (cut : Cut). addresses_of lists cut x) (has.kept 0 j old)
 
-  newly : j ≡ clearings s + 1 → addresses lists next j x ≡ addresses_of lists (known lists s 0) x
+  newly : j ≡ clearings s + 1 → addresses lists next j x ≡ addresses_of lists (knowledge lists s 0) x
   newly here = ap (λ (i : ℕ). addresses lists next i x) here ∙ ap (λ (cut : Cut). addresses_of lists cut x) has.added
 
   cleared_from : is_due lists next x j ≡ true → (is_due lists s x j ≡ true)
-      ⊎ ((parent lists x ≡ 0) × (j ≡ clearings s + 1) × (addresses_of lists (known lists s 0) x ≡ true))
+      ⊎ ((parent lists x ≡ 0) × (j ≡ clearings s + 1) × (addresses_of lists (knowledge lists s 0) x ≡ true))
   cleared_from due =
       let parts = due_parts lists next x j due in
       elim parts.0 [
@@ -156,7 +156,7 @@ module _ (lists : Lists) (law : Lawful lists) (s : State) (sound : Sound lists s
       ]
 
   cleared_to : (is_due lists s x j ≡ true) ⊎ ((parent lists x ≡ 0) × (j ≡ clearings s + 1)
-      × (addresses_of lists (known lists s 0) x ≡ true)) → is_due lists next x j ≡ true
+      × (addresses_of lists (knowledge lists s 0) x ≡ true)) → is_due lists next x j ≡ true
   cleared_to (inl due) =
       let parts = due_parts lists s x j due in
       let within = (reached_within lists s sound (parent lists x) j parts.0).1 in
@@ -169,7 +169,7 @@ module _ (lists : Lists) (law : Lawful lists) (s : State) (sound : Sound lists s
 -- after a legal Clear due is what was, and the new clearing to each child of the auctioneer that it addresses
 pub due_cleared : (lists : Lists) (s : State) (k x j : ℕ) → Lawful lists → Sound lists s → Legal lists s (Clear k) →
     (is_due lists (step lists s (Clear k)) x j ≡ true)
-    ↔ ((is_due lists s x j ≡ true) ⊎ ((parent lists x ≡ 0) × (j ≡ clearings s + 1) × (addresses_of lists (known lists s 0) x ≡ true)))
+    ↔ ((is_due lists s x j ≡ true) ⊎ ((parent lists x ≡ 0) × (j ≡ clearings s + 1) × (addresses_of lists (knowledge lists s 0) x ≡ true)))
 due_cleared lists s k x j law sound legal = (cleared_from lists law s sound k legal x j, cleared_to lists law s sound k legal x j)
 
 -- what is known once one bid more is learnt

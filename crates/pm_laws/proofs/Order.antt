@@ -2,7 +2,7 @@
 use Rattle.std.proofs.Common.{◌≡◌, ℕ, ◌<◌, ◌≤◌, List, [], ◌∷◌, ◌++◌, length, refl, sym, ◌∙◌, ap, subst, inl, inr, arith}
 use Rattle.std.specs.List.{Contains}
 use Rattle.pm_market.specs.Lists.{Lists, IsLeaf, Lawful}
-use Rattle.pm_market.specs.State.{State, start, known, last, clearings, cleared}
+use Rattle.pm_market.specs.State.{State, start, knowledge, last_index, clearings, cleared_cut}
 use Rattle.pm_market.specs.Moves.{step, after_from, LegalFrom, after, LegalJournal}
 use Rattle.pm_market.specs.Sound.{Sound}
 use Rattle.pm_market.specs.declared.moves.Move.{Move}
@@ -44,23 +44,23 @@ passed_stays lists (m ∷ ms) s x j h = passed_stays lists ms (step lists s m) x
 
 -- a clearing keeps its cut
 cleared_step : (lists : Lists) (s : State) (m : Move) (j : ℕ) → j ≤ clearings s → (j ≤ clearings (step lists s m))
-    × (cleared (step lists s m) j ≡ cleared s j)
+    × (cleared_cut (step lists s m) j ≡ cleared_cut s j)
 cleared_step lists s (Change d n) j h = (h, refl)
 cleared_step lists s (Learn c n) j h = (h, refl)
 cleared_step lists s (Publish c n) j h = (
-  omega (arith, pushed_length_le s.published c (known lists s c) 0),
-  pushed_cut_at_kept s.published c (known lists s c) 0 j (λ e. omega (arith, ap (λ (z : ℕ). length (s.published z)) e)),
+  omega (arith, pushed_length_le s.published c (knowledge lists s c) 0),
+  pushed_cut_at_kept s.published c (knowledge lists s c) 0 j (λ e. omega (arith, ap (λ (z : ℕ). length (s.published z)) e)),
 )
 cleared_step lists s (Clear k) j h = (
-  omega (arith, pushed_length_le s.published 0 (known lists s 0) 0),
-  pushed_cut_at_kept s.published 0 (known lists s 0) 0 j (λ e. h),
+  omega (arith, pushed_length_le s.published 0 (knowledge lists s 0) 0),
+  pushed_cut_at_kept s.published 0 (knowledge lists s 0) 0 j (λ e. h),
 )
 cleared_step lists s (Pass y k) j h = (h, refl)
 cleared_step lists s (Close p) j h = (h, refl)
 
 -- a clearing is still there, with the same cut, after any more moves, legal or not
 pub cleared_stays : (lists : Lists) (journal : List Move) (s : State) (j : ℕ) → j ≤ clearings s →
-    (j ≤ clearings (after_from lists s journal)) × (cleared (after_from lists s journal) j ≡ cleared s j)
+    (j ≤ clearings (after_from lists s journal)) × (cleared_cut (after_from lists s journal) j ≡ cleared_cut s j)
 cleared_stays lists [] s j h = (h, refl)
 cleared_stays lists (m ∷ ms) s j h =
     let one = cleared_step lists s m j h in
@@ -69,24 +69,24 @@ cleared_stays lists (m ∷ ms) s j h =
 
 -- the index passed to a node last never falls
 pub last_rises : (lists : Lists) → Lawful lists → (moves : List Move) (s : State) → Sound lists s → LegalFrom lists s moves → (x : ℕ) →
-    last s x ≤ last (after_from lists s moves) x
+    last_index s x ≤ last_index (after_from lists s moves) x
 last_rises lists law moves s sound legal x = elim (last_cases (s.passed x)) [
   | inl none ↦ omega (arith, none.1)
-  | inr came ↦ contains_within lists (after_from lists s moves) (sound_after_from lists law moves s sound legal) x (last s x)
-      (passed_stays lists moves s x (last s x) came)
+  | inr came ↦ contains_within lists (after_from lists s moves) (sound_after_from lists law moves s sound legal) x (last_index s x)
+      (passed_stays lists moves s x (last_index s x) came)
 ]
 
 -- of two indices passed to a node the cut of the lower is within that of the greater
 pub passed_cuts : (lists : Lists) → Lawful lists → (s : State) → Sound lists s → (x i j : ℕ) → Contains (s.passed x) i →
     Contains (s.passed x) j → i ≤ j →
-    (d : ℕ) → IsLeaf lists d → cleared s i d ≤ cleared s j d
+    (d : ℕ) → IsLeaf lists d → cleared_cut s i d ≤ cleared_cut s j d
 passed_cuts lists law s sound x i j at_i at_j le d leaf = cleared_within lists law s sound i j le (sound.passed_within x j at_j).1 d leaf
 
 -- two passes to one node, in the order of the journal
 two_passes : (lists : Lists) → Lawful lists → (mid rest : List Move) (s : State) → Sound lists s → (x i j : ℕ) →
     LegalFrom lists s (Pass x i ∷ (mid ++ Pass x j ∷ rest)) →
     let end_s = after_from lists s (Pass x i ∷ (mid ++ Pass x j ∷ rest)) in
-    (i < j) × ((d : ℕ) → IsLeaf lists d → cleared end_s i d ≤ cleared end_s j d)
+    (i < j) × ((d : ℕ) → IsLeaf lists d → cleared_cut end_s i d ≤ cleared_cut end_s j d)
 two_passes lists law mid rest s sound x i j legal =
     let one : State = step lists s (Pass x i) in
     let sound_one : Sound lists one = sound_step lists law s sound (Pass x i) legal.0 in
@@ -106,7 +106,7 @@ two_passes lists law mid rest s sound x i j legal =
     let i_final : Contains (final.passed x) i = passed_stays lists rest three x i (passed_step lists two (Pass x j) x i at_two) in
     let j_final : Contains (final.passed x) j = passed_stays lists rest three x j j_at_three in (
       lt,
-      λ d leaf. subst (λ (t : State). cleared t i d ≤ cleared t j d) (sym same)
+      λ d leaf. subst (λ (t : State). cleared_cut t i d ≤ cleared_cut t j d) (sym same)
           (passed_cuts lists law final sound_final x i j i_final j_final (omega arith) d leaf),
     )
 
@@ -114,13 +114,13 @@ two_passes lists law mid rest s sound x i j legal =
 pub never_back : (lists : Lists) → Lawful lists → (front mid rest : List Move) (x i j : ℕ) →
     LegalJournal lists (front ++ Pass x i ∷ (mid ++ Pass x j ∷ rest)) →
     let end_s = after lists (front ++ Pass x i ∷ (mid ++ Pass x j ∷ rest)) in
-    (i < j) × ((d : ℕ) → IsLeaf lists d → cleared end_s i d ≤ cleared end_s j d)
+    (i < j) × ((d : ℕ) → IsLeaf lists d → cleared_cut end_s i d ≤ cleared_cut end_s j d)
 never_back lists law front mid rest x i j legal =
     let parts = legal_parts lists front (Pass x i ∷ (mid ++ Pass x j ∷ rest)) start legal in
     let s : State = after_from lists start front in
     let sound : Sound lists s = sound_after_from lists law front start (sound_start lists law) parts.0 in
     let r = two_passes lists law mid rest s sound x i j parts.1 in (
       r.0,
-      λ d leaf. subst (λ (t : State). cleared t i d ≤ cleared t j d)
+      λ d leaf. subst (λ (t : State). cleared_cut t i d ≤ cleared_cut t j d)
           (sym (after_append lists front (Pass x i ∷ (mid ++ Pass x j ∷ rest)) start)) (r.1 d leaf),
     )

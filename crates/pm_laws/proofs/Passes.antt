@@ -1,7 +1,7 @@
 -- What a pass changes: the clearing passed to the node last, and which clearings are then to be passed to its children.
 use Rattle.std.proofs.Common.{◌≡◌, ◌∙◌, ap, ℕ, true, ◌⊎◌, [], ◌∷◌, ◌++◌, refl, inl, inr}
 use Rattle.pm_market.specs.Lists.{Lists, parent}
-use Rattle.pm_market.specs.State.{State, last_of, last, addresses}
+use Rattle.pm_market.specs.State.{State, last_of, last_index, addresses}
 use Rattle.pm_market.specs.Moves.{step}
 use Rattle.pm_market.specs.declared.moves.Move.TheVariants.{Pass}
 use Rattle.pm_market.proofs.Cuts.{updated_same, updated_other}
@@ -14,11 +14,11 @@ module _ (lists : Lists) (s : State) (x j : ℕ) where
   next = step lists s (Pass x j)
 
   -- the clearing is the one passed to the node last
-  pub last_new : last next x ≡ j
+  pub last_new : last_index next x ≡ j
   last_new = ap last_of (updated_same s.passed x (s.passed x ++ j ∷ [])) ∙ last_push (s.passed x) j
 
   -- of each other node that stays
-  pub last_kept : (y : ℕ) → (y ≡ x → ⊥) → last next y ≡ last s y
+  pub last_kept : (y : ℕ) → (y ≡ x → ⊥) → last_index next y ≡ last_index s y
   last_kept y ne = ap last_of (updated_other s.passed x (s.passed x ++ j ∷ []) y ne)
 
   -- what was to be passed still is

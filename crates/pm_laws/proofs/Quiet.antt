@@ -5,7 +5,7 @@ use Rattle.std.proofs.lemmas.Bool.{cases_eq, cases_lt, cases_Bool, cond-true, co
 use Rattle.std.specs.List.{Contains}
 use Rattle.pm_base.specs.Limits.{window_size}
 use Rattle.pm_market.specs.Lists.{Lists, parent, is_leaf, is_member, IsNode, IsLeaf, IsInner, IsConcentrator, IsLeafOf, Lawful}
-use Rattle.pm_market.specs.State.{State, is_same_on, SameOn, cut_at, greatest_number, newest, part, known, number, last, clearings, cleared, addresses}
+use Rattle.pm_market.specs.State.{State, is_same_on, SameOn, cut_at, greatest_number, newest_number_of, part, knowledge, number, last_index, clearings, cleared_cut, addresses}
 use Rattle.pm_market.specs.State.{addresses_of, no_changes}
 use Rattle.pm_base.specs.Cuts.{Cut}
 use Rattle.pm_market.specs.Moves.{Reached, Idle}
@@ -65,73 +65,73 @@ addresses_up lists law cut x node h =
 pub addressed_index : (lists : Lists) → Lawful lists → (s : State) (j x : ℕ) → addresses lists s j x ≡ true → 1 ≤ j
 addressed_index lists law s j x h =
     elim (cases_eq j 0) [
-      | inl e ↦ absurd (zeros_address_none lists law (cleared s j) x (λ d leaf. ap (λ (k : ℕ). cleared s k d) e
+      | inl e ↦ absurd (zeros_address_none lists law (cleared_cut s j) x (λ d leaf. ap (λ (k : ℕ). cleared_cut s k d) e
           ∙ ap (λ (a : Cut). a d) (entry_zero (s.published 0))) h)
       | inr n ↦ omega arith
     ]
 
 -- what rest says of each kind of move
 
-learnt_at_rest : (lists : Lists) (s : State) → Sound lists s → Rests lists s → (x : ℕ) → IsNode lists x → s.learnt x ≡ newest lists s x
+learnt_at_rest : (lists : Lists) (s : State) → Sound lists s → Rests lists s → (x : ℕ) → IsNode lists x → s.learnt x ≡ newest_number_of lists s x
 learnt_at_rest lists s sound rest x node =
-    elim (cases_lt (s.learnt x) (newest lists s x)) [
-      | inl lt ↦ absurd (rest.learn x (newest lists s x) (node, lt, omega arith))
+    elim (cases_lt (s.learnt x) (newest_number_of lists s x)) [
+      | inl lt ↦ absurd (rest.learn x (newest_number_of lists s x) (node, lt, omega arith))
       | inr ge ↦ omega (arith, sound.learnt_within x node)
     ]
 
 known_at_rest : (lists : Lists) → Lawful lists → (s : State) → Rests lists s → (c : ℕ) → IsConcentrator lists c →
-    newest lists s c - number lists s c (cleared s (last s c)) < window_size → SameOn lists c (known lists s c) (part lists s c (newest lists s c))
+    newest_number_of lists s c - number lists s c (cleared_cut s (last_index s c)) < window_size → SameOn lists c (knowledge lists s c) (part lists s c (newest_number_of lists s c))
 known_at_rest lists law s rest c conc room =
-    elim (cases_Bool (is_same_on lists c (known lists s c) (part lists s c (newest lists s c)))) [
-      | inl e ↦ same_from lists law c (known lists s c) (part lists s c (newest lists s c)) e
-      | inr e ↦ absurd (rest.publish c (newest lists s c + 1) (conc, e, room, refl))
+    elim (cases_Bool (is_same_on lists c (knowledge lists s c) (part lists s c (newest_number_of lists s c)))) [
+      | inl e ↦ same_from lists law c (knowledge lists s c) (part lists s c (newest_number_of lists s c)) e
+      | inr e ↦ absurd (rest.publish c (newest_number_of lists s c + 1) (conc, e, room, refl))
     ]
 
-cleared_at_rest : (lists : Lists) → Lawful lists → (s : State) → Rests lists s → SameOn lists 0 (known lists s 0) (cleared s (clearings s))
+cleared_at_rest : (lists : Lists) → Lawful lists → (s : State) → Rests lists s → SameOn lists 0 (knowledge lists s 0) (cleared_cut s (clearings s))
 cleared_at_rest lists law s rest =
-    elim (cases_Bool (is_same_on lists 0 (known lists s 0) (cleared s (clearings s)))) [
-      | inl e ↦ same_from lists law 0 (known lists s 0) (cleared s (clearings s)) e
+    elim (cases_Bool (is_same_on lists 0 (knowledge lists s 0) (cleared_cut s (clearings s)))) [
+      | inl e ↦ same_from lists law 0 (knowledge lists s 0) (cleared_cut s (clearings s)) e
       | inr e ↦ absurd (rest.clear (clearings s + 1) (e, refl))
     ]
 
 passed_at_rest : (lists : Lists) (s : State) → Sound lists s → Rests lists s → (x : ℕ) → IsNode lists x →
     NothingUnanswered lists s (parent lists x) → Reached s (parent lists x) (clearings s) → addresses lists s (clearings s) x ≡ true →
-    last s x ≡ clearings s
+    last_index s x ≡ clearings s
 passed_at_rest lists s sound rest x node answered came addressed =
-    elim (cases_lt (last s x) (clearings s)) [
+    elim (cases_lt (last_index s x) (clearings s)) [
       | inl lt ↦ absurd (rest.pass x answered (node, came, lt, addressed))
       | inr ge ↦ omega (arith, last_within lists s sound x)
     ]
 
 -- the claim at a node: the last clearing has its newest number, and was passed to it where it addresses it
 record Current (lists : Lists) (s : State) (x : ℕ) : Type 0 where
-  newest : SameOn lists x (cleared s (clearings s)) (part lists s x (newest lists s x))
-  passed : addresses lists s (clearings s) x ≡ true → last s x ≡ clearings s
+  newest : SameOn lists x (cleared_cut s (clearings s)) (part lists s x (newest_number_of lists s x))
+  passed : addresses lists s (clearings s) x ≡ true → last_index s x ≡ clearings s
 
 -- nothing of a concentrator is unanswered then
 current_answered : (lists : Lists) → Lawful lists → (s : State) → Sound lists s → (c : ℕ) → IsConcentrator lists c →
-    Current lists s c → newest lists s c - number lists s c (cleared s (last s c)) ≡ 0
+    Current lists s c → newest_number_of lists s c - number lists s c (cleared_cut s (last_index s c)) ≡ 0
 current_answered lists law s sound c conc current =
     let len : ℕ = length (s.published c) in
-    let top : part lists s c (newest lists s c) ≡ cut_at (s.published c) len =
-    part_inner lists s.published c (newest lists s c) conc.2 ∙ ap (cut_at (s.published c)) (newest_inner lists s.counts s.published c conc.2) in
+    let top : part lists s c (newest_number_of lists s c) ≡ cut_at (s.published c) len =
+    part_inner lists s.published c (newest_number_of lists s c) conc.2 ∙ ap (cut_at (s.published c)) (newest_inner lists s.counts s.published c conc.2) in
     elim (cases_Bool (addresses lists s (clearings s) c)) [
       | inl e ↦
-          let at : last s c ≡ clearings s = current.passed e in
-          let same : SameOn lists c (cut_at (s.published c) len) (cleared s (clearings s)) =
+          let at : last_index s c ≡ clearings s = current.passed e in
+          let same : SameOn lists c (cut_at (s.published c) len) (cleared_cut s (clearings s)) =
           λ d leaf. sym (current.newest d leaf ∙ ap (λ (a : Cut). a d) top) in
-          let most : len ≤ greatest_number lists (s.published c) c (cleared s (clearings s)) len =
-          greatest_from lists (s.published c) c (cleared s (clearings s)) len len (omega arith) same in
+          let most : len ≤ greatest_number lists (s.published c) c (cleared_cut s (clearings s)) len =
+          greatest_from lists (s.published c) c (cleared_cut s (clearings s)) len len (omega arith) same in
           omega (
             arith,
-            window_of lists s c (cleared s (last s c)) conc.2,
+            window_of lists s c (cleared_cut s (last_index s c)) conc.2,
             most,
-            ap (λ (j : ℕ). greatest_number lists (s.published c) c (cleared s j) len) at,
+            ap (λ (j : ℕ). greatest_number lists (s.published c) c (cleared_cut s j) len) at,
           )
       | inr e ↦
-          let none = not_addressed lists law (cleared s (clearings s)) c conc.2 e in
+          let none = not_addressed lists law (cleared_cut s (clearings s)) c conc.2 e in
           elim (cases_eq len 0) [
-            | inl empty ↦ omega (arith, window_of lists s c (cleared s (last s c)) conc.2)
+            | inl empty ↦ omega (arith, window_of lists s c (cleared_cut s (last_index s c)) conc.2)
             | inr n ↦
                 let rise = sound.published_rise c 0 len conc.2 (omega arith) (omega arith) in
                 absurd (not_same lists c (cut_at (s.published c) 0) (cut_at (s.published c) len) rise.not_same (λ d leaf.
@@ -143,14 +143,14 @@ current_in : (lists : Lists) → Lawful lists → (s : State) → Sound lists s 
     IsNode lists x → Current lists s x
 current_in lists law s sound rest zero x h node = absurd (omega arith)
 current_in lists law s sound rest (suc bound) x h node =
-    let learnt_is : s.learnt x ≡ newest lists s x = learnt_at_rest lists s sound rest x node in
-    let at_parent : (d : ℕ) → IsLeafOf lists x d → known lists s (parent lists x) d ≡ part lists s x (newest lists s x) d =
+    let learnt_is : s.learnt x ≡ newest_number_of lists s x = learnt_at_rest lists s sound rest x node in
+    let at_parent : (d : ℕ) → IsLeafOf lists x d → knowledge lists s (parent lists x) d ≡ part lists s x (newest_number_of lists s x) d =
     λ d leaf. known_at lists law s.published s.learnt x d node.0 leaf ∙ ap (λ (k : ℕ). part lists s x k d) learnt_is in
     elim (cases_eq (parent lists x) 0) [
       | inl e ↦ record {
         newest = λ d leaf.
             sym (cleared_at_rest lists law s rest d (subst (λ (z : ℕ). IsLeafOf lists z d) e (leaf_of_parent lists law x d leaf)))
-            ∙ ap (λ (z : ℕ). known lists s z d) (sym e) ∙ at_parent d leaf;
+            ∙ ap (λ (z : ℕ). knowledge lists s z d) (sym e) ∙ at_parent d leaf;
         passed = λ addressed. passed_at_rest lists s sound rest x node (λ ne. absurd (ne e)) (inl (
           e,
           addressed_index lists law s
@@ -168,7 +168,7 @@ current_in lists law s sound rest (suc bound) x h node =
             newest = λ d leaf.
                 above.newest d (leaf_of_parent lists law x d leaf) ∙ sym (heard d (leaf_of_parent lists law x d leaf)) ∙ at_parent d leaf;
             passed = λ addressed.
-                let last_is : last s c ≡ clearings s = above.passed (addresses_up lists law (cleared s (clearings s)) x node addressed) in
+                let last_is : last_index s c ≡ clearings s = above.passed (addresses_up lists law (cleared_cut s (clearings s)) x node addressed) in
                 let one : 1 ≤ clearings s = addressed_index lists law s (clearings s) x addressed in
                 let came : Contains (s.passed c) (clearings s) = elim (last_cases (s.passed c)) [
                   | inl w ↦ absurd (omega (arith, w.1))
@@ -183,24 +183,24 @@ current lists law s sound rest x node = current_in lists law s sound rest x x (o
 
 -- at rest the last cleared cut is the counts
 pub rest_counts : (lists : Lists) → Lawful lists → (s : State) → Sound lists s → Rests lists s → (d : ℕ) → IsLeaf lists d →
-    cleared s (clearings s) d ≡ s.counts d
+    cleared_cut s (clearings s) d ≡ s.counts d
 rest_counts lists law s sound rest d leaf =
     (current lists law s sound rest d (leaf_node lists law d leaf)).newest d (leaf_of_itself lists law d leaf)
-    ∙ part_leaf lists s.published d (newest lists s d) d leaf
+    ∙ part_leaf lists s.published d (newest_number_of lists s d) d leaf
     ∙ newest_leaf lists s.counts s.published d leaf
 
 -- at rest each device that is a member was passed the last clearing
 pub rest_passed : (lists : Lists) → Lawful lists → (s : State) → Sound lists s → Rests lists s → (d : ℕ) → IsLeaf lists d →
     is_member lists d (s.counts d) ≡ true →
-    (1 ≤ clearings s) × (last s d ≡ clearings s)
+    (1 ≤ clearings s) × (last_index s d ≡ clearings s)
 rest_passed lists law s sound rest d leaf at =
     let addressed : addresses lists s (clearings s) d ≡ true =
-    addresses_leaf lists (cleared s (clearings s)) d leaf ∙ ap (is_member lists d) (rest_counts lists law s sound rest d leaf) ∙ at in
+    addresses_leaf lists (cleared_cut s (clearings s)) d leaf ∙ ap (is_member lists d) (rest_counts lists law s sound rest d leaf) ∙ at in
     (addressed_index lists law s (clearings s) d addressed, (current lists law s sound rest d (leaf_node lists law d leaf)).passed addressed)
 
 -- at rest no number of a concentrator is unanswered
 pub rest_window : (lists : Lists) → Lawful lists → (s : State) → Sound lists s → Rests lists s → (c : ℕ) → IsConcentrator lists c →
-    newest lists s c - number lists s c (cleared s (last s c)) ≡ 0
+    newest_number_of lists s c - number lists s c (cleared_cut s (last_index s c)) ≡ 0
 rest_window lists law s sound rest c conc = current_answered lists law s sound c conc (current lists law s sound rest c (conc.0, conc.1))
 
 -- an idle state is at rest
@@ -214,15 +214,15 @@ idle_rests lists s idle = record {
 
 -- in an idle state the last cleared cut is the counts
 pub quiet_counts : (lists : Lists) → Lawful lists → (s : State) → Sound lists s → Idle lists s → (d : ℕ) → IsLeaf lists d →
-    cleared s (clearings s) d ≡ s.counts d
+    cleared_cut s (clearings s) d ≡ s.counts d
 quiet_counts lists law s sound idle = rest_counts lists law s sound (idle_rests lists s idle)
 
 -- each device that is a member was passed the last clearing
 pub quiet_passed : (lists : Lists) → Lawful lists → (s : State) → Sound lists s → Idle lists s → (d : ℕ) → IsLeaf lists d →
-    is_member lists d (s.counts d) ≡ true → (1 ≤ clearings s) × (last s d ≡ clearings s)
+    is_member lists d (s.counts d) ≡ true → (1 ≤ clearings s) × (last_index s d ≡ clearings s)
 quiet_passed lists law s sound idle = rest_passed lists law s sound (idle_rests lists s idle)
 
 -- and no number of a concentrator is unanswered
 pub quiet_window : (lists : Lists) → Lawful lists → (s : State) → Sound lists s → Idle lists s → (c : ℕ) → IsConcentrator lists c →
-    newest lists s c - number lists s c (cleared s (last s c)) ≡ 0
+    newest_number_of lists s c - number lists s c (cleared_cut s (last_index s c)) ≡ 0
 quiet_window lists law s sound idle = rest_window lists law s sound (idle_rests lists s idle)

@@ -1,13 +1,13 @@
 -- A state in which nothing new can be learnt, published or cleared, and the last clearing went as far down as it can.
 use Rattle.std.specs.Prelude.{◌≡◌, ℕ, ◌-◌}
 use Rattle.pm_market.specs.Lists.{Lists, parent}
-use Rattle.pm_market.specs.State.{State, newest, number, last, clearings, cleared}
+use Rattle.pm_market.specs.State.{State, newest_number_of, number, last_index, clearings, cleared_cut}
 use Rattle.pm_market.specs.Moves.{NodeLegal}
 use Rattle.pm_market.specs.declared.moves.Move.TheVariants.{Learn, Publish, Clear, Pass}
 
 -- nothing of y is unanswered: the price passed to it last names its newest number; of the auctioneer nothing ever is
 abbrev pub NothingUnanswered : Lists → State → ℕ → Type 0
-NothingUnanswered lists s y = (y ≡ 0 → ⊥) → newest lists s y - number lists s y (cleared s (last s y)) ≡ 0
+NothingUnanswered lists s y = (y ≡ 0 → ⊥) → newest_number_of lists s y - number lists s y (cleared_cut s (last_index s y)) ≡ 0
 
 -- Less than idle: clearings before the last may be legal to pass, and the last one to a node whose parent has numbers that
 -- are not answered.

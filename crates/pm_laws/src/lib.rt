@@ -7,7 +7,7 @@
 
 ghost use Rattle.std.specs.Prelude.{◌≡◌, ℕ, ◌+◌, ◌-◌, ◌<◌, ◌≤◌, ◌↔◌, ℤ, true, false, List, ◌∷◌, ◌++◌, [], length};
 ghost use Rattle.pm_market.specs.Lists.{Lists, parent, phases, changes, IsNode, IsLeaf, IsInner, IsConcentrator, IsLeafOf, is_member, Lawful};
-ghost use Rattle.pm_market.specs.State.{State, start, is_same_on, cut_at, newest, known, number, last, clearings, cleared, addresses};
+ghost use Rattle.pm_market.specs.State.{State, start, is_same_on, cut_at, newest_number_of, knowledge, number, last_index, clearings, cleared_cut, addresses};
 ghost use Rattle.pm_market.specs.Moves.{NodeLegal, Idle, Legal, step, after, LegalJournal, IsComplete};
 ghost use Rattle.pm_market.specs.Sound.{Sound};
 ghost use Rattle.pm_market.specs.Bound.{bound, change_total};
@@ -15,7 +15,7 @@ ghost use Rattle.pm_market.specs.Held.{holds_price};
 ghost use Rattle.pm_market.specs.Offers.{sum_children, sum_on};
 ghost use Rattle.pm_market.specs.Legality.{are_legal, first_illegal, is_idle, is_legal};
 ghost use Rattle.pm_market.specs.declared.moves.Move.{Move};
-ghost use Rattle.pm_laws.specs.Potential.{counted};
+ghost use Rattle.pm_laws.specs.Potential.{potential};
 ghost use Rattle.pm_laws.specs.Rest.{Rests};
 
 use pm_market::Move;
@@ -37,7 +37,7 @@ pub fn no_device_goes_back()
     ensures { (lists : Lists) (front mid rest : List Move) (x i j : ℕ) →
         let journal = front ++ Move.Pass x i ∷ (mid ++ Move.Pass x j ∷ rest) in
         Lawful lists → LegalJournal lists journal →
-        (i < j) × ((d : ℕ) → IsLeaf lists d → cleared (after lists journal) i d ≤ cleared (after lists journal) j d) }
+        (i < j) × ((d : ℕ) → IsLeaf lists d → cleared_cut (after lists journal) i d ≤ cleared_cut (after lists journal) j d) }
 {}
 
 /// Rest is current. At rest the last cleared cut is that of all changes made (all zeros where none was cleared), each device
@@ -46,11 +46,11 @@ pub fn no_device_goes_back()
 pub fn rest_is_current()
     ensures idle { (lists : Lists) (s : State) → Idle lists s → Rests lists s }
     ensures counts { (lists : Lists) (s : State) → Lawful lists → Sound lists s → Rests lists s →
-        (d : ℕ) → IsLeaf lists d → cleared s (clearings s) d ≡ s.counts d }
+        (d : ℕ) → IsLeaf lists d → cleared_cut s (clearings s) d ≡ s.counts d }
     ensures passed { (lists : Lists) (s : State) → Lawful lists → Sound lists s → Rests lists s →
-        (d : ℕ) → IsLeaf lists d → is_member lists d (s.counts d) ≡ true → (1 ≤ clearings s) × (last s d ≡ clearings s) }
+        (d : ℕ) → IsLeaf lists d → is_member lists d (s.counts d) ≡ true → (1 ≤ clearings s) × (last_index s d ≡ clearings s) }
     ensures windows { (lists : Lists) (s : State) → Lawful lists → Sound lists s → Rests lists s →
-        (c : ℕ) → IsConcentrator lists c → newest lists s c - number lists s c (cleared s (last s c)) ≡ 0 }
+        (c : ℕ) → IsConcentrator lists c → newest_number_of lists s c - number lists s c (cleared_cut s (last_index s c)) ≡ 0 }
 {}
 
 /// Quiet is current. Where a sound state is idle, the last cleared cut is that of all changes made (all zeros where none
@@ -59,11 +59,11 @@ pub fn rest_is_current()
 #[tactic(auto, using(crate::proofs::Quiet::quiet_counts, crate::proofs::Quiet::quiet_passed, crate::proofs::Quiet::quiet_window))]
 pub fn quiet_is_current()
     ensures counts { (lists : Lists) (s : State) → Lawful lists → Sound lists s → Idle lists s →
-        (d : ℕ) → IsLeaf lists d → cleared s (clearings s) d ≡ s.counts d }
+        (d : ℕ) → IsLeaf lists d → cleared_cut s (clearings s) d ≡ s.counts d }
     ensures passed { (lists : Lists) (s : State) → Lawful lists → Sound lists s → Idle lists s →
-        (d : ℕ) → IsLeaf lists d → is_member lists d (s.counts d) ≡ true → (1 ≤ clearings s) × (last s d ≡ clearings s) }
+        (d : ℕ) → IsLeaf lists d → is_member lists d (s.counts d) ≡ true → (1 ≤ clearings s) × (last_index s d ≡ clearings s) }
     ensures windows { (lists : Lists) (s : State) → Lawful lists → Sound lists s → Idle lists s →
-        (c : ℕ) → IsConcentrator lists c → newest lists s c - number lists s c (cleared s (last s c)) ≡ 0 }
+        (c : ℕ) → IsConcentrator lists c → newest_number_of lists s c - number lists s c (cleared_cut s (last_index s c)) ≡ 0 }
 {}
 
 /// A complete journal ends idle, with every change made.
@@ -83,9 +83,9 @@ pub fn complete_journals_end_quiet()
 /// to no more; there are at most as many clearings as changes, each passed to a node at most once.
 #[tactic(auto, using(crate::proofs::Bound::bound_laws))]
 pub fn journals_are_bounded()
-    ensures rises { (lists : Lists) (s : State) (m : Move) → Lawful lists → Legal lists s m → counted lists s < counted lists (step lists s m) }
-    ensures within { (lists : Lists) (s : State) → Lawful lists → Sound lists s → counted lists s ≤ bound lists }
-    ensures newest { (lists : Lists) (s : State) (x : ℕ) → Lawful lists → Sound lists s → IsNode lists x → newest lists s x ≤ change_total lists }
+    ensures rises { (lists : Lists) (s : State) (m : Move) → Lawful lists → Legal lists s m → potential lists s < potential lists (step lists s m) }
+    ensures within { (lists : Lists) (s : State) → Lawful lists → Sound lists s → potential lists s ≤ bound lists }
+    ensures newest { (lists : Lists) (s : State) (x : ℕ) → Lawful lists → Sound lists s → IsNode lists x → newest_number_of lists s x ≤ change_total lists }
     ensures moves { (lists : Lists) (journal : List Move) → Lawful lists → LegalJournal lists journal → length journal ≤ bound lists }
 {}
 
@@ -117,28 +117,28 @@ pub fn some_move_is_legal()
 pub fn numbers_stand_for_cuts()
     // What a node knows contains of each child the number that was learnt of it.
     ensures known { (lists : Lists) (s : State) → Lawful lists → Sound lists s → (x : ℕ) → IsNode lists x →
-        number lists s x (known lists s (parent lists x)) ≡ s.learnt x }
+        number lists s x (knowledge lists s (parent lists x)) ≡ s.learnt x }
     // It is what the node published or cleared last exactly where that contains of each child the number learnt.
     ensures heads { (lists : Lists) (s : State) → Lawful lists → Sound lists s → (c : ℕ) → IsInner lists c →
-        (is_same_on lists c (known lists s c) (cut_at (s.published c) (length (s.published c))) ≡ true)
+        (is_same_on lists c (knowledge lists s c) (cut_at (s.published c) (length (s.published c))) ≡ true)
         ↔ ((x : ℕ) → IsNode lists x → parent lists x ≡ c → number lists s x (cut_at (s.published c) (length (s.published c))) ≡ s.learnt x) }
     // A clearing contains of a child of c the number that c published under the number that the clearing contains of c.
     ensures down { (lists : Lists) (s : State) → Lawful lists → Sound lists s → (x j : ℕ) → IsNode lists x →
         IsNode lists (parent lists x) → j ≤ clearings s →
-        number lists s x (cleared s j) ≡ number lists s x (cut_at (s.published (parent lists x)) (number lists s (parent lists x) (cleared s j))) }
+        number lists s x (cleared_cut s j) ≡ number lists s x (cut_at (s.published (parent lists x)) (number lists s (parent lists x) (cleared_cut s j))) }
     // Of two clearings the later contains no smaller number of a node.
     ensures rises { (lists : Lists) (s : State) → Lawful lists → Sound lists s → (x i j : ℕ) → IsNode lists x → i ≤ j → j ≤ clearings s →
-        number lists s x (cleared s i) ≤ number lists s x (cleared s j) }
+        number lists s x (cleared_cut s i) ≤ number lists s x (cleared_cut s j) }
     // It addresses a concentrator exactly where it contains a number of it above 0.
     ensures addressed { (lists : Lists) (s : State) → Lawful lists → Sound lists s → (c j : ℕ) → IsConcentrator lists c → j ≤ clearings s →
-        (addresses lists s j c ≡ true) ↔ (1 ≤ number lists s c (cleared s j)) }
+        (addresses lists s j c ≡ true) ↔ (1 ≤ number lists s c (cleared_cut s j)) }
 {}
 
 /// A device that holds a price is a member at the number that the price names; in an idle state every member holds one.
 #[tactic(auto, using(crate::proofs::Held::quiet_holds, crate::proofs::Held::holder_included))]
 pub fn holders_are_members()
     ensures included { (lists : Lists) (s : State) → Sound lists s → (d : ℕ) → IsLeaf lists d → holds_price lists s d ≡ true →
-        is_member lists d (cleared s (last s d) d) ≡ true }
+        is_member lists d (cleared_cut s (last_index s d) d) ≡ true }
     ensures quiet { (lists : Lists) (s : State) → Lawful lists → Sound lists s → Idle lists s → (d : ℕ) → IsLeaf lists d →
         is_member lists d (s.counts d) ≡ true → holds_price lists s d ≡ true }
 {}

@@ -1,6 +1,6 @@
 ghost use Rattle.std.specs.Prelude.{◌≡◌, ◌≢◌, ℕ, ◌+◌, ◌≤◌, ◌↔◌, ◌⊎◌, true, length};
 ghost use Rattle.pm_market.specs.Lists.{Lists, parent, IsNode, IsInner, IsConcentrator, IsLeafOf, Lawful};
-ghost use Rattle.pm_market.specs.State.{State, SameOn, DifferOn, cut_at, part, known, clearings, addresses, addresses_of};
+ghost use Rattle.pm_market.specs.State.{State, SameOn, DifferOn, cut_at, part, knowledge, clearings, addresses, addresses_of};
 ghost use Rattle.pm_market.specs.Moves.{Legal, step};
 ghost use Rattle.pm_market.specs.Sound.{Sound};
 ghost use Rattle.pm_laws.specs.Added.{HasAdded};
@@ -21,13 +21,13 @@ pub fn what_is_known_is_added()
 #[tactic(auto, using(crate::proofs::MoveLaws::learning_laws))]
 pub fn one_part_is_learnt()
     ensures here { (lists : Lists) (s : State) (x n d : ℕ) → Lawful lists → IsNode lists x → IsLeafOf lists x d →
-        known lists (step lists s (Move.Learn x n)) (parent lists x) d ≡ part lists s x n d }
+        knowledge lists (step lists s (Move.Learn x n)) (parent lists x) d ≡ part lists s x n d }
     ensures beside { (lists : Lists) (s : State) (x z n d : ℕ) → Lawful lists → IsNode lists z → z ≢ x → IsLeafOf lists z d →
-        known lists (step lists s (Move.Learn x n)) (parent lists z) d ≡ known lists s (parent lists z) d }
+        knowledge lists (step lists s (Move.Learn x n)) (parent lists z) d ≡ knowledge lists s (parent lists z) d }
     ensures elsewhere { (lists : Lists) (s : State) (x n y : ℕ) → Lawful lists → IsInner lists y → parent lists x ≢ y →
-        SameOn lists y (known lists s y) (known lists (step lists s (Move.Learn x n)) y) }
+        SameOn lists y (knowledge lists s y) (knowledge lists (step lists s (Move.Learn x n)) y) }
     ensures differs { (lists : Lists) (s : State) (x n : ℕ) → Lawful lists → Sound lists s → Legal lists s (Move.Learn x n) →
-        DifferOn lists (parent lists x) (known lists (step lists s (Move.Learn x n)) (parent lists x))
+        DifferOn lists (parent lists x) (knowledge lists (step lists s (Move.Learn x n)) (parent lists x))
         (cut_at (s.published (parent lists x)) (length (s.published (parent lists x)))) }
 {}
 
@@ -40,7 +40,7 @@ pub fn clearings_fall_due()
         is_due lists (step lists s (Move.Publish c n)) x j ≡ is_due lists s x j }
     ensures cleared { (lists : Lists) (s : State) (k x j : ℕ) → Lawful lists → Sound lists s → Legal lists s (Move.Clear k) →
         (is_due lists (step lists s (Move.Clear k)) x j ≡ true)
-        ↔ ((is_due lists s x j ≡ true) ⊎ ((parent lists x ≡ 0) × (j ≡ clearings s + 1) × (addresses_of lists (known lists s 0) x ≡ true))) }
+        ↔ ((is_due lists s x j ≡ true) ⊎ ((parent lists x ≡ 0) × (j ≡ clearings s + 1) × (addresses_of lists (knowledge lists s 0) x ≡ true))) }
     ensures passed { (lists : Lists) (s : State) (y i x j : ℕ) →
         (is_due lists (step lists s (Move.Pass y i)) x j ≡ true)
         ↔ ((is_due lists s x j ≡ true) ⊎ ((parent lists x ≡ y) × (j ≡ i) × (addresses lists s j x ≡ true))) }

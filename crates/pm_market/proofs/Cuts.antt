@@ -5,19 +5,19 @@ use Rattle.std.proofs.lemmas.Bool.{cases_eq, cases_Bool, eqb-true, eq-eqb, ne_eq
 use Rattle.std.proofs.lemmas.Bool.{false_from_ne_true}
 use Rattle.std.proofs.lemmas.List.{get_or_append_left, get_or_push, length_push}
 use Rattle.pm_market.specs.Lists.{Lists, nodes, parent, is_leaf, IsLeaf, IsInner, IsLeafOf, is_leaf_of, Lawful}
-use Rattle.pm_market.specs.State.{updated, all_to, is_same_on, SameOn, AtMostOn, RisesOn, cut_at, newest_of, part_of, known_of, greatest_number, number_of}
+use Rattle.pm_market.specs.State.{update, all_to, is_same_on, SameOn, AtMostOn, RisesOn, cut_at, newest_of, part_of, knowledge_of, greatest_number, number_of}
 use Rattle.pm_market.specs.State.{no_changes}
 use Rattle.pm_base.specs.Cuts.{Cut}
 use Rattle.pm_market.proofs.Tree.{leaf_node, leaf_of_parts, child_at_or_above_is}
 
 -- an updated function has the new value at the number that was updated
-pub updated_same : {A : Type 0} → (f : ℕ → A) (x : ℕ) (v : A) → updated f x v x ≡ v
-unfolding updated
+pub updated_same : {A : Type 0} → (f : ℕ → A) (x : ℕ) (v : A) → update f x v x ≡ v
+unfolding update
 updated_same f x v = cond-true (eqb x x) v (f x) (eq-eqb x x refl)
 
 -- an updated function has its old value at every other number
-pub updated_other : {A : Type 0} → (f : ℕ → A) (x : ℕ) (v : A) (y : ℕ) → (y ≡ x → ⊥) → updated f x v y ≡ f y
-unfolding updated
+pub updated_other : {A : Type 0} → (f : ℕ → A) (x : ℕ) (v : A) (y : ℕ) → (y ≡ x → ⊥) → update f x v y ≡ f y
+unfolding update
 updated_other f x v y n = cond-false (eqb y x) v (f y) (ne_eqb y x n)
 
 -- where all numbers from 1 to n pass a test together, each of them passes it
@@ -105,7 +105,7 @@ cut_at_new cuts cut i h = get_or_push (no_changes ∷ cuts) cut no_changes i (om
 
 -- c's list has one more
 abbrev pub pushed : {A : Type 0} → (ℕ → List A) → ℕ → A → ℕ → List A
-pushed p c cut = updated p c (p c ++ cut ∷ [])
+pushed p c cut = update p c (p c ++ cut ∷ [])
 
 -- with one more item at c, the list of c has it at its end
 pub pushed_same : {A : Type 0} → (p : ℕ → List A) (c : ℕ) (cut : A) → pushed p c cut c ≡ p c ++ cut ∷ []
@@ -180,8 +180,8 @@ part_kept lists p c cut x i h = ap (λ (a : Cut). cond (is_leaf lists x) (λ (k 
 
 -- of a leaf of x the parent of x knows the part of the number that it learnt from x
 pub known_at : (lists : Lists) → Lawful lists → (p : ℕ → List Cut) (l : ℕ → ℕ) (x d : ℕ) → 1 ≤ x → IsLeafOf lists x d →
-    known_of lists p l (parent lists x) d ≡ part_of lists p x (l x) d
-unfolding known_of
+    knowledge_of lists p l (parent lists x) d ≡ part_of lists p x (l x) d
+unfolding knowledge_of
 known_at lists law p l x d one leaf = ap (λ (y : ℕ). part_of lists p y (l y) d) (child_at_or_above_is lists law x d one leaf)
 
 -- the greatest_number number with a cut

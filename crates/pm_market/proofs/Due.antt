@@ -5,7 +5,7 @@ use Rattle.std.proofs.lemmas.Bool.{cases_eq, cases_lt, cases_Bool, cond-true, co
 use Rattle.std.proofs.lemmas.Bool.{or_left, or_right, leb-true, le-leb, not-true, not_from_false, both_ways, false_from_ne_true}
 use Rattle.pm_base.specs.Cuts.{Cut}
 use Rattle.pm_market.specs.Lists.{Lists, nodes, parent, IsNode}
-use Rattle.pm_market.specs.State.{State, updated, all_to, cut_at, last, clearings, cleared, addresses, addresses_of}
+use Rattle.pm_market.specs.State.{State, update, all_to, cut_at, last_index, clearings, cleared_cut, addresses, addresses_of}
 use Rattle.pm_market.specs.Legality.{is_one_of, is_node, has_reached, pass_is_legal}
 use Rattle.pm_market.specs.Due.{KnowsDue, AreParents, due_after}
 use Rattle.pm_market.proofs.Cuts.{pushed_same, pushed_other, pushed_cut_at_kept, pushed_length_same, cut_at_new, all_to_at, all_to_from}
@@ -102,7 +102,7 @@ reached_made lists s due knows y j h =
 -- the auctioneer clears
 module _ (lists : Lists) (s : State) (due : ℕ → ℕ) (cut : Cut) (knows : KnowsDue lists s due) where
   abbrev cleared_next : State
-  cleared_next = record s { published = updated s.published 0 (s.published 0 ++ cut ∷ []) }
+  cleared_next = record s { published = update s.published 0 (s.published 0 ++ cut ∷ []) }
 
   abbrev next_index : ℕ
   next_index = clearings s + 1
@@ -145,7 +145,7 @@ module _ (lists : Lists) (s : State) (due : ℕ → ℕ) (cut : Cut) (knows : Kn
       ]
 
   -- once the auctioneer clears a cut, what is due is what `due_after` says for the next index at node 0
-  pub knows_cleared : KnowsDue lists (record s { published = updated s.published 0 (s.published 0 ++ cut ∷ []) })
+  pub knows_cleared : KnowsDue lists (record s { published = update s.published 0 (s.published 0 ++ cut ∷ []) })
       (due_after lists due 0 (clearings s + 1) cut)
   knows_cleared = record {
     passed_made = λ x j among. omega (arith, knows.passed_made x j among, one_more);
@@ -168,7 +168,7 @@ module _ (lists : Lists) (s : State) (due : ℕ → ℕ) (cut : Cut) (knows : Kn
 -- a clearing is passed to a node
 module _ (lists : Lists) (s : State) (due : ℕ → ℕ) (y i : ℕ) (made : i ≤ clearings s) (knows : KnowsDue lists s due) where
   abbrev passed_next : State
-  passed_next = record s { passed = updated s.passed y (s.passed y ++ i ∷ []) }
+  passed_next = record s { passed = update s.passed y (s.passed y ++ i ∷ []) }
 
   one_of_cases : (z j : ℕ) → is_one_of (passed_next.passed z) j ≡ true → (is_one_of (s.passed z) j ≡ true) ⊎ ((z ≡ y) × (j ≡ i))
   one_of_cases z j h =
@@ -219,28 +219,28 @@ module _ (lists : Lists) (s : State) (due : ℕ → ℕ) (y i : ℕ) (made : i �
       ]
 
   -- once a clearing that was made is passed to y, what is due is what `due_after` says for it at y
-  pub knows_passed : KnowsDue lists (record s { passed = updated s.passed y (s.passed y ++ i ∷ []) }) (due_after lists due y i (cleared s i))
+  pub knows_passed : KnowsDue lists (record s { passed = update s.passed y (s.passed y ++ i ∷ []) }) (due_after lists due y i (cleared_cut s i))
   knows_passed = record {
     passed_made = made_next;
-    reached = λ x node one. elim (after_cases lists due y i (cleared s i) x) [
-      | inl new ↦ reach_here (parent lists x) (due_after lists due y i (cleared s i) x) new.1 new.0
+    reached = λ x node one. elim (after_cases lists due y i (cleared_cut s i) x) [
+      | inl new ↦ reach_here (parent lists x) (due_after lists due y i (cleared_cut s i) x) new.1 new.0
       | inr old ↦ subst (λ (j : ℕ). has_reached passed_next (parent lists x) j ≡ true) (sym old)
           (reach_still (parent lists x) (due x) (knows.reached x node (omega (arith, one, old))))
     ];
-    addressed = λ x node one. elim (after_cases lists due y i (cleared s i) x) [
+    addressed = λ x node one. elim (after_cases lists due y i (cleared_cut s i) x) [
       | inl new ↦ subst (λ (j : ℕ). addresses lists s j x ≡ true) (sym new.0) new.2
       | inr old ↦ subst (λ (j : ℕ). addresses lists s j x ≡ true) (sym old) (knows.addressed x node (omega (arith, one, old)))
     ];
     greatest = λ x j node reached addressed. elim (reach_cases (parent lists x) j reached) [
-      | inl old ↦ omega (arith, knows.greatest x j node old addressed, after_le lists due y i (cleared s i) x)
+      | inl old ↦ omega (arith, knows.greatest x j node old addressed, after_le lists due y i (cleared_cut s i) x)
       | inr new ↦
-          omega (arith, new.1, after_at lists due y i (cleared s i) x new.0 (sym (ap (λ (k : ℕ). addresses lists s k x) new.1) ∙ addressed))
+          omega (arith, new.1, after_at lists due y i (cleared_cut s i) x new.0 (sym (ap (λ (k : ℕ). addresses lists s k x) new.1) ∙ addressed))
     ];
   }
 
   -- nothing is due by a pass to a node without children
   pub knows_passed_last : ((x : ℕ) → IsNode lists x → parent lists x ≢ y) →
-      KnowsDue lists (record s { passed = updated s.passed y (s.passed y ++ i ∷ []) }) due
+      KnowsDue lists (record s { passed = update s.passed y (s.passed y ++ i ∷ []) }) due
   knows_passed_last childless = record {
     passed_made = made_next;
     reached = λ x node one. reach_still (parent lists x) (due x) (knows.reached x node one);
@@ -252,7 +252,7 @@ module _ (lists : Lists) (s : State) (due : ℕ → ℕ) (y i : ℕ) (made : i �
   }
 
 -- where nothing later than the last price is due, no pass is legal
-pub none_passes : (lists : Lists) (s : State) (due : ℕ → ℕ) → KnowsDue lists s due → (x j : ℕ) → due x ≤ last s x →
+pub none_passes : (lists : Lists) (s : State) (due : ℕ → ℕ) → KnowsDue lists s due → (x j : ℕ) → due x ≤ last_index s x →
     pass_is_legal lists s x j ≡ false
 none_passes lists s due knows x j old =
     false_from_ne_true (pass_is_legal lists s x j) (λ e.
@@ -260,7 +260,7 @@ none_passes lists s due knows x j old =
     absurd (omega (arith, old, legal.2, knows.greatest x j legal.0 (reached_at s (parent lists x) j legal.1) legal.3)))
 
 -- what is due and later than the last price may be passed
-pub due_passes : (lists : Lists) (s : State) (due : ℕ → ℕ) → KnowsDue lists s due → (x : ℕ) → IsNode lists x → last s x < due x →
+pub due_passes : (lists : Lists) (s : State) (due : ℕ → ℕ) → KnowsDue lists s due → (x : ℕ) → IsNode lists x → last_index s x < due x →
     (due x ≤ clearings s) × (pass_is_legal lists s x (due x) ≡ true)
 due_passes lists s due knows x node later =
     let some : 1 ≤ due x = omega (arith, later) in
@@ -278,13 +278,13 @@ no_pass_outside lists s x none =
 
 -- whether no pass to a node is legal
 pub no_pass_is : (lists : Lists) (s : State) (due : ℕ → ℕ) → KnowsDue lists s due → (x : ℕ) → is_node lists x ≡ true →
-    leb (due x) (last s x) ≡ all_to (clearings s) (λ j. not (pass_is_legal lists s x j))
+    leb (due x) (last_index s x) ≡ all_to (clearings s) (λ j. not (pass_is_legal lists s x j))
 no_pass_is lists s due knows x node =
     let none : ℕ → Bool = λ j. not (pass_is_legal lists s x j) in
-    same_tests (leb (due x) (last s x)) (all_to (clearings s) none)
-    (λ e. all_to_from (clearings s) none (λ j one le. ap not (none_passes lists s due knows x j (leb-true (due x) (last s x) e))))
-    (λ e. elim (cases_lt (last s x) (due x)) [
-      | inr old ↦ le-leb (due x) (last s x) old
+    same_tests (leb (due x) (last_index s x)) (all_to (clearings s) none)
+    (λ e. all_to_from (clearings s) none (λ j one le. ap not (none_passes lists s due knows x j (leb-true (due x) (last_index s x) e))))
+    (λ e. elim (cases_lt (last_index s x) (due x)) [
+      | inr old ↦ le-leb (due x) (last_index s x) old
       | inl later ↦
           let legal = due_passes lists s due knows x (is_node_from lists x node) later in
           absurd (both_ways (pass_is_legal lists s x (due x)) (not-true _ (all_to_at (clearings s) none e (due x) (omega (arith, later)) legal.0)) legal.1)

@@ -6,7 +6,7 @@ use Rattle.std.proofs.lemmas.Bool.{cases_lt, eqb-true, eq-eqb, ltb-true, leb-tru
 use Rattle.std.proofs.lemmas.Bool.{not_from_false, both_ways}
 use Rattle.pm_base.specs.Limits.{window_size}
 use Rattle.pm_market.specs.Lists.{Lists, nodes, phases, parent, is_leaf, IsNode, end_count}
-use Rattle.pm_market.specs.State.{State, all_to, is_same_on, known, newest, part, number, last, clearings, cleared, addresses}
+use Rattle.pm_market.specs.State.{State, all_to, is_same_on, knowledge, newest_number_of, part, number, last_index, clearings, cleared_cut, addresses}
 use Rattle.pm_market.specs.Moves.{Reached, NodeLegal}
 use Rattle.pm_market.specs.Legality.{is_one_of, is_node, has_reached, learn_is_legal, publish_is_legal, clear_is_legal, pass_is_legal, is_idle_at, is_idle}
 use Rattle.pm_market.specs.Legality.{change_is_legal, is_legal}
@@ -62,31 +62,31 @@ reached_at s y j (inr c) = or_right _ _ (is_one_of_at (s.passed y) j c.0 c.1 c.2
 pub learn_from : (lists : Lists) (s : State) (x n : ℕ) → learn_is_legal lists s x n ≡ true → NodeLegal lists s (Learn x n)
 unfolding learn_is_legal
 learn_from lists s x n h =
-    let p = and_parts (is_node lists x && ltb (s.learnt x) n) (leb n (newest lists s x)) h in
+    let p = and_parts (is_node lists x && ltb (s.learnt x) n) (leb n (newest_number_of lists s x)) h in
     let q = and_parts (is_node lists x) (ltb (s.learnt x) n) p.0 in
-    (is_node_from lists x q.0, ltb-true (s.learnt x) n q.1, leb-true n (newest lists s x) p.1)
+    (is_node_from lists x q.0, ltb-true (s.learnt x) n q.1, leb-true n (newest_number_of lists s x) p.1)
 
 -- a legal Learn passes its test
 pub learn_at : (lists : Lists) (s : State) (x n : ℕ) → NodeLegal lists s (Learn x n) → learn_is_legal lists s x n ≡ true
 unfolding learn_is_legal
-learn_at lists s x n h = and_from _ _ (and_from _ _ (is_node_at lists x h.0) (lt-ltb (s.learnt x) n h.1)) (le-leb n (newest lists s x) h.2)
+learn_at lists s x n h = and_from _ _ (and_from _ _ (is_node_at lists x h.0) (lt-ltb (s.learnt x) n h.1)) (le-leb n (newest_number_of lists s x) h.2)
 
 -- a Publish that passes its test is legal
 pub publish_from : (lists : Lists) (s : State) (c n : ℕ) → publish_is_legal lists s c n ≡ true → NodeLegal lists s (Publish c n)
 unfolding publish_is_legal
 publish_from lists s c n h =
-    let a = and_parts (is_node lists c && not (is_leaf lists c) && not (is_same_on lists c (known lists s c) (part lists s c (newest lists s c))) && ltb
-    (newest lists s c - number lists s c (cleared s (last s c))) window_size) (eqb n (newest lists s c + 1)) h in
-    let b = and_parts (is_node lists c && not (is_leaf lists c) && not (is_same_on lists c (known lists s c) (part lists s c (newest lists s c))))
-    (ltb (newest lists s c - number lists s c (cleared s (last s c))) window_size) a.0 in
-    let d = and_parts (is_node lists c && not (is_leaf lists c)) (not (is_same_on lists c (known lists s c) (part lists s c (newest lists s c)))) b.0 in
+    let a = and_parts (is_node lists c && not (is_leaf lists c) && not (is_same_on lists c (knowledge lists s c) (part lists s c (newest_number_of lists s c))) && ltb
+    (newest_number_of lists s c - number lists s c (cleared_cut s (last_index s c))) window_size) (eqb n (newest_number_of lists s c + 1)) h in
+    let b = and_parts (is_node lists c && not (is_leaf lists c) && not (is_same_on lists c (knowledge lists s c) (part lists s c (newest_number_of lists s c))))
+    (ltb (newest_number_of lists s c - number lists s c (cleared_cut s (last_index s c))) window_size) a.0 in
+    let d = and_parts (is_node lists c && not (is_leaf lists c)) (not (is_same_on lists c (knowledge lists s c) (part lists s c (newest_number_of lists s c)))) b.0 in
     let e = and_parts (is_node lists c) (not (is_leaf lists c)) d.0 in
     let node = is_node_from lists c e.0 in (
       (node.0, node.1, not-true (is_leaf lists c) e.1),
-      not-true (is_same_on lists c (known lists s c) (part lists s c (newest lists s c))) d.1,
+      not-true (is_same_on lists c (knowledge lists s c) (part lists s c (newest_number_of lists s c))) d.1,
       ltb-true
-          (newest lists s c - number lists s c (cleared s (last s c))) window_size b.1,
-      eqb-true n (newest lists s c + 1) a.1,
+          (newest_number_of lists s c - number lists s c (cleared_cut s (last_index s c))) window_size b.1,
+      eqb-true n (newest_number_of lists s c + 1) a.1,
     )
 
 -- a legal Publish passes its test
@@ -94,34 +94,34 @@ pub publish_at : (lists : Lists) (s : State) (c n : ℕ) → NodeLegal lists s (
 unfolding publish_is_legal
 publish_at lists s c n h =
     and_from _ _ (and_from _ _ (and_from _ _ (and_from _ _ (is_node_at lists c (h.0.0, h.0.1)) (not_from_false (is_leaf lists c) h.0.2))
-    (not_from_false (is_same_on lists c (known lists s c) (part lists s c (newest lists s c))) h.1))
-    (lt-ltb (newest lists s c - number lists s c (cleared s (last s c))) window_size h.2)) (eq-eqb n (newest lists s c + 1) h.3)
+    (not_from_false (is_same_on lists c (knowledge lists s c) (part lists s c (newest_number_of lists s c))) h.1))
+    (lt-ltb (newest_number_of lists s c - number lists s c (cleared_cut s (last_index s c))) window_size h.2)) (eq-eqb n (newest_number_of lists s c + 1) h.3)
 
 -- a Clear that passes its test is legal
 pub clear_from : (lists : Lists) (s : State) (j : ℕ) → clear_is_legal lists s j ≡ true → NodeLegal lists s (Clear j)
 unfolding clear_is_legal
 clear_from lists s j h =
-    let p = and_parts (not (is_same_on lists 0 (known lists s 0) (cleared s (clearings s)))) (eqb j (clearings s + 1)) h in
-    (not-true (is_same_on lists 0 (known lists s 0) (cleared s (clearings s))) p.0, eqb-true j (clearings s + 1) p.1)
+    let p = and_parts (not (is_same_on lists 0 (knowledge lists s 0) (cleared_cut s (clearings s)))) (eqb j (clearings s + 1)) h in
+    (not-true (is_same_on lists 0 (knowledge lists s 0) (cleared_cut s (clearings s))) p.0, eqb-true j (clearings s + 1) p.1)
 
 -- a legal Clear passes its test
 pub clear_at : (lists : Lists) (s : State) (j : ℕ) → NodeLegal lists s (Clear j) → clear_is_legal lists s j ≡ true
 unfolding clear_is_legal
-clear_at lists s j h = and_from _ _ (not_from_false (is_same_on lists 0 (known lists s 0) (cleared s (clearings s))) h.0) (eq-eqb j (clearings s + 1) h.1)
+clear_at lists s j h = and_from _ _ (not_from_false (is_same_on lists 0 (knowledge lists s 0) (cleared_cut s (clearings s))) h.0) (eq-eqb j (clearings s + 1) h.1)
 
 -- a Pass that passes its test is legal
 pub pass_from : (lists : Lists) (s : State) (x j : ℕ) → pass_is_legal lists s x j ≡ true → NodeLegal lists s (Pass x j)
 unfolding pass_is_legal
 pass_from lists s x j h =
-    let a = and_parts (is_node lists x && has_reached s (parent lists x) j && ltb (last s x) j) (addresses lists s j x) h in
-    let b = and_parts (is_node lists x && has_reached s (parent lists x) j) (ltb (last s x) j) a.0 in
+    let a = and_parts (is_node lists x && has_reached s (parent lists x) j && ltb (last_index s x) j) (addresses lists s j x) h in
+    let b = and_parts (is_node lists x && has_reached s (parent lists x) j) (ltb (last_index s x) j) a.0 in
     let d = and_parts (is_node lists x) (has_reached s (parent lists x) j) b.0 in
-    (is_node_from lists x d.0, reached_from s (parent lists x) j d.1, ltb-true (last s x) j b.1, a.1)
+    (is_node_from lists x d.0, reached_from s (parent lists x) j d.1, ltb-true (last_index s x) j b.1, a.1)
 
 -- a legal Pass passes its test
 pub pass_at : (lists : Lists) (s : State) (x j : ℕ) → NodeLegal lists s (Pass x j) → pass_is_legal lists s x j ≡ true
 unfolding pass_is_legal
-pass_at lists s x j h = and_from _ _ (and_from _ _ (and_from _ _ (is_node_at lists x h.0) (reached_at s (parent lists x) j h.1)) (lt-ltb (last s x) j h.2)) h.3
+pass_at lists s x j h = and_from _ _ (and_from _ _ (and_from _ _ (is_node_at lists x h.0) (reached_at s (parent lists x) j h.1)) (lt-ltb (last_index s x) j h.2)) h.3
 
 -- in a state that passes the test of idleness each node passes its own, and the next Clear fails its test
 pub idle_parts : (lists : Lists) (s : State) → is_idle lists s ≡ true → ((x : ℕ) → IsNode lists x → is_idle_at lists s x ≡ true)
@@ -135,15 +135,15 @@ idle_parts lists s h =
 
 -- at a node that tests idle the Learn of its newest, its next Publish and each clearing's Pass fail their tests
 pub at_parts : (lists : Lists) (s : State) (x : ℕ) → is_idle_at lists s x ≡ true →
-    (learn_is_legal lists s x (newest lists s x) ≡ false) × (publish_is_legal lists s x (newest lists s x + 1) ≡ false)
+    (learn_is_legal lists s x (newest_number_of lists s x) ≡ false) × (publish_is_legal lists s x (newest_number_of lists s x + 1) ≡ false)
     × ((j : ℕ) → 1 ≤ j → j ≤ clearings s → pass_is_legal lists s x j ≡ false)
 unfolding is_idle_at
 at_parts lists s x h =
-    let a = and_parts (not (learn_is_legal lists s x (newest lists s x)) && not (publish_is_legal lists s x (newest lists s x + 1)))
+    let a = and_parts (not (learn_is_legal lists s x (newest_number_of lists s x)) && not (publish_is_legal lists s x (newest_number_of lists s x + 1)))
     (all_to (clearings s) (λ j. not (pass_is_legal lists s x j))) h in
-    let b = and_parts (not (learn_is_legal lists s x (newest lists s x))) (not (publish_is_legal lists s x (newest lists s x + 1))) a.0 in (
-      not-true (learn_is_legal lists s x (newest lists s x)) b.0,
-      not-true (publish_is_legal lists s x (newest lists s x + 1)) b.1,
+    let b = and_parts (not (learn_is_legal lists s x (newest_number_of lists s x))) (not (publish_is_legal lists s x (newest_number_of lists s x + 1))) a.0 in (
+      not-true (learn_is_legal lists s x (newest_number_of lists s x)) b.0,
+      not-true (publish_is_legal lists s x (newest_number_of lists s x + 1)) b.1,
       λ j one le. not-true (pass_is_legal lists s x j) (all_to_at (clearings s) (λ j. not (pass_is_legal lists s x j)) a.1 j one le),
     )
 

@@ -4,7 +4,7 @@ use Rattle.std.proofs.Common.{inr, List, [], ◌∷◌, map, length, get_or, ref
 use Rattle.std.proofs.lemmas.Bool.{cases_eq, cases_Bool, cond-true, cond-false, and_from, both_ways, false_from_ne_true, eq-eqb, ne_eqb}
 use Rattle.std.proofs.Math.ListN.{get_or-map}
 use Rattle.pm_market.specs.Lists.{Lists, parent, is_leaf, is_leaf_of, is_member, is_below, is_below_in, IsInner}
-use Rattle.pm_market.specs.State.{State, all_to, cut_at, part, part_of, known_of, newest, is_same_on, greatest_number}
+use Rattle.pm_market.specs.State.{State, all_to, cut_at, part, part_of, knowledge_of, newest_number_of, is_same_on, greatest_number}
 use Rattle.pm_base.specs.Cuts.{Cut, cut_of}
 use Rattle.pm_market.specs.Held.{last_join}
 use Rattle.pm_market.proofs.Tree.{parent_zero, toward, toward_all, toward-none, toward-suc}
@@ -126,8 +126,8 @@ same_tests a b h k =
 
 -- what a concentrator published last
 pub newest_part : (lists : Lists) (s : State) (c : ℕ) → IsInner lists c →
-    part lists s c (newest lists s c) ≡ cut_at (s.published c) (length (s.published c))
-newest_part lists s c inner = part_inner lists s.published c (newest lists s c) inner
+    part lists s c (newest_number_of lists s c) ≡ cut_at (s.published c) (length (s.published c))
+newest_part lists s c inner = part_inner lists s.published c (newest_number_of lists s c) inner
     ∙ ap (cut_at (s.published c)) (newest_inner lists s.counts s.published c inner)
 
 -- a node without a parent below the auctioneer leads nowhere else
@@ -147,8 +147,8 @@ cut_at_none (suc i) d = refl
 
 -- past the last node nothing is known
 pub known_past : (lists : Lists) (published : ℕ → List Cut) (learnt : ℕ → ℕ) (y d : ℕ) → parent lists d ≡ 0 →
-    is_leaf lists d ≡ false → published d ≡ [] → learnt 0 ≡ 0 → known_of lists published learnt y d ≡ 0
-unfolding known_of
+    is_leaf lists d ≡ false → published d ≡ [] → learnt 0 ≡ 0 → knowledge_of lists published learnt y d ≡ 0
+unfolding knowledge_of
 known_past lists published learnt y d top inner empty none =
     elim (toward_past lists d y d top) [
       | inl e ↦ ap (λ (x : ℕ). part_of lists published x (learnt x) d) (sym (toward_all lists y d) ∙ e) ∙

@@ -6,7 +6,7 @@ use Rattle.std.proofs.Common.{get_or-set_same, get_or-set_other, Vec, Global, ma
 use Rattle.std.proofs.lemmas.List.{with_items_is, length-map, length-replicate, map-append, replicate-append-replicate}
 use Rattle.std.specs.Vec.{with_items}
 use Rattle.std.proofs.Math.Path.{fun_ext}
-use Rattle.pm_market.specs.State.{State, updated}
+use Rattle.pm_market.specs.State.{State, update}
 use Rattle.pm_base.specs.Cuts.{Cut, cut_of}
 use Rattle.pm_base.proofs.Lists.{get_or-replicate_same}
 use Rattle.pm_market.proofs.Cuts.{updated_same, updated_other}
@@ -40,10 +40,10 @@ on_success (Ok x) P Q f p = f p
 on_success (Err e) P Q f p = tt
 
 -- a number is written
-pub number_set : (xs : List ℕ) (at v : ℕ) → at < length xs → (λ (k : ℕ). get_or (set xs at v) k 0) ≡ updated (λ (k : ℕ). get_or xs k 0) at v
+pub number_set : (xs : List ℕ) (at v : ℕ) → at < length xs → (λ (k : ℕ). get_or (set xs at v) k 0) ≡ update (λ (k : ℕ). get_or xs k 0) at v
 number_set xs at v lt = fun_ext (λ (k : ℕ). elim (cases_eq k at) [
   | inl e ↦ ap (λ (j : ℕ). get_or (set xs at v) j 0) e ∙ get_or-set_same xs at v 0 lt
-      ∙ sym (ap (updated (λ (j : ℕ). get_or xs j 0) at v) e ∙ updated_same (λ (j : ℕ). get_or xs j 0) at v)
+      ∙ sym (ap (update (λ (j : ℕ). get_or xs j 0) at v) e ∙ updated_same (λ (j : ℕ). get_or xs j 0) at v)
   | inr ne ↦ get_or-set_other xs at k v 0 ne ∙ sym (updated_other (λ (j : ℕ). get_or xs j 0) at v k ne)
 ])
 
@@ -71,13 +71,13 @@ empty_long {X} table n empty =
 -- an item joins a row; h is what the rows stand for
 row_pushed : {X Y : Type 0} (h : List X → List Y) (old new : List (List X)) (at : ℕ) (item : X) (y : Y) →
     new ≡ set old at (get_or old at [] ++ item ∷ []) → at < length old → ((rows : List X) → h (rows ++ item ∷ []) ≡ h rows ++ y ∷ []) →
-    (λ (k : ℕ). h (get_or new k [])) ≡ updated (λ (k : ℕ). h (get_or old k [])) at (h (get_or old at []) ++ y ∷ [])
+    (λ (k : ℕ). h (get_or new k [])) ≡ update (λ (k : ℕ). h (get_or old k [])) at (h (get_or old at []) ++ y ∷ [])
 row_pushed {X} {Y} h old new at item y e lt more = fun_ext (λ (k : ℕ).
     let f : ℕ → List Y = λ k. h (get_or old k []) in
     let row : List X = get_or old at [] ++ item ∷ [] in
     ap (λ (rows : List (List X)). h (get_or rows k [])) e ∙ elim (cases_eq k at) [
       | inl same ↦ ap (λ (j : ℕ). h (get_or (set old at row) j [])) same ∙ ap h (get_or-set_same old at row [] lt) ∙ more (get_or old at [])
-          ∙ sym (ap (updated f at (h (get_or old at []) ++ y ∷ [])) same ∙ updated_same f at (h (get_or old at []) ++ y ∷ []))
+          ∙ sym (ap (update f at (h (get_or old at []) ++ y ∷ [])) same ∙ updated_same f at (h (get_or old at []) ++ y ∷ []))
       | inr ne ↦ ap h (get_or-set_other old at k row [] ne) ∙ sym (updated_other f at (h (get_or old at []) ++ y ∷ []) k ne)
     ])
 
@@ -87,7 +87,7 @@ row_joined : {X Y : Type 0} (h : List X → List Y) (table : Vec (Vec X Global) 
     map (λ row. row.items) new ≡ set (map (λ row. row.items) lent) at (get_or (map (λ row. row.items) lent) at [] ++ item ∷ []) →
     ((rows : List X) → h (rows ++ item ∷ []) ≡ h rows ++ y ∷ []) →
     (λ (k : ℕ). h (get_or (map (λ row. row.items) (with_items table new).items) k []))
-    ≡ updated (λ (k : ℕ). h (get_or (map (λ row. row.items) table.items) k [])) at (h (get_or (map (λ row. row.items) table.items) at []) ++ y ∷ [])
+    ≡ update (λ (k : ℕ). h (get_or (map (λ row. row.items) table.items) k [])) at (h (get_or (map (λ row. row.items) table.items) at []) ++ y ∷ [])
 row_joined {X} {Y} h table lent new at item y same size within e more =
     let rows : List (Vec X Global) → List (List X) = map (λ (row : Vec X Global). row.items) in
     row_pushed h (rows table.items) (rows (with_items table new).items) at item y
@@ -109,7 +109,7 @@ pub cut_joined : (table : Vec (Vec (Vec ℕ Global) Global) Global) (lent new : 
     map (λ rows. rows.items) new ≡ set (map (λ rows. rows.items) lent) at (get_or (map (λ rows. rows.items) lent) at [] ++ row ∷ []) →
     let cuts : Vec (Vec (Vec ℕ Global) Global) Global → ℕ → List Cut =
     λ t c. map cut_of (map (λ row. row.items) (get_or (map (λ rows. rows.items) t.items) c [])) in
-    cuts (with_items table new) ≡ updated (cuts table) at (cuts table at ++ cut ∷ [])
+    cuts (with_items table new) ≡ update (cuts table) at (cuts table at ++ cut ∷ [])
 cut_joined table lent new at row cut is same size within e =
     row_joined (λ (rows : List (Vec ℕ Global)). map cut_of (map (λ row. row.items) rows)) table lent new at row cut same size within e
     (λ rows. ap (map cut_of) (map-append (λ (row : Vec ℕ Global). row.items) rows (row ∷ []))
@@ -121,6 +121,6 @@ pub index_joined : (table : Vec (Vec ℕ Global) Global) (lent new : List (Vec �
     lent ≡ table.items → length new ≡ table.len → at < length table.items →
     map (λ row. row.items) new ≡ set (map (λ row. row.items) lent) at (get_or (map (λ row. row.items) lent) at [] ++ index ∷ []) →
     let indices : Vec (Vec ℕ Global) Global → ℕ → List ℕ = λ t x. get_or (map (λ row. row.items) t.items) x [] in
-    indices (with_items table new) ≡ updated (indices table) at (indices table at ++ index ∷ [])
+    indices (with_items table new) ≡ update (indices table) at (indices table at ++ index ∷ [])
 index_joined table lent new at index same size within e =
     row_joined (λ (row : List ℕ). row) table lent new at index index same size within e (λ row. refl)

@@ -3,7 +3,7 @@
 use Rattle.std.specs.Prelude.{ℕ, suc, ◌+◌, ◌-◌, Bool, true, false, if◌then◌else◌, ◌==◌, ◌&&◌, ◌||◌, not, nat_lt, nat_le, List, [], ◌∷◌}
 use Rattle.pm_base.specs.Limits.{window_size}
 use Rattle.pm_market.specs.Lists.{Lists, nodes, phases, parent, is_leaf, end_count}
-use Rattle.pm_market.specs.State.{State, all_to, is_same_on, known, newest, part, number, last, clearings, cleared, addresses}
+use Rattle.pm_market.specs.State.{State, all_to, is_same_on, knowledge, newest_number_of, part, number, last_index, clearings, cleared_cut, addresses}
 use Rattle.pm_market.specs.Moves.{step}
 use Rattle.pm_market.specs.declared.moves.Move.{Move}
 use Rattle.pm_market.specs.declared.moves.Move.TheVariants.{Change, Learn, Publish, Clear, Pass, Close}
@@ -22,27 +22,27 @@ abbrev pub has_reached : State → ℕ → ℕ → Bool
 has_reached s y j = ((y == 0) && nat_le 1 j && nat_le j (clearings s)) || is_one_of (s.passed y) j
 
 unfoldable pub learn_is_legal : Lists → State → ℕ → ℕ → Bool
-learn_is_legal lists s x n = is_node lists x && nat_lt (s.learnt x) n && nat_le n (newest lists s x)
+learn_is_legal lists s x n = is_node lists x && nat_lt (s.learnt x) n && nat_le n (newest_number_of lists s x)
 
 unfoldable pub publish_is_legal : Lists → State → ℕ → ℕ → Bool
 publish_is_legal lists s c n =
     is_node lists c && not (is_leaf lists c)
-    && not (is_same_on lists c (known lists s c) (part lists s c (newest lists s c)))
-    && nat_lt (newest lists s c - number lists s c (cleared s (last s c))) window_size
-    && (n == newest lists s c + 1)
+    && not (is_same_on lists c (knowledge lists s c) (part lists s c (newest_number_of lists s c)))
+    && nat_lt (newest_number_of lists s c - number lists s c (cleared_cut s (last_index s c))) window_size
+    && (n == newest_number_of lists s c + 1)
 
 unfoldable pub clear_is_legal : Lists → State → ℕ → Bool
-clear_is_legal lists s j = not (is_same_on lists 0 (known lists s 0) (cleared s (clearings s))) && (j == clearings s + 1)
+clear_is_legal lists s j = not (is_same_on lists 0 (knowledge lists s 0) (cleared_cut s (clearings s))) && (j == clearings s + 1)
 
 unfoldable pub pass_is_legal : Lists → State → ℕ → ℕ → Bool
-pass_is_legal lists s x j = is_node lists x && has_reached s (parent lists x) j && nat_lt (last s x) j && addresses lists s j x
+pass_is_legal lists s x j = is_node lists x && has_reached s (parent lists x) j && nat_lt (last_index s x) j && addresses lists s j x
 
 -- whether no Learn or Publish of this node and no Pass to it is legal; of the numbers of a Learn the newest is legal
 -- where any is
 unfoldable pub is_idle_at : Lists → State → ℕ → Bool
 is_idle_at lists s x =
-    not (learn_is_legal lists s x (newest lists s x))
-    && not (publish_is_legal lists s x (newest lists s x + 1))
+    not (learn_is_legal lists s x (newest_number_of lists s x))
+    && not (publish_is_legal lists s x (newest_number_of lists s x + 1))
     && all_to (clearings s) (λ j. not (pass_is_legal lists s x j))
 
 -- whether no node move is legal

@@ -1,7 +1,7 @@
 -- The lists and the state that a market's tables stand for.
 use Rattle.std.specs.Prelude.{◌≡◌, ℕ, [], ◌∷◌, ◌++◌, map, slice_index_or}
 use Rattle.pm_market.specs.Lists.{Lists}
-use Rattle.pm_market.specs.State.{State, updated, known}
+use Rattle.pm_market.specs.State.{State, update, knowledge}
 use Rattle.pm_base.specs.Cuts.{cut_of}
 use Rattle.pm_market.specs.declared.market.Market.{Market}
 
@@ -30,8 +30,8 @@ market_due m x = slice_index_or m.due.items x 0
 
 -- what a node knows joins the cuts that it published or cleared
 abbrev pub Publishes : Lists → State → State → ℕ → Type 0
-Publishes lists old new node = new ≡ record old { published = updated old.published node (old.published node ++ known lists old node ∷ []) }
+Publishes lists old new node = new ≡ record old { published = update old.published node (old.published node ++ knowledge lists old node ∷ []) }
 
 -- a clearing joins those passed to a node
 abbrev pub Passes : State → State → ℕ → ℕ → Type 0
-Passes old new node index = new ≡ record old { passed = updated old.passed node (old.passed node ++ index ∷ []) }
+Passes old new node index = new ≡ record old { passed = update old.passed node (old.passed node ++ index ∷ []) }

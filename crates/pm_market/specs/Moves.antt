@@ -3,7 +3,7 @@ use Rattle.std.specs.Prelude.{◌≡◌, ℕ, ◌+◌, ◌-◌, ◌<◌, ◌≤�
 use Rattle.std.specs.List.{Contains}
 use Rattle.pm_base.specs.Limits.{window_size}
 use Rattle.pm_market.specs.Lists.{Lists, phases, parent, IsNode, IsLeaf, IsConcentrator, end_count}
-use Rattle.pm_market.specs.State.{State, start, updated, DifferOn, newest, part, known, number, last, clearings, cleared, addresses}
+use Rattle.pm_market.specs.State.{State, start, update, DifferOn, newest_number_of, part, knowledge, number, last_index, clearings, cleared_cut, addresses}
 use Rattle.pm_market.specs.declared.moves.Move.{Move}
 use Rattle.pm_market.specs.declared.moves.Move.TheVariants.{Change, Learn, Publish, Clear, Pass, Close}
 use Rattle.pm_market.specs.declared.moves.Act.{Act}
@@ -17,23 +17,23 @@ Reached s y j = ((y ≡ 0) × (1 ≤ j) × (j ≤ clearings s)) ⊎ Contains (s.
 abbrev pub NodeLegal : Lists → State → Move → Type 0
 -- the parent of the child learns a number above the one learnt and at most the child's newest
 NodeLegal lists s (Learn child number') =
-    IsNode lists child × (s.learnt child < number') × (number' ≤ newest lists s child)
+    IsNode lists child × (s.learnt child < number') × (number' ≤ newest_number_of lists s child)
 -- a concentrator that knows something other than it published last, and has fewer numbers above the one that the last
 -- price passed to it names than its window has, publishes what it knows under its next number
 NodeLegal lists s (Publish node number') =
     IsConcentrator lists node
-    × DifferOn lists node (known lists s node) (part lists s node (newest lists s node))
-    × (newest lists s node - number lists s node (cleared s (last s node)) < window_size)
-    × (number' ≡ newest lists s node + 1)
+    × DifferOn lists node (knowledge lists s node) (part lists s node (newest_number_of lists s node))
+    × (newest_number_of lists s node - number lists s node (cleared_cut s (last_index s node)) < window_size)
+    × (number' ≡ newest_number_of lists s node + 1)
 -- the auctioneer that knows something other than it cleared last clears what it knows under its next index
 NodeLegal lists s (Clear index) =
-    DifferOn lists 0 (known lists s 0) (cleared s (clearings s))
+    DifferOn lists 0 (knowledge lists s 0) (cleared_cut s (clearings s))
     × (index ≡ clearings s + 1)
 -- a clearing that reached the parent, addresses the node and is later than the last one passed to the node is passed to it
 NodeLegal lists s (Pass node index) =
     IsNode lists node
     × Reached s (parent lists node) index
-    × (last s node < index)
+    × (last_index s node < index)
     × (addresses lists s index node ≡ true)
 NodeLegal lists s _ = ⊥
 
@@ -59,11 +59,11 @@ Legal lists s m = NodeLegal lists s m
 
 -- the state after a move; all other parts stay
 abbrev pub step : Lists → State → Move → State
-step lists s (Change device number') = record s { counts = updated s.counts device number' }
-step lists s (Learn child number') = record s { learnt = updated s.learnt child number' }
-step lists s (Publish node number') = record s { published = updated s.published node (s.published node ++ known lists s node ∷ []) }
-step lists s (Clear index) = record s { published = updated s.published 0 (s.published 0 ++ known lists s 0 ∷ []) }
-step lists s (Pass node index) = record s { passed = updated s.passed node (s.passed node ++ index ∷ []) }
+step lists s (Change device number') = record s { counts = update s.counts device number' }
+step lists s (Learn child number') = record s { learnt = update s.learnt child number' }
+step lists s (Publish node number') = record s { published = update s.published node (s.published node ++ knowledge lists s node ∷ []) }
+step lists s (Clear index) = record s { published = update s.published 0 (s.published 0 ++ knowledge lists s 0 ∷ []) }
+step lists s (Pass node index) = record s { passed = update s.passed node (s.passed node ++ index ∷ []) }
 step lists s (Close phase) = record s { closed = phase }
 
 -- the state after a list of moves that begins in s

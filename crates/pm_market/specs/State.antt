@@ -9,8 +9,8 @@ abbrev pub no_changes : Cut
 no_changes d = 0
 
 -- f, with the value at x replaced by v
-unfoldable pub updated : {A : Type 0} → (ℕ → A) → ℕ → A → ℕ → A
-updated f x v y = if y == x then v else f y
+unfoldable pub update : {A : Type 0} → (ℕ → A) → ℕ → A → ℕ → A
+update f x v y = if y == x then v else f y
 
 -- whether each number from 1 to n passes the test
 unfoldable pub all_to : ℕ → (ℕ → Bool) → Bool
@@ -79,8 +79,8 @@ unfoldable pub part_of : Lists → (ℕ → List Cut) → ℕ → ℕ → Cut
 part_of lists published x i = if is_leaf lists x then (λ d. i) else cut_at (published x) i
 
 -- what y knows of a device below it: the part of the number that y learnt from its child at or above the device
-unfoldable pub known_of : Lists → (ℕ → List Cut) → (ℕ → ℕ) → ℕ → Cut
-known_of lists published learnt y d = let x = child_at_or_above lists y d in part_of lists published x (learnt x) d
+unfoldable pub knowledge_of : Lists → (ℕ → List Cut) → (ℕ → ℕ) → ℕ → Cut
+knowledge_of lists published learnt y d = let x = child_at_or_above lists y d in part_of lists published x (learnt x) d
 
 -- the greatest number up to n under which this cut stands in the list, on the leaves of x; 0 where there is none
 unfoldable pub greatest_number : Lists → List Cut → ℕ → Cut → ℕ → ℕ
@@ -108,33 +108,33 @@ addresses_of lists cut x =
     else not (is_same_on lists x cut no_changes)
 
 -- the newest number of a node
-abbrev pub newest : Lists → State → ℕ → ℕ
-newest lists s x = newest_of lists s.counts s.published x
+abbrev pub newest_number_of : Lists → State → ℕ → ℕ
+newest_number_of lists s x = newest_of lists s.counts s.published x
 
 -- what number i of a node stands for on its leaves
 abbrev pub part : Lists → State → ℕ → ℕ → Cut
 part lists s x i = part_of lists s.published x i
 
 -- what a concentrator or the auctioneer knows of the leaves below it
-abbrev pub known : Lists → State → ℕ → Cut
-known lists s y = known_of lists s.published s.learnt y
+abbrev pub knowledge : Lists → State → ℕ → Cut
+knowledge lists s y = knowledge_of lists s.published s.learnt y
 
 -- the number that a cut contains of a node
 abbrev pub number : Lists → State → ℕ → Cut → ℕ
 number lists s x cut = number_of lists s.published x cut
 
 -- the index of the clearing passed to x last, 0 where there was none
-abbrev pub last : State → ℕ → ℕ
-last s x = last_of (s.passed x)
+abbrev pub last_index : State → ℕ → ℕ
+last_index s x = last_of (s.passed x)
 
 -- how many clearings there were
 abbrev pub clearings : State → ℕ
 clearings s = length (s.published 0)
 
 -- the cut of a clearing, all zeros for index 0
-abbrev pub cleared : State → ℕ → Cut
-cleared s j = cut_at (s.published 0) j
+abbrev pub cleared_cut : State → ℕ → Cut
+cleared_cut s j = cut_at (s.published 0) j
 
 -- whether clearing j addresses x
 abbrev pub addresses : Lists → State → ℕ → ℕ → Bool
-addresses lists s j x = addresses_of lists (cleared s j) x
+addresses lists s j x = addresses_of lists (cleared_cut s j) x

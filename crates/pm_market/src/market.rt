@@ -187,7 +187,7 @@ impl Market {
 impl Market {
     ghost use Rattle.std.specs.Prelude.{◌≡◌, ◌==◌, ◌+◌, ◌-◌, ◌≤◌, true, if◌then◌else◌, length};
     ghost use Rattle.pm_market.specs.Lists.{is_leaf_of};
-    ghost use Rattle.pm_market.specs.State.{cut_at, is_same_on, part, newest, known, number, greatest_number, last, clearings, cleared, addresses};
+    ghost use Rattle.pm_market.specs.State.{cut_at, is_same_on, part, newest_number_of, knowledge, number, greatest_number, last_index, clearings, cleared_cut, addresses};
     ghost use Rattle.pm_market.specs.Legality.{has_reached, is_node, is_one_of};
     ghost use Rattle.pm_market.specs.Market.{market_lists, market_state};
     ghost use Rattle.pm_base.specs.Cuts.{cut_of};
@@ -209,7 +209,7 @@ impl Market {
     /// The newest number of a node.
     #[tactic(auto, unfolding(crate::specs::State::newest_of))]
     fn newest(&self, node: usize) -> usize
-        ensures { result ≡ newest (market_lists self.now) (market_state self.now) node }
+        ensures { result ≡ newest_number_of (market_lists self.now) (market_state self.now) node }
     {
         if self.is_leaf(node) {
             item_at(&self.counts, node, 0) as usize
@@ -228,7 +228,7 @@ impl Market {
     /// The index of the clearing passed to a node last, 0 where there was none.
     #[tactic(auto, unfolding(crate::specs::State::last_of))]
     fn last(&self, node: usize) -> usize
-        ensures { result ≡ last (market_state self.now) node }
+        ensures { result ≡ last_index (market_state self.now) node }
     {
         let indices = row_at(&self.passed, node);
         item_from_one(indices, indices.len(), 0)
@@ -247,9 +247,9 @@ impl Market {
     }
 
     /// What a node knows of a device below it. It walks up the tree, seven levels at most.
-    #[tactic(auto, unfolding(crate::specs::State::known_of))]
+    #[tactic(auto, unfolding(crate::specs::State::knowledge_of))]
     fn known_number(&self, node: usize, device: usize) -> u32
-        ensures { result ≡ known (market_lists self.now) (market_state self.now) node device }
+        ensures { result ≡ knowledge (market_lists self.now) (market_state self.now) node device }
     {
         let child = self.child_at_or_above(node, device);
         self.part_at(child, self.learnt(child), device)
@@ -257,7 +257,7 @@ impl Market {
 
     /// Whether a node knows of a device what it published or cleared last, or the device is no leaf of it.
     fn knows_same_at(&self, node: usize, device: usize) -> bool
-        ensures { result ≡ (if is_leaf_of (market_lists self.now) node device then known (market_lists self.now)
+        ensures { result ≡ (if is_leaf_of (market_lists self.now) node device then knowledge (market_lists self.now)
             (market_state self.now) node device == cut_at ((market_state self.now).published node)
             (length ((market_state self.now).published node)) device else true) }
     {
@@ -269,7 +269,7 @@ impl Market {
     /// Whether a node knows just what it published or cleared last.
     #[tactic(auto, using(crate::proofs::Loops::all_to_turns), unfolding(crate::specs::State::all_to, crate::specs::State::is_same_on))]
     fn knows_same(&self, node: usize) -> bool
-        ensures { result ≡ is_same_on (market_lists self.now) node (known (market_lists self.now) (market_state self.now) node)
+        ensures { result ≡ is_same_on (market_lists self.now) node (knowledge (market_lists self.now) (market_state self.now) node)
             (cut_at ((market_state self.now).published node) (length ((market_state self.now).published node))) }
     {
         for before in 0..self.parents.len() {
@@ -317,8 +317,8 @@ impl Market {
 
     /// How many numbers of a node lie above the one that the last price passed to it names.
     fn unanswered(&self, node: usize) -> usize
-        ensures { result ≡ newest (market_lists self.now) (market_state self.now) node - number (market_lists self.now)
-            (market_state self.now) node (cleared (market_state self.now) (last (market_state self.now) node)) }
+        ensures { result ≡ newest_number_of (market_lists self.now) (market_state self.now) node - number (market_lists self.now)
+            (market_state self.now) node (cleared_cut (market_state self.now) (last_index (market_state self.now) node)) }
     {
         let cut = self.cut_row(0, self.last(node));
         self.newest(node).saturating_sub(self.number(node, cut))

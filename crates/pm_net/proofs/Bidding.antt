@@ -3,7 +3,7 @@ use Rattle.std.proofs.Common.{◌≡◌, ◌∙◌, sym, ap, subst, ℕ, ◌+◌
 use Rattle.std.proofs.Common.{◌++◌, length, get_or, arith}
 use Rattle.std.proofs.lemmas.Bool.{cases_eq, cases_Bool, and_parts, ltb-true}
 use Rattle.pm_market.specs.Lists.{Lists, phases, is_leaf, changes, IsNode, IsLeaf, Lawful, end_count}
-use Rattle.pm_market.specs.State.{State, updated, newest, part}
+use Rattle.pm_market.specs.State.{State, update, newest_number_of, part}
 use Rattle.pm_market.specs.Moves.{Legal}
 use Rattle.pm_market.specs.declared.moves.Move.TheVariants.{Change}
 use Rattle.pm_market.proofs.Cuts.{updated_same, updated_other, newest_leaf, newest_inner, part_leaf}
@@ -27,7 +27,7 @@ module _ (lists : Lists) (law : Lawful lists) (one_phase : phases lists ≡ 1) (
   n = net.counts d + 1
 
   abbrev next : State
-  next = record s { counts = updated s.counts d n }
+  next = record s { counts = update s.counts d n }
 
   abbrev next_net : Network
   next_net = after_bidding lists p net d
@@ -43,7 +43,7 @@ module _ (lists : Lists) (law : Lawful lists) (one_phase : phases lists ≡ 1) (
         omega (arith, more, ap (λ (q : ℕ). end_count lists q d) last, law.ends_last d leaf),
       )
 
-  rises : (x : ℕ) → newest lists s x ≤ newest lists next x
+  rises : (x : ℕ) → newest_number_of lists s x ≤ newest_number_of lists next x
   rises x = elim (cases_Bool (is_leaf lists x)) [
     | inl e ↦ elim (updated_at s.counts d n x) [
       | inl w ↦ omega (
@@ -52,25 +52,25 @@ module _ (lists : Lists) (law : Lawful lists) (one_phase : phases lists ≡ 1) (
         ap s.counts w.0,
         agrees.counts d leaf,
         newest_leaf lists s.counts s.published x e,
-        newest_leaf lists (updated s.counts d n) s.published x e,
+        newest_leaf lists (update s.counts d n) s.published x e,
       )
-      | inr w ↦ omega (arith, w.1, newest_leaf lists s.counts s.published x e, newest_leaf lists (updated s.counts d n) s.published x e)
+      | inr w ↦ omega (arith, w.1, newest_leaf lists s.counts s.published x e, newest_leaf lists (update s.counts d n) s.published x e)
     ]
-    | inr e ↦ omega (arith, newest_inner lists s.counts s.published x e, newest_inner lists (updated s.counts d n) s.published x e)
+    | inr e ↦ omega (arith, newest_inner lists s.counts s.published x e, newest_inner lists (update s.counts d n) s.published x e)
   ]
 
-  stays : (x : ℕ) → IsNode lists x → (x ≡ d → ⊥) → newest lists next x ≡ newest lists s x
+  stays : (x : ℕ) → IsNode lists x → (x ≡ d → ⊥) → newest_number_of lists next x ≡ newest_number_of lists s x
   stays x node ne = elim (cases_Bool (is_leaf lists x)) [
-    | inl e ↦ newest_leaf lists (updated s.counts d n) s.published x e ∙ updated_other s.counts d n x ne
+    | inl e ↦ newest_leaf lists (update s.counts d n) s.published x e ∙ updated_other s.counts d n x ne
         ∙ sym (newest_leaf lists s.counts s.published x e)
-    | inr e ↦ newest_inner lists (updated s.counts d n) s.published x e ∙ sym (newest_inner lists s.counts s.published x e)
+    | inr e ↦ newest_inner lists (update s.counts d n) s.published x e ∙ sym (newest_inner lists s.counts s.published x e)
   ]
 
   its_bid : (x : ℕ) (bid : BidMessage) → IsItsBid lists p s x bid → IsItsBid lists p next x bid
   its_bid x bid at = (omega (arith, at.0, rises x), at.1)
 
-  newest_is : newest lists next d ≡ n
-  newest_is = newest_leaf lists (updated s.counts d n) s.published d leaf ∙ updated_same s.counts d n
+  newest_is : newest_number_of lists next d ≡ n
+  newest_is = newest_leaf lists (update s.counts d n) s.published d leaf ∙ updated_same s.counts d n
 
   new_bid : IsItsBid lists p next d (device_bid lists p d n)
   new_bid = (
@@ -112,13 +112,13 @@ module _ (lists : Lists) (law : Lawful lists) (one_phase : phases lists ≡ 1) (
     newest_sent = λ none x node some. elim (updated_at net.bids_sent d (net.bids_sent d ++ device_bid lists p d n ∷ []) x) [
       | inl w ↦
           let P : List BidMessage → Type 0 =
-          λ l. (k : ℕ) × (k < length l) × ((get_or l k (nothing_heard p)).number ≡ newest lists next x) in
-          let is : newest lists next x ≡ n = ap (newest lists next) w.0 ∙ newest_is in
-          subst P (sym w.1) (new_push (λ (b : BidMessage). b.number ≡ newest lists next x) (net.bids_sent d) (device_bid lists p d n) (nothing_heard p)
+          λ l. (k : ℕ) × (k < length l) × ((get_or l k (nothing_heard p)).number ≡ newest_number_of lists next x) in
+          let is : newest_number_of lists next x ≡ n = ap (newest_number_of lists next) w.0 ∙ newest_is in
+          subst P (sym w.1) (new_push (λ (b : BidMessage). b.number ≡ newest_number_of lists next x) (net.bids_sent d) (device_bid lists p d n) (nothing_heard p)
           (sym is))
       | inr w ↦
           let P : List BidMessage → Type 0 =
-          λ l. (k : ℕ) × (k < length l) × ((get_or l k (nothing_heard p)).number ≡ newest lists next x) in
+          λ l. (k : ℕ) × (k < length l) × ((get_or l k (nothing_heard p)).number ≡ newest_number_of lists next x) in
           let old = agrees.newest_sent none x node (omega (arith, some, stays x node w.0)) in
           subst P (sym w.1) (old.0, old.1, old.2 ∙ sym (stays x node w.0))
     ];
@@ -130,8 +130,8 @@ module _ (lists : Lists) (law : Lawful lists) (one_phase : phases lists ≡ 1) (
         arith,
         all z z_node up,
         agrees.sound.learnt_within z z_node,
-        ap (newest lists s) e,
-        ap (newest lists next) e,
+        ap (newest_number_of lists s) e,
+        ap (newest_number_of lists next) e,
         newest_is,
         newest_leaf lists s.counts s.published d leaf,
         agrees.counts d leaf,

@@ -4,7 +4,7 @@ use Rattle.std.proofs.Common.{List, [], ◌∷◌, ◌++◌, refl, arith}
 use Rattle.std.proofs.lemmas.Bool.{cases_eq, cases_Bool, and_parts, and_from, ltb-true, lt-ltb, both_ways}
 use Rattle.std.specs.List.{Contains}
 use Rattle.pm_market.specs.Lists.{Lists, parent, IsNode, Lawful}
-use Rattle.pm_market.specs.State.{State, updated, last_of, last, addresses}
+use Rattle.pm_market.specs.State.{State, update, last_of, last_index, addresses}
 use Rattle.pm_market.specs.Moves.{step, Legal, LegalFrom, after_from, Reached}
 use Rattle.pm_market.specs.Sound.{Sound}
 use Rattle.pm_market.specs.declared.moves.Move.{Move}
@@ -29,12 +29,12 @@ pub record Caught (lists : Lists) (s : State) (x : ℕ) (test : ℕ → Bool) (k
   pub others : (y : ℕ) → (y ≡ x → ⊥) → passed y ≡ s.passed y
   -- what was passed to x still is, and what is new is later than its last one and at most k
   pub old : (i : ℕ) → Contains (s.passed x) i → Contains (passed x) i
-  pub new : (i : ℕ) → Contains (passed x) i → Contains (s.passed x) i ⊎ ((last s x < i) × (i ≤ k))
+  pub new : (i : ℕ) → Contains (passed x) i → Contains (s.passed x) i ⊎ ((last_index s x < i) × (i ≤ k))
   -- each index that passes the test was passed, and the last one is at most k or the old one
-  pub all : (i : ℕ) → test i ≡ true → last s x < i → i ≤ k → Contains (passed x) i
-  pub top : (last_of (passed x) ≤ k) ⊎ (last_of (passed x) ≡ last s x)
+  pub all : (i : ℕ) → test i ≡ true → last_index s x < i → i ≤ k → Contains (passed x) i
+  pub top : (last_of (passed x) ≤ k) ⊎ (last_of (passed x) ≡ last_index s x)
   -- where k is not later than the last one nothing moves
-  pub none : k ≤ last s x → passed ≡ s.passed
+  pub none : k ≤ last_index s x → passed ≡ s.passed
 
 module _ (lists : Lists) (s : State) (x : ℕ) (node : IsNode lists x) (test : ℕ → Bool)
     (fits : (i : ℕ) → test i ≡ true → is_due lists s x i ≡ true) (earlier : parent lists x < x) where
@@ -54,10 +54,10 @@ module _ (lists : Lists) (s : State) (x : ℕ) (node : IsNode lists x) (test : �
   }
   catching (suc k) =
       let before = catching k in
-      elim (cases_Bool (test (suc k) && ltb (last s x) (suc k))) [
+      elim (cases_Bool (test (suc k) && ltb (last_index s x) (suc k))) [
         | inl e ↦
-            let parts = and_parts (test (suc k)) (ltb (last s x) (suc k)) e in
-            let lt : last s x < suc k = ltb-true (last s x) (suc k) parts.1 in
+            let parts = and_parts (test (suc k)) (ltb (last_index s x) (suc k)) e in
+            let lt : last_index s x < suc k = ltb-true (last_index s x) (suc k) parts.1 in
             let here : State = record s { passed = before.passed } in
             let m : Move = Pass x (suc k) in
             let due = due_parts lists s x (suc k) (fits (suc k) parts.0) in
@@ -70,7 +70,7 @@ module _ (lists : Lists) (s : State) (x : ℕ) (node : IsNode lists x) (test : �
               | inr w ↦ omega (arith, w, lt)
             ] in
             let legal : Legal lists here m = (node, came, below, due.1) in
-            let more : ℕ → List ℕ = updated before.passed x (before.passed x ++ suc k ∷ []) in
+            let more : ℕ → List ℕ = update before.passed x (before.passed x ++ suc k ∷ []) in
             let same : more x ≡ before.passed x ++ suc k ∷ [] = updated_same before.passed x (before.passed x ++ suc k ∷ []) in
             let P : State → Type 0 = λ t. LegalFrom lists t (m ∷ []) in
             record {
@@ -106,8 +106,8 @@ module _ (lists : Lists) (s : State) (x : ℕ) (node : IsNode lists x) (test : �
             | inr w ↦ inr (w.0, omega (arith, w.1))
           ];
           all = λ i passes above le. elim (cases_eq i (suc k)) [
-            | inl is ↦ absurd (both_ways (test (suc k) && ltb (last s x) (suc k)) e
-                (and_from _ _ (ap test (sym is) ∙ passes) (lt-ltb (last s x) (suc k) (omega (arith, is, above)))))
+            | inl is ↦ absurd (both_ways (test (suc k) && ltb (last_index s x) (suc k)) e
+                (and_from _ _ (ap test (sym is) ∙ passes) (lt-ltb (last_index s x) (suc k) (omega (arith, is, above)))))
             | inr ne ↦ before.all i passes above (omega arith)
           ];
           top = elim before.top [
@@ -119,13 +119,13 @@ module _ (lists : Lists) (s : State) (x : ℕ) (node : IsNode lists x) (test : �
       ]
 
 -- what was passed to a node last was passed to its parent, if that is a relay, at that time or earlier
-pub last_below : (lists : Lists) (s : State) → Sound lists s → (x : ℕ) → 1 ≤ parent lists x → last s x ≤ last s (parent lists x)
+pub last_below : (lists : Lists) (s : State) → Sound lists s → (x : ℕ) → 1 ≤ parent lists x → last_index s x ≤ last_index s (parent lists x)
 last_below lists s sound x one =
     elim (last_cases (s.passed x)) [
       | inl w ↦ omega (arith, w.1)
-      | inr c ↦ elim (sound.passed_reached x (last s x) c) [
+      | inr c ↦ elim (sound.passed_reached x (last_index s x) c) [
         | inl root ↦ absurd (omega (arith, root.0))
-        | inr among ↦ contains_within lists s sound (parent lists x) (last s x) among
+        | inr among ↦ contains_within lists s sound (parent lists x) (last_index s x) among
       ]
     ]
 
@@ -142,20 +142,20 @@ module _ (lists : Lists) (law : Lawful lists) (s : State) (sound_s : Sound lists
       subst P caught.ends (sound_after_from lists law caught.moves s sound_s caught.legal)
 
   -- of each other node the last clearing passed is the same
-  pub last_kept : (y : ℕ) → (y ≡ x → ⊥) → last caught_state y ≡ last s y
+  pub last_kept : (y : ℕ) → (y ≡ x → ⊥) → last_index caught_state y ≡ last_index s y
   last_kept y ne = ap last_of (caught.others y ne)
 
   -- the last one is the greater of the old last one and j
-  pub last_new : test j ≡ true → last s x < j → last caught_state x ≡ j
+  pub last_new : test j ≡ true → last_index s x < j → last_index caught_state x ≡ j
   last_new passes lt =
-      let most : j ≤ last caught_state x = contains_within lists caught_state sound x j (caught.all j passes lt (omega arith)) in
+      let most : j ≤ last_index caught_state x = contains_within lists caught_state sound x j (caught.all j passes lt (omega arith)) in
       elim caught.top [
         | inl w ↦ omega (arith, w, most)
         | inr w ↦ absurd (omega (arith, w, most, lt))
       ]
 
   -- where j is not later than the last one, that is the same
-  pub last_old : j ≤ last s x → last caught_state x ≡ last s x
+  pub last_old : j ≤ last_index s x → last_index caught_state x ≡ last_index s x
   last_old le = ap (λ (q : ℕ → List ℕ). last_of (q x)) (caught.none le)
 
   -- what is due then
@@ -172,7 +172,7 @@ module _ (lists : Lists) (law : Lawful lists) (s : State) (sound_s : Sound lists
 
   -- what is due then was due, or is one of the clearings caught up with, to a child
   pub due_cases : (y i : ℕ) → is_due lists caught_state y i ≡ true →
-      (is_due lists s y i ≡ true) ⊎ ((parent lists y ≡ x) × (last s x < i) × (i ≤ j))
+      (is_due lists s y i ≡ true) ⊎ ((parent lists y ≡ x) × (last_index s x < i) × (i ≤ j))
   due_cases y i due =
       let parts = due_parts lists caught_state y i due in
       elim parts.0 [

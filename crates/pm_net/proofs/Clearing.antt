@@ -6,7 +6,7 @@ use Rattle.pm_base.specs.Cuts.{Cut}
 use Rattle.pm_bid.specs.Clearing.{clearing_step}
 use Rattle.pm_market.specs.Lists.{Lists, nodes, parent, IsNode, IsInner, Lawful}
 use Rattle.pm_laws.proofs.Facts.{last_within}
-use Rattle.pm_market.specs.State.{State, known, number, last, clearings, cleared, addresses, addresses_of}
+use Rattle.pm_market.specs.State.{State, knowledge, number, last_index, clearings, cleared_cut, addresses, addresses_of}
 use Rattle.pm_market.specs.Moves.{step, Legal, LegalFrom, after_from}
 use Rattle.pm_market.specs.Sound.{Sound}
 use Rattle.pm_market.specs.declared.moves.Move.{Move}
@@ -85,32 +85,32 @@ module _ (lists : Lists) (law : Lawful lists) (p : Pricing) (by : GoesByNodes li
   has : HasAdded lists knows next 0
   has = clearing lists knows j law sound legal
 
-  cut_is : cleared next j ≡ known lists knows 0
-  cut_is = ap (λ (k : ℕ). cleared next k) index_is ∙ has.added
+  cut_is : cleared_cut next j ≡ knowledge lists knows 0
+  cut_is = ap (λ (k : ℕ). cleared_cut next k) index_is ∙ has.added
 
   within : j ≤ clearings next
-  within = omega (arith, index_is, pushed_length_same s.published 0 (known lists knows 0))
+  within = omega (arith, index_is, pushed_length_same s.published 0 (knowledge lists knows 0))
 
   abbrev the_step : ℕ
   the_step = clearing_step (heard_sum p net 0)
 
   -- of a child of the auctioneer
   module _ (x : ℕ) (node : IsNode lists x) (up : parent lists x ≡ 0) where
-    number_is : (net.heard x).number ≡ number lists next x (cleared next j)
-    number_is = sym (ap (λ (k : ℕ). number lists next x (cleared next k)) index_is ∙ has.number_added x node up ∙ here x node up)
+    number_is : (net.heard x).number ≡ number lists next x (cleared_cut next j)
+    number_is = sym (ap (λ (k : ℕ). number lists next x (cleared_cut next k)) index_is ∙ has.number_added x node up ∙ here x node up)
 
     gone_is : (net.heard x).gone ≡ not (addresses lists next j x)
     gone_is =
         ap (λ (b : BidMessage). b.gone) (agrees.heard x node).1 ∙ ap (is_gone lists x) number_is
         ∙ gone_addresses lists law next sound_next x j node within
 
-    step_is : the_step ≡ p.local (cleared next j) x
+    step_is : the_step ≡ p.local (cleared_cut next j) x
     step_is =
         ap clearing_step (adding.sum_is lists law p by net s agrees 0 inner l sound here)
-        ∙ sym (by.root x (known lists knows 0) node up) ∙ ap (λ (cut : Cut). p.local cut x) (sym cut_is)
+        ∙ sym (by.root x (knowledge lists knows 0) node up) ∙ ap (λ (cut : Cut). p.local cut x) (sym cut_is)
 
     price_is : price_message (net.heard x).number j the_step ≡ price_of_clearing lists p next x j
-    price_is = ap (λ (k : ℕ). price_message k j the_step) number_is ∙ ap (price_message (number lists next x (cleared next j)) j) step_is
+    price_is = ap (λ (k : ℕ). price_message k j the_step) number_is ∙ ap (price_message (number lists next x (cleared_cut next j)) j) step_is
 
     due_is : addresses lists next j x ≡ true → is_due lists next x j ≡ true
     due_is e = (due_cleared lists knows j x j law sound legal).1 (inr (up, index_is, ap (λ (cut : Cut). addresses_of lists cut x) (sym cut_is) ∙ e))
@@ -142,7 +142,7 @@ module _ (lists : Lists) (law : Lawful lists) (p : Pricing) (by : GoesByNodes li
       | inl old ↦ agrees.full y i y_conc old le
       | inr new ↦ absurd (omega (arith, new.1, le, last_within lists s agrees.sound y))
     ];
-    last_sent = λ x node some. down_old lists net.prices_sent 0 net.heard j the_step x (λ (q : PriceMessage). q.index ≡ last s x)
+    last_sent = λ x node some. down_old lists net.prices_sent 0 net.heard j the_step x (λ (q : PriceMessage). q.index ≡ last_index s x)
         (agrees.last_sent x node some);
     bids_sent = λ x k node lt. adding.its_bid lists law p by net s agrees 0 inner l sound here there has x _ (agrees.bids_sent x k node lt);
     prices_sent = λ x k node lt. down_each lists net.prices_sent 0 net.heard j the_step x (IsItsPrice lists p next x)
@@ -161,10 +161,10 @@ module _ (lists : Lists) (law : Lawful lists) (p : Pricing) (by : GoesByNodes li
           (there_is x node new.0 (ap (λ (cut : Cut). addresses_of lists cut x) cut_is ∙ new.2)) is
     ];
     due_through = λ x node p_conc at through all due.
-        elim ((due_cleared lists knows j x (last s (parent lists x)) law sound legal).0 due) [
+        elim ((due_cleared lists knows j x (last_index s (parent lists x)) law sound legal).0 due) [
           | inl old ↦
               let was = adding.through_is lists law p by net s agrees 0 inner l sound here there has x node p_conc through all in
-              down_old lists net.prices_sent 0 net.heard j the_step x (λ (q : PriceMessage). q.index ≡ last s (parent lists x))
+              down_old lists net.prices_sent 0 net.heard j the_step x (λ (q : PriceMessage). q.index ≡ last_index s (parent lists x))
               (agrees.due_through x node p_conc at was.0 was.1 old)
           | inr new ↦ absurd (omega (arith, p_conc.0, new.0))
         ];
@@ -198,7 +198,7 @@ module _ (lists : Lists) (law : Lawful lists) (p : Pricing) (by : GoesByNodes li
     caught_up = λ none. absurd (broken net 0 none);
     due_root = λ none. absurd (broken net 0 none);
     due_through = λ x node p_conc at through all due.
-        elim ((due_cleared lists knows j x (last s (parent lists x)) law sound legal).0 due) [
+        elim ((due_cleared lists knows j x (last_index s (parent lists x)) law sound legal).0 due) [
           | inl old ↦
               let was = adding.through_is lists law p by net s agrees 0 inner l sound here there has x node p_conc through all in
               agrees.due_through x node p_conc at was.0 was.1 old

@@ -4,8 +4,8 @@ use Rattle.std.proofs.Common.{inr, arith}
 use Rattle.std.specs.Prelude.{cond, unwrap_or}
 use Rattle.std.proofs.lemmas.Bool.{cases_Bool, cond-true, cond-false, and_parts, and_from, ltb-true, leb-true, lt-ltb, le-leb}
 use Rattle.pm_market.specs.Lists.{Lists, is_member, IsLeaf, IsNode, Lawful}
-use Rattle.pm_market.specs.State.{State, last, cleared, clearings}
-use Rattle.pm_market.specs.Held.{last_join, holds_price, held}
+use Rattle.pm_market.specs.State.{State, last_index, cleared_cut, clearings}
+use Rattle.pm_market.specs.Held.{last_join, holds_price, holding}
 use Rattle.pm_market.proofs.Tree.{leaf_node}
 use Rattle.pm_laws.proofs.Held.{last_join_le}
 use Rattle.pm_laws.proofs.MoveLaws.{due_parts}
@@ -34,21 +34,21 @@ module _ (lists : Lists) (law : Lawful lists) (p : Pricing) (net : Network) (s :
   node = leaf_node lists law d leaf
 
   -- of a device that never restarted it is what the market says that it holds
-  pub same_held : net.restarts d ≡ 0 → goes_by lists net d ≡ held lists p.local s d
+  pub same_held : net.restarts d ≡ 0 → goes_by lists net d ≡ holding lists p.local s d
   unfolding holds_price
   same_held none =
-      let at : (net.taken d).index ≡ last s d = agrees.device_index d leaf none in
+      let at : (net.taken d).index ≡ last_index s d = agrees.device_index d leaf none in
       elim (agrees.taken d node) [
         | inl nothing ↦
             let zero : (net.taken d).index ≡ 0 = ap (λ (q : PriceMessage). q.index) nothing in
             by_none lists d (net.counts d) (net.taken d).index (net.taken d).number (net.taken d).step zero
-            ∙ sym (by_none lists d (s.counts d) (last s d) (cleared s (last s d) d) (p.local (cleared s (last s d)) d) (sym at ∙ zero))
+            ∙ sym (by_none lists d (s.counts d) (last_index s d) (cleared_cut s (last_index s d) d) (p.local (cleared_cut s (last_index s d)) d) (sym at ∙ zero))
         | inr its ↦
             ap (λ (q : PriceMessage). gone_by lists d (net.counts d) q.index q.number q.step) (its.1 ∙ ap (price_of_clearing lists p s d) at)
-            ∙ ap (λ (n : ℕ). gone_by lists d n (last s d) (price_of_clearing lists p s d (last s d)).number (p.local (cleared s (last s d)) d))
+            ∙ ap (λ (n : ℕ). gone_by lists d n (last_index s d) (price_of_clearing lists p s d (last_index s d)).number (p.local (cleared_cut s (last_index s d)) d))
             (agrees.counts d leaf)
-            ∙ ap (λ (n : ℕ). gone_by lists d (s.counts d) (last s d) n (p.local (cleared s (last s d)) d)) (number_leaf lists s.published d (cleared s
-            (last s d)) leaf)
+            ∙ ap (λ (n : ℕ). gone_by lists d (s.counts d) (last_index s d) n (p.local (cleared_cut s (last_index s d)) d)) (number_leaf lists s.published d (cleared_cut s
+            (last_index s d)) leaf)
       ]
 
   -- whatever it came back with, what it goes by is of the clearing of the price that it holds
@@ -72,11 +72,11 @@ module _ (lists : Lists) (law : Lawful lists) (p : Pricing) (net : Network) (s :
         elim (agrees.taken d node) [
           | inl nothing ↦ absurd (omega (arith, ltb-true 0 j first.0, ap (λ (q : PriceMessage). q.index) nothing))
           | inr its ↦
-              let number_is : number ≡ cleared s j d =
-              sym number_same ∙ ap (λ (q : PriceMessage). q.number) its.1 ∙ number_leaf lists s.published d (cleared s j) leaf in
+              let number_is : number ≡ cleared_cut s j d =
+              sym number_same ∙ ap (λ (q : PriceMessage). q.number) its.1 ∙ number_leaf lists s.published d (cleared_cut s j) leaf in
               record {
                 number_is = number_is;
-                member = ap (is_member lists d) number_is ∙ sym (addresses_leaf lists (cleared s j) d leaf) ∙ (due_parts lists s d j its.0).1;
+                member = ap (is_member lists d) number_is ∙ sym (addresses_leaf lists (cleared_cut s j) d leaf) ∙ (due_parts lists s d j its.0).1;
                 joined = omega (arith, leb-true (last_join lists d (net.counts d)) (net.taken d).number some.1, number_same);
                 step_is = sym step_same ∙ ap (λ (q : PriceMessage). q.step) its.1;
               }

@@ -3,7 +3,7 @@ use Rattle.std.proofs.Common.{◌≡◌, ◌∙◌, sym, ap, subst, ℕ, zero, s
 use Rattle.std.proofs.Common.{List, [], ◌∷◌, ◌++◌, refl, arith}
 use Rattle.std.proofs.lemmas.Bool.{cases_eq, cases_lt, cases_Bool, cond-true, cond-false, and_parts, and_from, ltb-true, lt-ltb}
 use Rattle.pm_market.specs.Lists.{Lists, nodes, IsNode, Lawful}
-use Rattle.pm_market.specs.State.{State, updated, newest}
+use Rattle.pm_market.specs.State.{State, update, newest_number_of}
 use Rattle.pm_market.specs.Moves.{step, after_from, LegalFrom, Legal}
 use Rattle.pm_market.specs.Sound.{Sound}
 use Rattle.pm_market.specs.declared.moves.Move.{Move}
@@ -16,7 +16,7 @@ use Rattle.pm_laws.proofs.Kept.{sound_after_from}
 pub learnt_to : (ℕ → Bool) → (ℕ → ℕ) → (ℕ → ℕ) → ℕ → ℕ → ℕ
 learnt_to test numbers l zero = l
 learnt_to test numbers l (suc k) =
-    cond (test (suc k) && ltb (l (suc k)) (numbers (suc k))) (updated (learnt_to test numbers l k) (suc k) (numbers (suc k)))
+    cond (test (suc k) && ltb (l (suc k)) (numbers (suc k))) (update (learnt_to test numbers l k) (suc k) (numbers (suc k)))
     (learnt_to test numbers l k)
 
 module _ (test : ℕ → Bool) (numbers l : ℕ → ℕ) where
@@ -27,10 +27,10 @@ module _ (test : ℕ → Bool) (numbers l : ℕ → ℕ) where
   unfolding learnt_to
   one_more k x ne =
       elim (cases_Bool (test (suc k) && ltb (l (suc k)) (numbers (suc k)))) [
-        | inl e ↦ ap (λ (f : ℕ → ℕ). f x) (cond-true (test (suc k) && ltb (l (suc k)) (numbers (suc k))) (updated (upto k) (suc k) (numbers
+        | inl e ↦ ap (λ (f : ℕ → ℕ). f x) (cond-true (test (suc k) && ltb (l (suc k)) (numbers (suc k))) (update (upto k) (suc k) (numbers
             (suc k))) (upto k) e)
             ∙ updated_other (upto k) (suc k) (numbers (suc k)) x ne
-        | inr e ↦ ap (λ (f : ℕ → ℕ). f x) (cond-false (test (suc k) && ltb (l (suc k)) (numbers (suc k))) (updated (upto k) (suc k) (numbers
+        | inr e ↦ ap (λ (f : ℕ → ℕ). f x) (cond-false (test (suc k) && ltb (l (suc k)) (numbers (suc k))) (update (upto k) (suc k) (numbers
             (suc k))) (upto k) e)
       ]
 
@@ -47,7 +47,7 @@ module _ (test : ℕ → Bool) (numbers l : ℕ → ℕ) where
   failing (suc k) x fails =
       elim (cases_eq x (suc k)) [
         | inl e ↦
-            ap (λ (f : ℕ → ℕ). f x) (cond-false (test (suc k) && ltb (l (suc k)) (numbers (suc k))) (updated (upto k) (suc k) (numbers (suc k)))
+            ap (λ (f : ℕ → ℕ). f x) (cond-false (test (suc k) && ltb (l (suc k)) (numbers (suc k))) (update (upto k) (suc k) (numbers (suc k)))
             (upto k) (not_both k (ap test (sym e) ∙ fails)))
             ∙ failing k x fails
         | inr ne ↦ one_more k x ne ∙ failing k x fails
@@ -66,9 +66,9 @@ module _ (test : ℕ → Bool) (numbers l : ℕ → ℕ) where
           | inl lt ↦
               let both : (test (suc k) && ltb (l (suc k)) (numbers (suc k))) ≡ true =
               and_from _ _ (ap test (sym e) ∙ passes) (lt-ltb (l (suc k)) (numbers (suc k)) (subst (λ (z : ℕ). l z < numbers z) e lt)) in
-              ap (λ (f : ℕ → ℕ). f x) (cond-true (test (suc k) && ltb (l (suc k)) (numbers (suc k))) (updated (upto k) (suc k) (numbers (suc k)))
+              ap (λ (f : ℕ → ℕ). f x) (cond-true (test (suc k) && ltb (l (suc k)) (numbers (suc k))) (update (upto k) (suc k) (numbers (suc k)))
               (upto k) both)
-              ∙ ap (λ (z : ℕ). updated (upto k) (suc k) (numbers (suc k)) z) e ∙ updated_same (upto k) (suc k) (numbers (suc k)) ∙ ap numbers (sym e)
+              ∙ ap (λ (z : ℕ). update (upto k) (suc k) (numbers (suc k)) z) e ∙ updated_same (upto k) (suc k) (numbers (suc k)) ∙ ap numbers (sym e)
           | inr ge ↦
               let same : l x ≡ numbers x = omega arith in
               elim (cases_Bool (test (suc k) && ltb (l (suc k)) (numbers (suc k)))) [
@@ -80,7 +80,7 @@ module _ (test : ℕ → Bool) (numbers l : ℕ → ℕ) where
                   ge,
                 ))
                 | inr none ↦
-                    ap (λ (f : ℕ → ℕ). f x) (cond-false (test (suc k) && ltb (l (suc k)) (numbers (suc k))) (updated (upto k) (suc k) (numbers
+                    ap (λ (f : ℕ → ℕ). f x) (cond-false (test (suc k) && ltb (l (suc k)) (numbers (suc k))) (update (upto k) (suc k) (numbers
                     (suc k))) (upto k) none)
                     ∙ above k x (omega arith) ∙ same
               ]
@@ -97,7 +97,7 @@ pub record Learning (lists : Lists) (s : State) (l : ℕ → ℕ) : Type 0 where
   pub ends : after_from lists s moves ≡ record s { learnt = l }
 
 module _ (lists : Lists) (test : ℕ → Bool) (numbers : ℕ → ℕ) (s : State) (within : (x : ℕ) → IsNode lists x →
-    numbers x ≤ newest lists s x) where
+    numbers x ≤ newest_number_of lists s x) where
   -- learning what was heard of the first k nodes is legal
   pub learning_to : (k : ℕ) → k ≤ nodes lists → Learning lists s (learnt_to test numbers s.learnt k)
   unfolding learnt_to
@@ -105,7 +105,7 @@ module _ (lists : Lists) (test : ℕ → Bool) (numbers : ℕ → ℕ) (s : Stat
   learning_to (suc k) le =
       let before = learning_to k (omega arith) in
       let b : Bool = test (suc k) && ltb (s.learnt (suc k)) (numbers (suc k)) in
-      let more : ℕ → ℕ = updated (learnt_to test numbers s.learnt k) (suc k) (numbers (suc k)) in
+      let more : ℕ → ℕ = update (learnt_to test numbers s.learnt k) (suc k) (numbers (suc k)) in
       elim (cases_Bool b) [
         | inl e ↦
             let node : IsNode lists (suc k) = (omega arith, le) in

@@ -3,7 +3,7 @@ use Rattle.std.proofs.Common.{◌≡◌, ℕ, zero, suc, ◌<◌, ◌≤◌, Boo
 use Rattle.std.proofs.Common.{length, get_or, refl, sym, ◌∙◌, ap, subst, arith}
 use Rattle.std.proofs.lemmas.Bool.{cases_eq, cases_lt}
 use Rattle.std.proofs.lemmas.List.{get_or_append_left, get_or_push, length_push}
-use Rattle.pm_market.specs.State.{updated}
+use Rattle.pm_market.specs.State.{update}
 use Rattle.pm_market.proofs.Cuts.{updated_same, updated_other}
 
 -- what holds on both ways of a test holds of the choice
@@ -12,24 +12,24 @@ either P true x y on_true on_false = on_true refl
 either P false x y on_true on_false = on_false refl
 
 -- functions that are the same at a place are so after the same replacement
-pub updated_alike : {A : Type 0} → (f g : ℕ → A) (x : ℕ) (v : A) (y : ℕ) → f y ≡ g y → updated f x v y ≡ updated g x v y
-unfolding updated
+pub updated_alike : {A : Type 0} → (f g : ℕ → A) (x : ℕ) (v : A) (y : ℕ) → f y ≡ g y → update f x v y ≡ update g x v y
+unfolding update
 updated_alike f g x v y h = ap (λ z. cond (eqb y x) v z) h
 
 -- a function of two numbers with one replaced
-pub two_same : {A : Type 0} → (f : ℕ → ℕ → A) (y m : ℕ) (v : A) (z n : ℕ) → z ≡ y → n ≡ m → updated f y (updated (f y) m v) z n ≡ v
+pub two_same : {A : Type 0} → (f : ℕ → ℕ → A) (y m : ℕ) (v : A) (z n : ℕ) → z ≡ y → n ≡ m → update f y (update (f y) m v) z n ≡ v
 two_same f y m v z n e h =
-    ap (λ (i : ℕ). updated f y (updated (f y) m v) i n) e ∙ ap (λ q. q n) (updated_same f y (updated (f y) m v))
-    ∙ ap (λ (i : ℕ). updated (f y) m v i) h ∙ updated_same (f y) m v
+    ap (λ (i : ℕ). update f y (update (f y) m v) i n) e ∙ ap (λ q. q n) (updated_same f y (update (f y) m v))
+    ∙ ap (λ (i : ℕ). update (f y) m v i) h ∙ updated_same (f y) m v
 
 -- at any other two numbers it is the old one
 pub two_other : {A : Type 0} → (f : ℕ → ℕ → A) (y m : ℕ) (v : A) (z n : ℕ) → (z ≡ y → n ≡ m → ⊥) →
-    updated f y (updated (f y) m v) z n ≡ f z n
+    update f y (update (f y) m v) z n ≡ f z n
 two_other f y m v z n ne =
     elim (cases_eq z y) [
-      | inl e ↦ ap (λ (i : ℕ). updated f y (updated (f y) m v) i n) e ∙ ap (λ q. q n) (updated_same f y (updated (f y) m v))
+      | inl e ↦ ap (λ (i : ℕ). update f y (update (f y) m v) i n) e ∙ ap (λ q. q n) (updated_same f y (update (f y) m v))
           ∙ updated_other (f y) m v n (ne e) ∙ ap (λ (i : ℕ). f i n) (sym e)
-      | inr d ↦ ap (λ q. q n) (updated_other f y (updated (f y) m v) z d)
+      | inr d ↦ ap (λ q. q n) (updated_other f y (update (f y) m v) z d)
     ]
 
 -- past the end of a list stands the default

@@ -5,7 +5,7 @@ use Rattle.std.proofs.lemmas.Bool.{and_parts, leb-true, ne_eqb, true≢false}
 use Rattle.std.proofs.lemmas.List.{get_or_append_left, length_push}
 use Rattle.pm_bid.specs.Limited.{within_limits}
 use Rattle.pm_market.specs.Lists.{Lists, phases, parent, is_leaf, changes, IsNode, IsLeaf, IsInner, IsConcentrator, Lawful}
-use Rattle.pm_market.specs.State.{State, updated, cut_at, newest, part, number}
+use Rattle.pm_market.specs.State.{State, update, cut_at, newest_number_of, part, number}
 use Rattle.pm_market.specs.Legality.{is_node}
 use Rattle.pm_market.specs.Moves.{after_from}
 use Rattle.pm_market.proofs.Cuts.{newest_leaf, newest_inner, part_leaf, part_inner}
@@ -29,7 +29,7 @@ use Rattle.pm_net.proofs.Sending.{sending}
 
 -- what stood in a channel stands there still once one more message is sent on some channel
 still_there : (bids_sent : ℕ → List BidMessage) (x : ℕ) (m : BidMessage) (y k : ℕ) (d : BidMessage) → k < length (bids_sent y) →
-    (k < length (updated bids_sent x (bids_sent x ++ m ∷ []) y)) × (get_or (bids_sent y) k d ≡ get_or (updated bids_sent x
+    (k < length (update bids_sent x (bids_sent x ++ m ∷ []) y)) × (get_or (bids_sent y) k d ≡ get_or (update bids_sent x
     (bids_sent x ++ m ∷ []) y) k d)
 still_there bids_sent x m y k d lt = elim (updated_at bids_sent x (bids_sent x ++ m ∷ []) y) [
   | inl w ↦
@@ -180,7 +180,7 @@ module _ (lists : Lists) (law : Lawful lists) (p : Pricing) (by : GoesByNodes li
         bids_sent = λ y k y_node lt.
             let P : List BidMessage → Type 0 = λ l. (i : ℕ) → i < length l → IsItsBid lists p s y (get_or l i (nothing_heard p)) in
             let old : P (net.bids_sent y) = λ i below. agrees.bids_sent y i y_node below in
-            let all : P (updated net.bids_sent x (net.bids_sent x ++ bid ∷ []) y) = elim (updated_at net.bids_sent x (net.bids_sent x ++ bid ∷ []) y) [
+            let all : P (update net.bids_sent x (net.bids_sent x ++ bid ∷ []) y) = elim (updated_at net.bids_sent x (net.bids_sent x ++ bid ∷ []) y) [
               | inl w ↦ subst P (sym w.1) (each_push (IsItsBid lists p s y) (net.bids_sent x) bid (nothing_heard p)
                   (subst (λ (z : ℕ). P (net.bids_sent z)) w.0 old) (subst (λ (z : ℕ). IsItsBid lists p s z bid) (sym w.0) its))
               | inr w ↦ subst P (sym w.1) old
@@ -188,10 +188,10 @@ module _ (lists : Lists) (law : Lawful lists) (p : Pricing) (by : GoesByNodes li
             all k lt;
         prices_sent = agrees.prices_sent;
         newest_sent = λ none y y_node some.
-            let P : List BidMessage → Type 0 = λ l. (k : ℕ) × (k < length l) × ((get_or l k (nothing_heard p)).number ≡ newest lists s y) in
+            let P : List BidMessage → Type 0 = λ l. (k : ℕ) × (k < length l) × ((get_or l k (nothing_heard p)).number ≡ newest_number_of lists s y) in
             let old : P (net.bids_sent y) = agrees.newest_sent none y y_node some in
             elim (updated_at net.bids_sent x (net.bids_sent x ++ bid ∷ []) y) [
-              | inl w ↦ subst P (sym w.1) (some_push (λ (b : BidMessage). b.number ≡ newest lists s y) (net.bids_sent x) bid (nothing_heard p) (subst
+              | inl w ↦ subst P (sym w.1) (some_push (λ (b : BidMessage). b.number ≡ newest_number_of lists s y) (net.bids_sent x) bid (nothing_heard p) (subst
                   (λ (z : ℕ). P (net.bids_sent z)) w.0 old))
               | inr w ↦ subst P (sym w.1) old
             ];

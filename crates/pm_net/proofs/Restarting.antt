@@ -4,7 +4,7 @@ use Rattle.std.proofs.Common.{arith, inl}
 use Rattle.std.proofs.Common.{inr, length, refl}
 use Rattle.std.proofs.lemmas.Bool.{cases_eq, cases_lt, and_parts, ltb-true, leb-true, not-true, eq-eqb}
 use Rattle.pm_market.specs.Lists.{Lists, parent, IsNode, Lawful}
-use Rattle.pm_market.specs.State.{State, updated, cut_at, number}
+use Rattle.pm_market.specs.State.{State, update, cut_at, number}
 use Rattle.pm_market.proofs.Cuts.{updated_same, updated_other}
 use Rattle.pm_laws.proofs.Facts.{updated_at}
 use Rattle.pm_net.specs.Pricing.{Pricing, GoesByNodes}
@@ -58,7 +58,7 @@ module _ (lists : Lists) (law : Lawful lists) (p : Pricing) (by : GoesByNodes li
         learnt = agrees.learnt;
         last_number = agrees.last_number;
         newest_numbers = λ x node. elim (cases_eq (parent lists x) y) [
-          | inl up ↦ ap (λ (z : ℕ). (updated net.records y left z (net.last_number z) x).number) up
+          | inl up ↦ ap (λ (z : ℕ). (update net.records y left z (net.last_number z) x).number) up
               ∙ ap (λ (f : ℕ → ℕ → BidMessage). (f (net.last_number y) x).number) (updated_same net.records y left) ∙ left_number x
               ∙ ap (λ (z : ℕ). recorded_number net z x) (sym up) ∙ agrees.newest_numbers x node
           | inr ne ↦ ap (λ (f : ℕ → ℕ → BidMessage). (f (net.last_number (parent lists x)) x).number)
@@ -70,9 +70,9 @@ module _ (lists : Lists) (law : Lawful lists) (p : Pricing) (by : GoesByNodes li
               ∙ agrees.records x n node (omega (arith, whole, w.1)) le
         ];
         answered = λ c conc. elim (cases_eq c y) [
-          | inl e ↦ ap (updated net.answered y stored.number) e ∙ updated_same net.answered y stored.number
+          | inl e ↦ ap (update net.answered y stored.number) e ∙ updated_same net.answered y stored.number
               ∙ ap (λ (q : PriceMessage). q.number) (sym (updated_same net.taken y stored))
-              ∙ ap (λ (z : ℕ). (updated net.taken y stored z).number) (sym e)
+              ∙ ap (λ (z : ℕ). (update net.taken y stored z).number) (sym e)
           | inr ne ↦ updated_other net.answered y stored.number c ne ∙ agrees.answered c conc
               ∙ ap (λ (q : PriceMessage). q.number) (sym (updated_other net.taken y stored c ne))
         ];

@@ -3,11 +3,11 @@ use Rattle.std.proofs.Common.{◌≡◌, ◌∙◌, sym, ap, subst, ℕ, ◌<◌
 use Rattle.std.proofs.Common.{◌++◌, inl, inr, refl, arith, length}
 use Rattle.std.proofs.lemmas.Bool.{and_parts, ltb-true, leb-true, not-true}
 use Rattle.pm_market.specs.Legality.{is_node}
-use Rattle.pm_market.specs.State.{updated}
+use Rattle.pm_market.specs.State.{update}
 use Rattle.pm_market.proofs.Legality.{is_node_from}
 use Rattle.pm_market.specs.Lists.{parent}
 use Rattle.pm_market.specs.Lists.{Lists, phases, is_leaf, changes, IsNode, IsLeaf, Lawful}
-use Rattle.pm_market.specs.State.{State, start, last, cleared}
+use Rattle.pm_market.specs.State.{State, start, last_index, cleared_cut}
 use Rattle.pm_market.specs.Moves.{after_from}
 use Rattle.pm_laws.proofs.Order.{after_append, legal_append, last_rises}
 use Rattle.pm_laws.proofs.Facts.{cleared_within, updated_at}
@@ -148,19 +148,19 @@ pub never_back : (lists : Lists) → Lawful lists → (p : Pricing) (net : Netwo
     IsNode lists x →
     i < length (net.prices_sent x) → j < length (net.prices_sent x) → (sent_price net x i).index ≤ (sent_price net x j).index → (d : ℕ) →
     IsLeaf lists d →
-    cleared s (sent_price net x i).index d ≤ cleared s (sent_price net x j).index d
+    cleared_cut s (sent_price net x i).index d ≤ cleared_cut s (sent_price net x j).index d
 never_back lists law p net s agrees x i j node i_lt j_lt le d leaf =
     cleared_within lists law s agrees.sound (sent_price net x i).index (sent_price net x j).index le
     (due_within lists s agrees.sound x (sent_price net x j).index (agrees.prices_sent x j node j_lt).0).1 d leaf
 
 -- what is taken is newer
 moved : (lists : Lists) (net : Network) (y k x : ℕ) → is_new_price lists net y (sent_price net y k) ≡ true → (after : Network) →
-    after.taken ≡ updated net.taken y (sent_price net y k) → IsSameOrNewer net x after
+    after.taken ≡ update net.taken y (sent_price net y k) → IsSameOrNewer net x after
 unfolding is_new_price
 moved lists net y k x newer after is =
     let lt = ltb-true (net.taken y).index (sent_price net y k).index (and_parts (is_node lists y) (ltb (net.taken y).index
     (sent_price net y k).index) newer).1 in
-    let at : after.taken x ≡ updated net.taken y (sent_price net y k) x = ap (λ (f : ℕ → PriceMessage). f x) is in
+    let at : after.taken x ≡ update net.taken y (sent_price net y k) x = ap (λ (f : ℕ → PriceMessage). f x) is in
     elim (updated_at net.taken y (sent_price net y k) x) [
       | inl w ↦ inr (omega (
         arith,
@@ -239,5 +239,5 @@ restart_within lists p net x k =
 
 -- nobody's place in the journal falls
 pub place_rises : (lists : Lists) → Lawful lists → (p : Pricing) (net : Network) (s : State) (goes : GoesOn lists p s net) (old : Network) →
-    NetworkAgrees lists p old s → (x : ℕ) → last s x ≤ last (after_from lists s goes.moves) x
+    NetworkAgrees lists p old s → (x : ℕ) → last_index s x ≤ last_index (after_from lists s goes.moves) x
 place_rises lists law p net s goes old agrees x = last_rises lists law goes.moves s agrees.sound goes.legal x

@@ -7,7 +7,7 @@ use Rattle.pm_base.specs.Cuts.{Cut}
 use Rattle.pm_base.specs.Limits.{window_size}
 use Rattle.pm_bid.specs.Limited.{within_limits}
 use Rattle.pm_market.specs.Lists.{Lists, nodes, parent, is_leaf, IsNode, IsInner, IsConcentrator, Lawful}
-use Rattle.pm_market.specs.State.{State, updated, is_same_on, cut_at, newest, part, known, last}
+use Rattle.pm_market.specs.State.{State, update, is_same_on, cut_at, newest_number_of, part, knowledge, last_index}
 use Rattle.pm_market.specs.Legality.{is_node}
 use Rattle.pm_market.specs.Moves.{step, Legal, LegalFrom, after_from}
 use Rattle.pm_market.specs.Sound.{Sound}
@@ -89,11 +89,11 @@ module _ (lists : Lists) (law : Lawful lists) (p : Pricing) (by : GoesByNodes li
 
   legal : Legal lists knows (Publish c n)
   legal =
-      let is_newest : newest lists s c ≡ length (s.published c) = newest_inner lists s.counts s.published c inner in
-      let its_part : part lists s c (newest lists s c) ≡ cut_at (s.published c) (length (s.published c)) =
+      let is_newest : newest_number_of lists s c ≡ length (s.published c) = newest_inner lists s.counts s.published c inner in
+      let its_part : part lists s c (newest_number_of lists s c) ≡ cut_at (s.published c) (length (s.published c)) =
       ap (part lists s c) is_newest ∙ part_inner lists s.published c (length (s.published c)) inner in (
         conc,
-        ap (λ (cut : Cut). is_same_on lists c (known lists knows c) cut) its_part
+        ap (λ (cut : Cut). is_same_on lists c (knowledge lists knows c) cut) its_part
             ∙ adding.differs lists law p by net s agrees c inner l sound here parts.2,
         omega (arith, parts.3, is_newest, agrees.last_number c inner, answered_within lists law p net s agrees c conc),
         omega (arith, is_newest, agrees.last_number c inner),
@@ -103,16 +103,16 @@ module _ (lists : Lists) (law : Lawful lists) (p : Pricing) (by : GoesByNodes li
   has = publishing lists knows c n law sound legal
 
   -- the bid that is sent
-  number_is : n ≡ newest lists s c + 1
+  number_is : n ≡ newest_number_of lists s c + 1
   number_is = omega (arith, newest_inner lists s.counts s.published c inner, agrees.last_number c inner)
 
   new_bid : IsItsBid lists p next c (relay_bid p net c)
   new_bid =
       let gone : is_gone lists c n ≡ false = gone_inner lists c n inner ∙ ne_eqb n 0 (λ e. omega arith) in
-      let its_part : part lists next c n ≡ known lists knows c = ap (part lists next c) number_is ∙ has.part_added in
+      let its_part : part lists next c n ≡ knowledge lists knows c = ap (part lists next c) number_is ∙ has.part_added in
       let demand : within_limits (p.limits c) (heard_sum p net c) ≡ p.offer c (part lists next c n) =
       ap (within_limits (p.limits c)) (adding.sum_is lists law p by net s agrees c inner l sound here)
-      ∙ sym (by.relay c (known lists knows c) conc) ∙ ap (p.offer c) (sym its_part) in (
+      ∙ sym (by.relay c (knowledge lists knows c) conc) ∙ ap (p.offer c) (sym its_part) in (
         omega (arith, number_is, has.newest_added),
         ap (λ g. bid_message n g (within_limits (p.limits c) (heard_sum p net c))) (sym gone) ∙ ap (bid_message n (is_gone lists c n)) demand,
       )
@@ -142,7 +142,7 @@ module _ (lists : Lists) (law : Lawful lists) (p : Pricing) (by : GoesByNodes li
     bids_sent = λ x k node lt.
         let P : List BidMessage → Type 0 = λ l. (i : ℕ) → i < length l → IsItsBid lists p next x (get_or l i (nothing_heard p)) in
         let old : P (net.bids_sent x) = λ i below. kept_bid x (get_or (net.bids_sent x) i (nothing_heard p)) (agrees.bids_sent x i node below) in
-        let all : P (updated net.bids_sent c (net.bids_sent c ++ relay_bid p net c ∷ []) x) =
+        let all : P (update net.bids_sent c (net.bids_sent c ++ relay_bid p net c ∷ []) x) =
         elim (updated_at net.bids_sent c (net.bids_sent c ++ relay_bid p net c ∷ []) x) [
           | inl w ↦ subst P (sym w.1) (each_push (IsItsBid lists p next x) (net.bids_sent c) (relay_bid p net c) (nothing_heard p)
               (subst (λ (z : ℕ). P (net.bids_sent z)) w.0 old) (subst (λ (z : ℕ). IsItsBid lists p next z (relay_bid p net c)) (sym w.0) new_bid))
@@ -154,13 +154,13 @@ module _ (lists : Lists) (law : Lawful lists) (p : Pricing) (by : GoesByNodes li
     newest_sent = λ none x node some. elim (updated_at net.bids_sent c (net.bids_sent c ++ relay_bid p net c ∷ []) x) [
       | inl w ↦
           let P : List BidMessage → Type 0 =
-          λ l. (k : ℕ) × (k < length l) × ((get_or l k (nothing_heard p)).number ≡ newest lists next x) in
-          let is : newest lists next x ≡ n = ap (newest lists next) w.0 ∙ has.newest_added ∙ sym number_is in
-          subst P (sym w.1) (new_push (λ (b : BidMessage). b.number ≡ newest lists next x) (net.bids_sent c) (relay_bid p net c) (nothing_heard p) (sym is))
+          λ l. (k : ℕ) × (k < length l) × ((get_or l k (nothing_heard p)).number ≡ newest_number_of lists next x) in
+          let is : newest_number_of lists next x ≡ n = ap (newest_number_of lists next) w.0 ∙ has.newest_added ∙ sym number_is in
+          subst P (sym w.1) (new_push (λ (b : BidMessage). b.number ≡ newest_number_of lists next x) (net.bids_sent c) (relay_bid p net c) (nothing_heard p) (sym is))
       | inr w ↦
           let P : List BidMessage → Type 0 =
-          λ l. (k : ℕ) × (k < length l) × ((get_or l k (nothing_heard p)).number ≡ newest lists next x) in
-          let same : newest lists next x ≡ newest lists s x = has.newest_kept x w.0 in
+          λ l. (k : ℕ) × (k < length l) × ((get_or l k (nothing_heard p)).number ≡ newest_number_of lists next x) in
+          let same : newest_number_of lists next x ≡ newest_number_of lists s x = has.newest_kept x w.0 in
           let old = agrees.newest_sent none x node (omega (arith, some, same)) in
           subst P (sym w.1) (old.0, old.1, old.2 ∙ sym same)
     ];
@@ -169,7 +169,7 @@ module _ (lists : Lists) (law : Lawful lists) (p : Pricing) (by : GoesByNodes li
     due_root = λ none x j node up due. agrees.due_root none x j node up (sym (due_same x j) ∙ due);
     due_through = λ x node p_conc at through all due.
         let was = adding.through_is lists law p by net s agrees c inner l sound here there has x node p_conc through all in
-        agrees.due_through x node p_conc at was.0 was.1 (sym (due_same x (last s (parent lists x))) ∙ due);
+        agrees.due_through x node p_conc at was.0 was.1 (sym (due_same x (last_index s (parent lists x))) ∙ due);
   }
 
   -- a bid that a relay sends: the Learns of what it heard, and a Publish

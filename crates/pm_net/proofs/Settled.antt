@@ -5,7 +5,7 @@ use Rattle.std.proofs.lemmas.Bool.{cases_eq, cases_Bool, cond-true, cond-false, 
 use Rattle.pm_base.specs.Cuts.{Cut}
 use Rattle.pm_base.specs.Limits.{window_size}
 use Rattle.pm_market.specs.Lists.{Lists, parent, nodes, is_leaf, is_member, IsNode, IsLeaf, IsInner, IsConcentrator, Lawful}
-use Rattle.pm_market.specs.State.{State, is_same_on, cut_at, newest, part, known, number, last, clearings, cleared, addresses}
+use Rattle.pm_market.specs.State.{State, is_same_on, cut_at, newest_number_of, part, knowledge, number, last_index, clearings, cleared_cut, addresses}
 use Rattle.pm_market.specs.Legality.{is_node}
 use Rattle.pm_market.specs.Sound.{Sound}
 use Rattle.pm_market.specs.declared.moves.Move.TheVariants.{Publish, Clear, Pass}
@@ -37,7 +37,7 @@ use Rattle.pm_net.proofs.Answered.{answered_exact}
 
 -- the number of a node's newest bid is its newest number
 pub own_is : (lists : Lists) (p : Pricing) (net : Network) (s : State) → NetworkAgrees lists p net s → (x : ℕ) →
-    made_number lists net x ≡ newest lists s x
+    made_number lists net x ≡ newest_number_of lists s x
 own_is lists p net s agrees x = elim (cases_Bool (is_leaf lists x)) [
   | inl leaf ↦ cond-true (is_leaf lists x) (net.counts x) (net.last_number x) leaf ∙ agrees.counts x leaf
       ∙ sym (newest_leaf lists s.counts s.published x leaf)
@@ -81,7 +81,7 @@ told_there lists law p net s agrees unbroken cannot x node up stays =
 pub own_heard : (lists : Lists) (p : Pricing) (net : Network) (s : State) → NetworkAgrees lists p net s → IsUnbroken net → (x : ℕ) →
     IsNode lists x →
     ((k : ℕ) → k < length (net.bids_sent x) → (sent_bid p net x k).number ≤ (net.heard x).number) → made_number lists net x ≤ (net.heard x).number
-own_heard lists p net s agrees unbroken x node all = elim (cases_eq (newest lists s x) 0) [
+own_heard lists p net s agrees unbroken x node all = elim (cases_eq (newest_number_of lists s x) 0) [
   | inl e ↦ omega (arith, own_is lists p net s agrees x, e)
   | inr ne ↦ let at = agrees.newest_sent unbroken x node (omega arith) in omega (arith, own_is lists p net s agrees x, at.2, all at.0 at.1)
 ]
@@ -107,7 +107,7 @@ module _ (lists : Lists) (law : Lawful lists) (p : Pricing) (by : GoesByNodes li
   sound : Sound lists knows
   sound = learning_sound lists test numbers s (λ x node. (agrees.heard x node).0) law agrees.sound l learns
 
-  newest_heard : (x : ℕ) → IsNode lists x → newest lists s x ≤ (net.heard x).number
+  newest_heard : (x : ℕ) → IsNode lists x → newest_number_of lists s x ≤ (net.heard x).number
   newest_heard x node = omega (arith, own_is lists p net s agrees x, settled.bids x node)
 
   learnt_heard : (x : ℕ) → IsNode lists x → s.learnt x ≤ (net.heard x).number
@@ -121,25 +121,25 @@ module _ (lists : Lists) (law : Lawful lists) (p : Pricing) (by : GoesByNodes li
 
   -- a node without news knows what it published or cleared last
   same_top : (y : ℕ) → IsInner lists y → has_news lists net y ≡ false →
-      is_same_on lists y (known lists knows y) (cut_at (s.published y) (length (s.published y))) ≡ true
+      is_same_on lists y (knowledge lists knows y) (cut_at (s.published y) (length (s.published y))) ≡ true
   same_top y inner none = (known_heads lists law knows sound y inner).1 (λ x node up.
       ap (λ (z : ℕ). number lists s x (cut_at (s.published z) (length (s.published z)))) (sym up) ∙ sym (agrees.learnt x node)
       ∙ sym (no_news lists law p net s agrees y none x node up) ∙ sym (heard_is x node))
 
   -- each node holds the price passed to it last
-  holds_last : (x : ℕ) → IsNode lists x → (net.taken x).index ≡ last s x
-  holds_last x node = elim (cases_eq (last s x) 0) [
+  holds_last : (x : ℕ) → IsNode lists x → (net.taken x).index ≡ last_index s x
+  holds_last x node = elim (cases_eq (last_index s x) 0) [
     | inl e ↦ omega (arith, agrees.index x node)
     | inr ne ↦
         let at = agrees.last_sent x node (omega arith) in
         omega (arith, agrees.index x node, at.2, settled.prices x at.0 node at.1)
   ]
 
-  answered_is : (c : ℕ) → IsConcentrator lists c → net.answered c ≡ number lists s c (cleared s (last s c))
+  answered_is : (c : ℕ) → IsConcentrator lists c → net.answered c ≡ number lists s c (cleared_cut s (last_index s c))
   answered_is c conc = answered_exact lists law p net s agrees c conc (holds_last c (conc.0, conc.1))
 
   -- a relay all of whose numbers are answered has no news
-  none_there : (c : ℕ) → IsConcentrator lists c → newest lists s c - number lists s c (cleared s (last s c)) ≡ 0 → has_news lists net c ≡ false
+  none_there : (c : ℕ) → IsConcentrator lists c → newest_number_of lists s c - number lists s c (cleared_cut s (last_index s c)) ≡ 0 → has_news lists net c ≡ false
   unfolding can_send
   none_there c conc all =
       elim (cases_Bool (has_news lists net c)) [
@@ -170,10 +170,10 @@ module _ (lists : Lists) (law : Lawful lists) (p : Pricing) (by : GoesByNodes li
             (caught c)) e)
             (lt-ltb (net.last_number c - net.answered c) window_size room))
         | inr e ↦
-            let its_part : part lists s c (newest lists s c) ≡ cut_at (s.published c) (length (s.published c)) =
+            let its_part : part lists s c (newest_number_of lists s c) ≡ cut_at (s.published c) (length (s.published c)) =
             ap (part lists s c) (newest_inner lists s.counts s.published c conc.2) ∙ part_inner lists s.published c (length (s.published c)) conc.2 in
-            both_ways (is_same_on lists c (known lists knows c) (part lists s c (newest lists s c))) legal.1
-            (ap (λ (cut : Cut). is_same_on lists c (known lists knows c) cut) its_part ∙ same_top c conc.2 e)
+            both_ways (is_same_on lists c (knowledge lists knows c) (part lists s c (newest_number_of lists s c))) legal.1
+            (ap (λ (cut : Cut). is_same_on lists c (knowledge lists knows c) cut) its_part ∙ same_top c conc.2 e)
       ]
 
   clears : (j : ℕ) → NodeLegal lists knows (Clear j) → ⊥
@@ -181,11 +181,11 @@ module _ (lists : Lists) (law : Lawful lists) (p : Pricing) (by : GoesByNodes li
   clears j legal =
       elim (cases_Bool (has_news lists net 0)) [
         | inl e ↦ both_ways (is_caught_up lists net 0 && has_news lists net 0) settled.auctioneer (and_from _ _ (caught 0) e)
-        | inr e ↦ both_ways (is_same_on lists 0 (known lists knows 0) (cleared s (clearings s))) legal.0 (same_top 0 (leaf_zero lists) e)
+        | inr e ↦ both_ways (is_same_on lists 0 (knowledge lists knows 0) (cleared_cut s (clearings s))) legal.0 (same_top 0 (leaf_zero lists) e)
       ]
 
   passes : (x : ℕ) → ((parent lists x ≡ 0 → ⊥) →
-      newest lists s (parent lists x) - number lists s (parent lists x) (cleared s (last s (parent lists x))) ≡ 0) →
+      newest_number_of lists s (parent lists x) - number lists s (parent lists x) (cleared_cut s (last_index s (parent lists x))) ≡ 0) →
       NodeLegal lists knows (Pass x (clearings s)) → ⊥
   passes x all legal =
       let node : IsNode lists x = legal.0 in
@@ -199,11 +199,11 @@ module _ (lists : Lists) (law : Lawful lists) (p : Pricing) (by : GoesByNodes li
         | inr ne ↦
             let c : ℕ = parent lists x in
             let conc : IsConcentrator lists c = (omega arith, omega (arith, law.earlier x node, node.1), law.inner x node) in
-            let came : clearings s ≤ last s c = elim legal.1 [
+            let came : clearings s ≤ last_index s c = elim legal.1 [
               | inl root ↦ absurd (ne root.0)
               | inr among ↦ contains_within lists s agrees.sound c (clearings s) among
             ] in
-            let is : last s c ≡ clearings s = omega (arith, came, last_within lists s agrees.sound c) in
+            let is : last_index s c ≡ clearings s = omega (arith, came, last_within lists s agrees.sound c) in
             let none : has_news lists net c ≡ false = none_there c conc (all ne) in
             let at = agrees.due_through x node conc (holds_last c (conc.0, conc.1))
             (omega (arith, all ne, agrees.last_number c conc.2, newest_inner lists s.counts s.published c conc.2))
@@ -226,7 +226,7 @@ module _ (lists : Lists) (law : Lawful lists) (p : Pricing) (by : GoesByNodes li
   }
 
   -- the last clearing is over all bids ever sent
-  pub all_counted : (d : ℕ) → IsLeaf lists d → cleared s (clearings s) d ≡ net.counts d
+  pub all_counted : (d : ℕ) → IsLeaf lists d → cleared_cut s (clearings s) d ≡ net.counts d
   all_counted d leaf = rest_counts lists law knows sound idle d leaf ∙ sym (agrees.counts d leaf)
 
   -- a member has been told something
@@ -239,14 +239,14 @@ module _ (lists : Lists) (law : Lawful lists) (p : Pricing) (by : GoesByNodes li
   all_held d leaf member =
       let node : IsNode lists d = leaf_node lists law d leaf in
       let at = rest_passed lists law knows sound idle d leaf (ap (is_member lists d) (sym (agrees.counts d leaf)) ∙ member) in
-      let held : net.taken d ≡ price_of_clearing lists p s d (last s d) = elim (agrees.taken d node) [
+      let held : net.taken d ≡ price_of_clearing lists p s d (last_index s d) = elim (agrees.taken d node) [
         | inl nothing ↦ absurd (omega (arith, at.0, at.1, holds_last d node, ap (λ (q : PriceMessage). q.index) nothing))
         | inr its ↦ its.1 ∙ ap (price_of_clearing lists p s d) (holds_last d node)
       ] in
       held ∙ ap (price_of_clearing lists p s d) at.1
-      ∙ ap (λ (n : ℕ). price_message n (clearings s) (p.local (cleared s (clearings s)) d)) (number_leaf lists s.published d (cleared s
+      ∙ ap (λ (n : ℕ). price_message n (clearings s) (p.local (cleared_cut s (clearings s)) d)) (number_leaf lists s.published d (cleared_cut s
       (clearings s)) leaf ∙ all_counted d leaf)
-      ∙ ap (price_message (net.counts d) (clearings s)) (by.steps_alike d (cleared s (clearings s)) net.counts node all_counted)
+      ∙ ap (price_message (net.counts d) (clearings s)) (by.steps_alike d (cleared_cut s (clearings s)) net.counts node all_counted)
 
 -- while nothing restarted it is enough that no message is left that anybody would take, and nothing new can be sent
 pub taken_settles : (lists : Lists) → Lawful lists → (p : Pricing) (net : Network) (s : State) → NetworkAgrees lists p net s → IsUnbroken net →

@@ -6,7 +6,7 @@ use Rattle.std.proofs.lemmas.Bool.{cases_eq, cases_lt, cases_Bool, and_parts, an
 use Rattle.std.specs.List.{Contains}
 use Rattle.pm_bid.specs.Limited.{local_step}
 use Rattle.pm_market.specs.Lists.{Lists, parent, is_leaf, IsNode, IsLeaf, IsInner, IsConcentrator, Lawful}
-use Rattle.pm_market.specs.State.{State, updated, cut_at, newest, part, number, last, clearings, cleared, addresses}
+use Rattle.pm_market.specs.State.{State, update, cut_at, newest_number_of, part, number, last_index, clearings, cleared_cut, addresses}
 use Rattle.pm_market.specs.Legality.{is_node}
 use Rattle.pm_market.proofs.Cuts.{updated_same, updated_other}
 use Rattle.pm_market.proofs.Legality.{is_node_from}
@@ -70,42 +70,42 @@ module _ (lists : Lists) (law : Lawful lists) (p : Pricing) (by : GoesByNodes li
     abbrev next : State
     next = record s { passed = caught.passed }
 
-    last_kept : (y : ℕ) → (y ≡ x → ⊥) → last next y ≡ last s y
+    last_kept : (y : ℕ) → (y ≡ x → ⊥) → last_index next y ≡ last_index s y
     last_kept y ne = catch.last_kept lists law s agrees.sound x node test j within.0 caught y ne
 
-    last_new : last s x < j → last next x ≡ j
+    last_new : last_index s x < j → last_index next x ≡ j
     last_new lt = catch.last_new lists law s agrees.sound x node test j within.0 caught passes lt
 
-    last_old : j ≤ last s x → last next x ≡ last s x
+    last_old : j ≤ last_index s x → last_index next x ≡ last_index s x
     last_old le = catch.last_old lists law s agrees.sound x node test j within.0 caught le
 
     due_more : (y i : ℕ) → is_due lists s y i ≡ true → is_due lists next y i ≡ true
     due_more y i due = catch.due_more lists law s agrees.sound x node test j within.0 caught y i due
 
-    due_cases : (y i : ℕ) → is_due lists next y i ≡ true → (is_due lists s y i ≡ true) ⊎ ((parent lists y ≡ x) × (last s x < i) × (i ≤ j))
+    due_cases : (y i : ℕ) → is_due lists next y i ≡ true → (is_due lists s y i ≡ true) ⊎ ((parent lists y ≡ x) × (last_index s x < i) × (i ≤ j))
     due_cases y i due = catch.due_cases lists law s agrees.sound x node test j within.0 caught y i due
 
     its_price : (y : ℕ) (q : PriceMessage) → IsItsPrice lists p s y q → IsItsPrice lists p next y q
     its_price y q at = (due_more y q.index at.0, at.1)
 
-    index_is : (y : ℕ) → IsNode lists y → (updated net.taken x price y).index ≤ last next y
+    index_is : (y : ℕ) → IsNode lists y → (update net.taken x price y).index ≤ last_index next y
     index_is y y_node = elim (updated_at net.taken x price y) [
-      | inl w ↦ elim (cases_lt (last s x) j) [
-        | inl lt ↦ omega (arith, ap (λ (q : PriceMessage). q.index) w.1, last_new lt, ap (last next) w.0)
-        | inr ge ↦ omega (arith, ap (λ (q : PriceMessage). q.index) w.1, last_old ge, ap (last next) w.0, ge)
+      | inl w ↦ elim (cases_lt (last_index s x) j) [
+        | inl lt ↦ omega (arith, ap (λ (q : PriceMessage). q.index) w.1, last_new lt, ap (last_index next) w.0)
+        | inr ge ↦ omega (arith, ap (λ (q : PriceMessage). q.index) w.1, last_old ge, ap (last_index next) w.0, ge)
       ]
       | inr w ↦ omega (arith, ap (λ (q : PriceMessage). q.index) w.1, agrees.index y y_node, last_kept y w.0)
     ]
 
-    device_index_is : (y : ℕ) → IsLeaf lists y → net.restarts y ≡ 0 → (updated net.taken x price y).index ≡ last next y
+    device_index_is : (y : ℕ) → IsLeaf lists y → net.restarts y ≡ 0 → (update net.taken x price y).index ≡ last_index next y
     device_index_is y leaf none = elim (updated_at net.taken x price y) [
       | inl w ↦
           let at = agrees.device_index x (subst (λ (z : ℕ). IsLeaf lists z) w.0 leaf) (ap net.restarts (sym w.0) ∙ none) in
-          omega (arith, ap (λ (q : PriceMessage). q.index) w.1, last_new (omega (arith, at, parts.1)), ap (last next) w.0)
+          omega (arith, ap (λ (q : PriceMessage). q.index) w.1, last_new (omega (arith, at, parts.1)), ap (last_index next) w.0)
       | inr w ↦ omega (arith, ap (λ (q : PriceMessage). q.index) w.1, agrees.device_index y leaf none, last_kept y w.0)
     ]
 
-    taken_is : (y : ℕ) → IsNode lists y → HoldsIts lists p next y (updated net.taken x price y)
+    taken_is : (y : ℕ) → IsNode lists y → HoldsIts lists p next y (update net.taken x price y)
     taken_is y y_node = elim (updated_at net.taken x price y) [
       | inl w ↦ inr (subst (IsItsPrice lists p next y) (sym w.1) (subst (λ (z : ℕ). IsItsPrice lists p next z price) (sym w.0) (its_price x price its)))
       | inr w ↦ subst (HoldsIts lists p next y) (sym w.1) (elim (agrees.taken y y_node) [
@@ -114,18 +114,18 @@ module _ (lists : Lists) (law : Lawful lists) (p : Pricing) (by : GoesByNodes li
       ])
     ]
 
-    full_is : (c i : ℕ) → IsConcentrator lists c → is_due lists next c i ≡ true → i ≤ last next c → Contains (next.passed c) i
+    full_is : (c i : ℕ) → IsConcentrator lists c → is_due lists next c i ≡ true → i ≤ last_index next c → Contains (next.passed c) i
     full_is c i conc due le = elim (cases_eq c x) [
       | inl e ↦
           let due_x : is_due lists next x i ≡ true = subst (λ (z : ℕ). is_due lists next z i ≡ true) e due in
-          let le_x : i ≤ last next x = omega (arith, le, ap (last next) e) in
+          let le_x : i ≤ last_index next x = omega (arith, le, ap (last_index next) e) in
           let inner_x : IsInner lists x = subst (λ (z : ℕ). IsInner lists z) e conc.2 in
           let was : is_due lists s x i ≡ true = elim (due_cases x i due_x) as (λ w. is_due lists s x i ≡ true) [
             | inl old ↦ old
             | inr new ↦ absurd (no_own_child new.0)
           ] in
-          subst (λ (z : ℕ). Contains (caught.passed z) i) (sym e) (elim (cases_lt (last s x) i) [
-            | inl above ↦ elim (cases_lt (last s x) j) [
+          subst (λ (z : ℕ). Contains (caught.passed z) i) (sym e) (elim (cases_lt (last_index s x) i) [
+            | inl above ↦ elim (cases_lt (last_index s x) j) [
               | inl lt ↦ caught.all i (complete inner_x i was) above (omega (arith, le_x, last_new lt))
               | inr ge ↦ absurd (omega (arith, le_x, last_old ge, above))
             ]
@@ -139,20 +139,20 @@ module _ (lists : Lists) (law : Lawful lists) (p : Pricing) (by : GoesByNodes li
           le,
           last_kept c ne,
           last_below lists s agrees.sound c (omega (arith, new.0, node.0)),
-          ap (last s) new.0,
+          ap (last_index s) new.0,
         ))
       ])
     ]
 
-    last_sent_is : (y : ℕ) → IsNode lists y → 0 < last next y →
-        (i : ℕ) × (i < length (net.prices_sent y)) × ((sent_price net y i).index ≡ last next y)
+    last_sent_is : (y : ℕ) → IsNode lists y → 0 < last_index next y →
+        (i : ℕ) × (i < length (net.prices_sent y)) × ((sent_price net y i).index ≡ last_index next y)
     last_sent_is y y_node some = elim (cases_eq y x) [
       | inl e ↦
-          let here : (i : ℕ) × (i < length (net.prices_sent x)) × ((sent_price net x i).index ≡ last next x) = elim (cases_lt (last s x) j) [
+          let here : (i : ℕ) × (i < length (net.prices_sent x)) × ((sent_price net x i).index ≡ last_index next x) = elim (cases_lt (last_index s x) j) [
             | inl lt ↦ (k, inside, sym (last_new lt))
             | inr ge ↦ let old = agrees.last_sent x node (omega (arith, ge, within.0)) in (old.0, old.1, old.2 ∙ sym (last_old ge))
           ] in
-          subst (λ (z : ℕ). (i : ℕ) × (i < length (net.prices_sent z)) × ((sent_price net z i).index ≡ last next z)) (sym e) here
+          subst (λ (z : ℕ). (i : ℕ) × (i < length (net.prices_sent z)) × ((sent_price net z i).index ≡ last_index next z)) (sym e) here
       | inr ne ↦ let old = agrees.last_sent y y_node (omega (arith, some, last_kept y ne)) in (old.0, old.1, old.2 ∙ sym (last_kept y ne))
     ]
 
@@ -164,22 +164,22 @@ module _ (lists : Lists) (law : Lawful lists) (p : Pricing) (by : GoesByNodes li
     ]
 
     -- what was sent on is there still where the last clearing passed to the parent is the same
-    through_old : (y : ℕ) → IsNode lists y → IsConcentrator lists (parent lists y) → last next (parent lists y) ≡ last s (parent lists y) →
-        (net.taken (parent lists y)).index ≡ last next (parent lists y) →
-        net.last_number (parent lists y) ≤ number lists s (parent lists y) (cleared s (last next (parent lists y))) →
-        ((z : ℕ) → IsNode lists z → parent lists z ≡ parent lists y → s.learnt z ≡ newest lists s z) →
-        is_due lists next y (last next (parent lists y)) ≡ true →
-        (h : ℕ) × (h < length (net.prices_sent y)) × ((sent_price net y h).index ≡ last next (parent lists y))
+    through_old : (y : ℕ) → IsNode lists y → IsConcentrator lists (parent lists y) → last_index next (parent lists y) ≡ last_index s (parent lists y) →
+        (net.taken (parent lists y)).index ≡ last_index next (parent lists y) →
+        net.last_number (parent lists y) ≤ number lists s (parent lists y) (cleared_cut s (last_index next (parent lists y))) →
+        ((z : ℕ) → IsNode lists z → parent lists z ≡ parent lists y → s.learnt z ≡ newest_number_of lists s z) →
+        is_due lists next y (last_index next (parent lists y)) ≡ true →
+        (h : ℕ) × (h < length (net.prices_sent y)) × ((sent_price net y h).index ≡ last_index next (parent lists y))
     through_old y y_node p_conc same at through all due =
-        let was : is_due lists s y (last next (parent lists y)) ≡ true = elim (due_cases y (last next (parent lists y)) due)
-        as (λ w. is_due lists s y (last next (parent lists y)) ≡ true) [
+        let was : is_due lists s y (last_index next (parent lists y)) ≡ true = elim (due_cases y (last_index next (parent lists y)) due)
+        as (λ w. is_due lists s y (last_index next (parent lists y)) ≡ true) [
           | inl old ↦ old
-          | inr new ↦ absurd (omega (arith, new.1, same, ap (last s) new.0))
+          | inr new ↦ absurd (omega (arith, new.1, same, ap (last_index s) new.0))
         ] in
         let sent = agrees.due_through y y_node p_conc (at ∙ same) (omega (
           arith,
           through,
-          ap (λ (i : ℕ). number lists s (parent lists y) (cleared s i)) same,
+          ap (λ (i : ℕ). number lists s (parent lists y) (cleared_cut s i)) same,
         )) all (ap (is_due lists s y) (sym same) ∙ was) in
         (sent.0, sent.1, sent.2 ∙ sym same)
 
@@ -188,8 +188,8 @@ module _ (lists : Lists) (law : Lawful lists) (p : Pricing) (by : GoesByNodes li
         let Stands : State → Type 0 = λ t. NetworkAgrees lists p after t in
         record {
           goes = record { moves = caught.moves; legal = caught.legal; agrees = subst Stands (sym caught.ends) at };
-          move = elim (cases_lt (last s x) j) [
-            | inl lt ↦ inr (lt, ap (λ (t : State). last t x) caught.ends ∙ last_new lt)
+          move = elim (cases_lt (last_index s x) j) [
+            | inl lt ↦ inr (lt, ap (λ (t : State). last_index t x) caught.ends ∙ last_new lt)
             | inr ge ↦ inl (caught.ends ∙ ap (λ (q : ℕ → List ℕ). record s { passed = q }) (caught.none ge))
           ];
         }
@@ -267,7 +267,7 @@ module _ (lists : Lists) (law : Lawful lists) (p : Pricing) (by : GoesByNodes li
     abbrev its_caught : Caught lists s x due_test j
     its_caught = caught due_test due_fits its.0 all_due
 
-    last_same : (y : ℕ) → (y ≡ x → ⊥) → last heard_state y ≡ last s y
+    last_same : (y : ℕ) → (y ≡ x → ⊥) → last_index heard_state y ≡ last_index s y
     last_same y ne = last_kept due_test due_fits its.0 all_due y ne
 
     named : (1 ≤ price.number) × (net.answered x ≤ price.number) × (price.number ≤ net.last_number x)
@@ -277,34 +277,34 @@ module _ (lists : Lists) (law : Lawful lists) (p : Pricing) (by : GoesByNodes li
         let b = and_parts (leb 1 price.number) (leb (net.answered x) price.number) a.0 in
         (leb-true 1 price.number b.0, leb-true (net.answered x) price.number b.1, leb-true price.number (net.last_number x) a.1)
 
-    number_is : price.number ≡ number lists s x (cleared s j)
+    number_is : price.number ≡ number lists s x (cleared_cut s j)
     number_is = ap (λ (q : PriceMessage). q.number) its.1
 
-    answered_is : (c : ℕ) → IsConcentrator lists c → updated net.answered x price.number c ≡ (updated net.taken x price c).number
+    answered_is : (c : ℕ) → IsConcentrator lists c → update net.answered x price.number c ≡ (update net.taken x price c).number
     answered_is c c_conc = elim (cases_eq c x) [
-      | inl e ↦ ap (updated net.answered x price.number) e ∙ updated_same net.answered x price.number
-          ∙ ap (λ (q : PriceMessage). q.number) (sym (updated_same net.taken x price)) ∙ ap (λ (z : ℕ). (updated net.taken x price z).number) (sym e)
+      | inl e ↦ ap (update net.answered x price.number) e ∙ updated_same net.answered x price.number
+          ∙ ap (λ (q : PriceMessage). q.number) (sym (updated_same net.taken x price)) ∙ ap (λ (z : ℕ). (update net.taken x price z).number) (sym e)
       | inr ne ↦ updated_other net.answered x price.number c ne ∙ agrees.answered c c_conc
           ∙ ap (λ (q : PriceMessage). q.number) (sym (updated_other net.taken x price c ne))
     ]
 
     -- where the relay holds the last price passed to it then, that is the one
-    is_last : (y : ℕ) → parent lists y ≡ x → (updated net.taken x price (parent lists y)).index ≡ last heard_state (parent lists y) →
-        last heard_state (parent lists y) ≡ j
+    is_last : (y : ℕ) → parent lists y ≡ x → (update net.taken x price (parent lists y)).index ≡ last_index heard_state (parent lists y) →
+        last_index heard_state (parent lists y) ≡ j
     is_last y up at = omega (
       arith,
       at,
-      ap (λ (z : ℕ). (updated net.taken x price z).index) up,
+      ap (λ (z : ℕ). (update net.taken x price z).index) up,
       ap (λ (q : PriceMessage). q.index) (updated_same net.taken x price),
     )
 
-    elsewhere : (y : ℕ) → (parent lists y ≡ x → ⊥) → (updated net.taken x price (parent lists y)).index ≡ last heard_state (parent lists y) →
-        (net.taken (parent lists y)).index ≡ last heard_state (parent lists y)
+    elsewhere : (y : ℕ) → (parent lists y ≡ x → ⊥) → (update net.taken x price (parent lists y)).index ≡ last_index heard_state (parent lists y) →
+        (net.taken (parent lists y)).index ≡ last_index heard_state (parent lists y)
     elsewhere y ne at = omega (arith, at, ap (λ (q : PriceMessage). q.index) (updated_other net.taken x price (parent lists y) ne))
 
     -- the clearing has reached it now
     came : Contains (its_caught.passed x) j
-    came = elim (cases_lt (last s x) j) [
+    came = elim (cases_lt (last_index s x) j) [
       | inl lt ↦ its_caught.all j its.0 lt (omega arith)
       | inr ge ↦ its_caught.old j (agrees.full x j conc its.0 ge)
     ]
@@ -312,7 +312,7 @@ module _ (lists : Lists) (law : Lawful lists) (p : Pricing) (by : GoesByNodes li
     -- its record is lost
     module _ (lost : leb (net.whole_from x) price.number ≡ false) (goes : waits lists net x price.number ≡ false) where
       -- a child sent a newer number than the one learnt, where the price names the newest bid
-      behind : price.number ≡ net.last_number x → ((z : ℕ) → IsNode lists z → parent lists z ≡ x → s.learnt z ≡ newest lists s z) → ⊥
+      behind : price.number ≡ net.last_number x → ((z : ℕ) → IsNode lists z → parent lists z ≡ x → s.learnt z ≡ newest_number_of lists s z) → ⊥
       unfolding waits
       behind is all = elim (cases_Bool (is_overtaken lists net x)) [
         | inl e ↦ overtaken lists law p net s agrees x e (λ z z_node up. omega (arith, all z z_node up, (agrees.heard z z_node).0))
@@ -344,15 +344,15 @@ module _ (lists : Lists) (law : Lawful lists) (p : Pricing) (by : GoesByNodes li
         due_root = due_root_is due_test due_fits its.0 all_due;
         due_through = λ y y_node p_conc at through all due. elim (cases_eq (parent lists y) x) [
           | inl up ↦
-              let is : last heard_state (parent lists y) ≡ j = is_last y up at in
+              let is : last_index heard_state (parent lists y) ≡ j = is_last y up at in
               absurd (behind (omega (
                 arith,
                 through,
                 named.2,
                 number_is,
                 ap net.last_number up,
-                ap (λ (i : ℕ). number lists s (parent lists y) (cleared s i)) is,
-                ap (λ (z : ℕ). number lists s z (cleared s j)) up,
+                ap (λ (i : ℕ). number lists s (parent lists y) (cleared_cut s i)) is,
+                ap (λ (z : ℕ). number lists s z (cleared_cut s j)) up,
               )) (λ z z_node z_up. all z z_node (z_up ∙ sym up)))
           | inr ne ↦ through_old due_test due_fits its.0 all_due y y_node p_conc (last_same (parent lists y) ne) (elsewhere y ne at) through all due
         ];
@@ -371,7 +371,7 @@ module _ (lists : Lists) (law : Lawful lists) (p : Pricing) (by : GoesByNodes li
       the_step = relay_step p net x price
 
       module _ (y : ℕ) (y_node : IsNode lists y) (up : parent lists y ≡ x) where
-        basis_is : basis y ≡ bid_of_number lists p s y (number lists s y (cleared s j))
+        basis_is : basis y ≡ bid_of_number lists p s y (number lists s y (cleared_cut s j))
         basis_is =
             let le : price.number ≤ length (s.published (parent lists y)) =
             omega (arith, named.2, agrees.last_number x inner, ap (λ (z : ℕ). length (s.published z)) up) in
@@ -380,34 +380,34 @@ module _ (lists : Lists) (law : Lawful lists) (p : Pricing) (by : GoesByNodes li
             ap (λ (z : ℕ). net.records z price.number y) (sym up) ∙ agrees.records y price.number y_node has le
             ∙ ap (bid_of_number lists p s y) (
             ap (λ (i : ℕ). number lists s y (cut_at (s.published (parent lists y)) i)) (number_is
-            ∙ ap (λ (z : ℕ). number lists s z (cleared s j)) (sym up))
+            ∙ ap (λ (z : ℕ). number lists s z (cleared_cut s j)) (sym up))
             ∙ sym (number_down lists law s agrees.sound y j y_node up_node within.1))
 
         gone_is : (basis y).gone ≡ not (addresses lists s j y)
         gone_is = ap (λ (b : BidMessage). b.gone) basis_is ∙ gone_addresses lists law s agrees.sound y j y_node within.1
 
-        demand_is : (basis y).demand ≡ p.offer y (cleared s j)
+        demand_is : (basis y).demand ≡ p.offer y (cleared_cut s j)
         demand_is =
             ap (λ (b : BidMessage). b.demand) basis_is
-            ∙ sym (by.alike y (cleared s j) (part lists s y (number lists s y (cleared s j)))
+            ∙ sym (by.alike y (cleared_cut s j) (part lists s y (number lists s y (cleared_cut s j)))
             (cleared_is_part lists law s agrees.sound y j y_node within.1).0)
 
-      sum_is : p.add x (λ z. (basis z).demand) ≡ p.add x (λ z. p.offer z (cleared s j))
-      sum_is = by.sums x (λ z. (basis z).demand) (λ z. p.offer z (cleared s j)) demand_is
+      sum_is : p.add x (λ z. (basis z).demand) ≡ p.add x (λ z. p.offer z (cleared_cut s j))
+      sum_is = by.sums x (λ z. (basis z).demand) (λ z. p.offer z (cleared_cut s j)) demand_is
 
       module _ (y : ℕ) (y_node : IsNode lists y) (up : parent lists y ≡ x) where
-        step_is : the_step ≡ p.local (cleared s j) y
+        step_is : the_step ≡ p.local (cleared_cut s j) y
         step_is =
             let conc' : IsConcentrator lists (parent lists y) = subst (λ (z : ℕ). IsConcentrator lists z) (sym up) conc in
             ap (local_step (p.limits x) price.step) sum_is
-            ∙ ap (λ (i : ℕ). local_step (p.limits x) i (p.add x (λ z. p.offer z (cleared s j)))) (ap (λ (q : PriceMessage). q.step) its.1)
-            ∙ ap (λ (z : ℕ). local_step (p.limits z) (p.local (cleared s j) z) (p.add z (λ w. p.offer w (cleared s j)))) (sym up)
-            ∙ sym (by.below y (cleared s j) y_node conc')
+            ∙ ap (λ (i : ℕ). local_step (p.limits x) i (p.add x (λ z. p.offer z (cleared_cut s j)))) (ap (λ (q : PriceMessage). q.step) its.1)
+            ∙ ap (λ (z : ℕ). local_step (p.limits z) (p.local (cleared_cut s j) z) (p.add z (λ w. p.offer w (cleared_cut s j)))) (sym up)
+            ∙ sym (by.below y (cleared_cut s j) y_node conc')
 
         price_is : price_message (basis y).number j the_step ≡ price_of_clearing lists p s y j
         price_is =
             ap (λ (i : ℕ). price_message i j the_step) (ap (λ (b : BidMessage). b.number) (basis_is y y_node up))
-            ∙ ap (price_message (number lists s y (cleared s j)) j) step_is
+            ∙ ap (price_message (number lists s y (cleared_cut s j)) j) step_is
 
         new_price : (basis y).gone ≡ false → IsItsPrice lists p heard_state y (price_message (basis y).number j the_step)
         new_price e = (
@@ -431,7 +431,7 @@ module _ (lists : Lists) (law : Lawful lists) (p : Pricing) (by : GoesByNodes li
         device_index = device_index_is due_test due_fits its.0 all_due;
         taken = taken_is due_test due_fits its.0 all_due;
         full = full_is due_test due_fits its.0 all_due;
-        last_sent = λ y y_node some. down_old lists net.prices_sent x basis j the_step y (λ (q : PriceMessage). q.index ≡ last heard_state y)
+        last_sent = λ y y_node some. down_old lists net.prices_sent x basis j the_step y (λ (q : PriceMessage). q.index ≡ last_index heard_state y)
             (last_sent_is due_test due_fits its.0 all_due y y_node some);
         bids_sent = agrees.bids_sent;
         prices_sent = λ y i y_node lt. down_each lists net.prices_sent x basis j the_step y (IsItsPrice lists p heard_state y)
@@ -443,11 +443,11 @@ module _ (lists : Lists) (law : Lawful lists) (p : Pricing) (by : GoesByNodes li
             (due_root_is due_test due_fits its.0 all_due none y i y_node up due);
         due_through = λ y y_node p_conc at through all due. elim (cases_eq (parent lists y) x) [
           | inl up ↦
-              let is : last heard_state (parent lists y) ≡ j = is_last y up at in
+              let is : last_index heard_state (parent lists y) ≡ j = is_last y up at in
               let addressed : addresses lists s j y ≡ true = (due_parts lists heard_state y j (ap (is_due lists heard_state y) (sym is) ∙ due)).1 in
-              down_new lists net.prices_sent x basis j the_step y (λ (q : PriceMessage). q.index ≡ last heard_state (parent lists y)) up
+              down_new lists net.prices_sent x basis j the_step y (λ (q : PriceMessage). q.index ≡ last_index heard_state (parent lists y)) up
               (gone_is y y_node up ∙ ap not addressed) (sym is)
-          | inr ne ↦ down_old lists net.prices_sent x basis j the_step y (λ (q : PriceMessage). q.index ≡ last heard_state (parent lists y))
+          | inr ne ↦ down_old lists net.prices_sent x basis j the_step y (λ (q : PriceMessage). q.index ≡ last_index heard_state (parent lists y))
               (through_old due_test due_fits its.0 all_due y y_node p_conc (last_same (parent lists y) ne) (elsewhere y ne at) through all due)
         ];
       }
@@ -462,7 +462,7 @@ module _ (lists : Lists) (law : Lawful lists) (p : Pricing) (by : GoesByNodes li
         one = price_message (basis z).number j the_step
 
         abbrev one_sent : ℕ → List PriceMessage
-        one_sent = updated net.prices_sent z (net.prices_sent z ++ one ∷ [])
+        one_sent = update net.prices_sent z (net.prices_sent z ++ one ∷ [])
 
         one_old : (P : PriceMessage → Type 0) (y : ℕ) → ((h : ℕ) × (h < length (net.prices_sent y)) × P (get_or (net.prices_sent y) h no_price)) →
             (h : ℕ) × (h < length (one_sent y)) × P (get_or (one_sent y) h no_price)
@@ -473,14 +473,14 @@ module _ (lists : Lists) (law : Lawful lists) (p : Pricing) (by : GoesByNodes li
               | inr w ↦ subst Has (sym w.1) some
             ]
 
-        last_after : last s x ≤ last heard_state x
-        last_after = elim (cases_lt (last s x) j) [
+        last_after : last_index s x ≤ last_index heard_state x
+        last_after = elim (cases_lt (last_index s x) j) [
           | inl lt ↦ omega (arith, lt, last_new due_test due_fits its.0 all_due lt)
           | inr ge ↦ omega (arith, last_old due_test due_fits its.0 all_due ge)
         ]
 
-        j_within : j ≤ last heard_state x
-        j_within = elim (cases_lt (last s x) j) [
+        j_within : j ≤ last_index heard_state x
+        j_within = elim (cases_lt (last_index s x) j) [
           | inl lt ↦ omega (arith, last_new due_test due_fits its.0 all_due lt)
           | inr ge ↦ omega (arith, ge, last_old due_test due_fits its.0 all_due ge)
         ]
@@ -497,7 +497,7 @@ module _ (lists : Lists) (law : Lawful lists) (p : Pricing) (by : GoesByNodes li
           records = agrees.records;
           answered = agrees.answered;
           index = λ y y_node. elim (cases_eq y x) [
-            | inl e ↦ omega (arith, agrees.index y y_node, ap (last s) e, ap (last heard_state) e, last_after)
+            | inl e ↦ omega (arith, agrees.index y y_node, ap (last_index s) e, ap (last_index heard_state) e, last_after)
             | inr ne ↦ omega (arith, agrees.index y y_node, last_same y ne)
           ];
           device_index = λ y leaf none. agrees.device_index y leaf none ∙ sym (last_same y (λ e.
@@ -507,7 +507,7 @@ module _ (lists : Lists) (law : Lawful lists) (p : Pricing) (by : GoesByNodes li
             | inr was ↦ inr (its_price due_test due_fits its.0 all_due y (net.taken y) was)
           ];
           full = full_is due_test due_fits its.0 all_due;
-          last_sent = λ y y_node some. one_old (λ (q : PriceMessage). q.index ≡ last heard_state y) y
+          last_sent = λ y y_node some. one_old (λ (q : PriceMessage). q.index ≡ last_index heard_state y) y
               (last_sent_is due_test due_fits its.0 all_due y y_node some);
           bids_sent = agrees.bids_sent;
           prices_sent = λ y i y_node lt.
@@ -531,11 +531,11 @@ module _ (lists : Lists) (law : Lawful lists) (p : Pricing) (by : GoesByNodes li
               arith,
               at,
               ap (λ (i : ℕ). (net.taken i).index) up,
-              ap (last heard_state) up,
+              ap (last_index heard_state) up,
               j_within,
               parts.1,
             ))
-            | inr ne ↦ one_old (λ (q : PriceMessage). q.index ≡ last heard_state (parent lists y)) y
+            | inr ne ↦ one_old (λ (q : PriceMessage). q.index ≡ last_index heard_state (parent lists y)) y
                 (through_old due_test due_fits its.0 all_due y y_node p_conc (last_same (parent lists y) ne) at through all due)
           ];
         }

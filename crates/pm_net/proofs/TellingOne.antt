@@ -4,7 +4,7 @@ use Rattle.std.proofs.Common.{◌∷◌, ◌++◌, length, get_or, arith}
 use Rattle.std.proofs.lemmas.Bool.{and_parts, leb-true, eqb-true, not-true}
 use Rattle.pm_bid.specs.Clearing.{clearing_step}
 use Rattle.pm_market.specs.Lists.{Lists, parent, IsNode, Lawful}
-use Rattle.pm_market.specs.State.{State, updated, cut_at, last, part, number, clearings, cleared, addresses}
+use Rattle.pm_market.specs.State.{State, update, cut_at, last_index, part, number, clearings, cleared_cut, addresses}
 use Rattle.pm_market.specs.Legality.{is_node}
 use Rattle.pm_market.proofs.Tree.{leaf_zero}
 use Rattle.pm_market.proofs.Legality.{is_node_from}
@@ -45,7 +45,7 @@ module _ (lists : Lists) (law : Lawful lists) (p : Pricing) (by : GoesByNodes li
   index_is : j ≡ clearings s
   index_is = agrees.last_number 0 (leaf_zero lists)
 
-  record_is : (x : ℕ) → IsNode lists x → parent lists x ≡ 0 → net.records 0 j x ≡ bid_of_number lists p s x (number lists s x (cleared s j))
+  record_is : (x : ℕ) → IsNode lists x → parent lists x ≡ 0 → net.records 0 j x ≡ bid_of_number lists p s x (number lists s x (cleared_cut s j))
   record_is x node up =
       ap (λ (y : ℕ). net.records y j x) (sym up)
       ∙ agrees.records x j node (omega (arith, parts.2, ap net.whole_from up)) (omega (arith, index_is, ap (λ (y : ℕ). length (s.published y)) up))
@@ -54,10 +54,10 @@ module _ (lists : Lists) (law : Lawful lists) (p : Pricing) (by : GoesByNodes li
   within : j ≤ clearings s
   within = omega (arith, index_is)
 
-  demand_is : (x : ℕ) → IsNode lists x → parent lists x ≡ 0 → (net.records 0 j x).demand ≡ p.offer x (cleared s j)
+  demand_is : (x : ℕ) → IsNode lists x → parent lists x ≡ 0 → (net.records 0 j x).demand ≡ p.offer x (cleared_cut s j)
   demand_is x node up =
       ap (λ (b : BidMessage). b.demand) (record_is x node up)
-      ∙ sym (by.alike x (cleared s j) (part lists s x (number lists s x (cleared s j))) (cleared_is_part lists law s agrees.sound x j node within).0)
+      ∙ sym (by.alike x (cleared_cut s j) (part lists s x (number lists s x (cleared_cut s j))) (cleared_is_part lists law s agrees.sound x j node within).0)
 
   abbrev price : PriceMessage
   price = price_message (net.records 0 j z).number j (clearing_step (p.add 0 (λ x. (net.records 0 j x).demand)))
@@ -69,13 +69,13 @@ module _ (lists : Lists) (law : Lawful lists) (p : Pricing) (by : GoesByNodes li
         due_from lists s z j (inl (parts.1, parts.3, within)) (not_flips (net.records 0 j z).gone (addresses lists s j z) gone parts.4),
         ap (λ (n : ℕ). price_message n j (clearing_step (p.add 0 (λ x. (net.records 0 j x).demand)))) (ap (λ (b : BidMessage). b.number)
             (record_is z parts.0 parts.1))
-            ∙ ap (price_message (number lists s z (cleared s j)) j) (
-            ap clearing_step (by.sums 0 (λ x. (net.records 0 j x).demand) (λ x. p.offer x (cleared s j)) demand_is)
-            ∙ sym (by.root z (cleared s j) parts.0 parts.1)),
+            ∙ ap (price_message (number lists s z (cleared_cut s j)) j) (
+            ap clearing_step (by.sums 0 (λ x. (net.records 0 j x).demand) (λ x. p.offer x (cleared_cut s j)) demand_is)
+            ∙ sym (by.root z (cleared_cut s j) parts.0 parts.1)),
       )
 
   abbrev sent : ℕ → List PriceMessage
-  sent = updated net.prices_sent z (net.prices_sent z ++ price ∷ [])
+  sent = update net.prices_sent z (net.prices_sent z ++ price ∷ [])
 
   old : (P : PriceMessage → Type 0) (y : ℕ) → ((h : ℕ) × (h < length (net.prices_sent y)) × P (get_or (net.prices_sent y) h no_price)) →
       (h : ℕ) × (h < length (sent y)) × P (get_or (sent y) h no_price)
@@ -105,7 +105,7 @@ module _ (lists : Lists) (law : Lawful lists) (p : Pricing) (by : GoesByNodes li
       device_index = agrees.device_index;
       taken = agrees.taken;
       full = agrees.full;
-      last_sent = λ y y_node some. old (λ (q : PriceMessage). q.index ≡ last s y) y (agrees.last_sent y y_node some);
+      last_sent = λ y y_node some. old (λ (q : PriceMessage). q.index ≡ last_index s y) y (agrees.last_sent y y_node some);
       bids_sent = agrees.bids_sent;
       prices_sent = λ y i y_node lt.
           let P : List PriceMessage → Type 0 = λ l. (h : ℕ) → h < length l → IsItsPrice lists p s y (get_or l h no_price) in
@@ -121,6 +121,6 @@ module _ (lists : Lists) (law : Lawful lists) (p : Pricing) (by : GoesByNodes li
       caught_up = agrees.caught_up;
       due_root = λ none y i y_node up due. old (λ (q : PriceMessage). q.index ≡ i) y (agrees.due_root none y i y_node up due);
       due_through = λ y y_node p_conc at through all due.
-          old (λ (q : PriceMessage). q.index ≡ last s (parent lists y)) y (agrees.due_through y y_node p_conc at through all due);
+          old (λ (q : PriceMessage). q.index ≡ last_index s (parent lists y)) y (agrees.due_through y y_node p_conc at through all due);
     };
   }

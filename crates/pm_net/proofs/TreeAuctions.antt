@@ -5,10 +5,10 @@ use Rattle.std.proofs.lemmas.Bool.{cases_eq, cases_Bool, cond-true, cond-false, 
 use Rattle.pm_base.specs.Cuts.{Cut}
 use Rattle.pm_base.specs.Limits.{AreLimits}
 use Rattle.pm_base.specs.declared.limits.Limits.{Limits}
-use Rattle.pm_bid.specs.Bids.{zeros, added}
+use Rattle.pm_bid.specs.Bids.{zeros, pairwise_sum}
 use Rattle.pm_bid.specs.Clearing.{clearing_step}
 use Rattle.pm_bid.specs.Limited.{within_limits, local_step}
-use Rattle.pm_bid.proofs.Sums.{added-zeros}
+use Rattle.pm_bid.proofs.Sums.{pairwise_sum-zeros}
 use Rattle.pm_bid.proofs.Limited.{within_limits-zeros}
 use Rattle.pm_market.specs.Lists.{Lists, nodes, parent, is_leaf, IsNode, IsLeaf, IsInner, IsConcentrator, IsLeafOf, Lawful}
 use Rattle.pm_market.specs.State.{SameOn, no_changes}
@@ -26,13 +26,13 @@ add_alike lists steps y f g h (suc n) le =
     let before : add_to lists steps y f n ≡ add_to lists steps y g n = add_alike lists steps y f g h n (omega arith) in
     elim (cases_Bool (eqb (parent lists (suc n)) y)) [
       | inl e ↦
-          cond-true (eqb (parent lists (suc n)) y) (added (f (suc n)) (add_to lists steps y f n)) (add_to lists steps y f n) e
-          ∙ ap (λ v. added v (add_to lists steps y f n)) (h (suc n) (omega arith, le) (eqb-true (parent lists (suc n)) y e))
-          ∙ ap (added (g (suc n))) before
-          ∙ sym (cond-true (eqb (parent lists (suc n)) y) (added (g (suc n)) (add_to lists steps y g n)) (add_to lists steps y g n) e)
+          cond-true (eqb (parent lists (suc n)) y) (pairwise_sum (f (suc n)) (add_to lists steps y f n)) (add_to lists steps y f n) e
+          ∙ ap (λ v. pairwise_sum v (add_to lists steps y f n)) (h (suc n) (omega arith, le) (eqb-true (parent lists (suc n)) y e))
+          ∙ ap (pairwise_sum (g (suc n))) before
+          ∙ sym (cond-true (eqb (parent lists (suc n)) y) (pairwise_sum (g (suc n)) (add_to lists steps y g n)) (add_to lists steps y g n) e)
       | inr e ↦
-          cond-false (eqb (parent lists (suc n)) y) (added (f (suc n)) (add_to lists steps y f n)) (add_to lists steps y f n) e ∙ before
-          ∙ sym (cond-false (eqb (parent lists (suc n)) y) (added (g (suc n)) (add_to lists steps y g n)) (add_to lists steps y g n) e)
+          cond-false (eqb (parent lists (suc n)) y) (pairwise_sum (f (suc n)) (add_to lists steps y f n)) (add_to lists steps y f n) e ∙ before
+          ∙ sym (cond-false (eqb (parent lists (suc n)) y) (pairwise_sum (g (suc n)) (add_to lists steps y g n)) (add_to lists steps y g n) e)
     ]
 
 add_zeros : (lists : Lists) (steps y : ℕ) (f : ℕ → List ℤ) → ((x : ℕ) → IsNode lists x → parent lists x ≡ y → f x ≡ zeros steps) →
@@ -44,10 +44,10 @@ add_zeros lists steps y f h (suc n) le =
     let before : add_to lists steps y f n ≡ zeros steps = add_zeros lists steps y f h n (omega arith) in
     elim (cases_Bool (eqb (parent lists (suc n)) y)) [
       | inl e ↦
-          cond-true (eqb (parent lists (suc n)) y) (added (f (suc n)) (add_to lists steps y f n)) (add_to lists steps y f n) e
-          ∙ ap (λ v. added v (add_to lists steps y f n)) (h (suc n) (omega arith, le) (eqb-true (parent lists (suc n)) y e))
-          ∙ ap (added (zeros steps)) before ∙ added-zeros steps
-      | inr e ↦ cond-false (eqb (parent lists (suc n)) y) (added (f (suc n)) (add_to lists steps y f n)) (add_to lists steps y f n) e ∙ before
+          cond-true (eqb (parent lists (suc n)) y) (pairwise_sum (f (suc n)) (add_to lists steps y f n)) (add_to lists steps y f n) e
+          ∙ ap (λ v. pairwise_sum v (add_to lists steps y f n)) (h (suc n) (omega arith, le) (eqb-true (parent lists (suc n)) y e))
+          ∙ ap (pairwise_sum (zeros steps)) before ∙ pairwise_sum-zeros steps
+      | inr e ↦ cond-false (eqb (parent lists (suc n)) y) (pairwise_sum (f (suc n)) (add_to lists steps y f n)) (add_to lists steps y f n) e ∙ before
     ]
 
 module _ (lists : Lists) (law : Lawful lists) (a : TreeDemand) (asked : IsTreeDemand lists a) where

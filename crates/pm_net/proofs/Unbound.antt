@@ -10,7 +10,7 @@ use Rattle.pm_base.proofs.Ints.{not_below}
 use Rattle.pm_bid.specs.Bids.{demand_at}
 use Rattle.pm_bid.specs.Clearing.{first_at_most, last_at_least}
 use Rattle.pm_bid.specs.Limited.{within_limits, step_within, local_step, NeverBind}
-use Rattle.pm_bid.proofs.Limited.{clamped-unbound, step_within-unbound}
+use Rattle.pm_bid.proofs.Limited.{clamp-unbound, step_within-unbound}
 use Rattle.pm_market.specs.Lists.{Lists, parent, IsConcentrator}
 use Rattle.pm_net.specs.Pricing.{Pricing, GoesByNodes}
 use Rattle.pm_net.specs.TreeAuction.{NeverBindAt, AreAsGood, with_limits}
@@ -35,7 +35,7 @@ module _ (lists : Lists) (p : Pricing) (by : GoesByNodes lists p) (limits : ℕ 
 
   sum_kept : (c : ℕ) (cut : Cut) (l : Option Limits) → NeverBindAt p c l → within_limits l (total c cut) ≡ total c cut
   sum_kept c cut None never = refl
-  sum_kept c cut (Some l) never = clamped-unbound l (total c cut) (never.1 cut)
+  sum_kept c cut (Some l) never = clamp-unbound l (total c cut) (never.1 cut)
 
   local_kept : (c : ℕ) (cut : Cut) (k : ℕ) (l : Option Limits) → NeverBindAt p c l → local_step l k (total c cut) ≡ k
   local_kept c cut k None never = refl

@@ -3,7 +3,7 @@ use Rattle.std.proofs.Common.{◌≡◌, ◌∙◌, ap, ℕ, ◌<◌, ◌≤◌,
 use Rattle.std.proofs.lemmas.Bool.{cases_Bool, and_parts, and_from, cond-true, cond-false, lt-ltb, le-leb, leb-false, eqb-true, not-true, not_from_false}
 use Rattle.std.proofs.lemmas.Bool.{both_ways}
 use Rattle.pm_market.specs.Lists.{Lists, is_leaf, IsNode, IsConcentrator, Lawful}
-use Rattle.pm_market.specs.State.{State, number, cleared}
+use Rattle.pm_market.specs.State.{State, number, cleared_cut}
 use Rattle.pm_market.proofs.Cuts.{updated_same, newest_inner}
 use Rattle.pm_market.proofs.Legality.{is_node_at}
 use Rattle.pm_laws.proofs.Numbers.{addressed_number, cleared_is_part, cleared_number_rises}
@@ -34,7 +34,7 @@ module _ (lists : Lists) (law : Lawful lists) (p : Pricing) (net : Network) (s :
   within : (1 ≤ price.index) × (price.index ≤ Rattle.pm_market.specs.State.clearings s)
   within = due_within lists s agrees.sound c price.index its.0
 
-  number_is : price.number ≡ number lists s c (cleared s price.index)
+  number_is : price.number ≡ number lists s c (cleared_cut s price.index)
   number_is = ap (λ (q : PriceMessage). q.number) its.1
 
   -- it names a bid that the relay sent, and none before the one answered

@@ -1,7 +1,7 @@
 -- What a device of a network goes by: it drops the price of a former membership.
 use Rattle.std.specs.Prelude.{◌≡◌, ℕ, ◌≤◌, Bool, true, ◌&&◌, nat_lt, nat_le, if◌then◌else◌, Option, Some, None}
 use Rattle.pm_market.specs.Lists.{Lists, is_member}
-use Rattle.pm_market.specs.State.{State, cleared}
+use Rattle.pm_market.specs.State.{State, cleared_cut}
 use Rattle.pm_market.specs.Held.{last_join}
 use Rattle.pm_net.specs.Pricing.{Pricing}
 use Rattle.pm_net.specs.Network.{Network}
@@ -19,7 +19,7 @@ goes_by lists net d = if goes_by_its_price lists net d then Some ((net.taken d).
 -- what a device goes by, if this is it, is of the clearing of the price that it holds: its number there, under which it is a
 -- member and which is not older than its last join, and its local step
 pub record IsOfItsClearing (lists : Lists) (p : Pricing) (net : Network) (s : State) (d step number : ℕ) : Type 0 where
-  pub number_is : number ≡ cleared s (net.taken d).index d
+  pub number_is : number ≡ cleared_cut s (net.taken d).index d
   pub member : is_member lists d number ≡ true
   pub joined : last_join lists d (net.counts d) ≤ number
-  pub step_is : step ≡ p.local (cleared s (net.taken d).index) d
+  pub step_is : step ≡ p.local (cleared_cut s (net.taken d).index) d

@@ -3,7 +3,7 @@ use Rattle.std.specs.Prelude.{ℕ, ◌+◌, Bool, true, false, if◌then◌else�
 use Rattle.pm_bid.specs.Clearing.{clearing_step}
 use Rattle.pm_bid.specs.Limited.{within_limits}
 use Rattle.pm_market.specs.Lists.{Lists, parent, is_leaf}
-use Rattle.pm_market.specs.State.{updated}
+use Rattle.pm_market.specs.State.{update}
 use Rattle.pm_market.specs.Legality.{is_node}
 use Rattle.pm_net.specs.Pricing.{Pricing}
 use Rattle.pm_net.specs.Messages.{BidMessage, PriceMessage, bid_message, price_message, nothing_heard}
@@ -32,7 +32,7 @@ records_left net y n x = if n == net.last_number y then number_alone (net.record
 
 -- one restart or stop more of x
 abbrev pub with_restart : Network → ℕ → ℕ → ℕ
-with_restart net x = updated net.restarts x (net.restarts x + 1)
+with_restart net x = update net.restarts x (net.restarts x + 1)
 
 -- Node y starts anew. It knows its last number, of each child the number in its newest record, and the index and the
 -- number of a price that it once stored, which may be older than the one that it held; nothing else. It heard nothing of
@@ -40,10 +40,10 @@ with_restart net x = updated net.restarts x (net.restarts x + 1)
 abbrev pub after_restart : Lists → Pricing → Network → ℕ → ℕ → Network
 after_restart lists p net y k = record net {
   heard = λ x. if parent lists x == y then nothing_heard p else net.heard x;
-  records = updated net.records y (records_left net y);
-  whole_from = updated net.whole_from y (net.last_number y + 1);
-  answered = updated net.answered y (stored_price net y k).number;
-  taken = updated net.taken y (stored_price net y k);
+  records = update net.records y (records_left net y);
+  whole_from = update net.whole_from y (net.last_number y + 1);
+  answered = update net.answered y (stored_price net y k).number;
+  taken = update net.taken y (stored_price net y k);
   restarts = with_restart net y;
 }
 
@@ -53,15 +53,15 @@ can_rebuild lists net c = nat_lt (net.last_number c) (net.whole_from c) && not (
 
 abbrev pub after_rebuilding : Network → ℕ → Network
 after_rebuilding net c = record net {
-  records = updated net.records c (updated (net.records c) (net.last_number c) net.heard);
-  whole_from = updated net.whole_from c (net.last_number c);
+  records = update net.records c (update (net.records c) (net.last_number c) net.heard);
+  whole_from = update net.whole_from c (net.last_number c);
 }
 
 -- ---- stops between storing and sending
 
 -- a device makes its next bid and stores its number, but stops before the bid is sent
 abbrev pub device_stopped : Network → ℕ → Network
-device_stopped net d = record net { counts = updated net.counts d (net.counts d + 1); restarts = with_restart net d }
+device_stopped net d = record net { counts = update net.counts d (net.counts d + 1); restarts = with_restart net d }
 
 -- a relay makes its next bid and stores its number and record, but stops before the bid is sent; so does the auctioneer
 -- with its next clearing, before a price is sent
@@ -79,7 +79,7 @@ can_pass_to_one lists net z price =
 
 abbrev pub after_passing_to_one : Lists → Pricing → Network → ℕ → PriceMessage → Network
 after_passing_to_one lists p net z price = record net {
-  prices_sent = updated net.prices_sent z (net.prices_sent z
+  prices_sent = update net.prices_sent z (net.prices_sent z
       ++ price_message (net.records (parent lists z) price.number z).number price.index (relay_step p net (parent lists z) price) ∷ []);
 }
 
@@ -95,7 +95,7 @@ newest_bid lists p net x =
     else bid_message (net.last_number x) false (within_limits (p.limits x) (p.add x (λ z. (net.records x (net.last_number x) z).demand)))
 
 abbrev pub after_resending : Lists → Pricing → Network → ℕ → Network
-after_resending lists p net x = record net { bids_sent = updated net.bids_sent x (net.bids_sent x ++ newest_bid lists p net x ∷ []) }
+after_resending lists p net x = record net { bids_sent = update net.bids_sent x (net.bids_sent x ++ newest_bid lists p net x ∷ []) }
 
 -- The auctioneer sends the price of its newest clearing to its child z, again or for the first time, while it has this
 -- record whole.
@@ -106,7 +106,7 @@ can_tell_one lists net z =
 
 abbrev pub after_telling_one : Pricing → Network → ℕ → Network
 after_telling_one p net z = record net {
-  prices_sent = updated net.prices_sent z (net.prices_sent z
+  prices_sent = update net.prices_sent z (net.prices_sent z
       ++ price_message (net.records 0 (net.last_number 0) z).number (net.last_number 0)
       (clearing_step (p.add 0 (λ x. (net.records 0 (net.last_number 0) x).demand))) ∷ []);
 }

@@ -6,7 +6,7 @@ use Rattle.pm_base.specs.Limits.{window_size}
 use Rattle.pm_bid.specs.Clearing.{clearing_step}
 use Rattle.pm_bid.specs.Limited.{within_limits, local_step}
 use Rattle.pm_market.specs.Lists.{Lists, nodes, parent, is_leaf, is_member}
-use Rattle.pm_market.specs.State.{updated, all_to}
+use Rattle.pm_market.specs.State.{update, all_to}
 use Rattle.pm_market.specs.Legality.{is_node}
 use Rattle.pm_net.specs.Pricing.{Pricing}
 use Rattle.pm_net.specs.Messages.{BidMessage, PriceMessage, bid_message, price_message}
@@ -20,8 +20,8 @@ device_bid lists p d n = bid_message n (not (is_member lists d n)) (p.demand d n
 
 abbrev pub after_bidding : Lists → Pricing → Network → ℕ → Network
 after_bidding lists p net d = record net {
-  counts = updated net.counts d (net.counts d + 1);
-  bids_sent = updated net.bids_sent d (net.bids_sent d ++ device_bid lists p d (net.counts d + 1) ∷ []);
+  counts = update net.counts d (net.counts d + 1);
+  bids_sent = update net.bids_sent d (net.bids_sent d ++ device_bid lists p d (net.counts d + 1) ∷ []);
 }
 
 -- the parent of x takes a bid of it where the bid's number is above that of the one which it holds
@@ -29,7 +29,7 @@ unfoldable pub is_new_bid : Lists → Network → ℕ → BidMessage → Bool
 is_new_bid lists net x bid = is_node lists x && nat_lt (net.heard x).number bid.number
 
 abbrev pub after_taking_bid : Network → ℕ → BidMessage → Network
-after_taking_bid net x bid = record net { heard = updated net.heard x bid }
+after_taking_bid net x bid = record net { heard = update net.heard x bid }
 
 -- the number of x in the newest record of y
 abbrev pub recorded_number : Network → ℕ → ℕ → ℕ
@@ -55,8 +55,8 @@ heard_sum p net y = p.add y (λ x. (net.heard x).demand)
 -- what y heard becomes the record of its next number
 abbrev pub with_record : Network → ℕ → Network
 with_record net y = record net {
-  last_number = updated net.last_number y (net.last_number y + 1);
-  records = updated net.records y (updated (net.records y) (net.last_number y + 1) net.heard);
+  last_number = update net.last_number y (net.last_number y + 1);
+  records = update net.records y (update (net.records y) (net.last_number y + 1) net.heard);
 }
 
 -- a relay that is caught up, has news and room in its window sends the sum of its children's bids, within its limits
@@ -69,7 +69,7 @@ abbrev pub relay_bid : Pricing → Network → ℕ → BidMessage
 relay_bid p net c = bid_message (net.last_number c + 1) false (within_limits (p.limits c) (heard_sum p net c))
 
 abbrev pub after_sending : Pricing → Network → ℕ → Network
-after_sending p net c = record (with_record net c) { bids_sent = updated net.bids_sent c (net.bids_sent c ++ relay_bid p net c ∷ []) }
+after_sending p net c = record (with_record net c) { bids_sent = update net.bids_sent c (net.bids_sent c ++ relay_bid p net c ∷ []) }
 
 -- ---- prices
 
@@ -99,10 +99,10 @@ names_a_bid net c n = nat_le 1 n && nat_le (net.answered c) n && nat_le n (net.l
 
 -- a device takes a price; a relay takes one, which answers the number that it names
 abbrev pub after_taking_price : Network → ℕ → PriceMessage → Network
-after_taking_price net x price = record net { taken = updated net.taken x price }
+after_taking_price net x price = record net { taken = update net.taken x price }
 
 abbrev pub after_answer : Network → ℕ → PriceMessage → Network
-after_answer net c price = record net { taken = updated net.taken c price; answered = updated net.answered c price.number }
+after_answer net c price = record net { taken = update net.taken c price; answered = update net.answered c price.number }
 
 -- the step that a relay passes down for a price: that of the price, moved within its limits for the sum of the record
 abbrev pub relay_step : Pricing → Network → ℕ → PriceMessage → ℕ

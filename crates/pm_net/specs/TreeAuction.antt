@@ -3,7 +3,7 @@ use Rattle.std.specs.Prelude.{◌≡◌, ◌⊎◌, ℕ, zero, suc, ℤ, if◌th
 use Rattle.pm_base.specs.Cuts.{Cut}
 use Rattle.pm_base.specs.Limits.{AreLimits}
 use Rattle.pm_base.specs.declared.limits.Limits.{Limits}
-use Rattle.pm_bid.specs.Bids.{zeros, added}
+use Rattle.pm_bid.specs.Bids.{zeros, pairwise_sum}
 use Rattle.pm_bid.specs.Clearing.{clearing_step}
 use Rattle.pm_bid.specs.Limited.{within_limits, local_step, NeverBind}
 use Rattle.pm_market.specs.Lists.{Lists, nodes, parent, is_leaf, IsNode, IsConcentrator}
@@ -30,7 +30,7 @@ pub record IsTreeDemand (lists : Lists) (a : TreeDemand) : Type 0 where
 unfoldable pub add_to : Lists → ℕ → ℕ → (ℕ → List ℤ) → ℕ → List ℤ
 add_to lists steps y f zero = zeros steps
 add_to lists steps y f (suc n) =
-    if parent lists (suc n) == y then added (f (suc n)) (add_to lists steps y f n)
+    if parent lists (suc n) == y then pairwise_sum (f (suc n)) (add_to lists steps y f n)
     else add_to lists steps y f n
 
 abbrev pub add_below : Lists → ℕ → ℕ → (ℕ → List ℤ) → List ℤ

@@ -11,9 +11,9 @@ ghost use Rattle.pm_base.specs.Limits.{AreLimits, window_size};
 ghost use Rattle.pm_base.specs.declared.limits.Limits.{Limits};
 ghost use Rattle.pm_bid.specs.Bids.{zeros};
 ghost use Rattle.pm_market.specs.Lists.{Lists, phases, is_member, IsNode, IsLeaf, IsConcentrator, Lawful};
-ghost use Rattle.pm_market.specs.State.{State, start, last, clearings, cleared};
+ghost use Rattle.pm_market.specs.State.{State, start, last_index, clearings, cleared_cut};
 ghost use Rattle.pm_market.specs.Moves.{after_from};
-ghost use Rattle.pm_market.specs.Held.{held};
+ghost use Rattle.pm_market.specs.Held.{holding};
 ghost use Rattle.pm_net.specs.Pricing.{Pricing, GoesByNodes};
 ghost use Rattle.pm_net.specs.Messages.{bid_message, price_message};
 ghost use Rattle.pm_net.specs.Network.{Network, start_network, sent_price, IsUnbroken};
@@ -44,7 +44,7 @@ pub fn prices_answer_numbered_bids()
     ensures back { (lists : Lists) (p : Pricing) (net : Network) (s : State) (x i j d : ℕ) → Lawful lists → NetworkAgrees lists p net s →
         IsNode lists x →
         i < length (net.prices_sent x) → j < length (net.prices_sent x) → (sent_price net x i).index ≤ (sent_price net x j).index → IsLeaf lists d →
-        cleared s (sent_price net x i).index d ≤ cleared s (sent_price net x j).index d }
+        cleared_cut s (sent_price net x i).index d ≤ cleared_cut s (sent_price net x j).index d }
 {}
 
 /// Nobody's place in the journal ever falls. What a node holds is nothing, or a price that is due to it, of no later clearing
@@ -53,9 +53,9 @@ pub fn prices_answer_numbered_bids()
 /// restarts: it may then come back with an older one, and be given those after that one again, or for the first time.
 pub fn nobody_goes_back()
     ensures place { (lists : Lists) (p : Pricing) (net : Network) (s : State) (goes : GoesOn lists p s net) (old : Network) (x : ℕ) → Lawful lists →
-        NetworkAgrees lists p old s → last s x ≤ last (after_from lists s goes.moves) x }
+        NetworkAgrees lists p old s → last_index s x ≤ last_index (after_from lists s goes.moves) x }
     ensures held { (lists : Lists) (p : Pricing) (net : Network) (s : State) (x : ℕ) → NetworkAgrees lists p net s → IsNode lists x →
-        HoldsIts lists p s x (net.taken x) × ((net.taken x).index ≤ last s x) }
+        HoldsIts lists p s x (net.taken x) × ((net.taken x).index ≤ last_index s x) }
     ensures forward { (lists : Lists) (p : Pricing) (net : Network) (s : State) (x k : ℕ) → Lawful lists → GoesByNodes lists p →
         NetworkAgrees lists p net s →
         GoesForward lists p s x (sent_price net x k).index (network_step lists p net (Event.TakesPrice x k)) }
@@ -73,7 +73,7 @@ pub fn nobody_goes_back()
 /// step over all bids ever made.
 pub fn devices_go_by_held_prices()
     ensures held { (lists : Lists) (p : Pricing) (net : Network) (s : State) (d : ℕ) → Lawful lists → NetworkAgrees lists p net s → IsLeaf lists d →
-        net.restarts d ≡ 0 → goes_by lists net d ≡ held lists p.local s d }
+        net.restarts d ≡ 0 → goes_by lists net d ≡ holding lists p.local s d }
     ensures of_its_clearing { (lists : Lists) (p : Pricing) (net : Network) (s : State) (d step number : ℕ) → Lawful lists →
         NetworkAgrees lists p net s →
         IsLeaf lists d → goes_by lists net d ≡ Some (step, number) → IsOfItsClearing lists p net s d step number }
@@ -99,7 +99,7 @@ pub fn relays_take_newer_prices()
 pub fn settled_networks_are_current()
     ensures counted { (lists : Lists) (p : Pricing) (net : Network) (s : State) (d : ℕ) → Lawful lists → GoesByNodes lists p →
         NetworkAgrees lists p net s →
-        IsSettledNetwork lists net → IsLeaf lists d → cleared s (clearings s) d ≡ net.counts d }
+        IsSettledNetwork lists net → IsLeaf lists d → cleared_cut s (clearings s) d ≡ net.counts d }
     ensures held { (lists : Lists) (p : Pricing) (net : Network) (s : State) (d : ℕ) → Lawful lists → GoesByNodes lists p →
         NetworkAgrees lists p net s →
         IsSettledNetwork lists net → IsLeaf lists d → is_member lists d (net.counts d) ≡ true →

@@ -9,7 +9,7 @@ use Rattle.std.specs.List.{All, AllPairs, find}
 use Rattle.std.proofs.lemmas.List.Quantifiers.{all_pairs_push}
 use Rattle.pm_base.specs.Limits.{window_size}
 use Rattle.pm_market.specs.Lists.{Lists, is_member}
-use Rattle.pm_market.specs.State.{State, clearings, cleared}
+use Rattle.pm_market.specs.State.{State, clearings, cleared_cut}
 use Rattle.pm_laws.proofs.Quiet.{in_zero}
 use Rattle.pm_net.specs.Pricing.{Pricing}
 use Rattle.pm_net.specs.Messages.{PriceMessage}
@@ -244,7 +244,7 @@ module _ (lists : Lists) (p : Pricing) (d : ℕ) where
   -- ---- the setpoints that a price gives
 
   module _ (s : State) (price : PriceMessage) (cleared_one : 1 ≤ price.index) (cleared_by_now : price.index ≤ clearings s)
-      (number_is : price.number ≡ cleared s price.index d) (step_is : price.step ≡ p.local (cleared s price.index) d) where
+      (number_is : price.number ≡ cleared_cut s price.index d) (step_is : price.step ≡ p.local (cleared_cut s price.index) d) where
     right : (low high : ℕ) (o : Option Offer) → Fits lists p d low high price.number o → (xs : List Setpoint) → All (IsRight lists p s d) xs →
         All (IsRight lists p s d) (xs ++ setpoints_of price o)
     right low high None fits xs all = subst (All (IsRight lists p s d)) (sym (append-nil xs)) all

@@ -8,7 +8,7 @@ use Rattle.pm_base.specs.Cuts.{Cut}
 use Rattle.pm_market.specs.declared.moves.Move.{Move}
 use Rattle.pm_market.specs.Lists.{changes as lists_changes}
 use Rattle.pm_market.specs.Lists.{Lists, parent, phases, is_leaf, is_member, IsNode, IsLeaf, Lawful}
-use Rattle.pm_market.specs.State.{State, start, updated, cleared}
+use Rattle.pm_market.specs.State.{State, start, update, cleared_cut}
 use Rattle.pm_market.specs.Moves.{after_from}
 use Rattle.pm_market.proofs.Tree.{leaf_node}
 use Rattle.pm_market.proofs.Cuts.{updated_same, updated_other}
@@ -118,16 +118,16 @@ module _ (lists : Lists) (law : Lawful lists) (one : phases lists ≡ 1) (p : Pr
     room_of false b e h = absurd (true≢false (sym e))
 
     agents_changed : (x : ℕ) → IsLeaf lists x →
-        AgentIs lists p x (updated net.counts d n x) (net.taken x).index (updated devices.agents d new_agent_of x)
+        AgentIs lists p x (update net.counts d n x) (net.taken x).index (update devices.agents d new_agent_of x)
     agents_changed x x_leaf = elim (cases_eq x d) [
       | inl e ↦
-          let Is : ℕ → Type 0 = λ z. AgentIs lists p z (updated net.counts d n z) (net.taken z).index (updated devices.agents d new_agent_of z) in
-          subst Is (sym e) (subst (λ (a : DeviceAgent). AgentIs lists p d (updated net.counts d n d) (net.taken d).index a) (sym
+          let Is : ℕ → Type 0 = λ z. AgentIs lists p z (update net.counts d n z) (net.taken z).index (update devices.agents d new_agent_of z) in
+          subst Is (sym e) (subst (λ (a : DeviceAgent). AgentIs lists p d (update net.counts d n d) (net.taken d).index a) (sym
           (updated_same devices.agents d new_agent_of))
           (subst (λ (c : ℕ). AgentIs lists p d c (net.taken d).index new_agent_of) (sym (updated_same net.counts d n))
           (changes lists p d (net.counts d) (net.taken d).index (devices.agents d) (agree.agents d leaf_is)
           (λ member. room_of (is_member lists d n) (may_offer (devices.agents d)) member parts.1))))
-      | inr ne ↦ subst (λ (a : DeviceAgent). AgentIs lists p x (updated net.counts d n x) (net.taken x).index a) (sym
+      | inr ne ↦ subst (λ (a : DeviceAgent). AgentIs lists p x (update net.counts d n x) (net.taken x).index a) (sym
           (updated_other devices.agents d new_agent_of x ne))
           (subst (λ (c : ℕ). AgentIs lists p x c (net.taken x).index (devices.agents x)) (sym (updated_other net.counts d n x ne)) (agree.agents x x_leaf))
     ]
@@ -206,7 +206,7 @@ module _ (lists : Lists) (law : Lawful lists) (one : phases lists ≡ 1) (p : Pr
         let at = its e in
         let within = due_within lists s agree.agrees.sound x price.index at.0 in
         gives_right lists p x s price within.0 within.1
-        (ap (λ (q : PriceMessage). q.number) at.1 ∙ number_leaf lists s.published x (cleared s price.index) leaf)
+        (ap (λ (q : PriceMessage). q.number) at.1 ∙ number_leaf lists s.published x (cleared_cut s price.index) leaf)
         (ap (λ (q : PriceMessage). q.step) at.1) (net.counts x) (net.taken x).index agent is (devices.setpoints x) (agree.setpoints x leaf))
         (λ e. subst (All (IsRight lists p s x)) (sym (append-nil (devices.setpoints x))) (agree.setpoints x leaf))
 
@@ -232,9 +232,9 @@ module _ (lists : Lists) (law : Lawful lists) (one : phases lists ≡ 1) (p : Pr
           legal = goes.legal;
           agree = record {
             agrees = goes.agrees;
-            agents = λ d d_leaf. subst (λ (n : ℕ). AgentIs lists p d n (after.taken d).index (updated devices.agents x new d)) (sym (counts_same d))
+            agents = λ d d_leaf. subst (λ (n : ℕ). AgentIs lists p d n (after.taken d).index (update devices.agents x new d)) (sym (counts_same d))
                 (elim (cases_eq d x) [
-                  | inl e ↦ subst (λ (z : ℕ). AgentIs lists p z (net.counts z) (after.taken z).index (updated devices.agents x new z)) (sym e)
+                  | inl e ↦ subst (λ (z : ℕ). AgentIs lists p z (net.counts z) (after.taken z).index (update devices.agents x new z)) (sym e)
                       (subst (λ (a : DeviceAgent). AgentIs lists p x (net.counts x) (after.taken x).index a) (sym (updated_same devices.agents x new)) mine)
                   | inr ne ↦ subst (λ (a : DeviceAgent). AgentIs lists p d (net.counts d) (after.taken d).index a) (sym
                       (updated_other devices.agents x new d ne))
@@ -261,12 +261,12 @@ module _ (lists : Lists) (law : Lawful lists) (one : phases lists ≡ 1) (p : Pr
           agrees = goes.agrees;
           agents = λ d leaf. elim (cases_eq d y) [
             | inl e ↦
-                let Is : ℕ → Type 0 = λ z. AgentIs lists p z (net.counts z) (updated net.taken y stored z).index (updated devices.agents y new z) in
-                subst Is (sym e) (subst (λ (a : DeviceAgent). AgentIs lists p y (net.counts y) (updated net.taken y stored y).index a) (sym
+                let Is : ℕ → Type 0 = λ z. AgentIs lists p z (net.counts z) (update net.taken y stored z).index (update devices.agents y new z) in
+                subst Is (sym e) (subst (λ (a : DeviceAgent). AgentIs lists p y (net.counts y) (update net.taken y stored y).index a) (sym
                 (updated_same devices.agents y new))
                 (subst (λ (q : PriceMessage). AgentIs lists p y (net.counts y) q.index new) (sym (updated_same net.taken y stored))
                 (restarts lists p y (net.counts y) (net.taken y).index (devices.agents y) (agree.agents y (ap (is_leaf lists) (sym e) ∙ leaf)) stored.index)))
-            | inr ne ↦ subst (λ (a : DeviceAgent). AgentIs lists p d (net.counts d) (updated net.taken y stored d).index a) (sym
+            | inr ne ↦ subst (λ (a : DeviceAgent). AgentIs lists p d (net.counts d) (update net.taken y stored d).index a) (sym
                 (updated_other devices.agents y new d ne))
                 (subst (λ (q : PriceMessage). AgentIs lists p d (net.counts d) q.index (devices.agents d)) (sym (updated_other net.taken y stored d ne))
                 (agree.agents d leaf))
@@ -294,7 +294,7 @@ module _ (lists : Lists) (law : Lawful lists) (one : phases lists ≡ 1) (p : Pr
       (λ leaf. giving x k leaf)
       (λ inner. quiet (network_step lists p net (TakesPrice x k)) (event_goes_on lists law one p by net s agree.agrees (TakesPrice x k)) (λ d leaf.
       let other : (d ≡ x → ⊥) = λ e. both_ways (is_leaf lists x) inner (ap (is_leaf lists) (sym e) ∙ leaf) in
-      let same : (net_taken : ℕ → PriceMessage) → net_taken ≡ updated net.taken x (sent_price net x k) → (net_taken d).index ≡ (net.taken d).index =
+      let same : (net_taken : ℕ → PriceMessage) → net_taken ≡ update net.taken x (sent_price net x k) → (net_taken d).index ≡ (net.taken d).index =
       λ t is. ap (λ (f : ℕ → PriceMessage). (f d).index) is
       ∙ ap (λ (q : PriceMessage). q.index) (updated_other net.taken x (sent_price net x k) d other) in
       hears_each lists p net x k (IsSameAt net d) (refl, refl) (refl, same _ refl) (refl, same _ refl) (refl, same _ refl)))
@@ -353,7 +353,7 @@ run_from_start lists law one p by events = run_goes_on lists law one p by events
 -- of two setpoints the one of the greater index has the later cut
 pub cuts_rise : (lists : Lists) (p : Pricing) (s : State) (d : ℕ) (a b : Setpoint) → Lawful lists → (devices : Devices) →
     DevicesAgree lists p devices s →
-    IsRight lists p s d b → a.index ≤ b.index → (e : ℕ) → IsLeaf lists e → cleared s a.index e ≤ cleared s b.index e
+    IsRight lists p s d b → a.index ≤ b.index → (e : ℕ) → IsLeaf lists e → cleared_cut s a.index e ≤ cleared_cut s b.index e
 cuts_rise lists p s d a b law devices agree right le e leaf = cleared_within lists law s agree.agrees.sound a.index b.index le right.cleared_by_now e leaf
 
 answered_index : (agent : DeviceAgent) (price : PriceMessage) (o : Option Offer) → (answered_by agent price o).index ≡ price.index
@@ -362,7 +362,7 @@ answered_index a q (Some offer) = refl
 
 within_changed : (lists : Lists) (p : Pricing) (devices : Devices) (d x : ℕ) →
     All (λ (a : Setpoint). a.index ≤ (devices.agents d).index) (devices.setpoints d) →
-    All (λ (a : Setpoint). a.index ≤ (updated devices.agents x (agent_after_change lists p x (devices.net.counts x + 1) (devices.agents x)) d).index)
+    All (λ (a : Setpoint). a.index ≤ (update devices.agents x (agent_after_change lists p x (devices.net.counts x + 1) (devices.agents x)) d).index)
     (devices.setpoints d)
 within_changed lists p devices d x within k o lt =
     let n : ℕ = devices.net.counts x + 1 in
@@ -399,9 +399,9 @@ rising_step lists p devices d are (TakesPrice x k) runs =
           let here : Both more new = grown (devices.agents x) (sent_price devices.net x k) (devices.setpoints x)
           (subst (λ (z : ℕ). AllPairs (λ (b c : Setpoint). b.index < c.index) (devices.setpoints z)) e are.rising)
           (subst (λ (z : ℕ). All (λ (b : Setpoint). b.index ≤ (devices.agents z).index) (devices.setpoints z)) e are.within) in
-          let at : Both (updated devices.setpoints x more d) (updated devices.agents x new d) =
-          subst (λ (z : ℕ). Both (updated devices.setpoints x more z) (updated devices.agents x new z)) (sym e)
-          (subst (λ (l : List Setpoint). Both l (updated devices.agents x new x)) (sym (updated_same devices.setpoints x more))
+          let at : Both (update devices.setpoints x more d) (update devices.agents x new d) =
+          subst (λ (z : ℕ). Both (update devices.setpoints x more z) (update devices.agents x new z)) (sym e)
+          (subst (λ (l : List Setpoint). Both l (update devices.agents x new x)) (sym (updated_same devices.setpoints x more))
           (subst (λ (a : DeviceAgent). Both more a) (sym (updated_same devices.agents x new)) here)) in
           record { rising = at.0; within = at.1 }
       | inr ne ↦
@@ -409,7 +409,7 @@ rising_step lists p devices d are (TakesPrice x k) runs =
           let more : List Setpoint = devices.setpoints x ++ setpoints_for (devices.agents x) (sent_price devices.net x k) in
           record {
             rising = subst (AllPairs (λ (b c : Setpoint). b.index < c.index)) (sym (updated_other devices.setpoints x more d ne)) are.rising;
-            within = subst (λ (l : List Setpoint). All (λ (b : Setpoint). b.index ≤ (updated devices.agents x new d).index) l) (sym
+            within = subst (λ (l : List Setpoint). All (λ (b : Setpoint). b.index ≤ (update devices.agents x new d).index) l) (sym
                 (updated_other devices.setpoints x more d ne))
                 (subst (λ (a : DeviceAgent). All (λ (b : Setpoint). b.index ≤ a.index) (devices.setpoints d)) (sym
                 (updated_other devices.agents x new d ne)) are.within);

@@ -5,7 +5,7 @@ use Rattle.std.proofs.lemmas.Bool.{cases_eq, cases_Bool, cond-true, cond-false, 
 use Rattle.std.proofs.lemmas.List.{append-nil, get_or_default}
 use Rattle.pm_market.specs.Lists.{changes as lists_changes}
 use Rattle.pm_market.specs.Lists.{Lists, parent, phases, is_leaf, is_member, IsNode, IsLeaf, Lawful}
-use Rattle.pm_market.specs.State.{State, start, updated, newest, clearings, cleared}
+use Rattle.pm_market.specs.State.{State, start, update, newest_number_of, clearings, cleared_cut}
 use Rattle.pm_market.specs.Moves.{after_from}
 use Rattle.pm_market.proofs.Tree.{leaf_node}
 use Rattle.pm_market.proofs.Cuts.{updated_same, updated_other, newest_leaf}
@@ -62,7 +62,7 @@ module _ (lists : Lists) (law : Lawful lists) (one : phases lists ≡ 1) (p : Pr
         )
       ]
     where
-      newest_lists : newest lists s d ≡ s.counts d
+      newest_lists : newest_number_of lists s d ≡ s.counts d
       newest_lists = newest_leaf lists s.counts s.published d leaf
 
   -- nothing changes at d
@@ -75,7 +75,7 @@ module _ (lists : Lists) (law : Lawful lists) (one : phases lists ≡ 1) (p : Pr
 
   -- x makes a change
   changing : (x : ℕ) (after : Network) → after.taken d ≡ net.taken d →
-      IsTold lists (record devices { net = after; agents = updated devices.agents x (agent_after_change lists p x (net.counts x + 1) (devices.agents x)) }) d
+      IsTold lists (record devices { net = after; agents = update devices.agents x (agent_after_change lists p x (net.counts x + 1) (devices.agents x)) }) d
   changing x after same =
       let new : DeviceAgent = agent_after_change lists p x (net.counts x + 1) (devices.agents x) in
       elim (cases_eq d x) [
@@ -88,7 +88,7 @@ module _ (lists : Lists) (law : Lawful lists) (one : phases lists ≡ 1) (p : Pr
               arith,
               is,
               ap (λ (q : PriceMessage). q.number) same,
-              ap (λ (a : DeviceAgent). a.number) (ap (λ (z : ℕ). updated devices.agents x new z) e ∙ updated_same devices.agents x new),
+              ap (λ (a : DeviceAgent). a.number) (ap (λ (z : ℕ). update devices.agents x new z) e ∙ updated_same devices.agents x new),
               up,
               ap (λ (z : ℕ). (devices.agents z).number) e,
               (agree.agents d leaf).number,
@@ -104,7 +104,7 @@ module _ (lists : Lists) (law : Lawful lists) (one : phases lists ≡ 1) (p : Pr
   -- x is given a price
   others : (x k : ℕ) → (d ≡ x → ⊥) → (network_step lists p net (TakesPrice x k)).taken d ≡ net.taken d
   others x k ne =
-      let other : updated net.taken x (sent_price net x k) d ≡ net.taken d = updated_other net.taken x (sent_price net x k) d ne in
+      let other : update net.taken x (sent_price net x k) d ≡ net.taken d = updated_other net.taken x (sent_price net x k) d ne in
       hears_each lists p net x k (λ (n : Network). n.taken d ≡ net.taken d) refl other other other
 
   abbrev Holds : List Setpoint → DeviceAgent → PriceMessage → Type 0
@@ -166,20 +166,20 @@ module _ (lists : Lists) (law : Lawful lists) (one : phases lists ≡ 1) (p : Pr
       let Is : List Setpoint → DeviceAgent → Type 0 = λ l a. Holds l a ((network_step lists p net (TakesPrice x k)).taken d) in
       elim (cases_eq d x) [
         | inl e ↦
-            let here : (z : ℕ) → d ≡ z → Holds (updated devices.setpoints z (devices.setpoints z ++ setpoints_for (devices.agents z)
+            let here : (z : ℕ) → d ≡ z → Holds (update devices.setpoints z (devices.setpoints z ++ setpoints_for (devices.agents z)
             (sent_price net z k)) d)
-            (updated devices.agents z (after_price (devices.agents z) (sent_price net z k)) d) ((network_step lists p net (TakesPrice z k)).taken d) =
+            (update devices.agents z (after_price (devices.agents z) (sent_price net z k)) d) ((network_step lists p net (TakesPrice z k)).taken d) =
             λ z same.
-            subst (λ (y : ℕ). Holds (updated devices.setpoints y (devices.setpoints y ++ setpoints_for (devices.agents y) (sent_price net y k)) d)
-            (updated devices.agents y (after_price (devices.agents y) (sent_price net y k)) d) ((network_step lists p net (TakesPrice y k)).taken d)) same
-            (subst (λ (l : List Setpoint). Holds l (updated devices.agents d (after_price (devices.agents d) (sent_price net d k)) d)
+            subst (λ (y : ℕ). Holds (update devices.setpoints y (devices.setpoints y ++ setpoints_for (devices.agents y) (sent_price net y k)) d)
+            (update devices.agents y (after_price (devices.agents y) (sent_price net y k)) d) ((network_step lists p net (TakesPrice y k)).taken d)) same
+            (subst (λ (l : List Setpoint). Holds l (update devices.agents d (after_price (devices.agents d) (sent_price net d k)) d)
             ((network_step lists p net (TakesPrice d k)).taken d))
             (sym (updated_same devices.setpoints d (devices.setpoints d ++ setpoints_for (devices.agents d) (sent_price net d k))))
             (subst (λ (a : DeviceAgent). Holds (devices.setpoints d ++ setpoints_for (devices.agents d) (sent_price net d k)) a ((network_step lists p net
             (TakesPrice d k)).taken d))
             (sym (updated_same devices.agents d (after_price (devices.agents d) (sent_price net d k)))) (mine k))) in
             here x e
-        | inr ne ↦ subst (λ (l : List Setpoint). Is l (updated devices.agents x new d)) (sym (updated_other devices.setpoints x more d ne))
+        | inr ne ↦ subst (λ (l : List Setpoint). Is l (update devices.agents x new d)) (sym (updated_other devices.setpoints x more d ne))
             (subst (λ (a : DeviceAgent). Is (devices.setpoints d) a) (sym (updated_other devices.agents x new d ne)) (quiet (network_step lists p net
             (TakesPrice x k)) (others x k ne)))
       ]
@@ -270,11 +270,11 @@ told_now lists law one p by events d leaf runs settled member =
     let setpoint : Setpoint = get_or (devices.setpoints d) got.0 no_setpoint in
     let right : IsRight lists p s d setpoint = agree.setpoints d leaf got.0 no_setpoint got.1 in
     let index_is : setpoint.index ≡ clearings s = got.2 ∙ ap (λ (q : PriceMessage). q.index) held in
-    let counted : (e : ℕ) → IsLeaf lists e → cleared s (clearings s) e ≡ devices.net.counts e =
+    let counted : (e : ℕ) → IsLeaf lists e → cleared_cut s (clearings s) e ≡ devices.net.counts e =
     λ e e_leaf. all_counted lists law p by devices.net s agree.agrees settled e e_leaf in
-    let is_number : setpoint.number ≡ devices.net.counts d = right.number ∙ ap (λ (j : ℕ). cleared s j d) index_is ∙ counted d leaf in
+    let is_number : setpoint.number ≡ devices.net.counts d = right.number ∙ ap (λ (j : ℕ). cleared_cut s j d) index_is ∙ counted d leaf in
     let is_step : setpoint.step ≡ p.local devices.net.counts d =
-    right.step ∙ ap (λ (j : ℕ). p.local (cleared s j) d) index_is ∙ by.steps_alike d (cleared s (clearings s)) devices.net.counts node counted in (
+    right.step ∙ ap (λ (j : ℕ). p.local (cleared_cut s j) d) index_is ∙ by.steps_alike d (cleared_cut s (clearings s)) devices.net.counts node counted in (
       setpoint,
       (got.0, got.1, get_or_default (devices.setpoints d) got.0 setpoint no_setpoint got.1),
       is_number,

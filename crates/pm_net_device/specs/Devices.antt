@@ -5,7 +5,7 @@ use Rattle.std.specs.Prelude.{◌++◌, slice_index_or, length}
 use Rattle.std.specs.List.{All, AllPairs, Contains}
 use Rattle.pm_base.specs.Limits.{window_size}
 use Rattle.pm_market.specs.Lists.{Lists, is_leaf, is_member, IsLeaf}
-use Rattle.pm_market.specs.State.{State, updated, clearings, cleared}
+use Rattle.pm_market.specs.State.{State, update, clearings, cleared_cut}
 use Rattle.pm_market.specs.Held.{last_join}
 use Rattle.pm_market.specs.Moves.{LegalFrom, after_from}
 use Rattle.pm_market.specs.declared.moves.Move.{Move}
@@ -42,22 +42,22 @@ agent_after_change lists p d n agent =
 abbrev pub after_change : Lists → Pricing → Devices → ℕ → Devices
 after_change lists p devices d = record devices {
   net = after_bidding lists p devices.net d;
-  agents = updated devices.agents d (agent_after_change lists p d (devices.net.counts d + 1) (devices.agents d));
+  agents = update devices.agents d (agent_after_change lists p d (devices.net.counts d + 1) (devices.agents d));
 }
 
 -- the control does so, and the device stops before the bid is sent
 abbrev pub after_stop : Lists → Pricing → Devices → ℕ → Devices
 after_stop lists p devices d = record devices {
   net = device_stopped devices.net d;
-  agents = updated devices.agents d (agent_after_change lists p d (devices.net.counts d + 1) (devices.agents d));
+  agents = update devices.agents d (agent_after_change lists p d (devices.net.counts d + 1) (devices.agents d));
 }
 
 -- device x is given a price
 abbrev pub after_given : Devices → ℕ → ℕ → Network → Devices
 after_given devices x k net' = record {
   net = net';
-  agents = updated devices.agents x (after_price (devices.agents x) (sent_price devices.net x k));
-  setpoints = updated devices.setpoints x (devices.setpoints x ++ setpoints_for (devices.agents x) (sent_price devices.net x k));
+  agents = update devices.agents x (after_price (devices.agents x) (sent_price devices.net x k));
+  setpoints = update devices.setpoints x (devices.setpoints x ++ setpoints_for (devices.agents x) (sent_price devices.net x k));
 }
 
 -- the rest of the network moves
@@ -72,7 +72,7 @@ devices_step lists p devices (TakesPrice x k) =
     else with_network devices (network_step lists p devices.net (TakesPrice x k))
 devices_step lists p devices (Restarts y k) = record devices {
   net = network_step lists p devices.net (Restarts y k);
-  agents = updated devices.agents y (after_coming_back (devices.agents y) (stored_price devices.net y k).index);
+  agents = update devices.agents y (after_coming_back (devices.agents y) (stored_price devices.net y k).index);
 }
 devices_step lists p devices (StopsBidding x) =
     if is_leaf lists x
@@ -91,9 +91,9 @@ devices_after lists p devices (e ∷ es) = devices_after lists p (devices_step l
 pub record IsRight (lists : Lists) (p : Pricing) (s : State) (d : ℕ) (setpoint : Setpoint) : Type 0 where
   pub cleared_one : 1 ≤ setpoint.index
   pub cleared_by_now : setpoint.index ≤ clearings s
-  pub number : setpoint.number ≡ cleared s setpoint.index d
+  pub number : setpoint.number ≡ cleared_cut s setpoint.index d
   pub member : is_member lists d setpoint.number ≡ true
-  pub step : setpoint.step ≡ p.local (cleared s setpoint.index) d
+  pub step : setpoint.step ≡ p.local (cleared_cut s setpoint.index) d
   pub power : setpoint.power ≡ slice_index_or (p.demand d setpoint.number) setpoint.step (pos 0)
 
 -- an offer that is kept is the bid of its number

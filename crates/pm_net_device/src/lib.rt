@@ -6,7 +6,7 @@ ghost use Rattle.std.specs.Prelude.{◌≡◌, ℕ, ◌+◌, ◌<◌, ◌≤◌,
 ghost use Rattle.pm_base.specs.Limits.{window_size};
 ghost use Rattle.std.specs.List.{All};
 ghost use Rattle.pm_market.specs.Lists.{Lists, phases, is_member, IsLeaf, Lawful};
-ghost use Rattle.pm_market.specs.State.{State, start, cleared};
+ghost use Rattle.pm_market.specs.State.{State, start, cleared_cut};
 ghost use Rattle.pm_net.specs.Pricing.{Pricing, GoesByNodes};
 ghost use Rattle.pm_net.specs.Messages.{PriceMessage};
 ghost use Rattle.pm_net.specs.Events.{Event, RunsOn};
@@ -32,7 +32,7 @@ pub fn setpoints_answer_offers()
         DevicesAgree lists p devices s → DevicesGoOn lists p s (devices_step lists p devices e) }
     ensures later { (lists : Lists) (p : Pricing) (s : State) (d : ℕ) (a b : Setpoint) → Lawful lists → (devices : Devices) →
         DevicesAgree lists p devices s →
-        IsRight lists p s d b → a.index ≤ b.index → (e : ℕ) → IsLeaf lists e → cleared s a.index e ≤ cleared s b.index e }
+        IsRight lists p s d b → a.index ≤ b.index → (e : ℕ) → IsLeaf lists e → cleared_cut s a.index e ≤ cleared_cut s b.index e }
     ensures rising { (lists : Lists) (p : Pricing) (events : List Event) (d : ℕ) → RunsOn d events →
         SetpointsRise (devices_after lists p (start_devices p) events) d }
     ensures few { (agent : DeviceAgent) → IsOfferWindow agent → length agent.offers ≤ window_size + 1 }

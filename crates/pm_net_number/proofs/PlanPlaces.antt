@@ -17,7 +17,7 @@ use Rattle.pm_bid.specs.Clearing.{clearing_step}
 use Rattle.pm_bid.specs.Limited.{within_limits, local_step}
 use Rattle.pm_base.specs.declared.limits.Limits.{Limits}
 use Rattle.pm_market.specs.Lists.{Lists, nodes, parent}
-use Rattle.pm_offer.specs.Offers.{offer, local_at}
+use Rattle.pm_offer.specs.Offers.{offer, local_step_at}
 use Rattle.pm_net.specs.Pricing.{GoesByNodes}
 use Rattle.pm_net.specs.TreeAuction.{AreAsGood, with_limits}
 use Rattle.pm_net.proofs.Unbound.{goes_unbound}
@@ -132,6 +132,6 @@ module _ (plan : PlanData) (is_plan : IsPlan plan) where
       relay = λ c cut conc. by.relay c cut conc ∙ ap (within_limits (limits c)) (sym (at_places c (λ x. offer plan x cut)));
       root = λ x cut node up. by.root x cut node up ∙ ap clearing_step (sym (at_places 0 (λ z. offer plan z cut)));
       below = λ x cut node conc.
-          by.below x cut node conc ∙ ap (local_step (limits (parent lists x)) (local_at plan cut (parent lists x)))
+          by.below x cut node conc ∙ ap (local_step (limits (parent lists x)) (local_step_at plan cut (parent lists x)))
           (sym (at_places (parent lists x) (λ z. offer plan z cut)));
     }

@@ -6,8 +6,8 @@ ghost use Rattle.std.specs.Prelude.{◌≡◌, ℕ, ◌<◌, ◌≤◌, length, 
 ghost use Rattle.pm_base.specs.Limits.{most_nodes};
 ghost use Rattle.pm_base.specs.declared.limits.Limits.{Limits};
 ghost use Rattle.pm_market.specs.Lists.{Lists, nodes, IsNode};
-ghost use Rattle.pm_market.specs.State.{State, cleared};
-ghost use Rattle.pm_plan.specs.Auction.{local};
+ghost use Rattle.pm_market.specs.State.{State, cleared_cut};
+ghost use Rattle.pm_plan.specs.Auction.{local_step_in};
 ghost use Rattle.pm_plan.specs.Kept.{IsPlan};
 ghost use Rattle.pm_plan.specs.Plans.{PlanData};
 ghost use Rattle.pm_plan.specs.States.{state};
@@ -36,5 +36,5 @@ pub fn plans_price_networks()
     ensures prices { (plan : PlanData) (limits : ℕ → Option Limits) (net : Network) (s : State) (x k : ℕ) → IsPlan plan →
         NetworkAgrees (plan_lists plan) (with_limits (added_by_places (plan_pricing plan) (places_in (plan_lists plan))) limits) net s →
         IsNode (plan_lists plan) x → k < length (net.prices_sent x) →
-        (sent_price net x k).step ≡ local plan (state plan) (cleared s (sent_price net x k).index) x }
+        (sent_price net x k).step ≡ local_step_in plan (state plan) (cleared_cut s (sent_price net x k).index) x }
 {}

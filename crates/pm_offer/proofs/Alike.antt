@@ -11,10 +11,10 @@ use Rattle.pm_market.specs.State.{SameOn}
 use Rattle.pm_market.proofs.Tree.{leaf_of_auctioneer, leaf_of_parent, leaf_of_parts}
 use Rattle.pm_plan.specs.Kept.{IsPlan}
 use Rattle.pm_plan.specs.Plans.{PlanData, node, limits_of, is_limited, group}
-use Rattle.pm_plan.specs.Auction.{total, plain, local, group_step, sum_in}
+use Rattle.pm_plan.specs.Auction.{total, plain_step, local_step_in, local_step_of_group, sum_in}
 use Rattle.pm_plan.specs.States.{state}
 use Rattle.pm_plan.specs.Market.{plan_lists}
-use Rattle.pm_offer.specs.Offers.{offer, offers_of, children_sum, local_at}
+use Rattle.pm_offer.specs.Offers.{offer, offers_of, children_sum, local_step_at}
 use Rattle.pm_offer.proofs.Laws as laws
 use Rattle.pm_offer.proofs.Offers.{limited_sum}
 use Rattle.pm_offer.proofs.GroupNodes.{group_kind, nodes_are}
@@ -40,8 +40,8 @@ module _ (plan : PlanData) (is_plan : IsPlan plan) (a b : Cut) (same : SameOn (p
   total_alike = laws.offer_total plan a is_plan ∙ sum_alike plan is_plan 0 a b same ∙ sym (laws.offer_total plan b is_plan)
 
   -- two cuts that are the same on all leaves have the same step of the plain auction
-  pub plain_alike : plain plan (state plan) a ≡ plain plan (state plan) b
-  unfolding plain
+  pub plain_alike : plain_step plan (state plan) a ≡ plain_step plan (state plan) b
+  unfolding plain_step
   plain_alike = ap clearing_step total_alike
 
   same_below : (x : ℕ) → SameOn (plan_lists plan) x a b
@@ -49,18 +49,18 @@ module _ (plan : PlanData) (is_plan : IsPlan plan) (a b : Cut) (same : SameOn (p
 
   -- two cuts the same on all leaves give group 0, and each limited concentrator's group, the same step
   pub group_step_alike : (g : ℕ) → (g ≡ 0) ⊎ (is_limited plan g ≡ true) →
-      group_step plan (state plan) a (plain plan (state plan) a) g ≡ group_step plan (state plan) b (plain plan (state plan) b) g
-  unfolding group_step
+      local_step_of_group plan (state plan) a (plain_step plan (state plan) a) g ≡ local_step_of_group plan (state plan) b (plain_step plan (state plan) b) g
+  unfolding local_step_of_group
   group_step_alike g (inl none) =
-      ap (λ (i : ℕ). local_step (limits_of (node plan i)) (plain plan (state plan) a) (sum_in plan (state plan) a i)) none
+      ap (λ (i : ℕ). local_step (limits_of (node plan i)) (plain_step plan (state plan) a) (sum_in plan (state plan) a i)) none
       ∙ plain_alike
-      ∙ sym (ap (λ (i : ℕ). local_step (limits_of (node plan i)) (plain plan (state plan) b) (sum_in plan (state plan) b i)) none)
+      ∙ sym (ap (λ (i : ℕ). local_step (limits_of (node plan i)) (plain_step plan (state plan) b) (sum_in plan (state plan) b i)) none)
   group_step_alike g (inr limited) =
       ap (λ k. local_step (limits_of (node plan g)) k (sum_in plan (state plan) a g)) plain_alike
-      ∙ ap (local_step (limits_of (node plan g)) (plain plan (state plan) b))
+      ∙ ap (local_step (limits_of (node plan g)) (plain_step plan (state plan) b))
       (limited_sum plan is_plan g a limited ∙ sum_alike plan is_plan g a b (same_below g) ∙ sym (limited_sum plan is_plan g b limited))
 
   -- two cuts that are the same on all leaves give each node the same local step
-  pub local_alike : (x : ℕ) → IsNode (plan_lists plan) x → local_at plan a x ≡ local_at plan b x
-  unfolding local
+  pub local_alike : (x : ℕ) → IsNode (plan_lists plan) x → local_step_at plan a x ≡ local_step_at plan b x
+  unfolding local_step_in
   local_alike x here = group_step_alike (group plan x) (group_kind plan is_plan x (omega (arith, here.1, nodes_are plan is_plan)))

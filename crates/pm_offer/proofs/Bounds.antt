@@ -9,9 +9,9 @@ use Rattle.std.proofs.lemmas.List.{take_all}
 use Rattle.pm_base.specs.declared.limits.Limits.{Limits}
 use Rattle.pm_base.specs.Limits.{demand_limit, sum_limit, IsWithin}
 use Rattle.pm_base.specs.Cuts.{Cut}
-use Rattle.pm_bid.specs.Bids.{demand_at, zeros, AllWithinLimit, nearest}
+use Rattle.pm_bid.specs.Bids.{demand_at, zeros, AllWithinLimit, nearest_in_range}
 use Rattle.pm_bid.specs.Limited.{within_limits}
-use Rattle.pm_bid.proofs.EachStep.{clamped-at}
+use Rattle.pm_bid.proofs.EachStep.{clamp-at}
 use Rattle.pm_market.specs.Lists.{parent, is_leaf, IsInner, is_below}
 use Rattle.pm_market.specs.Offers.{int_sum_to}
 use Rattle.pm_plan.specs.declared.planned.Change.{Change}
@@ -19,7 +19,7 @@ use Rattle.pm_plan.specs.Devices.{is_member_after}
 use Rattle.pm_plan.specs.declared.node.Node.TheVariants.{Concentrator, Limited, Device}
 use Rattle.pm_plan.specs.Plans.{PlanData, NodeData, node, changes_of, change_count, limits_of, is_member, is_limited, group}
 use Rattle.pm_plan.specs.Kept.{IsPlan}
-use Rattle.pm_plan.specs.Auction.{node_bid, demand_in_cut, sum_in, announced}
+use Rattle.pm_plan.specs.Auction.{node_bid, demand_in_cut, sum_in, announcement}
 use Rattle.pm_plan.specs.States.{state_after, node_state, state_by_rows, state}
 use Rattle.pm_plan.specs.Market.{plan_lists}
 use Rattle.pm_plan.proofs.DeviceNodes.{limits_of-tells}
@@ -89,7 +89,7 @@ sum_near plan is cut step g inside =
     (λ d. cond (eqb (group plan d) g) (watts plan cut step d) (pos 0))
     (λ d one le. near_where (eqb (group plan d) g) (pos demand_limit) (watts plan cut step d) (watts_near plan is cut step d inside)))
 
-nearest_near : (limit floor ceiling z : ℤ) → floor ≤ℤ pos 0 → pos 0 ≤ℤ ceiling → IsNear limit z → IsNear limit (nearest floor ceiling z)
+nearest_near : (limit floor ceiling z : ℤ) → floor ≤ℤ pos 0 → pos 0 ≤ℤ ceiling → IsNear limit z → IsNear limit (nearest_in_range floor ceiling z)
 nearest_near limit floor ceiling z low high h = record { low = omega (arith, ints, clamps, h.low, h.high); high = omega (arith, ints, clamps, h.low, h.high) }
 
 limited_near : (plan : PlanData) → IsPlan plan →
@@ -98,12 +98,12 @@ limited_near : (plan : PlanData) → IsPlan plan →
 limited_near plan is g None limit bid step e inside h = h
 limited_near plan is g (Some l) limit bid step e inside h =
     let limits = is.within.limits g l (limits_of-tells (node plan g) l e) in
-    subst (IsNear limit) (sym (clamped-at l.floor l.ceiling bid step inside))
+    subst (IsNear limit) (sym (clamp-at l.floor l.ceiling bid step inside))
     (nearest_near limit l.floor l.ceiling (demand_at bid step) limits.floor_not_positive limits.ceiling_not_negative h)
 
 announced_near : (plan : PlanData) → IsPlan plan →
     (cut : Cut) (step g : ℕ) → step < plan.basis.steps → IsNear (group_limit plan g) (announced_watts plan cut step g)
-unfolding announced
+unfolding announcement
 announced_near plan is cut step g inside =
     limited_near plan is g (limits_of (node plan g)) (group_limit plan g) (sum_in plan (state plan) cut g) step refl
     (subst (λ (n : ℕ). step < n) (sym (sum_steps plan is cut g)) inside) (sum_near plan is cut step g inside)

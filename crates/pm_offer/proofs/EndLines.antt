@@ -22,10 +22,10 @@ use Rattle.pm_plan.specs.declared.end.MemberLine.{MemberLine}
 use Rattle.pm_plan.specs.declared.end.LimitedLine.{LimitedLine}
 use Rattle.pm_plan.specs.Plans.{PlanData, NodeData, node, changes_of, is_member, is_limited, limits_of, group, node_numbers}
 use Rattle.pm_plan.specs.Kept.{IsPlan}
-use Rattle.pm_plan.specs.Auction.{demand_in_cut, sum_in, limited, total, plain, group_step, power, local, node_bid}
+use Rattle.pm_plan.specs.Auction.{demand_in_cut, sum_in, limited_nodes, total, plain_step, local_step_of_group, power, local_step_in, node_bid}
 use Rattle.pm_plan.specs.Auction.{member_line, limited_line, end_in}
 use Rattle.pm_plan.specs.States.{state, end_of}
-use Rattle.pm_offer.specs.Offers.{local_at}
+use Rattle.pm_offer.specs.Offers.{local_step_at}
 use Rattle.pm_offer.specs.LocalSteps.{IsLocalStep, GoesBy, IsAuctionStep, unlimited, kept, above, below}
 use Rattle.pm_offer.specs.Powers.{total_watts, group_power, announced_power, KeepsLimits}
 use Rattle.pm_offer.specs.EndLines.{TellsMember, told_power, TellsLimited, TellsEnd}
@@ -141,27 +141,27 @@ its_limits (Some l) is = (l, refl)
 
 module _ (plan : PlanData) (is : IsPlan plan) (cut : Cut) where
   abbrev clears_at : ℕ
-  clears_at = plain plan (state plan) cut
+  clears_at = plain_step plan (state plan) cut
 
   plain_clears : Clears (total plan (state plan) cut) clears_at
-  unfolding plain
+  unfolding plain_step
   plain_clears = first_at_most_is_first (pos 0) (total plan (state plan) cut) (omega (arith, total_steps plan is cut, is.basis.steps))
 
   plain_inside : clears_at < plan.basis.steps
   plain_inside = omega (arith, plain_clears.inside, total_steps plan is cut)
 
-  group_step_is : (g : ℕ) → IsLocalStep (sum_in plan (state plan) cut g) clears_at (limits_of (node plan g)) (group_step plan (state plan) cut clears_at g)
-  unfolding group_step
+  group_step_is : (g : ℕ) → IsLocalStep (sum_in plan (state plan) cut g) clears_at (limits_of (node plan g)) (local_step_of_group plan (state plan) cut clears_at g)
+  unfolding local_step_of_group
   group_step_is g =
       local_step_is (limits_of (node plan g)) (sum_in plan (state plan) cut g) clears_at (sum_falls plan is cut g)
       (subst (λ (n : ℕ). clears_at < n) (sym (sum_steps plan is cut g)) plain_inside)
 
-  goes_by : (x : ℕ) → GoesBy plan cut clears_at x (local plan (state plan) cut x)
-  unfolding local
+  goes_by : (x : ℕ) → GoesBy plan cut clears_at x (local_step_in plan (state plan) cut x)
+  unfolding local_step_in
   goes_by x = group_step_is (group plan x)
 
   -- the local step of a node is the one that it goes by in the plain auction
-  pub step_is : (x : ℕ) → IsAuctionStep plan cut x (local_at plan cut x)
+  pub step_is : (x : ℕ) → IsAuctionStep plan cut x (local_step_at plan cut x)
   step_is x = (clears_at, plain_clears, goes_by x)
 
   -- the total clears at one step
@@ -170,8 +170,8 @@ module _ (plan : PlanData) (is : IsPlan plan) (cut : Cut) where
 
   -- where the cluster clears at its step, a group goes by one step
   pub group_step_only : (k g step : ℕ) → k ≡ clears_at → IsLocalStep (sum_in plan (state plan) cut g) k (limits_of (node plan g)) step →
-      step ≡ group_step plan (state plan) cut clears_at g
-  unfolding group_step
+      step ≡ local_step_of_group plan (state plan) cut clears_at g
+  unfolding local_step_of_group
   group_step_only k g step one goes =
       let sum : List ℤ = sum_in plan (state plan) cut g in
       local_step_only (limits_of (node plan g)) sum k step (omega (arith, sum_steps plan is cut g, is.basis.steps))
@@ -179,8 +179,8 @@ module _ (plan : PlanData) (is : IsPlan plan) (cut : Cut) where
       ∙ ap (λ (j : ℕ). local_step (limits_of (node plan g)) j sum) one
 
   -- the local step of a node is the only one that it goes by
-  pub step_only : (x step : ℕ) → IsAuctionStep plan cut x step → step ≡ local_at plan cut x
-  unfolding local
+  pub step_only : (x step : ℕ) → IsAuctionStep plan cut x step → step ≡ local_step_at plan cut x
+  unfolding local_step_in
   step_only x step goes = group_step_only goes.0 (group plan x) step (clears_once goes.0 goes.1) goes.2
 
   abbrev line : ℕ → MemberLine
@@ -195,10 +195,10 @@ module _ (plan : PlanData) (is : IsPlan plan) (cut : Cut) where
         planned = found.1;
         member = member;
         number = refl;
-        step = local plan (state plan) cut d;
+        step = local_step_in plan (state plan) cut d;
         goes_by = goes_by d;
         power =
-            ap (λ (bid : List ℤ). demand_at bid (local plan (state plan) cut d))
+            ap (λ (bid : List ℤ). demand_at bid (local_step_in plan (state plan) cut d))
             (cond-true (is_member plan d (cut d)) _ _ member ∙ ap (λ (x : NodeData). node_bid plan x (state plan d (cut d))) found.1);
       }
 
@@ -224,13 +224,13 @@ module _ (plan : PlanData) (is : IsPlan plan) (cut : Cut) where
         limits = found.0;
         limited = found.1;
         step =
-            subst (λ (l : Option Limits). IsLocalStep (sum_in plan (state plan) cut g) clears_at l (group_step plan (state plan) cut clears_at g))
+            subst (λ (l : Option Limits). IsLocalStep (sum_in plan (state plan) cut g) clears_at l (local_step_of_group plan (state plan) cut clears_at g))
             found.1 (group_step_is g);
         sum = sym (told_is g ∙ powers_group plan g cut is);
       }
 
-  root_step : group_step plan (state plan) cut clears_at 0 ≡ clears_at
-  unfolding group_step
+  root_step : local_step_of_group plan (state plan) cut clears_at 0 ≡ clears_at
+  unfolding local_step_of_group
   root_step = refl
 
   -- the end over a cut tells the plain auction over it
@@ -244,10 +244,10 @@ module _ (plan : PlanData) (is : IsPlan plan) (cut : Cut) where
     members =
         All-map (TellsMember plan cut clears_at) line members
         (λ i d inside. tells_member (get_or members i d) (filter_passes (λ e. is_member plan e (cut e)) (node_numbers plan) i d inside));
-    limited_all = map-map (λ (l : LimitedLine). l.node) (limited_line plan (state plan) cut) (limited plan) ∙ map-id (limited plan);
+    limited_all = map-map (λ (l : LimitedLine). l.node) (limited_line plan (state plan) cut) (limited_nodes plan) ∙ map-id (limited_nodes plan);
     limited =
-        All-map (TellsLimited plan cut clears_at (map line members)) (limited_line plan (state plan) cut) (limited plan)
-        (λ i g inside. tells_limited (get_or (limited plan) i g) (filter_passes (is_limited plan) (node_numbers plan) i g inside));
+        All-map (TellsLimited plan cut clears_at (map line members)) (limited_line plan (state plan) cut) (limited_nodes plan)
+        (λ i g inside. tells_limited (get_or (limited_nodes plan) i g) (filter_passes (is_limited plan) (node_numbers plan) i g inside));
     balance =
         powers_total plan cut clears_at is plain_inside
         ∙ ap (λ (z : ℤ). z +ℤ announced_power plan cut clears_at)

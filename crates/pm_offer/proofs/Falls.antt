@@ -9,15 +9,15 @@ use Rattle.std.proofs.lemmas.Bool.{cases_lt, cases_eq, cases_Bool, cond_both}
 use Rattle.pm_base.specs.declared.limits.Limits.{Limits}
 use Rattle.pm_base.specs.Cuts.{Cut}
 use Rattle.pm_base.proofs.Ints.{is_not_below}
-use Rattle.pm_bid.specs.Bids.{demand_at, nearest, NeverRises}
+use Rattle.pm_bid.specs.Bids.{demand_at, nearest_in_range, NeverRises}
 use Rattle.pm_bid.specs.Clearing.{first_at_most, last_at_least}
 use Rattle.pm_bid.specs.Limited.{step_within, within_limits}
-use Rattle.pm_bid.proofs.EachStep.{clamped-at}
+use Rattle.pm_bid.proofs.EachStep.{clamp-at}
 use Rattle.pm_bid.proofs.FoundStep.{first_at_most_is_first, last_at_least_is_last}
 use Rattle.pm_market.specs.Lists.{is_leaf}
 use Rattle.pm_plan.specs.Plans.{PlanData, NodeData, node, is_member, is_limited, limits_of, group}
 use Rattle.pm_plan.specs.Kept.{IsPlan}
-use Rattle.pm_plan.specs.Auction.{node_bid, demand_in_cut, sum_in, announced, total}
+use Rattle.pm_plan.specs.Auction.{node_bid, demand_in_cut, sum_in, announcement, total}
 use Rattle.pm_plan.specs.States.{state}
 use Rattle.pm_plan.specs.Market.{plan_lists}
 use Rattle.pm_plan.proofs.DeviceNodes.{device-is}
@@ -70,21 +70,21 @@ sum_falls plan is cut g step more =
     omega (arith, ints, next, here, each)
 
 -- the nearest number within limits does not rise where the number falls
-nearest_falls : (floor ceiling y z : ℤ) → y ≤ℤ z → nearest floor ceiling y ≤ℤ nearest floor ceiling z
+nearest_falls : (floor ceiling y z : ℤ) → y ≤ℤ z → nearest_in_range floor ceiling y ≤ℤ nearest_in_range floor ceiling z
 nearest_falls floor ceiling y z h = omega (arith, ints, clamps)
 
 limited_falls : (l : Option Limits) (sum : List ℤ) → NeverRises sum → (step : ℕ) → step + 1 < length sum →
     demand_at (within_limits l sum) (step + 1) ≤ℤ demand_at (within_limits l sum) step
 limited_falls None sum falls step more = falls step more
 limited_falls (Some l) sum falls step more =
-    let next = clamped-at l.floor l.ceiling sum (step + 1) more in
-    let here = clamped-at l.floor l.ceiling sum step (omega arith) in
+    let next = clamp-at l.floor l.ceiling sum (step + 1) more in
+    let here = clamp-at l.floor l.ceiling sum step (omega arith) in
     let nearer = nearest_falls l.floor l.ceiling (demand_at sum (step + 1)) (demand_at sum step) (falls step more) in
     omega (arith, ints, next, here, nearer)
 
 announced_falls : (plan : PlanData) → IsPlan plan → (cut : Cut) (g step : ℕ) → step + 1 < plan.basis.steps →
     announced_watts plan cut (step + 1) g ≤ℤ announced_watts plan cut step g
-unfolding announced
+unfolding announcement
 announced_falls plan is cut g step inside =
     limited_falls (limits_of (node plan g)) (sum_in plan (state plan) cut g) (sum_falls plan is cut g) step
     (subst (λ (n : ℕ). step + 1 < n) (sym (sum_steps plan is cut g)) inside)

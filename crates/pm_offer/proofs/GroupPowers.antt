@@ -10,7 +10,7 @@ use Rattle.pm_bid.specs.Limited.{local_step, step_within}
 use Rattle.pm_bid.proofs.Sums.{total_at, zeros-at}
 use Rattle.pm_plan.specs.Plans.{PlanData, node, limits_of, is_member, group}
 use Rattle.pm_plan.specs.Kept.{IsPlan}
-use Rattle.pm_plan.specs.Auction.{demand_in_cut, sum_in, announced, limited, total, plain, group_step, local, power}
+use Rattle.pm_plan.specs.Auction.{demand_in_cut, sum_in, announcement, limited_nodes, total, plain_step, local_step_of_group, local_step_in, power}
 use Rattle.pm_plan.specs.States.{state}
 use Rattle.pm_laws.proofs.Offers.{int_sum_same}
 use Rattle.pm_offer.specs.Powers.{total_watts, members_in, group_power, announced_power, KeepsLimits}
@@ -35,10 +35,10 @@ absent_watts plan cut step d absent =
 
 -- the step of a group over a cut
 abbrev pub step_of : PlanData → Cut → ℕ → ℕ
-step_of plan cut g = group_step plan (state plan) cut (plain plan (state plan) cut) g
+step_of plan cut g = local_step_of_group plan (state plan) cut (plain_step plan (state plan) cut) g
 
 power_in_group : (plan : PlanData) (cut : Cut) (g d : ℕ) → group plan d ≡ g → power plan (state plan) cut d ≡ watts plan cut (step_of plan cut g) d
-unfolding power local
+unfolding power local_step_in
 power_in_group plan cut g d same =
     ap (demand_at (demand_in_cut plan (state plan) cut d)) (ap (step_of plan cut) same)
     ∙ ap (λ bid. demand_at bid (step_of plan cut g)) (demand_is plan cut d)
@@ -51,7 +51,7 @@ members_alone false member y z same none = refl
 
 -- the powers of a group's members add up to the group's sum at the group's step
 pub powers_group : (plan : PlanData) (g : ℕ) (cut : Cut) → IsPlan plan →
-    group_power plan cut g ≡ demand_at (sum_in plan (state plan) cut g) (group_step plan (state plan) cut (plain plan (state plan) cut) g)
+    group_power plan cut g ≡ demand_at (sum_in plan (state plan) cut g) (local_step_of_group plan (state plan) cut (plain_step plan (state plan) cut) g)
 unfolding group_power
 powers_group plan g cut is =
     let n : ℕ = length plan.nodes in
@@ -70,13 +70,13 @@ pub powers_total : (plan : PlanData) (cut : Cut) (step : ℕ) → IsPlan plan �
 unfolding announced_power
 powers_total plan cut step is inside =
     total_is plan is cut step inside
-    ∙ ap (λ z. demand_at (sum_in plan (state plan) cut 0) step +ℤ z) (sym (watts_at (announced plan (state plan) cut) step (limited plan)))
+    ∙ ap (λ z. demand_at (sum_in plan (state plan) cut 0) step +ℤ z) (sym (watts_at (announcement plan (state plan) cut) step (limited_nodes plan)))
 
 limited_step : (plan : PlanData) (cut : Cut) (g : ℕ) (l : Limits) → limits_of (node plan g) ≡ Some l →
-    step_within l (plain plan (state plan) cut) (sum_in plan (state plan) cut g) ≡ step_of plan cut g
-unfolding group_step
+    step_within l (plain_step plan (state plan) cut) (sum_in plan (state plan) cut g) ≡ step_of plan cut g
+unfolding local_step_of_group
 limited_step plan cut g l here =
-    sym (ap (λ (own : Option Limits). local_step own (plain plan (state plan) cut) (sum_in plan (state plan) cut g)) here)
+    sym (ap (λ (own : Option Limits). local_step own (plain_step plan (state plan) cut) (sum_in plan (state plan) cut g)) here)
 
 -- a group's powers add up within its limits where its sum keeps these at some step of the basis
 pub powers_within : (plan : PlanData) (g : ℕ) (cut : Cut) (l : Limits) (k : ℕ) → IsPlan plan → limits_of (node plan g) ≡ Some l →
@@ -84,4 +84,4 @@ pub powers_within : (plan : PlanData) (g : ℕ) (cut : Cut) (l : Limits) (k : �
     KeepsLimits l (demand_at (sum_in plan (state plan) cut g) k) → KeepsLimits l (group_power plan cut g)
 powers_within plan g cut l k is here inside keeps =
     subst (KeepsLimits l) (ap (demand_at (sum_in plan (state plan) cut g)) (limited_step plan cut g l here) ∙ sym (powers_group plan g cut is))
-    (group_keeps plan is cut g (plain plan (state plan) cut) k l inside keeps)
+    (group_keeps plan is cut g (plain_step plan (state plan) cut) k l inside keeps)

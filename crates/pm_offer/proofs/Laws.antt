@@ -13,10 +13,10 @@ use Rattle.pm_market.specs.State.{SameOn}
 use Rattle.pm_market.proofs.Tree.{leaf_of_parts}
 use Rattle.pm_plan.specs.Plans.{PlanData, node, limits_of, end_cut}
 use Rattle.pm_plan.specs.Kept.{IsPlan, change_at}
-use Rattle.pm_plan.specs.Auction.{sum_in, total, plain, group_step}
+use Rattle.pm_plan.specs.Auction.{sum_in, total, plain_step, local_step_of_group}
 use Rattle.pm_plan.specs.States.{state}
 use Rattle.pm_plan.specs.Market.{plan_lists}
-use Rattle.pm_offer.specs.Offers.{device_demand, offer, children_sum, local_at}
+use Rattle.pm_offer.specs.Offers.{device_demand, offer, children_sum, local_step_at}
 use Rattle.pm_offer.specs.Powers.{group_power, announced_power, KeepsLimits}
 use Rattle.pm_offer.proofs.Steps.{offer_length}
 use Rattle.pm_offer.proofs.Offers as offers
@@ -49,19 +49,19 @@ offer_total plan cut is = offers.offer_total plan cut is
 
 -- the auctioneer's children take the step at which the sum of their offers clears
 pub local_root : (plan : PlanData) (x : ℕ) (cut : Cut) → IsPlan plan → IsNode (plan_lists plan) x → parent (plan_lists plan) x ≡ 0 →
-    local_at plan cut x ≡ clearing_step (children_sum plan 0 cut)
+    local_step_at plan cut x ≡ clearing_step (children_sum plan 0 cut)
 local_root plan x cut is here up = steps.local_root plan x cut is here up
 
 -- a concentrator's children take its local step, as its limits, if any, move it for the sum of their offers
 pub local_below : (plan : PlanData) (x : ℕ) (cut : Cut) → IsPlan plan →
     IsNode (plan_lists plan) x → IsConcentrator (plan_lists plan) (parent (plan_lists plan) x) →
-    local_at plan cut x
+    local_step_at plan cut x
     ≡ local_step (limits_of (node plan (parent (plan_lists plan) x)))
-    (local_at plan cut (parent (plan_lists plan) x)) (children_sum plan (parent (plan_lists plan) x) cut)
+    (local_step_at plan cut (parent (plan_lists plan) x)) (children_sum plan (parent (plan_lists plan) x) cut)
 local_below plan x cut is here inner = steps.local_below plan x cut is here inner
 
 -- the local step of a node is a step of the basis
-pub local_inside : (plan : PlanData) (x : ℕ) (cut : Cut) → IsPlan plan → local_at plan cut x < plan.basis.steps
+pub local_inside : (plan : PlanData) (x : ℕ) (cut : Cut) → IsPlan plan → local_step_at plan cut x < plan.basis.steps
 local_inside plan x cut is = steps.local_inside plan x cut is
 
 -- ---- totals
@@ -101,7 +101,7 @@ phase_between plan p d n is from to = phases.phase_between plan p d n is from to
 
 -- the powers of a group's members add up to the group's sum at the group's step
 pub powers_group : (plan : PlanData) (g : ℕ) (cut : Cut) → IsPlan plan →
-    group_power plan cut g ≡ demand_at (sum_in plan (state plan) cut g) (group_step plan (state plan) cut (plain plan (state plan) cut) g)
+    group_power plan cut g ≡ demand_at (sum_in plan (state plan) cut g) (local_step_of_group plan (state plan) cut (plain_step plan (state plan) cut) g)
 powers_group plan g cut is = powers.powers_group plan g cut is
 
 -- at a step the total is the sum of group 0 and the announced power of the limited concentrators

@@ -7,7 +7,7 @@ use Rattle.std.proofs.lemmas.Int.{ints}
 use Rattle.std.proofs.lemmas.Bool.{cases_Bool, cond-true, cond-false, and_parts, and_from, both_ways, false_from_ne_true, eq-eqb, ne_eqb, eqb-true}
 use Rattle.pm_base.specs.Cuts.{Cut}
 use Rattle.pm_base.proofs.Options.{none_of}
-use Rattle.pm_bid.specs.Bids.{added, demand_at, zeros, sum_of}
+use Rattle.pm_bid.specs.Bids.{pairwise_sum, demand_at, zeros, sum_of}
 use Rattle.pm_bid.specs.Limited.{within_limits}
 use Rattle.pm_bid.proofs.EachStep.{same_bids}
 use Rattle.pm_market.specs.Lists.{parent, is_leaf, IsLeaf, IsInner, IsConcentrator, IsLeafOf, is_below, is_leaf_of}
@@ -18,7 +18,7 @@ use Rattle.pm_market.proofs.Tree.{leaf_node, leaf_of_leaf, leaf_of_itself}
 use Rattle.pm_plan.specs.declared.node.Node.TheVariants.{Concentrator, Limited, Device}
 use Rattle.pm_plan.specs.Plans.{PlanData, NodeData, node, is_device, limits_of, is_limited, group, node_numbers}
 use Rattle.pm_plan.specs.Kept.{IsPlan}
-use Rattle.pm_plan.specs.Auction.{part_in, sum_in, announced, total, demand_in_cut}
+use Rattle.pm_plan.specs.Auction.{part_in, sum_in, announcement, total, demand_in_cut}
 use Rattle.pm_plan.specs.States.{state}
 use Rattle.pm_plan.specs.Market.{plan_lists}
 use Rattle.pm_plan.proofs.Auctions.{map_range_same}
@@ -128,8 +128,8 @@ part_alike plan is x g a b same at d inside =
     (λ h. demand_is plan a d ∙ demand_alike plan is x g a b same d inside at (eqb-true (group plan d) g h) ∙ sym (demand_is plan b d))
 
 announced_alike : (plan : PlanData) → IsPlan plan → (x g : ℕ) (a b : Cut) → SameOn (plan_lists plan) x a b → is_limited_at plan x g ≡ true →
-    announced plan (state plan) a g ≡ announced plan (state plan) b g
-unfolding announced sum_in
+    announcement plan (state plan) a g ≡ announcement plan (state plan) b g
+unfolding announcement sum_in
 announced_alike plan is x g a b same at =
     ap (λ bids. within_limits (limits_of (node plan g)) (sum_of plan.basis.steps bids))
     (map_range_same (part_in plan (state plan) a g) (part_in plan (state plan) b g) 1 (length plan.nodes)
@@ -139,16 +139,16 @@ limited_alike : (plan : PlanData) → IsPlan plan → (x : ℕ) (a b : Cut) → 
     (g : ℕ) → limited_part plan x a g ≡ limited_part plan x b g
 unfolding limited_part
 limited_alike plan is x a b same g =
-    where_same (is_limited_at plan x g) (announced plan (state plan) a g) (announced plan (state plan) b g) (zeros plan.basis.steps)
+    where_same (is_limited_at plan x g) (announcement plan (state plan) a g) (announcement plan (state plan) b g) (zeros plan.basis.steps)
     (λ h. announced_alike plan is x g a b same h)
 
 -- the offer of x is the same in two cuts that are the same on the leaves of x
 pub offer_alike : (plan : PlanData) (x : ℕ) (a b : Cut) → IsPlan plan → SameOn (plan_lists plan) x a b → offer plan x a ≡ offer plan x b
 unfolding offer
 offer_alike plan x a b is same =
-    ap (λ bids. added (sum_of plan.basis.steps bids) (sum_of plan.basis.steps (map (limited_part plan x a) (node_numbers plan))))
+    ap (λ bids. pairwise_sum (sum_of plan.basis.steps bids) (sum_of plan.basis.steps (map (limited_part plan x a) (node_numbers plan))))
     (map_range_same (own_part plan x a) (own_part plan x b) 1 (length plan.nodes) (λ d low high. own_alike plan x a b same d))
-    ∙ ap (λ bids. added (sum_of plan.basis.steps (map (own_part plan x b) (node_numbers plan))) (sum_of plan.basis.steps bids))
+    ∙ ap (λ bids. pairwise_sum (sum_of plan.basis.steps (map (own_part plan x b) (node_numbers plan))) (sum_of plan.basis.steps bids))
     (map_range_same (limited_part plan x a) (limited_part plan x b) 1 (length plan.nodes) (λ g low high. limited_alike plan is x a b same g))
 
 -- ---- a concentrator without limits
@@ -235,10 +235,10 @@ alone_at_limited plan is y cut step one inside limited =
 
 offer_limited : (plan : PlanData) → IsPlan plan → (y : ℕ) (cut : Cut) → 1 ≤ y → y ≤ length plan.nodes → IsInner (plan_lists plan) y →
     is_limited plan y ≡ true →
-    offer plan y cut ≡ announced plan (state plan) cut y
+    offer plan y cut ≡ announcement plan (state plan) cut y
 offer_limited plan is y cut one inside inner limited =
     let long = offer_length plan is y cut in
-    same_bids (offer plan y cut) (announced plan (state plan) cut y) (long ∙ sym (announced_steps plan is cut y))
+    same_bids (offer plan y cut) (announcement plan (state plan) cut y) (long ∙ sym (announced_steps plan is cut y))
     (λ step h.
     let below : step < plan.basis.steps = subst (λ (n : ℕ). step < n) long h in
     let own = sum_zeros (length plan.nodes) (own_at plan y cut step) (λ d d_one d_le. own_at_limited plan is y cut step d d_le inner limited) in
@@ -274,8 +274,8 @@ limited_sum plan is y cut limited =
     omega (arith, ints, sum_in_at plan is cut y step below, own, lim, children_is plan is y cut step below))
 
 announced_children : (plan : PlanData) → IsPlan plan → (y : ℕ) (cut : Cut) → is_limited plan y ≡ true →
-    announced plan (state plan) cut y ≡ within_limits (limits_of (node plan y)) (children_sum plan y cut)
-unfolding announced
+    announcement plan (state plan) cut y ≡ within_limits (limits_of (node plan y)) (children_sum plan y cut)
+unfolding announcement
 announced_children plan is y cut limited = ap (within_limits (limits_of (node plan y))) (limited_sum plan is y cut limited)
 
 -- the offer of a concentrator is the sum of its children's offers, within its limits where it has some

@@ -12,7 +12,7 @@ use Rattle.pm_bid.specs.Bids.{demand_at, zeros, sum_of, HaveSteps}
 use Rattle.pm_bid.specs.Limited.{within_limits}
 use Rattle.std.proofs.lemmas.List.Elements.{All-cons}
 use Rattle.pm_bid.proofs.Sums.{zeros-at, Has, length-zeros, length-sum_of, sum_of-at, total_at}
-use Rattle.pm_bid.proofs.EachStep.{added-at, length-added, length-clamped}
+use Rattle.pm_bid.proofs.EachStep.{pairwise_sum-at, length-added, length-clamped}
 use Rattle.pm_tree.specs.Shape.{children_at, parent_at}
 use Rattle.pm_tree.specs.Entries.{parents_of, children_of}
 use Rattle.pm_market.specs.Lists.{nodes, parent, is_leaf, is_below, is_leaf_of}
@@ -21,7 +21,7 @@ use Rattle.pm_plan.specs.declared.planned.Change.{Change}
 use Rattle.pm_plan.specs.Devices.{is_member_after}
 use Rattle.pm_plan.specs.Plans.{PlanData, node, limits_of, is_member, is_limited, group, node_numbers}
 use Rattle.pm_plan.specs.Kept.{IsPlan}
-use Rattle.pm_plan.specs.Auction.{demand_in_cut, part_in, sum_in, announced, total, limited}
+use Rattle.pm_plan.specs.Auction.{demand_in_cut, part_in, sum_in, announcement, total, limited_nodes}
 use Rattle.pm_plan.specs.States.{state}
 use Rattle.pm_plan.specs.Market.{plan_lists}
 use Rattle.pm_plan.proofs.DeviceNodes.{changes_of-none}
@@ -105,24 +105,24 @@ limits_steps steps None bid same = same
 limits_steps steps (Some l) bid same = length-clamped l.floor l.ceiling bid ∙ same
 
 -- what a limited concentrator announces has as many steps as the basis
-pub announced_steps : (plan : PlanData) → IsPlan plan → (cut : Cut) (g : ℕ) → length (announced plan (state plan) cut g) ≡ plan.basis.steps
-unfolding announced
+pub announced_steps : (plan : PlanData) → IsPlan plan → (cut : Cut) (g : ℕ) → length (announcement plan (state plan) cut g) ≡ plan.basis.steps
+unfolding announcement
 announced_steps plan is cut g = limits_steps plan.basis.steps (limits_of (node plan g)) (sum_in plan (state plan) cut g) (sum_steps plan is cut g)
 
 -- what a limited concentrator announces at a step, in watts
 abbrev pub announced_watts : PlanData → Cut → ℕ → ℕ → ℤ
-announced_watts plan cut step g = demand_at (announced plan (state plan) cut g) step
+announced_watts plan cut step g = demand_at (announcement plan (state plan) cut g) step
 
 -- ---- the total
 
 -- what is added up to the total
 abbrev all_sums : PlanData → Cut → List (List ℤ)
-all_sums plan cut = sum_in plan (state plan) cut 0 ∷ map (announced plan (state plan) cut) (limited plan)
+all_sums plan cut = sum_in plan (state plan) cut 0 ∷ map (announcement plan (state plan) cut) (limited_nodes plan)
 
 total_fits : (plan : PlanData) → IsPlan plan → (cut : Cut) → HaveSteps plan.basis.steps (all_sums plan cut)
 total_fits plan is cut =
-    All-cons (Has plan.basis.steps) (sum_in plan (state plan) cut 0) (map (announced plan (state plan) cut) (limited plan))
-    (sum_steps plan is cut 0) (all_steps plan.basis.steps (announced plan (state plan) cut) (limited plan) (announced_steps plan is cut))
+    All-cons (Has plan.basis.steps) (sum_in plan (state plan) cut 0) (map (announcement plan (state plan) cut) (limited_nodes plan))
+    (sum_steps plan is cut 0) (all_steps plan.basis.steps (announcement plan (state plan) cut) (limited_nodes plan) (announced_steps plan is cut))
 
 -- the total of a cut has as many steps as the basis
 pub total_steps : (plan : PlanData) → IsPlan plan → (cut : Cut) → length (total plan (state plan) cut) ≡ plan.basis.steps
@@ -132,15 +132,15 @@ total_steps plan is cut = length-sum_of plan.basis.steps (all_sums plan cut) (to
 -- at a step the total is the sum of group 0 and the sum of what the limited concentrators announce
 pub total_is : (plan : PlanData) → IsPlan plan → (cut : Cut) (step : ℕ) → step < plan.basis.steps →
     demand_at (total plan (state plan) cut) step
-    ≡ demand_at (sum_in plan (state plan) cut 0) step +ℤ total_at (map (announced plan (state plan) cut) (limited plan)) step
+    ≡ demand_at (sum_in plan (state plan) cut 0) step +ℤ total_at (map (announcement plan (state plan) cut) (limited_nodes plan)) step
 unfolding total
 total_is plan is cut step inside = sum_of-at plan.basis.steps (all_sums plan cut) step (total_fits plan is cut) inside
 
 -- what all limited concentrators announce at a step, as a sum over the nodes with 0 for any other node
 pub announced_sum : (plan : PlanData) (cut : Cut) (step : ℕ) →
-    total_at (map (announced plan (state plan) cut) (limited plan)) step
+    total_at (map (announcement plan (state plan) cut) (limited_nodes plan)) step
     ≡ int_sum_to (length plan.nodes) (λ g. cond (is_limited plan g) (announced_watts plan cut step g) (pos 0))
-announced_sum plan cut step = total_of_some (announced plan (state plan) cut) (is_limited plan) (length plan.nodes) step
+announced_sum plan cut step = total_of_some (announcement plan (state plan) cut) (is_limited plan) (length plan.nodes) step
 
 -- ---- an offer
 
@@ -185,7 +185,7 @@ own_part_at plan x cut step d =
 
 limited_part_at : (plan : PlanData) (x : ℕ) (cut : Cut) (step g : ℕ) → demand_at (limited_part plan x cut g) step ≡ limited_at plan x cut step g
 unfolding limited_part
-limited_part_at plan x cut step g = demand_where (is_limited_at plan x g) (announced plan (state plan) cut g) plan.basis.steps step
+limited_part_at plan x cut step g = demand_where (is_limited_at plan x g) (announcement plan (state plan) cut g) plan.basis.steps step
 
 -- at a step the offer of x is what devices add themselves and what limited concentrators add, summed
 pub offer_at : (plan : PlanData) → IsPlan plan → (x : ℕ) (cut : Cut) (step : ℕ) → step < plan.basis.steps →
@@ -197,7 +197,7 @@ offer_at plan is x cut step inside =
     let lim = sum_of plan.basis.steps (map (limited_part plan x cut) (node_numbers plan)) in
     let own_long = own_length plan is x cut in
     let lim_long = limited_length plan is x cut in
-    added-at own lim step (omega arith) (own_long ∙ sym lim_long)
+    pairwise_sum-at own lim step (omega arith) (own_long ∙ sym lim_long)
     ∙ ap (λ z. z +ℤ demand_at lim step)
     (sum_of-at plan.basis.steps _ step (all_steps plan.basis.steps (own_part plan x cut) (node_numbers plan) (own_steps plan is x cut)) inside
     ∙ total_of_all (own_part plan x cut) (length plan.nodes) step

@@ -11,7 +11,7 @@ use Rattle.pm_plan.specs.declared.node.Node.TheVariants.{Device}
 use Rattle.pm_plan.specs.declared.end.MemberLine.{MemberLine}
 use Rattle.pm_plan.specs.declared.end.LimitedLine.{LimitedLine}
 use Rattle.pm_plan.specs.Plans.{PlanData, node, limits_of, is_member, group, node_numbers}
-use Rattle.pm_plan.specs.Auction.{EndData, sum_in, limited, total}
+use Rattle.pm_plan.specs.Auction.{EndData, sum_in, limited_nodes, total}
 use Rattle.pm_plan.specs.States.{state}
 use Rattle.pm_offer.specs.LocalSteps.{IsLocalStep, GoesBy}
 use Rattle.pm_offer.specs.Powers.{total_watts, announced_power, KeepsLimits}
@@ -48,7 +48,7 @@ pub record TellsEnd (plan : PlanData) (cut : Cut) (end : EndData) : Type 0 where
   -- there is one line for each member, and one for each limited concentrator, both in file order
   pub members_all : map (λ line. line.node) end.members ≡ filter (λ d. is_member plan d (cut d)) (node_numbers plan)
   pub members : All (TellsMember plan cut end.step) end.members
-  pub limited_all : map (λ line. line.node) end.limited ≡ limited plan
+  pub limited_all : map (λ line. line.node) end.limited ≡ limited_nodes plan
   pub limited : All (TellsLimited plan cut end.step end.members) end.limited
   -- the powers told of no limited group, and what the limited concentrators announce, add up to the total told
   pub balance : end.total ≡ told_power plan end.members 0 +ℤ announced_power plan cut end.step

@@ -2,11 +2,11 @@
 -- The states of the devices are the plan's own.
 use Rattle.std.specs.Prelude.{ℕ, ℤ, Bool, ◌&&◌, not, if◌then◌else◌, List, map}
 use Rattle.pm_base.specs.Cuts.{Cut}
-use Rattle.pm_bid.specs.Bids.{added, zeros, sum_of}
+use Rattle.pm_bid.specs.Bids.{pairwise_sum, zeros, sum_of}
 use Rattle.pm_tree.specs.Entries.{children_of}
 use Rattle.pm_market.specs.Lists.{is_below, is_leaf_of}
 use Rattle.pm_plan.specs.Plans.{PlanData, is_limited, group, node_numbers}
-use Rattle.pm_plan.specs.Auction.{demand_in_cut, announced, local}
+use Rattle.pm_plan.specs.Auction.{demand_in_cut, announcement, local_step_in}
 use Rattle.pm_plan.specs.States.{state}
 use Rattle.pm_plan.specs.Market.{plan_lists}
 
@@ -28,13 +28,13 @@ own_part plan x cut d =
 -- what a limited concentrator adds that is x or stands below x: what it announces
 unfoldable pub limited_part : PlanData → ℕ → Cut → ℕ → List ℤ
 limited_part plan x cut g =
-    if is_limited_at plan x g then announced plan (state plan) cut g
+    if is_limited_at plan x g then announcement plan (state plan) cut g
     else zeros plan.basis.steps
 
 -- the offer of x: what the devices add themselves, and what the limited concentrators add
 unfoldable pub offer : PlanData → ℕ → Cut → List ℤ
 offer plan x cut =
-    added (sum_of plan.basis.steps (map (own_part plan x cut) (node_numbers plan)))
+    pairwise_sum (sum_of plan.basis.steps (map (own_part plan x cut) (node_numbers plan)))
     (sum_of plan.basis.steps (map (limited_part plan x cut) (node_numbers plan)))
 
 -- the offers of the children of y in file order, and their sum, which no limits have changed
@@ -45,5 +45,5 @@ abbrev pub children_sum : PlanData → ℕ → Cut → List ℤ
 children_sum plan y cut = sum_of plan.basis.steps (offers_of plan y cut)
 
 -- the local step of a node
-abbrev pub local_at : PlanData → Cut → ℕ → ℕ
-local_at plan cut x = local plan (state plan) cut x
+abbrev pub local_step_at : PlanData → Cut → ℕ → ℕ
+local_step_at plan cut x = local_step_in plan (state plan) cut x

@@ -4,7 +4,7 @@ use Rattle.pm_base.specs.Cuts.{Cut}
 use Rattle.pm_base.specs.declared.limits.Limits.{Limits}
 use Rattle.pm_bid.specs.Bids.{demand_at}
 use Rattle.pm_plan.specs.Plans.{PlanData, group, is_member, node_numbers}
-use Rattle.pm_plan.specs.Auction.{announced, limited, power}
+use Rattle.pm_plan.specs.Auction.{announcement, limited_nodes, power}
 use Rattle.pm_plan.specs.States.{state}
 
 -- numbers of watts added up
@@ -22,7 +22,7 @@ group_power plan cut g = total_watts (map (power plan (state plan) cut) (members
 
 -- what the limited concentrators announce at a step, added up
 unfoldable pub announced_power : PlanData → Cut → ℕ → ℤ
-announced_power plan cut step = total_watts (map (λ g. demand_at (announced plan (state plan) cut g) step) (limited plan))
+announced_power plan cut step = total_watts (map (λ g. demand_at (announcement plan (state plan) cut g) step) (limited_nodes plan))
 
 -- a power between the floor and the ceiling of some limits
 pub record KeepsLimits (limits : Limits) (watts : ℤ) : Type 0 where

@@ -19,10 +19,10 @@ ghost use Rattle.pm_market.specs.Lists.{parent, IsNode, IsLeaf, IsInner, IsConce
 ghost use Rattle.pm_market.specs.State.{SameOn};
 ghost use Rattle.pm_plan.specs.Plans.{PlanData, node, limits_of, end_cut};
 ghost use Rattle.pm_plan.specs.Kept.{IsPlan, change_at};
-ghost use Rattle.pm_plan.specs.Auction.{EndData, sum_in, total, plain, group_step};
+ghost use Rattle.pm_plan.specs.Auction.{EndData, sum_in, total, plain_step, local_step_of_group};
 ghost use Rattle.pm_plan.specs.States.{state, end_of};
 ghost use Rattle.pm_plan.specs.Market.{plan_lists};
-ghost use Rattle.pm_offer.specs.Offers.{device_demand, offer, children_sum, local_at};
+ghost use Rattle.pm_offer.specs.Offers.{device_demand, offer, children_sum, local_step_at};
 ghost use Rattle.pm_offer.specs.Powers.{group_power, announced_power, KeepsLimits};
 ghost use Rattle.pm_offer.specs.LocalSteps.{IsAuctionStep};
 ghost use Rattle.pm_offer.specs.EndLines.{TellsEnd};
@@ -46,13 +46,13 @@ pub fn offers_go_up()
 #[tactic(auto, using(crate::proofs::Laws::local_root, crate::proofs::Laws::local_below, crate::proofs::Laws::local_inside))]
 pub fn steps_go_down()
     ensures root { (plan : PlanData) (x : ℕ) (cut : Cut) → IsPlan plan → IsNode (plan_lists plan) x → parent (plan_lists plan) x ≡ 0 →
-        local_at plan cut x ≡ clearing_step (children_sum plan 0 cut) }
+        local_step_at plan cut x ≡ clearing_step (children_sum plan 0 cut) }
     ensures below { (plan : PlanData) (x : ℕ) (cut : Cut) → IsPlan plan → IsNode (plan_lists plan) x →
         IsConcentrator (plan_lists plan) (parent (plan_lists plan) x) →
-        local_at plan cut x
-        ≡ local_step (limits_of (node plan (parent (plan_lists plan) x))) (local_at plan cut (parent (plan_lists plan) x))
+        local_step_at plan cut x
+        ≡ local_step (limits_of (node plan (parent (plan_lists plan) x))) (local_step_at plan cut (parent (plan_lists plan) x))
         (children_sum plan (parent (plan_lists plan) x) cut) }
-    ensures inside { (plan : PlanData) (x : ℕ) (cut : Cut) → IsPlan plan → local_at plan cut x < plan.basis.steps }
+    ensures inside { (plan : PlanData) (x : ℕ) (cut : Cut) → IsPlan plan → local_step_at plan cut x < plan.basis.steps }
 {}
 
 /// A law: an offer has a number for each step of the basis, and the offers of a node's children add up to no more than the
@@ -81,7 +81,7 @@ pub fn totals_are_curves()
 pub fn powers_add_up()
     // Group g: the devices below the limited concentrator g, and for 0 those below none. For any other node both are 0.
     ensures group { (plan : PlanData) (g : ℕ) (cut : Cut) → IsPlan plan →
-        group_power plan cut g ≡ demand_at (sum_in plan (state plan) cut g) (group_step plan (state plan) cut (plain plan (state plan) cut) g) }
+        group_power plan cut g ≡ demand_at (sum_in plan (state plan) cut g) (local_step_of_group plan (state plan) cut (plain_step plan (state plan) cut) g) }
     ensures total { (plan : PlanData) (cut : Cut) (step : ℕ) → IsPlan plan → step < plan.basis.steps →
         demand_at (total plan (state plan) cut) step ≡ demand_at (sum_in plan (state plan) cut 0) step +ℤ announced_power plan cut step }
     ensures within { (plan : PlanData) (g : ℕ) (cut : Cut) (limits : Limits) (step : ℕ) → IsPlan plan → limits_of (node plan g) ≡ Some limits →
@@ -102,6 +102,6 @@ pub fn changes_are_of_their_phase()
 pub fn ends_tell_the_auction()
     ensures end { (plan : PlanData) (cut : Cut) → IsPlan plan → TellsEnd plan cut (end_of plan cut) }
     ensures only { (plan : PlanData) (cut : Cut) (end : EndData) → IsPlan plan → TellsEnd plan cut end → end ≡ end_of plan cut }
-    ensures step { (plan : PlanData) (cut : Cut) (x : ℕ) → IsPlan plan → IsAuctionStep plan cut x (local_at plan cut x) }
-    ensures only_step { (plan : PlanData) (cut : Cut) (x step : ℕ) → IsPlan plan → IsAuctionStep plan cut x step → step ≡ local_at plan cut x }
+    ensures step { (plan : PlanData) (cut : Cut) (x : ℕ) → IsPlan plan → IsAuctionStep plan cut x (local_step_at plan cut x) }
+    ensures only_step { (plan : PlanData) (cut : Cut) (x step : ℕ) → IsPlan plan → IsAuctionStep plan cut x step → step ≡ local_step_at plan cut x }
 {}

@@ -8,7 +8,7 @@ use Rattle.pm_bid.specs.Limited.{within_limits, local_step}
 use Rattle.pm_plan.specs.Devices.{DeviceData}
 use Rattle.pm_plan.specs.declared.node.Node.TheVariants.{Concentrator, Limited, Device}
 use Rattle.pm_plan.specs.Plans.{PlanData, NodeData, node, limits_of, is_member, group}
-use Rattle.pm_plan.specs.Auction.{States, node_bid, part_in, sum_in, announced, total, plain, group_step, local, power, limited, demand_in_cut}
+use Rattle.pm_plan.specs.Auction.{States, node_bid, part_in, sum_in, announcement, total, plain_step, local_step_of_group, local_step_in, power, limited_nodes, demand_in_cut}
 use Rattle.pm_base.specs.Cuts.{Cut}
 
 -- two functions that agree on the numbers of a range map the range to the same list
@@ -49,27 +49,27 @@ sum_same plan s t cut g same =
 
 -- states that agree on a cut give the same total
 pub total_same : (plan : PlanData) (s t : States) (cut : Cut) → Agree plan cut s t → total plan s cut ≡ total plan t cut
-unfolding total announced
+unfolding total announcement
 total_same plan s t cut same =
-    ap (λ bid. sum_of plan.basis.steps (bid ∷ map (announced plan s cut) (limited plan))) (sum_same plan s t cut 0 same)
-    ∙ ap (λ bids. sum_of plan.basis.steps (sum_in plan t cut 0 ∷ bids)) (map_same (announced plan s cut) (announced plan t cut) (limited plan)
+    ap (λ bid. sum_of plan.basis.steps (bid ∷ map (announcement plan s cut) (limited_nodes plan))) (sum_same plan s t cut 0 same)
+    ∙ ap (λ bids. sum_of plan.basis.steps (sum_in plan t cut 0 ∷ bids)) (map_same (announcement plan s cut) (announcement plan t cut) (limited_nodes plan)
     (λ g. ap (within_limits (limits_of (node plan g))) (sum_same plan s t cut g same)))
 
 -- states that agree on a cut give the plain auction the same step
-pub plain_same : (plan : PlanData) (s t : States) (cut : Cut) → Agree plan cut s t → plain plan s cut ≡ plain plan t cut
-unfolding plain
+pub plain_same : (plan : PlanData) (s t : States) (cut : Cut) → Agree plan cut s t → plain_step plan s cut ≡ plain_step plan t cut
+unfolding plain_step
 plain_same plan s t cut same = ap clearing_step (total_same plan s t cut same)
 
 -- states that agree on a cut give each node the same step of its group
-pub local_same : (plan : PlanData) (s t : States) (cut : Cut) (x : ℕ) → Agree plan cut s t → local plan s cut x ≡ local plan t cut x
-unfolding local group_step
+pub local_same : (plan : PlanData) (s t : States) (cut : Cut) (x : ℕ) → Agree plan cut s t → local_step_in plan s cut x ≡ local_step_in plan t cut x
+unfolding local_step_in local_step_of_group
 local_same plan s t cut x same =
     ap (λ k. local_step (limits_of (node plan (group plan x))) k (sum_in plan s cut (group plan x))) (plain_same plan s t cut same)
-    ∙ ap (local_step (limits_of (node plan (group plan x))) (plain plan t cut)) (sum_same plan s t cut (group plan x) same)
+    ∙ ap (local_step (limits_of (node plan (group plan x))) (plain_step plan t cut)) (sum_same plan s t cut (group plan x) same)
 
 -- states that agree on a cut give each node the same power
 pub power_same : (plan : PlanData) (s t : States) (cut : Cut) (d : ℕ) → Agree plan cut s t → power plan s cut d ≡ power plan t cut d
 unfolding power
 power_same plan s t cut d same =
-    ap (λ bid. demand_at bid (local plan s cut d)) (demand_same plan s t cut d same)
+    ap (λ bid. demand_at bid (local_step_in plan s cut d)) (demand_same plan s t cut d same)
     ∙ ap (demand_at (demand_in_cut plan t cut d)) (local_same plan s t cut d same)

@@ -11,7 +11,7 @@ use Rattle.pm_base.specs.declared.limits.Limits.{Limits}
 use Rattle.pm_bid.specs.Bids.{demand_at}
 use Rattle.pm_bid.specs.Limited.{step_within, local_step}
 use Rattle.pm_plan.specs.Plans.{PlanData, node, limits_of, group, is_member, is_limited}
-use Rattle.pm_plan.specs.Auction.{States, sum_in, plain, local, group_step, power, member_line, limited_line, total, end_in, EndData, demand_in_cut}
+use Rattle.pm_plan.specs.Auction.{States, sum_in, plain_step, local_step_in, local_step_of_group, power, member_line, limited_line, total, end_in, EndData, demand_in_cut}
 use Rattle.pm_base.specs.Cuts.{Cut}
 use Rattle.pm_plan.specs.States.{state, end_of}
 use Rattle.pm_plan.specs.declared.end.MemberLine.{MemberLine}
@@ -21,27 +21,27 @@ use Rattle.pm_base.proofs.Lists.{range_with_len-more}
 
 -- the step of a group, by its limits
 pub limited_step : (plan : PlanData) (s : States) (cut : Cut) (k g : ℕ) (limits : Limits) (sum : List ℤ) (l : ℕ) →
-    limits_of (node plan g) ≡ Some limits → sum ≡ sum_in plan s cut g → l ≡ step_within limits k sum → l ≡ group_step plan s cut k g
-unfolding group_step
+    limits_of (node plan g) ≡ Some limits → sum ≡ sum_in plan s cut g → l ≡ step_within limits k sum → l ≡ local_step_of_group plan s cut k g
+unfolding local_step_of_group
 limited_step plan s cut k g limits sum l limits_is sum_is l_is =
     l_is ∙ ap (step_within limits k) sum_is ∙ ap (λ own. local_step own k (sum_in plan s cut g)) (sym limits_is)
 
 -- the step of a group without limits is the step of the whole
-pub free_step : (plan : PlanData) (s : States) (cut : Cut) (k g : ℕ) → limits_of (node plan g) ≡ None → k ≡ group_step plan s cut k g
-unfolding group_step
+pub free_step : (plan : PlanData) (s : States) (cut : Cut) (k g : ℕ) → limits_of (node plan g) ≡ None → k ≡ local_step_of_group plan s cut k g
+unfolding local_step_of_group
 free_step plan s cut k g free = sym (ap (λ limits. local_step limits k (sum_in plan s cut g)) free)
 
 -- a device's demand in a cut, at the step of its group, is its power
 pub power_is : (plan : PlanData) (s : States) (cut : Cut) (d g l : ℕ) (bid : List ℤ) (z : ℤ) → g ≡ group plan d →
-    l ≡ group_step plan s cut (plain plan s cut) g → bid ≡ demand_in_cut plan s cut d → z ≡ demand_at bid l → z ≡ power plan s cut d
-unfolding power local
+    l ≡ local_step_of_group plan s cut (plain_step plan s cut) g → bid ≡ demand_in_cut plan s cut d → z ≡ demand_at bid l → z ≡ power plan s cut d
+unfolding power local_step_in
 power_is plan s cut d g l bid z g_is l_is bid_is z_is =
     z_is ∙ ap (λ b. demand_at b l) bid_is
-    ∙ ap (demand_at (demand_in_cut plan s cut d)) (l_is ∙ ap (group_step plan s cut (plain plan s cut)) g_is)
+    ∙ ap (demand_at (demand_in_cut plan s cut d)) (l_is ∙ ap (local_step_of_group plan s cut (plain_step plan s cut)) g_is)
 
 -- a node with the step of its group and the group's sum there makes a limited concentrator's line
 pub limited_line_is : (plan : PlanData) (s : States) (cut : Cut) (g l : ℕ) (sum : List ℤ) (z : ℤ) →
-    l ≡ group_step plan s cut (plain plan s cut) g → sum ≡ sum_in plan s cut g → z ≡ demand_at sum l →
+    l ≡ local_step_of_group plan s cut (plain_step plan s cut) g → sum ≡ sum_in plan s cut g → z ≡ demand_at sum l →
     (let x : LimitedLine = record { node = g; step = l; total = z } in x) ≡ limited_line plan s cut g
 unfolding limited_line
 limited_line_is plan s cut g l sum z l_is sum_is z_is =
@@ -126,17 +126,17 @@ end_with k p t m l = record { step = k; price = p; total = t; members = m; limit
 
 -- the step of the plain auction, its price, the total there and all lines make the end of the cut
 pub end_is : (plan : PlanData) (cut : Cut) (k : ℕ) (p t : ℤ) (sum : List ℤ) (m : List MemberLine) (l : List LimitedLine) →
-    k ≡ plain plan (state plan) cut → p ≡ price_at plan.basis k → t ≡ demand_at sum k → sum ≡ total plan (state plan) cut →
+    k ≡ plain_step plan (state plan) cut → p ≡ price_at plan.basis k → t ≡ demand_at sum k → sum ≡ total plan (state plan) cut →
     m ≡ members_to plan cut (length plan.nodes) → l ≡ limited_to plan cut (length plan.nodes) →
     (let x : EndData = record { step = k; price = p; total = t; members = m; limited = l } in x) ≡ end_of plan cut
 unfolding end_with end_in members_to limited_to
 end_is plan cut k p t sum m l k_is p_is t_is sum_is m_is l_is =
     ap (λ q. end_with k q t m l) (p_is ∙ ap (price_at plan.basis) k_is)
-    ∙ ap (λ u. end_with k (price_at plan.basis (plain plan (state plan) cut)) u m l) (t_is ∙ ap (λ b. demand_at b k) sum_is
+    ∙ ap (λ u. end_with k (price_at plan.basis (plain_step plan (state plan) cut)) u m l) (t_is ∙ ap (λ b. demand_at b k) sum_is
     ∙ ap (demand_at (total plan (state plan) cut)) k_is)
-    ∙ ap (λ j. end_with j (price_at plan.basis (plain plan (state plan) cut))
-    (demand_at (total plan (state plan) cut) (plain plan (state plan) cut)) m l) k_is
-    ∙ ap (λ n. end_with (plain plan (state plan) cut) (price_at plan.basis (plain plan (state plan) cut))
-    (demand_at (total plan (state plan) cut) (plain plan (state plan) cut)) n l) m_is
-    ∙ ap (λ n. end_with (plain plan (state plan) cut) (price_at plan.basis (plain plan (state plan) cut))
-    (demand_at (total plan (state plan) cut) (plain plan (state plan) cut)) (members_to plan cut (length plan.nodes)) n) l_is
+    ∙ ap (λ j. end_with j (price_at plan.basis (plain_step plan (state plan) cut))
+    (demand_at (total plan (state plan) cut) (plain_step plan (state plan) cut)) m l) k_is
+    ∙ ap (λ n. end_with (plain_step plan (state plan) cut) (price_at plan.basis (plain_step plan (state plan) cut))
+    (demand_at (total plan (state plan) cut) (plain_step plan (state plan) cut)) n l) m_is
+    ∙ ap (λ n. end_with (plain_step plan (state plan) cut) (price_at plan.basis (plain_step plan (state plan) cut))
+    (demand_at (total plan (state plan) cut) (plain_step plan (state plan) cut)) (members_to plan cut (length plan.nodes)) n) l_is

@@ -10,7 +10,7 @@ use Rattle.pm_bid.proofs.Sums.{length-zeros, zeros-within}
 use Rattle.pm_bid.specs.Bids.{AllWithinLimit, NeverRises, demand_at}
 use Rattle.pm_base.specs.Limits.{demand_limit, IsWithin}
 use Rattle.pm_device.specs.Kinds.{is_valid, state_fits, temperature_limit, is_temperature, is_between}
-use Rattle.pm_device.specs.Ticks.{tick, nearest_between, nearest_temperature, change_if, took, delivered, floor_div}
+use Rattle.pm_device.specs.Ticks.{tick, nearest_between, nearest_temperature, change_if, takes_power, delivers_power, floor_div}
 use Rattle.pm_device.specs.declared.kind.Kind.{Kind}
 use Rattle.pm_device.specs.declared.kind.Kind.TheVariants.{Freezer, HeatPump, Cogeneration, Battery, Solar, Load, Objective, Manual}
 use Rattle.pm_device.proofs.Between.{is_between-holds, is_battery-tells}
@@ -21,7 +21,7 @@ use Rattle.pm_plan.specs.declared.planned.Planned.TheVariants.{Join, Leave, Set,
 use Rattle.pm_plan.specs.Devices.{DeviceData}
 use Rattle.pm_plan.specs.declared.node.Node.TheVariants.{Concentrator, Limited, Device}
 use Rattle.pm_plan.specs.Plans.{PlanData, NodeData, node, kind_of, changes_of, change_count, is_member, end_cut}
-use Rattle.pm_plan.specs.Auction.{node_bid, local, power, demand_in_cut}
+use Rattle.pm_plan.specs.Auction.{node_bid, local_step_in, power, demand_in_cut}
 use Rattle.pm_base.specs.Cuts.{Cut}
 use Rattle.pm_plan.specs.States.{changed_state, state}
 use Rattle.pm_plan.specs.Kept.{IsPlan, no_change, change_fits, change_at}
@@ -39,9 +39,9 @@ temperature-fits x = nearest-fits (neg_ℤ (pos temperature_limit)) (pos tempera
 pub tick-fits : (kind : Kind) (state power minutes : ℤ) → IsTrue (is_valid kind) → IsTrue (state_fits kind state) →
     IsTrue (state_fits kind (tick kind state power minutes))
 unfolding tick
-tick-fits (Freezer low high rated warm cool) state power minutes valid fits = temperature-fits ((state +ℤ warm) -ℤ change_if (took power) cool)
-tick-fits (HeatPump low high rated loss gain) state power minutes valid fits = temperature-fits ((state -ℤ loss) +ℤ change_if (took power) gain)
-tick-fits (Cogeneration low high rated loss gain) state power minutes valid fits = temperature-fits ((state -ℤ loss) +ℤ change_if (delivered power) gain)
+tick-fits (Freezer low high rated warm cool) state power minutes valid fits = temperature-fits ((state +ℤ warm) -ℤ change_if (takes_power power) cool)
+tick-fits (HeatPump low high rated loss gain) state power minutes valid fits = temperature-fits ((state -ℤ loss) +ℤ change_if (takes_power power) gain)
+tick-fits (Cogeneration low high rated loss gain) state power minutes valid fits = temperature-fits ((state -ℤ loss) +ℤ change_if (delivers_power power) gain)
 tick-fits (Battery capacity charge discharge spread) state power minutes valid fits =
     let least = (is_battery-tells capacity charge discharge spread valid).capacity_within in
     nearest-fits (pos 0) capacity (state +ℤ floor_div (power *ℤ minutes) (pos 60)) (omega (arith, ints, least.from))
@@ -132,4 +132,4 @@ pub power-within : (plan : PlanData) (cut : Cut) (d : ℕ) → IsPlan plan → c
     IsWithin demand_limit (power plan (state plan) cut d)
 unfolding power
 power-within plan cut d is within =
-    element-within demand_limit (demand_in_cut plan (state plan) cut d) (local plan (state plan) cut d) (demand-within plan cut d is within)
+    element-within demand_limit (demand_in_cut plan (state plan) cut d) (local_step_in plan (state plan) cut d) (demand-within plan cut d is within)

@@ -34,32 +34,32 @@ unfoldable pub sum_in : PlanData → States → Cut → ℕ → List ℤ
 sum_in plan states cut g = sum_of plan.basis.steps (map (part_in plan states cut g) (node_numbers plan))
 
 -- the limited concentrators in file order
-abbrev pub limited : PlanData → List ℕ
-limited plan = filter (is_limited plan) (node_numbers plan)
+abbrev pub limited_nodes : PlanData → List ℕ
+limited_nodes plan = filter (is_limited plan) (node_numbers plan)
 
 -- what a limited concentrator announces: the sum of its group, within its limits
-unfoldable pub announced : PlanData → States → Cut → ℕ → List ℤ
-announced plan states cut g = within_limits (limits_of (node plan g)) (sum_in plan states cut g)
+unfoldable pub announcement : PlanData → States → Cut → ℕ → List ℤ
+announcement plan states cut g = within_limits (limits_of (node plan g)) (sum_in plan states cut g)
 
 -- the total: the sum of the devices below no limited concentrator, and what each limited concentrator announces
 unfoldable pub total : PlanData → States → Cut → List ℤ
-total plan states cut = sum_of plan.basis.steps (sum_in plan states cut 0 ∷ map (announced plan states cut) (limited plan))
+total plan states cut = sum_of plan.basis.steps (sum_in plan states cut 0 ∷ map (announcement plan states cut) (limited_nodes plan))
 
 -- the step of the plain auction: the first at which the total is not positive, and the last where it always is
-unfoldable pub plain : PlanData → States → Cut → ℕ
-plain plan states cut = clearing_step (total plan states cut)
+unfoldable pub plain_step : PlanData → States → Cut → ℕ
+plain_step plan states cut = clearing_step (total plan states cut)
 
 -- the step of a group, where k is the step of the whole
-unfoldable pub group_step : PlanData → States → Cut → ℕ → ℕ → ℕ
-group_step plan states cut k g = local_step (limits_of (node plan g)) k (sum_in plan states cut g)
+unfoldable pub local_step_of_group : PlanData → States → Cut → ℕ → ℕ → ℕ
+local_step_of_group plan states cut k g = local_step (limits_of (node plan g)) k (sum_in plan states cut g)
 
 -- the step of a node: that of its group
-unfoldable pub local : PlanData → States → Cut → ℕ → ℕ
-local plan states cut x = group_step plan states cut (plain plan states cut) (group plan x)
+unfoldable pub local_step_in : PlanData → States → Cut → ℕ → ℕ
+local_step_in plan states cut x = local_step_of_group plan states cut (plain_step plan states cut) (group plan x)
 
 -- the power of a device in watts: its demand at the step of its group, so 0 where it is no member
 unfoldable pub power : PlanData → States → Cut → ℕ → ℤ
-power plan states cut d = demand_at (demand_in_cut plan states cut d) (local plan states cut d)
+power plan states cut d = demand_at (demand_in_cut plan states cut d) (local_step_in plan states cut d)
 
 -- a phase's end: the step, its price and the total there; a line for each member and for each limited concentrator,
 -- both in file order
@@ -77,15 +77,15 @@ member_line plan states cut d = record { node = d; power = power plan states cut
 -- a limited concentrator, the step of the nodes below it, and the sum of its group there
 unfoldable pub limited_line : PlanData → States → Cut → ℕ → LimitedLine
 limited_line plan states cut g =
-    let k = group_step plan states cut (plain plan states cut) g in
+    let k = local_step_of_group plan states cut (plain_step plan states cut) g in
     record { node = g; step = k; total = demand_at (sum_in plan states cut g) k }
 
 unfoldable pub end_in : PlanData → States → Cut → EndData
-end_in plan states cut = let k = plain plan states cut in
+end_in plan states cut = let k = plain_step plan states cut in
     record {
       step = k;
       price = price_at plan.basis k;
       total = demand_at (total plan states cut) k;
       members = map (member_line plan states cut) (filter (λ d. is_member plan d (cut d)) (node_numbers plan));
-      limited = map (limited_line plan states cut) (limited plan);
+      limited = map (limited_line plan states cut) (limited_nodes plan);
     }

@@ -20,7 +20,7 @@ NodeData = Node
 
 -- whether a node is a device
 abbrev pub is_device : NodeData → Bool
-is_device (Device planned) = true
+is_device (Device planned_change) = true
 is_device _ = false
 
 -- the limits of a limited concentrator, none for any other node
@@ -30,17 +30,17 @@ limits_of _ = None
 
 -- the kind of a device, none for any other node
 abbrev pub kind_of : NodeData → Option Kind
-kind_of (Device planned) = Some planned.kind
+kind_of (Device planned_change) = Some planned_change.kind
 kind_of _ = None
 
 -- the state of a device before its first change, none for any other node
 abbrev pub start_of : NodeData → Option ℤ
-start_of (Device planned) = Some planned.start
+start_of (Device planned_change) = Some planned_change.start
 start_of _ = None
 
 -- the changes of a device; no other node has any
 abbrev pub changes_of : NodeData → List Change
-changes_of (Device planned) = planned.changes
+changes_of (Device planned_change) = planned_change.changes
 changes_of _ = []
 
 -- the nodes stand in the order of the tree's entries, so they are 1, 2, ..; the arrays are the bids of the manual
@@ -135,10 +135,10 @@ unfoldable pub is_member : PlanData → ℕ → ℕ → Bool
 is_member plan d n = is_member_after (take n (changes_of (node plan d)))
 
 -- the change at a place of a list, counted from 0
-abbrev pub planned_at : List Change → ℕ → Option Planned
-planned_at changes place = option_map (λ change. change.what) (slice_get changes place)
+abbrev pub planned_change_at : List Change → ℕ → Option Planned
+planned_change_at changes place = option_map (λ change. change.what) (slice_get changes place)
 
 -- change number n of a device, counted from 1; none where the number is 0 or above the device's changes
-abbrev pub planned : PlanData → ℕ → ℕ → Option Planned
-planned plan d zero = None
-planned plan d (suc place) = planned_at (changes_of (node plan d)) place
+abbrev pub planned_change : PlanData → ℕ → ℕ → Option Planned
+planned_change plan d zero = None
+planned_change plan d (suc place) = planned_change_at (changes_of (node plan d)) place

@@ -1,6 +1,6 @@
 ghost use Rattle.std.specs.Prelude.{◌≡◌, ℕ, ◌≤◌, ◌<◌, ◌-◌, ◌^◌, length, Some, option_map, slice_index_or, true};
 ghost use Rattle.std.specs.List.{prefix_len};
-ghost use Rattle.pm_plan.specs.Plans.{node as planned_node, kind_of, start_of, limits_of, phases, is_leaf, minutes_of, planned, planned_at, is_up_to};
+ghost use Rattle.pm_plan.specs.Plans.{node as planned_node, kind_of, start_of, limits_of, phases, is_leaf, minutes_of, planned_change, planned_change_at, is_up_to};
 ghost use Rattle.pm_plan.specs.Plans.{all_changes, group_above, phase_changes, plan_bound};
 ghost use Rattle.pm_plan.specs.Kept.{IsPlan, no_change};
 ghost use Rattle.pm_base.specs.Limits.{most_changes};
@@ -119,7 +119,7 @@ impl Plan {
     /// changes.
     pub fn planned(&self, device: NodeId, number: u32) -> Option<Planned>
         requires { is_leaf self.now device.0 ≡ true }
-        ensures { result ≡ planned self.now device.0 number }
+        ensures { result ≡ planned_change self.now device.0 number }
     {
         if number == 0 {
             return None;
@@ -171,7 +171,7 @@ impl Plan {
 
 /// The change at a place, counted from 0.
 fn planned_at(changes: &[Change], at: usize) -> Option<Planned>
-    ensures { result ≡ planned_at changes.now at }
+    ensures { result ≡ planned_change_at changes.now at }
 {
     match changes.get(at) {
         Some(change) => Some(change.what),

@@ -2,7 +2,7 @@ ghost use Rattle.std.specs.Prelude.{◌≡◌, ◌<◌, ◌≤◌, length, IfOk}
 ghost use Rattle.std.specs.Option.{option_copied};
 ghost use Rattle.pm_bid.specs.Bids.{AllWithinLimit};
 ghost use Rattle.pm_base.specs.Limits.{demand_limit, sum_limit};
-ghost use Rattle.pm_cache.specs.Learning.{HasSingleBids, offered};
+ghost use Rattle.pm_cache.specs.Learning.{HasSingleBids, demand_of_offer};
 
 use crate::same::same;
 use crate::shared::may_be_shared;
@@ -30,8 +30,8 @@ fn learn(
     bid: Option<&ArrayBid>,
 ) -> Result<(), CacheFault>
     requires child { child < length cache.old.heads }
-    requires steps { length (offered cache.old (option_copied bid)) ≡ cache.old.steps }
-    requires small { AllWithinLimit demand_limit (offered cache.old (option_copied bid)) }
+    requires steps { length (demand_of_offer cache.old (option_copied bid)) ≡ cache.old.steps }
+    requires small { AllWithinLimit demand_limit (demand_of_offer cache.old (option_copied bid)) }
     requires single { HasSingleBids cache.old }
     ensures steps { cache.new.steps ≡ cache.old.steps }
     ensures children { length cache.new.heads ≡ length cache.old.heads }

@@ -18,7 +18,7 @@ use Rattle.pm_plan.specs.declared.refusal.Cause.TheVariants as cause
 use Rattle.pm_plan.specs.declared.refusal.Place.TheVariants.{Document, Basis}
 use Rattle.pm_plan.proofs.Inversions.{bind-ok}
 use Rattle.pm_plan.proofs.PublicLaws.{plans}
-use Rattle.pm_scene.specs.Values.{reading, whole_at, elements_at}
+use Rattle.pm_scene.specs.Values.{json_value, whole_at, elements_at}
 use Rattle.pm_scene.specs.Members.{members_check}
 use Rattle.pm_scene.specs.Rows.{document_row, basis_row}
 use Rattle.pm_scene.specs.Nodes.{NamedPart, nodes_of}
@@ -102,6 +102,6 @@ plan_is shape plan basis is =
 pub files_plan : (bytes : List ℕ) (plan : PlanData) → scene bytes ≡ Ok plan → IsPlan plan
 unfolding scene
 files_plan bytes plan is =
-    let document = bind-ok (need cause.Unreadable Document (reading bytes)) (λ (d : Data). shape_of d >>= plan_of) plan is in
+    let document = bind-ok (need cause.Unreadable Document (json_value bytes)) (λ (d : Data). shape_of d >>= plan_of) plan is in
     let shape = bind-ok (shape_of document.value) plan_of plan document.rest in
     plan_is shape.value plan (shape_basis document.value shape.value shape.first) shape.rest

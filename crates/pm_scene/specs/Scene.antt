@@ -7,7 +7,7 @@ use Rattle.pm_base.specs.Outcomes.{◌>>=◌}
 use Rattle.pm_plan.specs.declared.refusal.Cause.TheVariants as cause
 use Rattle.pm_plan.specs.declared.refusal.Place.TheVariants.{Document}
 use Rattle.pm_plan.specs.declared.refusal.Refusal.{Refusal}
-use Rattle.pm_scene.specs.Values.{reading}
+use Rattle.pm_scene.specs.Values.{json_value}
 use Rattle.pm_scene.specs.Shape.{ShapeValue, shape_of}
 use Rattle.pm_scene.specs.Trees.{entries_in, parts_in, tree_of}
 
@@ -20,6 +20,6 @@ plan_of shape = do
 -- the plan of these bytes
 unfoldable pub scene : List ℕ → Result PlanData Refusal
 scene bytes = do
-  d ← need cause.Unreadable Document (reading bytes)
+  d ← need cause.Unreadable Document (json_value bytes)
   shape ← shape_of d
   plan_of shape

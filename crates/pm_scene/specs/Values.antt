@@ -6,8 +6,8 @@ use Rattle.serde_json.specs.Find.{get, as_number, as_i64, as_str, as_array}
 use Rattle.serde_json.specs.Read.{read}
 
 -- the value of the bytes: none where they are not UTF-8, or are no JSON text that nests at most 127 deep
-abbrev pub reading : List ℕ → Option Data
-reading bytes = if is_utf8 bytes then read bytes else None
+abbrev pub json_value : List ℕ → Option Data
+json_value bytes = if is_utf8 bytes then read bytes else None
 
 -- a whole number: a JSON number without fraction and exponent that 64 bits with a sign can hold
 abbrev pub whole : Data → Option ℤ

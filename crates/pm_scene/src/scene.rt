@@ -5,7 +5,7 @@ ghost use Rattle.pm_plan.specs.Parts.{AreNodesOf, node_part, phase_part};
 ghost use Rattle.pm_plan.specs.Refusals.{need, refusal_in};
 ghost use Rattle.pm_plan.specs.declared.refusal.Place.TheVariants.{Document};
 ghost use Rattle.pm_base.specs.Outcomes.{Gives};
-ghost use Rattle.pm_scene.specs.Values.{reading};
+ghost use Rattle.pm_scene.specs.Values.{json_value};
 ghost use Rattle.pm_scene.specs.Shape.{shape_value};
 ghost use Rattle.pm_scene.specs.Scene.{plan_of, scene};
 
@@ -30,7 +30,7 @@ pub fn read_scene(alloc: Global, bytes: &[u8]) -> Result<Plan, PlanFault>
 
 /// The value of the bytes.
 fn read_document(alloc: Global, bytes: &[u8]) -> Result<Value, PlanFault>
-    ensures { Gives refusal_in view result (need Cause.Unreadable Document (reading bytes.now)) }
+    ensures { Gives refusal_in view result (need Cause.Unreadable Document (json_value bytes.now)) }
 {
     match Value::from_slice(alloc, bytes) {
         Ok(value) => Ok(value),

@@ -39,8 +39,8 @@ pub record Keeps (window : WindowValue) (number : ℕ) : Type 0 where
   pub to : number ≤ window.last
 
 -- how many numbers are unanswered
-abbrev pub unanswered : WindowValue → ℕ
-unanswered window = window.last - window.answered
+abbrev pub unanswered_count : WindowValue → ℕ
+unanswered_count window = window.last - window.answered
 
 -- a record was added, and those that were kept are still as they were
 pub record RecordSent (old new : WindowValue) (sent : Sent) : Type 0 where

@@ -1,6 +1,6 @@
 ghost use Rattle.std.specs.Prelude.{◌≡◌, ◌+◌, ◌-◌, ◌<◌, length, Some, None, IfOk, IsTrue, ◌↔◌};
 ghost use Rattle.pm_base.specs.Limits.{AreSteps, window_size};
-ghost use Rattle.pm_session.specs.Windows.{Keeps, unanswered, record_of, newest_record, RecordSent, RecordAnswered, IsWindow, IsNewWindow, HasSteps, Fits};
+ghost use Rattle.pm_session.specs.Windows.{Keeps, unanswered_count, record_of, newest_record, RecordSent, RecordAnswered, IsWindow, IsNewWindow, HasSteps, Fits};
 
 use crate::record::Record;
 use pm_base::WINDOW_SIZE;
@@ -79,7 +79,7 @@ impl Window {
 
     /// How many more may be sent: [`WINDOW_SIZE`] less the numbers that are unanswered.
     pub fn room(&self) -> usize
-        ensures room { result ≡ window_size - unanswered self.now }
+        ensures room { result ≡ window_size - unanswered_count self.now }
         ensures sound { IsWindow self.now }
     {
         (WINDOW_SIZE - (self.last - self.answered)) as usize
@@ -112,7 +112,7 @@ impl Window {
     /// is as long as the window's children.
     pub fn sent(&mut self, number: u32, children: &[BidHead]) -> Result<(), AllocError>
         requires no_sums { self.old.steps ≡ None }
-        requires room { unanswered self.old < window_size }
+        requires room { unanswered_count self.old < window_size }
         requires number { number ≡ self.old.last + 1 }
         requires children { length children.now ≡ self.old.children }
         ensures ok { result ≡ Ok tt }
@@ -128,7 +128,7 @@ impl Window {
     /// many steps. There is room, and the list is as long as the window's children.
     pub fn sent_limited(&mut self, number: u32, children: &[BidHead], sum: &ArrayBid)
         requires sums { self.old.steps ≡ Some (length sum.now) }
-        requires room { unanswered self.old < window_size }
+        requires room { unanswered_count self.old < window_size }
         requires number { number ≡ self.old.last + 1 }
         requires children { length children.now ≡ self.old.children }
         ensures sent { RecordSent self.old self.new (record { number = number; heads = children.now; sum = Some sum.now }) }

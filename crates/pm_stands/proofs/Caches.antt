@@ -4,7 +4,7 @@ use Rattle.std.proofs.Common.{None, refl, arith, inl, inr, get_or-set_same, get_
 use Rattle.std.proofs.Math.ListN.{set, length-set}
 use Rattle.std.proofs.lemmas.Bool.{cases_eq, cond-true, cond-false, eq-eqb, ne_eqb, lt-leb}
 use Rattle.pm_cache.specs.Cache.{Cache, kept_number}
-use Rattle.pm_cache.specs.Learning.{entered, learnt}
+use Rattle.pm_cache.specs.Learning.{with_newer_bid, after_learning}
 use Rattle.pm_concentrator.specs.Concentrators.{Gathered}
 use Rattle.pm_auctioneer.specs.Auctions.{Auction}
 use Rattle.pm_stands.specs.Core.{gathered_in, gathered_at, cache_in}
@@ -35,8 +35,8 @@ unfolding gathered_at
 gathered_other cs y i g ne = ap gathered_in (get_or-set_other cs y i (Some g) None ne)
 
 -- a bid with a greater number than the one kept is entered when it is learnt
-pub learnt_newer : (cache : Cache) (k n : ℕ) (demand : Option (List ℤ)) → kept_number cache k < n → learnt cache k n demand ≡ entered cache k n demand
-learnt_newer cache k n demand newer = cond-false (leb n (kept_number cache k)) cache (entered cache k n demand) (lt-leb n (kept_number cache k) newer)
+pub learnt_newer : (cache : Cache) (k n : ℕ) (demand : Option (List ℤ)) → kept_number cache k < n → after_learning cache k n demand ≡ with_newer_bid cache k n demand
+learnt_newer cache k n demand newer = cond-false (leb n (kept_number cache k)) cache (with_newer_bid cache k n demand) (lt-leb n (kept_number cache k) newer)
 
 news_after : (a : Auction) (k n : ℕ) → kept_number a.cache k < n → (a.changed || not (leb n (kept_number a.cache k))) ≡ true
 news_after a k n newer = ap (λ b. a.changed || not b) (lt-leb n (kept_number a.cache k) newer) ∙ or_true a.changed
@@ -47,13 +47,13 @@ news_after a k n newer = ap (λ b. a.changed || not b) (lt-leb n (kept_number a.
 
 -- an auctioneer that learnt a newer bid of a child has that entry learnt, and nobody else anything
 pub learnt_root : (a a' : Auction) (cs : List (Option Gathered)) (y k n : ℕ) (demand : Option (List ℤ)) → y ≡ 0 → kept_number (cache_in a cs y) k < n
-    → a' ≡ record a { cache = learnt a.cache k n demand; changed = a.changed || not (leb n (kept_number a.cache k)) }
+    → a' ≡ record a { cache = after_learning a.cache k n demand; changed = a.changed || not (leb n (kept_number a.cache k)) }
     → EntryLearnt a a' cs cs y k n demand
 learnt_root a a' cs y k n demand e newer is =
     let newer' : kept_number a.cache k < n = omega (arith, ap (λ c. kept_number c k) (cache_root a cs y e)) in
     record {
       entry = cache_root a' cs y e ∙ ap (λ (x : Auction). x.cache) is ∙ learnt_newer a.cache k n demand newer'
-          ∙ ap (λ c. entered c k n demand) (sym (cache_root a cs y e));
+          ∙ ap (λ c. with_newer_bid c k n demand) (sym (cache_root a cs y e));
       others = λ i ne.
           let inner : i ≡ 0 → ⊥ = λ z. ne (z ∙ sym e) in
           cache_inner a' cs i inner ∙ sym (cache_inner a cs i inner);
@@ -69,7 +69,7 @@ learnt_root a a' cs y k n demand e newer is =
 pub learnt_inner : (a : Auction) (cs : List (Option Gathered)) (g g' : Gathered) (y k n : ℕ) (demand : Option (List ℤ)) →
     (y ≡ 0 → ⊥) → y < length cs → get_or cs y None ≡ Some g
     → kept_number (cache_in a cs y) k < n
-    → g' ≡ record g { cache = learnt g.cache k n demand }
+    → g' ≡ record g { cache = after_learning g.cache k n demand }
     → EntryLearnt a a cs (set cs y (Some g')) y k n demand
 learnt_inner a cs g g' y k n demand ne lt at newer is =
     let old_is : cache_in a cs y ≡ g.cache = cache_inner a cs y ne ∙ ap (λ (x : Gathered). x.cache) (gathered_known cs y g at) in
@@ -77,7 +77,7 @@ learnt_inner a cs g g' y k n demand ne lt at newer is =
     let same = gathered_same cs y g' lt in
     record {
       entry = cache_inner a (set cs y (Some g')) y ne ∙ ap (λ (x : Gathered). x.cache) same ∙ ap (λ (x : Gathered). x.cache) is
-          ∙ learnt_newer g.cache k n demand newer' ∙ ap (λ c. entered c k n demand) (sym old_is);
+          ∙ learnt_newer g.cache k n demand newer' ∙ ap (λ c. with_newer_bid c k n demand) (sym old_is);
       others = λ i differs. elim (cases_eq i 0) [
         | inl z ↦ cache_root a (set cs y (Some g')) i z ∙ sym (cache_root a cs i z)
         | inr nz ↦ cache_inner a (set cs y (Some g')) i nz ∙ ap (λ (x : Gathered). x.cache) (gathered_other cs y i g' differs)
@@ -85,7 +85,7 @@ learnt_inner a cs g g' y k n demand ne lt at newer is =
       ];
       kept = λ i. elim (cases_eq i y) [
         | inl e ↦
-            let new_is : gathered_at (set cs y (Some g')) i ≡ record g { cache = learnt g.cache k n demand } =
+            let new_is : gathered_at (set cs y (Some g')) i ≡ record g { cache = after_learning g.cache k n demand } =
             ap (gathered_at (set cs y (Some g'))) e ∙ same ∙ is in
             let was : gathered_at cs i ≡ g = ap (gathered_at cs) e ∙ gathered_known cs y g at in
             record {

@@ -5,7 +5,7 @@ use Rattle.std.proofs.Common.{None, refl, arith, inl, inr}
 use Rattle.std.proofs.lemmas.Bool.{cases_eq, cases_Bool, both_ways}
 use Rattle.pm_tree.specs.Entries.{place_of}
 use Rattle.pm_market.specs.Lists.{Lists, parent, is_leaf, is_member, IsNode, IsConcentrator}
-use Rattle.pm_market.specs.State.{State, updated, newest, part}
+use Rattle.pm_market.specs.State.{State, update, newest_number_of, part}
 use Rattle.pm_market.specs.Moves.{Legal, step}
 use Rattle.pm_market.specs.Held.{last_join}
 use Rattle.pm_market.specs.declared.moves.Move.TheVariants.{Change}
@@ -67,13 +67,13 @@ module _ (plan : PlanData) (is_plan : IsPlan plan) (c : Core) (s : State) (stand
   abbrev after_state : State
   after_state = step (plan_lists plan) s (Change x n)
 
-  newest_new : newest (plan_lists plan) after_state x ≡ n
+  newest_new : newest_number_of (plan_lists plan) after_state x ≡ n
   newest_new = newest_leaf (plan_lists plan) after_state.counts s.published x legal.0 ∙ updated_same s.counts x n
 
-  newest_old : newest (plan_lists plan) s x + 1 ≡ n
+  newest_old : newest_number_of (plan_lists plan) s x + 1 ≡ n
   newest_old = omega (arith, newest_leaf (plan_lists plan) s.counts s.published x legal.0, legal.2)
 
-  newest_other : (y : ℕ) → (y ≡ x → ⊥) → newest (plan_lists plan) after_state y ≡ newest (plan_lists plan) s y
+  newest_other : (y : ℕ) → (y ≡ x → ⊥) → newest_number_of (plan_lists plan) after_state y ≡ newest_number_of (plan_lists plan) s y
   newest_other y ne = elim (cases_Bool (is_leaf (plan_lists plan) y)) [
     | inl e ↦
         newest_leaf (plan_lists plan) after_state.counts s.published y e ∙ updated_other s.counts x n y ne
@@ -81,9 +81,9 @@ module _ (plan : PlanData) (is_plan : IsPlan plan) (c : Core) (s : State) (stand
     | inr e ↦ newest_inner (plan_lists plan) after_state.counts s.published y e ∙ sym (newest_inner (plan_lists plan) s.counts s.published y e)
   ]
 
-  newest_le : (y : ℕ) → newest (plan_lists plan) s y ≤ newest (plan_lists plan) after_state y
+  newest_le : (y : ℕ) → newest_number_of (plan_lists plan) s y ≤ newest_number_of (plan_lists plan) after_state y
   newest_le y = elim (cases_eq y x) [
-    | inl e ↦ omega (arith, ap (newest (plan_lists plan) s) e, ap (newest (plan_lists plan) after_state) e, newest_new, newest_old)
+    | inl e ↦ omega (arith, ap (newest_number_of (plan_lists plan) s) e, ap (newest_number_of (plan_lists plan) after_state) e, newest_new, newest_old)
     | inr ne ↦ omega (arith, newest_other y ne)
   ]
 
@@ -118,7 +118,7 @@ module _ (plan : PlanData) (is_plan : IsPlan plan) (c : Core) (s : State) (stand
   }
 
   -- the ports
-  the_joined : (seat_at ports x).joined ≡ joined_at (plan_lists plan) x (updated s.counts x n x)
+  the_joined : (seat_at ports x).joined ≡ joined_at (plan_lists plan) x (update s.counts x n x)
   the_joined =
       ap (λ (q : Seat). q.joined) did.seated
       ∙ ap (λ (m : ℕ). (seat_after (seat_at c.ports x) (is_member (plan_lists plan) x m) (is_member (plan_lists plan) x n) n).joined)
@@ -162,16 +162,16 @@ module _ (plan : PlanData) (is_plan : IsPlan plan) (c : Core) (s : State) (stand
       };
       counts = λ d leaf. did.counted d leaf ∙ elim (cases_eq d x) [
         | inl e ↦
-            ap (updated (λ (i : ℕ). get_or c.counts i 0) x n) e ∙ updated_same (λ (i : ℕ). get_or c.counts i 0) x n
-            ∙ sym (ap (updated s.counts x n) e ∙ updated_same s.counts x n)
+            ap (update (λ (i : ℕ). get_or c.counts i 0) x n) e ∙ updated_same (λ (i : ℕ). get_or c.counts i 0) x n
+            ∙ sym (ap (update s.counts x n) e ∙ updated_same s.counts x n)
         | inr ne ↦ updated_other (λ (i : ℕ). get_or c.counts i 0) x n d ne ∙ stands.counts d leaf ∙ sym (updated_other s.counts x n d ne)
       ];
       closed = stands.closed;
       states = λ d leaf. did.moved d leaf ∙ elim (cases_eq d x) [
         | inl e ↦
-            ap (updated (λ (i : ℕ). get_or c.states i (pos 0)) x (state plan x n)) e
+            ap (update (λ (i : ℕ). get_or c.states i (pos 0)) x (state plan x n)) e
             ∙ updated_same (λ (i : ℕ). get_or c.states i (pos 0)) x (state plan x n)
-            ∙ ap (state plan x) (sym (updated_same s.counts x n)) ∙ ap (λ (i : ℕ). state plan i (updated s.counts x n i)) (sym e)
+            ∙ ap (state plan x) (sym (updated_same s.counts x n)) ∙ ap (λ (i : ℕ). state plan i (update s.counts x n i)) (sym e)
         | inr ne ↦
             updated_other (λ (i : ℕ). get_or c.states i (pos 0)) x (state plan x n) d ne ∙ stands.states d leaf
             ∙ ap (state plan d) (sym (updated_other s.counts x n d ne))
@@ -182,7 +182,7 @@ module _ (plan : PlanData) (is_plan : IsPlan plan) (c : Core) (s : State) (stand
       bid_offered = λ y y_node. elim (cases_eq y x) [
         | inl e ↦
             ap (λ (z : Session). z.up.offered) (session_new y e) ∙ did.made.up.offered ∙ sym newest_new
-            ∙ ap (newest (plan_lists plan) after_state) (sym e)
+            ∙ ap (newest_number_of (plan_lists plan) after_state) (sym e)
         | inr ne ↦ ap (λ (z : Session). z.up.offered) (session_kept y y_node ne) ∙ stands.bid_offered y y_node ∙ sym (newest_other y ne)
       ];
       bid_taken = λ y y_node. elim (cases_eq y x) [
@@ -216,7 +216,7 @@ module _ (plan : PlanData) (is_plan : IsPlan plan) (c : Core) (s : State) (stand
       changed = stands.changed;
       joined = λ d leaf. elim (cases_eq d x) [
         | inl e ↦ ap (λ (i : ℕ). (seat_at ports i).joined) e ∙ the_joined
-            ∙ ap (λ (i : ℕ). joined_at (plan_lists plan) i (updated s.counts x n i)) (sym e)
+            ∙ ap (λ (i : ℕ). joined_at (plan_lists plan) i (update s.counts x n i)) (sym e)
         | inr ne ↦
             ap (λ (q : Seat). q.joined) (did.others d ne) ∙ stands.joined d leaf
             ∙ ap (joined_at (plan_lists plan) d) (sym (updated_other s.counts x n d ne))

@@ -8,7 +8,7 @@ use Rattle.pm_bid.specs.Bids.{sum_of}
 use Rattle.pm_bid.specs.Clearing.{clearing_step}
 use Rattle.pm_tree.specs.Entries.{children_of, place_of}
 use Rattle.pm_market.specs.Lists.{Lists, parent, IsNode, IsConcentrator, Lawful}
-use Rattle.pm_market.specs.State.{State, is_same_on, cut_at, known, number, last, clearings, cleared, addresses, addresses_of}
+use Rattle.pm_market.specs.State.{State, is_same_on, cut_at, knowledge, number, last_index, clearings, cleared_cut, addresses, addresses_of}
 use Rattle.pm_market.specs.Moves.{Legal, step}
 use Rattle.pm_market.specs.Sound.{Sound}
 use Rattle.pm_market.specs.declared.moves.Move.TheVariants.{Clear}
@@ -30,7 +30,7 @@ use Rattle.pm_auctioneer.specs.Auctions.{Auction, ClearedAt}
 use Rattle.pm_plan.specs.Kept.{IsPlan}
 use Rattle.pm_plan.specs.Plans.{PlanData}
 use Rattle.pm_plan.specs.Market.{plan_lists}
-use Rattle.pm_offer.specs.Offers.{offer, children_sum, local_at}
+use Rattle.pm_offer.specs.Offers.{offer, children_sum, local_step_at}
 use Rattle.pm_stands.specs.Core.{Core, limits_at, row_at, link_at, uplink_of, concentrator_of, node_cache}
 use Rattle.pm_stands.specs.Rows.{OneRow}
 use Rattle.pm_laws.specs.Due.{IsNewestDue}
@@ -68,7 +68,7 @@ module _ (plan : PlanData) (is_plan : IsPlan plan) (c : Core) (s : State) (stand
 
   legal : Legal lists s (Clear j)
   legal = (
-    elim (cases_Bool (is_same_on lists 0 (known lists s 0) (cleared s (clearings s)))) [
+    elim (cases_Bool (is_same_on lists 0 (knowledge lists s 0) (cleared_cut s (clearings s)))) [
       | inl e ↦ absurd (both_ways c.auctioneer.changed (stands.changed ∙ ap not e) made.changed)
       | inr e ↦ e
     ],
@@ -81,10 +81,10 @@ module _ (plan : PlanData) (is_plan : IsPlan plan) (c : Core) (s : State) (stand
   not_root : (y : ℕ) → IsNode lists y → y ≡ 0 → ⊥
   not_root y y_node e = omega (arith, y_node.0)
 
-  cleared_is : (i : ℕ) → i ≤ clearings s → cleared after_state i ≡ cleared s i
+  cleared_is : (i : ℕ) → i ≤ clearings s → cleared_cut after_state i ≡ cleared_cut s i
   cleared_is i le = cleared_old lists law s stands.sound 0 (leaf_zero lists) sound' i le
 
-  new_cleared : cleared after_state j ≡ known lists s 0
+  new_cleared : cleared_cut after_state j ≡ knowledge lists s 0
   new_cleared = cut_at_last lists law s stands.sound 0 (leaf_zero lists) sound' j j_is
 
   clearings_is : clearings after_state ≡ j
@@ -130,7 +130,7 @@ module _ (plan : PlanData) (is_plan : IsPlan plan) (c : Core) (s : State) (stand
       record {
         above = at.above;
         due = due_more y q.index at.due;
-        step = at.step ∙ ap (λ (a : Cut). local_at plan a y) (sym (cleared_is q.index le));
+        step = at.step ∙ ap (λ (a : Cut). local_step_at plan a y) (sym (cleared_is q.index le));
         number = at.number ∙ sym (number_cleared lists law s stands.sound 0 (leaf_zero lists) sound' y q.index y_node le);
       }
 
@@ -152,21 +152,21 @@ module _ (plan : PlanData) (is_plan : IsPlan plan) (c : Core) (s : State) (stand
         ap (λ (q : Cache). head_at q.heads (place y)) (sym (cache_root c.auctioneer c.concentrators 0 refl))
         ∙ ap (λ (i : ℕ). head_at (node_cache c i).heads (place y)) (sym up) ∙ stands.heads y y_node
 
-    number_is : number lists after_state y (cleared after_state j) ≡ s.learnt y
+    number_is : number lists after_state y (cleared_cut after_state j) ≡ s.learnt y
     number_is = number_last lists law s stands.sound 0 (leaf_zero lists) sound' y j y_node up j_is
 
     gone_is : (head_at c.auctioneer.cache.heads (place y)).gone ≡ not (addresses lists after_state j y)
     gone_is = ap (λ (h : BidHead). h.gone) the_head ∙ ap (is_gone lists y) (sym number_is)
         ∙ gone_addresses lists law after_state sound' y j y_node (omega (arith, clearings_is))
 
-    the_step : k ≡ local_at plan (cleared after_state j) y
+    the_step : k ≡ local_step_at plan (cleared_cut after_state j) y
     the_step =
         made.step
         ∙ ap (λ (q : Cache). clearing_step (aggregate_of q)) (sym (cache_root c.auctioneer c.concentrators 0 refl))
         ∙ ap (λ (n : ℕ). clearing_step (sum_of n (node_cache c 0).demands)) (stands.shaped.cache_steps 0 (omega arith) (leaf_zero lists))
         ∙ ap (λ ds. clearing_step (sum_of plan.basis.steps ds)) (demands_are plan is_plan c s stands 0 (omega arith) (leaf_zero lists))
         ∙ ap (λ (a : Cut). clearing_step (children_sum plan 0 a)) (sym new_cleared)
-        ∙ sym (offer_root plan is_plan y (cleared after_state j) y_node up)
+        ∙ sym (offer_root plan is_plan y (cleared_cut after_state j) y_node up)
 
     abbrev the_price : PriceUpdate
     the_price = record { step = k; number = (head_at c.auctioneer.cache.heads (place y)).number; index = j }
@@ -253,13 +253,13 @@ module _ (plan : PlanData) (is_plan : IsPlan plan) (c : Core) (s : State) (stand
       ≡ head_for lists z (number lists after_state z (cut_at (after_state.published (parent lists z)) i))
   record_kept z i z_node le = ap (head_for lists z) (sym (number_published lists law s stands.sound 0 (leaf_zero lists) sound' z i z_node le))
 
-  the_new_step : auctioneer.step ≡ clearing_step (children_sum plan 0 (cleared after_state (clearings after_state)))
+  the_new_step : auctioneer.step ≡ clearing_step (children_sum plan 0 (cleared_cut after_state (clearings after_state)))
   the_new_step =
       made.new_step ∙ made.step
       ∙ ap (λ (q : Cache). clearing_step (aggregate_of q)) (sym (cache_root c.auctioneer c.concentrators 0 refl))
       ∙ ap (λ (n : ℕ). clearing_step (sum_of n (node_cache c 0).demands)) (stands.shaped.cache_steps 0 (omega arith) (leaf_zero lists))
       ∙ ap (λ ds. clearing_step (sum_of plan.basis.steps ds)) (demands_are plan is_plan c s stands 0 (omega arith) (leaf_zero lists))
-      ∙ ap (λ (a : Cut). clearing_step (children_sum plan 0 a)) (sym (ap (cleared after_state) clearings_is ∙ new_cleared))
+      ∙ ap (λ (a : Cut). clearing_step (children_sum plan 0 a)) (sym (ap (cleared_cut after_state) clearings_is ∙ new_cleared))
 
   stands_after : StandsFor plan after_core after_state
   stands_after = record {
@@ -311,7 +311,7 @@ module _ (plan : PlanData) (is_plan : IsPlan plan) (c : Core) (s : State) (stand
     window_last = λ y conc_y. stands.window_last y conc_y
         ∙ sym (newest_other lists law s stands.sound 0 (leaf_zero lists) sound' y (not_root y (conc_y.0, conc_y.1)));
     window_answered = λ y conc_y. stands.window_answered y conc_y
-        ∙ sym (number_cleared lists law s stands.sound 0 (leaf_zero lists) sound' y (last s y) (conc_y.0, conc_y.1) (last_within lists s stands.sound y));
+        ∙ sym (number_cleared lists law s stands.sound 0 (leaf_zero lists) sound' y (last_index s y) (conc_y.0, conc_y.1) (last_within lists s stands.sound y));
     records = λ z i z_node conc_z keeps. stands.records z i z_node conc_z keeps ∙ record_kept z i z_node (keeps_within (parent lists z) i conc_z keeps);
     sums = λ y i conc_y keeps. stands.sums y i conc_y keeps
         ∙ ap (λ (a : Cut). sum_kept (limits_at plan y) (children_sum plan y a)) (sym (entry_kept y i (keeps_within y i conc_y keeps)));
@@ -321,21 +321,21 @@ module _ (plan : PlanData) (is_plan : IsPlan plan) (c : Core) (s : State) (stand
         ∙ ap (λ (l : List Cut). head_for lists z (number lists after_state z (cut_at (after_state.published (parent lists z)) (length l)))) (sym same);
     index = made.new_index ∙ sym clearings_is;
     auction_step = the_new_step
-        ∙ sym (cond-false (eqb (clearings after_state) 0) 0 (clearing_step (children_sum plan 0 (cleared after_state (clearings after_state))))
+        ∙ sym (cond-false (eqb (clearings after_state) 0) 0 (clearing_step (children_sum plan 0 (cleared_cut after_state (clearings after_state))))
         (ne_eqb (clearings after_state) 0 (λ e. omega (arith, clearings_is, j_is, e))));
     changed = made.not_changed
-        ∙ sym (ap not (is_same_from lists 0 (known lists after_state 0) (cleared after_state (clearings after_state)) (λ d leaf.
+        ∙ sym (ap not (is_same_from lists 0 (knowledge lists after_state 0) (cleared_cut after_state (clearings after_state)) (λ d leaf.
         sym (known_same lists law s stands.sound 0 (leaf_zero lists) sound' 0 (leaf_zero lists) d leaf)
-        ∙ ap (λ (a : Cut). a d) (sym (ap (cleared after_state) clearings_is ∙ new_cleared)))));
+        ∙ ap (λ (a : Cut). a d) (sym (ap (cleared_cut after_state) clearings_is ∙ new_cleared)))));
     joined = stands.joined;
     given_none = stands.given_none;
     given = λ d leaf positive. stands.given d leaf positive
         ∙ ap (λ (a : Cut). Some (record {
-          step = local_at plan a d;
+          step = local_step_at plan a d;
           number = a d;
           index =
-              last s d;
-        })) (sym (cleared_is (last s d) (last_within lists s stands.sound d)));
+              last_index s d;
+        })) (sym (cleared_is (last_index s d) (last_within lists s stands.sound d)));
   }
 
   -- The Clear under the next index was legal, and the core stands for the state after it.

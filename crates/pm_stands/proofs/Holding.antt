@@ -6,12 +6,12 @@ use Rattle.pm_session.specs.Ports.{held_by}
 use Rattle.pm_session.specs.declared.price.PriceUpdate.{PriceUpdate}
 use Rattle.pm_session.specs.declared.price.Held.{Held}
 use Rattle.pm_market.specs.Lists.{is_member, IsLeaf}
-use Rattle.pm_market.specs.State.{State, last, cleared}
+use Rattle.pm_market.specs.State.{State, last_index, cleared_cut}
 use Rattle.pm_market.specs.Held.{last_join, holds_price}
 use Rattle.pm_plan.specs.Kept.{IsPlan}
 use Rattle.pm_plan.specs.Plans.{PlanData}
 use Rattle.pm_plan.specs.Market.{plan_lists}
-use Rattle.pm_offer.specs.Offers.{local_at}
+use Rattle.pm_offer.specs.Offers.{local_step_at}
 use Rattle.pm_stands.specs.Core.{Core, seat_of}
 use Rattle.pm_stands.specs.Stands.{StandsFor}
 use Rattle.pm_stands.specs.Current.{held_price}
@@ -44,16 +44,16 @@ module _ (plan : PlanData) (c : Core) (s : State) (d : ℕ) (stands : StandsFor 
   -- a device's port holds what held_price gives in the state stood for, with no premise on the plan
   pub held_agrees_at : held_by (seat_of c d) ≡ held_price plan s d
   unfolding holds_price
-  held_agrees_at = elim (cases_eq (last s d) 0) [
+  held_agrees_at = elim (cases_eq (last_index s d) 0) [
     | inl none ↦
         by_given None (stands.given_none d leaf none) ∙ answer_none member join
-        ∙ sym (cond-false (nat_lt 0 (last s d) && member && nat_le join (cleared s (last s d) d)) _ None
-        (ap (λ (k : ℕ). nat_lt 0 k && member && nat_le join (cleared s (last s d) d)) none))
+        ∙ sym (cond-false (nat_lt 0 (last_index s d) && member && nat_le join (cleared_cut s (last_index s d) d)) _ None
+        (ap (λ (k : ℕ). nat_lt 0 k && member && nat_le join (cleared_cut s (last_index s d) d)) none))
     | inr some ↦
         by_given _ (stands.given d leaf (omega arith)) ∙ answer_some member join _ _ _
-        ∙ ap (λ b. cond (b && member && nat_le join (cleared s (last s d) d))
-        (Some (record { step = local_at plan (cleared s (last s d)) d; number = cleared s (last s d) d; index = last s d })) None)
-        (sym (lt-ltb 0 (last s d) (omega arith)))
+        ∙ ap (λ b. cond (b && member && nat_le join (cleared_cut s (last_index s d) d))
+        (Some (record { step = local_step_at plan (cleared_cut s (last_index s d)) d; number = cleared_cut s (last_index s d) d; index = last_index s d })) None)
+        (sym (lt-ltb 0 (last_index s d) (omega arith)))
   ]
 
 -- a port holds the price of the clearing passed to its device last, unless that is of a former membership
@@ -73,11 +73,11 @@ held_inside plan c s d price is_plan stands leaf holds =
     some_inside (holds_price (plan_lists plan) s d) (sym (held_agrees plan c s d is_plan stands leaf) ∙ holds)
   where
     some_inside : (b : Bool) →
-        cond b (Some (record { step = local_at plan (cleared s (last s d)) d; number = cleared s (last s d) d; index = last s d })) None ≡ Some price →
+        cond b (Some (record { step = local_step_at plan (cleared_cut s (last_index s d)) d; number = cleared_cut s (last_index s d) d; index = last_index s d })) None ≡ Some price →
         price.step < plan.basis.steps
     some_inside true is =
-        let same : local_at plan (cleared s (last s d)) d ≡ price.step = ap step_of is in
-        omega (arith, same, offer_inside plan is_plan d (cleared s (last s d)))
+        let same : local_step_at plan (cleared_cut s (last_index s d)) d ≡ price.step = ap step_of is in
+        omega (arith, same, offer_inside plan is_plan d (cleared_cut s (last_index s d)))
     some_inside false is = (cc)
 
 -- a device that is no member holds no price
@@ -85,7 +85,7 @@ pub none_held : (plan : PlanData) (s : State) (d : ℕ) → is_member (plan_list
 unfolding holds_price
 none_held plan s d out =
     cond-false (holds_price (plan_lists plan) s d) _ None
-    (ap (λ b. nat_lt 0 (last s d) && b && nat_le (last_join (plan_lists plan) d (s.counts d)) (cleared s (last s d) d)) out ∙ amid (nat_lt 0 (last s d)) _)
+    (ap (λ b. nat_lt 0 (last_index s d) && b && nat_le (last_join (plan_lists plan) d (s.counts d)) (cleared_cut s (last_index s d) d)) out ∙ amid (nat_lt 0 (last_index s d)) _)
   where
     amid : (a b : Bool) → (a && false && b) ≡ false
     amid true b = refl

@@ -7,7 +7,7 @@ use Rattle.pm_bid.specs.Heads.{nothing_sent}
 use Rattle.pm_bid.specs.Bids.{zeros}
 use Rattle.pm_tree.specs.Entries.{children_of, place_of}
 use Rattle.pm_market.specs.Lists.{Lists, nodes, parent, is_leaf, is_member, changes, IsNode, Lawful}
-use Rattle.pm_market.specs.State.{State, updated, is_same_on, cut_at, newest, part, known, clearings, cleared}
+use Rattle.pm_market.specs.State.{State, update, is_same_on, cut_at, newest_number_of, part, knowledge, clearings, cleared_cut}
 use Rattle.pm_market.specs.Moves.{Legal, step}
 use Rattle.pm_market.specs.Sound.{Sound}
 use Rattle.pm_market.specs.declared.moves.Move.TheVariants.{Learn}
@@ -16,7 +16,7 @@ use Rattle.pm_market.proofs.Cuts.{updated_same, updated_other, part_leaf, newest
 use Rattle.pm_laws.proofs.Kept.{sound_step}
 use Rattle.pm_laws.proofs.Learnt.{is_same_alike, known_elsewhere, learnt_differs}
 use Rattle.pm_cache.specs.Cache.{Cache, with_entry}
-use Rattle.pm_cache.specs.Learning.{entered}
+use Rattle.pm_cache.specs.Learning.{with_newer_bid}
 use Rattle.pm_session.specs.Links.{Session, UpBid, BidTaken}
 use Rattle.pm_session.specs.Prices.{head_at}
 use Rattle.pm_session.specs.Windows.{WindowValue, Keeps, record_of, newest_record}
@@ -44,7 +44,7 @@ use Rattle.pm_stands.proofs.Offered.{offer_device}
 
 -- the entry of a bid, where the demand is zeros if it is gone
 entered_is : (cache : Cache) (k n : ℕ) (gone : Bool) (demand : List ℤ) → (gone ≡ true → demand ≡ zeros cache.steps) →
-    entered cache k n (bid_demand gone demand) ≡ with_entry cache k (record { number = n; gone = gone }) demand
+    with_newer_bid cache k n (bid_demand gone demand) ≡ with_entry cache k (record { number = n; gone = gone }) demand
 entered_is cache k n true demand zeros_if = ap (λ d. with_entry cache k (record { number = n; gone = true }) d) (sym (zeros_if refl))
 entered_is cache k n false demand zeros_if = refl
 
@@ -60,7 +60,7 @@ absent_zeros plan is_plan d n node within out =
 
 -- A bid of a number above 0 that is gone is a device's, and all zeros.
 pub gone_zeros : (plan : PlanData) → IsPlan plan → (s : State) → Sound (plan_lists plan) s → (x n : ℕ) → IsNode (plan_lists plan) x → 0 < n →
-    n ≤ newest (plan_lists plan) s x → is_gone (plan_lists plan) x n ≡ true → offer plan x (part (plan_lists plan) s x n) ≡ zeros plan.basis.steps
+    n ≤ newest_number_of (plan_lists plan) s x → is_gone (plan_lists plan) x n ≡ true → offer plan x (part (plan_lists plan) s x n) ≡ zeros plan.basis.steps
 gone_zeros plan is_plan s sound x n node positive within gone =
     elim (cases_Bool (is_leaf (plan_lists plan) x)) [
       | inl leaf ↦
@@ -210,15 +210,15 @@ module _ (plan : PlanData) (is_plan : IsPlan plan) (c : Core) (s : State) (stand
     same_limits = λ y conc. (learnt.kept y).limits ∙ stands.shaped.same_limits y conc;
   }
 
-  news_after : auctioneer.changed ≡ not (is_same_on lists 0 (known lists after_state 0) (cleared s (clearings s)))
+  news_after : auctioneer.changed ≡ not (is_same_on lists 0 (knowledge lists after_state 0) (cleared_cut s (clearings s)))
   news_after = elim (cases_eq (parent lists x) 0) [
     | inl e ↦
-        let P : ℕ → Type 0 = λ y. is_same_on lists y (known lists after_state y) (cut_at (s.published y) (length (s.published y))) ≡ false in
+        let P : ℕ → Type 0 = λ y. is_same_on lists y (knowledge lists after_state y) (cut_at (s.published y) (length (s.published y))) ≡ false in
         let differs = subst P e (learnt_differs lists law s stands.sound x bid.number legal) in
         learnt.changed ∙ cond-true (eqb (parent lists x) 0) true c.auctioneer.changed (eq-eqb (parent lists x) 0 e) ∙ sym (ap not differs)
     | inr ne ↦
         learnt.changed ∙ cond-false (eqb (parent lists x) 0) true c.auctioneer.changed (ne_eqb (parent lists x) 0 ne) ∙ stands.changed
-        ∙ ap not (is_same_alike lists law 0 (known lists s 0) (known lists after_state 0) (cleared s (clearings s))
+        ∙ ap not (is_same_alike lists law 0 (knowledge lists s 0) (knowledge lists after_state 0) (cleared_cut s (clearings s))
         (known_elsewhere lists law s x bid.number 0 (leaf_zero lists) ne))
   ]
 
@@ -232,23 +232,23 @@ module _ (plan : PlanData) (is_plan : IsPlan plan) (c : Core) (s : State) (stand
     powers = stands.powers;
     heads = λ y y_node. elim (cases_eq y x) [
       | inl e ↦ ap (λ (z : ℕ). head_of_child plan after_core z) e ∙ heads_new ∙ ap (head_for lists x) (sym (updated_same s.learnt x bid.number))
-          ∙ ap (λ (z : ℕ). head_for lists z (updated s.learnt x bid.number z)) (sym e)
+          ∙ ap (λ (z : ℕ). head_for lists z (update s.learnt x bid.number z)) (sym e)
       | inr ne ↦ (entry_kept y y_node ne).0 ∙ stands.heads y y_node ∙ ap (head_for lists y) (sym (updated_other s.learnt x bid.number y ne))
     ];
     demands = λ y y_node. elim (cases_eq y x) [
       | inl e ↦ ap (λ (z : ℕ). demand_of_child plan after_core z) e ∙ demand_new ∙ agrees.demand
           ∙ ap (λ (k : ℕ). offer plan x (part lists s x k)) (sym (updated_same s.learnt x bid.number))
-          ∙ ap (λ (z : ℕ). offer plan z (part lists s z (updated s.learnt x bid.number z))) (sym e)
+          ∙ ap (λ (z : ℕ). offer plan z (part lists s z (update s.learnt x bid.number z))) (sym e)
       | inr ne ↦ (entry_kept y y_node ne).1 ∙ stands.demands y y_node
           ∙ ap (λ (k : ℕ). offer plan y (part lists s y k)) (sym (updated_other s.learnt x bid.number y ne))
     ];
     bid_offered = λ y y_node. elim (cases_eq y x) [
-      | inl e ↦ ap (λ (z : Session). z.up.offered) (session_new y e) ∙ taken.up.offered ∙ stands.bid_offered x node ∙ ap (newest lists s) (sym e)
+      | inl e ↦ ap (λ (z : Session). z.up.offered) (session_new y e) ∙ taken.up.offered ∙ stands.bid_offered x node ∙ ap (newest_number_of lists s) (sym e)
       | inr ne ↦ ap (λ (z : Session). z.up.offered) (session_kept y y_node ne) ∙ stands.bid_offered y y_node
     ];
     bid_taken = λ y y_node. elim (cases_eq y x) [
       | inl e ↦ ap (λ (z : Session). z.up.taken) (session_new y e) ∙ taken.up.taken ∙ sym (updated_same s.learnt x bid.number)
-          ∙ ap (updated s.learnt x bid.number) (sym e)
+          ∙ ap (update s.learnt x bid.number) (sym e)
       | inr ne ↦ ap (λ (z : Session). z.up.taken) (session_kept y y_node ne) ∙ stands.bid_taken y y_node ∙ sym (updated_other s.learnt x bid.number y ne)
     ];
     bids = λ y y_node b waits. elim (cases_eq y x) [
@@ -256,8 +256,8 @@ module _ (plan : PlanData) (is_plan : IsPlan plan) (c : Core) (s : State) (stand
           let was = taken.up.rest b (sym (ap (λ (z : Session). z.up.waiting) (session_new y e)) ∙ waits) in
           let at = stands.bids x node b was.0 in
           record {
-            above = omega (arith, ap (updated s.learnt x bid.number) e, updated_same s.learnt x bid.number, was.1);
-            within = omega (arith, at.within, ap (newest lists s) e);
+            above = omega (arith, ap (update s.learnt x bid.number) e, updated_same s.learnt x bid.number, was.1);
+            within = omega (arith, at.within, ap (newest_number_of lists s) e);
             demand = at.demand ∙ ap (λ (z : ℕ). offer plan z (part lists s z b.number)) (sym e);
             gone = at.gone ∙ ap (λ (z : ℕ). is_gone lists z b.number) (sym e);
           }

@@ -7,7 +7,7 @@ use Rattle.pm_base.specs.Cuts.{Cut}
 use Rattle.pm_base.specs.Limits.{most_changes}
 use Rattle.pm_tree.specs.Entries.{place_of}
 use Rattle.pm_market.specs.Lists.{Lists, parent, IsNode, IsConcentrator}
-use Rattle.pm_market.specs.State.{State, is_same_on, cut_at, newest, part, known}
+use Rattle.pm_market.specs.State.{State, is_same_on, cut_at, newest_number_of, part, knowledge}
 use Rattle.pm_market.specs.Moves.{Legal, step}
 use Rattle.pm_market.specs.declared.moves.Move.TheVariants.{Learn, Publish, Clear}
 use Rattle.pm_market.proofs.Cuts.{part_inner, newest_inner}
@@ -94,14 +94,14 @@ pub cannot_publish : (plan : PlanData) → IsPlan plan → (c : Core) (s : State
 cannot_publish plan is_plan c s stands x conc cannot n legal =
     let lists : Lists = plan_lists plan in
     let newest_is = newest_inner lists s.counts s.published x conc.2 in
-    let last_is : part lists s x (newest lists s x) ≡ cut_at (s.published x) (length (s.published x)) =
-    part_inner lists s.published x (newest lists s x) conc.2 ∙ ap (cut_at (s.published x)) newest_is in
+    let last_is : part lists s x (newest_number_of lists s x) ≡ cut_at (s.published x) (length (s.published x)) =
+    part_inner lists s.published x (newest_number_of lists s x) conc.2 ∙ ap (cut_at (s.published x)) newest_is in
     let the_cache = cache_inner c.auctioneer c.concentrators x (λ z. omega (arith, conc.0)) in
     elim cannot [
       | inl same ↦
           let e = known_from_same plan is_plan c s stands x conc (ap (λ (q : Cache). q.heads) the_cache ∙ same) in
-          both_ways (is_same_on lists x (known lists s x) (part lists s x (newest lists s x))) legal.1
-          (ap (λ (a : Cut). is_same_on lists x (known lists s x) a) last_is ∙ e)
+          both_ways (is_same_on lists x (knowledge lists s x) (part lists s x (newest_number_of lists s x))) legal.1
+          (ap (λ (a : Cut). is_same_on lists x (knowledge lists s x) a) last_is ∙ e)
       | inr full ↦ omega (arith, legal.2, full, stands.window_last x conc, stands.window_answered x conc)
     ]
 

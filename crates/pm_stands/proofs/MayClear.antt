@@ -5,7 +5,7 @@ use Rattle.std.proofs.Props.{props}
 use Rattle.std.proofs.lemmas.Bool.{cases_eq, both_ways}
 use Rattle.pm_tree.specs.Entries.{place_of}
 use Rattle.pm_market.specs.Lists.{Lists}
-use Rattle.pm_market.specs.State.{State, is_same_on, known, clearings, cleared}
+use Rattle.pm_market.specs.State.{State, is_same_on, knowledge, clearings, cleared_cut}
 use Rattle.pm_market.specs.Moves.{Legal}
 use Rattle.pm_market.specs.declared.moves.Move.TheVariants.{Clear}
 use Rattle.pm_market.proofs.Tree.{leaf_zero}
@@ -56,4 +56,4 @@ may_clear plan is_plan c stands = ∥∥₁_elim stands (Prim.hlevel props) (λ 
 pub cannot_clear : (plan : PlanData) (c : Core) (s : State) → StandsFor plan c s → c.auctioneer.changed ≡ false → (j : ℕ) →
     Legal (plan_lists plan) s (Clear j) → ⊥
 cannot_clear plan c s stands none j legal =
-    both_ways (not (is_same_on (plan_lists plan) 0 (known (plan_lists plan) s 0) (cleared s (clearings s)))) (sym stands.changed ∙ none) (ap not legal.0)
+    both_ways (not (is_same_on (plan_lists plan) 0 (knowledge (plan_lists plan) s 0) (cleared_cut s (clearings s)))) (sym stands.changed ∙ none) (ap not legal.0)

@@ -5,7 +5,7 @@ use Rattle.std.proofs.Props.{props}
 use Rattle.std.proofs.lemmas.Bool.{cases_eq}
 use Rattle.pm_tree.specs.Entries.{children_of, place_of}
 use Rattle.pm_market.specs.Lists.{parent, IsNode, IsConcentrator}
-use Rattle.pm_market.specs.State.{State, last, cleared}
+use Rattle.pm_market.specs.State.{State, last_index, cleared_cut}
 use Rattle.pm_market.specs.Moves.{Legal, Reached}
 use Rattle.pm_market.specs.declared.moves.Move.TheVariants.{Pass}
 use Rattle.pm_market.proofs.Cuts.{number_inner}
@@ -46,10 +46,10 @@ pass_condition plan c s x between price is_plan stands conc taken one =
     let within = due_within (plan_lists plan) s stands.sound x price.index agrees.due in
     let due = due_parts (plan_lists plan) s x price.index agrees.due in
     let part = (cleared_is_part (plan_lists plan) (lawful plan is_plan) s stands.sound x price.index node within.1).1 in
-    let before : last s x ≤ price.index = omega (arith, agrees.above) in
-    let rises = number_rises (plan_lists plan) (lawful plan is_plan) s stands.sound x (last s x) price.index node conc.2 before within.1 in
-    let answered_is = number_inner (plan_lists plan) s.published x (cleared s (last s x)) conc.2 in
-    let number_is = number_inner (plan_lists plan) s.published x (cleared s price.index) conc.2 in
+    let before : last_index s x ≤ price.index = omega (arith, agrees.above) in
+    let rises = number_rises (plan_lists plan) (lawful plan is_plan) s stands.sound x (last_index s x) price.index node conc.2 before within.1 in
+    let answered_is = number_inner (plan_lists plan) s.published x (cleared_cut s (last_index s x)) conc.2 in
+    let number_is = number_inner (plan_lists plan) s.published x (cleared_cut s price.index) conc.2 in
     let cache_is : node_cache c x ≡ (concentrator_of c x).cache = cache_inner c.auctioneer c.concentrators x (λ e. omega (arith, conc.0)) in
     record {
       keeps = record {
@@ -78,7 +78,7 @@ pass_condition plan c s x between price is_plan stands conc taken one =
       step = omega (
         arith,
         agrees.step,
-        offer_inside plan is_plan x (cleared s price.index),
+        offer_inside plan is_plan x (cleared_cut s price.index),
         stands.shaped.cache_steps x conc.1 conc.2,
         ap (λ (q : Cache). q.steps) cache_is,
       );

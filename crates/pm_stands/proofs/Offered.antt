@@ -8,11 +8,11 @@ use Rattle.pm_bid.specs.Clearing.{clearing_step}
 use Rattle.pm_bid.specs.Limited.{within_limits, local_step}
 use Rattle.pm_market.specs.Lists.{parent, IsNode, IsLeaf, IsInner, IsConcentrator}
 use Rattle.pm_market.specs.State.{SameOn}
-use Rattle.pm_concentrator.specs.Limited.{sum_kept, passed_step}
+use Rattle.pm_concentrator.specs.Limited.{sum_kept, local_step_of_record}
 use Rattle.pm_plan.specs.Kept.{IsPlan}
 use Rattle.pm_plan.specs.Plans.{PlanData}
 use Rattle.pm_plan.specs.Market.{plan_lists}
-use Rattle.pm_offer.specs.Offers.{offer, children_sum, local_at, device_demand}
+use Rattle.pm_offer.specs.Offers.{offer, children_sum, local_step_at, device_demand}
 use Rattle.pm_offer.proofs.Laws as laws
 use Rattle.pm_stands.specs.Core.{limits_at}
 
@@ -32,26 +32,26 @@ offer_inner plan is_plan c cut conc = laws.offer_inner plan c cut is_plan conc
 
 -- the local step of a child of the auctioneer is the clearing step of the sum of all such children's offers
 pub offer_root : (plan : PlanData) → IsPlan plan → (x : ℕ) (cut : Cut) → IsNode (plan_lists plan) x → parent (plan_lists plan) x ≡ 0 →
-    local_at plan cut x ≡ clearing_step (children_sum plan 0 cut)
+    local_step_at plan cut x ≡ clearing_step (children_sum plan 0 cut)
 offer_root plan is_plan x cut here up = laws.local_root plan x cut is_plan here up
 
 -- the step that a concentrator passes on is the local step of its record's sum
-passed_is_local : (limits : Option Limits) (k : ℕ) (sum : List ℤ) → passed_step limits k (sum_kept limits sum) ≡ local_step limits k sum
+passed_is_local : (limits : Option Limits) (k : ℕ) (sum : List ℤ) → local_step_of_record limits k (sum_kept limits sum) ≡ local_step limits k sum
 passed_is_local None k sum = refl
 passed_is_local (Some limits) k sum = refl
 
 -- the local step of a concentrator's child is the step passed down for the concentrator's, by the kept sum
 pub offer_below : (plan : PlanData) → IsPlan plan → (x : ℕ) (cut : Cut) → IsNode (plan_lists plan) x →
     IsConcentrator (plan_lists plan) (parent (plan_lists plan) x) →
-    local_at plan cut x
-    ≡ passed_step (limits_at plan (parent (plan_lists plan) x)) (local_at plan cut (parent (plan_lists plan) x))
+    local_step_at plan cut x
+    ≡ local_step_of_record (limits_at plan (parent (plan_lists plan) x)) (local_step_at plan cut (parent (plan_lists plan) x))
     (sum_kept (limits_at plan (parent (plan_lists plan) x)) (children_sum plan (parent (plan_lists plan) x) cut))
 offer_below plan is_plan x cut here conc =
     let above : ℕ = parent (plan_lists plan) x in
-    laws.local_below plan x cut is_plan here conc ∙ sym (passed_is_local (limits_at plan above) (local_at plan cut above) (children_sum plan above cut))
+    laws.local_below plan x cut is_plan here conc ∙ sym (passed_is_local (limits_at plan above) (local_step_at plan cut above) (children_sum plan above cut))
 
 -- a local step is one of the steps of the basis
-pub offer_inside : (plan : PlanData) → IsPlan plan → (x : ℕ) (cut : Cut) → local_at plan cut x < plan.basis.steps
+pub offer_inside : (plan : PlanData) → IsPlan plan → (x : ℕ) (cut : Cut) → local_step_at plan cut x < plan.basis.steps
 offer_inside plan is_plan x cut = laws.local_inside plan x cut is_plan
 
 -- the sum of the offers of an inner node's children is within the limit of a sum at each step

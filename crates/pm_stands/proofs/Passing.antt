@@ -6,7 +6,7 @@ use Rattle.pm_base.specs.Cuts.{Cut}
 use Rattle.pm_bid.specs.declared.head.BidHead.{BidHead}
 use Rattle.pm_tree.specs.Entries.{children_of, place_of}
 use Rattle.pm_market.specs.Lists.{parent, is_leaf, IsNode, IsLeaf, IsConcentrator}
-use Rattle.pm_market.specs.State.{State, SameOn, cut_at, number, last, clearings, cleared, addresses}
+use Rattle.pm_market.specs.State.{State, SameOn, cut_at, number, last_index, clearings, cleared_cut, addresses}
 use Rattle.pm_market.specs.Moves.{Legal, Reached, step}
 use Rattle.pm_market.specs.declared.moves.Move.TheVariants.{Pass}
 use Rattle.pm_market.proofs.Cuts.{part_inner}
@@ -21,12 +21,12 @@ use Rattle.pm_session.specs.Ways.{Waits}
 use Rattle.pm_session.specs.Prices.{head_at, session_at}
 use Rattle.pm_session.specs.Windows.{Sent, Keeps, record_of}
 use Rattle.pm_session.specs.declared.price.PriceUpdate.{PriceUpdate}
-use Rattle.pm_concentrator.specs.Limited.{sum_kept, passed_step}
+use Rattle.pm_concentrator.specs.Limited.{sum_kept, local_step_of_record}
 use Rattle.pm_concentrator.specs.Concentrators.{Gathered, published_heads}
 use Rattle.pm_plan.specs.Kept.{IsPlan}
 use Rattle.pm_plan.specs.Plans.{PlanData}
 use Rattle.pm_plan.specs.Market.{plan_lists}
-use Rattle.pm_offer.specs.Offers.{children_sum, local_at}
+use Rattle.pm_offer.specs.Offers.{children_sum, local_step_at}
 use Rattle.pm_stands.specs.Core.{Core, limits_at, row_at, link_at, uplink_of, gathered_at, concentrator_of, node_cache}
 use Rattle.pm_laws.specs.Due.{IsNewestDue}
 use Rattle.pm_stands.specs.Stands.{head_for, PriceAgrees, StandsFor, MakesMove}
@@ -67,10 +67,10 @@ module _ (plan : PlanData) (is_plan : IsPlan plan) (c : Core) (s : State) (stand
   legal = let w = due_parts (plan_lists plan) s x j agrees.due in (node, w.0, agrees.above, w.1)
 
   -- what was passed
-  last_new : last after_state x ≡ j
+  last_new : last_index after_state x ≡ j
   last_new = passes.last_new (plan_lists plan) s x j
 
-  last_kept : (y : ℕ) → (y ≡ x → ⊥) → last after_state y ≡ last s y
+  last_kept : (y : ℕ) → (y ≡ x → ⊥) → last_index after_state y ≡ last_index s y
   last_kept y ne = passes.last_kept (plan_lists plan) s x j y ne
 
   due_more : (y i : ℕ) → is_due (plan_lists plan) s y i ≡ true → is_due (plan_lists plan) after_state y i ≡ true
@@ -114,39 +114,39 @@ module _ (plan : PlanData) (is_plan : IsPlan plan) (c : Core) (s : State) (stand
     new_is = ap (λ (i : ℕ). link_at links i (place_of plan.entries y)) (sym up)
 
     the_head : head_at (record_of (concentrator_of c x).window price.number).heads (place_of plan.entries y)
-        ≡ head_for (plan_lists plan) y (number (plan_lists plan) s y (cleared s j))
+        ≡ head_for (plan_lists plan) y (number (plan_lists plan) s y (cleared_cut s j))
     the_head =
         ap (λ (i : ℕ). head_at (record_of (concentrator_of c i).window price.number).heads (place_of plan.entries y)) (sym up)
         ∙ stands.records y price.number y_node conc_y (subst (λ (i : ℕ). Keeps (concentrator_of c i).window price.number) (sym up) keeps)
         ∙ ap (λ (i : ℕ). head_for (plan_lists plan) y (number (plan_lists plan) s y (cut_at (s.published (parent (plan_lists plan) y)) i))) (
-        agrees.number ∙ ap (λ (i : ℕ). number (plan_lists plan) s i (cleared s j)) (sym up))
+        agrees.number ∙ ap (λ (i : ℕ). number (plan_lists plan) s i (cleared_cut s j)) (sym up))
         ∙ ap (head_for (plan_lists plan) y) (
         sym (number_down (plan_lists plan) (lawful plan is_plan) s stands.sound y j y_node (conc_y.0, conc_y.1) j_within.1))
 
     gone_is : (head_at (record_of (concentrator_of c x).window price.number).heads (place_of plan.entries y)).gone ≡ not (addresses (plan_lists plan) s j y)
     gone_is = ap (λ (h : BidHead). h.gone) the_head ∙ gone_addresses (plan_lists plan) (lawful plan is_plan) s stands.sound y j y_node j_within.1
 
-    the_step : passed_step (concentrator_of c x).limits price.step (record_of (concentrator_of c x).window price.number).sum ≡ local_at plan (cleared s j) y
+    the_step : local_step_of_record (concentrator_of c x).limits price.step (record_of (concentrator_of c x).window price.number).sum ≡ local_step_at plan (cleared_cut s j) y
     the_step =
         let at = (cleared_is_part (plan_lists plan) (lawful plan is_plan) s stands.sound x j node j_within.1).0 in
-        let same : SameOn (plan_lists plan) x (cut_at (s.published x) price.number) (cleared s j) = λ d leaf.
+        let same : SameOn (plan_lists plan) x (cut_at (s.published x) price.number) (cleared_cut s j) = λ d leaf.
         sym (
         at d leaf
-        ∙ ap (λ (a : Cut). a d) (part_inner (plan_lists plan) s.published x (number (plan_lists plan) s x (cleared s j)) conc.2)
+        ∙ ap (λ (a : Cut). a d) (part_inner (plan_lists plan) s.published x (number (plan_lists plan) s x (cleared_cut s j)) conc.2)
         ∙ ap (λ (i : ℕ). cut_at (s.published x) i d) (sym agrees.number)) in
-        ap (λ l. passed_step l price.step (record_of (concentrator_of c x).window price.number).sum) (stands.shaped.same_limits x conc)
-        ∙ ap (passed_step (limits_at plan x) price.step) (
+        ap (λ l. local_step_of_record l price.step (record_of (concentrator_of c x).window price.number).sum) (stands.shaped.same_limits x conc)
+        ∙ ap (local_step_of_record (limits_at plan x) price.step) (
         stands.sums x price.number conc keeps
-        ∙ ap (sum_kept (limits_at plan x)) (sum_alike plan is_plan x (cut_at (s.published x) price.number) (cleared s j) same))
-        ∙ ap (λ (k : ℕ). passed_step (limits_at plan x) k (sum_kept (limits_at plan x) (children_sum plan x (cleared s j)))) agrees.step
-        ∙ ap (λ (i : ℕ). passed_step (limits_at plan i) (local_at plan (cleared s j) i)
-        (sum_kept (limits_at plan i) (children_sum plan i (cleared s j)))) (
+        ∙ ap (sum_kept (limits_at plan x)) (sum_alike plan is_plan x (cut_at (s.published x) price.number) (cleared_cut s j) same))
+        ∙ ap (λ (k : ℕ). local_step_of_record (limits_at plan x) k (sum_kept (limits_at plan x) (children_sum plan x (cleared_cut s j)))) agrees.step
+        ∙ ap (λ (i : ℕ). local_step_of_record (limits_at plan i) (local_step_at plan (cleared_cut s j) i)
+        (sum_kept (limits_at plan i) (children_sum plan i (cleared_cut s j)))) (
         sym up)
-        ∙ sym (offer_below plan is_plan y (cleared s j) y_node conc_y)
+        ∙ sym (offer_below plan is_plan y (cleared_cut s j) y_node conc_y)
 
     abbrev the_price : PriceUpdate
     the_price = record {
-      step = passed_step (concentrator_of c x).limits price.step (record_of (concentrator_of c x).window price.number).sum;
+      step = local_step_of_record (concentrator_of c x).limits price.step (record_of (concentrator_of c x).window price.number).sum;
       number = (head_at (record_of (concentrator_of c x).window price.number).heads (place_of plan.entries y)).number;
       index = j;
     }
@@ -163,15 +163,15 @@ module _ (plan : PlanData) (is_plan : IsPlan plan) (c : Core) (s : State) (stand
     ]
 
     -- what was passed to the child came to x
-    last_below : last s y < j
+    last_below : last_index s y < j
     last_below = elim (last_cases (s.passed y)) [
       | inl w ↦ omega (arith, w.1, j_within.0)
       | inr k ↦
-          let came : Reached s x (last s y) = subst (λ (i : ℕ). Reached s i (last s y)) up (stands.sound.passed_reached y (last s y) k) in
-          omega (arith, agrees.above, came_last (plan_lists plan) s stands.sound x (last s y) conc.0 came)
+          let came : Reached s x (last_index s y) = subst (λ (i : ℕ). Reached s i (last_index s y)) up (stands.sound.passed_reached y (last_index s y) k) in
+          omega (arith, agrees.above, came_last (plan_lists plan) s stands.sound x (last_index s y) conc.0 came)
     ]
 
-    due_below : (i : ℕ) → is_due (plan_lists plan) s y i ≡ true → i ≤ last s x
+    due_below : (i : ℕ) → is_due (plan_lists plan) s y i ≡ true → i ≤ last_index s x
     due_below i h = came_last (plan_lists plan) s stands.sound x i conc.0 (subst (λ (z : ℕ). Reached s z i) up (due_parts (plan_lists plan) s y i h).0)
 
     child_newest : IsNewestDue (plan_lists plan) after_state y (uplink_of plan after_core y).down.offered
@@ -363,7 +363,7 @@ module _ (plan : PlanData) (is_plan : IsPlan plan) (c : Core) (s : State) (stand
       ]
     ];
     price_taken = λ y y_node. elim (cases_eq y x) [
-      | inl e ↦ ap (λ (z : Session). z.down.taken) (session_new y e) ∙ did.taken.down.taken ∙ sym last_new ∙ ap (last after_state) (sym e)
+      | inl e ↦ ap (λ (z : Session). z.down.taken) (session_new y e) ∙ did.taken.down.taken ∙ sym last_new ∙ ap (last_index after_state) (sym e)
       | inr ne ↦ elim (cases_eq (parent (plan_lists plan) y) x) [
         | inl up ↦ child_taken y y_node up ∙ stands.price_taken y y_node ∙ sym (last_kept y ne)
         | inr elsewhere ↦ ap (λ (z : Session). z.down.taken) (session_kept y y_node ne elsewhere) ∙ stands.price_taken y y_node ∙ sym (last_kept y ne)
@@ -375,7 +375,7 @@ module _ (plan : PlanData) (is_plan : IsPlan plan) (c : Core) (s : State) (stand
         | inl e ↦
             let was = did.taken.down.rest q (sym (ap (λ (z : Session). z.down.waiting) (session_new y e)) ∙ waits) in
             let at = stands.prices y y_node q (ap (λ (z : ℕ). (uplink_of plan c z).down.waiting) e ∙ was.0) in
-            record { above = omega (arith, was.1, last_new, ap (last after_state) e); due = due_more y q.index at.due; step = at.step; number = at.number }
+            record { above = omega (arith, was.1, last_new, ap (last_index after_state) e); due = due_more y q.index at.due; step = at.step; number = at.number }
         | inr ne ↦
             let at = stands.prices y y_node q (sym (ap (λ (z : Session). z.down.waiting) (session_kept y y_node ne elsewhere)) ∙ waits) in
             record { above = omega (arith, at.above, last_kept y ne); due = due_more y q.index at.due; step = at.step; number = at.number }
@@ -385,11 +385,11 @@ module _ (plan : PlanData) (is_plan : IsPlan plan) (c : Core) (s : State) (stand
     window_answered = λ y conc_y. elim (cases_eq y x) [
       | inl e ↦
           ap (λ (z : Gathered). z.window.answered) (gathered_new y e) ∙ did.passed.window.answered ∙ agrees.number
-          ∙ ap (λ (k : ℕ). number (plan_lists plan) s x (cleared s k)) (sym last_new)
-          ∙ ap (λ (i : ℕ). number (plan_lists plan) s i (cleared s (last after_state i))) (sym e)
+          ∙ ap (λ (k : ℕ). number (plan_lists plan) s x (cleared_cut s k)) (sym last_new)
+          ∙ ap (λ (i : ℕ). number (plan_lists plan) s i (cleared_cut s (last_index after_state i))) (sym e)
       | inr ne ↦
           ap (λ (g : Gathered). g.window.answered) (did.alone.others y ne) ∙ stands.window_answered y conc_y
-          ∙ ap (λ (k : ℕ). number (plan_lists plan) s y (cleared s k)) (sym (last_kept y ne))
+          ∙ ap (λ (k : ℕ). number (plan_lists plan) s y (cleared_cut s k)) (sym (last_kept y ne))
     ];
     records = λ z k z_node conc_z now.
         ap (λ (r : Sent). head_at r.heads (place_of plan.entries z)) (record_same (parent (plan_lists plan) z) k now)
@@ -404,7 +404,7 @@ module _ (plan : PlanData) (is_plan : IsPlan plan) (c : Core) (s : State) (stand
     given_none = λ d leaf none. stands.given_none d leaf (sym (last_kept d (differs d leaf)) ∙ none);
     given = λ d leaf positive.
         stands.given d leaf (omega (arith, positive, last_kept d (differs d leaf)))
-        ∙ ap (λ (k : ℕ). Some (record { step = local_at plan (cleared s k) d; number = cleared s k d; index = k })) (sym (last_kept d (differs d leaf)));
+        ∙ ap (λ (k : ℕ). Some (record { step = local_step_at plan (cleared_cut s k) d; number = cleared_cut s k d; index = k })) (sym (last_kept d (differs d leaf)));
   }
     where
       differs : (d : ℕ) → IsLeaf (plan_lists plan) d → d ≡ x → ⊥

@@ -11,7 +11,7 @@ use Rattle.pm_bid.specs.Clearing.{clearing_step}
 use Rattle.pm_bid.specs.Limited.{within_limits}
 use Rattle.pm_tree.specs.Entries.{children_of, place_of}
 use Rattle.pm_market.specs.Lists.{Lists, parent, IsNode, IsConcentrator, Lawful}
-use Rattle.pm_market.specs.State.{State, is_same_on, cut_at, newest, known, number, last, clearings, cleared}
+use Rattle.pm_market.specs.State.{State, is_same_on, cut_at, newest_number_of, knowledge, number, last_index, clearings, cleared_cut}
 use Rattle.pm_market.specs.Moves.{Legal, step}
 use Rattle.pm_market.specs.Sound.{Sound}
 use Rattle.pm_market.specs.declared.moves.Move.TheVariants.{Publish}
@@ -33,7 +33,7 @@ use Rattle.pm_concentrator.specs.Concentrators.{Gathered, Published, published_h
 use Rattle.pm_plan.specs.Kept.{IsPlan}
 use Rattle.pm_plan.specs.Plans.{PlanData}
 use Rattle.pm_plan.specs.Market.{plan_lists}
-use Rattle.pm_offer.specs.Offers.{offer, children_sum, local_at}
+use Rattle.pm_offer.specs.Offers.{offer, children_sum, local_step_at}
 use Rattle.pm_stands.specs.Core.{Core, child_at, limits_at, link_at, uplink_of, gathered_at, concentrator_of, node_cache}
 use Rattle.pm_stands.specs.Rows.{OneLink, OneConcentrator}
 use Rattle.pm_laws.specs.Due.{IsNewestDue}
@@ -67,7 +67,7 @@ module _ (plan : PlanData) (is_plan : IsPlan plan) (c : Core) (s : State) (stand
       )
 
   -- Where it knows what it published last, its heads are those of its newest record.
-  pub same_from_known : is_same_on (plan_lists plan) x (known (plan_lists plan) s x) (cut_at (s.published x) (length (s.published x))) ≡ true →
+  pub same_from_known : is_same_on (plan_lists plan) x (knowledge (plan_lists plan) s x) (cut_at (s.published x) (length (s.published x))) ≡ true →
       (node_cache c x).heads ≡ (published_heads (concentrator_of c x))
   same_from_known e =
       let count = stands.shaped.cache_heads x conc.1 conc.2 in
@@ -78,7 +78,7 @@ module _ (plan : PlanData) (is_plan : IsPlan plan) (c : Core) (s : State) (stand
 
   -- Where its heads are those of its newest record, it knows what it published last.
   pub known_from_same : (node_cache c x).heads ≡ (published_heads (concentrator_of c x)) →
-      is_same_on (plan_lists plan) x (known (plan_lists plan) s x) (cut_at (s.published x) (length (s.published x))) ≡ true
+      is_same_on (plan_lists plan) x (knowledge (plan_lists plan) s x) (cut_at (s.published x) (length (s.published x))) ≡ true
   known_from_same e = (known_heads (plan_lists plan) (lawful plan is_plan) s stands.sound x conc.2).1 (λ z node up.
       let conc' : IsConcentrator (plan_lists plan) (parent (plan_lists plan) z) = subst (λ (i : ℕ). IsConcentrator (plan_lists plan) i) (sym up) conc in
       let learnt = ap (λ (i : ℕ). head_at (node_cache c i).heads (place_of plan.entries z)) (sym up) ∙ stands.heads z node in
@@ -117,7 +117,7 @@ module _ (plan : PlanData) (is_plan : IsPlan plan) (c : Core) (s : State) (stand
   the_cache : node_cache c x ≡ (concentrator_of c x).cache
   the_cache = cache_inner c.auctioneer c.concentrators x not_root
 
-  newest_is : newest lists s x ≡ length (s.published x)
+  newest_is : newest_number_of lists s x ≡ length (s.published x)
   newest_is = newest_inner lists s.counts s.published x conc.2
 
   number_is : n ≡ length (s.published x) + 1
@@ -126,9 +126,9 @@ module _ (plan : PlanData) (is_plan : IsPlan plan) (c : Core) (s : State) (stand
   legal : Legal lists s (Publish x n)
   legal = (
     conc,
-    elim (cases_Bool (is_same_on lists x (known lists s x) (cut_at (s.published x) (length (s.published x))))) [
+    elim (cases_Bool (is_same_on lists x (knowledge lists s x) (cut_at (s.published x) (length (s.published x))))) [
       | inl e ↦ absurd (made.changed (ap (λ (z : Cache). z.heads) (sym the_cache) ∙ same_from_known plan is_plan c s stands x conc e))
-      | inr e ↦ ap (λ (a : Cut). is_same_on lists x (known lists s x) a) (part_inner lists s.published x (newest lists s x) conc.2
+      | inr e ↦ ap (λ (a : Cut). is_same_on lists x (knowledge lists s x) a) (part_inner lists s.published x (newest_number_of lists s x) conc.2
           ∙ ap (cut_at (s.published x)) newest_is) ∙ e
     ],
     omega (arith, made.room, stands.window_last x conc, stands.window_answered x conc),
@@ -171,7 +171,7 @@ module _ (plan : PlanData) (is_plan : IsPlan plan) (c : Core) (s : State) (stand
   new_heads : published_heads (gathered_at concentrators x) ≡ (concentrator_of c x).cache.heads
   new_heads = ap (λ (i : ℕ). (record_of (gathered_at concentrators x).window i).heads) made.sent.last ∙ ap (λ (r : Sent). r.heads) made.sent.at
 
-  the_sum : aggregate_of (concentrator_of c x).cache ≡ children_sum plan x (known lists s x)
+  the_sum : aggregate_of (concentrator_of c x).cache ≡ children_sum plan x (knowledge lists s x)
   the_sum =
       ap aggregate_of (sym the_cache) ∙ ap (λ (k : ℕ). sum_of k (node_cache c x).demands) (stands.shaped.cache_steps x conc.1 conc.2)
       ∙ ap (sum_of plan.basis.steps) (demands_are plan is_plan c s stands x conc.1 conc.2)
@@ -187,7 +187,7 @@ module _ (plan : PlanData) (is_plan : IsPlan plan) (c : Core) (s : State) (stand
     within = omega (arith, number_b, number_is, newest_is, newest_more lists law s stands.sound x conc.2 sound');
     demand = ap (λ (u : UpBid). u.demand) is ∙ ap (λ l. within_limits l (aggregate_of (concentrator_of c x).cache)) (stands.shaped.same_limits x conc)
         ∙ ap (within_limits (limits_at plan x)) the_sum
-        ∙ sym (offer_inner plan is_plan x (known lists s x) conc)
+        ∙ sym (offer_inner plan is_plan x (knowledge lists s x) conc)
         ∙ ap (offer plan x) (sym (part_last lists law s stands.sound x conc.2 sound' b.number (omega (arith, number_b, number_is, newest_is))));
     gone = ap (λ (u : UpBid). u.gone) is ∙ sym (gone_inner lists x b.number conc.2 ∙ ne_eqb b.number 0 (λ e. omega (arith, number_b, number_is)));
   }
@@ -203,11 +203,11 @@ module _ (plan : PlanData) (is_plan : IsPlan plan) (c : Core) (s : State) (stand
   window_kept : (y : ℕ) → (y ≡ x → ⊥) → (concentrator_of after_core y).window ≡ (concentrator_of c y).window
   window_kept y ne = ap (λ (g : Gathered). g.window) (alone.others y ne)
 
-  cleared_number : (y j : ℕ) → IsNode lists y → j ≤ clearings s → number lists after_state y (cleared after_state j)
-      ≡ number lists s y (cleared s j)
+  cleared_number : (y j : ℕ) → IsNode lists y → j ≤ clearings s → number lists after_state y (cleared_cut after_state j)
+      ≡ number lists s y (cleared_cut s j)
   cleared_number y j y_node le = number_cleared lists law s stands.sound x conc.2 sound' y j y_node le
 
-  cleared_is : (j : ℕ) → j ≤ clearings s → cleared after_state j ≡ cleared s j
+  cleared_is : (j : ℕ) → j ≤ clearings s → cleared_cut after_state j ≡ cleared_cut s j
   cleared_is j le = cleared_old lists law s stands.sound x conc.2 sound' j le
 
   -- a record of the window of x: one kept before, or the new one
@@ -302,7 +302,7 @@ module _ (plan : PlanData) (is_plan : IsPlan plan) (c : Core) (s : State) (stand
     bid_offered = λ y y_node. elim (cases_eq y x) [
       | inl e ↦
           ap (λ (z : Session). z.up.offered) (session_new y e) ∙ made.bid.up.offered
-          ∙ omega (arith, number_is, newest_is, ap (newest lists after_state) e, newest_more lists law s stands.sound x conc.2 sound')
+          ∙ omega (arith, number_is, newest_is, ap (newest_number_of lists after_state) e, newest_more lists law s stands.sound x conc.2 sound')
       | inr ne ↦ ap (λ (z : Session). z.up.offered) (session_kept y y_node ne) ∙ stands.bid_offered y y_node
           ∙ sym (newest_other lists law s stands.sound x conc.2 sound' y ne)
     ];
@@ -330,18 +330,18 @@ module _ (plan : PlanData) (is_plan : IsPlan plan) (c : Core) (s : State) (stand
         record {
           above = at.above;
           due = due_kept lists s x conc.0 y price.index ∙ at.due;
-          step = at.step ∙ ap (λ (a : Cut). local_at plan a y) (sym (cleared_is price.index le));
+          step = at.step ∙ ap (λ (a : Cut). local_step_at plan a y) (sym (cleared_is price.index le));
           number = at.number ∙ sym (cleared_number y price.index y_node le);
         };
     window_last = λ y conc_y. elim (cases_eq y x) [
       | inl e ↦
           ap (λ (g : Gathered). g.window.last) (gathered_new y e) ∙ made.sent.last
-          ∙ omega (arith, number_is, newest_is, ap (newest lists after_state) e, newest_more lists law s stands.sound x conc.2 sound')
+          ∙ omega (arith, number_is, newest_is, ap (newest_number_of lists after_state) e, newest_more lists law s stands.sound x conc.2 sound')
       | inr ne ↦ ap (λ (w : WindowValue). w.last) (window_kept y ne) ∙ stands.window_last y conc_y
           ∙ sym (newest_other lists law s stands.sound x conc.2 sound' y ne)
     ];
     window_answered = λ y conc_y.
-        let same = sym (cleared_number y (last s y) (conc_y.0, conc_y.1) (last_within lists s stands.sound y)) in
+        let same = sym (cleared_number y (last_index s y) (conc_y.0, conc_y.1) (last_within lists s stands.sound y)) in
         elim (cases_eq y x) [
           | inl e ↦ ap (λ (g : Gathered). g.window.answered) (gathered_new y e) ∙ made.sent.answered
               ∙ ap (λ (i : ℕ). (concentrator_of c i).window.answered) (sym e) ∙ stands.window_answered y conc_y ∙ same
@@ -392,18 +392,18 @@ module _ (plan : PlanData) (is_plan : IsPlan plan) (c : Core) (s : State) (stand
     index = stands.index ∙ ap length (clearings_kept lists s x conc.0);
     auction_step = stands.auction_step
         ∙ ap (λ (l : List Cut). cond (eqb (length l) 0) 0 (clearing_step (children_sum plan 0 (cut_at l (length l))))) (clearings_kept lists s x conc.0);
-    changed = stands.changed ∙ ap (λ (l : List Cut). not (is_same_on lists 0 (known lists s 0) (cut_at l (length l)))) (clearings_kept lists s x conc.0)
-        ∙ ap not (is_same_alike lists law 0 (known lists s 0) (known lists after_state 0) (cleared after_state (clearings after_state))
+    changed = stands.changed ∙ ap (λ (l : List Cut). not (is_same_on lists 0 (knowledge lists s 0) (cut_at l (length l)))) (clearings_kept lists s x conc.0)
+        ∙ ap not (is_same_alike lists law 0 (knowledge lists s 0) (knowledge lists after_state 0) (cleared_cut after_state (clearings after_state))
         (known_same lists law s stands.sound x conc.2 sound' 0 (leaf_zero lists)));
     joined = stands.joined;
     given_none = stands.given_none;
     given = λ d leaf positive. stands.given d leaf positive
         ∙ ap (λ (a : Cut). Some (record {
-          step = local_at plan a d;
+          step = local_step_at plan a d;
           number = a d;
           index =
-              last s d;
-        })) (sym (cleared_is (last s d) (last_within lists s stands.sound d)));
+              last_index s d;
+        })) (sym (cleared_is (last_index s d) (last_within lists s stands.sound d)));
   }
 
   -- The Publish under the next number was legal, and the core stands for the state after it.

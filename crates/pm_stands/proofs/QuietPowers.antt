@@ -14,7 +14,7 @@ use Rattle.pm_market.proofs.Cuts.{part_leaf, newest_leaf}
 use Rattle.pm_plan.specs.Kept.{IsPlan}
 use Rattle.pm_plan.specs.Plans.{PlanData, node, limits_of, is_limited, change_count}
 use Rattle.pm_plan.specs.Plans as plans
-use Rattle.pm_plan.specs.Auction.{local, power, demand_in_cut, group_step, sum_in, limited_line}
+use Rattle.pm_plan.specs.Auction.{local_step_in, power, demand_in_cut, local_step_of_group, sum_in, limited_line}
 use Rattle.pm_plan.specs.States.{state}
 use Rattle.pm_plan.specs.Market.{plan_lists}
 use Rattle.pm_plan.proofs.MarketLists.{is_member-is, changes-is}
@@ -65,8 +65,8 @@ module _ (plan : PlanData) (is_plan : IsPlan plan) (c : Core) (s : State) (stand
       ap (λ (h : Option Held). power_by h (demand_in_cut plan (state plan) s.counts d)) (held_current plan is_plan c s stands idle d leaf is)
   power_of d leaf false is =
       ap (λ (h : Option Held). power_by h (demand_in_cut plan (state plan) s.counts d)) (none_held plan s d is)
-      ∙ sym (ap (λ (demand : List ℤ). demand_at demand (local plan (state plan) s.counts d)) (none_asked d leaf is)
-      ∙ zeros-at plan.basis.steps (local plan (state plan) s.counts d))
+      ∙ sym (ap (λ (demand : List ℤ). demand_at demand (local_step_in plan (state plan) s.counts d)) (none_asked d leaf is)
+      ∙ zeros-at plan.basis.steps (local_step_in plan (state plan) s.counts d))
 
   power_current_at : (d : ℕ) → IsLeaf lists d → kept_power plan c d ≡ power plan (state plan) s.counts d
   power_current_at d leaf =
@@ -75,7 +75,7 @@ module _ (plan : PlanData) (is_plan : IsPlan plan) (c : Core) (s : State) (stand
       ∙ power_of d leaf (is_member lists d (s.counts d)) refl
 
   line_current_at : (g : ℕ) → IsConcentrator lists g → is_limited plan g ≡ true → kept_line plan c g ≡ limited_line plan (state plan) s.counts g
-  unfolding limited_line group_step
+  unfolding limited_line local_step_of_group
   line_current_at g conc limited =
       let sum_is : aggregate_of (concentrator_of c g).cache ≡ sum_in plan (state plan) s.counts g =
       ap aggregate_of (sym (cache_inner c.auctioneer c.concentrators g (λ e. omega (arith, conc.0))))

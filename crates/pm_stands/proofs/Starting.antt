@@ -6,7 +6,7 @@ use Rattle.std.proofs.lemmas.Bool.{cond-false}
 use Rattle.pm_base.specs.Cuts.{Cut}
 use Rattle.pm_bid.specs.Heads.{nothing_sent}
 use Rattle.pm_market.specs.Lists.{Lists, nodes, parent, is_member, child_at_or_above, IsNode, Lawful}
-use Rattle.pm_market.specs.State.{start, cut_at, known_of, last_of, part, known, number, last, cleared}
+use Rattle.pm_market.specs.State.{start, cut_at, knowledge_of, last_of, part, knowledge, number, last_index, cleared_cut}
 use Rattle.pm_market.specs.Held.{last_join}
 use Rattle.pm_market.proofs.Cuts.{part_zero, is_same_from, entry_zero}
 use Rattle.pm_laws.specs.Due.{is_due}
@@ -40,13 +40,13 @@ last_empty : last_of [] ≡ 0
 unfolding last_of
 last_empty = refl
 
-cleared_zero : (j : ℕ) (d : ℕ) → cleared start j d ≡ 0
+cleared_zero : (j : ℕ) (d : ℕ) → cleared_cut start j d ≡ 0
 unfolding cut_at
 cleared_zero zero d = refl
 cleared_zero (suc j) d = refl
 
-known_zero : (lists : Lists) (d : ℕ) → known lists start 0 d ≡ 0
-unfolding known_of
+known_zero : (lists : Lists) (d : ℕ) → knowledge lists start 0 d ≡ 0
+unfolding knowledge_of
 known_zero lists d = part_zero lists start.published (child_at_or_above lists 0 d) d
 
 -- a cluster that was just opened stands for the start
@@ -73,7 +73,7 @@ opened_stands plan c is_plan opened = record {
   window_last = λ y conc. opened.sent y conc ∙ sym (newest_zero (plan_lists plan) y);
   window_answered = λ y conc.
       opened.answered y conc
-      ∙ sym (number_zero (plan_lists plan) (lawful plan is_plan) y (cleared start (last start y)) (conc.0, conc.1) (cleared_zero (last start y)));
+      ∙ sym (number_zero (plan_lists plan) (lawful plan is_plan) y (cleared_cut start (last_index start y)) (conc.0, conc.1) (cleared_zero (last_index start y)));
   records = λ x n node conc keeps. absurd (omega (arith, keeps.one, keeps.to, opened.sent (parent (plan_lists plan) x) conc));
   sums = λ y n conc keeps. absurd (omega (arith, keeps.one, keeps.to, opened.sent y conc));
   newest_heads = λ x node conc.
@@ -83,7 +83,7 @@ opened_stands plan c is_plan opened = record {
   index = opened.index;
   auction_step = opened.auction_step;
   changed =
-      let same = is_same_from (plan_lists plan) 0 (known (plan_lists plan) start 0) (cleared start 0) (λ d leaf.
+      let same = is_same_from (plan_lists plan) 0 (knowledge (plan_lists plan) start 0) (cleared_cut start 0) (λ d leaf.
       known_zero (plan_lists plan) d ∙ sym (cleared_zero 0 d)) in
       opened.changed ∙ sym (ap not same);
   joined = λ d leaf.

@@ -3,7 +3,7 @@ use Rattle.std.proofs.Common.{◌≡◌, ◌∙◌, sym, ap, subst, ℕ, true, L
 use Rattle.std.proofs.lemmas.Bool.{cases_eq, both_ways}
 use Rattle.pm_tree.specs.Entries.{place_of}
 use Rattle.pm_market.specs.Lists.{parent, is_leaf, IsNode, IsLeaf, IsConcentrator}
-use Rattle.pm_market.specs.State.{State, number, last, cleared}
+use Rattle.pm_market.specs.State.{State, number, last_index, cleared_cut}
 use Rattle.pm_market.specs.Moves.{Legal, step}
 use Rattle.pm_market.specs.declared.moves.Move.TheVariants.{Pass}
 use Rattle.pm_market.proofs.Tree.{leaf_node}
@@ -17,7 +17,7 @@ use Rattle.pm_session.specs.declared.price.PriceUpdate.{PriceUpdate}
 use Rattle.pm_plan.specs.Kept.{IsPlan}
 use Rattle.pm_plan.specs.Plans.{PlanData}
 use Rattle.pm_plan.specs.Market.{plan_lists}
-use Rattle.pm_offer.specs.Offers.{local_at}
+use Rattle.pm_offer.specs.Offers.{local_step_at}
 use Rattle.pm_stands.specs.Core.{Core, link_at, uplink_of, seat_at}
 use Rattle.pm_laws.specs.Due.{IsNewestDue}
 use Rattle.pm_stands.specs.Stands.{PriceAgrees, StandsFor, MakesMove}
@@ -47,10 +47,10 @@ module _ (plan : PlanData) (is_plan : IsPlan plan) (c : Core) (s : State) (stand
   legal = let w = due_parts (plan_lists plan) s x j agrees.due in (node, w.0, agrees.above, w.1)
 
   -- what was passed
-  last_new : last after_state x ≡ j
+  last_new : last_index after_state x ≡ j
   last_new = passes.last_new (plan_lists plan) s x j
 
-  last_kept : (y : ℕ) → (y ≡ x → ⊥) → last after_state y ≡ last s y
+  last_kept : (y : ℕ) → (y ≡ x → ⊥) → last_index after_state y ≡ last_index s y
   last_kept y ne = passes.last_kept (plan_lists plan) s x j y ne
 
   due_more : (y i : ℕ) → is_due (plan_lists plan) s y i ≡ true → is_due (plan_lists plan) after_state y i ≡ true
@@ -82,14 +82,14 @@ module _ (plan : PlanData) (is_plan : IsPlan plan) (c : Core) (s : State) (stand
   not_conc : (y : ℕ) → IsConcentrator (plan_lists plan) y → y ≡ x → ⊥
   not_conc y conc e = both_ways (is_leaf (plan_lists plan) y) conc.2 (ap (is_leaf (plan_lists plan)) e ∙ leaf)
 
-  number_is : price.number ≡ cleared s j x
-  number_is = agrees.number ∙ number_leaf (plan_lists plan) s.published x (cleared s j) leaf
+  number_is : price.number ≡ cleared_cut s j x
+  number_is = agrees.number ∙ number_leaf (plan_lists plan) s.published x (cleared_cut s j) leaf
 
-  the_given : (seat_at ports x).given ≡ Some (record { step = local_at plan (cleared s j) x; number = cleared s j x; index = j })
+  the_given : (seat_at ports x).given ≡ Some (record { step = local_step_at plan (cleared_cut s j) x; number = cleared_cut s j x; index = j })
   the_given =
       ap (λ (q : Seat). q.given) did.given
       ∙ ap (λ (k : ℕ). Some (record { step = k; number = price.number; index = j })) agrees.step
-      ∙ ap (λ (k : ℕ). Some (record { step = local_at plan (cleared s j) x; number = k; index = j })) number_is
+      ∙ ap (λ (k : ℕ). Some (record { step = local_step_at plan (cleared_cut s j) x; number = k; index = j })) number_is
 
   joined_kept : (d : ℕ) → (seat_at ports d).joined ≡ (seat_at c.ports d).joined
   joined_kept d = elim (cases_eq d x) [
@@ -134,21 +134,21 @@ module _ (plan : PlanData) (is_plan : IsPlan plan) (c : Core) (s : State) (stand
       price_offered = λ y y_node. subst (λ (k : ℕ). IsNewestDue (plan_lists plan) after_state y k) (sym (same_of y y_node).2) (
           passes.newest_due_kept (plan_lists plan) s x j y _ (no_child y y_node) (stands.price_offered y y_node));
       price_taken = λ y y_node. elim (cases_eq y x) [
-        | inl e ↦ ap (λ (z : Session). z.down.taken) (session_new y e) ∙ did.taken.down.taken ∙ sym last_new ∙ ap (last after_state) (sym e)
+        | inl e ↦ ap (λ (z : Session). z.down.taken) (session_new y e) ∙ did.taken.down.taken ∙ sym last_new ∙ ap (last_index after_state) (sym e)
         | inr ne ↦ ap (λ (z : Session). z.down.taken) (session_kept y y_node ne) ∙ stands.price_taken y y_node ∙ sym (last_kept y ne)
       ];
       prices = λ y y_node q waits. elim (cases_eq y x) [
         | inl e ↦
             let was = did.taken.down.rest q (sym (ap (λ (z : Session). z.down.waiting) (session_new y e)) ∙ waits) in
             let at = stands.prices y y_node q (ap (λ (z : ℕ). (uplink_of plan c z).down.waiting) e ∙ was.0) in
-            record { above = omega (arith, was.1, last_new, ap (last after_state) e); due = due_more y q.index at.due; step = at.step; number = at.number }
+            record { above = omega (arith, was.1, last_new, ap (last_index after_state) e); due = due_more y q.index at.due; step = at.step; number = at.number }
         | inr ne ↦
             let at = stands.prices y y_node q (sym (ap (λ (z : Session). z.down.waiting) (session_kept y y_node ne)) ∙ waits) in
             record { above = omega (arith, at.above, last_kept y ne); due = due_more y q.index at.due; step = at.step; number = at.number }
       ];
       window_last = stands.window_last;
       window_answered = λ y conc.
-          stands.window_answered y conc ∙ ap (λ (k : ℕ). number (plan_lists plan) s y (cleared s k)) (sym (last_kept y (not_conc y conc)));
+          stands.window_answered y conc ∙ ap (λ (k : ℕ). number (plan_lists plan) s y (cleared_cut s k)) (sym (last_kept y (not_conc y conc)));
       records = stands.records;
       sums = stands.sums;
       newest_heads = stands.newest_heads;
@@ -157,21 +157,21 @@ module _ (plan : PlanData) (is_plan : IsPlan plan) (c : Core) (s : State) (stand
       changed = stands.changed;
       joined = λ d d_leaf. joined_kept d ∙ stands.joined d d_leaf;
       given_none = λ d d_leaf none. elim (cases_eq d x) [
-        | inl e ↦ absurd (omega (arith, none, ap (last after_state) e, last_new, (due_within (plan_lists plan) s stands.sound x j agrees.due).0))
+        | inl e ↦ absurd (omega (arith, none, ap (last_index after_state) e, last_new, (due_within (plan_lists plan) s stands.sound x j agrees.due).0))
         | inr ne ↦ ap (λ (q : Seat). q.given) (did.others d ne) ∙ stands.given_none d d_leaf (sym (last_kept d ne) ∙ none)
       ];
       given = λ d d_leaf positive. elim (cases_eq d x) [
         | inl e ↦
             ap (λ (i : ℕ). (seat_at ports i).given) e ∙ the_given
-            ∙ ap (λ (k : ℕ). Some (record { step = local_at plan (cleared s k) x; number = cleared s k x; index = k })) (sym last_new)
+            ∙ ap (λ (k : ℕ). Some (record { step = local_step_at plan (cleared_cut s k) x; number = cleared_cut s k x; index = k })) (sym last_new)
             ∙ ap (λ (i : ℕ). Some (record {
-              step = local_at plan (cleared s (last after_state i)) i;
-              number = cleared s (last after_state i) i;
-              index = last after_state i;
+              step = local_step_at plan (cleared_cut s (last_index after_state i)) i;
+              number = cleared_cut s (last_index after_state i) i;
+              index = last_index after_state i;
             })) (sym e)
         | inr ne ↦
             ap (λ (q : Seat). q.given) (did.others d ne) ∙ stands.given d d_leaf (omega (arith, positive, last_kept d ne))
-            ∙ ap (λ (k : ℕ). Some (record { step = local_at plan (cleared s k) d; number = cleared s k d; index = k })) (sym (last_kept d ne))
+            ∙ ap (λ (k : ℕ). Some (record { step = local_step_at plan (cleared_cut s k) d; number = cleared_cut s k d; index = k })) (sym (last_kept d ne))
       ];
     };
   }

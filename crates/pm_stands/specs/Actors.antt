@@ -9,7 +9,7 @@ use Rattle.pm_market.specs.declared.moves.Move.TheVariants.{Learn, Publish, Clea
 use Rattle.pm_market.specs.declared.journal.Line.{Line}
 use Rattle.pm_plan.specs.Plans.{PlanData}
 use Rattle.pm_plan.specs.Market.{plan_lists}
-use Rattle.pm_offer.specs.Offers.{local_at}
+use Rattle.pm_offer.specs.Offers.{local_step_at}
 use Rattle.pm_stands.specs.Core.{Core}
 use Rattle.pm_stands.specs.Stands.{MakesMove}
 
@@ -29,4 +29,4 @@ NoMoveOf lists s x = (m : Move) → IsMoveOf lists x m → Legal lists s m → �
 -- the line is that of a move which was legal in s, and the cluster stands for the state after it
 pub record IsMadeLine (plan : PlanData) (new : Core) (s : State) (line' : Line) : Type 0 where
   pub makes : MakesMove plan new s line'.what
-  pub line : line' ≡ line_of (plan_lists plan) (local_at plan) s line'.what
+  pub line : line' ≡ line_of (plan_lists plan) (local_step_at plan) s line'.what

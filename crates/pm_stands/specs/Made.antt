@@ -5,11 +5,11 @@ use Rattle.pm_session.specs.Ports.{Seat}
 use Rattle.pm_session.specs.Windows.{Keeps, record_of}
 use Rattle.pm_session.specs.Prices.{IsNewIndex, PricesOffered}
 use Rattle.pm_session.specs.declared.price.PriceUpdate.{PriceUpdate}
-use Rattle.pm_concentrator.specs.Limited.{passed_step}
+use Rattle.pm_concentrator.specs.Limited.{local_step_of_record}
 use Rattle.pm_concentrator.specs.Concentrators.{Gathered, Published, Passed}
 use Rattle.pm_auctioneer.specs.Auctions.{Auction, ClearedAt}
 use Rattle.pm_market.specs.Lists.{is_member, IsLeaf}
-use Rattle.pm_market.specs.State.{updated}
+use Rattle.pm_market.specs.State.{update}
 use Rattle.pm_plan.specs.Plans.{PlanData, end_cut}
 use Rattle.pm_plan.specs.Auction.{power}
 use Rattle.pm_plan.specs.States.{state}
@@ -50,7 +50,7 @@ pub record DidPass (c : Core) (x : ℕ) (between links : List (List Session)) (c
   pub passed : Passed (concentrator_of c x) (gathered_at concentrators x) price.number
   pub alone : OneConcentrator c.concentrators concentrators x
   pub offered : PricesOffered (record_of (concentrator_of c x).window price.number).heads
-      (passed_step (concentrator_of c x).limits price.step (record_of (concentrator_of c x).window price.number).sum) price.index
+      (local_step_of_record (concentrator_of c x).limits price.step (record_of (concentrator_of c x).window price.number).sum) price.index
       (row_at between x) (row_at links x)
   pub row : OneRow between links x
 
@@ -96,10 +96,10 @@ pub record DidChange (plan : PlanData) (c : Core) (x n : ℕ) (links : List (Lis
   pub made : BidOffered (link_at c.links y k) (link_at links y k) (record { number = n; gone = is_gone (plan_lists plan) x n; demand = device_demand plan x n })
   pub one : OneLink c.links links y k
   pub same_counts : length counts ≡ length c.counts
-  pub counted : (d : ℕ) → IsLeaf (plan_lists plan) d → slice_index_or counts d 0 ≡ updated (λ (e : ℕ). slice_index_or c.counts e 0) x n d
+  pub counted : (d : ℕ) → IsLeaf (plan_lists plan) d → slice_index_or counts d 0 ≡ update (λ (e : ℕ). slice_index_or c.counts e 0) x n d
   pub same_states : length states ≡ length c.states
   pub moved : (d : ℕ) → IsLeaf (plan_lists plan) d →
-      slice_index_or states d (pos 0) ≡ updated (λ (e : ℕ). slice_index_or c.states e (pos 0)) x (state plan x n) d
+      slice_index_or states d (pos 0) ≡ update (λ (e : ℕ). slice_index_or c.states e (pos 0)) x (state plan x n) d
   pub same_ports : length ports ≡ length c.ports
   pub seated : seat_at ports x ≡ seat_after (seat_at c.ports x) (is_member (plan_lists plan) x (slice_index_or c.counts x 0))
       (is_member (plan_lists plan) x n) n

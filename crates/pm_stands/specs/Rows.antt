@@ -2,8 +2,8 @@
 use Rattle.std.specs.Prelude.{◌≡◌, ℕ, ◌==◌, ◌⊎◌, ℤ, true, if◌then◌else◌, List, length, slice_index_or, Option, Some, None}
 use Rattle.pm_base.specs.Limits.{window_size}
 use Rattle.pm_session.specs.Links.{Session}
-use Rattle.pm_session.specs.Windows.{unanswered}
-use Rattle.pm_cache.specs.Learning.{entered}
+use Rattle.pm_session.specs.Windows.{unanswered_count}
+use Rattle.pm_cache.specs.Learning.{with_newer_bid}
 use Rattle.pm_concentrator.specs.Concentrators.{Gathered, published_heads}
 use Rattle.pm_auctioneer.specs.Auctions.{Auction}
 use Rattle.pm_stands.specs.Core.{row_at, link_at, gathered_at, cache_in}
@@ -33,7 +33,7 @@ pub record SameButCache (old new : Gathered) : Type 0 where
 
 -- y learnt bid n of its child in place k, and nobody else learnt anything
 pub record EntryLearnt (old_a new_a : Auction) (old_c new_c : List (Option Gathered)) (y k n : ℕ) (demand : Option (List ℤ)) : Type 0 where
-  pub entry : cache_in new_a new_c y ≡ entered (cache_in old_a old_c y) k n demand
+  pub entry : cache_in new_a new_c y ≡ with_newer_bid (cache_in old_a old_c y) k n demand
   pub others : (i : ℕ) → (i ≡ y → ⊥) → cache_in new_a new_c i ≡ cache_in old_a old_c i
   pub kept : (i : ℕ) → SameButCache (gathered_at old_c i) (gathered_at new_c i)
   pub there : (i : ℕ) → slice_index_or old_c i None ≡ Some (gathered_at old_c i) → slice_index_or new_c i None ≡ Some (gathered_at new_c i)
@@ -44,4 +44,4 @@ pub record EntryLearnt (old_a new_a : Auction) (old_c new_c : List (Option Gathe
 
 -- the concentrator has nothing to publish, or its window is full
 abbrev pub CannotPublish : Gathered → Type 0
-CannotPublish g = (g.cache.heads ≡ published_heads g) ⊎ (unanswered g.window ≡ window_size)
+CannotPublish g = (g.cache.heads ≡ published_heads g) ⊎ (unanswered_count g.window ≡ window_size)

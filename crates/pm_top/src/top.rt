@@ -2,7 +2,7 @@ ghost use Rattle.std.specs.Prelude.{◌≡◌, ◌⊎◌, ◌<◌, ◌≤◌, �
 ghost use Rattle.std.specs.Prelude.{[], true};
 ghost use Rattle.std.specs.Io.KnownBytes.{Appends};
 ghost use Rattle.pm_io.specs.Causes.{Rose};
-ghost use Rattle.pm_io.specs.Taken.{taken};
+ghost use Rattle.pm_io.specs.Taken.{taken_bytes};
 ghost use Rattle.pm_plan.specs.declared.refusal.Refusal.{Refusal};
 ghost use Rattle.pm_report.specs.Refusal.{refusal_line};
 ghost use Rattle.pm_answer.specs.declared.arguments.FileCommand.{FileCommand};
@@ -114,7 +114,7 @@ fn file<R: Threads + Wait + Sync, S: Source, K: Sink, G: Gate>(
     ensures no_memory { result ≡ Status.NoMemory → sink.new ≡ sink.old }
 
     // An input that is read to its end or past the limit has the answer that it should.
-    ensures took_more { input_limit asked < length (taken (S.left source.old) (S.left source.new))
+    ensures took_more { input_limit asked < length (taken_bytes (S.left source.old) (S.left source.new))
         → (result ≡ Status.TooLong) ⊎ (result ≡ Status.WriteFault) ⊎ (result ≡ Status.NoMemory) }
     ensures answer { IfSome (S.left source.old) (λ input. (status : Status) → HasStatus asked input status → (result ≡ status)
         ⊎ (result ≡ Status.ReadFault) ⊎ (result ≡ Status.WriteFault) ⊎ (result ≡ Status.NoMemory)) }
@@ -140,11 +140,11 @@ fn service<S: Source, K: Sink>(alloc: Global, source: &mut S, sink: &mut K) -> S
     ensures read_fault { result ≡ Status.ReadFault → Rose (S.faults source.old) (S.faults source.new) }
     ensures write_fault { result ≡ Status.WriteFault → Rose (K.faults sink.old) (K.faults sink.new) }
     ensures bad_frame { (all : List ℕ) (offset : ℕ) → S.left source.old ≡ Some all
-        → HasBadFrame (taken (S.left source.old) (S.left source.new)) offset
+        → HasBadFrame (taken_bytes (S.left source.old) (S.left source.new)) offset
         → (result ≡ Status.Refused) ⊎ (result ≡ Status.WriteFault) ⊎ (result ≡ Status.NoMemory) }
     ensures took_more { (all : List ℕ) → S.left source.old ≡ Some all
-        → stream_limit < length (taken (S.left source.old) (S.left source.new))
-        → ((offset : ℕ) → ¬ HasBadFrame (taken (S.left source.old) (S.left source.new)) offset)
+        → stream_limit < length (taken_bytes (S.left source.old) (S.left source.new))
+        → ((offset : ℕ) → ¬ HasBadFrame (taken_bytes (S.left source.old) (S.left source.new)) offset)
         → (result ≡ Status.TooLong) ⊎ (result ≡ Status.WriteFault) ⊎ (result ≡ Status.NoMemory) }
     ensures frames { (all : List ℕ) (frames : List Frame) → S.left source.old ≡ Some all → length all ≤ stream_limit
         → AreFrames all frames → (result ≡ Status.Done)
@@ -229,7 +229,7 @@ pub fn market<R: Threads + Wait + Sync, S: Source, K: Sink, G: Gate>(
     ensures only_usage { command (map string_bytes arguments.now) ≡ None
         → (result ≡ Status.Usage) ⊎ (result ≡ Status.WriteFault) }
     ensures took_more { (asked : FileCommand) → command (map string_bytes arguments.now) ≡ Some (Command.File asked)
-        → input_limit asked < length (taken (S.left source.old) (S.left source.new))
+        → input_limit asked < length (taken_bytes (S.left source.old) (S.left source.new))
         → (result ≡ Status.TooLong) ⊎ (result ≡ Status.WriteFault) ⊎ (result ≡ Status.NoMemory) }
     ensures answer { (asked : FileCommand) → command (map string_bytes arguments.now) ≡ Some (Command.File asked)
         → IfSome (S.left source.old) (λ input. (status : Status) → HasStatus asked input status → (result ≡ status)
@@ -266,12 +266,12 @@ pub fn market<R: Threads + Wait + Sync, S: Source, K: Sink, G: Gate>(
         → IsServiceEnd result (S.left source.old) (S.left source.new) (K.held sink.old) (K.held sink.new) }
     ensures serve_bad_frame { command (map string_bytes arguments.now) ≡ Some Command.Serve
         → (all : List ℕ) (offset : ℕ) → S.left source.old ≡ Some all
-        → HasBadFrame (taken (S.left source.old) (S.left source.new)) offset
+        → HasBadFrame (taken_bytes (S.left source.old) (S.left source.new)) offset
         → (result ≡ Status.Refused) ⊎ (result ≡ Status.WriteFault) ⊎ (result ≡ Status.NoMemory) }
     ensures serve_took_more { command (map string_bytes arguments.now) ≡ Some Command.Serve
         → (all : List ℕ) → S.left source.old ≡ Some all
-        → stream_limit < length (taken (S.left source.old) (S.left source.new))
-        → ((offset : ℕ) → ¬ HasBadFrame (taken (S.left source.old) (S.left source.new)) offset)
+        → stream_limit < length (taken_bytes (S.left source.old) (S.left source.new))
+        → ((offset : ℕ) → ¬ HasBadFrame (taken_bytes (S.left source.old) (S.left source.new)) offset)
         → (result ≡ Status.TooLong) ⊎ (result ≡ Status.WriteFault) ⊎ (result ≡ Status.NoMemory) }
     ensures serve_frames { command (map string_bytes arguments.now) ≡ Some Command.Serve
         → (all : List ℕ) (frames : List Frame) → S.left source.old ≡ Some all → length all ≤ stream_limit

@@ -12,8 +12,8 @@ use Rattle.pm_device.specs.declared.kind.Kind.{Kind}
 use Rattle.pm_plan.specs.declared.planned.Change.{Change}
 use Rattle.pm_plan.specs.declared.planned.Planned.{Planned}
 use Rattle.pm_plan.specs.Devices.{is_member_after, member_after}
-use Rattle.pm_plan.specs.Plans.{PlanData, node, kind_of, changes_of, is_leaf, is_up_to, is_member, change_count, all_changes, NodeData, node_at, planned}
-use Rattle.pm_plan.specs.Plans.{planned_at, end_cut}
+use Rattle.pm_plan.specs.Plans.{PlanData, node, kind_of, changes_of, is_leaf, is_up_to, is_member, change_count, all_changes, NodeData, node_at, planned_change}
+use Rattle.pm_plan.specs.Plans.{planned_change_at, end_cut}
 use Rattle.pm_plan.specs.Kept.{IsPlan, no_change, change_at, change_fits, InPhases}
 use Rattle.pm_plan.specs.Auction.{power}
 use Rattle.pm_plan.specs.States.{state, changed_state}
@@ -22,7 +22,7 @@ use Rattle.pm_walk.specs.Standing.{HasCome}
 use Rattle.pm_plan.proofs.Ends.{end-within}
 use Rattle.pm_plan.proofs.DeviceNodes.{HasKind, kind_of-tells}
 use Rattle.pm_plan.proofs.StateLaws.{phase_up_to, state-next}
-use Rattle.pm_plan.proofs.PlannedChanges.{planned-is}
+use Rattle.pm_plan.proofs.PlannedChanges.{planned_change-is}
 use Rattle.pm_plan.proofs.Fits.{change-fits, state-fits, power-within}
 
 -- a change behind the end of the phases up to p is of a later phase
@@ -97,7 +97,7 @@ reached-fits plan d here kind is leaf reached kind_is =
 -- what is known of the next change of a device
 pub record IsNext (plan : PlanData) (d n : ℕ) (found : Option Planned) (what : Planned) : Type 0 where
   -- what was found is change number n + 1 of the device
-  pub found_is : found ≡ planned plan d (n + 1)
+  pub found_is : found ≡ planned_change plan d (n + 1)
   -- what was found is this change
   pub what_is : found ≡ Some what
 
@@ -107,7 +107,7 @@ some_is x y h = cc h
 -- the next change that was found is that at place n of the device, counted from 0
 pub next-is : (plan : PlanData) (d n : ℕ) (found : Option Planned) (what : Planned) → n < change_count plan d →
     IsNext plan d n found what → what ≡ (change_at plan d n).what
-next-is plan d n found what inside next = some_is what (change_at plan d n).what (sym next.what_is ∙ next.found_is ∙ planned-is plan d n inside)
+next-is plan d n found what inside next = some_is what (change_at plan d n).what (sym next.what_is ∙ next.found_is ∙ planned_change-is plan d n inside)
 
 -- the next change that was found fits the kind of the device
 pub next-fits : (plan : PlanData) (d n : ℕ) (found : Option Planned) (what : Planned) (kind : Kind) → IsPlan plan → n < change_count plan d →

@@ -7,7 +7,7 @@ use Rattle.std.specs.Prelude.{◌==◌}
 use Rattle.std.specs.List.{range_with_len}
 use Rattle.std.proofs.lemmas.Bool.{cases_eq, cases_lt}
 use Rattle.std.proofs.lemmas.List.{get_or-set_same, get_or-set_other, get_or_default, get_or-replicate, length-replicate}
-use Rattle.pm_bid.specs.Bids.{added, taken_off, zeros, sum_of, AllWithinLimit}
+use Rattle.pm_bid.specs.Bids.{pairwise_sum, pairwise_difference, zeros, sum_of, AllWithinLimit}
 use Rattle.pm_base.specs.Limits.{sum_limit}
 use Rattle.pm_bid.proofs.Sums.{sum_of-replicate_zeros, length-zeros}
 use Rattle.pm_plan.specs.Plans.{PlanData, node, start_of, is_leaf, is_member, group, change_count, end_cut}
@@ -220,7 +220,7 @@ abbrev pub put : PlanData → StandingValue → ℕ → Progress → List ℤ �
 put plan old d here bid = record {
   progress = set old.progress d here;
   demands = set old.demands d bid;
-  sums = set old.sums (group plan d) (added (taken_off (get_or old.sums (group plan d) []) (get_or old.demands d [])) bid);
+  sums = set old.sums (group plan d) (pairwise_sum (pairwise_difference (get_or old.sums (group plan d) []) (get_or old.demands d [])) bid);
 }
 
 -- with a node's progress set to one that it has come to, all nodes have come as far as the list says
@@ -260,7 +260,7 @@ stands-put plan old d here bid is leaf stands reached bid_is steps =
     ∙ sym (bid_is ∙ demand_after-is plan d here leaf reached) in
     let own = get_or-set_same old.demands d bid [] (omega (arith, stands.demand_each)) in
     let inside = group_inside plan d is high in
-    let sum = added (taken_off (get_or old.sums (group plan d) []) (get_or old.demands d [])) bid in
+    let sum = pairwise_sum (pairwise_difference (get_or old.sums (group plan d) []) (get_or old.demands d [])) bid in
     record {
       sound = is;
       progress = reached-set plan old.progress d here high stands.progress reached;
@@ -273,9 +273,9 @@ stands-put plan old d here bid is leaf stands reached bid_is steps =
       sums = λ g within. elim (cases_eq g (group plan d)) [
         | inl same ↦ subst (λ (k : ℕ). get_or (set old.sums (group plan d) sum) k [] ≡ sum_in plan (state plan) b k) (sym same)
             (get_or-set_same old.sums (group plan d) sum [] (omega (arith, stands.sum_each, inside))
-            ∙ ap (λ l. added (taken_off l (get_or old.demands d [])) bid) (stands.sums (group plan d) inside)
-            ∙ ap (λ l. added (taken_off (sum_in plan (state plan) a (group plan d)) l) bid) (stands.demands d high)
-            ∙ ap (λ l. added (taken_off (sum_in plan (state plan) a (group plan d)) (demand_in_cut plan (state plan) a d)) l) (sym demand_is)
+            ∙ ap (λ l. pairwise_sum (pairwise_difference l (get_or old.demands d [])) bid) (stands.sums (group plan d) inside)
+            ∙ ap (λ l. pairwise_sum (pairwise_difference (sum_in plan (state plan) a (group plan d)) l) bid) (stands.demands d high)
+            ∙ ap (λ l. pairwise_sum (pairwise_difference (sum_in plan (state plan) a (group plan d)) (demand_in_cut plan (state plan) a d)) l) (sym demand_is)
             ∙ sum_exchanged plan (state plan) a b d low high (standing_fits plan old stands) (ap (λ l. length l) demand_is ∙ steps) other)
         | inr h ↦ get_or-set_other old.sums (group plan d) g sum [] h ∙ stands.sums g within
             ∙ sym (sum_kept plan (state plan) a b g d (λ e. h (sym e)) other)
@@ -310,23 +310,23 @@ module _ {plan : PlanData} {old : StandingValue} {d g : ℕ} {here : Progress} {
 
   -- the sum of the device's group after the exchange
   abbrev exchanged : List ℤ
-  exchanged = added (taken_off (get_or old.sums (group plan d) []) (get_or old.demands d [])) bid
+  exchanged = pairwise_sum (pairwise_difference (get_or old.sums (group plan d) []) (get_or old.demands d [])) bid
 
   -- it is made of the sum and the demand that are read
-  exchanged-is : added (taken_off sum demand) bid ≡ exchanged
+  exchanged-is : pairwise_sum (pairwise_difference sum demand) bid ≡ exchanged
   exchanged-is =
       let sum_is : sum ≡ get_or old.sums (group plan d) [] =
       exchange.sum_is ∙ get_or_default old.sums g sum [] (omega (arith, exchange.stands.sum_each, exchange.group_is, inside))
       ∙ ap (λ h. get_or old.sums h []) exchange.group_is in
       let demand_is : demand ≡ get_or old.demands d [] = exchange.demand_is ∙ get_or_default old.demands d demand []
       (omega (arith, exchange.stands.demand_each, last_of plan d exchange.stands.sound exchange.leaf)) in
-      λ i. added (taken_off (sum_is i) (demand_is i)) bid
+      λ i. pairwise_sum (pairwise_difference (sum_is i) (demand_is i)) bid
 
   put_stands : IsStanding plan (put plan old d here bid)
   put_stands = stands-put plan old d here bid exchange.stands.sound exchange.leaf exchange.stands exchange.reached exchange.bid_is exchange.steps
 
   -- the sum that is read, with the old demand taken off and the new one added, is within the limit of a sum
-  pub read_within : AllWithinLimit sum_limit (added (taken_off sum demand) bid)
+  pub read_within : AllWithinLimit sum_limit (pairwise_sum (pairwise_difference sum demand) bid)
   read_within =
       let next = put plan old d here bid in
       let new_is : exchanged ≡ sum_in plan (state plan) (cut_made next.progress) (group plan d) =
@@ -335,7 +335,7 @@ module _ {plan : PlanData} {old : StandingValue} {d g : ℕ} {here : Progress} {
       (sum_within plan (state plan) (cut_made next.progress) (group plan d) exchange.stands.sound.nodes.few (standing_fits plan next put_stands))
 
   -- what is kept is that of the plan again with the progress, the demand and the sum made from what was read
-  pub read_stands : (new : List ℤ) → new ≡ added (taken_off sum demand) bid → (copy : List ℤ) → copy ≡ bid →
+  pub read_stands : (new : List ℤ) → new ≡ pairwise_sum (pairwise_difference sum demand) bid → (copy : List ℤ) → copy ≡ bid →
       IsStanding plan (record { progress = set old.progress d here; demands = set old.demands d copy; sums = set old.sums g new })
   read_stands new new_is copy copy_is =
       let group_is = exchange.group_is in

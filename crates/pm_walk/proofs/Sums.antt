@@ -7,7 +7,7 @@ use Rattle.std.specs.List.{range_with_len}
 use Rattle.std.proofs.lemmas.Bool.{cases_eq, eq-eqb, ne_eqb, cond-true, cond-false}
 use Rattle.std.proofs.lemmas.Int.{ints}
 use Rattle.std.proofs.lemmas.List.FromFn.{length-map-range_with_len, get_or-map-range_with_len}
-use Rattle.pm_bid.specs.Bids.{demand_at, added, taken_off, zeros, sum_of, HaveSteps, AllWithinLimit}
+use Rattle.pm_bid.specs.Bids.{demand_at, pairwise_sum, pairwise_difference, zeros, sum_of, HaveSteps, AllWithinLimit}
 use Rattle.pm_base.specs.Limits.{demand_limit, sum_limit, IsWithin, most_nodes}
 use Rattle.pm_bid.proofs.Sums.{sum_of-set, length-sum_of, length-zeros, sum_of-at, zeros-at}
 use Rattle.pm_bid.proofs.SumLaws.{Bounded, total_within}
@@ -129,7 +129,7 @@ sum_within plan s cut g few fit step inside =
 -- the sum of the group of a device, after the device has made its changes
 pub sum_exchanged : (plan : PlanData) (s : States) (a b : Cut) (d : ℕ) → 1 ≤ d → d ≤ length plan.nodes → Fit plan s a →
     length (demand_in_cut plan s b d) ≡ plan.basis.steps → ((e : ℕ) → e ≢ d → b e ≡ a e) →
-    added (taken_off (sum_in plan s a (group plan d)) (demand_in_cut plan s a d)) (demand_in_cut plan s b d) ≡ sum_in plan s b (group plan d)
+    pairwise_sum (pairwise_difference (sum_in plan s a (group plan d)) (demand_in_cut plan s a d)) (demand_in_cut plan s b d) ≡ sum_in plan s b (group plan d)
 unfolding sum_in
 sum_exchanged plan s a b zero low high fit same other = absurd (omega arith)
 sum_exchanged plan s a b (suc d) low high fit same other =
@@ -139,7 +139,7 @@ sum_exchanged plan s a b (suc d) low high fit same other =
     let old : get_or bids d [] ≡ demand_in_cut plan s a (suc d) =
     get_or-map-range_with_len (part_in plan s a g) 1 n d (suc d) [] (omega arith) (omega arith) ∙ part_own plan s a (suc d) in
     let inside : d < length bids = omega (arith, length-map-range_with_len (part_in plan s a g) 1 n) in
-    ap (λ bid. added (taken_off (sum_of plan.basis.steps bids) bid) (demand_in_cut plan s b (suc d))) (sym old)
+    ap (λ bid. pairwise_sum (pairwise_difference (sum_of plan.basis.steps bids) bid) (demand_in_cut plan s b (suc d))) (sym old)
     ∙ sum_of-set plan.basis.steps bids d (demand_in_cut plan s b (suc d)) inside (parts_fit plan s a g fit) same
     ∙ ap (λ bid. sum_of plan.basis.steps (set bids d bid)) (sym (part_own plan s b (suc d))
     ∙ (let e : suc d ≡ 1 + d = omega arith in ap (part_in plan s b g) e))

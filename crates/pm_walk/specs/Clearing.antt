@@ -1,7 +1,7 @@
 -- The plain auction of a cut, as far as it is kept.
 use Rattle.std.specs.Prelude.{◌≡◌, ℕ, ◌+◌, ◌<◌, ◌≤◌, ℤ, pos, List, length, slice_index_or}
 use Rattle.pm_plan.specs.Plans.{PlanData}
-use Rattle.pm_plan.specs.Auction.{total, plain, group_step, power}
+use Rattle.pm_plan.specs.Auction.{total, plain_step, local_step_of_group, power}
 use Rattle.pm_base.specs.Cuts.{Cut}
 use Rattle.pm_base.specs.Limits.{most_steps}
 use Rattle.pm_plan.specs.States.{state}
@@ -11,7 +11,7 @@ use Rattle.pm_walk.specs.declared.clearing.Clearing.{Clearing}
 pub record AreGroupSteps (plan : PlanData) (cut : Cut) (steps : List ℕ) : Type 0 where
   pub one_each : length steps ≡ length plan.nodes + 1
   pub inside : (g : ℕ) → g ≤ length plan.nodes → slice_index_or steps g 0 < plan.basis.steps
-  pub same : (g : ℕ) → g ≤ length plan.nodes → slice_index_or steps g 0 ≡ group_step plan (state plan) cut (plain plan (state plan) cut) g
+  pub same : (g : ℕ) → g ≤ length plan.nodes → slice_index_or steps g 0 ≡ local_step_of_group plan (state plan) cut (plain_step plan (state plan) cut) g
 
 -- the power of each node; a node that is no member has none
 pub record ArePowers (plan : PlanData) (cut : Cut) (powers : List ℤ) : Type 0 where
@@ -28,7 +28,7 @@ pub record HasRoom (plan : PlanData) (clearing : Clearing) : Type 0 where
 pub record IsClearing (plan : PlanData) (cut : Cut) (clearing : Clearing) : Type 0 where
   pub total : clearing.total ≡ total plan (state plan) cut
   pub long : length clearing.total ≡ plan.basis.steps
-  pub step : clearing.step ≡ plain plan (state plan) cut
+  pub step : clearing.step ≡ plain_step plan (state plan) cut
   pub inside : clearing.step < plan.basis.steps
   pub small : clearing.step < most_steps
   pub group_steps : AreGroupSteps plan cut clearing.group_steps.items

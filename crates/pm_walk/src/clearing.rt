@@ -1,5 +1,5 @@
 ghost use Rattle.std.specs.Prelude.{◌≡◌, ◌+◌, ◌<◌, length, IfOk, replicate, pos};
-ghost use Rattle.pm_plan.specs.Auction.{plain};
+ghost use Rattle.pm_plan.specs.Auction.{plain_step};
 ghost use Rattle.pm_plan.specs.States.{state};
 ghost use Rattle.pm_walk.specs.Standing.{IsStanding, cut_made};
 ghost use Rattle.pm_walk.specs.Clearing.{HasRoom, IsClearing, AreGroupSteps, ArePowers};
@@ -81,7 +81,7 @@ fn no_powers(alloc: Global, many: usize) -> Result<Vec<i64>, AllocError>
 /// Finds the step of each group, where `step` is the step of the whole.
 fn fill_group_steps(plan: &Plan, standing: &Standing, step: usize, group_steps: &mut [u32])
     requires stands { IsStanding plan.now standing.now }
-    requires step { step ≡ plain plan.now (state plan.now) (cut_made standing.now.progress) }
+    requires step { step ≡ plain_step plan.now (state plan.now) (cut_made standing.now.progress) }
     requires inside { step < plan.now.basis.steps }
     requires one_each { length group_steps.old ≡ length plan.now.nodes + 1 }
     ensures { AreGroupSteps plan.now (cut_made standing.now.progress) group_steps.new }

@@ -1,6 +1,6 @@
 ghost use Rattle.std.specs.Prelude.{◌≡◌, ◌-◌, ◌<◌, ◌≤◌, length, Some};
 ghost use Rattle.pm_plan.specs.Plans.{node, limits_of};
-ghost use Rattle.pm_plan.specs.Auction.{announced, total, group_step, power};
+ghost use Rattle.pm_plan.specs.Auction.{announcement, total, local_step_of_group, power};
 ghost use Rattle.pm_plan.specs.States.{state};
 ghost use Rattle.pm_walk.specs.Standing.{IsStanding, cut_made};
 ghost use Rattle.pm_walk.specs.Clearing.{AreGroupSteps};
@@ -62,7 +62,7 @@ fn announce(plan: &Plan, standing: &Standing, at: NodeId, limits: Limits, out: &
     requires inside { at.0 ≤ length plan.now.nodes }
     requires limits { limits_of (node plan.now at.0) ≡ Some limits }
     requires out { length out.old ≡ plan.now.basis.steps }
-    ensures announced { out.new ≡ announced plan.now (state plan.now) (cut_made standing.now.progress) at.0 }
+    ensures announced { out.new ≡ announcement plan.now (state plan.now) (cut_made standing.now.progress) at.0 }
     ensures steps { length out.new ≡ plan.now.basis.steps }
 {
     standing.sum(plan, at).clamp_into(
@@ -78,7 +78,7 @@ pub(crate) fn group_step(plan: &Plan, standing: &Standing, step: usize, group: N
     requires stands { IsStanding plan.now standing.now }
     requires group { group.0 ≤ length plan.now.nodes }
     requires step { step < plan.now.basis.steps }
-    ensures step { result ≡ group_step plan.now (state plan.now) (cut_made standing.now.progress) step group.0 }
+    ensures step { result ≡ local_step_of_group plan.now (state plan.now) (cut_made standing.now.progress) step group.0 }
     ensures inside { result < plan.now.basis.steps }
 {
     match limits_of(plan, group) {

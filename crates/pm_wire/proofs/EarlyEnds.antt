@@ -3,7 +3,7 @@ use Rattle.std.proofs.Common.{◌≡◌, ◌≢◌, ◌∙◌, sym, ap, subst, r
 use Rattle.std.proofs.Common.{drop, Option, None, Some, arith, append_assoc, length-append, length-drop, take-append-drop, inl, inr}
 use Rattle.std.specs.Io.KnownBytes.{Appends, Consumes}
 use Rattle.std.proofs.lemmas.List.{append-nil}
-use Rattle.pm_io.proofs.TakenLemmas.{taken-Consumes}
+use Rattle.pm_io.proofs.TakenLemmas.{taken_bytes-Consumes}
 use Rattle.pm_wire.specs.declared.frame.Frame.{Frame}
 use Rattle.pm_wire.specs.declared.answer.Answer.TheVariants.{Fault}
 use Rattle.pm_wire.specs.Frames.{stream_bytes, place_behind, BeginsWith, HasBadFrame, Stops}
@@ -154,7 +154,7 @@ write_fault all held new other holds kept d ends =
 pub one_answered : (all held input taken : List ℕ) (new holds kept : Option (List ℕ)) → IsAnswered (Some all) new (Some held) holds input →
     IsAnswered (Some all) new (Some held) kept taken → holds ≡ kept
 one_answered all held input taken new holds kept a b =
-    let same : input ≡ taken = sym (taken-Consumes all new input a.consumes) ∙ taken-Consumes all new taken b.consumes in
+    let same : input ≡ taken = sym (taken_bytes-Consumes all new input a.consumes) ∙ taken_bytes-Consumes all new taken b.consumes in
     let P : List ℕ → Type 0 = λ l. BeginsWith l b.frames b.has.rest in
     let frames = same_reading input a.frames b.frames a.has.rest b.has.rest a.has.begins (inl a.has.unfinished) (subst P (sym same) b.has.begins)
     (inl b.has.unfinished) in
@@ -164,8 +164,8 @@ one_answered all held input taken new holds kept a b =
 pub within_or_past : (all held : List ℕ) (new holds kept : Option (List ℕ)) → FailsReading (Some all) new (Some held) holds →
     IsLongStream (Some all) new (Some held) kept → ⊥
 within_or_past all held new holds kept a b =
-    let taken_a = ap length (taken-Consumes all new a.0 a.1.consumes) in
-    let taken_b = ap length (taken-Consumes all new b.input b.answered.consumes) in
+    let taken_a = ap length (taken_bytes-Consumes all new a.0 a.1.consumes) in
+    let taken_b = ap length (taken_bytes-Consumes all new b.input b.answered.consumes) in
     omega (arith, a.2, b.long, taken_a, taken_b)
 
 -- an input past the limit ends whole only with a bad frame

@@ -4,8 +4,8 @@ use Rattle.std.proofs.Common.{length, Option, None, Some, arith}
 use Rattle.std.proofs.Common.{length-append, inl, inr, ◌⊎◌}
 use Rattle.std.specs.Io.KnownBytes.{Appends, Consumes, IsAtEnd}
 use Rattle.std.proofs.lemmas.List.{append-nil}
-use Rattle.pm_io.specs.Taken.{taken}
-use Rattle.pm_io.proofs.TakenLemmas.{taken-Consumes}
+use Rattle.pm_io.specs.Taken.{taken_bytes}
+use Rattle.pm_io.proofs.TakenLemmas.{taken_bytes-Consumes}
 use Rattle.pm_wire.specs.declared.frame.Frame.{Frame}
 use Rattle.pm_wire.specs.declared.stream.Served.{Served}
 use Rattle.pm_wire.specs.declared.stream.Served.TheVariants.{Done, Refused, TooLong, ReadFault, WriteFault, NoMemory}
@@ -82,26 +82,26 @@ move_frames a b frames e are = let P : List ℕ → Type 0 = λ l. AreFrames l f
 
 -- where the bytes taken have a bad frame, the service ends with Refused, WriteFault or NoMemory
 pub bad_frame : (all : List ℕ) (new held holds : Option (List ℕ)) (r k : Type 0) (result : Served) (n : ℕ) →
-    Outcomes (Some all) new held holds r k result → HasBadFrame (taken (Some all) new) n →
+    Outcomes (Some all) new held holds r k result → HasBadFrame (taken_bytes (Some all) new) n →
     (result ≡ Refused) ⊎ (result ≡ WriteFault) ⊎ (result ≡ NoMemory)
 bad_frame all new held holds r k Done n out bad =
     let d = out.done refl in
-    absurd (frames_not_bad d.input d.frames n d.are_frames (move_bad _ _ n (taken-Consumes all new d.input d.consumes) bad))
+    absurd (frames_not_bad d.input d.frames n d.are_frames (move_bad _ _ n (taken_bytes-Consumes all new d.input d.consumes) bad))
 bad_frame all new held holds r k Refused n out bad = inl refl
 bad_frame all new held holds r k TooLong n out bad =
     let d = out.too_long refl in
-    absurd (unfinished_not_bad d.input d.answered.frames n d.answered.has (move_bad _ _ n (taken-Consumes all new d.input d.answered.consumes) bad))
+    absurd (unfinished_not_bad d.input d.answered.frames n d.answered.has (move_bad _ _ n (taken_bytes-Consumes all new d.input d.answered.consumes) bad))
 bad_frame all new held holds r k ReadFault n out bad =
     let d = (out.read_fault refl).1 in
-    absurd (unfinished_not_bad d.0 d.1.frames n d.1.has (move_bad _ _ n (taken-Consumes all new d.0 d.1.consumes) bad))
+    absurd (unfinished_not_bad d.0 d.1.frames n d.1.has (move_bad _ _ n (taken_bytes-Consumes all new d.0 d.1.consumes) bad))
 bad_frame all new held holds r k WriteFault n out bad = inr (inl refl)
 bad_frame all new held holds r k NoMemory n out bad = inr (inr refl)
 
 refused_long : (all : List ℕ) (new held holds : Option (List ℕ)) → IsRefused (Some all) new held holds →
-    stream_limit < length (taken (Some all) new) →
-    ((n : ℕ) → HasBadFrame (taken (Some all) new) n → ⊥) → ⊥
+    stream_limit < length (taken_bytes (Some all) new) →
+    ((n : ℕ) → HasBadFrame (taken_bytes (Some all) new) n → ⊥) → ⊥
 refused_long all new held holds d long none =
-    let same = taken-Consumes all new d.input d.consumes in
+    let same = taken_bytes-Consumes all new d.input d.consumes in
     elim (fault_is new d.input d.frames d.fault) [
       | inl bad ↦ none _ (move_bad _ _ _ (sym same) bad)
       | inr ends ↦ omega (arith, ends.1, ap length same, long)
@@ -109,16 +109,16 @@ refused_long all new held holds d long none =
 
 -- where it took more bytes than the limit and no bad frame, it ends with TooLong, WriteFault or NoMemory
 pub took_more : (all : List ℕ) (new held holds : Option (List ℕ)) (r k : Type 0) (result : Served) → Outcomes (Some all) new held holds r k result →
-    stream_limit < length (taken (Some all) new) →
-    ((n : ℕ) → HasBadFrame (taken (Some all) new) n → ⊥) → (result ≡ TooLong) ⊎ (result ≡ WriteFault) ⊎ (result ≡ NoMemory)
+    stream_limit < length (taken_bytes (Some all) new) →
+    ((n : ℕ) → HasBadFrame (taken_bytes (Some all) new) n → ⊥) → (result ≡ TooLong) ⊎ (result ≡ WriteFault) ⊎ (result ≡ NoMemory)
 took_more all new held holds r k Done out long none =
     let d = out.done refl in
-    absurd (omega (arith, ap length (taken-Consumes all new d.input d.consumes), d.short, long))
+    absurd (omega (arith, ap length (taken_bytes-Consumes all new d.input d.consumes), d.short, long))
 took_more all new held holds r k Refused out long none = absurd (refused_long all new held holds (out.refused refl) long none)
 took_more all new held holds r k TooLong out long none = inl refl
 took_more all new held holds r k ReadFault out long none =
     let d = (out.read_fault refl).1 in
-    absurd (omega (arith, ap length (taken-Consumes all new d.0 d.1.consumes), d.2, long))
+    absurd (omega (arith, ap length (taken_bytes-Consumes all new d.0 d.1.consumes), d.2, long))
 took_more all new held holds r k WriteFault out long none = inr (inl refl)
 took_more all new held holds r k NoMemory out long none = inr (inr refl)
 

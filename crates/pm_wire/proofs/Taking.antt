@@ -6,7 +6,7 @@ use Rattle.std.specs.Prelude.{if◌then◌else◌}
 use Rattle.std.proofs.lemmas.List.{append-nil}
 use Rattle.std.proofs.lemmas.Grind.{flat_map-append}
 use Rattle.pm_cache.specs.Cache.{Cache}
-use Rattle.pm_cache.specs.Learning.{entered}
+use Rattle.pm_cache.specs.Learning.{with_newer_bid}
 use Rattle.pm_wire.specs.declared.frame.Frame.{Frame}
 use Rattle.pm_wire.specs.declared.frame.Frame.TheVariants.{Hello, Bid, Gone, Clear}
 use Rattle.pm_wire.specs.declared.market.Market.{Market}
@@ -100,7 +100,7 @@ takes_more fs frame a b c m n o x out0 out out' takes gives is before now =
 -- ---- the market of a decoder
 
 learnt_steps : (cache : Cache) (child number : ℕ) (demand : Option (List ℤ)) (test : Bool) →
-    (if test then cache else entered cache child number demand).steps ≡ cache.steps
+    (if test then cache else with_newer_bid cache child number demand).steps ≡ cache.steps
 learnt_steps cache child number demand true = refl
 learnt_steps cache child number None false = refl
 learnt_steps cache child number (Some bid) false = refl

@@ -7,7 +7,7 @@ use Rattle.pm_base.specs.Limits.{most_nodes}
 use Rattle.pm_bid.specs.Clearing.{clearing_step}
 use Rattle.pm_bid.specs.declared.head.BidHead.{BidHead}
 use Rattle.pm_cache.specs.Cache.{empty_cache, kept_number, aggregate_of}
-use Rattle.pm_cache.specs.Learning.{learnt}
+use Rattle.pm_cache.specs.Learning.{after_learning}
 use Rattle.pm_wire.specs.declared.answer.Answer.{Answer}
 use Rattle.pm_wire.specs.declared.answer.Answer.TheVariants.{Price, NotChanged, Old, Fault}
 use Rattle.pm_wire.specs.declared.frame.Frame.{Frame}
@@ -46,7 +46,7 @@ number_kept market child = kept_number market.cache (child_entry child)
 -- a Bid or Gone counts where its number is above the child's; a market has changed where one counted since the last clearing
 abbrev pub after_entry : Market → ℕ → ℕ → Option (List ℤ) → Market
 after_entry market child number demand = record {
-  cache = learnt market.cache (child_entry child) number demand;
+  cache = after_learning market.cache (child_entry child) number demand;
   index = market.index;
   changed = market.changed || not (nat_le number (number_kept market child));
 }

@@ -3,7 +3,7 @@ ghost use Rattle.std.specs.Prelude.{Some, None};
 ghost use Rattle.std.specs.Option.{option_copied};
 ghost use Rattle.pm_base.specs.Limits.{AreSteps, demand_limit};
 ghost use Rattle.pm_bid.specs.Bids.{AllWithinLimit};
-ghost use Rattle.pm_cache.specs.Learning.{offered};
+ghost use Rattle.pm_cache.specs.Learning.{demand_of_offer};
 ghost use Rattle.pm_wire.specs.Frames.{MayStand};
 ghost use Rattle.pm_wire.specs.Answers.{open_market, after_entry, after_clear, receipt, price_for, prices, reply_bytes, answers_to, market_after};
 ghost use Rattle.pm_wire.specs.Memory.{reply_limit};
@@ -94,8 +94,8 @@ impl Market {
         requires sound { IsMarket self.old }
         requires first { 1 ≤ child }
         requires last { child ≤ length self.old.cache.heads }
-        requires steps { length (offered self.old.cache (option_copied demand)) ≡ self.old.cache.steps }
-        requires small { AllWithinLimit demand_limit (offered self.old.cache (option_copied demand)) }
+        requires steps { length (demand_of_offer self.old.cache (option_copied demand)) ≡ self.old.cache.steps }
+        requires small { AllWithinLimit demand_limit (demand_of_offer self.old.cache (option_copied demand)) }
         ensures counted { OnOk result (self.new ≡ after_entry self.old child number (option_copied demand.entry)) }
         ensures answered { OnOk result (out.new.items ≡ out.old.items ++ reply_bytes (receipt self.old child number)) }
         ensures unchanged { OnErr result ((self.new ≡ self.old) × (out.new.items ≡ out.old.items)) }

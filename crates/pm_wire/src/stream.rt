@@ -1,7 +1,7 @@
 ghost use Rattle.std.specs.Prelude.{◌≡◌, ◌⊎◌, None, Some, ◌<◌, ◌≤◌, ◌++◌, ℕ, List, [], length, take, OnOk, IfErr};
 ghost use Rattle.std.specs.Io.KnownBytes.{Appends};
 ghost use Rattle.pm_io.specs.Causes.{Rose};
-ghost use Rattle.pm_io.specs.Taken.{taken};
+ghost use Rattle.pm_io.specs.Taken.{taken_bytes};
 ghost use Rattle.pm_wire.specs.declared.frame.Frame.{Frame};
 ghost use Rattle.pm_wire.specs.Decoding.{nothing_fed};
 ghost use Rattle.pm_wire.specs.Frames.{AreFrames, HasBadFrame, EndsWithin};
@@ -141,11 +141,11 @@ pub fn serve<S: Source, K: Sink>(alloc: Global, source: &mut S, sink: &mut K) ->
     // Where the source tells what it has, the bytes taken say how it ends, but for a failed write or allocation: Refused
     // where a bad frame stands in them, and TooLong where they are too many and none does.
     ensures bad_frame { (all : List ℕ) (offset : ℕ) → S.left source.old ≡ Some all
-        → HasBadFrame (taken (S.left source.old) (S.left source.new)) offset
+        → HasBadFrame (taken_bytes (S.left source.old) (S.left source.new)) offset
         → (result ≡ Served.Refused) ⊎ (result ≡ Served.WriteFault) ⊎ (result ≡ Served.NoMemory) }
     ensures took_more { (all : List ℕ) → S.left source.old ≡ Some all
-        → stream_limit < length (taken (S.left source.old) (S.left source.new))
-        → ((offset : ℕ) → ¬ HasBadFrame (taken (S.left source.old) (S.left source.new)) offset)
+        → stream_limit < length (taken_bytes (S.left source.old) (S.left source.new))
+        → ((offset : ℕ) → ¬ HasBadFrame (taken_bytes (S.left source.old) (S.left source.new)) offset)
         → (result ≡ Served.TooLong) ⊎ (result ≡ Served.WriteFault) ⊎ (result ≡ Served.NoMemory) }
 
     // An input within the limit is Done where it is a list of frames, and Refused where it has a bad frame or ends within

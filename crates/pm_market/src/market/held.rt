@@ -5,7 +5,7 @@ use crate::rows::item_at;
 impl Market {
     ghost use Rattle.std.specs.Prelude.{◌≡◌, ◌↔◌, ◌-◌, ◌≤◌, ◌&&◌, not, IsTrue};
     ghost use Rattle.pm_market.specs.Lists.{phases, is_member};
-    ghost use Rattle.pm_market.specs.State.{cleared, last};
+    ghost use Rattle.pm_market.specs.State.{cleared_cut, last_index};
     ghost use Rattle.pm_market.specs.Held.{last_join, holds_price};
     ghost use Rattle.pm_market.specs.Market.{market_lists, market_state};
     ghost use Rattle.pm_base.specs.Cuts.{cut_of};
@@ -19,14 +19,14 @@ impl Market {
 
     /// The index of the clearing passed to a node last, 0 where there was none.
     pub fn last_passed(&self, node: usize) -> usize
-        ensures { result ≡ last (market_state self.now) node }
+        ensures { result ≡ last_index (market_state self.now) node }
     {
         self.last(node)
     }
 
     /// The cut of a clearing, a number for each node from the auctioneer's on. What is missing is 0.
     pub fn cleared(&self, index: usize) -> &[u32]
-        ensures { cut_of result.now ≡ cleared (market_state self.now) index }
+        ensures { cut_of result.now ≡ cleared_cut (market_state self.now) index }
     {
         self.cut_row(0, index)
     }

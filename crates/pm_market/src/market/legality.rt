@@ -7,7 +7,7 @@ use pm_base::WINDOW_SIZE;
 impl Market {
     ghost use Rattle.std.specs.Prelude.{◌≡◌, ◌==◌, ◌+◌, ◌-◌, ◌≤◌, true, if◌then◌else◌, length, not};
     ghost use Rattle.pm_market.specs.Lists.{is_leaf, nodes, end_count};
-    ghost use Rattle.pm_market.specs.State.{all_to, newest, clearings};
+    ghost use Rattle.pm_market.specs.State.{all_to, newest_number_of, clearings};
     ghost use Rattle.pm_market.specs.Legality.{learn_is_legal, publish_is_legal, clear_is_legal, pass_is_legal, change_is_legal, close_is_legal, is_idle};
     ghost use Rattle.pm_market.specs.Legality.{is_idle_at, is_legal, are_made};
     ghost use Rattle.pm_market.specs.Market.{market_lists, market_state};
@@ -25,7 +25,7 @@ impl Market {
     /// Whether a concentrator may publish, under its next number.
     fn may_publish(&self, node: usize) -> bool
         ensures { result ≡ publish_is_legal (market_lists self.now) (market_state self.now) node
-            (newest (market_lists self.now) (market_state self.now) node + 1) }
+            (newest_number_of (market_lists self.now) (market_state self.now) node + 1) }
     {
         self.is_node(node)
             && !self.is_leaf(node)

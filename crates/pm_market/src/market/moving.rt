@@ -7,7 +7,7 @@ use std::alloc::{AllocError, Global};
 impl Market {
     ghost use Rattle.std.specs.Prelude.{◌≡◌, ◌≢◌, ◌≤◌, ℕ, true, map, vec_len, IfOk, OnOk, OnErr};
     ghost use Rattle.pm_market.specs.Lists.{nodes, parent, IsNode};
-    ghost use Rattle.pm_market.specs.State.{start, known, updated, clearings};
+    ghost use Rattle.pm_market.specs.State.{start, knowledge, update, clearings};
     ghost use Rattle.pm_market.specs.Moves.{step};
     ghost use Rattle.pm_market.specs.Legality.{is_legal};
     ghost use Rattle.pm_market.specs.Market.{Publishes, Passes, market_lists, market_state};
@@ -50,7 +50,7 @@ impl Market {
 
     /// What a node knows, a number for each node from the auctioneer's on.
     fn known_row(&self, node: usize) -> Result<Vec<u32>, AllocError>
-        ensures { IfOk result (λ row. cut_of row.items ≡ known (market_lists self.now) (market_state self.now) node) }
+        ensures { IfOk result (λ row. cut_of row.items ≡ knowledge (market_lists self.now) (market_state self.now) node) }
     {
         let mut row = Vec::with_capacity(self.alloc, self.counts.len())?;
         for device in 0..self.counts.len() {
@@ -63,7 +63,7 @@ impl Market {
     fn count(&mut self, device: usize, number: u32)
         requires { device ≤ nodes (market_lists self.old) }
         ensures lists { market_lists self.new ≡ market_lists self.old }
-        ensures state { market_state self.new ≡ record (market_state self.old) { counts = updated (market_state self.old).counts device number } }
+        ensures state { market_state self.new ≡ record (market_state self.old) { counts = update (market_state self.old).counts device number } }
     {
         self.counts[device] = number;
     }
@@ -72,7 +72,7 @@ impl Market {
     fn learn(&mut self, child: usize, number: u32)
         requires { IsNode (market_lists self.old) child }
         ensures lists { market_lists self.new ≡ market_lists self.old }
-        ensures state { market_state self.new ≡ record (market_state self.old) { learnt = updated (market_state self.old).learnt child number } }
+        ensures state { market_state self.new ≡ record (market_state self.old) { learnt = update (market_state self.old).learnt child number } }
     {
         self.learnt[child] = number;
     }

@@ -1,10 +1,10 @@
 use Rattle.std.proofs.Common.{◌≡◌, ◌+◌}
-use Rattle.pm_bid.specs.Bids.{clamped}
+use Rattle.pm_bid.specs.Bids.{clamp}
 use Rattle.pm_bid.proofs.EachStep.{Progress}
 use Rattle.pm_bid.proofs.pointwise.clamp_each.Given as goal
 
 abbrev pub invariant-loop-step : goal.invariant-loop-step
 invariant-loop-step g l = record {
-  progress : Progress l.fn.targets (clamped l.floor l.ceiling l.demands) l.targets l.step;
+  progress : Progress l.fn.targets (clamp l.floor l.ceiling l.demands) l.targets l.step;
   cost : l.counter ≡ l.fn.counter + l.step;
 }

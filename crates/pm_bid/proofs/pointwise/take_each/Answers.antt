@@ -1,5 +1,5 @@
 use Rattle.std.proofs.Common.{rules, arith, FitsSigned, ◌-ℤ◌, w64, to_z, of_z}
-use Rattle.pm_bid.specs.Bids.{demand_at, taken_off}
+use Rattle.pm_bid.specs.Bids.{demand_at, pairwise_difference}
 use Rattle.pm_bid.proofs.EachStep.{Computes, length-taken_off, next_taken_off, progress_more, progress_all}
 use Rattle.pm_bid.proofs.pointwise.take_each.Given.{Over}
 use Rattle.pm_bid.proofs.pointwise.take_each.Goals as goal
@@ -9,7 +9,7 @@ use Rattle.pm_bid.proofs.pointwise.take_each.Goals.{In-loop-step}
 computes : (g : Over) (c : In-loop-step g) →
     FitsSigned w64 (demand_at c.loop-step.demands c.loop-step.step) → FitsSigned w64 (demand_at c.args.others.now c.loop-step.step) → Computes
     (to_z w64 (of_z w64 (demand_at c.loop-step.demands c.loop-step.step)) -ℤ to_z w64 (of_z w64 (demand_at c.args.others.now c.loop-step.step)))
-    (demand_at (taken_off c.args.demands.now c.args.others.now) c.loop-step.step)
+    (demand_at (pairwise_difference c.args.demands.now c.args.others.now) c.loop-step.step)
 computes g c = next_taken_off _ _ _ _ c.requires.equal_lengths c.loop-step.auto.demands c.loop-step-test.true c.requires.within c.loop-step.invariant.progress
 
 pub overflow_sub-demand : goal.overflow_sub-demand

@@ -6,8 +6,8 @@ use Rattle.std.proofs.lemmas.Bool.{not-false}
 use Rattle.std.proofs.lemmas.Slice.Eq.{bytes_eq-Decides}
 use Rattle.std.proofs.lemmas.List.{length-append}
 use Rattle.std.proofs.lemmas.List.Elements.{All-append, All-cons, All-nil}
-use Rattle.pm_check.specs.Lines.{IsWholeLine, joined}
-use Rattle.pm_check.proofs.TextLines.{joined-push, lines_within, shorter}
+use Rattle.pm_check.specs.Lines.{IsWholeLine, text_of_lines}
+use Rattle.pm_check.proofs.TextLines.{text_of_lines-push, lines_within, shorter}
 use Rattle.pm_check.proofs.Judgements.{IsMatched, report_cut, report_other, report_read}
 use Rattle.pm_check.proofs.trace.read_report.Goals as goal
 
@@ -15,7 +15,7 @@ use Rattle.pm_check.proofs.trace.read_report.Goals as goal
 pub lines_matched : (report trace : List ℕ) (lines : ℕ) (done : List (List ℕ)) (due rest : List ℕ) → IsMatched report trace lines done due rest →
     lines ≤ length report
 lines_matched report trace lines done due rest matched =
-    omega (arith, matched.count, lines_within done matched.whole, ap (λ l. length l) matched.report_is, length-append (joined done) due)
+    omega (arith, matched.count, lines_within done matched.whole, ap (λ l. length l) matched.report_is, length-append (text_of_lines done) due)
 
 -- one line more
 pub next_matched : (report trace : List ℕ) (lines : ℕ) (done : List (List ℕ)) (due rest line later more : List ℕ) →
@@ -24,10 +24,10 @@ pub next_matched : (report trace : List ℕ) (lines : ℕ) (done : List (List �
 next_matched report trace lines done due rest line later more matched whole due_is rest_is = record {
   whole = All-append IsWholeLine done (line ∷ []) matched.whole (All-cons IsWholeLine line [] whole (All-nil IsWholeLine));
   count = omega (arith, matched.count, length-append done (line ∷ []));
-  report_is = matched.report_is ∙ ap (λ t. joined done ++ t) due_is ∙ sym (append_assoc (joined done) line later)
-      ∙ ap (λ t. t ++ later) (sym (joined-push done line));
-  trace_is = matched.trace_is ∙ ap (λ t. joined done ++ t) rest_is ∙ sym (append_assoc (joined done) line more)
-      ∙ ap (λ t. t ++ more) (sym (joined-push done line));
+  report_is = matched.report_is ∙ ap (λ t. text_of_lines done ++ t) due_is ∙ sym (append_assoc (text_of_lines done) line later)
+      ∙ ap (λ t. t ++ later) (sym (text_of_lines-push done line));
+  trace_is = matched.trace_is ∙ ap (λ t. text_of_lines done ++ t) rest_is ∙ sym (append_assoc (text_of_lines done) line more)
+      ∙ ap (λ t. t ++ more) (sym (text_of_lines-push done line));
 }
 
 -- what the test for the same bytes says

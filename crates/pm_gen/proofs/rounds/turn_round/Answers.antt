@@ -1,7 +1,7 @@
 use Rattle.std.proofs.Common.{◌≡◌, ◌<◌, [], ◌∷◌, length, map, get_or, false, not, refl, sym, ap, ◌∙◌, arith}
 use Rattle.std.proofs.lemmas.List.{length-set, map-append}
 use Rattle.pm_plan.specs.Parts.{event_part}
-use Rattle.pm_gen.specs.Draws.{next, drawn}
+use Rattle.pm_gen.specs.Draws.{next, draw_below}
 use Rattle.pm_gen.specs.Rounds.{seed_after}
 use Rattle.pm_gen.proofs.Flags.{turned-none, turned-more, after-none, after-more}
 use Rattle.pm_gen.proofs.rounds.turn_round.Goals as goal
@@ -19,8 +19,8 @@ loop-preserved c =
     let size_is = c.loop.invariant.size in
     let seed_is = c.loop.invariant.seed in
     let low : c.draw-place.result < length c.args.members.now = omega (arith, c.draw-place.ensures.below) in
-    let pick : c.draw-place.result ≡ drawn (length c.args.members.now) (seed_after c.loop.counter c.args.draws.now.seed) =
-    c.draw-place.ensures.drawn ∙ (λ i. drawn (size_is i) (seed_is i)) in
+    let pick : c.draw-place.result ≡ draw_below (length c.args.members.now) (seed_after c.loop.counter c.args.draws.now.seed) =
+    c.draw-place.ensures.drawn ∙ (λ i. draw_below (size_is i) (seed_is i)) in
     record {
       seed = c.draw-place.ensures.seed ∙ ap next seed_is ∙ sym (after-more c.loop.counter c.args.draws.now.seed);
       size = ap length c.in_ok-turn.ensures.members

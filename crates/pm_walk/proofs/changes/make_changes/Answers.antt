@@ -8,7 +8,7 @@ use Rattle.pm_plan.specs.Plans.{change_count}
 use Rattle.pm_plan.specs.States.{changed_state}
 use Rattle.pm_plan.proofs.DeviceNodes.{kind_of-tells}
 use Rattle.pm_plan.proofs.Ends.{end-within}
-use Rattle.pm_plan.proofs.PlannedChanges.{few_changes, planned-is}
+use Rattle.pm_plan.proofs.PlannedChanges.{few_changes, planned_change-is}
 use Rattle.pm_walk.proofs.Devices.{kind-valid, next-is, next-fits, reached-fits, reached-more, used-within}
 use Rattle.pm_walk.proofs.changes.make_changes.Goals as goal
 
@@ -21,7 +21,7 @@ unwrap-what-requires c =
     let plan = c.args.plan.now in
     let d = c.args.device.0 in
     let inside : c.loop.here.count < change_count plan d = omega (arith, end-within plan c.args.phase d) in
-    subst (λ (found : Option Planned). IsSome found) (sym (c.planned.ensures ∙ planned-is plan d c.loop.here.count inside)) (search rules)
+    subst (λ (found : Option Planned). IsSome found) (sym (c.planned.ensures ∙ planned_change-is plan d c.loop.here.count inside)) (search rules)
 
 pub make_change-here-requires-clause-few : goal.make_change-here-requires-clause-few
 make_change-here-requires-clause-few c =

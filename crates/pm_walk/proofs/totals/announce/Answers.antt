@@ -3,7 +3,7 @@ use Rattle.std.proofs.lemmas.Int.{ints, to_z-of_z}
 use Rattle.std.proofs.lemmas.List.{length-map}
 use mir.Syntax.{w64}
 use mir.Val.{SFits}
-use Rattle.pm_bid.specs.Bids.{clamped}
+use Rattle.pm_bid.specs.Bids.{clamp}
 use Rattle.pm_plan.specs.States.{state}
 use Rattle.pm_plan.proofs.DeviceNodes.{limits_of-tells}
 use Rattle.pm_walk.specs.Standing.{cut_made}
@@ -36,8 +36,8 @@ returns-clause-announced c =
     let high : SFits w64 c.args.limits.ceiling = search rules in
     announced_is c.args.plan.now (state c.args.plan.now)
     (cut_made c.args.standing.now.progress) c.args.at.0 c.args.limits c.sum.result.now c.clamp_into.new.target c.requires.limits c.sum.ensures.sum
-    (c.clamp_into.ensures.bid ∙ ap (λ z. clamped z (to_z w64 (of_z w64 c.args.limits.ceiling)) c.sum.result.now) (to_z-of_z w64 c.args.limits.floor low)
-    ∙ ap (λ z. clamped c.args.limits.floor z c.sum.result.now) (to_z-of_z w64 c.args.limits.ceiling high))
+    (c.clamp_into.ensures.bid ∙ ap (λ z. clamp z (to_z w64 (of_z w64 c.args.limits.ceiling)) c.sum.result.now) (to_z-of_z w64 c.args.limits.floor low)
+    ∙ ap (λ z. clamp c.args.limits.floor z c.sum.result.now) (to_z-of_z w64 c.args.limits.ceiling high))
 
 pub returns-clause-steps : goal.returns-clause-steps
 returns-clause-steps c = ap (λ l. length l) c.clamp_into.ensures.bid ∙ length-map c.sum.result.now _ ∙ c.sum.ensures.steps

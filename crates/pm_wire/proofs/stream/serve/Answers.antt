@@ -1,5 +1,5 @@
 use Rattle.std.proofs.Common.{◌≡◌, ◌<◌, subst, ℕ, List, Option, Some, length}
-use Rattle.pm_io.specs.Taken.{taken}
+use Rattle.pm_io.specs.Taken.{taken_bytes}
 use Rattle.pm_wire.specs.Frames.{HasBadFrame}
 use Rattle.pm_wire.specs.Streams.{stream_limit, EndsSo}
 use Rattle.pm_wire.specs.declared.stream.Served.{Served}
@@ -45,13 +45,13 @@ returns-clause-no_memory g c = told _ _ _ _ _ _ _ NoMemory c.run.ensures.ends
 
 pub returns-clause-bad_frame : goal.returns-clause-bad_frame
 returns-clause-bad_frame g c = λ all offset is bad.
-    let P : Option (List ℕ) → Type 0 = λ o. HasBadFrame (taken o (g.S.Source.left c.run.new.source)) offset in
+    let P : Option (List ℕ) → Type 0 = λ o. HasBadFrame (taken_bytes o (g.S.Source.left c.run.new.source)) offset in
     bad_frame all _ _ _ _ _ c.run.result offset (said all _ _ _ _ _ _ _ is c.run.ensures.ends) (subst P is bad)
 
 pub returns-clause-took_more : goal.returns-clause-took_more
 returns-clause-took_more g c = λ all is long none.
-    let P : Option (List ℕ) → Type 0 = λ o. stream_limit < length (taken o (g.S.Source.left c.run.new.source)) in
-    let Q : Option (List ℕ) → Type 0 = λ o. (offset : ℕ) → ¬ HasBadFrame (taken o (g.S.Source.left c.run.new.source)) offset in
+    let P : Option (List ℕ) → Type 0 = λ o. stream_limit < length (taken_bytes o (g.S.Source.left c.run.new.source)) in
+    let Q : Option (List ℕ) → Type 0 = λ o. (offset : ℕ) → ¬ HasBadFrame (taken_bytes o (g.S.Source.left c.run.new.source)) offset in
     took_more all _ _ _ _ _ c.run.result (said all _ _ _ _ _ _ _ is c.run.ensures.ends) (subst P is long) (subst Q is none)
 
 pub returns-clause-frames : goal.returns-clause-frames

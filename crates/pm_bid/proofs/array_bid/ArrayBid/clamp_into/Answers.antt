@@ -1,7 +1,7 @@
 use Rattle.std.proofs.Common.{◌∙◌, sym, ap, subst, ◌+◌, length, w64, to_z, of_z, arith}
 use Rattle.std.proofs.lemmas.Int.{ints, to_z-of_z}
 use Rattle.pm_base.specs.Limits.{AreSteps}
-use Rattle.pm_bid.specs.Bids.{clamped}
+use Rattle.pm_bid.specs.Bids.{clamp}
 use Rattle.pm_bid.proofs.WrittenOver.{written_over}
 use Rattle.pm_bid.proofs.array_bid.ArrayBid.clamp_into.Goals as goal
 
@@ -32,9 +32,9 @@ pub returns-clause-bid : goal.returns-clause-bid
 returns-clause-bid g c =
     written_over c.clamp_each.new.targets c.target.inside.demands.items c.target.inside.demands.len
     (c.clamp_each.auto.targets ∙ c.deref_mut.ensures.len) ∙ c.clamp_each.ensures.clamped
-    ∙ ap (λ floor. clamped floor (to_z w64 (of_z w64 c.args.ceiling)) c.deref.result.now) (to_z-of_z w64 c.args.floor c.ranges.floor)
-    ∙ ap (λ ceiling. clamped c.args.floor ceiling c.deref.result.now) (to_z-of_z w64 c.args.ceiling c.ranges.ceiling)
-    ∙ ap (clamped c.args.floor c.args.ceiling) (c.deref.ensures.value ∙ c.self.view_is)
+    ∙ ap (λ floor. clamp floor (to_z w64 (of_z w64 c.args.ceiling)) c.deref.result.now) (to_z-of_z w64 c.args.floor c.ranges.floor)
+    ∙ ap (λ ceiling. clamp c.args.floor ceiling c.deref.result.now) (to_z-of_z w64 c.args.ceiling c.ranges.ceiling)
+    ∙ ap (clamp c.args.floor c.args.ceiling) (c.deref.ensures.value ∙ c.self.view_is)
 
 pub returns-clause-cost : goal.returns-clause-cost
 returns-clause-cost g c = c.clamp_each.ensures.cost ∙ ap (λ bid. c.args.counter.now + length bid) (c.deref.ensures.value ∙ c.self.view_is)

@@ -1,6 +1,6 @@
 use Rattle.std.proofs.Common.{◌≡◌, ◌∙◌, sym, ap, subst, ◌+◌, ◌*◌, length}
 use Rattle.pm_base.specs.Limits.{AreSteps, sum_limit}
-use Rattle.pm_bid.specs.Bids.{added, taken_off, AllWithinLimit}
+use Rattle.pm_bid.specs.Bids.{pairwise_sum, pairwise_difference, AllWithinLimit}
 use Rattle.pm_bid.proofs.WrittenOver.{written_over}
 use Rattle.pm_bid.proofs.array_bid.ArrayBid.exchange.Goals as goal
 
@@ -20,20 +20,20 @@ exchange_each-requires-clause-olds_within g c = subst (AllWithinLimit sum_limit)
 
 pub exchange_each-requires-clause-within : goal.exchange_each-requires-clause-within
 exchange_each-requires-clause-within g c =
-    let is : added (taken_off c.deref_mut.result.now c.deref.result.now) c.deref-2.result.now
-    ≡ added (taken_off c.args.self.now c.args.old.now) c.args.new.now =
-    ap (λ bid. added (taken_off bid c.deref.result.now) c.deref-2.result.now) (c.deref_mut.ensures.value ∙ c.self.view_is)
-    ∙ ap (λ bid. added (taken_off c.args.self.now bid) c.deref-2.result.now) (c.deref.ensures.value ∙ c.old.view_is)
-    ∙ ap (added (taken_off c.args.self.now c.args.old.now)) (c.deref-2.ensures.value ∙ c.new.view_is) in
+    let is : pairwise_sum (pairwise_difference c.deref_mut.result.now c.deref.result.now) c.deref-2.result.now
+    ≡ pairwise_sum (pairwise_difference c.args.self.now c.args.old.now) c.args.new.now =
+    ap (λ bid. pairwise_sum (pairwise_difference bid c.deref.result.now) c.deref-2.result.now) (c.deref_mut.ensures.value ∙ c.self.view_is)
+    ∙ ap (λ bid. pairwise_sum (pairwise_difference c.args.self.now bid) c.deref-2.result.now) (c.deref.ensures.value ∙ c.old.view_is)
+    ∙ ap (pairwise_sum (pairwise_difference c.args.self.now c.args.old.now)) (c.deref-2.ensures.value ∙ c.new.view_is) in
     subst (AllWithinLimit sum_limit) (sym is) c.requires.within
 
 pub returns-clause-exchanged : goal.returns-clause-exchanged
 returns-clause-exchanged g c =
     written_over c.exchange_each.new.demands c.self.inside.demands.items c.self.inside.demands.len
     (c.exchange_each.auto.demands ∙ c.deref_mut.ensures.len) ∙ c.exchange_each.ensures.exchanged
-    ∙ ap (λ bid. added (taken_off bid c.deref.result.now) c.deref-2.result.now) (c.deref_mut.ensures.value ∙ c.self.view_is)
-    ∙ ap (λ bid. added (taken_off c.args.self.now bid) c.deref-2.result.now) (c.deref.ensures.value ∙ c.old.view_is)
-    ∙ ap (added (taken_off c.args.self.now c.args.old.now)) (c.deref-2.ensures.value ∙ c.new.view_is)
+    ∙ ap (λ bid. pairwise_sum (pairwise_difference bid c.deref.result.now) c.deref-2.result.now) (c.deref_mut.ensures.value ∙ c.self.view_is)
+    ∙ ap (λ bid. pairwise_sum (pairwise_difference c.args.self.now bid) c.deref-2.result.now) (c.deref.ensures.value ∙ c.old.view_is)
+    ∙ ap (pairwise_sum (pairwise_difference c.args.self.now c.args.old.now)) (c.deref-2.ensures.value ∙ c.new.view_is)
 
 pub invariant_of-self : goal.invariant_of-self
 invariant_of-self g c =

@@ -1,6 +1,6 @@
 use Rattle.std.proofs.Common.{◌∙◌, sym, ap, subst, ◌+◌, length}
 use Rattle.pm_base.specs.Limits.{AreSteps, sum_limit}
-use Rattle.pm_bid.specs.Bids.{taken_off, AllWithinLimit}
+use Rattle.pm_bid.specs.Bids.{pairwise_difference, AllWithinLimit}
 use Rattle.pm_bid.proofs.WrittenOver.{written_over}
 use Rattle.pm_bid.proofs.array_bid.ArrayBid.take_from.Goals as goal
 
@@ -10,14 +10,14 @@ take_each-requires-clause-equal_lengths g c =
 
 pub take_each-requires-clause-within : goal.take_each-requires-clause-within
 take_each-requires-clause-within g c =
-    subst (λ bid. AllWithinLimit sum_limit (taken_off bid c.deref.result.now)) (sym (c.deref_mut.ensures.value ∙ c.self.view_is))
-    (subst (λ bid. AllWithinLimit sum_limit (taken_off c.args.self.now bid)) (sym (c.deref.ensures.value ∙ c.other.view_is)) c.requires.within)
+    subst (λ bid. AllWithinLimit sum_limit (pairwise_difference bid c.deref.result.now)) (sym (c.deref_mut.ensures.value ∙ c.self.view_is))
+    (subst (λ bid. AllWithinLimit sum_limit (pairwise_difference c.args.self.now bid)) (sym (c.deref.ensures.value ∙ c.other.view_is)) c.requires.within)
 
 pub returns-clause-rest : goal.returns-clause-rest
 returns-clause-rest g c =
     written_over c.take_each.new.demands c.self.inside.demands.items c.self.inside.demands.len (c.take_each.auto.demands ∙ c.deref_mut.ensures.len)
-    ∙ c.take_each.ensures.rest ∙ ap (λ bid. taken_off bid c.deref.result.now) (c.deref_mut.ensures.value ∙ c.self.view_is)
-    ∙ ap (taken_off c.args.self.now) (c.deref.ensures.value ∙ c.other.view_is)
+    ∙ c.take_each.ensures.rest ∙ ap (λ bid. pairwise_difference bid c.deref.result.now) (c.deref_mut.ensures.value ∙ c.self.view_is)
+    ∙ ap (pairwise_difference c.args.self.now) (c.deref.ensures.value ∙ c.other.view_is)
 
 pub invariant_of-self : goal.invariant_of-self
 invariant_of-self g c =

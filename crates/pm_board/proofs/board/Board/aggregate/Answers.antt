@@ -1,5 +1,5 @@
 use Rattle.std.proofs.Common.{◌≡◌, subst}
-use Rattle.pm_market.specs.State.{known}
+use Rattle.pm_market.specs.State.{knowledge}
 use Rattle.pm_market.specs.Moves.{Idle}
 use Rattle.pm_plan.specs.Auction.{total}
 use Rattle.pm_plan.specs.States.{state}
@@ -10,7 +10,7 @@ use Rattle.pm_board.proofs.board.Board.aggregate.Goals as goal
 
 pub returns-clause-sum : goal.returns-clause-sum
 returns-clause-sum c =
-    subst (λ (v : BoardValue). c.aggregate.result.now ≡ children_sum v.plan 0 (known (plan_lists v.plan) (board_state v) 0)) c.self.view_is
+    subst (λ (v : BoardValue). c.aggregate.result.now ≡ children_sum v.plan 0 (knowledge (plan_lists v.plan) (board_state v) 0)) c.self.view_is
     (c.aggregate.ensures.known _ c.self.invariant.run.stands)
 
 pub returns-clause-current : goal.returns-clause-current

@@ -1,6 +1,6 @@
 use Rattle.std.proofs.Common.{◌≡◌, ◌∙◌, ap, subst}
 use Rattle.pm_cache.specs.Cache.{aggregate_of}
-use Rattle.pm_market.specs.State.{State, known}
+use Rattle.pm_market.specs.State.{State, knowledge}
 use Rattle.pm_market.specs.Moves.{Idle}
 use Rattle.pm_plan.specs.Auction.{total}
 use Rattle.pm_plan.specs.States.{state}
@@ -16,7 +16,7 @@ use Rattle.pm_cluster.proofs.cluster.Cluster.aggregate.Goals as goal
 pub returns-clause-known : goal.returns-clause-known
 returns-clause-known c s stands =
     let Claim : ClusterValue → Type 0 = λ v. (s : State) → StandsFor v.plan v.core s →
-    c.aggregate.result.now ≡ children_sum v.plan 0 (known (plan_lists v.plan) s 0) in
+    c.aggregate.result.now ≡ children_sum v.plan 0 (knowledge (plan_lists v.plan) s 0) in
     subst Claim c.self.view_is (λ s stands.
     c.aggregate.ensures.sum ∙ ap aggregate_of c.cache.ensures.cache
     ∙ sum_of_known c.self.inside.plan.now (core_of c.self.inside) s c.self.invariant.is_plan stands) s stands

@@ -1,9 +1,9 @@
 use Rattle.std.proofs.Common.{◌∙◌, sym, ap, subst, ℕ, ◌+◌, ◌<◌, arith, inl}
 use Rattle.std.specs.Prelude.{Option, MatchOption}
 use Rattle.pm_plan.specs.declared.planned.Planned.{Planned}
-use Rattle.pm_plan.specs.Plans.{change_count, end_cut, planned}
+use Rattle.pm_plan.specs.Plans.{change_count, end_cut, planned_change}
 use Rattle.pm_plan.proofs.Ends.{end-within}
-use Rattle.pm_plan.proofs.PlannedChanges.{planned-is}
+use Rattle.pm_plan.proofs.PlannedChanges.{planned_change-is}
 use Rattle.pm_cluster.specs.Clusters.{ClusterValue}
 use Rattle.pm_cluster.specs.ClusterFields.{core_of}
 use Rattle.pm_cluster.specs.Next.{HasNoNext, IsDueChange, count_of}
@@ -62,7 +62,7 @@ returns c =
     let below : n < end_cut plan (c.self.inside.closed + 1) d =
     omega (arith, due, c.self.invariant.due (omega (arith, open_phase, c.phases.ensures.phases)) d leaf, c.if-index-count.false) in
     let inside : n < change_count plan d = omega (arith, below, end-within plan (c.self.inside.closed + 1) d) in
-    let found = c.planned.ensures ∙ planned-is plan d n inside in
+    let found = c.planned.ensures ∙ planned_change-is plan d n inside in
     let Claim : ClusterValue → Type 0 =
     λ v. MatchOption c.planned.result (HasNoNext v.plan v.core.closed (count_of v.core) d) (IsDueChange v.plan v.core.closed (count_of v.core) d) in
     let Found : Option Planned → Type 0 = λ found. MatchOption found (HasNoNext plan c.self.inside.closed (count_of (core_of c.self.inside)) d)
@@ -71,6 +71,6 @@ returns c =
       due = subst Claim c.self.view_is (subst Found (sym found) (record {
         open_phase = omega (arith, open_phase, c.phases.ensures.phases);
         of_phase = omega (arith, below, count);
-        planned = ap (λ (k : ℕ). planned plan d (k + 1)) (sym count) ∙ planned-is plan d n inside;
+        planned = ap (λ (k : ℕ). planned_change plan d (k + 1)) (sym count) ∙ planned_change-is plan d n inside;
       }));
     }

@@ -4,10 +4,10 @@ use Rattle.std.proofs.lemmas.Option.{IfSome_then}
 use Rattle.pm_session.specs.Ports.{held_by}
 use Rattle.pm_session.specs.declared.price.Held.{Held}
 use Rattle.pm_market.specs.Lists.{IsLeaf, is_member}
-use Rattle.pm_market.specs.State.{State, clearings, cleared}
+use Rattle.pm_market.specs.State.{State, clearings, cleared_cut}
 use Rattle.pm_plan.specs.Kept.{IsPlan}
 use Rattle.pm_plan.specs.Market.{plan_lists}
-use Rattle.pm_offer.specs.Offers.{local_at}
+use Rattle.pm_offer.specs.Offers.{local_step_at}
 use Rattle.pm_stands.specs.Stands.{StandsFor}
 use Rattle.pm_stands.specs.Current.{held_price}
 use Rattle.pm_stands.proofs.Holding.{held_agrees}
@@ -79,10 +79,10 @@ returns-clause-cleared c s stands =
 
 pub returns-clause-own : goal.returns-clause-own
 returns-clause-own c s stands =
-    so_told (goal.at.returns-clause-own c).After-held s (λ price. price.number ≡ cleared s price.index c.args.device.0) stands
+    so_told (goal.at.returns-clause-own c).After-held s (λ price. price.number ≡ cleared_cut s price.index c.args.device.0) stands
     (λ price own. own.own)
 
 pub returns-clause-step : goal.returns-clause-step
 returns-clause-step c s stands =
-    so_told (goal.at.returns-clause-step c).After-held s (λ price. price.step ≡ local_at c.args.self.now.plan (cleared s price.index) c.args.device.0) stands
+    so_told (goal.at.returns-clause-step c).After-held s (λ price. price.step ≡ local_step_at c.args.self.now.plan (cleared_cut s price.index) c.args.device.0) stands
     (λ price own. own.step)

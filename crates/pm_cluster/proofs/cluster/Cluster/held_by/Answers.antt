@@ -2,8 +2,8 @@ use Rattle.std.proofs.Common.{◌≡◌, ◌∙◌, sym, ap, subst, true, false,
 use Rattle.std.specs.Prelude.{None}
 use Rattle.std.proofs.lemmas.Bool.{cond-true, cond-false}
 use Rattle.pm_market.specs.Lists.{is_leaf, IsLeaf}
-use Rattle.pm_market.specs.Held.{held}
-use Rattle.pm_offer.specs.Offers.{local_at}
+use Rattle.pm_market.specs.Held.{holding}
+use Rattle.pm_offer.specs.Offers.{local_step_at}
 use Rattle.pm_plan.specs.Market.{plan_lists}
 use Rattle.pm_cluster.specs.Clusters.{ClusterValue}
 use Rattle.pm_cluster.proofs.ActForms.{pair_of, pairs_are}
@@ -28,7 +28,7 @@ returns-in_default c = record {
       let plan = c.args.self.now.plan in
       let x = c.args.node.0 in
       ap pair_of (c.in_default.ensures.held s stands) ∙ pairs_are plan s x
-      ∙ sym (cond-true (is_leaf (plan_lists plan) x) (held (plan_lists plan) (local_at plan) s x) None (leaf (goal.at.returns-in_default c).After-held));
+      ∙ sym (cond-true (is_leaf (plan_lists plan) x) (holding (plan_lists plan) (local_step_at plan) s x) None (leaf (goal.at.returns-in_default c).After-held));
 }
 
 pub returns : goal.returns
@@ -37,5 +37,5 @@ returns c = record {
       let plan = c.args.self.now.plan in
       let x = c.args.node.0 in
       ap pair_of (c.in-Some.ensures.held s stands) ∙ pairs_are plan s x
-      ∙ sym (cond-true (is_leaf (plan_lists plan) x) (held (plan_lists plan) (local_at plan) s x) None (leaf (goal.at.returns c).After-held));
+      ∙ sym (cond-true (is_leaf (plan_lists plan) x) (holding (plan_lists plan) (local_step_at plan) s x) None (leaf (goal.at.returns c).After-held));
 }

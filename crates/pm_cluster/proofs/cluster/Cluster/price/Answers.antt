@@ -2,7 +2,7 @@ use Rattle.std.proofs.Common.{◌≡◌, ◌∙◌, ap, subst, arith}
 use Rattle.pm_basis.specs.Prices.{BasisValue, price_at}
 use Rattle.pm_market.specs.State.{State}
 use Rattle.pm_market.specs.Moves.{Idle}
-use Rattle.pm_plan.specs.Auction.{plain}
+use Rattle.pm_plan.specs.Auction.{plain_step}
 use Rattle.pm_plan.specs.States.{state}
 use Rattle.pm_plan.specs.Market.{plan_lists}
 use Rattle.pm_stands.specs.Stands.{StandsFor}
@@ -24,7 +24,7 @@ price-requires c =
 pub returns-clause-current : goal.returns-clause-current
 returns-clause-current c s stands idle =
     let Claim : ClusterValue → Type 0 = λ v. (s : State) → StandsFor v.plan v.core s → Idle (plan_lists v.plan) s →
-    c.price.result ≡ price_at v.plan.basis (plain v.plan (state v.plan) s.counts) in
+    c.price.result ≡ price_at v.plan.basis (plain_step v.plan (state v.plan) s.counts) in
     let plan = c.self.inside.plan.now in
     price_read c.basis.result.now c.price.result c.price.ensures.sound c.price.ensures.from_min c.price.ensures.to_max
     ∙ subst Claim c.self.view_is (λ s stands idle.

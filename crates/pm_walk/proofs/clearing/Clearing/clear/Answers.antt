@@ -1,13 +1,13 @@
 use Rattle.std.proofs.Common.{◌≡◌, ◌∙◌, ap, sym, subst, arith, length}
 use Rattle.std.proofs.lemmas.List.{with_items_is}
 use Rattle.pm_bid.specs.Clearing.{clearing_step}
-use Rattle.pm_plan.specs.Auction.{plain}
+use Rattle.pm_plan.specs.Auction.{plain_step}
 use Rattle.pm_walk.specs.Standing.{cut_made}
 use Rattle.pm_walk.specs.Clearing.{AreGroupSteps, ArePowers}
 use Rattle.pm_walk.proofs.clearing.Clearing.clear.Goals as goal
 
 pub fill_group_steps-requires-clause-step : goal.fill_group_steps-requires-clause-step
-unfolding plain
+unfolding plain_step
 fill_group_steps-requires-clause-step c = c.first_not_positive-step.ensures.step ∙ ap clearing_step c.fill_total.ensures.total
 
 pub fill_group_steps-requires-clause-inside : goal.fill_group_steps-requires-clause-inside
@@ -28,7 +28,7 @@ pub fill_powers-requires-clause-one_each : goal.fill_powers-requires-clause-one_
 fill_powers-requires-clause-one_each c = ap (λ l. length l) c.deref_mut-2.ensures.value ∙ c.requires.room.powers
 
 pub returns-clause-clearing : goal.returns-clause-clearing
-unfolding plain
+unfolding plain_step
 returns-clause-clearing c =
     let plan = c.args.plan.now in
     let cut = cut_made c.args.standing.now.progress in

@@ -1,6 +1,6 @@
 use Rattle.std.proofs.Common.{rules, arith}
 use Rattle.std.specs.Option.{option_copied}
-use Rattle.pm_cache.specs.Learning.{offered}
+use Rattle.pm_cache.specs.Learning.{demand_of_offer}
 use Rattle.pm_cache.proofs.SingleBids.{single_within}
 use Rattle.pm_wire.proofs.market.Market.count.Goals as goal
 
@@ -9,7 +9,7 @@ learn-requires c = record {
   bid = record {
     is_child = omega arith;
     equal_lengths = c.requires.steps;
-    within = single_within c.args.self.now.cache _ (offered c.args.self.now.cache (option_copied c.args.demand)) c.requires.sound.sound (omega arith)
+    within = single_within c.args.self.now.cache _ (demand_of_offer c.args.self.now.cache (option_copied c.args.demand)) c.requires.sound.sound (omega arith)
         c.requires.sound.single c.requires.steps c.requires.small;
   };
 }
