@@ -36,7 +36,7 @@ use Rattle.pm_walk.specs.Auctions.{IsAuction, auction_cut}
 use Rattle.pm_walk.specs.Clearing.{AreGroupSteps}
 use Rattle.pm_walk.proofs.Nodes.{group_inside}
 use Rattle.pm_check.specs.declared.steps.ClearedSteps.{ClearedSteps}
-use Rattle.pm_check.specs.Judges.{rows_of, AreRows, HasRow, AreCleared}
+use Rattle.pm_check.specs.Judges.{step_rows, AreRows, HasRow, AreCleared}
 use Rattle.pm_check.proofs.Dues.{no_more}
 
 -- ---- the plain auction knows of a cut the numbers of the devices alone
@@ -201,8 +201,8 @@ module _ (plan : PlanData) (is_plan : IsPlan plan) (s : State) (sound : Sound (p
       clear_adds closed auction cut' row =
           let here : (d : ℕ) → IsLeaf lists d →
           auction_cut new.auction d ≡ cleared_cut next (clearings s + 1) d = λ d leaf. cut' d (leaf_in_plan d leaf) ∙ ap (λ (c : Cut). c d) cut_is in
-          let long : AreRows plan (rows_of new) = subst (AreRows plan) (sym row.1.1)
-          (All-append (λ (r : List ℕ). length r ≡ length plan.nodes + 1) (rows_of old) (row.0 ∷ []) are.steps_are.long
+          let long : AreRows plan (step_rows new) = subst (AreRows plan) (sym row.1.1)
+          (All-append (λ (r : List ℕ). length r ≡ length plan.nodes + 1) (step_rows old) (row.0 ∷ []) are.steps_are.long
           (All-cons (λ (r : List ℕ). length r ≡ length plan.nodes + 1) row.0 [] row.1.0.one_each (All-nil _))) in
           record {
             closed = closed ∙ are.closed;
@@ -213,7 +213,7 @@ module _ (plan : PlanData) (is_plan : IsPlan plan) (s : State) (sound : Sound (p
               one_each = omega (
                 arith,
                 ap (λ (rs : List (List ℕ)). length rs) row.1.1,
-                length-append (rows_of old)
+                length-append (step_rows old)
                     (row.0 ∷ []),
                 are.steps_are.one_each,
                 clearings_are,
@@ -222,14 +222,14 @@ module _ (plan : PlanData) (is_plan : IsPlan plan) (s : State) (sound : Sound (p
                 | inl last ↦
                     ap (λ (rs : List (List ℕ)). get_or (get_or rs (i - 1) []) (group plan x) 0) row.1.1
                     ∙ ap (λ (r : List ℕ). get_or r (group plan x) 0)
-                    (get_or_push (rows_of old) row.0 [] (i - 1) (omega (arith, last, are.steps_are.one_each)))
+                    (get_or_push (step_rows old) row.0 [] (i - 1) (omega (arith, last, are.steps_are.one_each)))
                     ∙ steps_of plan is_plan (auction_cut new.auction) (cleared_cut next (clearings s + 1)) here row.0 row.1.0 x node
                     ∙ ap (λ (k : ℕ). local_step_at plan (cleared_cut next k) x) (sym last)
                 | inr before ↦
                     let within : i ≤ clearings s = omega (arith, before, high, clearings_are) in
                     ap (λ (rs : List (List ℕ)). get_or (get_or rs (i - 1) []) (group plan x) 0) row.1.1
                     ∙ ap (λ (r : List ℕ). get_or r (group plan x) 0)
-                    (get_or_append_left (rows_of old) (row.0 ∷ []) [] (i - 1) (omega (arith, low, within, are.steps_are.one_each)))
+                    (get_or_append_left (step_rows old) (row.0 ∷ []) [] (i - 1) (omega (arith, low, within, are.steps_are.one_each)))
                     ∙ are.steps_are.steps i x low within node
                     ∙ ap (λ (c : Cut). local_step_at plan c x) (sym (cleared_kept i within))
               ];
@@ -251,7 +251,7 @@ module _ (plan : PlanData) (is_plan : IsPlan plan) (s : State) (sound : Sound (p
 
     -- after a legal closing the same rows and cut, with one phase more closed, are those of the state
     pub close_keeps : new.closed ≡ old.closed + 1 → IsAuction plan new.closed new.auction → auction_cut new.auction ≡ auction_cut old.auction →
-        rows_of new ≡ rows_of old →
+        step_rows new ≡ step_rows old →
         AreCleared plan (step lists s (Close p)) new
     close_keeps closed auction cut rows =
         let closed_is : new.closed ≡ p = omega (arith, closed, are.closed, legal.0) in
@@ -272,7 +272,7 @@ module _ (plan : PlanData) (is_plan : IsPlan plan) (s : State) (sound : Sound (p
 -- what is kept at the start is no closed phase, an auction at the cut without changes, and no rows
 pub cleared_start : (plan : PlanData) (steps : ClearedSteps) → steps.closed ≡ 0 → IsAuction plan 0 steps.auction →
     ((x : ℕ) → auction_cut steps.auction x ≡ 0) →
-    rows_of steps ≡ [] → AreCleared plan start steps
+    step_rows steps ≡ [] → AreCleared plan start steps
 cleared_start plan steps closed auction none rows = record {
   closed = closed;
   auction = auction;

@@ -27,7 +27,7 @@ use Rattle.pm_offer.specs.Offers.{local_step_at}
 use Rattle.pm_walk.specs.Auctions.{IsAuction, auction_cut}
 use Rattle.pm_check.specs.declared.judge.Judge.{Judge}
 use Rattle.pm_check.specs.declared.steps.ClearedSteps.{ClearedSteps}
-use Rattle.pm_check.specs.Judges.{rows_of, HasRow, AreCleared, IsJudge, HasMade, holding_at, held_in}
+use Rattle.pm_check.specs.Judges.{step_rows, HasRow, AreCleared, IsJudge, HasMade, holding_at, held_in}
 use Rattle.pm_check.proofs.Cleared.{change_keeps, learn_keeps, pass_keeps, publish_keeps, phase_open, cut_rises, cut_planned, clear_adds}
 use Rattle.pm_check.proofs.Cleared.{ends_closed, close_keeps, cleared_start}
 
@@ -42,7 +42,7 @@ plan_of plan judge is = is.cleared.auction.run.stands.sound
 
 -- a judge before the first move
 pub judge_start : (plan : PlanData) (market : Market) (steps : ClearedSteps) → market_lists market ≡ plan_lists plan → market_state market ≡ start →
-    steps.closed ≡ 0 → IsAuction plan 0 steps.auction → ((x : ℕ) → auction_cut steps.auction x ≡ 0) → rows_of steps ≡ [] →
+    steps.closed ≡ 0 → IsAuction plan 0 steps.auction → ((x : ℕ) → auction_cut steps.auction x ≡ 0) → step_rows steps ≡ [] →
     IsJudge plan (record { market = market; steps = steps })
 judge_start plan market steps lists state closed auction none rows = record {
   lists = lists;
@@ -128,7 +128,7 @@ module _ (plan : PlanData) (old : Judge) (judge : IsJudge plan old) (m : Move)
 
       -- a closing was made once one phase more is closed while the auction's cut and the rows stay
       pub close_made : (steps : ClearedSteps) → steps.closed ≡ old.steps.closed + 1 → IsAuction plan steps.closed steps.auction →
-          auction_cut steps.auction ≡ auction_cut old.steps.auction → rows_of steps ≡ rows_of old.steps →
+          auction_cut steps.auction ≡ auction_cut old.steps.auction → step_rows steps ≡ step_rows old.steps →
           HasMade plan old (record { market = market; steps = steps }) m
       close_made steps closed auction cut rows =
           makes steps (subst (λ (k : Move). AreCleared plan (step lists s k) steps) (sym is)
@@ -166,13 +166,13 @@ module _ (plan : PlanData) (judge : Judge) (is : IsJudge plan judge) (d : ℕ) (
       omega (arith, ltb-true 0 (last_index t d) first.0)
 
   -- for the last clearing passed to a device that holds a price there is a row of steps
-  pub has_steps : last_index (market_state judge.market) d ≤ length (rows_of judge.steps)
+  pub has_steps : last_index (market_state judge.market) d ≤ length (step_rows judge.steps)
   has_steps =
       omega (arith, is.cleared.steps_are.one_each, last_within (plan_lists plan) (market_state judge.market) is.sound d)
 
   -- the step in the row of the clearing passed last and the number in its cut are what the device holds
   pub told_held : (index number step : ℕ) → index ≡ last_index (market_state judge.market) d → number ≡ cleared_cut (market_state judge.market) index d →
-      step ≡ get_or (get_or (rows_of judge.steps) (index - 1) []) (group plan d) 0 → Some (step, number) ≡ holding_at plan (market_state judge.market) d
+      step ≡ get_or (get_or (step_rows judge.steps) (index - 1) []) (group plan d) 0 → Some (step, number) ≡ holding_at plan (market_state judge.market) d
   told_held index number step index_is number_is step_is =
       let t = market_state judge.market in
       let node = leaf_node (plan_lists plan) (lawful plan (plan_of plan judge is)) d leaf in

@@ -1,6 +1,7 @@
 -- What a judge of traces keeps of a run, and what it says of a line.
-use Rattle.std.specs.Prelude.{◌≡◌, ◌≢◌, ℕ, ◌+◌, ◌-◌, ◌≤◌, List, [], ◌∷◌, ◌++◌, length, map, if◌then◌else◌, slice_index_or, All}
+use Rattle.std.specs.Prelude.{◌≡◌, ◌≢◌, ℕ, ◌+◌, ◌-◌, ◌≤◌, List, [], ◌∷◌, ◌++◌, length, if◌then◌else◌, slice_index_or, All}
 use Rattle.std.specs.Prelude.{Option, None}
+use Rattle.pm_base.specs.Rows.{rows_of}
 use Rattle.pm_market.specs.Lists.{IsNode, IsLeaf, is_leaf}
 use Rattle.pm_market.specs.State.{State, clearings, cleared_cut}
 use Rattle.pm_market.specs.Moves.{Legal, step}
@@ -19,8 +20,8 @@ use Rattle.pm_check.specs.declared.steps.ClearedSteps.{ClearedSteps}
 use Rattle.pm_check.specs.declared.judge.Judge.{Judge}
 
 -- for each clearing the steps of the groups
-abbrev pub rows_of : ClearedSteps → List (List ℕ)
-rows_of steps = map (λ row. row.items) steps.rows.items
+abbrev pub step_rows : ClearedSteps → List (List ℕ)
+step_rows steps = rows_of steps.rows.items
 
 -- each row has a place for each node, and one for the auctioneer
 abbrev pub AreRows : PlanData → List (List ℕ) → Type 0
@@ -28,7 +29,7 @@ AreRows plan rows = All (λ row. length row ≡ length plan.nodes + 1) rows
 
 -- one row more, that of the cut at which the auction stands
 abbrev pub HasRow : PlanData → ClearedSteps → ClearedSteps → Type 0
-HasRow plan old new = (row : List ℕ) × (AreGroupSteps plan (auction_cut new.auction) row × (rows_of new ≡ rows_of old ++ row ∷ []))
+HasRow plan old new = (row : List ℕ) × (AreGroupSteps plan (auction_cut new.auction) row × (step_rows new ≡ step_rows old ++ row ∷ []))
 
 -- for each clearing of a state there is a row, in which the step of a node stands at the place of its group
 pub record AreStepsOf (plan : PlanData) (s : State) (rows : List (List ℕ)) : Type 0 where
@@ -42,7 +43,7 @@ pub record AreCleared (plan : PlanData) (s : State) (steps : ClearedSteps) : Typ
   pub closed : steps.closed ≡ s.closed
   pub auction : IsAuction plan s.closed steps.auction
   pub cut : (d : ℕ) → IsLeaf (plan_lists plan) d → auction_cut steps.auction d ≡ cleared_cut s (clearings s) d
-  pub steps_are : AreStepsOf plan s (rows_of steps)
+  pub steps_are : AreStepsOf plan s (step_rows steps)
 
 -- a judge of the plan, in a sound state
 pub record IsJudge (plan : PlanData) (judge : Judge) : Type 0 where

@@ -1,5 +1,6 @@
 ghost use Rattle.std.specs.Prelude.{◌≡◌, ◌-◌, ◌≤◌, true, length, map, replicate, IfOk};
 ghost use Rattle.std.specs.List.{range_with_len};
+ghost use Rattle.pm_base.specs.Rows.{rows_of};
 ghost use Rattle.pm_tree.specs.Entries.{parents_of, leaves_of};
 ghost use Rattle.pm_market.specs.State.{start};
 ghost use Rattle.pm_market.specs.Market.{market_lists, market_state};
@@ -52,7 +53,7 @@ fn leaves_of(alloc: Global, plan: &Plan) -> Result<Vec<bool>, AllocError>
 
 /// Whether each node is a member after each of its changes.
 fn members_of(alloc: Global, plan: &Plan) -> Result<Vec<Vec<bool>>, AllocError>
-    ensures { IfOk result (λ rows. map (λ row. row.items) rows.items ≡ map (members_of plan.now) (node_numbers plan.now)) }
+    ensures { IfOk result (λ rows. rows_of rows.items ≡ map (members_of plan.now) (node_numbers plan.now)) }
 {
     let mut rows = Vec::new(alloc);
     for at in 0..plan.tree().len() {
@@ -113,7 +114,7 @@ fn change_count(plan: &Plan, device: NodeId) -> u32
 
 /// For each phase the number of changes of each node at its end.
 fn ends_of(alloc: Global, plan: &Plan) -> Result<Vec<Vec<u32>>, AllocError>
-    ensures { IfOk result (λ rows. map (λ row. row.items) rows.items ≡ map (λ p. map (end_cut plan.now p) (node_numbers plan.now))
+    ensures { IfOk result (λ rows. rows_of rows.items ≡ map (λ p. map (end_cut plan.now p) (node_numbers plan.now))
         (range_with_len 1 (phases plan.now))) }
 {
     let mut rows = Vec::new(alloc);

@@ -1,4 +1,4 @@
-ghost use Rattle.std.specs.Prelude.{◌≡◌, ℕ, ◌+◌, ◌-◌, ◌<◌, ◌≤◌, true, [], length, map, slice_index_or, IfOk, OnOk};
+ghost use Rattle.std.specs.Prelude.{◌≡◌, ℕ, ◌+◌, ◌-◌, ◌<◌, ◌≤◌, true, [], length, slice_index_or, IfOk, OnOk};
 ghost use Rattle.pm_base.specs.Cuts.{cut_of};
 ghost use Rattle.pm_plan.specs.Plans.{is_leaf, phases, end_cut, group};
 ghost use Rattle.pm_walk.specs.Auctions.{IsAuction, auction_cut};
@@ -21,7 +21,7 @@ pub(crate) struct ClearedSteps {
 }
 
 impl ClearedSteps {
-    ghost use Rattle.pm_check.specs.Judges.{AreRows, HasRow, rows_of};
+    ghost use Rattle.pm_check.specs.Judges.{AreRows, HasRow, step_rows};
 
     /// Before the first clearing.
     pub(crate) fn start(alloc: Global, plan: &Plan) -> Result<ClearedSteps, AllocError>
@@ -73,10 +73,10 @@ impl ClearedSteps {
     /// The step of a node at a clearing.
     pub(crate) fn step(&self, plan: &Plan, index: usize, node: NodeId) -> u32
         requires first { 1 ≤ index }
-        requires last { index ≤ length (rows_of self.now) }
+        requires last { index ≤ length (step_rows self.now) }
         requires node { node.0 ≤ length plan.now.nodes }
-        requires rows { AreRows plan.now (rows_of self.now) }
-        ensures { result ≡ slice_index_or (slice_index_or (rows_of self.now) (index - 1) []) (group plan.now node.0) 0 }
+        requires rows { AreRows plan.now (step_rows self.now) }
+        ensures { result ≡ slice_index_or (slice_index_or (step_rows self.now) (index - 1) []) (group plan.now node.0) 0 }
     {
         self.rows[index - 1][group_place(plan, node)]
     }

@@ -1,5 +1,6 @@
 -- What the fields of a cluster stand for.
 use Rattle.std.specs.Prelude.{◌≡◌, ℕ, ◌+◌, ◌<◌, ◌≤◌, map, length, slice_index_or, is_some, None, true, false}
+use Rattle.pm_base.specs.Rows.{rows_of}
 use Rattle.pm_tree.specs.Entries.{children_of}
 use Rattle.pm_market.specs.Lists.{nodes, IsNode, IsLeaf, IsConcentrator}
 use Rattle.pm_plan.specs.Plans.{PlanData, phases, end_cut, is_member}
@@ -16,7 +17,7 @@ core_of inside = record {
   states = map (λ state. state.0) inside.states.items;
   powers = inside.powers.items;
   closed = inside.closed;
-  links = map (λ row. row.items) inside.links.items;
+  links = rows_of inside.links.items;
   concentrators = inside.concentrators.items;
   auctioneer = inside.auctioneer;
   ports = inside.ports.items;

@@ -1,6 +1,7 @@
-ghost use Rattle.std.specs.Prelude.{◌≡◌, ℤ, ◌<◌, ◌≤◌, List, length, map, not, true, IfOk, IfErr, IfSome};
+ghost use Rattle.std.specs.Prelude.{◌≡◌, ℤ, ◌<◌, ◌≤◌, List, length, not, true, IfOk, IfErr, IfSome};
 ghost use Rattle.std.specs.Prelude.{Some};
 ghost use Rattle.std.specs.Option.{option_copied};
+ghost use Rattle.pm_base.specs.Rows.{rows_of};
 ghost use Rattle.pm_tree.specs.Entries.{place_of};
 ghost use Rattle.pm_strategy.specs.Strategies.{bid_of};
 ghost use Rattle.pm_session.specs.Links.{BidOffered, bid_offered};
@@ -131,18 +132,18 @@ fn offer_demand(
     requires given { next.member ≡ true → IfSome (option_copied given) (λ demand. demand ≡ device_demand plan.now next.device next.number) }
     requires room { length spare.old ≡ plan.now.basis.steps }
     requires parent { parent (plan_lists plan.now) next.device < length links.old.items }
-    requires place { let rows = map (λ row. row.items) links.old.items in
+    requires place { let rows = rows_of links.old.items in
         place_of plan.now.entries next.device < length (row_at rows (parent (plan_lists plan.now) next.device)) }
-    requires number { let rows = map (λ row. row.items) links.old.items in
+    requires number { let rows = rows_of links.old.items in
         (link_at rows (parent (plan_lists plan.now) next.device) (place_of plan.now.entries next.device)).up.offered < next.number }
-    requires steps { let rows = map (λ row. row.items) links.old.items in
+    requires steps { let rows = rows_of links.old.items in
         (link_at rows (parent (plan_lists plan.now) next.device) (place_of plan.now.entries next.device)).steps ≡ plan.now.basis.steps }
     ensures room { length spare.new ≡ plan.now.basis.steps }
-    ensures one { OneLink (map (λ row. row.items) links.old.items) (map (λ row. row.items) links.new.items)
+    ensures one { OneLink (rows_of links.old.items) (rows_of links.new.items)
         (parent (plan_lists plan.now) next.device) (place_of plan.now.entries next.device) }
-    ensures offered { let old = link_at (map (λ row. row.items) links.old.items) (parent (plan_lists plan.now) next.device)
+    ensures offered { let old = link_at (rows_of links.old.items) (parent (plan_lists plan.now) next.device)
         (place_of plan.now.entries next.device) in
-        let new = link_at (map (λ row. row.items) links.new.items) (parent (plan_lists plan.now) next.device) (place_of plan.now.entries next.device) in
+        let new = link_at (rows_of links.new.items) (parent (plan_lists plan.now) next.device) (place_of plan.now.entries next.device) in
         BidOffered old new (bid_offered old.steps next.number (bid_demand (not next.member) (device_demand plan.now next.device next.number))) }
 {
     let parent = parent_of(plan, NodeId(next.device));

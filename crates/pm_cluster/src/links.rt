@@ -1,7 +1,8 @@
 //! The links of a cluster, in rows: a row has the links of one node to its children.
 
-ghost use Rattle.std.specs.Prelude.{◌≡◌, ℕ, ◌<◌, ◌≤◌, length, map, None, MatchOption, if◌then◌else◌, Some, IsTrue, IsFalse, ◌↔◌};
+ghost use Rattle.std.specs.Prelude.{◌≡◌, ℕ, ◌<◌, ◌≤◌, length, None, MatchOption, if◌then◌else◌, Some, IsTrue, IsFalse, ◌↔◌};
 ghost use Rattle.std.specs.Option.{option_copied};
+ghost use Rattle.pm_base.specs.Rows.{rows_of};
 ghost use Rattle.pm_session.specs.Links.{demand_offered, bid_offered, BidOffered, BidTaken, NothingWaited, PriceTaken};
 ghost use Rattle.pm_stands.specs.Core.{row_at, link_at};
 ghost use Rattle.pm_stands.specs.Rows.{OneLink};
@@ -19,13 +20,13 @@ pub(crate) fn offer_bid(
     demand: Option<&ArrayBid>,
 )
     requires parent { parent < length links.old.items }
-    requires place { place < length (row_at (map (λ row. row.items) links.old.items) parent) }
-    requires number { (link_at (map (λ row. row.items) links.old.items) parent place).up.offered < number }
-    requires steps { let old = link_at (map (λ row. row.items) links.old.items) parent place in
+    requires place { place < length (row_at (rows_of links.old.items) parent) }
+    requires number { (link_at (rows_of links.old.items) parent place).up.offered < number }
+    requires steps { let old = link_at (rows_of links.old.items) parent place in
         length (demand_offered old.steps (option_copied demand)) ≡ old.steps }
-    ensures one { OneLink (map (λ row. row.items) links.old.items) (map (λ row. row.items) links.new.items) parent place }
-    ensures offered { let old = link_at (map (λ row. row.items) links.old.items) parent place in
-        BidOffered old (link_at (map (λ row. row.items) links.new.items) parent place) (bid_offered old.steps number (option_copied demand.entry)) }
+    ensures one { OneLink (rows_of links.old.items) (rows_of links.new.items) parent place }
+    ensures offered { let old = link_at (rows_of links.old.items) parent place in
+        BidOffered old (link_at (rows_of links.new.items) parent place) (bid_offered old.steps number (option_copied demand.entry)) }
 {
     let row = &mut links[parent];
     let up = &mut row[place];
@@ -40,15 +41,15 @@ pub(crate) fn take_bid(
     into: &mut ArrayBid,
 ) -> Option<BidHead>
     requires parent { parent < length links.old.items }
-    requires place { place < length (row_at (map (λ row. row.items) links.old.items) parent) }
-    requires steps { length into.old ≡ (link_at (map (λ row. row.items) links.old.items) parent place).steps }
-    ensures one { OneLink (map (λ row. row.items) links.old.items) (map (λ row. row.items) links.new.items) parent place }
-    ensures taken { let old = link_at (map (λ row. row.items) links.old.items) parent place in
-        let new = link_at (map (λ row. row.items) links.new.items) parent place in
+    requires place { place < length (row_at (rows_of links.old.items) parent) }
+    requires steps { length into.old ≡ (link_at (rows_of links.old.items) parent place).steps }
+    ensures one { OneLink (rows_of links.old.items) (rows_of links.new.items) parent place }
+    ensures taken { let old = link_at (rows_of links.old.items) parent place in
+        let new = link_at (rows_of links.new.items) parent place in
         MatchOption result (NothingWaited old.up old new × (into.new ≡ into.old)) (λ head.
         BidTaken old new (record { number = head.number; gone = head.gone; demand = into.new })) }
     ensures same_length { length into.new ≡ length into.old }
-    ensures none { result ≡ None → map (λ row. row.items) links.new.items ≡ map (λ row. row.items) links.old.items }
+    ensures none { result ≡ None → rows_of links.new.items ≡ rows_of links.old.items }
 {
     let row = &mut links[parent];
     let up = &mut row[place];
@@ -62,12 +63,12 @@ pub(crate) fn take_price(
     place: usize,
 ) -> Option<PriceUpdate>
     requires parent { parent < length links.old.items }
-    requires place { place < length (row_at (map (λ row. row.items) links.old.items) parent) }
-    ensures one { OneLink (map (λ row. row.items) links.old.items) (map (λ row. row.items) links.new.items) parent place }
-    ensures taken { let old = link_at (map (λ row. row.items) links.old.items) parent place in
-        let new = link_at (map (λ row. row.items) links.new.items) parent place in
+    requires place { place < length (row_at (rows_of links.old.items) parent) }
+    ensures one { OneLink (rows_of links.old.items) (rows_of links.new.items) parent place }
+    ensures taken { let old = link_at (rows_of links.old.items) parent place in
+        let new = link_at (rows_of links.new.items) parent place in
         MatchOption result (NothingWaited old.down old new) (λ price. PriceTaken old new price) }
-    ensures none { result ≡ None → map (λ row. row.items) links.new.items ≡ map (λ row. row.items) links.old.items }
+    ensures none { result ≡ None → rows_of links.new.items ≡ rows_of links.old.items }
 {
     let row = &mut links[parent];
     let down = &mut row[place];

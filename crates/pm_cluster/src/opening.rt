@@ -1,5 +1,6 @@
 ghost use Rattle.std.specs.Prelude.{◌≡◌, ℕ, ◌+◌, ◌<◌, ◌≤◌, length, replicate, IfOk, map, Some, None};
 ghost use Rattle.pm_base.specs.Limits.{AreSteps};
+ghost use Rattle.pm_base.specs.Rows.{rows_of};
 ghost use Rattle.pm_market.specs.Lists.{IsLeaf, IsConcentrator};
 ghost use Rattle.pm_tree.specs.Entries.{children_of};
 ghost use Rattle.pm_concentrator.specs.Concentrators.{IsNewConcentrator};
@@ -108,7 +109,7 @@ fn ports(alloc: Global, many: usize) -> Result<Vec<Port>, AllocError>
 
 /// The links of each node to its children.
 fn rows(alloc: Global, plan: &Plan) -> Result<Vec<Vec<Link>>, AllocError>
-    ensures rows { IfOk result (λ v. AreNewRows plan.now (map (λ row. row.items) v.items)) }
+    ensures rows { IfOk result (λ v. AreNewRows plan.now (rows_of v.items)) }
 {
     let mut rows = Vec::new(alloc);
     for number in 0..plan.tree().len() + 1 {

@@ -1,8 +1,9 @@
 //! The moves of concentrators and of the auctioneer on the lists that a cluster keeps.
 
-ghost use Rattle.std.specs.Prelude.{◌≡◌, ℕ, ◌+◌, ◌<◌, ◌≤◌, ◌^◌, length, map, None, MatchOption, slice_index_or, is_some, true, false};
+ghost use Rattle.std.specs.Prelude.{◌≡◌, ℕ, ◌+◌, ◌<◌, ◌≤◌, ◌^◌, length, None, MatchOption, slice_index_or, is_some, true, false};
 ghost use Rattle.std.specs.Prelude.{IsSome};
 ghost use Rattle.std.specs.Option.{option_copied};
+ghost use Rattle.pm_base.specs.Rows.{rows_of};
 ghost use Rattle.pm_cache.specs.Cache.{kept_number};
 ghost use Rattle.pm_cache.specs.Learning.{CanLearn};
 ghost use Rattle.pm_session.specs.Windows.{Keeps, record_of};
@@ -51,16 +52,16 @@ pub(crate) fn publish(
     requires node { node < length concentrators.old.items }
     requires there { is_some (slice_index_or concentrators.old.items node None) ≡ true }
     requires parent { parent < length links.old.items }
-    requires place { place < length (row_at (map (λ row. row.items) links.old.items) parent) }
-    requires steps { (link_at (map (λ row. row.items) links.old.items) parent place).steps ≡ (gathered_at concentrators.old.items node).cache.steps }
+    requires place { place < length (row_at (rows_of links.old.items) parent) }
+    requires steps { (link_at (rows_of links.old.items) parent place).steps ≡ (gathered_at concentrators.old.items node).cache.steps }
     requires last { (gathered_at concentrators.old.items node).window.last + 1 < 2 ^ 32 }
-    requires number { (link_at (map (λ row. row.items) links.old.items) parent place).up.offered ≤ (gathered_at concentrators.old.items node).window.last }
+    requires number { (link_at (rows_of links.old.items) parent place).up.offered ≤ (gathered_at concentrators.old.items node).window.last }
     ensures published { MatchOption result (CannotPublish (gathered_at concentrators.old.items node)) (λ number.
         Published (gathered_at concentrators.old.items node) (gathered_at concentrators.new.items node)
-        (link_at (map (λ row. row.items) links.old.items) parent place) (link_at (map (λ row. row.items) links.new.items) parent place) number) }
-    ensures one { OneLink (map (λ row. row.items) links.old.items) (map (λ row. row.items) links.new.items) parent place }
+        (link_at (rows_of links.old.items) parent place) (link_at (rows_of links.new.items) parent place) number) }
+    ensures one { OneLink (rows_of links.old.items) (rows_of links.new.items) parent place }
     ensures alone { OneConcentrator concentrators.old.items concentrators.new.items node }
-    ensures none { result ≡ None → (map (λ row. row.items) links.new.items ≡ map (λ row. row.items) links.old.items)
+    ensures none { result ≡ None → (rows_of links.new.items ≡ rows_of links.old.items)
         × (concentrators.new.items ≡ concentrators.old.items) }
 {
     let row = &mut links[parent];
@@ -85,16 +86,16 @@ pub(crate) fn pass(
     requires there { is_some (slice_index_or concentrators.old.items node None) ≡ true }
     requires row { node < length links.old.items }
     requires kept { Keeps (gathered_at concentrators.old.items node).window price.number }
-    requires same_length { length (row_at (map (λ row. row.items) links.old.items) node) ≡ length (gathered_at concentrators.old.items node).cache.heads }
-    requires index { IsNewIndex price.index (row_at (map (λ row. row.items) links.old.items) node) }
+    requires same_length { length (row_at (rows_of links.old.items) node) ≡ length (gathered_at concentrators.old.items node).cache.heads }
+    requires index { IsNewIndex price.index (row_at (rows_of links.old.items) node) }
     requires step { price.step < (gathered_at concentrators.old.items node).cache.steps }
     ensures passed { Passed (gathered_at concentrators.old.items node) (gathered_at concentrators.new.items node) price.number }
     ensures alone { OneConcentrator concentrators.old.items concentrators.new.items node }
     ensures prices { let g = gathered_at concentrators.old.items node in
         let sent = record_of g.window price.number in
         PricesOffered sent.heads (local_step_of_record g.limits price.step sent.sum) price.index
-        (row_at (map (λ row. row.items) links.old.items) node) (row_at (map (λ row. row.items) links.new.items) node) }
-    ensures row { OneRow (map (λ row. row.items) links.old.items) (map (λ row. row.items) links.new.items) node }
+        (row_at (rows_of links.old.items) node) (row_at (rows_of links.new.items) node) }
+    ensures row { OneRow (rows_of links.old.items) (rows_of links.new.items) node }
 {
     let row = &mut links[node];
     if let Some(concentrator) = &mut concentrators[node] {
@@ -105,14 +106,14 @@ pub(crate) fn pass(
 /// The auctioneer clears, where it learnt something since its last clearing.
 pub(crate) fn clear(auctioneer: &mut Auctioneer, links: &mut Vec<Vec<Link>>) -> Option<Cleared>
     requires row { 0 < length links.old.items }
-    requires same_length { length (row_at (map (λ row. row.items) links.old.items) 0) ≡ length auctioneer.old.cache.heads }
+    requires same_length { length (row_at (rows_of links.old.items) 0) ≡ length auctioneer.old.cache.heads }
     requires last { auctioneer.old.index + 1 < 2 ^ 32 }
-    requires index { IsNewIndex (auctioneer.old.index + 1) (row_at (map (λ row. row.items) links.old.items) 0) }
+    requires index { IsNewIndex (auctioneer.old.index + 1) (row_at (rows_of links.old.items) 0) }
     ensures cleared { MatchOption result (auctioneer.old.changed ≡ false) (λ cleared. ClearedAt auctioneer.old auctioneer.new
-        (row_at (map (λ row. row.items) links.old.items) 0) (row_at (map (λ row. row.items) links.new.items) 0) cleared.index cleared.step) }
-    ensures row { IsSome result → OneRow (map (λ row. row.items) links.old.items) (map (λ row. row.items) links.new.items) 0 }
+        (row_at (rows_of links.old.items) 0) (row_at (rows_of links.new.items) 0) cleared.index cleared.step) }
+    ensures row { IsSome result → OneRow (rows_of links.old.items) (rows_of links.new.items) 0 }
     ensures none { result ≡ None → (auctioneer.new ≡ auctioneer.old)
-        × (map (λ row. row.items) links.new.items ≡ map (λ row. row.items) links.old.items) }
+        × (rows_of links.new.items ≡ rows_of links.old.items) }
 {
     let row = &mut links[0];
     match auctioneer.clear(row) {

@@ -9,6 +9,7 @@ use Rattle.std.proofs.Math.Path.{fun_ext}
 use Rattle.pm_market.specs.State.{State, update}
 use Rattle.pm_base.specs.Cuts.{Cut, cut_of}
 use Rattle.pm_base.proofs.Lists.{get_or-replicate_same}
+use Rattle.pm_base.specs.Rows.{rows_of}
 use Rattle.pm_market.proofs.Cuts.{updated_same, updated_other}
 
 -- what holds at all holds on an error
@@ -53,7 +54,7 @@ all_one {X} xs n x e k = ap (λ (l : List X). get_or l k x) e ∙ get_or-replica
 
 -- one more empty row
 pub empty_more : {X : Type 0} (old new : List (Vec X Global)) (row : Vec X Global) (n : ℕ) → new ≡ old ++ row ∷ [] → row.items ≡ [] →
-    map (λ row. row.items) old ≡ replicate n [] → map (λ row. row.items) new ≡ replicate (n + 1) []
+    rows_of old ≡ replicate n [] → rows_of new ≡ replicate (n + 1) []
 empty_more {X} old new row n is empty before =
     ap (map (λ (row : Vec X Global). row.items)) is ∙ map-append (λ (row : Vec X Global). row.items) old (row ∷ [])
     ∙ ap (λ (rows : List (List X)). rows ++ row.items ∷ []) before
@@ -61,7 +62,7 @@ empty_more {X} old new row n is empty before =
     ∙ replicate-append-replicate n 1 []
 
 -- a table of so many empty rows has so many rows
-pub empty_long : {X : Type 0} (table : Vec (Vec X Global) Global) (n : ℕ) → map (λ row. row.items) table.items ≡ replicate n [] → table.len ≡ n
+pub empty_long : {X : Type 0} (table : Vec (Vec X Global) Global) (n : ℕ) → rows_of table.items ≡ replicate n [] → table.len ≡ n
 empty_long {X} table n empty =
     let rows = length-map table.items (λ (row : Vec X Global). row.items) in
     let many = ap (λ (rows : List (List X)). length rows) empty in
@@ -84,10 +85,10 @@ row_pushed {X} {Y} h old new at item y e lt more = fun_ext (λ (k : ℕ).
 -- where an item joins a row of the table that a Vec lends, it joins what that row stands for
 row_joined : {X Y : Type 0} (h : List X → List Y) (table : Vec (Vec X Global) Global) (lent new : List (Vec X Global)) (at : ℕ) (item : X) (y : Y) →
     lent ≡ table.items → length new ≡ table.len → at < length table.items →
-    map (λ row. row.items) new ≡ set (map (λ row. row.items) lent) at (get_or (map (λ row. row.items) lent) at [] ++ item ∷ []) →
+    rows_of new ≡ set (rows_of lent) at (get_or (rows_of lent) at [] ++ item ∷ []) →
     ((rows : List X) → h (rows ++ item ∷ []) ≡ h rows ++ y ∷ []) →
-    (λ (k : ℕ). h (get_or (map (λ row. row.items) (with_items table new).items) k []))
-    ≡ update (λ (k : ℕ). h (get_or (map (λ row. row.items) table.items) k [])) at (h (get_or (map (λ row. row.items) table.items) at []) ++ y ∷ [])
+    (λ (k : ℕ). h (get_or (rows_of (with_items table new).items) k []))
+    ≡ update (λ (k : ℕ). h (get_or (rows_of table.items) k [])) at (h (get_or (rows_of table.items) at []) ++ y ∷ [])
 row_joined {X} {Y} h table lent new at item y same size within e more =
     let rows : List (Vec X Global) → List (List X) = map (λ (row : Vec X Global). row.items) in
     row_pushed h (rows table.items) (rows (with_items table new).items) at item y
@@ -96,8 +97,8 @@ row_joined {X} {Y} h table lent new at item y same size within e more =
 
 -- where the rows of a table that a Vec lends stay, those of the Vec do
 pub rows_kept : {X : Type 0} (table : Vec (Vec X Global) Global) (lent new : List (Vec X Global)) → lent ≡ table.items → length new ≡ table.len →
-    map (λ row. row.items) new ≡ map (λ row. row.items) lent →
-    map (λ row. row.items) (with_items table new).items ≡ map (λ row. row.items) table.items
+    rows_of new ≡ rows_of lent →
+    rows_of (with_items table new).items ≡ rows_of table.items
 rows_kept {X} table lent new same size kept =
     let rows : List (Vec X Global) → List (List X) = map (λ (row : Vec X Global). row.items) in
     ap rows (with_items_is table new size) ∙ kept ∙ ap rows same
@@ -108,19 +109,19 @@ pub cut_joined : (table : Vec (Vec (Vec ℕ Global) Global) Global) (lent new : 
     cut_of row.items ≡ cut → lent ≡ table.items → length new ≡ table.len → at < length table.items →
     map (λ rows. rows.items) new ≡ set (map (λ rows. rows.items) lent) at (get_or (map (λ rows. rows.items) lent) at [] ++ row ∷ []) →
     let cuts : Vec (Vec (Vec ℕ Global) Global) Global → ℕ → List Cut =
-    λ t c. map cut_of (map (λ row. row.items) (get_or (map (λ rows. rows.items) t.items) c [])) in
+    λ t c. map cut_of (rows_of (get_or (map (λ rows. rows.items) t.items) c [])) in
     cuts (with_items table new) ≡ update (cuts table) at (cuts table at ++ cut ∷ [])
 cut_joined table lent new at row cut is same size within e =
-    row_joined (λ (rows : List (Vec ℕ Global)). map cut_of (map (λ row. row.items) rows)) table lent new at row cut same size within e
+    row_joined (λ (rows : List (Vec ℕ Global)). map cut_of (rows_of rows)) table lent new at row cut same size within e
     (λ rows. ap (map cut_of) (map-append (λ (row : Vec ℕ Global). row.items) rows (row ∷ []))
-    ∙ map-append cut_of (map (λ row. row.items) rows) (row.items ∷ [])
-    ∙ ap (λ (a : Cut). map cut_of (map (λ row. row.items) rows) ++ a ∷ []) is)
+    ∙ map-append cut_of (rows_of rows) (row.items ∷ [])
+    ∙ ap (λ (a : Cut). map cut_of (rows_of rows) ++ a ∷ []) is)
 
 -- where an index joins those of a node in the table that a Vec lends, it joins the indices of the node
 pub index_joined : (table : Vec (Vec ℕ Global) Global) (lent new : List (Vec ℕ Global)) (at index : ℕ) →
     lent ≡ table.items → length new ≡ table.len → at < length table.items →
-    map (λ row. row.items) new ≡ set (map (λ row. row.items) lent) at (get_or (map (λ row. row.items) lent) at [] ++ index ∷ []) →
-    let indices : Vec (Vec ℕ Global) Global → ℕ → List ℕ = λ t x. get_or (map (λ row. row.items) t.items) x [] in
+    rows_of new ≡ set (rows_of lent) at (get_or (rows_of lent) at [] ++ index ∷ []) →
+    let indices : Vec (Vec ℕ Global) Global → ℕ → List ℕ = λ t x. get_or (rows_of t.items) x [] in
     indices (with_items table new) ≡ update (indices table) at (indices table at ++ index ∷ [])
 index_joined table lent new at index same size within e =
     row_joined (λ (row : List ℕ). row) table lent new at index index same size within e (λ row. refl)

@@ -3,6 +3,7 @@ use Rattle.std.specs.Prelude.{◌≡◌, ℕ, [], ◌∷◌, ◌++◌, map, slic
 use Rattle.pm_market.specs.Lists.{Lists}
 use Rattle.pm_market.specs.State.{State, update, knowledge}
 use Rattle.pm_base.specs.Cuts.{cut_of}
+use Rattle.pm_base.specs.Rows.{rows_of}
 use Rattle.pm_market.specs.declared.market.Market.{Market}
 
 -- the four lists of a market
@@ -10,8 +11,8 @@ abbrev pub market_lists : Market → Lists
 market_lists m = record {
   parents = m.parents.items;
   leaves = m.leaves.items;
-  members = map (λ row. row.items) m.members.items;
-  ends = map (λ row. row.items) m.ends.items;
+  members = rows_of m.members.items;
+  ends = rows_of m.ends.items;
 }
 
 -- the state of a market; each table has a place for each node, the auctioneer's first
@@ -19,9 +20,9 @@ abbrev pub market_state : Market → State
 market_state m = record {
   counts = cut_of m.counts.items;
   closed = m.closed;
-  published = λ c. map cut_of (map (λ row. row.items) (slice_index_or (map (λ rows. rows.items) m.published.items) c []));
+  published = λ c. map cut_of (rows_of (slice_index_or (map (λ rows. rows.items) m.published.items) c []));
   learnt = λ x. slice_index_or m.learnt.items x 0;
-  passed = λ x. slice_index_or (map (λ row. row.items) m.passed.items) x [];
+  passed = λ x. slice_index_or (rows_of m.passed.items) x [];
 }
 
 -- the greatest index of a clearing that is due to a node

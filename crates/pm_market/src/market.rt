@@ -1,5 +1,6 @@
 ghost use Rattle.std.specs.Prelude.{◌≡◌, ◌+◌, [], map, vec_len, slice_index, slice_index_or};
 ghost use Rattle.pm_base.specs.Cuts.{cut_of};
+ghost use Rattle.pm_base.specs.Rows.{rows_of};
 ghost use Rattle.pm_market.specs.Due.{KnowsDue, AreParents};
 
 mod due;
@@ -45,13 +46,13 @@ pub struct Market {
     // which nodes have children, and of each node the greatest index of a clearing that is due to it
     ghost parents_marked: { AreParents parents.items has_child.items },
     ghost greatest_due: { KnowsDue
-        (record { parents = parents.items; leaves = leaves.items; members = map (λ row. row.items) members.items; ends = map (λ row. row.items) ends.items })
+        (record { parents = parents.items; leaves = leaves.items; members = rows_of members.items; ends = rows_of ends.items })
         (record {
           counts = cut_of counts.items;
           closed = closed;
-          published = λ c. map cut_of (map (λ row. row.items) (slice_index_or (map (λ rows. rows.items) published.items) c []));
+          published = λ c. map cut_of (rows_of (slice_index_or (map (λ rows. rows.items) published.items) c []));
           learnt = λ x. slice_index_or learnt.items x 0;
-          passed = λ x. slice_index_or (map (λ row. row.items) passed.items) x [];
+          passed = λ x. slice_index_or (rows_of passed.items) x [];
         })
         (λ x. slice_index_or due.items x 0) },
 }

@@ -1,5 +1,6 @@
-ghost use Rattle.std.specs.Prelude.{◌≡◌, ◌==◌, ◌<◌, ◌||◌, ◌∷◌, ◌++◌, ℕ, false, [], length, map, replicate, slice_index_or};
+ghost use Rattle.std.specs.Prelude.{◌≡◌, ◌==◌, ◌<◌, ◌||◌, ◌∷◌, ◌++◌, ℕ, false, [], length, replicate, slice_index_or};
 ghost use Rattle.std.specs.Prelude.{slice_set, IfOk, OnErr, OnOk};
+ghost use Rattle.pm_base.specs.Rows.{rows_of};
 ghost use Rattle.pm_market.specs.Due.{AreParents};
 ghost use Rattle.pm_market.specs.Legality.{is_one_of};
 
@@ -28,7 +29,7 @@ pub(crate) fn item_at<T: Copy>(list: &[T], place: usize, none: T) -> T
 
 /// The row at a place of a table that is counted from 1; a row that is missing is empty.
 pub(crate) fn row_from_one<T>(table: &[Vec<T>], place: usize) -> &[T]
-    ensures { result.now ≡ slice_index_or ([] ∷ map (λ row. row.items) table.now) place [] }
+    ensures { result.now ≡ slice_index_or ([] ∷ rows_of table.now) place [] }
 {
     match place.checked_sub(1) {
         Some(at) => row_at(table, at),
@@ -38,7 +39,7 @@ pub(crate) fn row_from_one<T>(table: &[Vec<T>], place: usize) -> &[T]
 
 /// The row at a place that is counted from 0; a row that is missing is empty.
 pub(crate) fn row_at<T>(table: &[Vec<T>], place: usize) -> &[T]
-    ensures { result.now ≡ slice_index_or (map (λ row. row.items) table.now) place [] }
+    ensures { result.now ≡ slice_index_or (rows_of table.now) place [] }
 {
     match table.get(place) {
         Some(row) => row,
@@ -53,9 +54,9 @@ pub(crate) fn push_at<T: Drop>(
     item: T,
 ) -> Result<(), AllocError>
     requires { place < length table.old }
-    ensures ok { OnOk result (map (λ row. row.items) table.new ≡ slice_set (map (λ row. row.items) table.old) place
-        (slice_index_or (map (λ row. row.items) table.old) place [] ++ item ∷ [])) }
-    ensures err { OnErr result (map (λ row. row.items) table.new ≡ map (λ row. row.items) table.old) }
+    ensures ok { OnOk result (rows_of table.new ≡ slice_set (rows_of table.old) place
+        (slice_index_or (rows_of table.old) place [] ++ item ∷ [])) }
+    ensures err { OnErr result (rows_of table.new ≡ rows_of table.old) }
 {
     let row = &mut table[place];
     row.push(item)?;
@@ -64,7 +65,7 @@ pub(crate) fn push_at<T: Drop>(
 
 /// So many empty rows.
 pub(crate) fn empty_rows<T: Drop>(alloc: Global, rows: usize) -> Result<Vec<Vec<T>>, AllocError>
-    ensures { IfOk result (λ table. map (λ row. row.items) table.items ≡ replicate rows []) }
+    ensures { IfOk result (λ table. rows_of table.items ≡ replicate rows []) }
 {
     let mut table = Vec::with_capacity(alloc, rows)?;
     for _row in 0..rows {

@@ -5,13 +5,14 @@ use std::alloc::{AllocError, Global};
 
 /// Making moves.
 impl Market {
-    ghost use Rattle.std.specs.Prelude.{◌≡◌, ◌≢◌, ◌≤◌, ℕ, true, map, vec_len, IfOk, OnOk, OnErr};
+    ghost use Rattle.std.specs.Prelude.{◌≡◌, ◌≢◌, ◌≤◌, ℕ, true, vec_len, IfOk, OnOk, OnErr};
     ghost use Rattle.pm_market.specs.Lists.{nodes, parent, IsNode};
     ghost use Rattle.pm_market.specs.State.{start, knowledge, update, clearings};
     ghost use Rattle.pm_market.specs.Moves.{step};
     ghost use Rattle.pm_market.specs.Legality.{is_legal};
     ghost use Rattle.pm_market.specs.Market.{Publishes, Passes, market_lists, market_state};
     ghost use Rattle.pm_base.specs.Cuts.{cut_of};
+    ghost use Rattle.pm_base.specs.Rows.{rows_of};
 
     /// A market at its start, over these lists: the parent of each node, which nodes are devices, for each node whether it
     /// is a member after each of its changes, and for each phase the number of changes of each node at its end.
@@ -26,8 +27,8 @@ impl Market {
         ensures lists { IfOk result (λ market. market_lists market ≡ record {
           parents = parents.items;
           leaves = leaves.items;
-          members = map (λ row. row.items) members.items;
-          ends = map (λ row. row.items) ends.items;
+          members = rows_of members.items;
+          ends = rows_of ends.items;
         }) }
         ensures start { IfOk result (λ market. market_state market ≡ start) }
     {

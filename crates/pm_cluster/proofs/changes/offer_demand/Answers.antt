@@ -1,4 +1,4 @@
-use Rattle.std.proofs.Common.{◌≡◌, ◌∙◌, sym, ap, subst, ℕ, ℤ, true, List, length, map, rules}
+use Rattle.std.proofs.Common.{◌≡◌, ◌∙◌, sym, ap, subst, ℕ, ℤ, true, List, length, rules}
 use Rattle.std.specs.Prelude.{IfSome}
 use Rattle.std.specs.Option.{option_copied}
 use Rattle.pm_strategy.specs.Strategies.{bid_of}
@@ -12,6 +12,7 @@ use Rattle.pm_cluster.proofs.Making.{read_steps, offered_demand}
 use Rattle.pm_plan.proofs.Fits.{kind_valid}
 use Rattle.pm_cluster.proofs.NextChanges.{demand_of_member, state_valid}
 use Rattle.std.proofs.lemmas.List.{length-replicate}
+use Rattle.pm_base.specs.Rows.{rows_of}
 use Rattle.pm_cluster.proofs.changes.offer_demand.Goals as goal
 
 pub parent_of-parent-requires : goal.parent_of-parent-requires
@@ -32,7 +33,7 @@ offer_bid-requires-in-Some-clause-steps c =
     let given : c.in-Some.demand.now ≡ device_demand plan next.device next.number =
     subst (λ g. IfSome (option_copied g) (λ demand. demand ≡ device_demand plan next.device next.number)) c.in-Some.is (c.requires.given member) in
     ap length given ∙ demand_steps plan c.requires.sound next.device next.number
-    ∙ sym (read_steps plan (map (λ row. row.items) c.args.links.now.items) next.device c.parent_of-parent.result c.place_in_row-place.result
+    ∙ sym (read_steps plan (rows_of c.args.links.now.items) next.device c.parent_of-parent.result c.place_in_row-place.result
     c.parent_of-parent.ensures.parent c.place_in_row-place.ensures.place c.requires.steps)
 
 pub fill_bid-requires-clause-valid : goal.fill_bid-requires-clause-valid
@@ -56,7 +57,7 @@ returns-in_default-clause-offered c =
     ∙ ap (λ (n : ℕ). bid_of kind z c.arrays.result.now n) c.requires.room
     ∙ ap (λ (a : List (List ℤ)). bid_of kind z a plan.basis.steps) c.arrays.ensures.arrays
     ∙ sym (demand_of_member plan next.device next.number kind c.requires.kind (sym c.requires.member ∙ member)) in
-    offered_demand plan (map (λ row. row.items) c.args.links.now.items) (map (λ row. row.items) c.offer_bid-in_default.new.links.items) next.device
+    offered_demand plan (rows_of c.args.links.now.items) (rows_of c.offer_bid-in_default.new.links.items) next.device
     next.number c.parent_of-parent.result c.place_in_row-place.result next.member c.fill_bid.new.out c.parent_of-parent.ensures.parent
     c.place_in_row-place.ensures.place member filled c.offer_bid-in_default.ensures.offered
 

@@ -1,4 +1,5 @@
-use Rattle.std.proofs.Common.{◌≡◌, ℕ, ◌<◌, length, map, replicate}
+use Rattle.std.proofs.Common.{◌≡◌, ℕ, ◌<◌, length, replicate}
+use Rattle.pm_base.specs.Rows.{rows_of}
 use Rattle.pm_tree.specs.Entries.{children_of}
 use Rattle.pm_session.specs.Links.{new_session}
 use Rattle.pm_stands.specs.Core.{row_at}
@@ -7,5 +8,5 @@ use Rattle.pm_cluster.proofs.opening.rows.Given as goal
 abbrev pub invariant-loop-number : goal.invariant-loop-number
 invariant-loop-number l =
     (length l.rows.items ≡ l.number)
-    × ((y : ℕ) → y < l.number → row_at (map (λ row. row.items) l.rows.items) y
+    × ((y : ℕ) → y < l.number → row_at (rows_of l.rows.items) y
     ≡ replicate (length (children_of l.plan.entries y)) (new_session l.plan.basis.steps))

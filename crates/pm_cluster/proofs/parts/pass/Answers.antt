@@ -1,8 +1,9 @@
-use Rattle.std.proofs.Common.{arith, sym, ap, subst, ◌∙◌, ◌≡◌, length, ℕ, ◌<◌, get_or, map, Option, None, Some}
+use Rattle.std.proofs.Common.{arith, sym, ap, subst, ◌∙◌, ◌≡◌, length, ℕ, ◌<◌, get_or, Option, None, Some}
 use Rattle.std.proofs.Math.ListN.{set}
 use Rattle.std.proofs.lemmas.List.{with_items_is}
 use Rattle.std.specs.Vec.{with_items}
 use Rattle.pm_base.specs.declared.limits.Limits.{Limits}
+use Rattle.pm_base.specs.Rows.{rows_of}
 use Rattle.pm_session.specs.Windows.{Keeps}
 use Rattle.pm_concentrator.specs.Limited.{IsStepOf}
 use Rattle.pm_concentrator.specs.Concentrators.{Gathered}
@@ -52,8 +53,8 @@ items_are c = with_items_is c.index_mut-row.result.now c.pass.new.downs (c.pass.
 
 wrote : (c : After-pass) →
     let rows = set c.args.links.now.items c.args.node (with_items c.index_mut-row.result.now c.pass.new.downs) in
-    OneRow (map (λ row. row.items) c.args.links.now.items) (map (λ row. row.items) rows) c.args.node
-    × (row_at (map (λ row. row.items) rows) c.args.node ≡ (with_items c.index_mut-row.result.now c.pass.new.downs).items)
+    OneRow (rows_of c.args.links.now.items) (rows_of rows) c.args.node
+    × (row_at (rows_of rows) c.args.node ≡ (with_items c.index_mut-row.result.now c.pass.new.downs).items)
 wrote c =
     (is_row_read (λ row. row.items) c.args.links.now.items c.args.node c.index_mut-row.result.now c.requires.row c.index_mut-row.ensures.value).wrote
     (with_items c.index_mut-row.result.now c.pass.new.downs)

@@ -1,5 +1,6 @@
-use Rattle.std.proofs.Common.{◌≡◌, map, replicate, []}
+use Rattle.std.proofs.Common.{◌≡◌, replicate, []}
+use Rattle.pm_base.specs.Rows.{rows_of}
 use Rattle.pm_market.proofs.rows.empty_rows.Given as goal
 
 abbrev pub invariant-loop-row : goal.invariant-loop-row
-invariant-loop-row g l = map (λ row. row.items) l.table.items ≡ replicate l._row []
+invariant-loop-row g l = rows_of l.table.items ≡ replicate l._row []

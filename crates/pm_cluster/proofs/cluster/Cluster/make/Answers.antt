@@ -1,6 +1,7 @@
 use Rattle.std.proofs.Common.{◌≡◌, ◌∙◌, sym, ap, subst, ℕ, ◌+◌, ◌<◌, ◌≤◌, ℤ, false, List, length, map, get_or, arith, refl}
 use Rattle.std.proofs.lemmas.List.{get_or_read, length-map, map-set}
 use Rattle.std.proofs.Math.ListN.{set, length-set}
+use Rattle.pm_base.specs.Rows.{rows_of}
 use Rattle.pm_device.specs.declared.state.DeviceState.{DeviceState}
 use Rattle.pm_tree.specs.Entries.{place_of}
 use Rattle.pm_market.specs.Lists.{nodes, parent, IsNode}
@@ -101,7 +102,7 @@ seat_read ports x seat lt read = get_or_read ports x seat lt read _
 
 -- what the code wrote
 abbrev links_after : (c : After-take_seat) → List (List Session)
-links_after c = map (λ row. row.items) c.offer_demand.new.links.items
+links_after c = rows_of c.offer_demand.new.links.items
 
 written : (c : After-take_seat) → IsFollowed c.self.inside.plan.now (core_of c.self.inside) c.args.next c.args.kind →
     (uplink_of c.self.inside.plan.now (core_of c.self.inside) c.args.next.device).steps ≡ c.self.inside.plan.now.basis.steps →

@@ -1,4 +1,4 @@
-use Rattle.std.proofs.Common.{rules, refl, map, arith}
+use Rattle.std.proofs.Common.{rules, refl, arith}
 use Rattle.pm_market.specs.State.{State}
 use Rattle.pm_market.specs.Lists.{IsConcentrator}
 use Rattle.pm_market.specs.declared.moves.Move.TheVariants.{Pass}
@@ -12,17 +12,18 @@ use Rattle.pm_cluster.proofs.MadeBy.{made_by, made_none}
 use Rattle.pm_market.specs.declared.moves.Act.TheVariants as act
 use Rattle.pm_cluster.proofs.Kept.{moved, of_fields}
 use Rattle.std.proofs.lemmas.List.{length-map}
+use Rattle.pm_base.specs.Rows.{rows_of}
 use Rattle.pm_cluster.proofs.cluster.Cluster.pass_on.Goals as goal
 use Rattle.pm_cluster.proofs.cluster.Cluster.pass_on.Goals.{In-Some, After-pass}
 
 concentrator_at : (c : In-Some) → IsConcentrator (plan_lists c.self.inside.plan.now) c.args.node.0
 concentrator_at c = of_fields c.self.inside _ c.self.view_is (λ plan. IsConcentrator (plan_lists plan) c.args.node.0) c.requires.concentrator
 
-may : (c : In-Some) → MayPass (core_of c.self.inside) c.args.node.0 (map (λ row. row.items) c.take_price.new.links.items) c.in-Some.price
+may : (c : In-Some) → MayPass (core_of c.self.inside) c.args.node.0 (rows_of c.take_price.new.links.items) c.in-Some.price
 may c =
     may_pass c.self.inside.plan.now c.self.invariant.is_plan (core_of c.self.inside) c.self.invariant.stands c.args.node.0
     c.parent_of-parent.result c.place_in_row-place.result (concentrator_at c) c.parent_of-parent.ensures.parent c.place_in_row-place.ensures.place
-    (map (λ row. row.items) c.take_price.new.links.items) c.in-Some.price c.in-Some.ensures.taken c.in-Some.ensures.one
+    (rows_of c.take_price.new.links.items) c.in-Some.price c.in-Some.ensures.taken c.in-Some.ensures.one
 
 pub pass-requires-clause-kept : goal.pass-requires-clause-kept
 pass-requires-clause-kept c = (may (goal.at.pass-requires-clause-kept c).In-Some).keeps
@@ -39,7 +40,7 @@ pass-requires-clause-step c = (may (goal.at.pass-requires-clause-step c).In-Some
 abbrev after : (c : After-pass) → Inside
 after c = record c.self.inside { links = c.pass.new.links; concentrators = c.pass.new.concentrators }
 
-did : (c : After-pass) → DidPass (core_of c.self.inside) c.args.node.0 (map (λ row. row.items) c.take_price.new.links.items) (core_of (after c)).links
+did : (c : After-pass) → DidPass (core_of c.self.inside) c.args.node.0 (rows_of c.take_price.new.links.items) (core_of (after c)).links
     c.pass.new.concentrators.items c.in-Some.price c.parent_of-parent.result c.place_in_row-place.result
 did c = record {
   taken = c.in-Some.ensures.taken;

@@ -1,5 +1,6 @@
 use Rattle.std.proofs.Common.{ap, sym, subst, arith, ◌∙◌, get_or, ℕ, List, [], map, Vec, Global}
 use Rattle.pm_base.specs.Cuts.{Cut, cut_of}
+use Rattle.pm_base.specs.Rows.{rows_of}
 use Rattle.pm_market.specs.Due.{KnowsDue}
 use Rattle.pm_market.specs.Market.{market_lists, market_state, market_due}
 use Rattle.pm_market.proofs.Tables.{cut_joined, rows_kept, on_error}
@@ -50,7 +51,7 @@ invariant_of-self c =
       none_above = m.none_above;
       parents_marked = m.parents_marked;
       greatest_due = subst (λ (rows : List (List (Vec ℕ Global))). KnowsDue (market_lists m)
-          (record s { published = λ c. map cut_of (map (λ row. row.items) (get_or rows c [])) }) (market_due m))
+          (record s { published = λ c. map cut_of (rows_of (get_or rows c [])) }) (market_due m))
           (sym (rows_kept m.published _ _ c.deref_mut.ensures.value size c.in_err-push_at.ensures.err)) m.greatest_due;
     }
 
@@ -59,5 +60,5 @@ returns-in_err-push_at-clause-err c =
     let m = c.args.self.now in
     let size = c.push_at.auto.table ∙ c.deref_mut.ensures.len in
     on_error c.from_residual-in_err-push_at.result _
-    (ap (λ (rows : List (List (Vec ℕ Global))). record (market_state m) { published = λ c. map cut_of (map (λ row. row.items) (get_or rows c [])) })
+    (ap (λ (rows : List (List (Vec ℕ Global))). record (market_state m) { published = λ c. map cut_of (rows_of (get_or rows c [])) })
     (rows_kept m.published _ _ c.deref_mut.ensures.value size c.in_err-push_at.ensures.err))

@@ -4,6 +4,7 @@ use Rattle.std.proofs.lemmas.List.{get_or_past, length-map}
 use Rattle.std.proofs.Math.Path.{fun_ext}
 use Rattle.pm_market.specs.Market.{market_lists, market_state}
 use Rattle.pm_base.specs.Cuts.{cut_of}
+use Rattle.pm_base.specs.Rows.{rows_of}
 use Rattle.pm_market.specs.Lists.{nodes}
 use Rattle.pm_market.proofs.Tree.{parent_past, leaf_past}
 use Rattle.pm_market.proofs.Loops.{known_past}
@@ -23,5 +24,5 @@ returns c =
           let rows : length (map (λ rows. rows.items) m.published.items) ≤ d = omega (arith, length-map m.published.items (λ rows. rows.items)) in
           get_or_past row.items d 0 (omega arith)
           ∙ sym (known_past lists s.published s.learnt c.args.node d (parent_past lists d past) (leaf_past lists d leaf)
-          (ap (λ rows. map cut_of (map (λ row. row.items) rows)) (get_or_past (map (λ rows. rows.items) m.published.items) d [] rows)) m.none_above)
+          (ap (λ rows. map cut_of (rows_of rows)) (get_or_past (map (λ rows. rows.items) m.published.items) d [] rows)) m.none_above)
     ])

@@ -1,5 +1,6 @@
 use Rattle.std.proofs.Common.{◌<◌, ap, arith, ◌∙◌, ℕ, List, length, sym, subst, map, get_or, [], Vec, Global}
 use Rattle.pm_base.specs.Cuts.{Cut, cut_of}
+use Rattle.pm_base.specs.Rows.{rows_of}
 use Rattle.pm_market.specs.Market.{market_state, market_lists, market_due}
 use Rattle.pm_market.proofs.Tables.{cut_joined, on_success, rows_kept, on_either}
 use Rattle.pm_market.specs.Due.{KnowsDue}
@@ -27,7 +28,7 @@ invariant_of-self-clause-greatest_due c =
     on_either c.push_at.result _ _ _ c.push_at.ensures.ok c.push_at.ensures.err
     (λ pushed. subst knows (sym (cut_joined m.published _ _ c.args.node _ _ c.in_ok-row.ensures c.deref_mut.ensures.value size inside pushed))
     (knows_published (market_lists m) s (market_due m) _ (updated_other s.published c.args.node _ 0 (λ zero. absurd (omega arith))) m.greatest_due))
-    (λ same. subst (λ (rows : List (List (Vec ℕ Global))). knows (λ c. map cut_of (map (λ row. row.items) (get_or rows c []))))
+    (λ same. subst (λ (rows : List (List (Vec ℕ Global))). knows (λ c. map cut_of (rows_of (get_or rows c []))))
     (sym (rows_kept m.published _ _ c.deref_mut.ensures.value size same)) m.greatest_due)
 
 pub returns-clause-err : goal.returns-clause-err
@@ -36,6 +37,6 @@ returns-clause-err c =
     let size = c.push_at.auto.table ∙ c.deref_mut.ensures.len in
     on_failure c.push_at.result _ _
     (λ same. ap (λ (rows : List (List (Vec ℕ Global))).
-    record (market_state m) { published = λ c. map cut_of (map (λ row. row.items) (get_or rows c [])) })
+    record (market_state m) { published = λ c. map cut_of (rows_of (get_or rows c [])) })
     (rows_kept m.published _ _ c.deref_mut.ensures.value size same))
     c.push_at.ensures.err
