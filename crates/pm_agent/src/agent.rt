@@ -54,7 +54,8 @@ impl DeviceAgent {
     ) -> Result<DeviceAgent, AllocError>
         requires valid { IsTrue (is_valid kind) }
         requires steps { AreSteps steps }
-        ensures agent { IfOk result (λ agent. agent ≡ record { kind = kind; device = device; steps = steps }) }
+        ensures agent { IfOk result (λ agent. agent
+            ≡ record { kind = kind; device = device; steps = steps }) }
     {
         let none = ArrayBid::zero(alloc, steps, &mut Steps::<Brand>::start())?;
         Ok(DeviceAgent {
@@ -94,10 +95,12 @@ impl DeviceAgent {
         requires device { next.device ≡ self.old.device }
         requires fits { IsTrue (state_fits self.old.kind next.state.0) }
         requires arrays { HaveSteps self.old.steps arrays.now }
-        ensures* agent { sem 𝓛 (follows_so the_row the_row self.entry.ghost_name none (λ _ _. ⊤) (λ w. w ≡ self.old)) }
+        ensures* agent { sem 𝓛 (follows_so the_row the_row self.entry.ghost_name none (λ _ _. ⊤)
+            (λ w. w ≡ self.old)) }
         ensures next { result.now.next ≡ next }
         ensures kind { result.now.kind ≡ self.old.kind }
-        ensures demand { result.now.demand ≡ demand_after_change self.old.kind next arrays.now self.old.steps }
+        ensures demand { result.now.demand ≡ demand_after_change self.old.kind next arrays.now
+            self.old.steps }
         ensures steps { length result.now.demand ≡ self.old.steps }
         ensures made { IsMade result.now }
     {

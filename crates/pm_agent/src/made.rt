@@ -82,7 +82,8 @@ impl Made {
         requires arrays { HaveSteps (length self.old.demand) arrays.now }
         ensures next { self.new.next ≡ next }
         ensures kind { self.new.kind ≡ self.old.kind }
-        ensures demand { self.new.demand ≡ demand_after_change self.old.kind next arrays.now (length self.old.demand) }
+        ensures demand { self.new.demand ≡ demand_after_change self.old.kind next arrays.now
+            (length self.old.demand) }
         ensures steps { length self.new.demand ≡ length self.old.demand }
         ensures made { IsMade self.new }
     {

@@ -57,7 +57,8 @@ pub fn answer_of<R: Threads + Wait + Sync, G: Gate>(
 
 /// The cluster file of an input, and what stands behind it.
 fn open_input(asked: FileCommand, input: &[u8]) -> Option<Envelope<'_>>
-    ensures some { IfSome result (λ envelope. HasFile asked input.now envelope.file.now envelope.rest.now) }
+    ensures some { IfSome result
+        (λ envelope. HasFile asked input.now envelope.file.now envelope.rest.now) }
     ensures none { IfNone result ((file rest : List ℕ) → HasFile asked input.now file rest → ⊥) }
 {
     match asked {
@@ -118,7 +119,8 @@ fn trace_answer<R: Threads + Wait + Sync, G: Gate>(
     gate: &G,
 ) -> Result<Answer, AllocError>
     requires { HasPlan FileCommand.Check input.now plan.now trace.now }
-    ensures { IfOk result (λ answer. IsAnswer FileCommand.Check input.now answer.status answer.text.items) }
+    ensures { IfOk result (λ answer. IsAnswer FileCommand.Check input.now answer.status
+        answer.text.items) }
 {
     let report = text_of(rt, alloc, FileCommand::Run, plan, &[], gate)?;
     match check(alloc, plan, &report, trace) {
@@ -157,7 +159,8 @@ fn targets_of(alloc: Global, asked: FileCommand, rest: &[u8]) -> Result<Vec<i64>
     requires { asked ≢ FileCommand.Check }
     ensures asked { IfOk result (λ targets. AreAsked asked rest.now targets.items) }
     ensures within { IfOk result (λ targets. All (IsWithin demand_limit) targets.items) }
-    ensures bad { (line : ℕ) → result ≡ Err (TargetsFault.Bad line) → (asked ≡ FileCommand.Ask) × IsFirstBadLine line rest.now }
+    ensures bad { (line : ℕ) → result ≡ Err (TargetsFault.Bad line) → (asked ≡ FileCommand.Ask)
+        × IsFirstBadLine line rest.now }
 {
     match asked {
         FileCommand::Ask => read_targets(alloc, rest),

@@ -10,6 +10,7 @@ ghost use Rattle.pm_board.specs.Boards.{IsJournal};
 /// the same.
 #[tactic(auto, using(crate::proofs::JournalLines::traces_tell))]
 pub fn traces_tell_their_runs()
-    ensures { (plan : PlanData) (a b : List Line) → IsPlan plan → IsJournal plan a → IsJournal plan b →
+    ensures { (plan : PlanData) (a b : List Line) → IsPlan plan → IsJournal plan a →
+        IsJournal plan b →
         trace_text plan (all_ends plan) a ≡ trace_text plan (all_ends plan) b → a ≡ b }
 {}

@@ -201,7 +201,8 @@ fn summary_of<R: Threads + Wait + Sync, G: Gate>(
     gate: &G,
 ) -> Result<Vec<u8>, AllocError>
     requires { 1 ≤ phases plan.now }
-    ensures { IfOk result (λ text. text.items ≡ summary_text size number plan.now (all_ends plan.now)) }
+    ensures { IfOk result (λ text. text.items ≡ summary_text size number plan.now
+        (all_ends plan.now)) }
 {
     let (_journal, ends) = run(rt, alloc, plan, gate)?;
     summary_text(alloc, size, number, plan, &ends)

@@ -73,12 +73,14 @@ impl Curve {
         ensures list { result.now ≡ breaks_of self.now }
         ensures inside { All (λ break. break.step < length self.now) result.now }
         // The steps are exactly those that have targets among all whole numbers.
-        ensures steps { (step : ℕ) → HasTargets self.now step ↔ Any (λ break. break.step ≡ step) result.now }
+        ensures steps { (step : ℕ) → HasTargets self.now step
+            ↔ Any (λ break. break.step ≡ step) result.now }
         ensures rise { AllPairs (λ earlier later. earlier.step < later.step) result.now }
         ensures ends { All (HasEnds self.now) result.now }
         // Each target lies in the break of its step, and in no other.
         ensures each { (target : ℤ) → Any (IsBreakOf self.now target) result.now }
-        ensures only { All (λ break. (target : ℤ) → LiesIn target break → IsTargetOf self.now break.step target) result.now }
+        ensures only { All (λ break. (target : ℤ) → LiesIn target break →
+            IsTargetOf self.now break.step target) result.now }
     {
         &self.breaks
     }
@@ -106,5 +108,6 @@ impl Curve {
 
 /// A law: a total has one list of breaks at most, so that the clauses of [`Curve::breaks`] tell which list it is.
 pub fn breaks_are_unique()
-    ensures { (total : List ℤ) (breaks others : List Break) → AreBreaks total breaks → AreBreaks total others → breaks ≡ others }
+    ensures { (total : List ℤ) (breaks others : List Break) → AreBreaks total breaks →
+        AreBreaks total others → breaks ≡ others }
 {}

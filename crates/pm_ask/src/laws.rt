@@ -11,20 +11,24 @@ ghost use Rattle.pm_ask.specs.Asked.{asked_step, asked_total, target_bid};
 pub fn targets_are_bids()
     // The answer is the step of the plain auction of all bids and the bid of the target.
     ensures auction { (target : ℤ) (steps : ℕ) (bids : List (List ℤ)) → HaveSteps steps bids
-        → asked_step target (sum_of steps bids) ≡ clearing_step (sum_of steps (target_bid target steps ∷ bids)) }
+        → asked_step target (sum_of steps bids) ≡ clearing_step
+        (sum_of steps (target_bid target steps ∷ bids)) }
 
     // Of a total alone: with the bid of the target the market clears at the step that is answered, and at no other.
     ensures clears { (target : ℤ) (steps : ℕ) (total : List ℤ) → length total ≡ steps → 1 ≤ steps
         → Clears (pairwise_sum total (target_bid target steps)) (asked_step target total) }
     ensures only { (target : ℤ) (steps : ℕ) (total : List ℤ) (step : ℕ) → length total ≡ steps
-        → Clears (pairwise_sum total (target_bid target steps)) step → step ≡ asked_step target total }
+        → Clears (pairwise_sum total (target_bid target steps)) step →
+        step ≡ asked_step target total }
 
     // What is left over is the total of that market at its step: the watts of the cluster there less the target.
     ensures left_over { (target : ℤ) (steps : ℕ) (total : List ℤ) → length total ≡ steps
-        → asked_total target total ≡ demand_at (pairwise_sum total (target_bid target steps)) (asked_step target total) }
+        → asked_total target total ≡ demand_at (pairwise_sum total (target_bid target steps))
+        (asked_step target total) }
     ensures less { (target : ℤ) (total : List ℤ) → 1 ≤ length total
         → asked_total target total ≡ demand_at total (asked_step target total) -ℤ target }
 
     // It is the first step at which the cluster takes at most the target, and the last where it takes more at each.
-    ensures first { (target : ℤ) (total : List ℤ) → 1 ≤ length total → IsFirstAtMost target total (asked_step target total) }
+    ensures first { (target : ℤ) (total : List ℤ) → 1 ≤ length total →
+        IsFirstAtMost target total (asked_step target total) }
 {}

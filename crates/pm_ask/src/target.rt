@@ -22,7 +22,8 @@ pub(crate) fn split_target(text: &[u8]) -> Option<(i64, &[u8])>
 fn read_target(line: &[u8]) -> Option<i64>
     ensures within { IfSome result (IsWithin demand_limit) }
     ensures text { IfSome result (λ target. line.now ≡ signed_decimal target) }
-    ensures none { IfNone result ((target : ℤ) → IsWithin demand_limit target → line.now ≢ signed_decimal target) }
+    ensures none { IfNone result ((target : ℤ) → IsWithin demand_limit target →
+        line.now ≢ signed_decimal target) }
 {
     match line {
         [b'-', digits @ ..] => negative_of(digits),
@@ -35,7 +36,8 @@ fn negative_of(digits: &[u8]) -> Option<i64>
     ensures within { IfSome result (IsWithin demand_limit) }
     ensures negative { IfSome result (λ target. target <ℤ pos 0) }
     ensures text { IfSome result (λ target. 45 ∷ digits.now ≡ signed_decimal target) }
-    ensures none { IfNone result ((target : ℤ) → IsWithin demand_limit target → 45 ∷ digits.now ≢ signed_decimal target) }
+    ensures none { IfNone result ((target : ℤ) → IsWithin demand_limit target →
+        45 ∷ digits.now ≢ signed_decimal target) }
 {
     match number_up_to(DEMAND_LIMIT as u32, digits)? {
         0 => None,

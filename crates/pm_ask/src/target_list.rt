@@ -15,7 +15,8 @@ pub fn read_targets(alloc: Global, text: &[u8]) -> Result<Vec<i64>, TargetsFault
     ensures read { IfOk result (λ targets. IsListText targets.items text.now) }
     ensures bad { IfErr result (IsFaultOfText text.now) }
     // The text of a list is not refused, and a text with a bad line is.
-    ensures accepted { (targets : List ℤ) → IsListText targets text.now → IfErr result (λ fault. fault ≡ TargetsFault.NoMemory) }
+    ensures accepted { (targets : List ℤ) → IsListText targets text.now →
+        IfErr result (λ fault. fault ≡ TargetsFault.NoMemory) }
     ensures refused { (line : ℕ) → IsFirstBadLine line text.now → IsErr result }
 {
     let mut targets = Vec::new(alloc);
@@ -36,7 +37,10 @@ pub fn read_targets(alloc: Global, text: &[u8]) -> Result<Vec<i64>, TargetsFault
 
 /// A law: a text is that of one list of targets at most, has one first bad line at most, and never both.
 pub fn texts_have_one_reading()
-    ensures list { (targets others : List ℤ) (text : List ℕ) → IsListText targets text → IsListText others text → targets ≡ others }
-    ensures line { (line other : ℕ) (text : List ℕ) → IsFirstBadLine line text → IsFirstBadLine other text → line ≡ other }
-    ensures apart { (targets : List ℤ) (line : ℕ) (text : List ℕ) → IsListText targets text → ¬ (IsFirstBadLine line text) }
+    ensures list { (targets others : List ℤ) (text : List ℕ) → IsListText targets text →
+        IsListText others text → targets ≡ others }
+    ensures line { (line other : ℕ) (text : List ℕ) → IsFirstBadLine line text →
+        IsFirstBadLine other text → line ≡ other }
+    ensures apart { (targets : List ℤ) (line : ℕ) (text : List ℕ) → IsListText targets text →
+        ¬ (IsFirstBadLine line text) }
 {}

@@ -38,7 +38,8 @@ pub fn ask_text(
 /// Writes the lines of breaks.
 fn push_breaks(text: &mut String, basis: &Basis, breaks: &[Break]) -> Result<(), AllocError>
     requires { All (λ break. break.step < basis.now.steps) breaks.now }
-    ensures { OnOk result (string_bytes text.new ≡ string_bytes text.old ++ flat_map (break_line basis.now) breaks.now) }
+    ensures { OnOk result (string_bytes text.new ≡ string_bytes text.old
+        ++ flat_map (break_line basis.now) breaks.now) }
 {
     for of_step in breaks {
         push_break(text, basis, of_step)?;
@@ -50,7 +51,8 @@ fn push_breaks(text: &mut String, basis: &Basis, breaks: &[Break]) -> Result<(),
 #[tactic(auto, unfolding(crate::specs::Texts::break_line))]
 fn push_break(text: &mut String, basis: &Basis, of_step: &Break) -> Result<(), AllocError>
     requires { of_step.now.step < basis.now.steps }
-    ensures { OnOk result (string_bytes text.new ≡ string_bytes text.old ++ break_line basis.now of_step.now) }
+    ensures { OnOk result (string_bytes text.new ≡ string_bytes text.old
+        ++ break_line basis.now of_step.now) }
 {
     let step = of_step.step;
     let price = basis.price(step as usize);
@@ -71,7 +73,8 @@ fn push_ends(text: &mut String, of_step: &Break) -> Result<(), AllocError>
 
 /// Writes the number, or this word where there is none.
 fn push_number_or(text: &mut String, number: Option<i64>, word: &str) -> Result<(), AllocError>
-    ensures { OnOk result (string_bytes text.new ≡ string_bytes text.old ++ number_or word.now number) }
+    ensures { OnOk result (string_bytes text.new ≡ string_bytes text.old
+        ++ number_or word.now number) }
 {
     match number {
         Some(number) => write!(text, "{number}"),
@@ -88,7 +91,8 @@ fn push_answers(
 ) -> Result<(), AllocError>
     requires steps { length curve.now ≡ basis.now.steps }
     requires within { All (IsWithin demand_limit) targets.now }
-    ensures { OnOk result (string_bytes text.new ≡ string_bytes text.old ++ flat_map (answer_line basis.now curve.now) targets.now) }
+    ensures { OnOk result (string_bytes text.new ≡ string_bytes text.old
+        ++ flat_map (answer_line basis.now curve.now) targets.now) }
 {
     let mut counter = Steps::<Brand>::start();
     for target in targets {
@@ -108,7 +112,8 @@ fn push_answer<L: Ledger>(
 ) -> Result<(), AllocError>
     requires steps { length curve.now ≡ basis.now.steps }
     requires within { IsWithin demand_limit target }
-    ensures { OnOk result (string_bytes text.new ≡ string_bytes text.old ++ answer_line basis.now curve.now target) }
+    ensures { OnOk result (string_bytes text.new ≡ string_bytes text.old
+        ++ answer_line basis.now curve.now target) }
 {
     let answer = curve.answer(target, counter);
     let step = answer.step;

@@ -95,10 +95,13 @@ impl Auctioneer {
         requires same_length { length downs.old ≡ length self.old.cache.heads }
         requires last { self.old.index + 1 < 2 ^ 32 }
         requires index { IsNewIndex (self.old.index + 1) downs.old }
-        ensures cleared { IfOk result (λ cleared. ClearedAt self.old self.new downs.old downs.new cleared.index cleared.step) }
+        ensures cleared { IfOk result (λ cleared. ClearedAt self.old self.new downs.old downs.new
+            cleared.index cleared.step) }
         ensures step { IfOk result (λ cleared. cleared.step < self.old.cache.steps) }
-        ensures refused { IfErr result (λ fault. (self.old.changed ≡ false) × (fault ≡ NotChanged)) }
-        ensures unchanged { IfErr result (λ fault. (self.new ≡ self.old) × (downs.new ≡ downs.old)) }
+        ensures refused { IfErr result
+            (λ fault. (self.old.changed ≡ false) × (fault ≡ NotChanged)) }
+        ensures unchanged { IfErr result
+            (λ fault. (self.new ≡ self.old) × (downs.new ≡ downs.old)) }
     {
         if !self.changed {
             return Err(ClearFault::NotChanged);

@@ -148,7 +148,8 @@ impl ArrayBid {
     pub fn exchange<L: Ledger>(&mut self, old: &ArrayBid, new: &ArrayBid, counter: &mut Steps<L>)
         requires old_length { length self.old ≡ length old.now }
         requires new_length { length self.old ≡ length new.now }
-        requires within { AllWithinLimit sum_limit (pairwise_sum (pairwise_difference self.old old.now) new.now) }
+        requires within { AllWithinLimit sum_limit
+            (pairwise_sum (pairwise_difference self.old old.now) new.now) }
         ensures exchanged { self.new ≡ pairwise_sum (pairwise_difference self.old old.now) new.now }
         ensures cost { counter.new ≡ counter.old + 2 * length self.old }
     {

@@ -42,8 +42,10 @@ pub(crate) fn exchange_each<L: Ledger>(
     requires new_length { length demands.old ≡ length news.now }
     requires demands_within { AllWithinLimit sum_limit demands.old }
     requires olds_within { AllWithinLimit sum_limit olds.now }
-    requires within { AllWithinLimit sum_limit (pairwise_sum (pairwise_difference demands.old olds.now) news.now) }
-    ensures exchanged { demands.new ≡ pairwise_sum (pairwise_difference demands.old olds.now) news.now }
+    requires within { AllWithinLimit sum_limit
+        (pairwise_sum (pairwise_difference demands.old olds.now) news.now) }
+    ensures exchanged { demands.new ≡ pairwise_sum (pairwise_difference demands.old olds.now)
+        news.now }
     ensures cost { counter.new ≡ counter.old + 2 * length demands.old }
 {
     for (step, demand) in demands.iter_mut().enumerate() {

@@ -99,7 +99,8 @@ line_price plan cut g = refl
 pub unlimited_step : (plan : PlanData) (cut : Cut) (g : ℕ) → is_limited plan g ≡ false → plain_step plan (state plan) cut ≡ step_of plan cut g
 unfolding local_step_of_group
 unlimited_step plan cut g free =
-    sym (ap (λ (own : Option Limits). local_step own (plain_step plan (state plan) cut) (sum_in plan (state plan) cut g)) (none_of (limits_of (node plan g)) free))
+    sym (ap (λ (own : Option Limits). local_step own (plain_step plan (state plan) cut) (sum_in plan (state plan) cut g))
+    (none_of (limits_of (node plan g)) free))
 
 -- the price of a group at an end
 pub price-in_end : (plan : PlanData) (cut : Cut) (g : ℕ) → (is_limited plan g ≡ true → g ≤ length plan.nodes) →

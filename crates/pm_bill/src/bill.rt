@@ -82,8 +82,10 @@ impl Bill {
 
         // Each node's account gained the sum of its shares, and the grid's what it is due.
         ensures accounts { (node : ℕ) → account_at self.new.accounts node ≡
-            account_sum (account_at self.old.accounts node) (account_of_shares minutes (shares_of node shares.now)) }
-        ensures grid { self.new.grid ≡ account_sum self.old.grid (account_of_grid minutes shares.now groups.now) }
+            account_sum (account_at self.old.accounts node)
+            (account_of_shares minutes (shares_of node shares.now)) }
+        ensures grid { self.new.grid ≡ account_sum self.old.grid
+            (account_of_grid minutes shares.now groups.now) }
 
         ensures one_each { length self.new.accounts ≡ length self.old.accounts }
         ensures leaves { self.new.leaves ≡ self.old.leaves }

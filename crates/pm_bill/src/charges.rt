@@ -33,8 +33,10 @@ impl Charges {
     /// The charges of the members and groups at a phase's end.
     fn at(alloc: Global, plan: &Plan, end: &PhaseEnd) -> Result<Charges, AllocError>
         requires { MayBeCharged plan.now end.now.end }
-        ensures shares { IfOk result (λ charges. charges.shares.items ≡ member_shares plan.now end.now.end) }
-        ensures groups { IfOk result (λ charges. charges.groups.items ≡ end_groups plan.now end.now.end) }
+        ensures shares { IfOk result (λ charges. charges.shares.items
+            ≡ member_shares plan.now end.now.end) }
+        ensures groups { IfOk result (λ charges. charges.groups.items
+            ≡ end_groups plan.now end.now.end) }
     {
         Ok(Charges {
             shares: member_shares(alloc, plan, end)?,
@@ -53,7 +55,8 @@ impl Charges {
         requires first { 1 ≤ phase }
         requires last { phase ≤ phases plan.now }
         requires ends { ends_of ends.now ≡ all_ends plan.now }
-        ensures { IfOk result (λ charges. AreCharges plan.now (cut_before plan.now phase) charges.shares.items charges.groups.items) }
+        ensures { IfOk result (λ charges. AreCharges plan.now
+            (cut_before plan.now phase) charges.shares.items charges.groups.items) }
     {
         if phase == 1 {
             return Ok(Charges::none(alloc));

@@ -12,13 +12,19 @@ ghost use Rattle.pm_bill.specs.Ticks.{TickData, IsAfterTicks};
 /// minutes there were.
 #[tactic(auto, using(crate::proofs::TickSums::tick_sums))]
 pub fn accounts_are_sums()
-    ensures account { (leaves : List Bool) (ticks : List TickData) (bill : BillData) (node : ℕ) → IsAfterTicks leaves ticks bill →
-        account_at bill.accounts node ≡ account_total (map (λ tick. account_of_shares tick.minutes (shares_of node tick.shares)) ticks) }
-    ensures grid { (leaves : List Bool) (ticks : List TickData) (bill : BillData) → IsAfterTicks leaves ticks bill →
-        bill.grid ≡ account_total (map (λ tick. account_of_grid tick.minutes tick.shares tick.groups) ticks) }
-    ensures count { (leaves : List Bool) (ticks : List TickData) (bill : BillData) → IsAfterTicks leaves ticks bill →
+    ensures account { (leaves : List Bool) (ticks : List TickData) (bill : BillData) (node : ℕ) →
+        IsAfterTicks leaves ticks bill →
+        account_at bill.accounts node ≡ account_total
+        (map (λ tick. account_of_shares tick.minutes (shares_of node tick.shares)) ticks) }
+    ensures grid { (leaves : List Bool) (ticks : List TickData) (bill : BillData) →
+        IsAfterTicks leaves ticks bill →
+        bill.grid ≡ account_total
+        (map (λ tick. account_of_grid tick.minutes tick.shares tick.groups) ticks) }
+    ensures count { (leaves : List Bool) (ticks : List TickData) (bill : BillData) →
+        IsAfterTicks leaves ticks bill →
         bill.ticks ≡ length ticks }
-    ensures minutes { (leaves : List Bool) (ticks : List TickData) (bill : BillData) → IsAfterTicks leaves ticks bill →
+    ensures minutes { (leaves : List Bool) (ticks : List TickData) (bill : BillData) →
+        IsAfterTicks leaves ticks bill →
         bill.minutes ≡ sum_each (λ tick. tick.minutes) ticks }
 {}
 
@@ -27,5 +33,6 @@ pub fn accounts_are_sums()
 pub fn bills_of_plans_add_up()
     ensures adds_up { (plan : PlanData) → IsPlan plan → AddsUp (plan_bill plan) }
     ensures device { (plan : PlanData) (d : ℕ) → IsPlan plan → is_leaf plan d ≡ true →
-        account_at (plan_bill plan).accounts d ≡ account_total (map (device_gain plan d) (tick_phases plan)) }
+        account_at (plan_bill plan).accounts d ≡ account_total
+        (map (device_gain plan d) (tick_phases plan)) }
 {}

@@ -15,7 +15,8 @@ fn push_account(
     account: &Account,
 ) -> Result<(), AllocError>
     requires { device.0 ≤ length plan.now.nodes }
-    ensures { OnOk result (string_bytes text.new ≡ string_bytes text.old ++ account_line plan.now device.0 account.now) }
+    ensures { OnOk result (string_bytes text.new ≡ string_bytes text.old
+        ++ account_line plan.now device.0 account.now) }
 {
     let name = plan.tree().name(device);
     let amount = account.amount;
@@ -36,7 +37,8 @@ pub(crate) fn push_accounts(
 ) -> Result<(), AllocError>
     requires leaves { leaves.now ≡ leaves_of plan.now.entries }
     requires one_each { length accounts.now ≡ length leaves.now + 1 }
-    ensures { OnOk result (string_bytes text.new ≡ string_bytes text.old ++ account_lines plan.now accounts.now (devices plan.now)) }
+    ensures { OnOk result (string_bytes text.new ≡ string_bytes text.old
+        ++ account_lines plan.now accounts.now (devices plan.now)) }
 {
     for before in 0..plan.tree().len() {
         let place = before as usize;
@@ -59,7 +61,8 @@ pub(crate) fn push_grid(text: &mut String, grid: &Account) -> Result<(), AllocEr
 
 /// Writes the line of the ticks and their minutes.
 pub(crate) fn push_ticks(text: &mut String, ticks: u32, minutes: i64) -> Result<(), AllocError>
-    ensures { OnOk result (string_bytes text.new ≡ string_bytes text.old ++ ticks_line ticks minutes) }
+    ensures { OnOk result (string_bytes text.new ≡ string_bytes text.old
+        ++ ticks_line ticks minutes) }
 {
     writeln!(text, "ticks {ticks} minutes {minutes}")
 }

@@ -91,7 +91,8 @@ impl<'p> Board<'p> {
     pub fn next(&self, device: NodeId) -> Option<Next>
         requires leaf { IsLeaf (plan_lists self.now.plan) device.0 }
         ensures next { let s = board_state self.now in
-            MatchOption result (HasNoNext self.now.plan s.closed s.counts device.0) (IsNext self.now.plan s.closed s.counts device.0) }
+            MatchOption result (HasNoNext self.now.plan s.closed s.counts device.0)
+            (IsNext self.now.plan s.closed s.counts device.0) }
     {
         self.cluster.next(device)
     }
@@ -106,13 +107,24 @@ impl<'p> Board<'p> {
         ensures held { result ≡ held_price self.now.plan (board_state self.now) device.0 }
         ensures current { let s = board_state self.now in Idle (plan_lists self.now.plan) s →
             is_member (plan_lists self.now.plan) device.0 (s.counts device.0) ≡ true →
-            result ≡ Some (record { step = local_step_at self.now.plan s.counts device.0; number = s.counts device.0; index = clearings s }) }
-        ensures member { IfSome result (λ price. is_member (plan_lists self.now.plan) device.0 price.number ≡ true) }
-        ensures made { let s = board_state self.now in IfSome result (λ price. price.number ≤ s.counts device.0) }
-        ensures cleared { let s = board_state self.now in IfSome result (λ price. (1 ≤ price.index) × (price.index ≤ clearings s)) }
-        ensures own { let s = board_state self.now in IfSome result (λ price. price.number ≡ cleared_cut s price.index device.0) }
+            result ≡ Some
+            (record {
+              step = local_step_at self.now.plan s.counts device.0;
+              number = s.counts device.0;
+              index = clearings s;
+            }) }
+        ensures member { IfSome result
+            (λ price. is_member (plan_lists self.now.plan) device.0 price.number ≡ true) }
+        ensures made { let s = board_state self.now in
+            IfSome result (λ price. price.number ≤ s.counts device.0) }
+        ensures cleared { let s = board_state self.now in
+            IfSome result (λ price. (1 ≤ price.index) × (price.index ≤ clearings s)) }
+        ensures own { let s = board_state self.now in
+            IfSome result (λ price. price.number ≡ cleared_cut s price.index device.0) }
         ensures step { let s = board_state self.now in
-            IfSome result (λ price. price.step ≡ local_step_at self.now.plan (cleared_cut s price.index) device.0) }
+            IfSome result
+            (λ price. price.step ≡ local_step_at self.now.plan
+            (cleared_cut s price.index) device.0) }
     {
         self.cluster.held(device)
     }
@@ -145,7 +157,8 @@ impl<'p> Board<'p> {
     /// The ends of the closed phases, each that of the plain auction over the changes of the phases up to it.
     pub fn ends(&self) -> &[PhaseEnd]
         ensures ends { result.now ≡ self.now.ends }
-        ensures kept { kept_ends self.now.ends ≡ ends_to self.now.plan (board_state self.now).closed }
+        ensures kept { kept_ends self.now.ends ≡ ends_to self.now.plan
+            (board_state self.now).closed }
     {
         &self.ends[..self.cluster.closed() as usize]
     }
@@ -153,7 +166,8 @@ impl<'p> Board<'p> {
     /// The auctioneer's sum of the bids that it learnt last, in watts at each step; where nothing is pending the total over
     /// all current bids.
     pub fn aggregate(&self) -> &ArrayBid
-        ensures sum { result.now ≡ children_sum self.now.plan 0 (knowledge (plan_lists self.now.plan) (board_state self.now) 0) }
+        ensures sum { result.now ≡ children_sum self.now.plan 0
+            (knowledge (plan_lists self.now.plan) (board_state self.now) 0) }
         ensures current { let s = board_state self.now in Idle (plan_lists self.now.plan) s →
             result.now ≡ total self.now.plan (state self.now.plan) s.counts }
     {

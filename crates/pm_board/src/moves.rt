@@ -21,11 +21,16 @@ impl<'p> Board<'p> {
     /// of its kind; it has the next change. For a manual device the bid is the plan's array.
     pub fn post(&mut self, made: &Made) -> Result<Move, ChangeFault>
         requires steps { length made.now.demand ≡ self.old.plan.basis.steps }
-        ensures follows { IfOk result (λ what. Follows self.old.plan (board_state self.old).closed (board_state self.old).counts made.now) }
-        ensures form { IfOk result (λ what. what ≡ Move.Change made.now.next.device made.now.next.number) }
-        ensures adds { IfOk result (λ what. AddsLine self.old self.new (record { what = what; held = None })) }
+        ensures follows { IfOk result (λ what. Follows self.old.plan (board_state self.old).closed
+            (board_state self.old).counts made.now) }
+        ensures form { IfOk result (λ what. what
+            ≡ Move.Change made.now.next.device made.now.next.number) }
+        ensures adds { IfOk result (λ what. AddsLine self.old self.new
+            (record { what = what; held = None })) }
         ensures ends { self.new.ends ≡ self.old.ends }
-        ensures refused { IfErr result (NotChanged self.old.plan (board_state self.old).closed (board_state self.old).counts made.now) }
+        ensures refused { IfErr result
+            (NotChanged self.old.plan (board_state self.old).closed
+            (board_state self.old).counts made.now) }
         ensures unchanged { IfErr result (λ fault. self.new ≡ self.old) }
     {
         let what = self.cluster.change(made)?;
@@ -39,7 +44,8 @@ impl<'p> Board<'p> {
     pub fn turn(&mut self, node: NodeId) -> Result<Option<Line>, AllocError>
         requires inside { node.0 ≤ nodes (plan_lists self.old.plan) }
         ensures ok { IfErr result (λ e. ⊥) }
-        ensures mine { IfOk result (λ made. IfSome made (λ line. IsMoveOf (plan_lists self.old.plan) node.0 line.what)) }
+        ensures mine { IfOk result (λ made. IfSome made
+            (λ line. IsMoveOf (plan_lists self.old.plan) node.0 line.what)) }
         ensures adds { IfOk result (λ made. MatchOption made
             (NoMoveOf (plan_lists self.old.plan) (board_state self.old) node.0)
             (AddsLine self.old self.new)) }
@@ -58,7 +64,8 @@ impl<'p> Board<'p> {
     pub fn close(&mut self) -> Result<bool, AllocError>
         ensures ok { IfErr result (λ e. ⊥) }
         ensures closed { result ≡ Ok true → ClosesPhase self.old self.new }
-        ensures refused { result ≡ Ok false → NoMoveBy self.old.plan (board_state self.old) Act.Close }
+        ensures refused { result ≡ Ok false →
+            NoMoveBy self.old.plan (board_state self.old) Act.Close }
         ensures unchanged { result ≡ Ok false → self.new ≡ self.old }
     {
         let closed = self.cluster.closed();

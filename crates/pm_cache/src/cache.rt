@@ -119,7 +119,8 @@ impl BidCache {
         counter: &mut Steps<L>,
     ) -> Result<(), CacheFault>
         requires child { child < length self.old.heads }
-        requires within { AllWithinLimit sum_limit (aggregate_with self.old child (zeros self.old.steps)) }
+        requires within { AllWithinLimit sum_limit
+            (aggregate_with self.old child (zeros self.old.steps)) }
         ensures answer { result ≡ answer_to (kept_number self.old child) number }
         ensures removed { OnOk result (self.new ≡ with_gone self.old child number) }
         ensures unchanged { OnErr result (self.new ≡ self.old) }
@@ -147,7 +148,8 @@ impl BidCache {
     ) -> Result<(), CacheFault>
         requires bid { CanLearn self.old child (option_copied demand) }
         ensures answer { result ≡ answer_to (kept_number self.old child) number }
-        ensures learnt { self.new ≡ after_learning self.old child number (option_copied demand.entry) }
+        ensures learnt { self.new ≡ after_learning self.old child number
+            (option_copied demand.entry) }
         ensures cost { counter.new ≤ counter.old + 3 * self.old.steps }
         ensures passes { OnOk result (counter.old + 2 * self.old.steps ≤ counter.new) }
         ensures rises { counter.old ≤ counter.new }

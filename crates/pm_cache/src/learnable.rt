@@ -40,7 +40,8 @@ impl BidCache {
 /// Whether a demand has so many steps; none has every number of them.
 fn has_steps(demand: Option<&ArrayBid>, steps: usize) -> bool
     ensures yes { result ≡ true → IfSome (option_copied demand.entry) (λ bid. length bid ≡ steps) }
-    ensures no { result ≡ false → IfSome (option_copied demand.entry) (λ bid. length bid ≡ steps) → ⊥ }
+    ensures no { result ≡ false → IfSome (option_copied demand.entry) (λ bid. length bid ≡ steps) →
+        ⊥ }
 {
     match demand {
         Some(bid) => bid.steps() == steps,

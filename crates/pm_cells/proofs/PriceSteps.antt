@@ -7,7 +7,8 @@ use native.Mathlib.Decide.{dec_le}
 use Rattle.atomic_table.specs.Table.{step, keeps, takes, gives, put_back}
 use Rattle.pm_cells.specs.Numbers.{newest_number}
 use Rattle.pm_cells.specs.Cells.{CellSlot, IsCell, IsPriceOf, KeepsCells}
-use Rattle.pm_cells.specs.Steps.{Seated, with_claim_to_take, with_claim_to_put, after_loss, after_put, after_take, after_empty_take, with_down, claims_to_put_price}
+use Rattle.pm_cells.specs.Steps.{Seated, with_claim_to_take, with_claim_to_put, after_loss}
+use Rattle.pm_cells.specs.Steps.{after_put, after_take, after_empty_take, with_down, claims_to_put_price}
 use Rattle.pm_cells.specs.Steps.{ReleasesPut, releases_put_price, claims_to_take_price, releases_taken_price}
 use Rattle.pm_cells.specs.declared.view.EndView.{EndView}
 use Rattle.pm_cells.specs.declared.view.CellView.{CellView}
@@ -84,7 +85,8 @@ may_release_put_price slots id m n x is holds carries above (price, same, index,
     ))
 
 -- the parent's end that claimed the slot and put a price there may give it back
-pub may_end_put_price : (slots id : ℕ) (m : Seated) (v : EndView) (n : ℕ) (x : Message) → m ≡ (with_down v (with_claim_to_put v.down), (1, Some x) ∷ [])
+pub may_end_put_price : (slots id : ℕ) (m : Seated) (v : EndView) (n : ℕ) (x : Message) →
+    m ≡ (with_down v (with_claim_to_put v.down), (1, Some x) ∷ [])
     → v.role ≡ Parent → newest_number v.down.puts < n → IsPriceOf v.up.takes n x → MayStore slots id m 1 (n * 2) releases_put_price
 may_end_put_price slots id m v n x e is above fits =
     let role = ap (λ (u : Seated). u.0.role) e ∙ is in

@@ -46,8 +46,10 @@ pub fn put_bid(link: &FreeLink, end: &mut ChildEnd, message: UpMessage) -> Resul
 pub fn take_bid(link: &FreeLink, end: &mut ParentEnd) -> Result<Option<UpMessage>, Busy>
     requires end { end.old.link ≡ link.now }
     requires room { length end.old.known.up.takes < end.old.room }
-    ensures taken { IfOk result (λ taken. IfSome taken (λ bid. end.new ≡ after_taken_bid end.old bid)) }
-    ensures above { IfOk result (λ taken. IfSome taken (λ bid. All (λ n. n < bid.number) end.old.known.up.takes)) }
+    ensures taken { IfOk result (λ taken. IfSome taken
+        (λ bid. end.new ≡ after_taken_bid end.old bid)) }
+    ensures above { IfOk result (λ taken. IfSome taken
+        (λ bid. All (λ n. n < bid.number) end.old.known.up.takes)) }
     ensures none { IfOk result (λ taken. IfNone taken (end.new ≡ after_no_bid end.old)) }
     ensures lost { IfErr result (λ _. end.new ≡ after_lost_bid end.old) }
 
@@ -55,7 +57,8 @@ pub fn take_bid(link: &FreeLink, end: &mut ParentEnd) -> Result<Option<UpMessage
     // one that was taken.
     ensures takes_one { IfOk result (λ taken. IfSome taken (λ bid.
         TakesOne end.old.known.up end.new.known.up bid.number (Messages.Bid bid))) }
-    ensures finds_none { IfOk result (λ taken. IfNone taken (FindsNone end.old.known.up end.new.known.up)) }
+    ensures finds_none { IfOk result (λ taken. IfNone taken
+        (FindsNone end.old.known.up end.new.known.up)) }
     ensures loses_one { IfErr result (λ _. LosesOne end.old.known.up end.new.known.up) }
     ensures prices_stay { end.new.known.down ≡ end.old.known.down }
 {

@@ -47,8 +47,10 @@ pub struct LinkLog {
 /// A new link and its two ends, each with room for so many numbers put and so many taken. All memory of the link is taken
 /// here.
 pub fn open_link(alloc: Global, room: usize) -> Result<(FreeLink, ChildEnd, ParentEnd), AllocError>
-    ensures child { IfOk result (λ opened. opened.1 ≡ record { link = opened.0; known = child_view; room = room }) }
-    ensures parent { IfOk result (λ opened. opened.2 ≡ record { link = opened.0; known = parent_view; room = room }) }
+    ensures child { IfOk result (λ opened. opened.1
+        ≡ record { link = opened.0; known = child_view; room = room }) }
+    ensures parent { IfOk result (λ opened. opened.2
+        ≡ record { link = opened.0; known = parent_view; room = room }) }
 
     // The same in numbers and lists: both ends begin with no message and no count.
     ensures child_bids { IfOk result (λ opened. IsUnused opened.1.known.up) }

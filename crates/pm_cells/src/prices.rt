@@ -51,9 +51,12 @@ pub fn put_price(
 pub fn take_price(link: &FreeLink, end: &mut ChildEnd) -> Result<Option<PriceUpdate>, Busy>
     requires end { end.old.link ≡ link.now }
     requires room { length end.old.known.down.takes < end.old.room }
-    ensures taken { IfOk result (λ taken. IfSome taken (λ price. end.new ≡ after_taken_price end.old price)) }
-    ensures above { IfOk result (λ taken. IfSome taken (λ price. All (λ n. n < price.index) end.old.known.down.takes)) }
-    ensures names { IfOk result (λ taken. IfSome taken (λ price. Contains end.old.known.up.puts price.number)) }
+    ensures taken { IfOk result (λ taken. IfSome taken
+        (λ price. end.new ≡ after_taken_price end.old price)) }
+    ensures above { IfOk result (λ taken. IfSome taken
+        (λ price. All (λ n. n < price.index) end.old.known.down.takes)) }
+    ensures names { IfOk result (λ taken. IfSome taken
+        (λ price. Contains end.old.known.up.puts price.number)) }
     ensures none { IfOk result (λ taken. IfNone taken (end.new ≡ after_no_price end.old)) }
     ensures lost { IfErr result (λ _. end.new ≡ after_lost_price end.old) }
 
@@ -61,7 +64,8 @@ pub fn take_price(link: &FreeLink, end: &mut ChildEnd) -> Result<Option<PriceUpd
     // the one that was taken.
     ensures takes_one { IfOk result (λ taken. IfSome taken (λ price.
         TakesOne end.old.known.down end.new.known.down price.index (Messages.Price price))) }
-    ensures finds_none { IfOk result (λ taken. IfNone taken (FindsNone end.old.known.down end.new.known.down)) }
+    ensures finds_none { IfOk result (λ taken. IfNone taken
+        (FindsNone end.old.known.down end.new.known.down)) }
     ensures loses_one { IfErr result (λ _. LosesOne end.old.known.down end.new.known.down) }
     ensures bids_stay { end.new.known.up ≡ end.old.known.up }
 {

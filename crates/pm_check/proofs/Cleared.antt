@@ -80,14 +80,16 @@ module _ (plan : PlanData) (is_plan : IsPlan plan) (a b : Cut) (same : (d : ℕ)
   unfolding plain_step
   same_plain = ap clearing_step (total_alike plan a b is_plan same)
 
-  same_group_step : (g : ℕ) → local_step_of_group plan (state plan) a (plain_step plan (state plan) a) g ≡ local_step_of_group plan (state plan) b (plain_step plan (state plan) b) g
+  same_group_step : (g : ℕ) → local_step_of_group plan (state plan) a (plain_step plan (state plan) a) g
+      ≡ local_step_of_group plan (state plan) b (plain_step plan (state plan) b) g
   unfolding local_step_of_group
   same_group_step g =
       ap (λ k. local_step (limits_of (node plan g)) k (sum_in plan (state plan) a g)) same_plain
       ∙ ap (local_step (limits_of (node plan g)) (plain_step plan (state plan) b)) (same_sum g)
 
   -- the steps of one cut are those of the other
-  steps_of : (row : List ℕ) → AreGroupSteps plan a row → (x : ℕ) → IsNode (plan_lists plan) x → get_or row (group plan x) 0 ≡ local_step_at plan b x
+  steps_of : (row : List ℕ) → AreGroupSteps plan a row → (x : ℕ) → IsNode (plan_lists plan) x →
+      get_or row (group plan x) 0 ≡ local_step_at plan b x
   unfolding local_step_in
   steps_of row are x node =
       are.same (group plan x) (group_inside plan x is_plan (omega (arith, node.1, group_nodes.nodes_are plan is_plan))) ∙ same_group_step (group plan x)

@@ -23,7 +23,8 @@ use Rattle.pm_check.specs.Lines.{IsWholeLine, text_of_lines, AreLinesOf}
 use Rattle.pm_check.specs.Traces.{journal_lines, next_line, count_line, IsLineDue, in_report, next_move, count, AreLinesDue, IsValidTrace, IsBadAmong, not_due}
 use Rattle.pm_check.specs.Traces.{no_end, missing, IsBadLine}
 use Rattle.pm_check.specs.Reading.{IsReported, HasReadTo}
-use Rattle.pm_check.proofs.TextLines.{text_of_lines-append, text_of_lines-push, lines_within, one_list, same_lines, lines_before, line_before, no_lines, lines_exist}
+use Rattle.pm_check.proofs.TextLines.{text_of_lines-append, text_of_lines-push, lines_within, one_list}
+use Rattle.pm_check.proofs.TextLines.{same_lines, lines_before, line_before, no_lines, lines_exist}
 use Rattle.pm_check.proofs.RunLines.{whole_from, whole_count, count_lines}
 use Rattle.pm_check.proofs.Dues.{report_due, journal_due, count_due, no_move_due, no_count_due, nothing_due}
 
@@ -82,7 +83,8 @@ module _ (plan : PlanData) (report : List (List ℕ)) (trace : List ℕ) (done :
       IsBadAmong plan report trace (length done + 1)
   bad_behind [] end some none_due are = bad_end (subst HasNoLineFeed (sym are.parts) are.no_end) some
   bad_behind (line ∷ lines) end some none_due are =
-      bad_line line (text_of_lines lines ++ end) (All-head IsWholeLine line lines are.whole) (are.parts ∙ append_assoc line (text_of_lines lines) end) (none_due line)
+      bad_line line (text_of_lines lines ++ end) (All-head IsWholeLine line lines are.whole) (are.parts ∙ append_assoc line (text_of_lines lines) end)
+      (none_due line)
 
   -- where nothing is due and the trace goes on, its bad line is the one behind those read
   pub bad_more : rest ≢ [] → ((line : List ℕ) → IsLineDue plan report done line → ⊥) → IsBadAmong plan report trace (length done + 1)

@@ -53,7 +53,8 @@ module _ (plan : PlanData) (judge : Judge) (is : IsJudge plan judge) (text : Lis
 
   module _ (line : Line) (of_run : IsLineOfRun plan line) (tells : move_line plan line ≡ text) where
     -- a legal move that the text tells is that of the line
-    same_line : (m : Move) → Legal lists s m → text ≡ move_line plan (line_of lists (local_step_at plan) s m) → line ≡ line_of lists (local_step_at plan) s m
+    same_line : (m : Move) → Legal lists s m → text ≡ move_line plan (line_of lists (local_step_at plan) s m) →
+        line ≡ line_of lists (local_step_at plan) s m
     same_line m legal same =
         let is_plan = plan_of plan judge is in
         same_one plan line (line_of lists (local_step_at plan) s m) is_plan of_run (line_is plan is_plan s is.sound m legal) (tells ∙ same)
@@ -122,7 +123,8 @@ module _ (plan : PlanData) (report trace : List ℕ) (above : ℕ) (judge : Judg
 
   count_is : text_line (codes "moves" ∷ decimal moves ∷ []) ≡ count_line plan judging.journal
   count_is =
-      let many : moves ≡ length (lines (plan_lists plan) (local_step_at plan) judging.journal) = judging.many ∙ sym (count_lines plan is_plan judging.journal) in
+      let many : moves ≡ length (lines (plan_lists plan) (local_step_at plan) judging.journal) = judging.many
+      ∙ sym (count_lines plan is_plan judging.journal) in
       ap (λ (n : ℕ). text_line (codes "moves" ∷ decimal n ∷ [])) many
 
   at_line : (n : ℕ) → IsBadLine plan report trace (length judging.report_lines + length judging.journal + n) →

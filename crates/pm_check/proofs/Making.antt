@@ -171,7 +171,8 @@ module _ (plan : PlanData) (judge : Judge) (is : IsJudge plan judge) (d : ℕ) (
       omega (arith, is.cleared.steps_are.one_each, last_within (plan_lists plan) (market_state judge.market) is.sound d)
 
   -- the step in the row of the clearing passed last and the number in its cut are what the device holds
-  pub told_held : (index number step : ℕ) → index ≡ last_index (market_state judge.market) d → number ≡ cleared_cut (market_state judge.market) index d →
+  pub told_held : (index number step : ℕ) → index ≡ last_index (market_state judge.market) d →
+      number ≡ cleared_cut (market_state judge.market) index d →
       step ≡ get_or (get_or (step_rows judge.steps) (index - 1) []) (group plan d) 0 → Some (step, number) ≡ holding_at plan (market_state judge.market) d
   told_held index number step index_is number_is step_is =
       let t = market_state judge.market in
@@ -183,11 +184,13 @@ module _ (plan : PlanData) (judge : Judge) (is : IsJudge plan judge) (d : ℕ) (
       ∙ ap (λ (j : ℕ). local_step_at plan (cleared_cut t j) d) index_is in
       let numbers = number_is ∙ ap (λ (j : ℕ). cleared_cut t j d) index_is in
       (λ i. Some (steps i, numbers i))
-      ∙ sym (cond-true (holds_price (plan_lists plan) t d) (Some (local_step_at plan (cleared_cut t (last_index t d)) d, cleared_cut t (last_index t d) d)) None holds_in_plan)
+      ∙ sym (cond-true (holds_price (plan_lists plan) t d) (Some (local_step_at plan (cleared_cut t (last_index t d)) d, cleared_cut t (last_index t d) d))
+      None holds_in_plan)
       ∙ sym (cond-true (is_leaf (plan_lists plan) d) (holding (plan_lists plan) (local_step_at plan) t d) None leaf)
 
 -- the line of a move says what is held after it
-pub held_same : (plan : PlanData) (s : State) (m : Move) → held_in plan (step (plan_lists plan) s m) m ≡ holding_after (plan_lists plan) (local_step_at plan) s m
+pub held_same : (plan : PlanData) (s : State) (m : Move) → held_in plan (step (plan_lists plan) s m) m
+    ≡ holding_after (plan_lists plan) (local_step_at plan) s m
 held_same plan s (Change d n) = refl
 held_same plan s (Learn x n) = refl
 held_same plan s (Publish c n) = refl

@@ -200,10 +200,12 @@ module _ (plan : PlanData) (is_plan : IsPlan plan) where
   -- ---- the lines of a legal journal
 
   -- the lines of moves that are legal one after another from a sound state are lines of a run of the plan
-  pub lines_are : (ms : List Move) (s : State) → Sound lists s → LegalFrom lists s ms → All (IsLineOfRun plan) (lines_from lists (local_step_at plan) s ms)
+  pub lines_are : (ms : List Move) (s : State) → Sound lists s → LegalFrom lists s ms →
+      All (IsLineOfRun plan) (lines_from lists (local_step_at plan) s ms)
   lines_are [] s sound legal = All-nil (IsLineOfRun plan)
   lines_are (m ∷ ms) s sound legal =
-      All-cons (IsLineOfRun plan) (line_of lists (local_step_at plan) s m) (lines_from lists (local_step_at plan) (step lists s m) ms) (line_is s sound m legal.0)
+      All-cons (IsLineOfRun plan) (line_of lists (local_step_at plan) s m) (lines_from lists (local_step_at plan) (step lists s m) ms)
+      (line_is s sound m legal.0)
       (lines_are ms (step lists s m) (sound_step lists law s sound m legal.0) legal.1)
 
   -- the lines of moves that are legal one after another from a sound state are whole lines
@@ -211,7 +213,8 @@ module _ (plan : PlanData) (is_plan : IsPlan plan) where
       All IsWholeLine (map (move_line plan) (lines_from lists (local_step_at plan) s ms))
   whole_from [] s sound legal = All-nil IsWholeLine
   whole_from (m ∷ ms) s sound legal =
-      All-cons IsWholeLine (move_line plan (line_of lists (local_step_at plan) s m)) (map (move_line plan) (lines_from lists (local_step_at plan) (step lists s m) ms))
+      All-cons IsWholeLine (move_line plan (line_of lists (local_step_at plan) s m))
+      (map (move_line plan) (lines_from lists (local_step_at plan) (step lists s m) ms))
       (whole_next s sound m legal.0) (whole_from ms (step lists s m) (sound_step lists law s sound m legal.0) legal.1)
 
   -- the same lines are those of the same moves

@@ -1,5 +1,6 @@
 -- What a judge of traces keeps of a run, and what it says of a line.
-use Rattle.std.specs.Prelude.{◌≡◌, ◌≢◌, ℕ, ◌+◌, ◌-◌, ◌≤◌, List, [], ◌∷◌, ◌++◌, length, if◌then◌else◌, slice_index_or, All}
+use Rattle.std.specs.Prelude.{◌≡◌, ◌≢◌, ℕ, ◌+◌, ◌-◌, ◌≤◌, List}
+use Rattle.std.specs.Prelude.{[], ◌∷◌, ◌++◌, length, if◌then◌else◌, slice_index_or, All}
 use Rattle.std.specs.Prelude.{Option, None}
 use Rattle.pm_base.specs.Rows.{rows_of}
 use Rattle.pm_market.specs.Lists.{IsNode, IsLeaf, is_leaf}

@@ -46,7 +46,8 @@ impl Judge {
 
     /// Whether every phase is closed.
     pub(crate) fn is_complete(&self) -> bool
-        ensures { IsTrue result ↔ ((market_state self.now.market).closed ≡ phases (market_lists self.now.market)) }
+        ensures { IsTrue result
+            ↔ ((market_state self.now.market).closed ≡ phases (market_lists self.now.market)) }
     {
         self.market.is_complete()
     }
@@ -55,7 +56,8 @@ impl Judge {
     /// move is made and the answer is true. Else the answer is false, and the judge has come to its end.
     pub(crate) fn take(&mut self, plan: &Plan, line: &[u8]) -> Result<bool, AllocError>
         requires { IsJudge plan.now self.old }
-        ensures taken { IfOk result (λ taken. taken ≡ true → (m : Move) × HasTaken plan.now self.old self.new line.now m) }
+        ensures taken { IfOk result (λ taken. taken ≡ true →
+            (m : Move) × HasTaken plan.now self.old self.new line.now m) }
         ensures none { IfOk result (λ taken. taken ≡ false → TellsNone plan.now self.old line.now) }
     {
         let Some(told) = read_line(plan, line) else {
@@ -71,7 +73,8 @@ impl Judge {
     /// Makes a legal move.
     fn make(&mut self, plan: &Plan, what: Move) -> Result<(), AllocError>
         requires judge { IsJudge plan.now self.old }
-        requires legal { is_legal (market_lists self.old.market) (market_state self.old.market) what ≡ true }
+        requires legal { is_legal (market_lists self.old.market) (market_state self.old.market) what
+            ≡ true }
         ensures { OnOk result (HasMade plan.now self.old self.new what) }
     {
         self.market.apply(what)?;

@@ -53,7 +53,8 @@ fn leaves_of(alloc: Global, plan: &Plan) -> Result<Vec<bool>, AllocError>
 
 /// Whether each node is a member after each of its changes.
 fn members_of(alloc: Global, plan: &Plan) -> Result<Vec<Vec<bool>>, AllocError>
-    ensures { IfOk result (λ rows. rows_of rows.items ≡ map (members_of plan.now) (node_numbers plan.now)) }
+    ensures { IfOk result (λ rows. rows_of rows.items
+        ≡ map (members_of plan.now) (node_numbers plan.now)) }
 {
     let mut rows = Vec::new(alloc);
     for at in 0..plan.tree().len() {
@@ -114,7 +115,8 @@ fn change_count(plan: &Plan, device: NodeId) -> u32
 
 /// For each phase the number of changes of each node at its end.
 fn ends_of(alloc: Global, plan: &Plan) -> Result<Vec<Vec<u32>>, AllocError>
-    ensures { IfOk result (λ rows. rows_of rows.items ≡ map (λ p. map (end_cut plan.now p) (node_numbers plan.now))
+    ensures { IfOk result (λ rows. rows_of rows.items
+        ≡ map (λ p. map (end_cut plan.now p) (node_numbers plan.now))
         (range_with_len 1 (phases plan.now))) }
 {
     let mut rows = Vec::new(alloc);
@@ -138,7 +140,8 @@ fn ends_row(alloc: Global, plan: &Plan, phase: u32, before: &[u32]) -> Result<Ve
     requires first { 1 ≤ phase }
     requires last { phase ≤ phases plan.now }
     requires before { before.now ≡ map (end_cut plan.now (phase - 1)) (node_numbers plan.now) }
-    ensures { IfOk result (λ row. row.items ≡ map (end_cut plan.now phase) (node_numbers plan.now)) }
+    ensures { IfOk result (λ row. row.items ≡ map (end_cut plan.now phase)
+        (node_numbers plan.now)) }
 {
     let mut row = Vec::new(alloc);
     for at in 0..plan.tree().len() {

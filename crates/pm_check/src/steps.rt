@@ -43,11 +43,14 @@ impl ClearedSteps {
     pub(crate) fn clear(&mut self, plan: &Plan, cut: &[u32]) -> Result<(), AllocError>
         requires open { self.old.closed < phases plan.now }
         requires auction { IsAuction plan.now self.old.closed self.old.auction }
-        requires rises { (d : ℕ) → is_leaf plan.now d ≡ true → auction_cut self.old.auction d ≤ cut_of cut.now d }
-        requires planned { (d : ℕ) → is_leaf plan.now d ≡ true → cut_of cut.now d ≤ end_cut plan.now (self.old.closed + 1) d }
+        requires rises { (d : ℕ) → is_leaf plan.now d ≡ true →
+            auction_cut self.old.auction d ≤ cut_of cut.now d }
+        requires planned { (d : ℕ) → is_leaf plan.now d ≡ true →
+            cut_of cut.now d ≤ end_cut plan.now (self.old.closed + 1) d }
         ensures closed { self.new.closed ≡ self.old.closed }
         ensures auction { IsAuction plan.now self.new.closed self.new.auction }
-        ensures cut { (d : ℕ) → is_leaf plan.now d ≡ true → auction_cut self.new.auction d ≡ cut_of cut.now d }
+        ensures cut { (d : ℕ) → is_leaf plan.now d ≡ true →
+            auction_cut self.new.auction d ≡ cut_of cut.now d }
         ensures row { OnOk result (HasRow plan.now self.old self.new) }
     {
         self.auction.raise(plan, self.closed + 1, cut);
@@ -60,7 +63,8 @@ impl ClearedSteps {
     pub(crate) fn close(&mut self, plan: &Plan)
         requires open { self.old.closed < phases plan.now }
         requires auction { IsAuction plan.now self.old.closed self.old.auction }
-        requires ended { (d : ℕ) → is_leaf plan.now d ≡ true → auction_cut self.old.auction d ≡ end_cut plan.now (self.old.closed + 1) d }
+        requires ended { (d : ℕ) → is_leaf plan.now d ≡ true →
+            auction_cut self.old.auction d ≡ end_cut plan.now (self.old.closed + 1) d }
         ensures closed { self.new.closed ≡ self.old.closed + 1 }
         ensures auction { IsAuction plan.now self.new.closed self.new.auction }
         ensures cut { auction_cut self.new.auction ≡ auction_cut self.old.auction }
@@ -76,7 +80,8 @@ impl ClearedSteps {
         requires last { index ≤ length (step_rows self.now) }
         requires node { node.0 ≤ length plan.now.nodes }
         requires rows { AreRows plan.now (step_rows self.now) }
-        ensures { result ≡ slice_index_or (slice_index_or (step_rows self.now) (index - 1) []) (group plan.now node.0) 0 }
+        ensures { result ≡ slice_index_or (slice_index_or (step_rows self.now) (index - 1) [])
+            (group plan.now node.0) 0 }
     {
         self.rows[index - 1][group_place(plan, node)]
     }

@@ -29,8 +29,10 @@ pub fn check(alloc: Global, plan: &Plan, report: &[u8], trace: &[u8]) -> Result<
     ensures valid { IfOk result (IsValidTrace plan.now report.now trace.now) }
     ensures bad { IfErr result (IsFaultOfTrace plan.now report.now trace.now) }
     // A valid trace is not refused, and one with a bad line is.
-    ensures accepted { (moves : ℕ) → IsValidTrace plan.now report.now trace.now moves → IfErr result (λ fault. fault ≡ CheckFault.NoMemory) }
-    ensures refused { (line : ℕ) → IsBadLine plan.now report.now trace.now line → IfOk result (λ moves. ⊥) }
+    ensures accepted { (moves : ℕ) → IsValidTrace plan.now report.now trace.now moves →
+        IfErr result (λ fault. fault ≡ CheckFault.NoMemory) }
+    ensures refused { (line : ℕ) → IsBadLine plan.now report.now trace.now line →
+        IfOk result (λ moves. ⊥) }
 {
     // The call tells a fact of the type: the plan keeps its limits.
     let _phases = plan.phases();
@@ -52,8 +54,10 @@ struct Reported<'a> {
 /// Reads the report that a trace begins with; the error is the line at which the trace goes another way.
 fn read_report<'a>(report: &[u8], trace: &'a [u8]) -> Result<Reported<'a>, u64>
     requires { (lines : List (List ℕ)) × AreLinesOf report.now lines [] }
-    ensures read { IfOk result (λ reported. IsReported report.now trace.now reported.lines reported.rest.now) }
-    ensures bad { IfErr result (λ line. (plan : PlanData) → IsBadLine plan report.now trace.now line) }
+    ensures read { IfOk result (λ reported. IsReported report.now trace.now reported.lines
+        reported.rest.now) }
+    ensures bad { IfErr result (λ line. (plan : PlanData) →
+        IsBadLine plan report.now trace.now line) }
 {
     let mut due = report;
     let mut rest = trace;
@@ -128,7 +132,8 @@ fn check_lines(
 
 /// Whether a line tells so many moves.
 fn is_count(alloc: Global, line: &[u8], moves: u64) -> Result<bool, AllocError>
-    ensures { IfOk result (λ is. IsTrue is ↔ (line.now ≡ text_line (codes "moves" ∷ decimal moves ∷ []))) }
+    ensures { IfOk result (λ is. IsTrue is
+        ↔ (line.now ≡ text_line (codes "moves" ∷ decimal moves ∷ []))) }
 {
     let due = format!(in alloc; "moves {moves}\n")?;
     Ok(line == due.as_bytes())

@@ -106,7 +106,8 @@ pair_of (Some price) = Some (price.step, price.number)
 
 -- the price that a device holds in a state, as step and number, is what the market's lists say it holds
 pub pairs_are : (plan : PlanData) (s : State) (d : ℕ) → pair_of (held_price plan s d) ≡ holding (plan_lists plan) (local_step_at plan) s d
-pairs_are plan s d = go (holds_price (plan_lists plan) s d) (local_step_at plan (cleared_cut s (last_index s d)) d) (cleared_cut s (last_index s d) d) (last_index s d)
+pairs_are plan s d = go (holds_price (plan_lists plan) s d) (local_step_at plan (cleared_cut s (last_index s d)) d) (cleared_cut s (last_index s d) d)
+    (last_index s d)
   where
     go : (b : Bool) (k n i : ℕ) → pair_of (cond b (Some (record { step = k; number = n; index = i })) None) ≡ cond b (Some (k, n)) None
     go true k n i = refl

@@ -1,5 +1,6 @@
 -- The lines that a node adds to a phase's end, and when a phase may be closed.
-use Rattle.std.specs.Prelude.{◌≡◌, ℕ, ℤ, ◌+◌, ◌<◌, true, if◌then◌else◌, List, [], ◌∷◌, length, slice_index_or, Option, Some, None, is_some}
+use Rattle.std.specs.Prelude.{◌≡◌, ℕ, ℤ, ◌+◌, ◌<◌, true, if◌then◌else◌, List}
+use Rattle.std.specs.Prelude.{[], ◌∷◌, length, slice_index_or, Option, Some, None, is_some}
 use Rattle.pm_tree.specs.Entries.{place_of}
 use Rattle.pm_cache.specs.Cache.{child_demand}
 use Rattle.pm_session.specs.Ports.{Seat, held_by}

@@ -29,9 +29,11 @@ impl<'p> Cluster<'p> {
         requires inside { node.0 ≤ nodes (plan_lists self.old.plan) }
         ensures ok { IfErr result (λ e. ⊥) }
         ensures plan { self.new.plan ≡ self.old.plan }
-        ensures mine { IfOk result (λ made. IfSome made (λ line. IsMoveOf (plan_lists self.old.plan) node.0 line.what)) }
+        ensures mine { IfOk result (λ made. IfSome made
+            (λ line. IsMoveOf (plan_lists self.old.plan) node.0 line.what)) }
         ensures none { result ≡ Ok None → self.new ≡ self.old }
-        ensures made { (s : State) → StandsFor self.old.plan self.old.core s → IfOk result (λ made. MatchOption made
+        ensures made { (s : State) → StandsFor self.old.plan self.old.core s →
+            IfOk result (λ made. MatchOption made
             (NoMoveOf (plan_lists self.old.plan) s node.0)
             (IsMadeLine self.old.plan self.new.core s)) }
     {
@@ -44,7 +46,8 @@ impl<'p> Cluster<'p> {
     /// The line of a move that was just made: after a price was passed to a device it has the step and the number that
     /// the device then holds.
     fn line_of(&self, what: Move) -> Line
-        ensures line { (s : State) → MakesMove self.now.plan self.now.core s what → IsMadeLine self.now.plan self.now.core s result }
+        ensures line { (s : State) → MakesMove self.now.plan self.now.core s what →
+            IsMadeLine self.now.plan self.now.core s result }
         ensures what { result.what ≡ what }
     {
         let held = match what {
@@ -57,7 +60,9 @@ impl<'p> Cluster<'p> {
     /// The step and the number that a device holds; none for any other node.
     fn held_by(&self, node: NodeId) -> Option<(u32, u32)>
         ensures held { (s : State) → StandsFor self.now.plan self.now.core s →
-            result ≡ (if is_leaf (plan_lists self.now.plan) node.0 then holding (plan_lists self.now.plan) (local_step_at self.now.plan) s node.0 else None) }
+            result ≡ (if is_leaf (plan_lists self.now.plan) node.0
+            then holding (plan_lists self.now.plan) (local_step_at self.now.plan) s node.0
+            else None) }
     {
         if !is_device(self.plan, node) {
             return None;
@@ -75,8 +80,10 @@ impl<'p> Cluster<'p> {
     pub fn act(&mut self, _alloc: Global, act: Act) -> Result<Line, ActFault>
         ensures plan { self.new.plan ≡ self.old.plan }
         ensures form { IfOk result (λ line. act_of line.what ≡ act) }
-        ensures made { (s : State) → StandsFor self.old.plan self.old.core s → IfOk result (IsMadeLine self.old.plan self.new.core s) }
-        ensures refused { (s : State) → StandsFor self.old.plan self.old.core s → IfErr result (NotActed self.old.plan s act) }
+        ensures made { (s : State) → StandsFor self.old.plan self.old.core s →
+            IfOk result (IsMadeLine self.old.plan self.new.core s) }
+        ensures refused { (s : State) → StandsFor self.old.plan self.old.core s →
+            IfErr result (NotActed self.old.plan s act) }
         ensures illegal { IfErr result (λ fault. fault ≡ ActFault.Illegal) }
         ensures unchanged { IfErr result (λ fault. self.new ≡ self.old) }
     {
@@ -188,7 +195,8 @@ impl<'p> Cluster<'p> {
         requires opened { StandsFor self.old.plan self.old.core start }
         requires no_lines { journal.old.lines ≡ [] }
         ensures plan { self.new.plan ≡ self.old.plan }
-        ensures made { IfOk result (λ _. IsRunOf self.old.plan acts.now self.new.core journal.new.lines) }
+        ensures made { IfOk result (λ _. IsRunOf self.old.plan acts.now self.new.core
+            journal.new.lines) }
         ensures illegal { IfErr result (λ fault. AreRefused self.old.plan acts.now fault) }
     {
         for (at, act) in acts.iter().enumerate() {

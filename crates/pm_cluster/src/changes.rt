@@ -41,10 +41,14 @@ impl<'p> Cluster<'p> {
     pub fn change(&mut self, made: &Made) -> Result<Move, ChangeFault>
         requires steps { length made.now.demand ≡ self.old.plan.basis.steps }
         ensures plan { self.new.plan ≡ self.old.plan }
-        ensures follows { IfOk result (λ what. Follows self.old.plan self.old.core.closed (count_of self.old.core) made.now) }
-        ensures form { IfOk result (λ what. what ≡ Move.Change made.now.next.device made.now.next.number) }
-        ensures made { (s : State) → StandsFor self.old.plan self.old.core s → IfOk result (MakesMove self.old.plan self.new.core s) }
-        ensures refused { IfErr result (NotChanged self.old.plan self.old.core.closed (count_of self.old.core) made.now) }
+        ensures follows { IfOk result (λ what. Follows self.old.plan self.old.core.closed
+            (count_of self.old.core) made.now) }
+        ensures form { IfOk result (λ what. what
+            ≡ Move.Change made.now.next.device made.now.next.number) }
+        ensures made { (s : State) → StandsFor self.old.plan self.old.core s →
+            IfOk result (MakesMove self.old.plan self.new.core s) }
+        ensures refused { IfErr result
+            (NotChanged self.old.plan self.old.core.closed (count_of self.old.core) made.now) }
         ensures unchanged { IfErr result (λ fault. self.new ≡ self.old) }
     {
         let next = made.next();
@@ -64,12 +68,16 @@ impl<'p> Cluster<'p> {
     /// Makes the next change of a device. The bid of a member is the one given, and else computed by the plan.
     pub(crate) fn make(&mut self, next: Next, kind: Kind, given: Option<&ArrayBid>) -> Move
         requires leaf { IsLeaf (plan_lists self.old.plan) next.device }
-        requires next { IsNext self.old.plan self.old.core.closed (count_of self.old.core) next.device next }
+        requires next { IsNext self.old.plan self.old.core.closed
+            (count_of self.old.core) next.device next }
         requires kind { kind_of (node self.old.plan next.device) ≡ Some kind }
-        requires given { next.member ≡ true → IfSome (option_copied given) (λ demand. demand ≡ device_demand self.old.plan next.device next.number) }
+        requires given { next.member ≡ true →
+            IfSome (option_copied given)
+            (λ demand. demand ≡ device_demand self.old.plan next.device next.number) }
         ensures plan { self.new.plan ≡ self.old.plan }
         ensures form { result ≡ Move.Change next.device next.number }
-        ensures made { (s : State) → StandsFor self.old.plan self.old.core s → MakesMove self.old.plan self.new.core s result }
+        ensures made { (s : State) → StandsFor self.old.plan self.old.core s →
+            MakesMove self.old.plan self.new.core s result }
     {
         let at = next.device as usize;
         offer_demand(
@@ -104,7 +112,8 @@ fn take_seat(port: &mut Port, before: bool, next: Next)
 
 /// The demand that was made for a change; none for a manual device, whose bids are the plan's arrays.
 fn own_demand(made: &Made) -> Option<&ArrayBid>
-    ensures demand { made.now.next.member ≡ true → IfSome (option_copied result) (λ demand. (arrays : List (List ℤ)) →
+    ensures demand { made.now.next.member ≡ true →
+        IfSome (option_copied result) (λ demand. (arrays : List (List ℤ)) →
         demand ≡ bid_of made.now.kind made.now.next.state.0 arrays (length made.now.demand)) }
 {
     if made.kind() == Kind::Manual {
@@ -129,22 +138,30 @@ fn offer_demand(
     requires change { next.number ≤ change_count plan.now next.device }
     requires member { next.member ≡ is_member plan.now next.device next.number }
     requires state { next.state.0 ≡ state plan.now next.device next.number }
-    requires given { next.member ≡ true → IfSome (option_copied given) (λ demand. demand ≡ device_demand plan.now next.device next.number) }
+    requires given { next.member ≡ true → IfSome (option_copied given)
+        (λ demand. demand ≡ device_demand plan.now next.device next.number) }
     requires room { length spare.old ≡ plan.now.basis.steps }
     requires parent { parent (plan_lists plan.now) next.device < length links.old.items }
     requires place { let rows = rows_of links.old.items in
-        place_of plan.now.entries next.device < length (row_at rows (parent (plan_lists plan.now) next.device)) }
+        place_of plan.now.entries next.device < length
+        (row_at rows (parent (plan_lists plan.now) next.device)) }
     requires number { let rows = rows_of links.old.items in
-        (link_at rows (parent (plan_lists plan.now) next.device) (place_of plan.now.entries next.device)).up.offered < next.number }
+        (link_at rows (parent (plan_lists plan.now) next.device)
+        (place_of plan.now.entries next.device)).up.offered < next.number }
     requires steps { let rows = rows_of links.old.items in
-        (link_at rows (parent (plan_lists plan.now) next.device) (place_of plan.now.entries next.device)).steps ≡ plan.now.basis.steps }
+        (link_at rows (parent (plan_lists plan.now) next.device)
+        (place_of plan.now.entries next.device)).steps ≡ plan.now.basis.steps }
     ensures room { length spare.new ≡ plan.now.basis.steps }
     ensures one { OneLink (rows_of links.old.items) (rows_of links.new.items)
         (parent (plan_lists plan.now) next.device) (place_of plan.now.entries next.device) }
-    ensures offered { let old = link_at (rows_of links.old.items) (parent (plan_lists plan.now) next.device)
+    ensures offered { let old = link_at (rows_of links.old.items)
+        (parent (plan_lists plan.now) next.device)
         (place_of plan.now.entries next.device) in
-        let new = link_at (rows_of links.new.items) (parent (plan_lists plan.now) next.device) (place_of plan.now.entries next.device) in
-        BidOffered old new (bid_offered old.steps next.number (bid_demand (not next.member) (device_demand plan.now next.device next.number))) }
+        let new = link_at (rows_of links.new.items) (parent (plan_lists plan.now) next.device)
+        (place_of plan.now.entries next.device) in
+        BidOffered old new
+        (bid_offered old.steps next.number
+        (bid_demand (not next.member) (device_demand plan.now next.device next.number))) }
 {
     let parent = parent_of(plan, NodeId(next.device));
     let place = place_in_row(plan, NodeId(next.device));

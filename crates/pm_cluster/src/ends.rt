@@ -34,11 +34,15 @@ impl<'p> Cluster<'p> {
     /// memory.
     pub fn phase_end(&self, alloc: Global) -> Result<PhaseEnd, AllocError>
         requires quiet { IsQuiet self.now.plan self.now.core }
-        ensures end { (s : State) → StandsFor self.now.plan self.now.core s → IfOk result (λ e. e.end ≡ end_of self.now.plan s.counts) }
-        ensures phase { (s : State) (p : ℕ) → StandsFor self.now.plan self.now.core s → AreMade self.now.plan s.counts p →
+        ensures end { (s : State) → StandsFor self.now.plan self.now.core s →
+            IfOk result (λ e. e.end ≡ end_of self.now.plan s.counts) }
+        ensures phase { (s : State) (p : ℕ) → StandsFor self.now.plan self.now.core s →
+            AreMade self.now.plan s.counts p →
             IfOk result (λ e. e.end ≡ end_of self.now.plan (end_cut self.now.plan p)) }
-        ensures tells { (s : State) → StandsFor self.now.plan self.now.core s → IfOk result (λ e. TellsEnd self.now.plan s.counts e.end) }
-        ensures tells_phase { (s : State) (p : ℕ) → StandsFor self.now.plan self.now.core s → AreMade self.now.plan s.counts p →
+        ensures tells { (s : State) → StandsFor self.now.plan self.now.core s →
+            IfOk result (λ e. TellsEnd self.now.plan s.counts e.end) }
+        ensures tells_phase { (s : State) (p : ℕ) → StandsFor self.now.plan self.now.core s →
+            AreMade self.now.plan s.counts p →
             IfOk result (λ e. TellsEnd self.now.plan (end_cut self.now.plan p) e.end) }
     {
         let mut end = PhaseEnd::vacant(alloc, self.plan)?;
@@ -50,13 +54,19 @@ impl<'p> Cluster<'p> {
     #[tactic(auto, using(crate::proofs::Parents::nodes_are, crate::proofs::Parents::leaf_is))]
     pub fn phase_end_into(&self, out: &mut PhaseEnd)
         requires quiet { IsQuiet self.now.plan self.now.core }
-        requires members { nodes (plan_lists self.now.plan) ≤ out.old.member_room + length out.old.end.members }
-        requires limited { nodes (plan_lists self.now.plan) ≤ out.old.limited_room + length out.old.end.limited }
-        ensures end { (s : State) → StandsFor self.now.plan self.now.core s → out.new.end ≡ end_of self.now.plan s.counts }
-        ensures phase { (s : State) (p : ℕ) → StandsFor self.now.plan self.now.core s → AreMade self.now.plan s.counts p →
+        requires members { nodes (plan_lists self.now.plan)
+            ≤ out.old.member_room + length out.old.end.members }
+        requires limited { nodes (plan_lists self.now.plan)
+            ≤ out.old.limited_room + length out.old.end.limited }
+        ensures end { (s : State) → StandsFor self.now.plan self.now.core s →
+            out.new.end ≡ end_of self.now.plan s.counts }
+        ensures phase { (s : State) (p : ℕ) → StandsFor self.now.plan self.now.core s →
+            AreMade self.now.plan s.counts p →
             out.new.end ≡ end_of self.now.plan (end_cut self.now.plan p) }
-        ensures tells { (s : State) → StandsFor self.now.plan self.now.core s → TellsEnd self.now.plan s.counts out.new.end }
-        ensures tells_phase { (s : State) (p : ℕ) → StandsFor self.now.plan self.now.core s → AreMade self.now.plan s.counts p →
+        ensures tells { (s : State) → StandsFor self.now.plan self.now.core s →
+            TellsEnd self.now.plan s.counts out.new.end }
+        ensures tells_phase { (s : State) (p : ℕ) → StandsFor self.now.plan self.now.core s →
+            AreMade self.now.plan s.counts p →
             TellsEnd self.now.plan (end_cut self.now.plan p) out.new.end }
     {
         let step = self.auctioneer.step();
@@ -76,7 +86,8 @@ impl<'p> Cluster<'p> {
         requires quiet { IsQuiet self.now.plan self.now.core }
         requires room { 1 ≤ out.old.member_room }
         ensures end { (s : State) → StandsFor self.now.plan self.now.core s →
-            out.new.end ≡ record out.old.end { members = out.old.end.members ++ member_at self.now.plan s.counts node.0 } }
+            out.new.end ≡ record out.old.end
+            { members = out.old.end.members ++ member_at self.now.plan s.counts node.0 } }
         ensures members { out.old.member_room ≤ out.new.member_room + 1 }
         ensures limited { out.new.limited_room ≡ out.old.limited_room }
     {
@@ -98,7 +109,8 @@ impl<'p> Cluster<'p> {
         requires quiet { IsQuiet self.now.plan self.now.core }
         requires room { 1 ≤ out.old.limited_room }
         ensures end { (s : State) → StandsFor self.now.plan self.now.core s →
-            out.new.end ≡ record out.old.end { limited = out.old.end.limited ++ limited_at self.now.plan s.counts node.0 } }
+            out.new.end ≡ record out.old.end
+            { limited = out.old.end.limited ++ limited_at self.now.plan s.counts node.0 } }
         ensures members { out.new.member_room ≡ out.old.member_room }
         ensures limited { out.old.limited_room ≤ out.new.limited_room + 1 }
     {
@@ -159,7 +171,8 @@ impl<'p> Cluster<'p> {
     #[tactic(auto, using(crate::proofs::Parents::nodes_are, crate::proofs::Parents::leaf_is))]
     fn all_made(&self) -> bool
         requires open_phase { self.now.core.closed < phases self.now.plan }
-        ensures made { IsTrue result ↔ AreMade self.now.plan (count_of self.now.core) (self.now.core.closed + 1) }
+        ensures made { IsTrue result ↔ AreMade self.now.plan (count_of self.now.core)
+            (self.now.core.closed + 1) }
     {
         for number in 1..self.plan.tree().len() + 1 {
             let at = number as usize;
@@ -207,8 +220,10 @@ fn power_of(
     ports: &Vec<Port>,
     device: NodeId,
 ) -> i64
-    requires told { EntryTold plan.now auctioneer.now concentrators.now.items ports.now.items device.0 }
-    ensures power { result ≡ power_by_entry plan.now auctioneer.now concentrators.now.items ports.now.items device.0 }
+    requires told { EntryTold plan.now auctioneer.now concentrators.now.items ports.now.items
+        device.0 }
+    ensures power { result ≡ power_by_entry plan.now auctioneer.now concentrators.now.items
+        ports.now.items device.0 }
 {
     let Some(price) = ports[device.0 as usize].held() else {
         return 0;
@@ -235,11 +250,13 @@ fn keep_powers(
     ports: &Vec<Port>,
     powers: &mut Vec<i64>,
 )
-    requires told { (d : ℕ) → IsLeaf (plan_lists plan.now) d → EntryTold plan.now auctioneer.now concentrators.now.items ports.now.items d }
+    requires told { (d : ℕ) → IsLeaf (plan_lists plan.now) d →
+        EntryTold plan.now auctioneer.now concentrators.now.items ports.now.items d }
     requires same_length { length powers.old.items ≡ nodes (plan_lists plan.now) + 1 }
     ensures same_length { length powers.new.items ≡ length powers.old.items }
     ensures kept { (d : ℕ) → IsLeaf (plan_lists plan.now) d →
-        slice_index_or powers.new.items d (pos 0) ≡ power_by_entry plan.now auctioneer.now concentrators.now.items ports.now.items d }
+        slice_index_or powers.new.items d (pos 0)
+        ≡ power_by_entry plan.now auctioneer.now concentrators.now.items ports.now.items d }
 {
     for number in 1..plan.tree().len() + 1 {
         let node = NodeId(number);
@@ -254,7 +271,8 @@ fn keep_powers(
 fn add_due(plan: &Plan, closed: u32, due: &mut Vec<u32>)
     requires closed { closed ≤ phases plan.now }
     requires same_length { length due.old.items ≡ nodes (plan_lists plan.now) + 1 }
-    requires before { (d : ℕ) → IsLeaf (plan_lists plan.now) d → slice_index_or due.old.items d 0 ≡ end_cut plan.now closed d }
+    requires before { (d : ℕ) → IsLeaf (plan_lists plan.now) d →
+        slice_index_or due.old.items d 0 ≡ end_cut plan.now closed d }
     ensures same_length { length due.new.items ≡ length due.old.items }
     ensures after { closed < phases plan.now → (d : ℕ) → IsLeaf (plan_lists plan.now) d →
         slice_index_or due.new.items d 0 ≡ end_cut plan.now (closed + 1) d }

@@ -26,7 +26,8 @@ pub(crate) fn offer_bid(
         length (demand_offered old.steps (option_copied demand)) ≡ old.steps }
     ensures one { OneLink (rows_of links.old.items) (rows_of links.new.items) parent place }
     ensures offered { let old = link_at (rows_of links.old.items) parent place in
-        BidOffered old (link_at (rows_of links.new.items) parent place) (bid_offered old.steps number (option_copied demand.entry)) }
+        BidOffered old (link_at (rows_of links.new.items) parent place)
+        (bid_offered old.steps number (option_copied demand.entry)) }
 {
     let row = &mut links[parent];
     let up = &mut row[place];

@@ -19,7 +19,8 @@ impl<'p> Cluster<'p> {
     /// changes of the open phase.
     pub fn next(&self, device: NodeId) -> Option<Next>
         requires leaf { IsLeaf (plan_lists self.now.plan) device.0 }
-        ensures next { MatchOption result (HasNoNext self.now.plan self.now.core.closed (count_of self.now.core) device.0)
+        ensures next { MatchOption result
+            (HasNoNext self.now.plan self.now.core.closed (count_of self.now.core) device.0)
             (IsNext self.now.plan self.now.core.closed (count_of self.now.core) device.0) }
     {
         let Some(what) = self.due_change(device) else {
@@ -36,7 +37,8 @@ impl<'p> Cluster<'p> {
     /// The change that a device makes next; none exactly where it has no next one.
     fn due_change(&self, device: NodeId) -> Option<Planned>
         requires leaf { IsLeaf (plan_lists self.now.plan) device.0 }
-        ensures due { MatchOption result (HasNoNext self.now.plan self.now.core.closed (count_of self.now.core) device.0)
+        ensures due { MatchOption result
+            (HasNoNext self.now.plan self.now.core.closed (count_of self.now.core) device.0)
             (IsDueChange self.now.plan self.now.core.closed (count_of self.now.core) device.0) }
     {
         let at = device.0 as usize;
@@ -50,8 +52,10 @@ impl<'p> Cluster<'p> {
     /// Whether a device is a member after its next change.
     fn member_after(&self, device: NodeId, what: Planned) -> bool
         requires leaf { IsLeaf (plan_lists self.now.plan) device.0 }
-        requires due { IsDueChange self.now.plan self.now.core.closed (count_of self.now.core) device.0 what }
-        ensures member { result ≡ is_member self.now.plan device.0 (count_of self.now.core device.0 + 1) }
+        requires due { IsDueChange self.now.plan self.now.core.closed
+            (count_of self.now.core) device.0 what }
+        ensures member { result ≡ is_member self.now.plan device.0
+            (count_of self.now.core device.0 + 1) }
     {
         match what {
             Planned::Join => true,
@@ -63,8 +67,10 @@ impl<'p> Cluster<'p> {
     /// The state of a device after its next change.
     fn state_after(&self, device: NodeId, what: Planned) -> DeviceState
         requires leaf { IsLeaf (plan_lists self.now.plan) device.0 }
-        requires due { IsDueChange self.now.plan self.now.core.closed (count_of self.now.core) device.0 what }
-        ensures state { result.0 ≡ state self.now.plan device.0 (count_of self.now.core device.0 + 1) }
+        requires due { IsDueChange self.now.plan self.now.core.closed
+            (count_of self.now.core) device.0 what }
+        ensures state { result.0 ≡ state self.now.plan device.0
+            (count_of self.now.core device.0 + 1) }
     {
         match what {
             Planned::Join | Planned::Leave => self.states[device.0 as usize],
@@ -76,8 +82,10 @@ impl<'p> Cluster<'p> {
     /// The state of a device after its next change, which is a tick of so many minutes.
     fn state_after_tick(&self, device: NodeId, minutes: i64) -> DeviceState
         requires leaf { IsLeaf (plan_lists self.now.plan) device.0 }
-        requires due { IsDueChange self.now.plan self.now.core.closed (count_of self.now.core) device.0 (Planned.Tick minutes) }
-        ensures state { result.0 ≡ state self.now.plan device.0 (count_of self.now.core device.0 + 1) }
+        requires due { IsDueChange self.now.plan self.now.core.closed
+            (count_of self.now.core) device.0 (Planned.Tick minutes) }
+        ensures state { result.0 ≡ state self.now.plan device.0
+            (count_of self.now.core device.0 + 1) }
     {
         let kind = self.plan.kind(device);
         let before = self.states[device.0 as usize];
@@ -88,7 +96,8 @@ impl<'p> Cluster<'p> {
     /// the first.
     fn power_before(&self, device: NodeId) -> i64
         requires leaf { IsLeaf (plan_lists self.now.plan) device.0 }
-        ensures power { result ≡ power self.now.plan (state self.now.plan) (end_cut self.now.plan self.now.core.closed) device.0 }
+        ensures power { result ≡ power self.now.plan (state self.now.plan)
+            (end_cut self.now.plan self.now.core.closed) device.0 }
     {
         if self.closed == 0 {
             return 0;

@@ -66,7 +66,8 @@ fn starts(alloc: Global, plan: &Plan) -> Result<Vec<DeviceState>, AllocError>
 /// The state of a device before its first change; 0 for any other node.
 #[tactic(auto, using(crate::proofs::Parents::leaf_is, crate::proofs::Parents::nodes_are))]
 fn start_of(plan: &Plan, node: NodeId) -> DeviceState
-    ensures start { IsLeaf (plan_lists plan.now) node.0 → planned_start (planned_node plan.now node.0) ≡ Some result.0 }
+    ensures start { IsLeaf (plan_lists plan.now) node.0 →
+        planned_start (planned_node plan.now node.0) ≡ Some result.0 }
 {
     if !is_device(plan, node) {
         return DeviceState(0);
@@ -88,7 +89,8 @@ fn first_due(alloc: Global, plan: &Plan) -> Result<Vec<u32>, AllocError>
 /// How many changes of a device belong to the first phase, where there is one; 0 for any other node.
 #[tactic(auto, using(crate::proofs::Parents::leaf_is, crate::proofs::Parents::nodes_are))]
 fn first_due_of(plan: &Plan, node: NodeId) -> u32
-    ensures due { 0 < phases plan.now → IsLeaf (plan_lists plan.now) node.0 → result ≡ end_cut plan.now 1 node.0 }
+    ensures due { 0 < phases plan.now → IsLeaf (plan_lists plan.now) node.0 →
+        result ≡ end_cut plan.now 1 node.0 }
 {
     if plan.phases() == 0 || !is_device(plan, node) {
         return 0;
@@ -98,7 +100,8 @@ fn first_due_of(plan: &Plan, node: NodeId) -> u32
 
 /// A port for each node.
 fn ports(alloc: Global, many: usize) -> Result<Vec<Port>, AllocError>
-    ensures ports { IfOk result (λ v. v.items ≡ replicate many (record { joined = None; given = None })) }
+    ensures ports { IfOk result (λ v. v.items ≡ replicate many
+        (record { joined = None; given = None })) }
 {
     let mut ports = Vec::new(alloc);
     for _node in 0..many {
@@ -159,7 +162,8 @@ fn concentrator(
 /// The concentrator of a node that is one, with the plan's limits.
 fn new_concentrator(alloc: Global, plan: &Plan, node: NodeId) -> Result<Concentrator, AllocError>
     requires concentrator { IsConcentrator (plan_lists plan.now) node.0 }
-    ensures new { IfOk result (IsNewConcentrator (length (children_of plan.now.entries node.0)) plan.now.basis.steps (limits_at plan.now node.0)) }
+    ensures new { IfOk result (IsNewConcentrator (length (children_of plan.now.entries node.0))
+        plan.now.basis.steps (limits_at plan.now node.0)) }
 {
     let children = plan.tree().children(node).len();
     let steps = plan.basis().steps();

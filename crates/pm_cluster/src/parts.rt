@@ -29,10 +29,14 @@ pub(crate) fn learn(
     demand: Option<&ArrayBid>,
 )
     requires parent { parent < length concentrators.old.items }
-    requires there { (parent ≡ 0 → ⊥) → is_some (slice_index_or concentrators.old.items parent None) ≡ true }
-    requires can { CanLearn (cache_in auctioneer.old concentrators.old.items parent) place (option_copied demand) }
-    requires newer { kept_number (cache_in auctioneer.old concentrators.old.items parent) place < number }
-    ensures { EntryLearnt auctioneer.old auctioneer.new concentrators.old.items concentrators.new.items parent place number (option_copied demand.entry) }
+    requires there { (parent ≡ 0 → ⊥) → is_some (slice_index_or concentrators.old.items parent None)
+        ≡ true }
+    requires can { CanLearn (cache_in auctioneer.old concentrators.old.items parent) place
+        (option_copied demand) }
+    requires newer { kept_number (cache_in auctioneer.old concentrators.old.items parent) place
+        < number }
+    ensures { EntryLearnt auctioneer.old auctioneer.new concentrators.old.items
+        concentrators.new.items parent place number (option_copied demand.entry) }
 {
     if parent == 0 {
         let _ = auctioneer.learn(place, number, demand);
@@ -53,12 +57,17 @@ pub(crate) fn publish(
     requires there { is_some (slice_index_or concentrators.old.items node None) ≡ true }
     requires parent { parent < length links.old.items }
     requires place { place < length (row_at (rows_of links.old.items) parent) }
-    requires steps { (link_at (rows_of links.old.items) parent place).steps ≡ (gathered_at concentrators.old.items node).cache.steps }
+    requires steps { (link_at (rows_of links.old.items) parent place).steps
+        ≡ (gathered_at concentrators.old.items node).cache.steps }
     requires last { (gathered_at concentrators.old.items node).window.last + 1 < 2 ^ 32 }
-    requires number { (link_at (rows_of links.old.items) parent place).up.offered ≤ (gathered_at concentrators.old.items node).window.last }
-    ensures published { MatchOption result (CannotPublish (gathered_at concentrators.old.items node)) (λ number.
-        Published (gathered_at concentrators.old.items node) (gathered_at concentrators.new.items node)
-        (link_at (rows_of links.old.items) parent place) (link_at (rows_of links.new.items) parent place) number) }
+    requires number { (link_at (rows_of links.old.items) parent place).up.offered
+        ≤ (gathered_at concentrators.old.items node).window.last }
+    ensures published { MatchOption result
+        (CannotPublish (gathered_at concentrators.old.items node)) (λ number.
+        Published (gathered_at concentrators.old.items node)
+        (gathered_at concentrators.new.items node)
+        (link_at (rows_of links.old.items) parent place)
+        (link_at (rows_of links.new.items) parent place) number) }
     ensures one { OneLink (rows_of links.old.items) (rows_of links.new.items) parent place }
     ensures alone { OneConcentrator concentrators.old.items concentrators.new.items node }
     ensures none { result ≡ None → (rows_of links.new.items ≡ rows_of links.old.items)
@@ -86,10 +95,12 @@ pub(crate) fn pass(
     requires there { is_some (slice_index_or concentrators.old.items node None) ≡ true }
     requires row { node < length links.old.items }
     requires kept { Keeps (gathered_at concentrators.old.items node).window price.number }
-    requires same_length { length (row_at (rows_of links.old.items) node) ≡ length (gathered_at concentrators.old.items node).cache.heads }
+    requires same_length { length (row_at (rows_of links.old.items) node)
+        ≡ length (gathered_at concentrators.old.items node).cache.heads }
     requires index { IsNewIndex price.index (row_at (rows_of links.old.items) node) }
     requires step { price.step < (gathered_at concentrators.old.items node).cache.steps }
-    ensures passed { Passed (gathered_at concentrators.old.items node) (gathered_at concentrators.new.items node) price.number }
+    ensures passed { Passed (gathered_at concentrators.old.items node)
+        (gathered_at concentrators.new.items node) price.number }
     ensures alone { OneConcentrator concentrators.old.items concentrators.new.items node }
     ensures prices { let g = gathered_at concentrators.old.items node in
         let sent = record_of g.window price.number in
@@ -106,11 +117,14 @@ pub(crate) fn pass(
 /// The auctioneer clears, where it learnt something since its last clearing.
 pub(crate) fn clear(auctioneer: &mut Auctioneer, links: &mut Vec<Vec<Link>>) -> Option<Cleared>
     requires row { 0 < length links.old.items }
-    requires same_length { length (row_at (rows_of links.old.items) 0) ≡ length auctioneer.old.cache.heads }
+    requires same_length { length (row_at (rows_of links.old.items) 0)
+        ≡ length auctioneer.old.cache.heads }
     requires last { auctioneer.old.index + 1 < 2 ^ 32 }
     requires index { IsNewIndex (auctioneer.old.index + 1) (row_at (rows_of links.old.items) 0) }
-    ensures cleared { MatchOption result (auctioneer.old.changed ≡ false) (λ cleared. ClearedAt auctioneer.old auctioneer.new
-        (row_at (rows_of links.old.items) 0) (row_at (rows_of links.new.items) 0) cleared.index cleared.step) }
+    ensures cleared { MatchOption result (auctioneer.old.changed ≡ false)
+        (λ cleared. ClearedAt auctioneer.old auctioneer.new
+        (row_at (rows_of links.old.items) 0) (row_at (rows_of links.new.items) 0) cleared.index
+        cleared.step) }
     ensures row { IsSome result → OneRow (rows_of links.old.items) (rows_of links.new.items) 0 }
     ensures none { result ≡ None → (auctioneer.new ≡ auctioneer.old)
         × (rows_of links.new.items ≡ rows_of links.old.items) }

@@ -30,8 +30,10 @@ impl<'p> Cluster<'p> {
     /// bids.
     pub fn idle(&self) -> bool
         ensures quiet { IsTrue result ↔ IsQuiet self.now.plan self.now.core }
-        ensures idle { (s : State) → StandsFor self.now.plan self.now.core s → IsTrue result ↔ Idle (plan_lists self.now.plan) s }
-        ensures current { IsTrue result → (s : State) → StandsFor self.now.plan self.now.core s → IsCurrent self.now.plan self.now.core s }
+        ensures idle { (s : State) → StandsFor self.now.plan self.now.core s →
+            IsTrue result ↔ Idle (plan_lists self.now.plan) s }
+        ensures current { IsTrue result → (s : State) → StandsFor self.now.plan self.now.core s →
+            IsCurrent self.now.plan self.now.core s }
     {
         let last = self.plan.tree().len();
         for number in 0..last + 1 {
@@ -62,10 +64,14 @@ impl<'p> Cluster<'p> {
     pub fn next_node(&self) -> Option<NodeId>
         ensures sound { IsPlan self.now.plan }
         ensures inside { IfSome result (λ node. node.0 ≤ nodes (plan_lists self.now.plan)) }
-        ensures still { MatchOption result ((x : ℕ) → x ≤ nodes (plan_lists self.now.plan) → IsStill self.now.plan self.now.core x)
-            (λ node. (IsStill self.now.plan self.now.core node.0 → ⊥) × ((x : ℕ) → x < node.0 → IsStill self.now.plan self.now.core x)) }
-        ensures moved { (s : State) → StandsFor self.now.plan self.now.core s → MatchOption result (Idle (plan_lists self.now.plan) s)
-            (λ node. (NoMoveOf (plan_lists self.now.plan) s node.0 → ⊥) × ((x : ℕ) → x < node.0 → NoMoveOf (plan_lists self.now.plan) s x)) }
+        ensures still { MatchOption result
+            ((x : ℕ) → x ≤ nodes (plan_lists self.now.plan) → IsStill self.now.plan self.now.core x)
+            (λ node. (IsStill self.now.plan self.now.core node.0 → ⊥)
+            × ((x : ℕ) → x < node.0 → IsStill self.now.plan self.now.core x)) }
+        ensures moved { (s : State) → StandsFor self.now.plan self.now.core s →
+            MatchOption result (Idle (plan_lists self.now.plan) s)
+            (λ node. (NoMoveOf (plan_lists self.now.plan) s node.0 → ⊥)
+            × ((x : ℕ) → x < node.0 → NoMoveOf (plan_lists self.now.plan) s x)) }
     {
         for number in 0..self.plan.tree().len() + 1 {
             let node = NodeId(number);
@@ -128,19 +134,30 @@ impl<'p> Cluster<'p> {
     /// device is a member, and its step is the device's local step over that cut.
     pub fn held(&self, device: NodeId) -> Option<Held>
         requires leaf { IsLeaf (plan_lists self.now.plan) device.0 }
-        ensures held { (s : State) → StandsFor self.now.plan self.now.core s → result ≡ held_price self.now.plan s device.0 }
-        ensures current { (s : State) → StandsFor self.now.plan self.now.core s → Idle (plan_lists self.now.plan) s →
+        ensures held { (s : State) → StandsFor self.now.plan self.now.core s →
+            result ≡ held_price self.now.plan s device.0 }
+        ensures current { (s : State) → StandsFor self.now.plan self.now.core s →
+            Idle (plan_lists self.now.plan) s →
             is_member (plan_lists self.now.plan) device.0 (s.counts device.0) ≡ true →
-            result ≡ Some (record { step = local_step_at self.now.plan s.counts device.0; number = s.counts device.0; index = clearings s }) }
+            result ≡ Some
+            (record {
+              step = local_step_at self.now.plan s.counts device.0;
+              number = s.counts device.0;
+              index = clearings s;
+            }) }
         ensures member { (s : State) → StandsFor self.now.plan self.now.core s →
-            IfSome result (λ price. is_member (plan_lists self.now.plan) device.0 price.number ≡ true) }
-        ensures made { (s : State) → StandsFor self.now.plan self.now.core s → IfSome result (λ price. price.number ≤ s.counts device.0) }
+            IfSome result (λ price. is_member (plan_lists self.now.plan) device.0 price.number
+            ≡ true) }
+        ensures made { (s : State) → StandsFor self.now.plan self.now.core s →
+            IfSome result (λ price. price.number ≤ s.counts device.0) }
         ensures cleared { (s : State) → StandsFor self.now.plan self.now.core s →
             IfSome result (λ price. (1 ≤ price.index) × (price.index ≤ clearings s)) }
         ensures own { (s : State) → StandsFor self.now.plan self.now.core s →
             IfSome result (λ price. price.number ≡ cleared_cut s price.index device.0) }
         ensures step { (s : State) → StandsFor self.now.plan self.now.core s →
-            IfSome result (λ price. price.step ≡ local_step_at self.now.plan (cleared_cut s price.index) device.0) }
+            IfSome result
+            (λ price. price.step ≡ local_step_at self.now.plan
+            (cleared_cut s price.index) device.0) }
     {
         self.ports[device.0 as usize].held()
     }
@@ -148,8 +165,10 @@ impl<'p> Cluster<'p> {
     /// The price of the auctioneer's step, in price units; that of step 0 before the first clearing.
     pub fn price(&self) -> i64
         ensures price { result ≡ price_at self.now.plan.basis self.now.core.auctioneer.step }
-        ensures current { (s : State) → StandsFor self.now.plan self.now.core s → Idle (plan_lists self.now.plan) s →
-            result ≡ price_at self.now.plan.basis (plain_step self.now.plan (state self.now.plan) s.counts) }
+        ensures current { (s : State) → StandsFor self.now.plan self.now.core s →
+            Idle (plan_lists self.now.plan) s →
+            result ≡ price_at self.now.plan.basis
+            (plain_step self.now.plan (state self.now.plan) s.counts) }
     {
         self.plan.basis().price(self.auctioneer.step() as usize)
     }
@@ -160,7 +179,8 @@ impl<'p> Cluster<'p> {
         ensures sum { result.now ≡ aggregate_of self.now.core.auctioneer.cache }
         ensures known { (s : State) → StandsFor self.now.plan self.now.core s →
             result.now ≡ children_sum self.now.plan 0 (knowledge (plan_lists self.now.plan) s 0) }
-        ensures current { (s : State) → StandsFor self.now.plan self.now.core s → Idle (plan_lists self.now.plan) s →
+        ensures current { (s : State) → StandsFor self.now.plan self.now.core s →
+            Idle (plan_lists self.now.plan) s →
             result.now ≡ total self.now.plan (state self.now.plan) s.counts }
     {
         self.auctioneer.cache().aggregate()
@@ -176,7 +196,9 @@ fn can_publish(concentrator: &Concentrator) -> bool
 
 /// Whether a bid waits on one of the links.
 fn bid_waits(row: &[Link]) -> bool
-    ensures none { IsFalse result ↔ ((k : ℕ) → k < length row.now → (session_at row.now k).up.offered ≡ (session_at row.now k).up.taken) }
+    ensures none { IsFalse result
+        ↔ ((k : ℕ) → k < length row.now → (session_at row.now k).up.offered
+        ≡ (session_at row.now k).up.taken) }
 {
     for link in row {
         if link.bids_waiting() {
@@ -188,7 +210,8 @@ fn bid_waits(row: &[Link]) -> bool
 
 /// Whether a bid or a price waits on one of the links.
 fn message_waits(row: &[Link]) -> bool
-    ensures none { IsFalse result ↔ ((k : ℕ) → k < length row.now → IsTaken (session_at row.now k)) }
+    ensures none { IsFalse result
+        ↔ ((k : ℕ) → k < length row.now → IsTaken (session_at row.now k)) }
 {
     for link in row {
         if link_waits(link) {

@@ -23,7 +23,8 @@ pub(crate) fn parent_of(plan: &Plan, node: NodeId) -> usize
 pub(crate) fn place_in_row(plan: &Plan, node: NodeId) -> usize
     requires node { IsNode (plan_lists plan.now) node.0 }
     ensures place { result ≡ place_of plan.now.entries node.0 }
-    ensures inside { result < length (children_of plan.now.entries (parent (plan_lists plan.now) node.0)) }
+    ensures inside { result < length
+        (children_of plan.now.entries (parent (plan_lists plan.now) node.0)) }
 {
     plan.tree().place(node)
 }

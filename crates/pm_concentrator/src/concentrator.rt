@@ -82,7 +82,8 @@ impl Concentrator {
         requires few_children { children ≤ most_nodes }
         requires steps { AreSteps steps }
         requires limits { AreLimits (record { floor = floor; ceiling = ceiling }) }
-        ensures new { IfOk result (λ c. IsNewConcentrator children steps (Some (record { floor = floor; ceiling = ceiling })) c) }
+        ensures new { IfOk result (λ c. IsNewConcentrator children steps
+            (Some (record { floor = floor; ceiling = ceiling })) c) }
     {
         let cache = BidCache::new(alloc, children, steps, &mut Steps::<Brand>::start())?;
         let window = Window::limited(alloc, children, steps)?;
@@ -104,7 +105,8 @@ impl Concentrator {
     ) -> Result<(), CacheFault>
         requires bid { CanLearn self.old.cache child (option_copied demand) }
         ensures answer { result ≡ answer_to (kept_number self.old.cache child) number }
-        ensures learnt { self.new ≡ record self.old { cache = after_learning self.old.cache child number (option_copied demand.entry) } }
+        ensures learnt { self.new ≡ record self.old
+            { cache = after_learning self.old.cache child number (option_copied demand.entry) } }
     {
         self.cache
             .learn(child, number, demand, &mut Steps::<Brand>::start())
@@ -119,7 +121,8 @@ impl Concentrator {
         requires steps { up.old.steps ≡ self.old.cache.steps }
         requires last { self.old.window.last + 1 < 2 ^ 32 }
         requires number { up.old.up.offered < self.old.window.last + 1 }
-        ensures published { IfOk result (λ number. Published self.old self.new up.old up.new number) }
+        ensures published { IfOk result (λ number. Published self.old self.new up.old up.new
+            number) }
         ensures refused { IfErr result (λ fault. NotPublished self.old fault) }
         ensures unchanged { IfErr result (λ fault. (self.new ≡ self.old) × (up.new ≡ up.old)) }
     {
@@ -148,9 +151,11 @@ impl Concentrator {
         ensures ok { result ≡ Ok tt }
         ensures passed { Passed self.old self.new price.number }
         ensures prices { let sent = record_of self.old.window price.number in
-            PricesOffered sent.heads (local_step_of_record self.old.limits price.step sent.sum) price.index downs.old downs.new }
+            PricesOffered sent.heads (local_step_of_record self.old.limits price.step sent.sum)
+            price.index downs.old downs.new }
         ensures inside { price.step < self.old.cache.steps
-            → local_step_of_record self.old.limits price.step (record_of self.old.window price.number).sum < self.old.cache.steps }
+            → local_step_of_record self.old.limits price.step
+            (record_of self.old.window price.number).sum < self.old.cache.steps }
     {
         let record = self.window.answered(price.number);
         let step = step_below(&self.limited, price.step, record);
@@ -206,16 +211,27 @@ fn send(
     up: &mut Link,
 )
     requires up_steps { up.old.steps ≡ cache.now.steps }
-    requires limits { (limits : LimitedValue) → limited.old ≡ Some limits → limits.steps ≡ cache.now.steps }
+    requires limits { (limits : LimitedValue) → limited.old ≡ Some limits →
+        limits.steps ≡ cache.now.steps }
     requires room { unanswered_count window.old < window_size }
     requires number { number ≡ window.old.last + 1 }
     requires offered { up.old.up.offered < number }
     requires children { window.old.children ≡ length cache.now.heads }
-    requires sum_steps { window.old.steps ≡ sum_steps (option_map (λ l. l.limits) limited.old) cache.now.steps }
+    requires sum_steps { window.old.steps ≡ sum_steps
+        (option_map (λ l. l.limits) limited.old) cache.now.steps }
     ensures bid { BidOffered up.old up.new
-        (record { number = number; gone = false; demand = within_limits (option_map (λ l. l.limits) limited.old) (aggregate_of cache.now) }) }
+        (record {
+          number = number;
+          gone = false;
+          demand = within_limits (option_map (λ l. l.limits) limited.old)
+              (aggregate_of cache.now);
+        }) }
     ensures sent { RecordSent window.old window.new
-        (record { number = number; heads = cache.now.heads; sum = sum_kept (option_map (λ l. l.limits) limited.old) (aggregate_of cache.now) }) }
+        (record {
+          number = number;
+          heads = cache.now.heads;
+          sum = sum_kept (option_map (λ l. l.limits) limited.old) (aggregate_of cache.now);
+        }) }
     ensures limits { limited.new ≡ limited.old }
 {
     let sum = cache.aggregate();
@@ -234,9 +250,11 @@ fn send(
 /// The step that a price of this step has for the children, whose bids have so many steps.
 fn step_below(limited: &Option<Limited>, step: u32, sent: &Record) -> u32
     requires step { (limits : LimitedValue) → limited.now ≡ Some limits → step < limits.steps }
-    requires sums { (limits : LimitedValue) → limited.now ≡ Some limits → steps_of sent.now.sum ≡ Some limits.steps }
+    requires sums { (limits : LimitedValue) → limited.now ≡ Some limits →
+        steps_of sent.now.sum ≡ Some limits.steps }
     requires no_sums { limited.now ≡ None → sent.now.sum ≡ None }
-    ensures step { result ≡ local_step_of_record (option_map (λ l. l.limits) limited.now) step sent.now.sum }
+    ensures step { result ≡ local_step_of_record (option_map (λ l. l.limits) limited.now) step
+        sent.now.sum }
     ensures inside { (limits : LimitedValue) → limited.now ≡ Some limits → result < limits.steps }
     ensures same { limited.now ≡ None → result ≡ step }
 {

@@ -35,7 +35,8 @@ impl Limited {
     pub(crate) fn new(alloc: Global, steps: usize, limits: Limits) -> Result<Limited, AllocError>
         requires steps { AreSteps steps }
         requires limits { AreLimits limits }
-        ensures limits { IfOk result (λ limited. limited ≡ record { limits = limits; steps = steps }) }
+        ensures limits { IfOk result (λ limited. limited
+            ≡ record { limits = limits; steps = steps }) }
     {
         let clamped = ArrayBid::zero(alloc, steps, &mut Steps::<Brand>::start())?;
         Ok(Limited { limits, clamped })
@@ -47,7 +48,11 @@ impl Limited {
         requires steps { length sum.now ≡ self.old.steps }
         requires up_steps { up.old.steps ≡ self.old.steps }
         ensures bid { BidOffered up.old up.new
-            (record { number = number; gone = false; demand = clamp self.old.limits.floor self.old.limits.ceiling sum.now }) }
+            (record {
+              number = number;
+              gone = false;
+              demand = clamp self.old.limits.floor self.old.limits.ceiling sum.now;
+            }) }
         ensures same { self.new ≡ self.old }
     {
         let mut counter = Steps::<Brand>::start();

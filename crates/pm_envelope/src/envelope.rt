@@ -20,7 +20,8 @@ pub struct Envelope<'a> {
 /// [`FILE_LIMIT`], in decimal digits without sign or leading zero. None is answered exactly where the input does not begin
 /// so.
 pub fn open_envelope(input: &[u8]) -> Option<Envelope<'_>>
-    ensures some { IfSome result (λ envelope. IsEnvelope input.now envelope.file.now envelope.rest.now) }
+    ensures some { IfSome result
+        (λ envelope. IsEnvelope input.now envelope.file.now envelope.rest.now) }
     ensures none { IfNone result ((file rest : List ℕ) → ¬ (IsEnvelope input.now file rest)) }
 {
     let (header, body) = split_line(input)?;
@@ -34,6 +35,7 @@ pub fn open_envelope(input: &[u8]) -> Option<Envelope<'_>>
 
 /// A law: an input is an envelope of one file and one rest at most.
 pub fn envelopes_are_unique()
-    ensures { (input file rest other_file other_rest : List ℕ) → IsEnvelope input file rest → IsEnvelope input other_file other_rest →
+    ensures { (input file rest other_file other_rest : List ℕ) → IsEnvelope input file rest →
+        IsEnvelope input other_file other_rest →
         (file ≡ other_file) × (rest ≡ other_rest) }
 {}

@@ -23,7 +23,8 @@ fn has_leading_zero(text: &[u8]) -> bool
 
 /// The value of decimal digits, where all bytes are digits and it is at most `most`.
 fn value_up_to(most: u32, digits: &[u8]) -> Option<u32>
-    ensures { SomeIff result (AllDigits 10 digits.now × (digits_value 10 digits.now ≤ most)) (digits_value 10 digits.now) }
+    ensures { SomeIff result (AllDigits 10 digits.now × (digits_value 10 digits.now ≤ most))
+        (digits_value 10 digits.now) }
 {
     let mut value = 0;
     for byte in digits {

@@ -113,14 +113,16 @@ module _ (power : ℤ) (seed : ℕ) (rated : is_power power ≡ true) where
   heat_pump = record {
     valid = ap (λ b. b && true) rated;
     no_bid = refl;
-    fits = between (neg_ℤ (pos temperature_limit)) (pos temperature_limit) (pos 1900 +ℤ pos (draw_below 301 seed)) (omega (arith, ints)) (omega (arith, ints));
+    fits = between (neg_ℤ (pos temperature_limit)) (pos temperature_limit) (pos 1900 +ℤ pos (draw_below 301 seed)) (omega (arith, ints))
+        (omega (arith, ints));
   }
 
   cogeneration : IsPlain (with_start (Cogeneration (pos 5000) (pos 8000) power (pos 100) (pos 300)) (pos 5000) 3001 seed).0
   cogeneration = record {
     valid = ap (λ b. b && true) rated;
     no_bid = refl;
-    fits = between (neg_ℤ (pos temperature_limit)) (pos temperature_limit) (pos 5000 +ℤ pos (draw_below 3001 seed)) (omega (arith, ints)) (omega (arith, ints));
+    fits = between (neg_ℤ (pos temperature_limit)) (pos temperature_limit) (pos 5000 +ℤ pos (draw_below 3001 seed)) (omega (arith, ints))
+        (omega (arith, ints));
   }
 
   battery : IsPlain (with_start (Battery (pos 1000) power power (pos 5)) (pos 0) 1001 seed).0

@@ -111,7 +111,8 @@ fn draw_power(draws: &mut Draws) -> i64
 
 /// Adds so many concentrators.
 fn push_concentrators(count: u32, nodes: &mut Vec<NodeSpec>) -> Result<(), AllocError>
-    ensures { OnOk result (map node_part nodes.new.items ≡ map node_part nodes.old.items ++ replicate count concentrator) }
+    ensures { OnOk result (map node_part nodes.new.items ≡ map node_part nodes.old.items
+        ++ replicate count concentrator) }
 {
     for _ in 0..count {
         nodes.push(NodeSpec::Concentrator)?;
@@ -121,7 +122,8 @@ fn push_concentrators(count: u32, nodes: &mut Vec<NodeSpec>) -> Result<(), Alloc
 
 /// Draws so many devices, one after another, and adds them.
 fn push_devices(draws: &mut Draws, size: u32, nodes: &mut Vec<NodeSpec>) -> Result<(), AllocError>
-    ensures devices { OnOk result (map node_part nodes.new.items ≡ map node_part nodes.old.items ++ (drawn_devices size draws.old.seed).0) }
+    ensures devices { OnOk result (map node_part nodes.new.items ≡ map node_part nodes.old.items
+        ++ (drawn_devices size draws.old.seed).0) }
     ensures seed { OnOk result (draws.new.seed ≡ (drawn_devices size draws.old.seed).1) }
 {
     for _ in 0..size {
@@ -138,7 +140,8 @@ pub(crate) fn make_nodes(
     size: u32,
 ) -> Result<Vec<NodeSpec>, AllocError>
     requires { size ≤ 200 }
-    ensures nodes { IfOk result (λ nodes. map node_part nodes.items ≡ demo_nodes size draws.old.seed) }
+    ensures nodes { IfOk result (λ nodes. map node_part nodes.items
+        ≡ demo_nodes size draws.old.seed) }
     ensures seed { OnOk result (draws.new.seed ≡ (drawn_devices size draws.old.seed).1) }
 {
     let mut nodes = Vec::new(alloc);

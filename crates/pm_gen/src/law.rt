@@ -5,5 +5,6 @@ ghost use Rattle.pm_gen.specs.Demo.{is_size, demo_plan};
 
 /// A law: the plan of a demo is one that the type `Plan` keeps.
 pub fn plans_of_demos_keep_the_limits()
-    ensures { (size number : ℕ) (plan : PlanData) → is_size size ≡ true → demo_plan size number ≡ Ok plan → IsPlan plan }
+    ensures { (size number : ℕ) (plan : PlanData) → is_size size ≡ true →
+        demo_plan size number ≡ Ok plan → IsPlan plan }
 {}

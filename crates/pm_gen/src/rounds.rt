@@ -36,7 +36,8 @@ fn leave(alloc: Global, number: u32) -> Result<EventSpec, AllocError>
 
 /// The events by which all devices join in order.
 fn join_all(alloc: Global, size: u32) -> Result<Vec<EventSpec>, AllocError>
-    ensures { IfOk result (λ events. map event_part events.items ≡ map (λ i. join_part (device_name i)) (range_with_len 1 size)) }
+    ensures { IfOk result (λ events. map event_part events.items
+        ≡ map (λ i. join_part (device_name i)) (range_with_len 1 size)) }
 {
     let mut events = Vec::new(alloc);
     for place in 0..size {
@@ -50,8 +51,10 @@ fn turn(alloc: Global, members: &mut [bool], place: usize) -> Result<EventSpec, 
     requires inside { place < length members.old }
     requires few { length members.old ≤ 200 }
     ensures event { IfOk result (λ event. event_part event
-        ≡ (if slice_index_or members.old place false then leave_part (device_name (1 + place)) else join_part (device_name (1 + place)))) }
-    ensures members { members.new ≡ slice_set members.old place (not (slice_index_or members.old place false)) }
+        ≡ (if slice_index_or members.old place false then leave_part (device_name (1 + place))
+        else join_part (device_name (1 + place)))) }
+    ensures members { members.new ≡ slice_set members.old place
+        (not (slice_index_or members.old place false)) }
 {
     let is_joined = members[place];
     members[place] = !is_joined;
@@ -72,10 +75,13 @@ fn turn_round(
     requires some { 0 < length members.old }
     requires few { length members.old ≤ 200 }
     ensures events { (earlier : List ℕ) → members.old ≡ joined_flags (length members.old) earlier →
-        IfOk result (λ events. map event_part events.items ≡ turns earlier (round_picks (length members.old) draws.old.seed)) }
+        IfOk result (λ events. map event_part events.items
+        ≡ turns earlier (round_picks (length members.old) draws.old.seed)) }
     ensures members { (earlier : List ℕ) → members.old ≡ joined_flags (length members.old) earlier →
-        OnOk result (members.new ≡ joined_flags (length members.old) (earlier ++ round_picks (length members.old) draws.old.seed)) }
-    ensures seed { OnOk result (draws.new.seed ≡ seed_after (round_len (length members.old)) draws.old.seed) }
+        OnOk result (members.new ≡ joined_flags (length members.old)
+        (earlier ++ round_picks (length members.old) draws.old.seed)) }
+    ensures seed { OnOk result (draws.new.seed ≡ seed_after
+        (round_len (length members.old)) draws.old.seed) }
     ensures size { length members.new ≡ length members.old }
 {
     let mut events = Vec::new(alloc);
@@ -96,11 +102,14 @@ fn push_round(
     requires some { 0 < length members.old }
     requires few { length members.old ≤ 200 }
     ensures phases { (earlier : List ℕ) → members.old ≡ joined_flags (length members.old) earlier →
-        OnOk result (map phase_part phases.new.items ≡ map phase_part phases.old.items ++ tick_part (pos 15)
+        OnOk result (map phase_part phases.new.items ≡ map phase_part phases.old.items
+        ++ tick_part (pos 15)
         ∷ events_part (turns earlier (round_picks (length members.old) draws.old.seed)) ∷ []) }
     ensures members { (earlier : List ℕ) → members.old ≡ joined_flags (length members.old) earlier →
-        OnOk result (members.new ≡ joined_flags (length members.old) (earlier ++ round_picks (length members.old) draws.old.seed)) }
-    ensures seed { OnOk result (draws.new.seed ≡ seed_after (round_len (length members.old)) draws.old.seed) }
+        OnOk result (members.new ≡ joined_flags (length members.old)
+        (earlier ++ round_picks (length members.old) draws.old.seed)) }
+    ensures seed { OnOk result (draws.new.seed ≡ seed_after
+        (round_len (length members.old)) draws.old.seed) }
     ensures size { length members.new ≡ length members.old }
 {
     phases.push(PhaseSpec::Tick {
@@ -119,7 +128,8 @@ fn push_rounds(
 ) -> Result<(), AllocError>
     requires some { 0 < length members.old }
     requires few { length members.old ≤ 200 }
-    requires joined { members.old ≡ joined_flags (length members.old) (range_with_len 1 (length members.old)) }
+    requires joined { members.old ≡ joined_flags (length members.old)
+        (range_with_len 1 (length members.old)) }
     ensures { OnOk result (map phase_part phases.new.items ≡ map phase_part phases.old.items
         ++ rounds 10 (length members.old) (range_with_len 1 (length members.old)) draws.old.seed) }
 {
@@ -145,7 +155,8 @@ pub(crate) fn make_phases(
 ) -> Result<Vec<PhaseSpec>, AllocError>
     requires some { 0 < size }
     requires few { size ≤ 200 }
-    ensures { IfOk result (λ phases. map phase_part phases.items ≡ demo_phases size draws.old.seed) }
+    ensures { IfOk result (λ phases. map phase_part phases.items
+        ≡ demo_phases size draws.old.seed) }
 {
     let mut members = all_joined(alloc, size)?;
     let mut phases = Vec::new(alloc);

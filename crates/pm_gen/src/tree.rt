@@ -46,7 +46,8 @@ fn push_concentrators(
     count: u32,
     entries: &mut Vec<TreeEntry>,
 ) -> Result<(), AllocError>
-    ensures { OnOk result (entries_of entries.new.items ≡ entries_of entries.old.items ++ concentrator_entries count) }
+    ensures { OnOk result (entries_of entries.new.items ≡ entries_of entries.old.items
+        ++ concentrator_entries count) }
 {
     for place in 0..count {
         entries.push(concentrator(alloc, place + 1)?)?;
@@ -63,7 +64,8 @@ fn push_devices(
 ) -> Result<(), AllocError>
     requires some { 0 < count }
     requires few { count ≤ 10 }
-    ensures { OnOk result (entries_of entries.new.items ≡ entries_of entries.old.items ++ device_entries count size) }
+    ensures { OnOk result (entries_of entries.new.items ≡ entries_of entries.old.items
+        ++ device_entries count size) }
 {
     for place in 0..size {
         entries.push(device(alloc, count, place + 1)?)?;

@@ -178,7 +178,8 @@ module _ (plan : PlanData) (is_plan : IsPlan plan) where
       subst (λ (ls : List Line). ls ≡ lines_from lists (local_step_at plan) start (moves_of ls)) split is.told in
       let holds : Some (k, n) ≡ holding_after lists (local_step_at plan) s (Pass d j) =
       ap (λ (m : Line). m.held) (told_at lists (local_step_at plan) front rest l start told) in
-      let what = held_parts (is_leaf lists d) (holds_price lists t d) (local_step_at plan (cleared_cut t (last_index t d)) d, cleared_cut t (last_index t d) d) (k, n) holds in
+      let what = held_parts (is_leaf lists d) (holds_price lists t d)
+      (local_step_at plan (cleared_cut t (last_index t d)) d, cleared_cut t (last_index t d) d) (k, n) holds in
       let leaf : IsLeaf lists d = what.0 in
       let last_is : last_index t d ≡ j = ap last_of (pushed_same s.passed d j) ∙ last_push (s.passed d) j in
       let there : Contains (t.passed d) j = subst (λ (is' : List ℕ). Contains is' j) (sym (pushed_same s.passed d j)) (Contains-push (s.passed d) j) in
@@ -206,7 +207,8 @@ module _ (plan : PlanData) (is_plan : IsPlan plan) where
         counted =
             ap (λ (i : ℕ). demand_at (device_demand plan d i) k) number
             ∙ ap (demand_at (device_demand plan d (clearing_cut plan journal j d))) at_step
-            ∙ ap (λ (bid : List ℤ). demand_at bid (local_step_at plan (clearing_cut plan journal j) d)) (sym (demand_is plan (clearing_cut plan journal j) d));
+            ∙ ap (λ (bid : List ℤ). demand_at bid (local_step_at plan (clearing_cut plan journal j) d))
+            (sym (demand_is plan (clearing_cut plan journal j) d));
       }
 
   -- a journal whose moves never go back has lines that do not
@@ -218,7 +220,8 @@ module _ (plan : PlanData) (is_plan : IsPlan plan) where
 
   no_way_back : (journal : List Line) → IsJournal plan journal → NobodyGoesBack plan journal
   no_way_back journal is = forward_in_lines journal (λ front mid rest x i j moves_are.
-      subst (λ (ms : List Move). (i < j) × ((d : ℕ) → IsLeaf lists d → cleared_cut (after lists ms) i d ≤ cleared_cut (after lists ms) j d)) (sym moves_are)
+      subst (λ (ms : List Move). (i < j) × ((d : ℕ) → IsLeaf lists d → cleared_cut (after lists ms) i d ≤ cleared_cut (after lists ms) j d))
+      (sym moves_are)
       (never_back lists law front mid rest x i j (subst (LegalJournal lists) moves_are is.legal)))
 
   held_at_close : (journal : List Line) → IsJournal plan journal → (front rest : List Line) (p : ℕ) (price : Option (ℕ × ℕ)) →

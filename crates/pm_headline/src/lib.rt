@@ -36,21 +36,31 @@ use pm_answer::{FileCommand, Status};
 /// the text with the status Invalid refutes the trace behind the file; that with the status Refused tells why, and nothing
 /// that is asked for stands in the input; and the summary of a demo tells its run.
 pub fn texts_tell_the_market()
-    ensures file { (asked : FileCommand) (old new : Option (List ℕ)) (input text : List ℕ) → Consumes old new input → IsAtEnd new →
-        length input ≤ input_limit asked → IsAnswer asked input Status.Done text → TellsFile asked old new text }
-    ensures invalid { (asked : FileCommand) (old new : Option (List ℕ)) (input text : List ℕ) → Consumes old new input → IsAtEnd new →
-        length input ≤ input_limit asked → IsAnswer asked input Status.Invalid text → (asked ≡ FileCommand.Check)
-        × ((plan : PlanData) × ((trace : List ℕ) × (ReadFile asked old new plan trace × RefutesTrace plan trace text))) }
-    ensures refused { (asked : FileCommand) (old new : Option (List ℕ)) (input text : List ℕ) → Consumes old new input → IsAtEnd new →
-        length input ≤ input_limit asked → IsAnswer asked input Status.Refused text → RefusesInput asked old new text }
-    ensures demo { (size number : ℕ) (text : List ℕ) → is_size size ≡ true → IsSummary size number text → TellsDemo size number text }
+    ensures file { (asked : FileCommand) (old new : Option (List ℕ)) (input text : List ℕ) →
+        Consumes old new input → IsAtEnd new →
+        length input ≤ input_limit asked → IsAnswer asked input Status.Done text →
+        TellsFile asked old new text }
+    ensures invalid { (asked : FileCommand) (old new : Option (List ℕ)) (input text : List ℕ) →
+        Consumes old new input → IsAtEnd new →
+        length input ≤ input_limit asked → IsAnswer asked input Status.Invalid text →
+        (asked ≡ FileCommand.Check)
+        × ((plan : PlanData)
+        × ((trace : List ℕ) × (ReadFile asked old new plan trace × RefutesTrace plan trace text))) }
+    ensures refused { (asked : FileCommand) (old new : Option (List ℕ)) (input text : List ℕ) →
+        Consumes old new input → IsAtEnd new →
+        length input ≤ input_limit asked → IsAnswer asked input Status.Refused text →
+        RefusesInput asked old new text }
+    ensures demo { (size number : ℕ) (text : List ℕ) → is_size size ≡ true →
+        IsSummary size number text → TellsDemo size number text }
 {}
 
 /// A law: the words leave nothing open. A plan has one report, and the trace that tells a run is the text of its journal,
 /// which is legal and complete.
 pub fn nothing_is_left_out()
-    ensures report { (plan : PlanData) (text : List ℕ) → IsPlan plan → IsReport plan text → text ≡ report_text plan (all_ends plan) }
-    ensures trace { (plan : PlanData) (journal : List Line) (text : List ℕ) → IsPlan plan → TellsRun plan journal text →
+    ensures report { (plan : PlanData) (text : List ℕ) → IsPlan plan → IsReport plan text →
+        text ≡ report_text plan (all_ends plan) }
+    ensures trace { (plan : PlanData) (journal : List Line) (text : List ℕ) → IsPlan plan →
+        TellsRun plan journal text →
         IsCompleteJournal plan journal × (text ≡ trace_text plan (all_ends plan) journal) }
 {}
 
@@ -58,6 +68,8 @@ pub fn nothing_is_left_out()
 /// its plan, and its ends tell the plain auction; a journal whose moves never go back has lines that do not.
 pub fn boards_run_the_market()
     ensures journal { (b : BoardValue) → IsPlan b.plan → IsSettled b → IsMarketRun b.plan b.lines }
-    ensures ends { (b : BoardValue) → IsPlan b.plan → IsSettled b → AreAuctionEnds b.plan (kept_ends b.ends) }
-    ensures forward { (plan : PlanData) (journal : List Line) → IsPlan plan → NeverGoesBack plan journal → NobodyGoesBack plan journal }
+    ensures ends { (b : BoardValue) → IsPlan b.plan → IsSettled b →
+        AreAuctionEnds b.plan (kept_ends b.ends) }
+    ensures forward { (plan : PlanData) (journal : List Line) → IsPlan plan →
+        NeverGoesBack plan journal → NobodyGoesBack plan journal }
 {}

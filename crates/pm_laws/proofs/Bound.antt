@@ -234,7 +234,8 @@ list_weight lists law s sound c inner =
     )
 
 -- in a sound state a node's newest number is at most the number of changes of its leaves
-pub newest_weight : (lists : Lists) → Lawful lists → (s : State) → Sound lists s → (x : ℕ) → IsNode lists x → newest_number_of lists s x ≤ weight lists x
+pub newest_weight : (lists : Lists) → Lawful lists → (s : State) → Sound lists s → (x : ℕ) → IsNode lists x →
+    newest_number_of lists s x ≤ weight lists x
 unfolding weight
 newest_weight lists law s sound x node =
     elim (cases_Bool (is_leaf lists x)) [
@@ -461,7 +462,8 @@ pub counts_end : (lists : Lists) (s : State) → Lawful lists → Sound lists s 
 counts_end lists s law sound = counted_bound lists law s sound
 
 -- no newest number of a node is above the number of all changes, with state and node before the premises
-pub newest_end : (lists : Lists) (s : State) (x : ℕ) → Lawful lists → Sound lists s → IsNode lists x → newest_number_of lists s x ≤ change_total lists
+pub newest_end : (lists : Lists) (s : State) (x : ℕ) → Lawful lists → Sound lists s → IsNode lists x →
+    newest_number_of lists s x ≤ change_total lists
 newest_end lists s x law sound node = newest_small lists law s sound x node
 
 -- the bound of a journal and what its proof rests on

@@ -5,7 +5,8 @@ use Rattle.std.proofs.lemmas.Bool.{cases_eq, cases_lt, cases_Bool}
 use Rattle.std.proofs.lemmas.List.{get_or_append_left, get_or_push, length_push, get_or_default}
 use Rattle.std.specs.List.{Contains}
 use Rattle.pm_market.specs.Lists.{Lists, phases, parent, is_leaf, changes, IsNode, IsLeaf, IsInner, Lawful, end_count}
-use Rattle.pm_market.specs.State.{State, update, SameOn, AtMostOn, cut_at, greatest_number, last_of, newest_number_of, part, number, last_index, clearings, cleared_cut}
+use Rattle.pm_market.specs.State.{State, update, SameOn, AtMostOn, cut_at, greatest_number}
+use Rattle.pm_market.specs.State.{last_of, newest_number_of, part, number, last_index, clearings, cleared_cut}
 use Rattle.pm_base.specs.Cuts.{Cut}
 use Rattle.pm_market.specs.Moves.{Reached}
 use Rattle.pm_market.specs.Sound.{Sound}

@@ -25,7 +25,8 @@ pub quiet_holds : (lists : Lists) → Lawful lists → (s : State) → Sound lis
 unfolding holds_price
 quiet_holds lists law s sound idle d leaf at =
     let passed = quiet_passed lists law s sound idle d leaf at in
-    let number_is : cleared_cut s (last_index s d) d ≡ s.counts d = ap (λ (j : ℕ). cleared_cut s j d) passed.1 ∙ quiet_counts lists law s sound idle d leaf in
+    let number_is : cleared_cut s (last_index s d) d ≡ s.counts d = ap (λ (j : ℕ). cleared_cut s j d) passed.1
+    ∙ quiet_counts lists law s sound idle d leaf in
     and_from _ _ (and_from _ _ (lt-ltb 0 (last_index s d) (omega (arith, passed.0, passed.1))) at)
     (le-leb (last_join lists d (s.counts d)) (cleared_cut s (last_index s d) d) (omega (arith, number_is, last_join_le lists d (s.counts d))))
 

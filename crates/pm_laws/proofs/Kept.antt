@@ -6,7 +6,8 @@ use Rattle.std.proofs.lemmas.List.{get_or_append_left, get_or_push, length_push}
 use Rattle.std.specs.List.{Contains}
 use Rattle.pm_base.specs.Limits.{window_size}
 use Rattle.pm_market.specs.Lists.{Lists, phases, child_at_or_above, parent, is_leaf, changes, IsInner, IsConcentrator, IsLeafOf, Lawful, end_count}
-use Rattle.pm_market.specs.State.{State, start, update, is_same_on, RisesOn, cut_at, part_of, knowledge_of, greatest_number, last_of, newest_number_of, part, knowledge, number}
+use Rattle.pm_market.specs.State.{State, start, update, is_same_on, RisesOn, cut_at, part_of}
+use Rattle.pm_market.specs.State.{knowledge_of, greatest_number, last_of, newest_number_of, part, knowledge, number}
 use Rattle.pm_market.specs.State.{last_index, clearings, cleared_cut, addresses, addresses_of}
 use Rattle.pm_base.specs.Cuts.{Cut}
 use Rattle.pm_market.specs.Moves.{Idle, Legal, step, after_from, LegalFrom, after, LegalJournal}

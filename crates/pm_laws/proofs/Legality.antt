@@ -23,10 +23,12 @@ pub idle_from : (lists : Lists) (s : State) → Sound lists s → is_idle lists 
 idle_from lists s sound h (Change d n) legal = legal
 idle_from lists s sound h (Learn x n) legal =
     let at = at_parts lists s x ((idle_parts lists s h).0 x legal.0) in
-    both_ways (learn_is_legal lists s x (newest_number_of lists s x)) at.0 (learn_at lists s x (newest_number_of lists s x) (legal.0, omega (arith, legal.1, legal.2), omega arith))
+    both_ways (learn_is_legal lists s x (newest_number_of lists s x)) at.0
+    (learn_at lists s x (newest_number_of lists s x) (legal.0, omega (arith, legal.1, legal.2), omega arith))
 idle_from lists s sound h (Publish c n) legal =
     let at = at_parts lists s c ((idle_parts lists s h).0 c (legal.0.0, legal.0.1)) in
-    both_ways (publish_is_legal lists s c (newest_number_of lists s c + 1)) at.1 (publish_at lists s c (newest_number_of lists s c + 1) (legal.0, legal.1, legal.2, refl))
+    both_ways (publish_is_legal lists s c (newest_number_of lists s c + 1)) at.1
+    (publish_at lists s c (newest_number_of lists s c + 1) (legal.0, legal.1, legal.2, refl))
 idle_from lists s sound h (Clear j) legal =
     both_ways (clear_is_legal lists s (clearings s + 1)) (idle_parts lists s h).1 (clear_at lists s (clearings s + 1) (legal.0, refl))
 idle_from lists s sound h (Pass x j) legal =
@@ -42,7 +44,8 @@ idle_to lists s idle =
     and_from _ _ (all_to_from (nodes lists) _ (λ x one le.
     and_from _ _ (and_from _ _
     (not_from_false _ (false_from_ne_true _ (λ e. idle (Learn x (newest_number_of lists s x)) (learn_from lists s x (newest_number_of lists s x) e))))
-    (not_from_false _ (false_from_ne_true _ (λ e. idle (Publish x (newest_number_of lists s x + 1)) (publish_from lists s x (newest_number_of lists s x + 1) e)))))
+    (not_from_false _
+    (false_from_ne_true _ (λ e. idle (Publish x (newest_number_of lists s x + 1)) (publish_from lists s x (newest_number_of lists s x + 1) e)))))
     (all_to_from (clearings s) _ (λ j j_one j_le. not_from_false _ (false_from_ne_true _ (λ e. idle (Pass x j) (pass_from lists s x j e)))))))
     (not_from_false _ (false_from_ne_true _ (λ e. idle (Clear (clearings s + 1)) (clear_from lists s (clearings s + 1) e))))
 
@@ -152,13 +155,18 @@ unfolding is_idle_at
 node_move_at lists s x h =
     elim (and_cases (not (learn_is_legal lists s x (newest_number_of lists s x)) && not (publish_is_legal lists s x (newest_number_of lists s x + 1)))
     (all_to (clearings s) (λ j. not (pass_is_legal lists s x j))) h) [
-      | inl a ↦ elim (and_cases (not (learn_is_legal lists s x (newest_number_of lists s x))) (not (publish_is_legal lists s x (newest_number_of lists s x + 1))) a) [
-        | inl e ↦ (Learn x (newest_number_of lists s x), learn_from lists s x (newest_number_of lists s x) (not-false (learn_is_legal lists s x (newest_number_of lists s x)) e))
-        | inr e ↦ (
-          Publish x (newest_number_of lists s x + 1),
-          publish_from lists s x (newest_number_of lists s x + 1) (not-false (publish_is_legal lists s x (newest_number_of lists s x + 1)) e),
-        )
-      ]
+      | inl a ↦ elim (and_cases (not (learn_is_legal lists s x (newest_number_of lists s x)))
+          (not (publish_is_legal lists s x (newest_number_of lists s x + 1))) a) [
+            | inl e ↦ (
+              Learn x (newest_number_of lists s x),
+              learn_from lists s x (newest_number_of lists s x)
+                  (not-false (learn_is_legal lists s x (newest_number_of lists s x)) e),
+            )
+            | inr e ↦ (
+              Publish x (newest_number_of lists s x + 1),
+              publish_from lists s x (newest_number_of lists s x + 1) (not-false (publish_is_legal lists s x (newest_number_of lists s x + 1)) e),
+            )
+          ]
       | inr a ↦ let r = all_to_fails (clearings s) (λ j. not (pass_is_legal lists s x j)) a in
           (Pass x r.0, pass_from lists s x r.0 (not-false (pass_is_legal lists s x r.0) r.3))
     ]

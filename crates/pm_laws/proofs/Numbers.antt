@@ -2,7 +2,8 @@
 use Rattle.std.proofs.Common.{◌≡◌, ℕ, ◌≤◌, true, inl, inr, ◌↔◌, List, length, sym, ◌∙◌, ap, subst, arith}
 use Rattle.std.proofs.lemmas.Bool.{cases_eq, cases_lt, cases_Bool, cond-true, not_from_false}
 use Rattle.pm_market.specs.Lists.{Lists, parent, is_leaf, IsNode, IsLeaf, IsInner, IsConcentrator, IsLeafOf, Lawful}
-use Rattle.pm_market.specs.State.{State, is_same_on, SameOn, cut_at, greatest_number, number_of, newest_number_of, part, knowledge, number, clearings, cleared_cut, addresses}
+use Rattle.pm_market.specs.State.{State, is_same_on, SameOn, cut_at, greatest_number, number_of}
+use Rattle.pm_market.specs.State.{newest_number_of, part, knowledge, number, clearings, cleared_cut, addresses}
 use Rattle.pm_market.specs.State.{no_changes}
 use Rattle.pm_base.specs.Cuts.{Cut}
 use Rattle.pm_market.specs.Sound.{Sound}

@@ -42,7 +42,8 @@ module _ (lists : Lists) (law : Lawful lists) (s : State) (sound : Sound lists s
 
   -- after y published, its new number stands for the cut that it knew
   pub cut_at_last : (i : ℕ) → i ≡ length (s.published y) + 1 → cut_at (s'.published y) i ≡ knowledge lists s y
-  cut_at_last i e = ap (λ (l : List Cut). cut_at l i) (pushed_same s.published y (knowledge lists s y)) ∙ cut_at_new (s.published y) (knowledge lists s y) i e
+  cut_at_last i e = ap (λ (l : List Cut). cut_at l i) (pushed_same s.published y (knowledge lists s y))
+      ∙ cut_at_new (s.published y) (knowledge lists s y) i e
 
   -- after y published, the newest number of any other node is the same
   pub newest_other : (z : ℕ) → (z ≡ y → ⊥) → newest_number_of lists s' z ≡ newest_number_of lists s z

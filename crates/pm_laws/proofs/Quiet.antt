@@ -5,7 +5,8 @@ use Rattle.std.proofs.lemmas.Bool.{cases_eq, cases_lt, cases_Bool, cond-true, co
 use Rattle.std.specs.List.{Contains}
 use Rattle.pm_base.specs.Limits.{window_size}
 use Rattle.pm_market.specs.Lists.{Lists, parent, is_leaf, is_member, IsNode, IsLeaf, IsInner, IsConcentrator, IsLeafOf, Lawful}
-use Rattle.pm_market.specs.State.{State, is_same_on, SameOn, cut_at, greatest_number, newest_number_of, part, knowledge, number, last_index, clearings, cleared_cut, addresses}
+use Rattle.pm_market.specs.State.{State, is_same_on, SameOn, cut_at, greatest_number, newest_number_of}
+use Rattle.pm_market.specs.State.{part, knowledge, number, last_index, clearings, cleared_cut, addresses}
 use Rattle.pm_market.specs.State.{addresses_of, no_changes}
 use Rattle.pm_base.specs.Cuts.{Cut}
 use Rattle.pm_market.specs.Moves.{Reached, Idle}
@@ -80,7 +81,8 @@ learnt_at_rest lists s sound rest x node =
     ]
 
 known_at_rest : (lists : Lists) → Lawful lists → (s : State) → Rests lists s → (c : ℕ) → IsConcentrator lists c →
-    newest_number_of lists s c - number lists s c (cleared_cut s (last_index s c)) < window_size → SameOn lists c (knowledge lists s c) (part lists s c (newest_number_of lists s c))
+    newest_number_of lists s c - number lists s c (cleared_cut s (last_index s c)) < window_size →
+    SameOn lists c (knowledge lists s c) (part lists s c (newest_number_of lists s c))
 known_at_rest lists law s rest c conc room =
     elim (cases_Bool (is_same_on lists c (knowledge lists s c) (part lists s c (newest_number_of lists s c)))) [
       | inl e ↦ same_from lists law c (knowledge lists s c) (part lists s c (newest_number_of lists s c)) e

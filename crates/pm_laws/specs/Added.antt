@@ -22,4 +22,5 @@ pub record HasAdded (lists : Lists) (old new : State) (y : ℕ) : Type 0 where
   pub number_kept : (z i : ℕ) → IsNode lists z → i ≤ length (old.published (parent lists z)) →
       number lists new z (cut_at (new.published (parent lists z)) i) ≡ number lists old z (cut_at (old.published (parent lists z)) i)
   -- the numbers of any node that clearings contain
-  pub number_cleared : (z j : ℕ) → IsNode lists z → j ≤ clearings old → number lists new z (cleared_cut new j) ≡ number lists old z (cleared_cut old j)
+  pub number_cleared : (z j : ℕ) → IsNode lists z → j ≤ clearings old →
+      number lists new z (cleared_cut new j) ≡ number lists old z (cleared_cut old j)

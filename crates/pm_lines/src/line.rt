@@ -20,7 +20,8 @@ fn unheld(what: Move) -> Line
 /// The line of a change, of what follows its first word.
 fn read_change(plan: &Plan, rest: &[u8]) -> Option<Line>
     requires { IsPlan plan.now }
-    ensures { Reads (IsLineOfRun plan.now) (move_line plan.now) (codes "change" ++ 32 ∷ rest.now) result }
+    ensures { Reads (IsLineOfRun plan.now) (move_line plan.now)
+        (codes "change" ++ 32 ∷ rest.now) result }
 {
     let (device, number) = read_node_number(plan, rest)?;
     Some(unheld(Move::Change { device, number }))
@@ -29,7 +30,8 @@ fn read_change(plan: &Plan, rest: &[u8]) -> Option<Line>
 /// The line of a learning, of what follows its first word.
 fn read_learn(plan: &Plan, rest: &[u8]) -> Option<Line>
     requires { IsPlan plan.now }
-    ensures { Reads (IsLineOfRun plan.now) (move_line plan.now) (codes "learn" ++ 32 ∷ rest.now) result }
+    ensures { Reads (IsLineOfRun plan.now) (move_line plan.now)
+        (codes "learn" ++ 32 ∷ rest.now) result }
 {
     let (child, number) = read_learning(plan, rest)?;
     Some(unheld(Move::Learn { child, number }))
@@ -38,7 +40,8 @@ fn read_learn(plan: &Plan, rest: &[u8]) -> Option<Line>
 /// The line of a publishing, of what follows its first word.
 fn read_publish(plan: &Plan, rest: &[u8]) -> Option<Line>
     requires { IsPlan plan.now }
-    ensures { Reads (IsLineOfRun plan.now) (move_line plan.now) (codes "publish" ++ 32 ∷ rest.now) result }
+    ensures { Reads (IsLineOfRun plan.now) (move_line plan.now)
+        (codes "publish" ++ 32 ∷ rest.now) result }
 {
     let (node, number) = read_node_number(plan, rest)?;
     Some(unheld(Move::Publish { node, number }))
@@ -46,7 +49,8 @@ fn read_publish(plan: &Plan, rest: &[u8]) -> Option<Line>
 
 /// The line of a clearing, of what follows its first word.
 fn read_clear(plan: &Plan, rest: &[u8]) -> Option<Line>
-    ensures { Reads (IsLineOfRun plan.now) (move_line plan.now) (codes "clear" ++ 32 ∷ rest.now) result }
+    ensures { Reads (IsLineOfRun plan.now) (move_line plan.now)
+        (codes "clear" ++ 32 ∷ rest.now) result }
 {
     let index = read_last_number(rest)?;
     Some(unheld(Move::Clear { index }))
@@ -56,7 +60,8 @@ fn read_clear(plan: &Plan, rest: &[u8]) -> Option<Line>
 fn read_pass(plan: &Plan, basis: &Basis, rest: &[u8]) -> Option<Line>
     requires plan { IsPlan plan.now }
     requires basis { basis.now ≡ plan.now.basis }
-    ensures { Reads (IsLineOfRun plan.now) (move_line plan.now) (codes "pass" ++ 32 ∷ rest.now) result }
+    ensures { Reads (IsLineOfRun plan.now) (move_line plan.now)
+        (codes "pass" ++ 32 ∷ rest.now) result }
 {
     let (node, index, held) = read_passing(plan, basis, rest)?;
     Some(Line {
@@ -67,7 +72,8 @@ fn read_pass(plan: &Plan, basis: &Basis, rest: &[u8]) -> Option<Line>
 
 /// The line of a closing, of what follows its first word.
 fn read_close(plan: &Plan, rest: &[u8]) -> Option<Line>
-    ensures { Reads (IsLineOfRun plan.now) (move_line plan.now) (codes "close" ++ 32 ∷ rest.now) result }
+    ensures { Reads (IsLineOfRun plan.now) (move_line plan.now)
+        (codes "close" ++ 32 ∷ rest.now) result }
 {
     let phase = read_last_number(rest)?;
     Some(unheld(Move::Close { phase }))

@@ -31,7 +31,9 @@ pub(crate) fn read_node_number(plan: &Plan, rest: &[u8]) -> Option<(u32, u32)>
 pub(crate) fn read_learning(plan: &Plan, rest: &[u8]) -> Option<(u32, u32)>
     requires { IsPlan plan.now }
     ensures { Reads (λ read. (1 ≤ read.0) × (read.0 ≤ length plan.now.nodes) × (read.1 < 2 ^ 32))
-        (λ read. text_line (name plan.now (parent plan.now read.0) ∷ name plan.now read.0 ∷ decimal read.1 ∷ [])) rest.now result }
+        (λ read. text_line
+        (name plan.now (parent plan.now read.0) ∷ name plan.now read.0 ∷ decimal read.1 ∷ []))
+        rest.now result }
 {
     let (above, rest) = split_word(rest)?;
     let (child, number) = read_node_number(plan, rest)?;
@@ -48,7 +50,8 @@ pub(crate) fn read_learning(plan: &Plan, rest: &[u8]) -> Option<(u32, u32)>
 /// The step and the number of a price that is held.
 fn read_price(basis: &Basis, rest: &[u8]) -> Option<(u32, u32)>
     requires { IsBasis basis.now }
-    ensures { Reads (λ read. (read.0 < basis.now.steps) × (read.1 < 2 ^ 32)) (λ read. text_line (held_words basis.now (Some read))) rest.now result }
+    ensures { Reads (λ read. (read.0 < basis.now.steps) × (read.1 < 2 ^ 32))
+        (λ read. text_line (held_words basis.now (Some read))) rest.now result }
 {
     let rest = after_word(rest, b"price".as_slice())?;
     read_priced(basis, rest)
@@ -58,7 +61,9 @@ fn read_price(basis: &Basis, rest: &[u8]) -> Option<(u32, u32)>
 fn read_priced(basis: &Basis, rest: &[u8]) -> Option<(u32, u32)>
     requires { IsBasis basis.now }
     ensures { Reads (λ read. (read.0 < basis.now.steps) × (read.1 < 2 ^ 32))
-        (λ read. text_line (signed_decimal (price_at basis.now read.0) ∷ codes "bid" ∷ decimal read.1 ∷ [])) rest.now result }
+        (λ read. text_line
+        (signed_decimal (price_at basis.now read.0) ∷ codes "bid" ∷ decimal read.1 ∷ [])) rest.now
+        result }
 {
     let (price, rest) = split_word(rest)?;
     let step = read_step(basis, price)?;
@@ -68,7 +73,8 @@ fn read_priced(basis: &Basis, rest: &[u8]) -> Option<(u32, u32)>
 
 /// The number of a bid, behind the word for it.
 fn read_bid(rest: &[u8]) -> Option<u32>
-    ensures { Reads (λ n. n < 2 ^ 32) (λ n. text_line (codes "bid" ∷ decimal n ∷ [])) rest.now result }
+    ensures { Reads (λ n. n < 2 ^ 32) (λ n. text_line (codes "bid" ∷ decimal n ∷ [])) rest.now
+        result }
 {
     let rest = after_word(rest, b"bid".as_slice())?;
     read_last_number(rest)
@@ -77,7 +83,8 @@ fn read_bid(rest: &[u8]) -> Option<u32>
 /// What a device holds.
 fn read_held(basis: &Basis, rest: &[u8]) -> Option<Option<(u32, u32)>>
     requires { IsBasis basis.now }
-    ensures { Reads (IsHolding basis.now) (λ held. text_line (held_words basis.now held)) rest.now result }
+    ensures { Reads (IsHolding basis.now) (λ held. text_line (held_words basis.now held)) rest.now
+        result }
 {
     if is_same(rest, b"none\n".as_slice()) {
         return Some(None);
@@ -109,7 +116,8 @@ fn read_passed(
     requires basis { basis.now ≡ plan.now.basis }
     requires inside { node ≤ length plan.now.nodes }
     ensures { Reads (IsPassed plan.now node) (λ read.
-        text_line (decimal read.0 ∷ device_words (is_leaf plan.now node) plan.now.basis read.1)) rest.now result }
+        text_line (decimal read.0 ∷ device_words (is_leaf plan.now node) plan.now.basis read.1))
+        rest.now result }
 {
     if plan.tree().is_leaf(NodeId(node)) {
         read_device_pass(basis, rest)
@@ -128,7 +136,8 @@ pub(crate) fn read_passing(
     requires plan { IsPlan plan.now }
     requires basis { basis.now ≡ plan.now.basis }
     ensures { Reads (IsPassing plan.now) (λ read.
-        text_line (name plan.now read.0 ∷ decimal read.1 ∷ device_words (is_leaf plan.now read.0) plan.now.basis read.2)) rest.now result }
+        text_line (name plan.now read.0 ∷ decimal read.1 ∷ device_words
+        (is_leaf plan.now read.0) plan.now.basis read.2)) rest.now result }
 {
     let (word, rest) = split_word(rest)?;
     let node = read_node(plan, word)?;

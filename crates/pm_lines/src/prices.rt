@@ -62,7 +62,8 @@ fn step_of(basis: &Basis, price: i64) -> Option<u32>
 /// The step of a basis whose price a word is.
 pub(crate) fn read_step(basis: &Basis, word: &[u8]) -> Option<u32>
     requires { IsBasis basis.now }
-    ensures { Reads (λ step. step < basis.now.steps) (λ step. signed_decimal (price_at basis.now step)) word.now result }
+    ensures { Reads (λ step. step < basis.now.steps)
+        (λ step. signed_decimal (price_at basis.now step)) word.now result }
 {
     let price = read_signed(word)?;
     step_of(basis, price)

@@ -19,8 +19,10 @@ fn word_len(bytes: &[u8]) -> usize
 
 /// The first word, and what follows the blank behind it; none exactly where no word with a blank behind it comes first.
 pub(crate) fn split_word(bytes: &[u8]) -> Option<(&[u8], &[u8])>
-    ensures told { IfSome result (λ split. (is_word split.0.now ≡ true) × (bytes.now ≡ split.0.now ++ 32 ∷ split.1.now)) }
-    ensures none { IsNone result → (word rest : List ℕ) → is_word word ≡ true → bytes.now ≢ word ++ 32 ∷ rest }
+    ensures told { IfSome result (λ split. (is_word split.0.now ≡ true)
+        × (bytes.now ≡ split.0.now ++ 32 ∷ split.1.now)) }
+    ensures none { IsNone result → (word rest : List ℕ) → is_word word ≡ true →
+        bytes.now ≢ word ++ 32 ∷ rest }
 {
     let end = word_len(bytes);
     if end < bytes.len() && bytes[end] == b' ' {
@@ -33,7 +35,8 @@ pub(crate) fn split_word(bytes: &[u8]) -> Option<(&[u8], &[u8])>
 /// What follows this word and the blank behind it; none exactly where the bytes do not begin with the word and a blank.
 pub(crate) fn after_word<'a>(bytes: &'a [u8], word: &[u8]) -> Option<&'a [u8]>
     ensures told { IfSome result (λ rest. bytes.now ≡ word.now ++ 32 ∷ rest.now) }
-    ensures none { IsNone result → is_word word.now ≡ true → (rest : List ℕ) → bytes.now ≢ word.now ++ 32 ∷ rest }
+    ensures none { IsNone result → is_word word.now ≡ true → (rest : List ℕ) →
+        bytes.now ≢ word.now ++ 32 ∷ rest }
 {
     let (first, rest) = split_word(bytes)?;
     if is_same(first, word) {
@@ -45,8 +48,10 @@ pub(crate) fn after_word<'a>(bytes: &'a [u8], word: &[u8]) -> Option<&'a [u8]>
 
 /// The word that a line feed ends; none exactly where the bytes are not one word and a line feed.
 pub(crate) fn last_word(bytes: &[u8]) -> Option<&[u8]>
-    ensures told { IfSome result (λ word. (is_word word.now ≡ true) × (bytes.now ≡ word.now ++ 10 ∷ [])) }
-    ensures none { IsNone result → (word : List ℕ) → is_word word ≡ true → bytes.now ≢ word ++ 10 ∷ [] }
+    ensures told { IfSome result (λ word. (is_word word.now ≡ true)
+        × (bytes.now ≡ word.now ++ 10 ∷ [])) }
+    ensures none { IsNone result → (word : List ℕ) → is_word word ≡ true →
+        bytes.now ≢ word ++ 10 ∷ [] }
 {
     let end = word_len(bytes);
     if end < bytes.len() && bytes[end] == b'\n' && end + 1 == bytes.len() {

@@ -75,11 +75,13 @@ learn_at lists s x n h = and_from _ _ (and_from _ _ (is_node_at lists x h.0) (lt
 pub publish_from : (lists : Lists) (s : State) (c n : ℕ) → publish_is_legal lists s c n ≡ true → NodeLegal lists s (Publish c n)
 unfolding publish_is_legal
 publish_from lists s c n h =
-    let a = and_parts (is_node lists c && not (is_leaf lists c) && not (is_same_on lists c (knowledge lists s c) (part lists s c (newest_number_of lists s c))) && ltb
+    let a = and_parts
+    (is_node lists c && not (is_leaf lists c) && not (is_same_on lists c (knowledge lists s c) (part lists s c (newest_number_of lists s c))) && ltb
     (newest_number_of lists s c - number lists s c (cleared_cut s (last_index s c))) window_size) (eqb n (newest_number_of lists s c + 1)) h in
     let b = and_parts (is_node lists c && not (is_leaf lists c) && not (is_same_on lists c (knowledge lists s c) (part lists s c (newest_number_of lists s c))))
     (ltb (newest_number_of lists s c - number lists s c (cleared_cut s (last_index s c))) window_size) a.0 in
-    let d = and_parts (is_node lists c && not (is_leaf lists c)) (not (is_same_on lists c (knowledge lists s c) (part lists s c (newest_number_of lists s c)))) b.0 in
+    let d = and_parts (is_node lists c && not (is_leaf lists c))
+    (not (is_same_on lists c (knowledge lists s c) (part lists s c (newest_number_of lists s c)))) b.0 in
     let e = and_parts (is_node lists c) (not (is_leaf lists c)) d.0 in
     let node = is_node_from lists c e.0 in (
       (node.0, node.1, not-true (is_leaf lists c) e.1),
@@ -107,7 +109,8 @@ clear_from lists s j h =
 -- a legal Clear passes its test
 pub clear_at : (lists : Lists) (s : State) (j : ℕ) → NodeLegal lists s (Clear j) → clear_is_legal lists s j ≡ true
 unfolding clear_is_legal
-clear_at lists s j h = and_from _ _ (not_from_false (is_same_on lists 0 (knowledge lists s 0) (cleared_cut s (clearings s))) h.0) (eq-eqb j (clearings s + 1) h.1)
+clear_at lists s j h = and_from _ _ (not_from_false (is_same_on lists 0 (knowledge lists s 0) (cleared_cut s (clearings s))) h.0)
+    (eq-eqb j (clearings s + 1) h.1)
 
 -- a Pass that passes its test is legal
 pub pass_from : (lists : Lists) (s : State) (x j : ℕ) → pass_is_legal lists s x j ≡ true → NodeLegal lists s (Pass x j)
@@ -121,7 +124,8 @@ pass_from lists s x j h =
 -- a legal Pass passes its test
 pub pass_at : (lists : Lists) (s : State) (x j : ℕ) → NodeLegal lists s (Pass x j) → pass_is_legal lists s x j ≡ true
 unfolding pass_is_legal
-pass_at lists s x j h = and_from _ _ (and_from _ _ (and_from _ _ (is_node_at lists x h.0) (reached_at s (parent lists x) j h.1)) (lt-ltb (last_index s x) j h.2)) h.3
+pass_at lists s x j h = and_from _ _
+    (and_from _ _ (and_from _ _ (is_node_at lists x h.0) (reached_at s (parent lists x) j h.1)) (lt-ltb (last_index s x) j h.2)) h.3
 
 -- in a state that passes the test of idleness each node passes its own, and the next Clear fails its test
 pub idle_parts : (lists : Lists) (s : State) → is_idle lists s ≡ true → ((x : ℕ) → IsNode lists x → is_idle_at lists s x ≡ true)

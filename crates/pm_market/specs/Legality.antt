@@ -1,6 +1,7 @@
 -- Legality as tests that compute. For lawful lists and a sound state each agrees with the definition in Moves that it is
 -- named for.
-use Rattle.std.specs.Prelude.{ℕ, suc, ◌+◌, ◌-◌, Bool, true, false, if◌then◌else◌, ◌==◌, ◌&&◌, ◌||◌, not, nat_lt, nat_le, List, [], ◌∷◌}
+use Rattle.std.specs.Prelude.{ℕ, suc, ◌+◌, ◌-◌, Bool, true, false, if◌then◌else◌}
+use Rattle.std.specs.Prelude.{◌==◌, ◌&&◌, ◌||◌, not, nat_lt, nat_le, List, [], ◌∷◌}
 use Rattle.pm_base.specs.Limits.{window_size}
 use Rattle.pm_market.specs.Lists.{Lists, nodes, phases, parent, is_leaf, end_count}
 use Rattle.pm_market.specs.State.{State, all_to, is_same_on, knowledge, newest_number_of, part, number, last_index, clearings, cleared_cut, addresses}

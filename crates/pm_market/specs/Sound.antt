@@ -3,7 +3,8 @@ use Rattle.std.specs.Prelude.{◌≡◌, ℕ, ◌+◌, ◌-◌, ◌<◌, ◌≤�
 use Rattle.std.specs.List.{Contains}
 use Rattle.pm_base.specs.Limits.{window_size}
 use Rattle.pm_market.specs.Lists.{Lists, phases, parent, changes, IsNode, IsLeaf, IsInner, IsConcentrator, end_count}
-use Rattle.pm_market.specs.State.{State, SameOn, AtMostOn, RisesOn, cut_at, newest_number_of, part, knowledge, number, last_index, clearings, cleared_cut, addresses}
+use Rattle.pm_market.specs.State.{State, SameOn, AtMostOn, RisesOn, cut_at, newest_number_of}
+use Rattle.pm_market.specs.State.{part, knowledge, number, last_index, clearings, cleared_cut, addresses}
 use Rattle.pm_market.specs.Moves.{Reached, Idle}
 
 -- a sound state; the auctioneer's list of published cuts is that of the cleared ones

@@ -1,5 +1,6 @@
 -- Cuts, and the states of the market.
-use Rattle.std.specs.Prelude.{◌≡◌, ℕ, zero, suc, ◌+◌, ◌≤◌, Bool, true, false, if◌then◌else◌, ◌==◌, ◌&&◌, not, List, [], ◌∷◌, length}
+use Rattle.std.specs.Prelude.{◌≡◌, ℕ, zero, suc, ◌+◌, ◌≤◌, Bool, true}
+use Rattle.std.specs.Prelude.{false, if◌then◌else◌, ◌==◌, ◌&&◌, not, List, [], ◌∷◌, length}
 use Rattle.std.specs.Prelude.{slice_index_or}
 use Rattle.pm_base.specs.Cuts.{Cut}
 use Rattle.pm_market.specs.Lists.{Lists, nodes, is_leaf, is_member, is_leaf_of, IsLeafOf, child_at_or_above}

@@ -165,7 +165,8 @@ impl Market {
 
     /// Whether two cuts have one number of a device, or the device is no leaf of the node.
     fn is_same_at(&self, node: usize, one: &[u32], other: &[u32], device: usize) -> bool
-        ensures { result ≡ (if is_leaf_of (market_lists self.now) node device then cut_of one.now device == cut_of other.now device else true) }
+        ensures { result ≡ (if is_leaf_of (market_lists self.now) node device
+            then cut_of one.now device == cut_of other.now device else true) }
     {
         item_at(one, device, 0) == item_at(other, device, 0) || !self.is_leaf_of(node, device)
     }
@@ -173,7 +174,8 @@ impl Market {
     /// Whether two cuts are the same on the leaves of a node.
     #[tactic(auto, using(crate::proofs::Loops::all_to_turns), unfolding(crate::specs::State::all_to, crate::specs::State::is_same_on))]
     fn is_same_on(&self, node: usize, one: &[u32], other: &[u32]) -> bool
-        ensures { result ≡ is_same_on (market_lists self.now) node (cut_of one.now) (cut_of other.now) }
+        ensures { result ≡ is_same_on (market_lists self.now) node (cut_of one.now)
+            (cut_of other.now) }
     {
         for before in 0..self.parents.len() {
             if !self.is_same_at(node, one, other, before + 1) {
@@ -188,7 +190,8 @@ impl Market {
 impl Market {
     ghost use Rattle.std.specs.Prelude.{◌≡◌, ◌==◌, ◌+◌, ◌-◌, ◌≤◌, true, if◌then◌else◌, length};
     ghost use Rattle.pm_market.specs.Lists.{is_leaf_of};
-    ghost use Rattle.pm_market.specs.State.{cut_at, is_same_on, part, newest_number_of, knowledge, number, greatest_number, last_index, clearings, cleared_cut, addresses};
+    ghost use Rattle.pm_market.specs.State.{cut_at, is_same_on, part, newest_number_of, knowledge};
+    ghost use Rattle.pm_market.specs.State.{number, greatest_number, last_index, clearings, cleared_cut, addresses};
     ghost use Rattle.pm_market.specs.Legality.{has_reached, is_node, is_one_of};
     ghost use Rattle.pm_market.specs.Market.{market_lists, market_state};
     ghost use Rattle.pm_base.specs.Cuts.{cut_of};
@@ -258,7 +261,8 @@ impl Market {
 
     /// Whether a node knows of a device what it published or cleared last, or the device is no leaf of it.
     fn knows_same_at(&self, node: usize, device: usize) -> bool
-        ensures { result ≡ (if is_leaf_of (market_lists self.now) node device then knowledge (market_lists self.now)
+        ensures { result ≡ (if is_leaf_of (market_lists self.now) node device
+            then knowledge (market_lists self.now)
             (market_state self.now) node device == cut_at ((market_state self.now).published node)
             (length ((market_state self.now).published node)) device else true) }
     {
@@ -270,8 +274,10 @@ impl Market {
     /// Whether a node knows just what it published or cleared last.
     #[tactic(auto, using(crate::proofs::Loops::all_to_turns), unfolding(crate::specs::State::all_to, crate::specs::State::is_same_on))]
     fn knows_same(&self, node: usize) -> bool
-        ensures { result ≡ is_same_on (market_lists self.now) node (knowledge (market_lists self.now) (market_state self.now) node)
-            (cut_at ((market_state self.now).published node) (length ((market_state self.now).published node))) }
+        ensures { result ≡ is_same_on (market_lists self.now) node
+            (knowledge (market_lists self.now) (market_state self.now) node)
+            (cut_at ((market_state self.now).published node)
+            (length ((market_state self.now).published node))) }
     {
         for before in 0..self.parents.len() {
             if !self.knows_same_at(node, before + 1) {
@@ -283,7 +289,8 @@ impl Market {
 
     /// Whether a node published this cut under a number.
     fn is_published_as(&self, node: usize, number: usize, cut: &[u32]) -> bool
-        ensures { result ≡ is_same_on (market_lists self.now) node (cut_at ((market_state self.now).published node) number) (cut_of cut.now) }
+        ensures { result ≡ is_same_on (market_lists self.now) node
+            (cut_at ((market_state self.now).published node) number) (cut_of cut.now) }
     {
         self.is_same_on(node, self.cut_row(node, number), cut)
     }
@@ -291,7 +298,8 @@ impl Market {
     /// The greatest number under which a node published a cut, 0 where there is none.
     #[tactic(auto, using(crate::proofs::Loops::greatest_turns), unfolding(crate::specs::State::greatest_number))]
     fn greatest_number(&self, node: usize, cut: &[u32]) -> usize
-        ensures { result ≡ greatest_number (market_lists self.now) ((market_state self.now).published node) node (cut_of cut.now)
+        ensures { result ≡ greatest_number (market_lists self.now)
+            ((market_state self.now).published node) node (cut_of cut.now)
             (length ((market_state self.now).published node)) }
     {
         let newest = self.published_by(node);
@@ -307,7 +315,8 @@ impl Market {
     /// The number that a cut contains of a node.
     #[tactic(auto, unfolding(crate::specs::State::number_of))]
     fn number(&self, node: usize, cut: &[u32]) -> usize
-        ensures { result ≡ number (market_lists self.now) (market_state self.now) node (cut_of cut.now) }
+        ensures { result ≡ number (market_lists self.now) (market_state self.now) node
+            (cut_of cut.now) }
     {
         if self.is_leaf(node) {
             item_at(cut, node, 0) as usize
@@ -318,8 +327,10 @@ impl Market {
 
     /// How many numbers of a node lie above the one that the last price passed to it names.
     fn unanswered(&self, node: usize) -> usize
-        ensures { result ≡ newest_number_of (market_lists self.now) (market_state self.now) node - number (market_lists self.now)
-            (market_state self.now) node (cleared_cut (market_state self.now) (last_index (market_state self.now) node)) }
+        ensures { result ≡ newest_number_of (market_lists self.now)
+            (market_state self.now) node - number (market_lists self.now)
+            (market_state self.now) node
+            (cleared_cut (market_state self.now) (last_index (market_state self.now) node)) }
     {
         let cut = self.cut_row(0, self.last(node));
         self.newest(node).saturating_sub(self.number(node, cut))

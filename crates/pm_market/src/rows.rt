@@ -95,7 +95,8 @@ pub(crate) fn marked_parents(
 /// Sets the mark at a place, where there is one.
 pub(crate) fn mark(marks: &mut [bool], place: usize)
     ensures length { length marks.new ≡ length marks.old }
-    ensures marks { (x : ℕ) → x < length marks.old → slice_index_or marks.new x false ≡ (slice_index_or marks.old x false || (x == place)) }
+    ensures marks { (x : ℕ) → x < length marks.old →
+        slice_index_or marks.new x false ≡ (slice_index_or marks.old x false || (x == place)) }
 {
     if place < marks.len() {
         marks[place] = true;

@@ -176,7 +176,8 @@ module _ (lists : Lists) (law : Lawful lists) (p : Pricing) (by : GoesByNodes li
     -- a relay whose numbers are all in its last clearing did not publish just now, nor did a child of it whose newest number
     -- it learnt
     pub through_is : (x : ℕ) → IsNode lists x → IsConcentrator lists (parent lists x) →
-        update net.last_number y (net.last_number y + 1) (parent lists x) ≤ number lists next (parent lists x) (cleared_cut next (last_index s (parent lists x))) →
+        update net.last_number y (net.last_number y + 1) (parent lists x) ≤ number lists next (parent lists x)
+        (cleared_cut next (last_index s (parent lists x))) →
         ((z : ℕ) → IsNode lists z → parent lists z ≡ parent lists x → l z ≡ newest_number_of lists next z) →
         (net.last_number (parent lists x) ≤ number lists s (parent lists x) (cleared_cut s (last_index s (parent lists x))))
         × ((z : ℕ) → IsNode lists z → parent lists z ≡ parent lists x → s.learnt z ≡ newest_number_of lists s z)

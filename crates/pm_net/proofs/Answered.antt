@@ -13,7 +13,8 @@ use Rattle.pm_net.specs.Network.{Network}
 use Rattle.pm_net.specs.Agrees.{NetworkAgrees}
 
 -- before the first clearing no number is answered
-pub number_none : (lists : Lists) → Lawful lists → (s : State) → Sound lists s → (x : ℕ) → IsNode lists x → number lists s x (cleared_cut s 0) ≡ 0
+pub number_none : (lists : Lists) → Lawful lists → (s : State) → Sound lists s → (x : ℕ) → IsNode lists x →
+    number lists s x (cleared_cut s 0) ≡ 0
 number_none lists law s sound x node =
     number_of_part lists law s sound x 0 (cleared_cut s 0) node (omega arith) (λ d leaf.
     ap (λ (a : Cut). a d) (entry_zero (s.published 0)) ∙ sym (part_zero lists s.published x d))

@@ -114,7 +114,8 @@ module _ (lists : Lists) (law : Lawful lists) (one_phase : phases lists ≡ 1) (
           let P : List BidMessage → Type 0 =
           λ l. (k : ℕ) × (k < length l) × ((get_or l k (nothing_heard p)).number ≡ newest_number_of lists next x) in
           let is : newest_number_of lists next x ≡ n = ap (newest_number_of lists next) w.0 ∙ newest_is in
-          subst P (sym w.1) (new_push (λ (b : BidMessage). b.number ≡ newest_number_of lists next x) (net.bids_sent d) (device_bid lists p d n) (nothing_heard p)
+          subst P (sym w.1) (new_push (λ (b : BidMessage). b.number ≡ newest_number_of lists next x) (net.bids_sent d) (device_bid lists p d n)
+          (nothing_heard p)
           (sym is))
       | inr w ↦
           let P : List BidMessage → Type 0 =

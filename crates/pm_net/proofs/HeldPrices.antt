@@ -42,12 +42,15 @@ module _ (lists : Lists) (law : Lawful lists) (p : Pricing) (net : Network) (s :
         | inl nothing ↦
             let zero : (net.taken d).index ≡ 0 = ap (λ (q : PriceMessage). q.index) nothing in
             by_none lists d (net.counts d) (net.taken d).index (net.taken d).number (net.taken d).step zero
-            ∙ sym (by_none lists d (s.counts d) (last_index s d) (cleared_cut s (last_index s d) d) (p.local (cleared_cut s (last_index s d)) d) (sym at ∙ zero))
+            ∙ sym (by_none lists d (s.counts d) (last_index s d) (cleared_cut s (last_index s d) d) (p.local (cleared_cut s (last_index s d)) d)
+            (sym at ∙ zero))
         | inr its ↦
             ap (λ (q : PriceMessage). gone_by lists d (net.counts d) q.index q.number q.step) (its.1 ∙ ap (price_of_clearing lists p s d) at)
-            ∙ ap (λ (n : ℕ). gone_by lists d n (last_index s d) (price_of_clearing lists p s d (last_index s d)).number (p.local (cleared_cut s (last_index s d)) d))
+            ∙ ap (λ (n : ℕ). gone_by lists d n (last_index s d) (price_of_clearing lists p s d (last_index s d)).number
+            (p.local (cleared_cut s (last_index s d)) d))
             (agrees.counts d leaf)
-            ∙ ap (λ (n : ℕ). gone_by lists d (s.counts d) (last_index s d) n (p.local (cleared_cut s (last_index s d)) d)) (number_leaf lists s.published d (cleared_cut s
+            ∙ ap (λ (n : ℕ). gone_by lists d (s.counts d) (last_index s d) n (p.local (cleared_cut s (last_index s d)) d))
+            (number_leaf lists s.published d (cleared_cut s
             (last_index s d)) leaf)
       ]
 

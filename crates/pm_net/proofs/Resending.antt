@@ -191,7 +191,8 @@ module _ (lists : Lists) (law : Lawful lists) (p : Pricing) (by : GoesByNodes li
             let P : List BidMessage → Type 0 = λ l. (k : ℕ) × (k < length l) × ((get_or l k (nothing_heard p)).number ≡ newest_number_of lists s y) in
             let old : P (net.bids_sent y) = agrees.newest_sent none y y_node some in
             elim (updated_at net.bids_sent x (net.bids_sent x ++ bid ∷ []) y) [
-              | inl w ↦ subst P (sym w.1) (some_push (λ (b : BidMessage). b.number ≡ newest_number_of lists s y) (net.bids_sent x) bid (nothing_heard p) (subst
+              | inl w ↦ subst P (sym w.1)
+                  (some_push (λ (b : BidMessage). b.number ≡ newest_number_of lists s y) (net.bids_sent x) bid (nothing_heard p) (subst
                   (λ (z : ℕ). P (net.bids_sent z)) w.0 old))
               | inr w ↦ subst P (sym w.1) old
             ];

@@ -156,7 +156,8 @@ module _ (lists : Lists) (law : Lawful lists) (p : Pricing) (by : GoesByNodes li
           let P : List BidMessage → Type 0 =
           λ l. (k : ℕ) × (k < length l) × ((get_or l k (nothing_heard p)).number ≡ newest_number_of lists next x) in
           let is : newest_number_of lists next x ≡ n = ap (newest_number_of lists next) w.0 ∙ has.newest_added ∙ sym number_is in
-          subst P (sym w.1) (new_push (λ (b : BidMessage). b.number ≡ newest_number_of lists next x) (net.bids_sent c) (relay_bid p net c) (nothing_heard p) (sym is))
+          subst P (sym w.1) (new_push (λ (b : BidMessage). b.number ≡ newest_number_of lists next x) (net.bids_sent c) (relay_bid p net c)
+          (nothing_heard p) (sym is))
       | inr w ↦
           let P : List BidMessage → Type 0 =
           λ l. (k : ℕ) × (k < length l) × ((get_or l k (nothing_heard p)).number ≡ newest_number_of lists next x) in

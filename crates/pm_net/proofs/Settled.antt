@@ -139,7 +139,8 @@ module _ (lists : Lists) (law : Lawful lists) (p : Pricing) (by : GoesByNodes li
   answered_is c conc = answered_exact lists law p net s agrees c conc (holds_last c (conc.0, conc.1))
 
   -- a relay all of whose numbers are answered has no news
-  none_there : (c : ℕ) → IsConcentrator lists c → newest_number_of lists s c - number lists s c (cleared_cut s (last_index s c)) ≡ 0 → has_news lists net c ≡ false
+  none_there : (c : ℕ) → IsConcentrator lists c → newest_number_of lists s c - number lists s c (cleared_cut s (last_index s c)) ≡ 0 →
+      has_news lists net c ≡ false
   unfolding can_send
   none_there c conc all =
       elim (cases_Bool (has_news lists net c)) [

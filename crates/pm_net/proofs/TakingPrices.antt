@@ -82,7 +82,8 @@ module _ (lists : Lists) (law : Lawful lists) (p : Pricing) (by : GoesByNodes li
     due_more : (y i : ℕ) → is_due lists s y i ≡ true → is_due lists next y i ≡ true
     due_more y i due = catch.due_more lists law s agrees.sound x node test j within.0 caught y i due
 
-    due_cases : (y i : ℕ) → is_due lists next y i ≡ true → (is_due lists s y i ≡ true) ⊎ ((parent lists y ≡ x) × (last_index s x < i) × (i ≤ j))
+    due_cases : (y i : ℕ) → is_due lists next y i ≡ true → (is_due lists s y i ≡ true)
+        ⊎ ((parent lists y ≡ x) × (last_index s x < i) × (i ≤ j))
     due_cases y i due = catch.due_cases lists law s agrees.sound x node test j within.0 caught y i due
 
     its_price : (y : ℕ) (q : PriceMessage) → IsItsPrice lists p s y q → IsItsPrice lists p next y q
@@ -164,7 +165,8 @@ module _ (lists : Lists) (law : Lawful lists) (p : Pricing) (by : GoesByNodes li
     ]
 
     -- what was sent on is there still where the last clearing passed to the parent is the same
-    through_old : (y : ℕ) → IsNode lists y → IsConcentrator lists (parent lists y) → last_index next (parent lists y) ≡ last_index s (parent lists y) →
+    through_old : (y : ℕ) → IsNode lists y → IsConcentrator lists (parent lists y) →
+        last_index next (parent lists y) ≡ last_index s (parent lists y) →
         (net.taken (parent lists y)).index ≡ last_index next (parent lists y) →
         net.last_number (parent lists y) ≤ number lists s (parent lists y) (cleared_cut s (last_index next (parent lists y))) →
         ((z : ℕ) → IsNode lists z → parent lists z ≡ parent lists y → s.learnt z ≡ newest_number_of lists s z) →
@@ -298,7 +300,8 @@ module _ (lists : Lists) (law : Lawful lists) (p : Pricing) (by : GoesByNodes li
       ap (λ (q : PriceMessage). q.index) (updated_same net.taken x price),
     )
 
-    elsewhere : (y : ℕ) → (parent lists y ≡ x → ⊥) → (update net.taken x price (parent lists y)).index ≡ last_index heard_state (parent lists y) →
+    elsewhere : (y : ℕ) → (parent lists y ≡ x → ⊥) → (update net.taken x price (parent lists y)).index
+        ≡ last_index heard_state (parent lists y) →
         (net.taken (parent lists y)).index ≡ last_index heard_state (parent lists y)
     elsewhere y ne at = omega (arith, at, ap (λ (q : PriceMessage). q.index) (updated_other net.taken x price (parent lists y) ne))
 
@@ -312,7 +315,8 @@ module _ (lists : Lists) (law : Lawful lists) (p : Pricing) (by : GoesByNodes li
     -- its record is lost
     module _ (lost : leb (net.whole_from x) price.number ≡ false) (goes : waits lists net x price.number ≡ false) where
       -- a child sent a newer number than the one learnt, where the price names the newest bid
-      behind : price.number ≡ net.last_number x → ((z : ℕ) → IsNode lists z → parent lists z ≡ x → s.learnt z ≡ newest_number_of lists s z) → ⊥
+      behind : price.number ≡ net.last_number x →
+          ((z : ℕ) → IsNode lists z → parent lists z ≡ x → s.learnt z ≡ newest_number_of lists s z) → ⊥
       unfolding waits
       behind is all = elim (cases_Bool (is_overtaken lists net x)) [
         | inl e ↦ overtaken lists law p net s agrees x e (λ z z_node up. omega (arith, all z z_node up, (agrees.heard z z_node).0))

@@ -30,20 +30,26 @@ ghost use Rattle.pm_net.specs.SmallRuns.{one_relay, run_of, limited_run_of, devi
 /// legal moves lead from the start to a state that the network then stands for. An event goes on from whatever state the
 /// network stood for, so the journal of a longer run continues that of a shorter.
 pub fn networks_run_the_market()
-    ensures run { (lists : Lists) (p : Pricing) (events : List Event) → Lawful lists → phases lists ≡ 1 → GoesByNodes lists p →
+    ensures run { (lists : Lists) (p : Pricing) (events : List Event) → Lawful lists →
+        phases lists ≡ 1 → GoesByNodes lists p →
         GoesOn lists p start (network_after lists p (start_network p) events) }
-    ensures event { (lists : Lists) (p : Pricing) (net : Network) (s : State) (e : Event) → Lawful lists → phases lists ≡ 1 → GoesByNodes lists p →
+    ensures event { (lists : Lists) (p : Pricing) (net : Network) (s : State) (e : Event) →
+        Lawful lists → phases lists ≡ 1 → GoesByNodes lists p →
         NetworkAgrees lists p net s → GoesOn lists p s (network_step lists p net e) }
 {}
 
 /// Every price that was ever sent to a node names the node's own number in the cut of its clearing, and the node's local
 /// step there; of two of them the one of the greater index is over bids none of which is older.
 pub fn prices_answer_numbered_bids()
-    ensures named { (lists : Lists) (p : Pricing) (net : Network) (s : State) (x k : ℕ) → NetworkAgrees lists p net s → IsNode lists x →
-        k < length (net.prices_sent x) → sent_price net x k ≡ price_of_clearing lists p s x (sent_price net x k).index }
-    ensures back { (lists : Lists) (p : Pricing) (net : Network) (s : State) (x i j d : ℕ) → Lawful lists → NetworkAgrees lists p net s →
+    ensures named { (lists : Lists) (p : Pricing) (net : Network) (s : State) (x k : ℕ) →
+        NetworkAgrees lists p net s → IsNode lists x →
+        k < length (net.prices_sent x) → sent_price net x k
+        ≡ price_of_clearing lists p s x (sent_price net x k).index }
+    ensures back { (lists : Lists) (p : Pricing) (net : Network) (s : State) (x i j d : ℕ) →
+        Lawful lists → NetworkAgrees lists p net s →
         IsNode lists x →
-        i < length (net.prices_sent x) → j < length (net.prices_sent x) → (sent_price net x i).index ≤ (sent_price net x j).index → IsLeaf lists d →
+        i < length (net.prices_sent x) → j < length (net.prices_sent x) →
+        (sent_price net x i).index ≤ (sent_price net x j).index → IsLeaf lists d →
         cleared_cut s (sent_price net x i).index d ≤ cleared_cut s (sent_price net x j).index d }
 {}
 
@@ -52,16 +58,23 @@ pub fn prices_answer_numbered_bids()
 /// it is the last one then. What a node holds is replaced by prices of greater indices alone, except where the node itself
 /// restarts: it may then come back with an older one, and be given those after that one again, or for the first time.
 pub fn nobody_goes_back()
-    ensures place { (lists : Lists) (p : Pricing) (net : Network) (s : State) (goes : GoesOn lists p s net) (old : Network) (x : ℕ) → Lawful lists →
-        NetworkAgrees lists p old s → last_index s x ≤ last_index (after_from lists s goes.moves) x }
-    ensures held { (lists : Lists) (p : Pricing) (net : Network) (s : State) (x : ℕ) → NetworkAgrees lists p net s → IsNode lists x →
+    ensures place { (lists : Lists) (p : Pricing) (net : Network) (s : State)
+        (goes : GoesOn lists p s net) (old : Network) (x : ℕ) → Lawful lists →
+        NetworkAgrees lists p old s → last_index s x ≤ last_index
+        (after_from lists s goes.moves) x }
+    ensures held { (lists : Lists) (p : Pricing) (net : Network) (s : State) (x : ℕ) →
+        NetworkAgrees lists p net s → IsNode lists x →
         HoldsIts lists p s x (net.taken x) × ((net.taken x).index ≤ last_index s x) }
-    ensures forward { (lists : Lists) (p : Pricing) (net : Network) (s : State) (x k : ℕ) → Lawful lists → GoesByNodes lists p →
+    ensures forward { (lists : Lists) (p : Pricing) (net : Network) (s : State) (x k : ℕ) →
+        Lawful lists → GoesByNodes lists p →
         NetworkAgrees lists p net s →
-        GoesForward lists p s x (sent_price net x k).index (network_step lists p net (Event.TakesPrice x k)) }
-    ensures rises { (lists : Lists) (p : Pricing) (net : Network) (e : Event) (x : ℕ) → KeepsRunning x e →
+        GoesForward lists p s x (sent_price net x k).index
+        (network_step lists p net (Event.TakesPrice x k)) }
+    ensures rises { (lists : Lists) (p : Pricing) (net : Network) (e : Event) (x : ℕ) →
+        KeepsRunning x e →
         IsSameOrNewer net x (network_step lists p net e) }
-    ensures since { (lists : Lists) (p : Pricing) (net : Network) (events : List Event) (x : ℕ) → RunsOn x events →
+    ensures since { (lists : Lists) (p : Pricing) (net : Network) (events : List Event) (x : ℕ) →
+        RunsOn x events →
         (net.taken x).index ≤ ((network_after lists p net events).taken x).index }
     ensures restarts { (lists : Lists) (p : Pricing) (net : Network) (x k : ℕ) →
         ((network_step lists p net (Event.Restarts x k)).taken x).index ≤ (net.taken x).index }
@@ -72,12 +85,16 @@ pub fn nobody_goes_back()
 /// its local step, and no older than its last join. In a settled network each member goes by its newest bid at its local
 /// step over all bids ever made.
 pub fn devices_go_by_held_prices()
-    ensures held { (lists : Lists) (p : Pricing) (net : Network) (s : State) (d : ℕ) → Lawful lists → NetworkAgrees lists p net s → IsLeaf lists d →
+    ensures held { (lists : Lists) (p : Pricing) (net : Network) (s : State) (d : ℕ) →
+        Lawful lists → NetworkAgrees lists p net s → IsLeaf lists d →
         net.restarts d ≡ 0 → goes_by lists net d ≡ holding lists p.local s d }
-    ensures of_its_clearing { (lists : Lists) (p : Pricing) (net : Network) (s : State) (d step number : ℕ) → Lawful lists →
+    ensures of_its_clearing { (lists : Lists) (p : Pricing) (net : Network) (s : State)
+        (d step number : ℕ) → Lawful lists →
         NetworkAgrees lists p net s →
-        IsLeaf lists d → goes_by lists net d ≡ Some (step, number) → IsOfItsClearing lists p net s d step number }
-    ensures settled { (lists : Lists) (p : Pricing) (net : Network) (s : State) (d : ℕ) → Lawful lists → GoesByNodes lists p →
+        IsLeaf lists d → goes_by lists net d ≡ Some (step, number) →
+        IsOfItsClearing lists p net s d step number }
+    ensures settled { (lists : Lists) (p : Pricing) (net : Network) (s : State) (d : ℕ) →
+        Lawful lists → GoesByNodes lists p →
         NetworkAgrees lists p net s →
         IsSettledNetwork lists net → IsLeaf lists d → is_member lists d (net.counts d) ≡ true →
         goes_by lists net d ≡ Some (p.local net.counts d, net.counts d) }
@@ -86,10 +103,13 @@ pub fn devices_go_by_held_prices()
 /// A relay, restarted or not, takes each newer price that was ever sent to it, once it holds of each child a number that is
 /// not below the one in its newest record, and has that record again if it can.
 pub fn relays_take_newer_prices()
-    ensures { (lists : Lists) (p : Pricing) (net : Network) (s : State) (c k : ℕ) → Lawful lists → NetworkAgrees lists p net s →
+    ensures { (lists : Lists) (p : Pricing) (net : Network) (s : State) (c k : ℕ) → Lawful lists →
+        NetworkAgrees lists p net s →
         IsConcentrator lists c →
-        k < length (net.prices_sent c) → (net.taken c).index < (sent_price net c k).index → is_caught_up lists net c ≡ true →
-        can_rebuild lists net c ≡ false → (network_step lists p net (Event.TakesPrice c k)).taken c ≡ sent_price net c k }
+        k < length (net.prices_sent c) → (net.taken c).index < (sent_price net c k).index →
+        is_caught_up lists net c ≡ true →
+        can_rebuild lists net c ≡ false → (network_step lists p net (Event.TakesPrice c k)).taken c
+        ≡ sent_price net c k }
 {}
 
 /// Settled is current, over restarts too. Where each parent holds the newest bid of each child, each node the newest price
@@ -97,44 +117,57 @@ pub fn relays_take_newer_prices()
 /// over them, at its own newest number. While nothing restarted, a network is settled where no message is left that anybody
 /// would take, and nothing new can be sent.
 pub fn settled_networks_are_current()
-    ensures counted { (lists : Lists) (p : Pricing) (net : Network) (s : State) (d : ℕ) → Lawful lists → GoesByNodes lists p →
+    ensures counted { (lists : Lists) (p : Pricing) (net : Network) (s : State) (d : ℕ) →
+        Lawful lists → GoesByNodes lists p →
         NetworkAgrees lists p net s →
         IsSettledNetwork lists net → IsLeaf lists d → cleared_cut s (clearings s) d ≡ net.counts d }
-    ensures held { (lists : Lists) (p : Pricing) (net : Network) (s : State) (d : ℕ) → Lawful lists → GoesByNodes lists p →
+    ensures held { (lists : Lists) (p : Pricing) (net : Network) (s : State) (d : ℕ) →
+        Lawful lists → GoesByNodes lists p →
         NetworkAgrees lists p net s →
         IsSettledNetwork lists net → IsLeaf lists d → is_member lists d (net.counts d) ≡ true →
         net.taken d ≡ price_message (net.counts d) (clearings s) (p.local net.counts d) }
-    ensures unbroken { (lists : Lists) (p : Pricing) (net : Network) (s : State) → Lawful lists → NetworkAgrees lists p net s → IsUnbroken net →
+    ensures unbroken { (lists : Lists) (p : Pricing) (net : Network) (s : State) → Lawful lists →
+        NetworkAgrees lists p net s → IsUnbroken net →
         AllTaken lists p net → IsSettledNetwork lists net }
 {}
 
 /// The auction of a tree by its own definition, with limits at any relay, goes by nodes: so all of the above holds of it.
 /// Adding up the children in the order of the nodes is one way to add.
 pub fn tree_auctions_go_by_nodes()
-    ensures goes { (lists : Lists) (a : TreeDemand) → Lawful lists → IsTreeDemand lists a → GoesByNodes lists (tree_pricing lists a) }
-    ensures in_node_order { (lists : Lists) (a : TreeDemand) → a.add ≡ add_below lists a.steps → ((d : ℕ) → a.demand d 0 ≡ zeros a.steps) →
+    ensures goes { (lists : Lists) (a : TreeDemand) → Lawful lists → IsTreeDemand lists a →
+        GoesByNodes lists (tree_pricing lists a) }
+    ensures in_node_order { (lists : Lists) (a : TreeDemand) → a.add ≡ add_below lists a.steps →
+        ((d : ℕ) → a.demand d 0 ≡ zeros a.steps) →
         ((x : ℕ) (l : Limits) → a.limits x ≡ Some l → AreLimits l) → IsTreeDemand lists a }
 {}
 
 /// A relay whose limits never bind is a concentrator without limits: such limits may be taken out and put in, and the same
 /// offers go up and the same steps come down.
 pub fn limits_that_never_bind_change_nothing()
-    ensures { (lists : Lists) (p : Pricing) (limits : ℕ → Option Limits) → GoesByNodes lists p → AreAsGood lists p limits →
+    ensures { (lists : Lists) (p : Pricing) (limits : ℕ → Option Limits) → GoesByNodes lists p →
+        AreAsGood lists p limits →
         GoesByNodes lists (with_limits p limits) }
 {}
 
 /// Small networks, worked out: what a lost price, a repeated message and a restart do, and why less would not be enough.
 pub fn small_networks_are_as_worked_out()
     // Every message comes twice, and the device holds the step of clearing 1 for its bid 1.
-    ensures repeated { device_holds (Event.Bids 2 ∷ Event.TakesBid 2 0 ∷ Event.TakesBid 2 0 ∷ Event.Sends 1 ∷ Event.Sends 1 ∷ Event.TakesBid 1 0
+    ensures repeated { device_holds
+        (Event.Bids 2 ∷ Event.TakesBid 2 0 ∷ Event.TakesBid 2 0 ∷ Event.Sends 1 ∷ Event.Sends 1 ∷
+        Event.TakesBid 1 0
         ∷ Event.Clears
-        ∷ Event.TakesBid 1 0 ∷ Event.Clears ∷ Event.TakesPrice 1 0 ∷ Event.TakesPrice 1 0 ∷ Event.TakesPrice 2 0 ∷ Event.TakesPrice 2 0 ∷ [])
+        ∷ Event.TakesBid 1 0 ∷ Event.Clears ∷ Event.TakesPrice 1 0 ∷ Event.TakesPrice 1 0 ∷
+        Event.TakesPrice 2 0 ∷ Event.TakesPrice 2 0 ∷ [])
         ≡ price_message 1 1 1 }
     // The price to the relay is lost, and the device holds none.
     ensures lost { device_holds (cleared_once (Event.TakesPrice 2 0 ∷ [])) ≡ price_message 0 0 0 }
     // A relay that restarts leaves the price of its newest bid until it has heard its children again, and then passes it on.
-    ensures waits { device_holds (cleared_once (Event.Restarts 1 0 ∷ Event.TakesPrice 1 0 ∷ Event.TakesPrice 2 0 ∷ [])) ≡ price_message 0 0 0 }
-    ensures rebuilt { device_holds (cleared_once (Event.Restarts 1 0 ∷ Event.TakesBid 2 0 ∷ Event.Rebuilds 1 ∷ Event.TakesPrice 1 0 ∷
+    ensures waits { device_holds
+        (cleared_once (Event.Restarts 1 0 ∷ Event.TakesPrice 1 0 ∷ Event.TakesPrice 2 0 ∷ []))
+        ≡ price_message 0 0 0 }
+    ensures rebuilt { device_holds
+        (cleared_once
+        (Event.Restarts 1 0 ∷ Event.TakesBid 2 0 ∷ Event.Rebuilds 1 ∷ Event.TakesPrice 1 0 ∷
         Event.TakesPrice 2 0 ∷ []))
         ≡ price_message 1 1 1 }
     // A device that left and joined again drops the price of its former membership, though it holds it.
@@ -146,76 +179,116 @@ pub fn small_networks_are_as_worked_out()
     ensures skipped_is_passed { index_held (skipped (Event.TakesPrice 2 2 ∷ [])) ≡ 2 }
     // A device that took price 3 does not go back to it, but it does where it restarts itself with the index of price 1.
     ensures not_back { index_held (skipped (Event.TakesPrice 2 1 ∷ Event.TakesPrice 2 2 ∷ [])) ≡ 3 }
-    ensures goes_back { index_held (skipped (Event.TakesPrice 2 1 ∷ Event.Restarts 2 0 ∷ Event.TakesPrice 2 2 ∷ [])) ≡ 2 }
+    ensures goes_back { index_held (skipped
+        (Event.TakesPrice 2 1 ∷ Event.Restarts 2 0 ∷ Event.TakesPrice 2 2 ∷ [])) ≡ 2 }
     // A relay that stops before its bid 1 is sent has no news then, and no message is left, though nobody is told anything; it
     // has to send that bid again.
-    ensures stopped { let net = run_of one_relay (Event.Bids 2 ∷ Event.TakesBid 2 0 ∷ Event.StopsBidding 1 ∷ []) in
-        (can_send one_relay net 1 ≡ false) × (can_clear one_relay net ≡ false) × (net.bids_sent 1 ≡ []) }
-    ensures sent_again { device_holds (Event.Bids 2 ∷ Event.TakesBid 2 0 ∷ Event.StopsBidding 1 ∷ Event.Restarts 1 0 ∷ Event.TakesBid 2 0 ∷
+    ensures stopped { let net = run_of one_relay
+        (Event.Bids 2 ∷ Event.TakesBid 2 0 ∷ Event.StopsBidding 1 ∷ []) in
+        (can_send one_relay net 1 ≡ false) × (can_clear one_relay net ≡ false)
+        × (net.bids_sent 1 ≡ []) }
+    ensures sent_again { device_holds
+        (Event.Bids 2 ∷ Event.TakesBid 2 0 ∷ Event.StopsBidding 1 ∷ Event.Restarts 1 0 ∷
+        Event.TakesBid 2 0 ∷
         Event.Rebuilds 1
-        ∷ Event.Resends 1 ∷ Event.TakesBid 1 0 ∷ Event.Clears ∷ Event.TakesPrice 1 0 ∷ Event.TakesPrice 2 0 ∷ []) ≡ price_message 1 1 1 }
+        ∷ Event.Resends 1 ∷ Event.TakesBid 1 0 ∷ Event.Clears ∷ Event.TakesPrice 1 0 ∷
+        Event.TakesPrice 2 0 ∷ []) ≡ price_message 1 1 1 }
     // An auctioneer that stops before a price is sent has no news then either; it has to tell its children again.
-    ensures untold { let net = run_of one_relay (Event.Bids 2 ∷ Event.TakesBid 2 0 ∷ Event.Sends 1 ∷ Event.TakesBid 1 0 ∷ Event.StopsClearing ∷ []) in
+    ensures untold { let net = run_of one_relay
+        (Event.Bids 2 ∷ Event.TakesBid 2 0 ∷ Event.Sends 1 ∷ Event.TakesBid 1 0 ∷
+        Event.StopsClearing ∷ []) in
         (can_clear one_relay net ≡ false) × (net.prices_sent 1 ≡ []) }
-    ensures told_again { device_holds (Event.Bids 2 ∷ Event.TakesBid 2 0 ∷ Event.Sends 1 ∷ Event.TakesBid 1 0 ∷ Event.StopsClearing ∷
+    ensures told_again { device_holds
+        (Event.Bids 2 ∷ Event.TakesBid 2 0 ∷ Event.Sends 1 ∷ Event.TakesBid 1 0 ∷
+        Event.StopsClearing ∷
         Event.Restarts 0 0
-        ∷ Event.TakesBid 1 0 ∷ Event.Rebuilds 0 ∷ Event.TellsOne 1 ∷ Event.TakesPrice 1 0 ∷ Event.TakesPrice 2 0 ∷ []) ≡ price_message 1 1 1 }
+        ∷ Event.TakesBid 1 0 ∷ Event.Rebuilds 0 ∷ Event.TellsOne 1 ∷ Event.TakesPrice 1 0 ∷
+        Event.TakesPrice 2 0 ∷ []) ≡ price_message 1 1 1 }
     // As many bids were sent as the window has, and all are answered. With an older number answered than belongs to the index the window seems full,
     // and no price would ever come to open it.
-    ensures seems_full { (can_send one_relay (window_sent window_size) 1 ≡ true) × (can_send one_relay (window_sent 0) 1 ≡ false) }
+    ensures seems_full { (can_send one_relay (window_sent window_size) 1 ≡ true)
+        × (can_send one_relay (window_sent 0) 1 ≡ false) }
 {}
 
 /// Small networks, worked out: each rule of a node, one by one.
 pub fn small_networks_keep_the_rules()
     // Bids have numbers 1, 2, ..; the device leaves by its bid 2.
     ensures numbered { (run_of one_relay (Event.Bids 2 ∷ Event.Bids 2 ∷ [])).bids_sent 2
-        ≡ bid_message 1 false (pos 5 ∷ negsuc 2 ∷ []) ∷ bid_message 2 true (pos 0 ∷ pos 0 ∷ []) ∷ [] }
+        ≡ bid_message 1 false (pos 5 ∷ negsuc 2 ∷ []) ∷ bid_message 2 true (pos 0 ∷ pos 0 ∷ []) ∷
+        [] }
     // An older bid is not taken.
-    ensures newest_bid { ((run_of one_relay (Event.Bids 2 ∷ Event.Bids 2 ∷ Event.TakesBid 2 1 ∷ Event.TakesBid 2 0 ∷ [])).heard 2).number ≡ 2 }
+    ensures newest_bid { ((run_of one_relay
+        (Event.Bids 2 ∷ Event.Bids 2 ∷ Event.TakesBid 2 1 ∷ Event.TakesBid 2 0 ∷
+        [])).heard 2).number ≡ 2 }
     // A relay between -1 and 2 watts announces 2 and -1. The market clears at the second step, where its device would deliver 3, so
     // it passes the first step down.
-    ensures limited { let net = limited_run_of one_relay (cleared_once (Event.TakesPrice 1 0 ∷ [])) in
-        (net.bids_sent 1 ≡ bid_message 1 false (pos 2 ∷ negsuc 0 ∷ []) ∷ []) × (net.prices_sent 2 ≡ price_message 1 1 0 ∷ []) }
+    ensures limited { let net = limited_run_of one_relay (cleared_once (Event.TakesPrice 1 0 ∷ []))
+        in
+        (net.bids_sent 1 ≡ bid_message 1 false (pos 2 ∷ negsuc 0 ∷ []) ∷ [])
+        × (net.prices_sent 2 ≡ price_message 1 1 0 ∷ []) }
     // The device left while the price was on its way, and its relay heard so; the price is passed by the record all the same, and
     // at the step that the record's sum gives.
-    ensures by_record { (limited_run_of one_relay (cleared_once (Event.Bids 2 ∷ Event.TakesBid 2 1 ∷ Event.TakesPrice 1 0 ∷ []))).prices_sent 2
+    ensures by_record { (limited_run_of one_relay
+        (cleared_once (Event.Bids 2 ∷ Event.TakesBid 2 1 ∷ Event.TakesPrice 1 0 ∷
+        []))).prices_sent 2
         ≡ price_message 1 1 0 ∷ [] }
     // A child that is gone in the record is told nothing.
-    ensures gone { (run_of one_relay (Event.Bids 2 ∷ Event.Bids 2 ∷ Event.TakesBid 2 1 ∷ Event.Sends 1 ∷ Event.TakesBid 1 0 ∷ Event.Clears
+    ensures gone { (run_of one_relay
+        (Event.Bids 2 ∷ Event.Bids 2 ∷ Event.TakesBid 2 1 ∷ Event.Sends 1 ∷ Event.TakesBid 1 0 ∷
+        Event.Clears
         ∷ Event.TakesPrice 1 0 ∷ [])).prices_sent 2 ≡ [] }
     // A price names the receiver's own number: bid 3 of the device, and bid 1 of the relay, which answers it.
-    ensures own_number { let net = run_of one_relay (Event.Bids 2 ∷ Event.Bids 2 ∷ Event.Bids 2 ∷ Event.TakesBid 2 2 ∷ Event.Sends 1 ∷
+    ensures own_number { let net = run_of one_relay
+        (Event.Bids 2 ∷ Event.Bids 2 ∷ Event.Bids 2 ∷ Event.TakesBid 2 2 ∷ Event.Sends 1 ∷
         Event.TakesBid 1 0
         ∷ Event.Clears ∷ Event.TakesPrice 1 0 ∷ []) in
-        (net.prices_sent 2 ≡ price_message 3 1 1 ∷ []) × (net.prices_sent 1 ≡ price_message 1 1 1 ∷ []) × (net.answered 1 ≡ 1) }
+        (net.prices_sent 2 ≡ price_message 3 1 1 ∷ [])
+        × (net.prices_sent 1 ≡ price_message 1 1 1 ∷ []) × (net.answered 1 ≡ 1) }
     // Without news nothing is sent or cleared; nor is it after a restart, until the children are heard again.
-    ensures no_news { (can_send one_relay (run_of one_relay (cleared_once [])) 1 ≡ false) × (can_clear one_relay (run_of one_relay
+    ensures no_news { (can_send one_relay (run_of one_relay (cleared_once [])) 1 ≡ false)
+        × (can_clear one_relay (run_of one_relay
         (cleared_once [])) ≡ false) }
-    ensures guarded { (can_send one_relay (run_of one_relay (cleared_once (Event.Restarts 1 0 ∷ []))) 1 ≡ false)
-        × (can_clear one_relay (run_of one_relay (cleared_once (Event.Restarts 0 0 ∷ []))) ≡ false) }
+    ensures guarded { (can_send one_relay
+        (run_of one_relay (cleared_once (Event.Restarts 1 0 ∷ []))) 1 ≡ false)
+        × (can_clear one_relay (run_of one_relay (cleared_once (Event.Restarts 0 0 ∷ [])))
+        ≡ false) }
     // A relay that restarts knows its last number, its child's number, and one price with the number that it answers.
-    ensures stored { let net = run_of one_relay (cleared_once (Event.TakesPrice 1 0 ∷ Event.Restarts 1 0 ∷ [])) in
-        (net.last_number 1 ≡ 1) × (recorded_number net 1 2 ≡ 1) × (net.taken 1 ≡ price_message 1 1 1) × (net.answered 1 ≡ 1) ×
+    ensures stored { let net = run_of one_relay
+        (cleared_once (Event.TakesPrice 1 0 ∷ Event.Restarts 1 0 ∷ [])) in
+        (net.last_number 1 ≡ 1) × (recorded_number net 1 2 ≡ 1)
+        × (net.taken 1 ≡ price_message 1 1 1) × (net.answered 1 ≡ 1) ×
         (net.restarts 1 ≡ 1) }
-    ensures none_stored { let net = run_of one_relay (cleared_once (Event.TakesPrice 1 0 ∷ Event.Restarts 1 7 ∷ [])) in
+    ensures none_stored { let net = run_of one_relay
+        (cleared_once (Event.TakesPrice 1 0 ∷ Event.Restarts 1 7 ∷ [])) in
         (net.taken 1 ≡ price_message 0 0 0) × (net.answered 1 ≡ 0) }
     // A device that holds price 1 does not come back with price 3, which was sent to it and which it never took.
-    ensures never_newer { index_held (skipped (Event.TakesPrice 2 0 ∷ Event.Restarts 2 1 ∷ [])) ≡ 1 }
+    ensures never_newer { index_held (skipped (Event.TakesPrice 2 0 ∷ Event.Restarts 2 1 ∷ []))
+        ≡ 1 }
     // The price of a record that can be had again is left for later; that of one which is overtaken is taken alone.
-    ensures left_for_later { device_holds (cleared_once (Event.Restarts 1 0 ∷ Event.TakesPrice 1 0 ∷ Event.TakesBid 2 0 ∷ Event.Rebuilds 1
+    ensures left_for_later { device_holds
+        (cleared_once
+        (Event.Restarts 1 0 ∷ Event.TakesPrice 1 0 ∷ Event.TakesBid 2 0 ∷ Event.Rebuilds 1
         ∷ Event.TakesPrice 1 0 ∷ Event.TakesPrice 2 0 ∷ [])) ≡ price_message 1 1 1 }
-    ensures overtaken { let net = run_of one_relay (cleared_once (Event.Restarts 1 0 ∷ Event.Bids 2 ∷ Event.TakesBid 2 1 ∷ Event.Rebuilds 1
-        ∷ Event.TakesPrice 1 0 ∷ [])) in (net.taken 1 ≡ price_message 1 1 1) × (net.prices_sent 2 ≡ []) × (net.whole_from 1 ≡ 2) }
+    ensures overtaken { let net = run_of one_relay
+        (cleared_once (Event.Restarts 1 0 ∷ Event.Bids 2 ∷ Event.TakesBid 2 1 ∷ Event.Rebuilds 1
+        ∷ Event.TakesPrice 1 0 ∷ [])) in (net.taken 1 ≡ price_message 1 1 1)
+        × (net.prices_sent 2 ≡ []) × (net.whole_from 1 ≡ 2) }
     // A relay that stops after it passed the price on has not taken it.
     ensures to_one { let net = run_of one_relay (cleared_once (Event.PassesToOne 2 0 ∷ [])) in
         (net.prices_sent 2 ≡ price_message 1 1 1 ∷ []) × (net.taken 1 ≡ price_message 0 0 0) }
     // A bid that is sent again has its old number.
     ensures again { (run_of one_relay (cleared_once (Event.Resends 1 ∷ []))).bids_sent 1
-        ≡ bid_message 1 false (pos 5 ∷ negsuc 2 ∷ []) ∷ bid_message 1 false (pos 5 ∷ negsuc 2 ∷ []) ∷ [] }
+        ≡ bid_message 1 false (pos 5 ∷ negsuc 2 ∷ []) ∷ bid_message 1 false
+        (pos 5 ∷ negsuc 2 ∷ []) ∷ [] }
     // A relay, or an auctioneer, that has its record's numbers alone sends neither its bid nor a price again.
-    ensures not_by_numbers { ((run_of one_relay (cleared_once (Event.Restarts 1 0 ∷ Event.Resends 1 ∷ []))).bids_sent 1
+    ensures not_by_numbers { ((run_of one_relay
+        (cleared_once (Event.Restarts 1 0 ∷ Event.Resends 1 ∷ []))).bids_sent 1
         ≡ bid_message 1 false (pos 5 ∷ negsuc 2 ∷ []) ∷ [])
-        × ((run_of one_relay (cleared_once (Event.Restarts 0 0 ∷ Event.TellsOne 1 ∷ []))).prices_sent 1 ≡ price_message 1 1 1 ∷ []) }
+        × ((run_of one_relay
+        (cleared_once (Event.Restarts 0 0 ∷ Event.TellsOne 1 ∷ []))).prices_sent 1
+        ≡ price_message 1 1 1 ∷ []) }
     // A device that left goes by no price, though it holds one.
-    ensures left { goes_by one_relay (run_of one_relay (cleared_once (Event.TakesPrice 1 0 ∷ Event.TakesPrice 2 0 ∷ Event.Bids 2 ∷ []))) 2 ≡ None }
+    ensures left { goes_by one_relay
+        (run_of one_relay
+        (cleared_once (Event.TakesPrice 1 0 ∷ Event.TakesPrice 2 0 ∷ Event.Bids 2 ∷ []))) 2 ≡ None }
 {}

@@ -274,7 +274,8 @@ told_now lists law one p by events d leaf runs settled member =
     λ e e_leaf. all_counted lists law p by devices.net s agree.agrees settled e e_leaf in
     let is_number : setpoint.number ≡ devices.net.counts d = right.number ∙ ap (λ (j : ℕ). cleared_cut s j d) index_is ∙ counted d leaf in
     let is_step : setpoint.step ≡ p.local devices.net.counts d =
-    right.step ∙ ap (λ (j : ℕ). p.local (cleared_cut s j) d) index_is ∙ by.steps_alike d (cleared_cut s (clearings s)) devices.net.counts node counted in (
+    right.step ∙ ap (λ (j : ℕ). p.local (cleared_cut s j) d) index_is
+    ∙ by.steps_alike d (cleared_cut s (clearings s)) devices.net.counts node counted in (
       setpoint,
       (got.0, got.1, get_or_default (devices.setpoints d) got.0 setpoint no_setpoint got.1),
       is_number,

@@ -1,5 +1,6 @@
 -- The agent of a device as a value: it gives the offers of the device's own control numbers, and turns prices into setpoints.
-use Rattle.std.specs.Prelude.{ℕ, ◌+◌, ◌-◌, Bool, if◌then◌else◌, ◌==◌, nat_lt, nat_le, ℤ, pos, List, [], ◌∷◌, ◌++◌, slice_index_or}
+use Rattle.std.specs.Prelude.{ℕ, ◌+◌, ◌-◌, Bool, if◌then◌else◌, ◌==◌, nat_lt}
+use Rattle.std.specs.Prelude.{nat_le, ℤ, pos, List, [], ◌∷◌, ◌++◌, slice_index_or}
 use Rattle.std.specs.Prelude.{Option, Some, None}
 use Rattle.std.specs.List.{find, filter}
 use Rattle.pm_base.specs.Limits.{window_size}

@@ -25,29 +25,38 @@ ghost use Rattle.pm_net_device.specs.Devices.{SetpointsRise, IsToldNow};
 /// kept until a price names it, or a later one, or the device leaves. Offers of a former membership are not kept, so that no
 /// price for one gives a setpoint.
 pub fn setpoints_answer_offers()
-    ensures run { (lists : Lists) (p : Pricing) (events : List Event) → Lawful lists → phases lists ≡ 1 → GoesByNodes lists p →
+    ensures run { (lists : Lists) (p : Pricing) (events : List Event) → Lawful lists →
+        phases lists ≡ 1 → GoesByNodes lists p →
         DevicesGoOn lists p start (devices_after lists p (start_devices p) events) }
-    ensures event { (lists : Lists) (p : Pricing) (devices : Devices) (s : State) (e : Event) → Lawful lists → phases lists ≡ 1 →
+    ensures event { (lists : Lists) (p : Pricing) (devices : Devices) (s : State) (e : Event) →
+        Lawful lists → phases lists ≡ 1 →
         GoesByNodes lists p →
         DevicesAgree lists p devices s → DevicesGoOn lists p s (devices_step lists p devices e) }
-    ensures later { (lists : Lists) (p : Pricing) (s : State) (d : ℕ) (a b : Setpoint) → Lawful lists → (devices : Devices) →
+    ensures later { (lists : Lists) (p : Pricing) (s : State) (d : ℕ) (a b : Setpoint) →
+        Lawful lists → (devices : Devices) →
         DevicesAgree lists p devices s →
-        IsRight lists p s d b → a.index ≤ b.index → (e : ℕ) → IsLeaf lists e → cleared_cut s a.index e ≤ cleared_cut s b.index e }
+        IsRight lists p s d b → a.index ≤ b.index → (e : ℕ) → IsLeaf lists e →
+        cleared_cut s a.index e ≤ cleared_cut s b.index e }
     ensures rising { (lists : Lists) (p : Pricing) (events : List Event) (d : ℕ) → RunsOn d events →
         SetpointsRise (devices_after lists p (start_devices p) events) d }
-    ensures few { (agent : DeviceAgent) → IsOfferWindow agent → length agent.offers ≤ window_size + 1 }
-    ensures membership { (lists : Lists) (p : Pricing) (d count index : ℕ) (agent : DeviceAgent) → AgentIs lists p d count index agent →
+    ensures few { (agent : DeviceAgent) → IsOfferWindow agent →
+        length agent.offers ≤ window_size + 1 }
+    ensures membership { (lists : Lists) (p : Pricing) (d count index : ℕ) (agent : DeviceAgent) →
+        AgentIs lists p d count index agent →
         All (IsOfThisMembership lists d count) agent.offers }
-    ensures given { (agent : DeviceAgent) (price : PriceMessage) → IsOfferWindow agent → agent.index < price.index → agent.answered < price.number →
+    ensures given { (agent : DeviceAgent) (price : PriceMessage) → IsOfferWindow agent →
+        agent.index < price.index → agent.answered < price.number →
         price.number ≤ agent.number → length (setpoints_for agent price) ≡ 1 }
 {}
 
 /// In a settled network the control of each member that did not restart was told what its newest bid asks for at its local
 /// step over all bids ever made.
 pub fn settled_devices_were_told()
-    ensures { (lists : Lists) (p : Pricing) (events : List Event) (d : ℕ) → Lawful lists → phases lists ≡ 1 → GoesByNodes lists p →
+    ensures { (lists : Lists) (p : Pricing) (events : List Event) (d : ℕ) → Lawful lists →
+        phases lists ≡ 1 → GoesByNodes lists p →
         IsLeaf lists d →
-        RunsOn d events → IsSettledNetwork lists (devices_after lists p (start_devices p) events).net →
+        RunsOn d events → IsSettledNetwork lists
+        (devices_after lists p (start_devices p) events).net →
         is_member lists d ((devices_after lists p (start_devices p) events).net.counts d) ≡ true →
         IsToldNow p (devices_after lists p (start_devices p) events) d }
 {}
@@ -55,12 +64,20 @@ pub fn settled_devices_were_told()
 /// A device below a relay, worked out.
 pub fn small_devices_are_as_worked_out()
     // The auction clears at the second step, so the control is told to deliver 3; the price that comes again gives nothing.
-    ensures told { setpoints_given (cleared_once (Event.TakesPrice 1 0 ∷ Event.TakesPrice 2 0 ∷ Event.TakesPrice 2 0 ∷ [])) ≡ deliver_3 ∷ [] }
+    ensures told { setpoints_given
+        (cleared_once (Event.TakesPrice 1 0 ∷ Event.TakesPrice 2 0 ∷ Event.TakesPrice 2 0 ∷ []))
+        ≡ deliver_3 ∷ [] }
     // Nothing is told to a device that left before the price came.
-    ensures left { setpoints_given (cleared_once (Event.TakesPrice 1 0 ∷ Event.Bids 2 ∷ Event.TakesPrice 2 0 ∷ [])) ≡ [] }
+    ensures left { setpoints_given
+        (cleared_once (Event.TakesPrice 1 0 ∷ Event.Bids 2 ∷ Event.TakesPrice 2 0 ∷ [])) ≡ [] }
     // Nor to one that left and joined again: the price is of its former membership.
-    ensures joined_again { setpoints_given (cleared_once (Event.TakesPrice 1 0 ∷ Event.Bids 2 ∷ Event.Bids 2 ∷ Event.TakesPrice 2 0 ∷ [])) ≡ [] }
+    ensures joined_again { setpoints_given
+        (cleared_once (Event.TakesPrice 1 0 ∷ Event.Bids 2 ∷ Event.Bids 2 ∷ Event.TakesPrice 2 0 ∷
+        [])) ≡ [] }
     // One that restarts with no index stored is told the same again.
-    ensures again { setpoints_given (cleared_once (Event.TakesPrice 1 0 ∷ Event.TakesPrice 2 0 ∷ Event.Restarts 2 7 ∷ Event.TakesPrice 2 0 ∷ []))
+    ensures again { setpoints_given
+        (cleared_once
+        (Event.TakesPrice 1 0 ∷ Event.TakesPrice 2 0 ∷ Event.Restarts 2 7 ∷ Event.TakesPrice 2 0 ∷
+        []))
         ≡ deliver_3 ∷ deliver_3 ∷ [] }
 {}

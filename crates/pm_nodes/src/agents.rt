@@ -48,7 +48,8 @@ pub fn can_work(agent: &DeviceAgent, next: Next, plan: &Plan) -> bool
     ensures fits { result ≡ true → IsTrue (state_fits agent.now.kind next.state.0) }
     ensures steps { result ≡ true → agent.now.steps ≡ plan.now.basis.steps }
     ensures arrays { result ≡ true → HaveSteps agent.now.steps plan.now.arrays }
-    ensures refused { result ≡ false → next.device ≡ agent.now.device → agent.now.steps ≡ plan.now.basis.steps →
+    ensures refused { result ≡ false → next.device ≡ agent.now.device →
+        agent.now.steps ≡ plan.now.basis.steps →
         IsTrue (state_fits agent.now.kind next.state.0) → ⊥ }
 {
     if next.device != agent.device() {

@@ -89,7 +89,8 @@ sum_near plan is cut step g inside =
     (λ d. cond (eqb (group plan d) g) (watts plan cut step d) (pos 0))
     (λ d one le. near_where (eqb (group plan d) g) (pos demand_limit) (watts plan cut step d) (watts_near plan is cut step d inside)))
 
-nearest_near : (limit floor ceiling z : ℤ) → floor ≤ℤ pos 0 → pos 0 ≤ℤ ceiling → IsNear limit z → IsNear limit (nearest_in_range floor ceiling z)
+nearest_near : (limit floor ceiling z : ℤ) → floor ≤ℤ pos 0 → pos 0 ≤ℤ ceiling → IsNear limit z →
+    IsNear limit (nearest_in_range floor ceiling z)
 nearest_near limit floor ceiling z low high h = record { low = omega (arith, ints, clamps, h.low, h.high); high = omega (arith, ints, clamps, h.low, h.high) }
 
 limited_near : (plan : PlanData) → IsPlan plan →

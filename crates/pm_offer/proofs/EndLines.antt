@@ -150,7 +150,8 @@ module _ (plan : PlanData) (is : IsPlan plan) (cut : Cut) where
   plain_inside : clears_at < plan.basis.steps
   plain_inside = omega (arith, plain_clears.inside, total_steps plan is cut)
 
-  group_step_is : (g : ℕ) → IsLocalStep (sum_in plan (state plan) cut g) clears_at (limits_of (node plan g)) (local_step_of_group plan (state plan) cut clears_at g)
+  group_step_is : (g : ℕ) → IsLocalStep (sum_in plan (state plan) cut g) clears_at (limits_of (node plan g))
+      (local_step_of_group plan (state plan) cut clears_at g)
   unfolding local_step_of_group
   group_step_is g =
       local_step_is (limits_of (node plan g)) (sum_in plan (state plan) cut g) clears_at (sum_falls plan is cut g)

@@ -32,12 +32,16 @@ ghost use Rattle.pm_offer.specs.EndLines.{TellsEnd};
 /// depends on the changes of the node's own leaves alone.
 #[tactic(auto, using(crate::proofs::Laws::offer_device, crate::proofs::Laws::offer_alike, crate::proofs::Laws::offer_inner, crate::proofs::Laws::offer_total))]
 pub fn offers_go_up()
-    ensures device { (plan : PlanData) (d : ℕ) (cut : Cut) → IsPlan plan → IsLeaf (plan_lists plan) d →
+    ensures device { (plan : PlanData) (d : ℕ) (cut : Cut) → IsPlan plan →
+        IsLeaf (plan_lists plan) d →
         offer plan d cut ≡ device_demand plan d (cut d) }
-    ensures leaves_alone { (plan : PlanData) (x : ℕ) (a b : Cut) → IsPlan plan → SameOn (plan_lists plan) x a b → offer plan x a ≡ offer plan x b }
-    ensures concentrator { (plan : PlanData) (c : ℕ) (cut : Cut) → IsPlan plan → IsConcentrator (plan_lists plan) c →
+    ensures leaves_alone { (plan : PlanData) (x : ℕ) (a b : Cut) → IsPlan plan →
+        SameOn (plan_lists plan) x a b → offer plan x a ≡ offer plan x b }
+    ensures concentrator { (plan : PlanData) (c : ℕ) (cut : Cut) → IsPlan plan →
+        IsConcentrator (plan_lists plan) c →
         offer plan c cut ≡ within_limits (limits_of (node plan c)) (children_sum plan c cut) }
-    ensures total { (plan : PlanData) (cut : Cut) → IsPlan plan → total plan (state plan) cut ≡ children_sum plan 0 cut }
+    ensures total { (plan : PlanData) (cut : Cut) → IsPlan plan →
+        total plan (state plan) cut ≡ children_sum plan 0 cut }
 {}
 
 /// A law: a child of the auctioneer takes the step at which the sum of the auctioneer's children clears; a child of a
@@ -45,14 +49,18 @@ pub fn offers_go_up()
 /// step is a step of the basis.
 #[tactic(auto, using(crate::proofs::Laws::local_root, crate::proofs::Laws::local_below, crate::proofs::Laws::local_inside))]
 pub fn steps_go_down()
-    ensures root { (plan : PlanData) (x : ℕ) (cut : Cut) → IsPlan plan → IsNode (plan_lists plan) x → parent (plan_lists plan) x ≡ 0 →
+    ensures root { (plan : PlanData) (x : ℕ) (cut : Cut) → IsPlan plan →
+        IsNode (plan_lists plan) x → parent (plan_lists plan) x ≡ 0 →
         local_step_at plan cut x ≡ clearing_step (children_sum plan 0 cut) }
-    ensures below { (plan : PlanData) (x : ℕ) (cut : Cut) → IsPlan plan → IsNode (plan_lists plan) x →
+    ensures below { (plan : PlanData) (x : ℕ) (cut : Cut) → IsPlan plan →
+        IsNode (plan_lists plan) x →
         IsConcentrator (plan_lists plan) (parent (plan_lists plan) x) →
         local_step_at plan cut x
-        ≡ local_step (limits_of (node plan (parent (plan_lists plan) x))) (local_step_at plan cut (parent (plan_lists plan) x))
+        ≡ local_step (limits_of (node plan (parent (plan_lists plan) x)))
+        (local_step_at plan cut (parent (plan_lists plan) x))
         (children_sum plan (parent (plan_lists plan) x) cut) }
-    ensures inside { (plan : PlanData) (x : ℕ) (cut : Cut) → IsPlan plan → local_step_at plan cut x < plan.basis.steps }
+    ensures inside { (plan : PlanData) (x : ℕ) (cut : Cut) → IsPlan plan →
+        local_step_at plan cut x < plan.basis.steps }
 {}
 
 /// A law: an offer has a number for each step of the basis, and the offers of a node's children add up to no more than the
@@ -60,8 +68,10 @@ pub fn steps_go_down()
 /// nearer to 0. This holds in every cut, also in one with more changes than a device makes.
 #[tactic(auto, using(crate::proofs::Laws::offer_steps, crate::proofs::Laws::children_within))]
 pub fn offers_are_bounded()
-    ensures steps { (plan : PlanData) (x : ℕ) (cut : Cut) → IsPlan plan → length (offer plan x cut) ≡ plan.basis.steps }
-    ensures within { (plan : PlanData) (y : ℕ) (cut : Cut) → IsPlan plan → IsInner (plan_lists plan) y →
+    ensures steps { (plan : PlanData) (x : ℕ) (cut : Cut) → IsPlan plan →
+        length (offer plan x cut) ≡ plan.basis.steps }
+    ensures within { (plan : PlanData) (y : ℕ) (cut : Cut) → IsPlan plan →
+        IsInner (plan_lists plan) y →
         AllWithinLimit sum_limit (children_sum plan y cut) }
 {}
 
@@ -69,8 +79,10 @@ pub fn offers_are_bounded()
 /// the changes of the devices alone.
 #[tactic(auto, using(crate::proofs::Laws::total_falls, crate::proofs::Laws::total_alike))]
 pub fn totals_are_curves()
-    ensures falls { (plan : PlanData) (cut : Cut) → IsPlan plan → NeverRises (total plan (state plan) cut) }
-    ensures devices_alone { (plan : PlanData) (a b : Cut) → IsPlan plan → ((d : ℕ) → IsLeaf (plan_lists plan) d → a d ≡ b d) →
+    ensures falls { (plan : PlanData) (cut : Cut) → IsPlan plan →
+        NeverRises (total plan (state plan) cut) }
+    ensures devices_alone { (plan : PlanData) (a b : Cut) → IsPlan plan →
+        ((d : ℕ) → IsLeaf (plan_lists plan) d → a d ≡ b d) →
         total plan (state plan) a ≡ total plan (state plan) b }
 {}
 
@@ -81,17 +93,24 @@ pub fn totals_are_curves()
 pub fn powers_add_up()
     // Group g: the devices below the limited concentrator g, and for 0 those below none. For any other node both are 0.
     ensures group { (plan : PlanData) (g : ℕ) (cut : Cut) → IsPlan plan →
-        group_power plan cut g ≡ demand_at (sum_in plan (state plan) cut g) (local_step_of_group plan (state plan) cut (plain_step plan (state plan) cut) g) }
-    ensures total { (plan : PlanData) (cut : Cut) (step : ℕ) → IsPlan plan → step < plan.basis.steps →
-        demand_at (total plan (state plan) cut) step ≡ demand_at (sum_in plan (state plan) cut 0) step +ℤ announced_power plan cut step }
-    ensures within { (plan : PlanData) (g : ℕ) (cut : Cut) (limits : Limits) (step : ℕ) → IsPlan plan → limits_of (node plan g) ≡ Some limits →
-        step < plan.basis.steps → KeepsLimits limits (demand_at (sum_in plan (state plan) cut g) step) → KeepsLimits limits (group_power plan cut g) }
+        group_power plan cut g ≡ demand_at (sum_in plan (state plan) cut g)
+        (local_step_of_group plan (state plan) cut (plain_step plan (state plan) cut) g) }
+    ensures total { (plan : PlanData) (cut : Cut) (step : ℕ) → IsPlan plan →
+        step < plan.basis.steps →
+        demand_at (total plan (state plan) cut) step
+        ≡ demand_at (sum_in plan (state plan) cut 0) step +ℤ announced_power plan cut step }
+    ensures within { (plan : PlanData) (g : ℕ) (cut : Cut) (limits : Limits) (step : ℕ) →
+        IsPlan plan → limits_of (node plan g) ≡ Some limits →
+        step < plan.basis.steps → KeepsLimits limits
+        (demand_at (sum_in plan (state plan) cut g) step) →
+        KeepsLimits limits (group_power plan cut g) }
 {}
 
 /// A law: the changes of a device between the ends of two phases are of the later one.
 #[tactic(auto, using(crate::proofs::Laws::phase_between))]
 pub fn changes_are_of_their_phase()
-    ensures { (plan : PlanData) (p d n : ℕ) → IsPlan plan → end_cut plan p d ≤ n → n < end_cut plan (p + 1) d →
+    ensures { (plan : PlanData) (p d n : ℕ) → IsPlan plan → end_cut plan p d ≤ n →
+        n < end_cut plan (p + 1) d →
         (change_at plan d n).phase ≡ p + 1 }
 {}
 
@@ -100,8 +119,12 @@ pub fn changes_are_of_their_phase()
 /// its limits, and no other step is.
 #[tactic(auto, using(crate::proofs::EndLines::tells_end, crate::proofs::EndLines::step_is))]
 pub fn ends_tell_the_auction()
-    ensures end { (plan : PlanData) (cut : Cut) → IsPlan plan → TellsEnd plan cut (end_of plan cut) }
-    ensures only { (plan : PlanData) (cut : Cut) (end : EndData) → IsPlan plan → TellsEnd plan cut end → end ≡ end_of plan cut }
-    ensures step { (plan : PlanData) (cut : Cut) (x : ℕ) → IsPlan plan → IsAuctionStep plan cut x (local_step_at plan cut x) }
-    ensures only_step { (plan : PlanData) (cut : Cut) (x step : ℕ) → IsPlan plan → IsAuctionStep plan cut x step → step ≡ local_step_at plan cut x }
+    ensures end { (plan : PlanData) (cut : Cut) → IsPlan plan →
+        TellsEnd plan cut (end_of plan cut) }
+    ensures only { (plan : PlanData) (cut : Cut) (end : EndData) → IsPlan plan →
+        TellsEnd plan cut end → end ≡ end_of plan cut }
+    ensures step { (plan : PlanData) (cut : Cut) (x : ℕ) → IsPlan plan →
+        IsAuctionStep plan cut x (local_step_at plan cut x) }
+    ensures only_step { (plan : PlanData) (cut : Cut) (x step : ℕ) → IsPlan plan →
+        IsAuctionStep plan cut x step → step ≡ local_step_at plan cut x }
 {}

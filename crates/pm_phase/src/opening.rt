@@ -45,7 +45,8 @@ fn add_link(
     requires places { ArePlaced links.old.items places.old.items }
     ensures up { IfOk result (λ ends. IsUpOf links.new.items ends.0) }
     ensures down { IfOk result (λ ends. IsDownOf links.new.items ends.1) }
-    ensures one_more { IfOk result (λ _. (link : TableId) × (links.new.items ≡ links.old.items ++ link ∷ [])) }
+    ensures one_more { IfOk result (λ _. (link : TableId)
+        × (links.new.items ≡ links.old.items ++ link ∷ [])) }
     ensures places { IfOk result (λ _. ArePlaced links.new.items places.new.items) }
 {
     let (link, child, parent) = open_link(alloc, room)?;

@@ -8,7 +8,8 @@ use Rattle.pm_bid.specs.Limited.{within_limits, local_step}
 use Rattle.pm_plan.specs.Devices.{DeviceData}
 use Rattle.pm_plan.specs.declared.node.Node.TheVariants.{Concentrator, Limited, Device}
 use Rattle.pm_plan.specs.Plans.{PlanData, NodeData, node, limits_of, is_member, group}
-use Rattle.pm_plan.specs.Auction.{States, node_bid, part_in, sum_in, announcement, total, plain_step, local_step_of_group, local_step_in, power, limited_nodes, demand_in_cut}
+use Rattle.pm_plan.specs.Auction.{States, node_bid, part_in, sum_in, announcement, total}
+use Rattle.pm_plan.specs.Auction.{plain_step, local_step_of_group, local_step_in, power, limited_nodes, demand_in_cut}
 use Rattle.pm_base.specs.Cuts.{Cut}
 
 -- two functions that agree on the numbers of a range map the range to the same list

@@ -11,7 +11,8 @@ use Rattle.pm_base.specs.declared.limits.Limits.{Limits}
 use Rattle.pm_bid.specs.Bids.{demand_at}
 use Rattle.pm_bid.specs.Limited.{step_within, local_step}
 use Rattle.pm_plan.specs.Plans.{PlanData, node, limits_of, group, is_member, is_limited}
-use Rattle.pm_plan.specs.Auction.{States, sum_in, plain_step, local_step_in, local_step_of_group, power, member_line, limited_line, total, end_in, EndData, demand_in_cut}
+use Rattle.pm_plan.specs.Auction.{States, sum_in, plain_step, local_step_in, local_step_of_group, power}
+use Rattle.pm_plan.specs.Auction.{member_line, limited_line, total, end_in, EndData, demand_in_cut}
 use Rattle.pm_base.specs.Cuts.{Cut}
 use Rattle.pm_plan.specs.States.{state, end_of}
 use Rattle.pm_plan.specs.declared.end.MemberLine.{MemberLine}

@@ -41,7 +41,8 @@ pub tick-fits : (kind : Kind) (state power minutes : ℤ) → IsTrue (is_valid k
 unfolding tick
 tick-fits (Freezer low high rated warm cool) state power minutes valid fits = temperature-fits ((state +ℤ warm) -ℤ change_if (takes_power power) cool)
 tick-fits (HeatPump low high rated loss gain) state power minutes valid fits = temperature-fits ((state -ℤ loss) +ℤ change_if (takes_power power) gain)
-tick-fits (Cogeneration low high rated loss gain) state power minutes valid fits = temperature-fits ((state -ℤ loss) +ℤ change_if (delivers_power power) gain)
+tick-fits (Cogeneration low high rated loss gain) state power minutes valid fits = temperature-fits
+    ((state -ℤ loss) +ℤ change_if (delivers_power power) gain)
 tick-fits (Battery capacity charge discharge spread) state power minutes valid fits =
     let least = (is_battery-tells capacity charge discharge spread valid).capacity_within in
     nearest-fits (pos 0) capacity (state +ℤ floor_div (power *ℤ minutes) (pos 60)) (omega (arith, ints, least.from))

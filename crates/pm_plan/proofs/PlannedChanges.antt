@@ -16,7 +16,8 @@ planned_change_at-is (c ∷ cs) (suc n) inside = planned_change_at-is cs n (omeg
 
 -- change number n + 1 of a device, where it has so many, is that at place n, counted from 0
 pub planned_change-is : (plan : PlanData) (d n : ℕ) → n < change_count plan d → planned_change plan d (n + 1) ≡ Some (change_at plan d n).what
-planned_change-is plan d n inside = (let e : n + 1 ≡ suc n = omega arith in ap (planned_change plan d) e) ∙ planned_change_at-is (changes_of (node plan d)) n inside
+planned_change-is plan d n inside = (let e : n + 1 ≡ suc n = omega arith in ap (planned_change plan d) e)
+    ∙ planned_change_at-is (changes_of (node plan d)) n inside
 
 -- no device has more changes than all devices have
 few_of : (nodes : List NodeData) (x : ℕ) → length (changes_of (node_at nodes x)) ≤ all_changes nodes

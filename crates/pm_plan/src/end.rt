@@ -66,7 +66,13 @@ impl PhaseEnd {
         limited: Vec<LimitedLine>,
     ) -> PhaseEnd
         requires { step < basis.now.steps }
-        ensures { result.end ≡ record { step = step; price = price_at basis.now step; total = total; members = members.items; limited = limited.items } }
+        ensures { result.end ≡ record {
+          step = step;
+          price = price_at basis.now step;
+          total = total;
+          members = members.items;
+          limited = limited.items;
+        } }
     {
         PhaseEnd {
             step,
@@ -98,9 +104,18 @@ impl PhaseEnd {
     /// lines; the room of its former lines is room for new ones.
     pub fn begin(&mut self, basis: &Basis, step: u32, total: i64)
         requires { step < basis.now.steps }
-        ensures end { self.new.end ≡ record { step = step; price = price_at basis.now step; total = total; members = []; limited = [] } }
-        ensures members { self.new.member_room ≡ self.old.member_room + length self.old.end.members }
-        ensures limited { self.new.limited_room ≡ self.old.limited_room + length self.old.end.limited }
+        ensures end { self.new.end
+            ≡ record {
+              step = step;
+              price = price_at basis.now step;
+              total = total;
+              members = [];
+              limited = [];
+            } }
+        ensures members { self.new.member_room
+            ≡ self.old.member_room + length self.old.end.members }
+        ensures limited { self.new.limited_room
+            ≡ self.old.limited_room + length self.old.end.limited }
     {
         self.step = step;
         self.price = basis.price(step as usize);
@@ -112,7 +127,8 @@ impl PhaseEnd {
     /// Adds the line of the next member in file order, within the room.
     pub fn add_member(&mut self, line: MemberLine)
         requires room { 1 ≤ self.old.member_room }
-        ensures end { self.new.end ≡ record self.old.end { members = self.old.end.members ++ line ∷ [] } }
+        ensures end { self.new.end ≡ record self.old.end
+            { members = self.old.end.members ++ line ∷ [] } }
         ensures members { self.old.member_room ≤ self.new.member_room + 1 }
         ensures limited { self.new.limited_room ≡ self.old.limited_room }
     {
@@ -122,7 +138,8 @@ impl PhaseEnd {
     /// Adds the line of the next limited concentrator in file order, within the room.
     pub fn add_limited(&mut self, line: LimitedLine)
         requires room { 1 ≤ self.old.limited_room }
-        ensures end { self.new.end ≡ record self.old.end { limited = self.old.end.limited ++ line ∷ [] } }
+        ensures end { self.new.end ≡ record self.old.end
+            { limited = self.old.end.limited ++ line ∷ [] } }
         ensures members { self.new.member_room ≡ self.old.member_room }
         ensures limited { self.old.limited_room ≤ self.new.limited_room + 1 }
     {

@@ -25,7 +25,8 @@ ghost use Rattle.pm_plan.specs.Market.{plan_lists};
 #[tactic(auto, using(crate::proofs::PublicLaws::follows, crate::proofs::PublicLaws::only))]
 pub fn states_follow_the_changes()
     ensures follow { (plan : PlanData) → InPhases plan → FollowChanges plan (state plan) }
-    ensures only { (plan : PlanData) (states : States) (d n : ℕ) (planned : DeviceData) → InPhases plan → FollowChanges plan states →
+    ensures only { (plan : PlanData) (states : States) (d n : ℕ) (planned : DeviceData) →
+        InPhases plan → FollowChanges plan states →
         node plan d ≡ Device planned → n ≤ change_count plan d → states d n ≡ state plan d n }
 {}
 
@@ -33,15 +34,22 @@ pub fn states_follow_the_changes()
 /// ±1,000,000,000 watts and never rises, and so does its power in each cut.
 #[tactic(auto, using(crate::proofs::PublicLaws::fits, crate::proofs::PublicLaws::steps, crate::proofs::PublicLaws::falls))]
 pub fn states_fit()
-    ensures fits { (plan : PlanData) (d n : ℕ) (planned : DeviceData) → IsPlan plan → node plan d ≡ Device planned → n ≤ change_count plan d →
+    ensures fits { (plan : PlanData) (d n : ℕ) (planned : DeviceData) → IsPlan plan →
+        node plan d ≡ Device planned → n ≤ change_count plan d →
         IsTrue (state_fits planned.kind (state plan d n)) }
-    ensures steps { (plan : PlanData) (d n : ℕ) (planned : DeviceData) → IsPlan plan → node plan d ≡ Device planned →
-        length (bid_of planned.kind (state plan d n) plan.arrays plan.basis.steps) ≡ plan.basis.steps }
-    ensures within { (plan : PlanData) (d n : ℕ) (planned : DeviceData) → IsPlan plan → node plan d ≡ Device planned → n ≤ change_count plan d →
-        AllWithinLimit demand_limit (bid_of planned.kind (state plan d n) plan.arrays plan.basis.steps) }
-    ensures falls { (plan : PlanData) (d n : ℕ) (planned : DeviceData) → IsPlan plan → node plan d ≡ Device planned →
+    ensures steps { (plan : PlanData) (d n : ℕ) (planned : DeviceData) → IsPlan plan →
+        node plan d ≡ Device planned →
+        length (bid_of planned.kind (state plan d n) plan.arrays plan.basis.steps)
+        ≡ plan.basis.steps }
+    ensures within { (plan : PlanData) (d n : ℕ) (planned : DeviceData) → IsPlan plan →
+        node plan d ≡ Device planned → n ≤ change_count plan d →
+        AllWithinLimit demand_limit
+        (bid_of planned.kind (state plan d n) plan.arrays plan.basis.steps) }
+    ensures falls { (plan : PlanData) (d n : ℕ) (planned : DeviceData) → IsPlan plan →
+        node plan d ≡ Device planned →
         NeverRises (bid_of planned.kind (state plan d n) plan.arrays plan.basis.steps) }
-    ensures powers { (plan : PlanData) (cut : Cut) (d : ℕ) → IsPlan plan → cut d ≤ change_count plan d →
+    ensures powers { (plan : PlanData) (cut : Cut) (d : ℕ) → IsPlan plan →
+        cut d ≤ change_count plan d →
         IsWithin demand_limit (power plan (state plan) cut d) }
 {}
 
@@ -50,20 +58,27 @@ pub fn states_fit()
 #[tactic(auto, using(crate::proofs::PublicLaws::list_laws))]
 pub fn lists_are_lawful()
     ensures lawful { (plan : PlanData) → IsPlan plan → Lawful (plan_lists plan) }
-    ensures parents { (plan : PlanData) (x : ℕ) → market_parent (plan_lists plan) x ≡ parent plan x }
+    ensures parents { (plan : PlanData) (x : ℕ) → market_parent (plan_lists plan) x
+        ≡ parent plan x }
     ensures leaves { (plan : PlanData) (x : ℕ) → market_leaf (plan_lists plan) x ≡ is_leaf plan x }
-    ensures members { (plan : PlanData) (d n : ℕ) → 1 ≤ d → d ≤ length plan.nodes → n ≤ change_count plan d →
+    ensures members { (plan : PlanData) (d n : ℕ) → 1 ≤ d → d ≤ length plan.nodes →
+        n ≤ change_count plan d →
         market_member (plan_lists plan) d n ≡ is_member plan d n }
-    ensures changes { (plan : PlanData) (d : ℕ) → 1 ≤ d → d ≤ length plan.nodes → changes (plan_lists plan) d ≡ change_count plan d }
+    ensures changes { (plan : PlanData) (d : ℕ) → 1 ≤ d → d ≤ length plan.nodes →
+        changes (plan_lists plan) d ≡ change_count plan d }
     ensures phases { (plan : PlanData) → market_phases (plan_lists plan) ≡ phases plan }
-    ensures ends { (plan : PlanData) (p d : ℕ) → IsPlan plan → 1 ≤ d → d ≤ length plan.nodes → p ≤ phases plan →
+    ensures ends { (plan : PlanData) (p d : ℕ) → IsPlan plan → 1 ≤ d → d ≤ length plan.nodes →
+        p ≤ phases plan →
         end_count (plan_lists plan) p d ≡ end_cut plan p d }
-    ensures bounds { (plan : PlanData) → IsPlan plan → market_bound (plan_lists plan) ≡ plan_bound plan }
+    ensures bounds { (plan : PlanData) → IsPlan plan →
+        market_bound (plan_lists plan) ≡ plan_bound plan }
 {}
 
 /// A law: what the parts of a file give without a refusal is a plan that the type [`crate::Plan`] keeps.
 pub fn plans_keep_the_limits()
-    ensures { (basis : BasisValue) (entries : List Entry) (nodes : List NodePart) (phases : List PhasePart) (plan : PlanData) →
-        IsBasis basis → checked_tree entries ≡ Ok entries → IsTree (parents_of entries) (leaves_of entries) → AreNodesOf entries nodes →
+    ensures { (basis : BasisValue) (entries : List Entry) (nodes : List NodePart)
+        (phases : List PhasePart) (plan : PlanData) →
+        IsBasis basis → checked_tree entries ≡ Ok entries →
+        IsTree (parents_of entries) (leaves_of entries) → AreNodesOf entries nodes →
         checked_plan basis entries nodes phases ≡ Ok plan → IsPlan plan }
 {}

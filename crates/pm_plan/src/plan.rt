@@ -1,6 +1,7 @@
 ghost use Rattle.std.specs.Prelude.{◌≡◌, ℕ, ◌≤◌, ◌<◌, ◌-◌, ◌^◌, length, Some, option_map, slice_index_or, true};
 ghost use Rattle.std.specs.List.{prefix_len};
-ghost use Rattle.pm_plan.specs.Plans.{node as planned_node, kind_of, start_of, limits_of, phases, is_leaf, minutes_of, planned_change, planned_change_at, is_up_to};
+ghost use Rattle.pm_plan.specs.Plans.{node as planned_node, kind_of, start_of, limits_of, phases};
+ghost use Rattle.pm_plan.specs.Plans.{is_leaf, minutes_of, planned_change, planned_change_at, is_up_to};
 ghost use Rattle.pm_plan.specs.Plans.{all_changes, group_above, phase_changes, plan_bound};
 ghost use Rattle.pm_plan.specs.Kept.{IsPlan, no_change};
 ghost use Rattle.pm_base.specs.Limits.{most_changes};
@@ -97,7 +98,8 @@ impl Plan {
     /// Floor and ceiling of a node in watts; none exactly where it is no limited concentrator.
     pub fn limits(&self, node: NodeId) -> Option<(i64, i64)>
         requires { node.0 ≤ length self.now.nodes }
-        ensures { result ≡ option_map (λ limits. (limits.floor, limits.ceiling)) (limits_of (planned_node self.now node.0)) }
+        ensures { result ≡ option_map (λ limits. (limits.floor, limits.ceiling))
+            (limits_of (planned_node self.now node.0)) }
     {
         if node.0 == 0 {
             return None;
@@ -182,7 +184,8 @@ fn planned_at(changes: &[Change], at: usize) -> Option<Planned>
 /// How many changes belong to the phases up to this one.
 fn count_up_to(changes: &[Change], phase: u32) -> u32
     requires few { length changes.now ≤ most_changes }
-    requires rise { (m n : ℕ) → m ≤ n → n < length changes.now → (slice_index_or changes.now m no_change).phase
+    requires rise { (m n : ℕ) → m ≤ n → n < length changes.now →
+        (slice_index_or changes.now m no_change).phase
         ≤ (slice_index_or changes.now n no_change).phase }
     ensures { result ≡ prefix_len (is_up_to phase) changes.now }
 {

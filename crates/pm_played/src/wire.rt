@@ -157,7 +157,8 @@ fn kind_of(frame: Frame) -> (u8, u16, u32) {
 /// The kind of the next frame.
 fn next_kind(decoder: &mut Decoder) -> Result<Option<(u8, u16, u32)>, DecodeFault>
     requires { decoder.old.offset + length decoder.old.rest ≤ 4294967296 }
-    ensures { decoder.new.offset + length decoder.new.rest ≡ decoder.old.offset + length decoder.old.rest }
+    ensures { decoder.new.offset + length decoder.new.rest
+        ≡ decoder.old.offset + length decoder.old.rest }
 {
     match decoder.next() {
         Ok(Some(frame)) => Ok(Some(kind_of(frame))),

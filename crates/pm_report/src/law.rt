@@ -10,12 +10,14 @@ ghost use Rattle.pm_report.specs.Trace.{IsLineOfRun, move_line, trace_text};
 #[tactic(auto, using(crate::proofs::Traces::same_journal))]
 pub fn traces_tell_their_journals()
     ensures { (plan : PlanData) (ends : List EndData) (a b : List Line) → IsPlan plan →
-        All (IsLineOfRun plan) a → All (IsLineOfRun plan) b → trace_text plan ends a ≡ trace_text plan ends b → a ≡ b }
+        All (IsLineOfRun plan) a → All (IsLineOfRun plan) b →
+        trace_text plan ends a ≡ trace_text plan ends b → a ≡ b }
 {}
 
 /// A line of a trace tells what it is of: two lines of one plan that are written by the same bytes are the same.
 #[tactic(auto, using(crate::proofs::Traces::same_one))]
 pub fn lines_tell_their_moves()
-    ensures { (plan : PlanData) (one other : Line) → IsPlan plan → IsLineOfRun plan one → IsLineOfRun plan other →
+    ensures { (plan : PlanData) (one other : Line) → IsPlan plan → IsLineOfRun plan one →
+        IsLineOfRun plan other →
         move_line plan one ≡ move_line plan other → one ≡ other }
 {}

@@ -8,7 +8,8 @@ use std::alloc::{AllocError, Global};
 
 /// Writes the first line of a phase.
 fn push_phase_line(text: &mut String, phase: u32, end: &PhaseEnd) -> Result<(), AllocError>
-    ensures { OnOk result (string_bytes text.new ≡ string_bytes text.old ++ phase_line phase end.now.end) }
+    ensures { OnOk result (string_bytes text.new ≡ string_bytes text.old
+        ++ phase_line phase end.now.end) }
 {
     let price = end.price();
     let step = end.step();
@@ -23,7 +24,8 @@ fn push_phase_line(text: &mut String, phase: u32, end: &PhaseEnd) -> Result<(), 
 /// Writes the line of a member.
 fn push_member(text: &mut String, plan: &Plan, member: &MemberLine) -> Result<(), AllocError>
     requires { member.now.node ≤ length plan.now.nodes }
-    ensures { OnOk result (string_bytes text.new ≡ string_bytes text.old ++ member_text plan.now member.now) }
+    ensures { OnOk result (string_bytes text.new ≡ string_bytes text.old
+        ++ member_text plan.now member.now) }
 {
     let name = name(plan, member.node);
     let power = member.power;
@@ -35,7 +37,8 @@ fn push_member(text: &mut String, plan: &Plan, member: &MemberLine) -> Result<()
 fn push_limited(text: &mut String, plan: &Plan, limited: &LimitedLine) -> Result<(), AllocError>
     requires node { limited.now.node ≤ length plan.now.nodes }
     requires step { limited.now.step < plan.now.basis.steps }
-    ensures { OnOk result (string_bytes text.new ≡ string_bytes text.old ++ limited_text plan.now limited.now) }
+    ensures { OnOk result (string_bytes text.new ≡ string_bytes text.old
+        ++ limited_text plan.now limited.now) }
 {
     let name = name(plan, limited.node);
     let step = limited.step;
@@ -50,7 +53,8 @@ fn push_limited(text: &mut String, plan: &Plan, limited: &LimitedLine) -> Result
 /// Writes the lines of members.
 fn push_members(text: &mut String, plan: &Plan, members: &[MemberLine]) -> Result<(), AllocError>
     requires { All (λ member. member.node ≤ length plan.now.nodes) members.now }
-    ensures { OnOk result (string_bytes text.new ≡ string_bytes text.old ++ flat_map (member_text plan.now) members.now) }
+    ensures { OnOk result (string_bytes text.new ≡ string_bytes text.old
+        ++ flat_map (member_text plan.now) members.now) }
 {
     for member in members {
         push_member(text, plan, member)?;
@@ -62,7 +66,8 @@ fn push_members(text: &mut String, plan: &Plan, members: &[MemberLine]) -> Resul
 fn push_all_limited(text: &mut String, plan: &Plan, all: &[LimitedLine]) -> Result<(), AllocError>
     requires nodes { All (λ limited. limited.node ≤ length plan.now.nodes) all.now }
     requires steps { All (λ limited. limited.step < plan.now.basis.steps) all.now }
-    ensures { OnOk result (string_bytes text.new ≡ string_bytes text.old ++ flat_map (limited_text plan.now) all.now) }
+    ensures { OnOk result (string_bytes text.new ≡ string_bytes text.old
+        ++ flat_map (limited_text plan.now) all.now) }
 {
     for limited in all {
         push_limited(text, plan, limited)?;
@@ -74,7 +79,8 @@ fn push_all_limited(text: &mut String, plan: &Plan, all: &[LimitedLine]) -> Resu
 #[tactic(auto, unfolding(crate::specs::Report::phase_text))]
 fn push_phase(text: &mut String, plan: &Plan, phase: u32, end: &PhaseEnd) -> Result<(), AllocError>
     requires { IsEndOf plan.now end.now.end }
-    ensures { OnOk result (string_bytes text.new ≡ string_bytes text.old ++ phase_text plan.now phase end.now.end) }
+    ensures { OnOk result (string_bytes text.new ≡ string_bytes text.old
+        ++ phase_text plan.now phase end.now.end) }
 {
     push_phase_line(text, phase, end)?;
     push_members(text, plan, end.members())?;
@@ -85,7 +91,8 @@ fn push_phase(text: &mut String, plan: &Plan, phase: u32, end: &PhaseEnd) -> Res
 fn push_phases(text: &mut String, plan: &Plan, ends: &[PhaseEnd]) -> Result<(), AllocError>
     requires of_plan { All (IsEndOf plan.now) (ends_of ends.now) }
     requires few { length ends.now ≤ most_phases }
-    ensures { OnOk result (string_bytes text.new ≡ string_bytes text.old ++ phase_texts plan.now 1 (ends_of ends.now)) }
+    ensures { OnOk result (string_bytes text.new ≡ string_bytes text.old ++ phase_texts plan.now 1
+        (ends_of ends.now)) }
 {
     for (before, end) in ends.iter().enumerate() {
         push_phase(text, plan, before as u32 + 1, end)?;
@@ -111,7 +118,8 @@ pub(crate) fn push_report(
 ) -> Result<(), AllocError>
     requires of_plan { All (IsEndOf plan.now) (ends_of ends.now) }
     requires few { length ends.now ≤ most_phases }
-    ensures { OnOk result (string_bytes text.new ≡ string_bytes text.old ++ report_text plan.now (ends_of ends.now)) }
+    ensures { OnOk result (string_bytes text.new ≡ string_bytes text.old
+        ++ report_text plan.now (ends_of ends.now)) }
 {
     push_phases(text, plan, ends)?;
     push_end_line(text, plan)

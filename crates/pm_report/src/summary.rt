@@ -23,7 +23,8 @@ fn sums_of(ends: &[PhaseEnd]) -> (i128, i128)
 
 /// Writes the line of the demo and its plan.
 fn push_demo_line(text: &mut String, size: u32, number: u32, plan: &Plan) -> Result<(), AllocError>
-    ensures { OnOk result (string_bytes text.new ≡ string_bytes text.old ++ demo_line size number plan.now) }
+    ensures { OnOk result (string_bytes text.new ≡ string_bytes text.old
+        ++ demo_line size number plan.now) }
 {
     let nodes = plan.tree().len();
     let phases = plan.phases();
@@ -37,7 +38,8 @@ fn push_demo_line(text: &mut String, size: u32, number: u32, plan: &Plan) -> Res
 /// Writes the line of the sums.
 fn push_sums_line(text: &mut String, ends: &[PhaseEnd]) -> Result<(), AllocError>
     requires { length ends.now ≤ most_phases }
-    ensures { OnOk result (string_bytes text.new ≡ string_bytes text.old ++ sums_line (ends_of ends.now)) }
+    ensures { OnOk result (string_bytes text.new ≡ string_bytes text.old
+        ++ sums_line (ends_of ends.now)) }
 {
     let (prices, totals) = sums_of(ends);
     writeln!(text, "prices {prices} totals {totals}")
@@ -53,7 +55,8 @@ fn last_end(ends: &[PhaseEnd]) -> &PhaseEnd
 
 /// Writes the line of the last end.
 fn push_last_line(text: &mut String, last: &PhaseEnd) -> Result<(), AllocError>
-    ensures { OnOk result (string_bytes text.new ≡ string_bytes text.old ++ last_line last.now.end) }
+    ensures { OnOk result (string_bytes text.new ≡ string_bytes text.old
+        ++ last_line last.now.end) }
 {
     let price = last.price();
     let total = last.total();
@@ -79,7 +82,8 @@ pub fn summary_text(
 ) -> Result<Vec<u8>, AllocError>
     requires some { 1 ≤ length ends.now }
     requires few { length ends.now ≤ most_phases }
-    ensures { IfOk result (λ text. text.items ≡ summary_text size number plan.now (ends_of ends.now)) }
+    ensures { IfOk result (λ text. text.items ≡ summary_text size number plan.now
+        (ends_of ends.now)) }
 {
     let mut text = String::new(alloc);
     push_demo_line(&mut text, size, number, plan)?;

@@ -15,7 +15,8 @@ use std::alloc::{AllocError, Global};
 fn push_learn(text: &mut String, plan: &Plan, child: u32, number: u32) -> Result<(), AllocError>
     requires first { 1 ≤ child }
     requires last { child ≤ length plan.now.nodes }
-    ensures { OnOk result (string_bytes text.new ≡ string_bytes text.old ++ text_line (move_words plan.now (Move.Learn child number) None)) }
+    ensures { OnOk result (string_bytes text.new ≡ string_bytes text.old
+        ++ text_line (move_words plan.now (Move.Learn child number) None)) }
 {
     let parent = plan.tree().parent(NodeId(child));
     let above = name(plan, parent.0);
@@ -33,7 +34,8 @@ fn push_pass(
 ) -> Result<(), AllocError>
     requires node { node ≤ length plan.now.nodes }
     requires step { IfSome held (λ held. held.0 < plan.now.basis.steps) }
-    ensures { OnOk result (string_bytes text.new ≡ string_bytes text.old ++ text_line (move_words plan.now (Move.Pass node index) held)) }
+    ensures { OnOk result (string_bytes text.new ≡ string_bytes text.old
+        ++ text_line (move_words plan.now (Move.Pass node index) held)) }
 {
     let name = name(plan, node);
     if !plan.tree().is_leaf(NodeId(node)) {
@@ -51,7 +53,8 @@ fn push_pass(
 /// Writes the line of a move.
 fn push_line(text: &mut String, plan: &Plan, line: Line) -> Result<(), AllocError>
     requires { IsLineOf plan.now line }
-    ensures { OnOk result (string_bytes text.new ≡ string_bytes text.old ++ move_line plan.now line) }
+    ensures { OnOk result (string_bytes text.new ≡ string_bytes text.old
+        ++ move_line plan.now line) }
 {
     match line.what {
         Move::Change { device, number } => {
@@ -72,7 +75,8 @@ fn push_line(text: &mut String, plan: &Plan, line: Line) -> Result<(), AllocErro
 /// Writes the lines of the moves.
 fn push_lines(text: &mut String, plan: &Plan, journal: &Journal) -> Result<(), AllocError>
     requires { All (IsLineOf plan.now) journal.now.lines }
-    ensures { OnOk result (string_bytes text.new ≡ string_bytes text.old ++ flat_map (move_line plan.now) journal.now.lines) }
+    ensures { OnOk result (string_bytes text.new ≡ string_bytes text.old
+        ++ flat_map (move_line plan.now) journal.now.lines) }
 {
     for at in 0..journal.len() {
         if let Some(line) = journal.get(at) {
@@ -84,7 +88,8 @@ fn push_lines(text: &mut String, plan: &Plan, journal: &Journal) -> Result<(), A
 
 /// Writes the last line of a trace.
 fn push_moves_line(text: &mut String, journal: &Journal) -> Result<(), AllocError>
-    ensures { OnOk result (string_bytes text.new ≡ string_bytes text.old ++ moves_line journal.now.lines) }
+    ensures { OnOk result (string_bytes text.new ≡ string_bytes text.old
+        ++ moves_line journal.now.lines) }
 {
     let moves = journal.len();
     writeln!(text, "moves {moves}")
@@ -116,7 +121,8 @@ pub fn trace_text(
     requires few { length ends.now ≤ most_phases }
     // The nodes and the steps that the lines name are the plan's, and the child that is learnt of is no auctioneer.
     requires lines { All (IsLineOf plan.now) journal.now.lines }
-    ensures { IfOk result (λ text. text.items ≡ trace_text plan.now (ends_of ends.now) journal.now.lines) }
+    ensures { IfOk result (λ text. text.items ≡ trace_text plan.now
+        (ends_of ends.now) journal.now.lines) }
 {
     let mut text = String::new(alloc);
     push_report(&mut text, plan, ends)?;

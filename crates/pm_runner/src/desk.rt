@@ -100,7 +100,8 @@ impl<'p> Desk<'p> {
     /// The next change of a node, where it is a device of the board's plan and has one.
     pub(crate) fn job_of(&self, node: u32) -> Option<Job<'p>>
         ensures next { let s = board_state self.now.board in
-            IfSome result (λ job. IsNext self.now.board.plan s.closed s.counts job.next.device job.next) }
+            IfSome result
+            (λ job. IsNext self.now.board.plan s.closed s.counts job.next.device job.next) }
         ensures its { IfSome result (λ job. job.next.device ≡ node) }
     {
         let plan = self.board.plan();
@@ -131,7 +132,8 @@ impl<'p> Desk<'p> {
     pub(crate) fn post(&mut self, made: &Made) -> Option<Line>
         ensures goes_on { let s = board_state self.old.board in
             (IsNext self.old.board.plan s.closed s.counts made.now.next.device made.now.next → ⊥) →
-            length made.now.demand ≡ self.old.board.plan.basis.steps → self.new.halted ≡ self.old.halted }
+            length made.now.demand ≡ self.old.board.plan.basis.steps →
+            self.new.halted ≡ self.old.halted }
     {
         if self.is_over() {
             return None;

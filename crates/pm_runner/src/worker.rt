@@ -202,7 +202,8 @@ fn turn_with<'p>(
     line: Option<Line>,
 ) -> Turn<'p>
     ensures next { let s = board_state desk.new.board in
-        IfSome result.job (λ job. IsNext desk.new.board.plan s.closed s.counts job.next.device job.next) }
+        IfSome result.job
+        (λ job. IsNext desk.new.board.plan s.closed s.counts job.next.device job.next) }
     ensures its { IfSome result.job (λ job. job.next.device ≡ node) }
 {
     if desk.is_over() {

@@ -112,7 +112,8 @@ fn each_listed(object: &Map<String, Value>, members: &[Member]) -> bool
 
 /// Whether each member is listed.
 fn has_only(object: &Map<String, Value>, members: &[Member]) -> bool
-    ensures { result ≡ has_only (map row_of members.now) (object_of (members_view object.now.entries)) }
+    ensures { result ≡ has_only (map row_of members.now)
+        (object_of (members_view object.now.entries)) }
 {
     each_listed(object, members)
 }

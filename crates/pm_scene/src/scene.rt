@@ -63,7 +63,8 @@ fn plan_of_parts(
     phases: Vec<PhaseSpec>,
 ) -> Result<Plan, PlanFault>
     requires { AreNodesOf tree (map node_part nodes.items) }
-    ensures { Gives refusal_in (λ p. p) result (checked_plan basis tree (map node_part nodes.items) (map phase_part phases.items)) }
+    ensures { Gives refusal_in (λ p. p) result
+        (checked_plan basis tree (map node_part nodes.items) (map phase_part phases.items)) }
 {
     Ok(Plan::new(alloc, basis, tree, nodes, phases)?)
 }

@@ -30,8 +30,10 @@ fn is_device(spec: &NodeSpec) -> bool
 
 /// The nodes without their names, and the entries of their names.
 pub(crate) fn parts_of(alloc: Global, nodes: Vec<NamedNode>) -> Result<Parts, AllocError>
-    ensures entries { IfOk result (λ p. entries_of p.entries.items ≡ entries_in (map named_part nodes.items)) }
-    ensures parts { IfOk result (λ p. map node_part p.specs.items ≡ parts_in (map named_part nodes.items)) }
+    ensures entries { IfOk result (λ p. entries_of p.entries.items
+        ≡ entries_in (map named_part nodes.items)) }
+    ensures parts { IfOk result (λ p. map node_part p.specs.items
+        ≡ parts_in (map named_part nodes.items)) }
 {
     let mut entries = Vec::new(alloc);
     let mut specs = Vec::new(alloc);

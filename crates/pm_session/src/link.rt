@@ -61,9 +61,11 @@ impl Link {
     /// the child is no member. The bid takes the place of one that still waits.
     pub fn offer_bid(&mut self, number: u32, demand: Option<&ArrayBid>) -> Result<(), AllocError>
         requires number { self.old.up.offered < number }
-        requires steps { length (demand_offered self.old.steps (option_copied demand)) ≡ self.old.steps }
+        requires steps { length (demand_offered self.old.steps (option_copied demand))
+            ≡ self.old.steps }
         ensures ok { result ≡ Ok tt }
-        ensures offered { BidOffered self.old self.new (bid_offered self.old.steps number (option_copied demand.entry)) }
+        ensures offered { BidOffered self.old self.new
+            (bid_offered self.old.steps number (option_copied demand.entry)) }
     {
         let mut counter = Steps::<Brand>::start();
         let gone = match demand {
@@ -85,8 +87,10 @@ impl Link {
     /// it is gone. None comes exactly where nothing waits; `into` stays as it was then.
     pub fn take_bid(&mut self, into: &mut ArrayBid) -> Option<BidHead>
         requires steps { length into.old ≡ self.old.steps }
-        ensures taken { MatchOption result (NothingWaited self.old.up self.old self.new × into.new ≡ into.old) (λ head.
-            BidTaken self.old self.new (record { number = head.number; gone = head.gone; demand = into.new })) }
+        ensures taken { MatchOption result
+            (NothingWaited self.old.up self.old self.new × into.new ≡ into.old) (λ head.
+            BidTaken self.old self.new
+            (record { number = head.number; gone = head.gone; demand = into.new })) }
         ensures same_length { length into.new ≡ length into.old }
     {
         match self.bid {
@@ -114,7 +118,8 @@ impl Link {
 
     /// Takes the price that waits. None comes exactly where nothing waits.
     pub fn take_price(&mut self) -> Option<PriceUpdate>
-        ensures taken { MatchOption result (NothingWaited self.old.down self.old self.new) (λ price. PriceTaken self.old self.new price) }
+        ensures taken { MatchOption result (NothingWaited self.old.down self.old self.new)
+            (λ price. PriceTaken self.old self.new price) }
     {
         let price = self.price?;
         self.price_taken = price.index;

@@ -1,6 +1,7 @@
 ghost use Rattle.std.specs.Prelude.{◌≡◌, ◌+◌, ◌-◌, ◌<◌, length, Some, None, IfOk, IsTrue, ◌↔◌};
 ghost use Rattle.pm_base.specs.Limits.{AreSteps, window_size};
-ghost use Rattle.pm_session.specs.Windows.{Keeps, unanswered_count, record_of, newest_record, RecordSent, RecordAnswered, IsWindow, IsNewWindow, HasSteps, Fits};
+ghost use Rattle.pm_session.specs.Windows.{Keeps, unanswered_count, record_of, newest_record, RecordSent};
+ghost use Rattle.pm_session.specs.Windows.{RecordAnswered, IsWindow, IsNewWindow, HasSteps, Fits};
 
 use crate::record::Record;
 use pm_base::WINDOW_SIZE;
@@ -116,7 +117,8 @@ impl Window {
         requires number { number ≡ self.old.last + 1 }
         requires children { length children.now ≡ self.old.children }
         ensures ok { result ≡ Ok tt }
-        ensures sent { RecordSent self.old self.new (record { number = number; heads = children.now; sum = None }) }
+        ensures sent { RecordSent self.old self.new
+            (record { number = number; heads = children.now; sum = None }) }
     {
         let record = &mut self.places[number as usize % PLACES];
         record.write(number, children);
@@ -131,7 +133,8 @@ impl Window {
         requires room { unanswered_count self.old < window_size }
         requires number { number ≡ self.old.last + 1 }
         requires children { length children.now ≡ self.old.children }
-        ensures sent { RecordSent self.old self.new (record { number = number; heads = children.now; sum = Some sum.now }) }
+        ensures sent { RecordSent self.old self.new
+            (record { number = number; heads = children.now; sum = Some sum.now }) }
     {
         let record = &mut self.places[number as usize % PLACES];
         record.write_limited(number, children, sum);
@@ -143,7 +146,8 @@ impl Window {
         requires kept { Keeps self.old number }
 
         // The window that the caller has again once the record is no longer borrowed.
-        ensures* after { sem 𝓛 (follows_so the_row the_row self.entry.ghost_name none (λ _ _. ⊤) (λ window. RecordAnswered self.old window number)) }
+        ensures* after { sem 𝓛 (follows_so the_row the_row self.entry.ghost_name none (λ _ _. ⊤)
+            (λ window. RecordAnswered self.old window number)) }
         ensures sent { result.now ≡ record_of self.old number }
         ensures fits { Fits self.old result.now }
         ensures number { result.now.number ≡ number }

@@ -35,7 +35,8 @@ unfolding gathered_at
 gathered_other cs y i g ne = ap gathered_in (get_or-set_other cs y i (Some g) None ne)
 
 -- a bid with a greater number than the one kept is entered when it is learnt
-pub learnt_newer : (cache : Cache) (k n : ℕ) (demand : Option (List ℤ)) → kept_number cache k < n → after_learning cache k n demand ≡ with_newer_bid cache k n demand
+pub learnt_newer : (cache : Cache) (k n : ℕ) (demand : Option (List ℤ)) → kept_number cache k < n →
+    after_learning cache k n demand ≡ with_newer_bid cache k n demand
 learnt_newer cache k n demand newer = cond-false (leb n (kept_number cache k)) cache (with_newer_bid cache k n demand) (lt-leb n (kept_number cache k) newer)
 
 news_after : (a : Auction) (k n : ℕ) → kept_number a.cache k < n → (a.changed || not (leb n (kept_number a.cache k))) ≡ true

@@ -311,7 +311,8 @@ module _ (plan : PlanData) (is_plan : IsPlan plan) (c : Core) (s : State) (stand
     window_last = λ y conc_y. stands.window_last y conc_y
         ∙ sym (newest_other lists law s stands.sound 0 (leaf_zero lists) sound' y (not_root y (conc_y.0, conc_y.1)));
     window_answered = λ y conc_y. stands.window_answered y conc_y
-        ∙ sym (number_cleared lists law s stands.sound 0 (leaf_zero lists) sound' y (last_index s y) (conc_y.0, conc_y.1) (last_within lists s stands.sound y));
+        ∙ sym (number_cleared lists law s stands.sound 0 (leaf_zero lists) sound' y (last_index s y) (conc_y.0, conc_y.1)
+        (last_within lists s stands.sound y));
     records = λ z i z_node conc_z keeps. stands.records z i z_node conc_z keeps ∙ record_kept z i z_node (keeps_within (parent lists z) i conc_z keeps);
     sums = λ y i conc_y keeps. stands.sums y i conc_y keeps
         ∙ ap (λ (a : Cut). sum_kept (limits_at plan y) (children_sum plan y a)) (sym (entry_kept y i (keeps_within y i conc_y keeps)));

@@ -46,7 +46,8 @@ demands_from plan is_plan s y ds count each =
     let z : ℕ = child_at plan y k in
     let at = child_node plan y k lt' in
     let alike = offer_alike plan is_plan z (knowledge (plan_lists plan) s y) (part (plan_lists plan) s z (s.learnt z)) (λ d leaf.
-    ap (λ (c : ℕ). knowledge (plan_lists plan) s c d) (sym at.1) ∙ known_at (plan_lists plan) (lawful plan is_plan) s.published s.learnt z d at.0.0 leaf) in
+    ap (λ (c : ℕ). knowledge (plan_lists plan) s c d) (sym at.1) ∙ known_at (plan_lists plan) (lawful plan is_plan) s.published s.learnt z d at.0.0 leaf)
+    in
     ap (λ (i : ℕ). get_or ds i []) (sym at.2) ∙ each z at.0 at.1 ∙ sym alike
     ∙ sym (get_or-map (λ c. offer plan c (knowledge (plan_lists plan) s y)) (children_of plan.entries y) k 0 [] lt'))
 

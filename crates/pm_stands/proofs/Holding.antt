@@ -52,7 +52,8 @@ module _ (plan : PlanData) (c : Core) (s : State) (d : ℕ) (stands : StandsFor 
     | inr some ↦
         by_given _ (stands.given d leaf (omega arith)) ∙ answer_some member join _ _ _
         ∙ ap (λ b. cond (b && member && nat_le join (cleared_cut s (last_index s d) d))
-        (Some (record { step = local_step_at plan (cleared_cut s (last_index s d)) d; number = cleared_cut s (last_index s d) d; index = last_index s d })) None)
+        (Some (record { step = local_step_at plan (cleared_cut s (last_index s d)) d; number = cleared_cut s (last_index s d) d; index = last_index s d }))
+        None)
         (sym (lt-ltb 0 (last_index s d) (omega arith)))
   ]
 
@@ -73,7 +74,11 @@ held_inside plan c s d price is_plan stands leaf holds =
     some_inside (holds_price (plan_lists plan) s d) (sym (held_agrees plan c s d is_plan stands leaf) ∙ holds)
   where
     some_inside : (b : Bool) →
-        cond b (Some (record { step = local_step_at plan (cleared_cut s (last_index s d)) d; number = cleared_cut s (last_index s d) d; index = last_index s d })) None ≡ Some price →
+        cond b (Some (record {
+          step = local_step_at plan (cleared_cut s (last_index s d)) d;
+          number = cleared_cut s (last_index s d) d;
+          index = last_index s d;
+        })) None ≡ Some price →
         price.step < plan.basis.steps
     some_inside true is =
         let same : local_step_at plan (cleared_cut s (last_index s d)) d ≡ price.step = ap step_of is in
@@ -85,7 +90,8 @@ pub none_held : (plan : PlanData) (s : State) (d : ℕ) → is_member (plan_list
 unfolding holds_price
 none_held plan s d out =
     cond-false (holds_price (plan_lists plan) s d) _ None
-    (ap (λ b. nat_lt 0 (last_index s d) && b && nat_le (last_join (plan_lists plan) d (s.counts d)) (cleared_cut s (last_index s d) d)) out ∙ amid (nat_lt 0 (last_index s d)) _)
+    (ap (λ b. nat_lt 0 (last_index s d) && b && nat_le (last_join (plan_lists plan) d (s.counts d)) (cleared_cut s (last_index s d) d)) out
+    ∙ amid (nat_lt 0 (last_index s d)) _)
   where
     amid : (a b : Bool) → (a && false && b) ≡ false
     amid true b = refl

@@ -69,7 +69,8 @@ module _ (plan : PlanData) (is_plan : IsPlan plan) (c : Core) (s : State) (stand
         | inr e ↦
             let open_ = newest_number_of lists s y - number lists s y (cleared_cut s (last_index s y)) in
             elim (cases_lt open_ window_size) [
-              | inl lt ↦ absurd (none (newest_number_of lists s y + 1) (conc, ap (λ (a : Cut). is_same_on lists y (knowledge lists s y) a) top_is ∙ e, lt, refl))
+              | inl lt ↦ absurd
+                  (none (newest_number_of lists s y + 1) (conc, ap (λ (a : Cut). is_same_on lists y (knowledge lists s y) a) top_is ∙ e, lt, refl))
               | inr ge ↦ inr (omega (arith, ge, stands.sound.window y conc, stands.window_last y conc, stands.window_answered y conc))
             ]
       ]

@@ -60,7 +60,8 @@ absent_zeros plan is_plan d n node within out =
 
 -- A bid of a number above 0 that is gone is a device's, and all zeros.
 pub gone_zeros : (plan : PlanData) → IsPlan plan → (s : State) → Sound (plan_lists plan) s → (x n : ℕ) → IsNode (plan_lists plan) x → 0 < n →
-    n ≤ newest_number_of (plan_lists plan) s x → is_gone (plan_lists plan) x n ≡ true → offer plan x (part (plan_lists plan) s x n) ≡ zeros plan.basis.steps
+    n ≤ newest_number_of (plan_lists plan) s x → is_gone (plan_lists plan) x n ≡ true →
+    offer plan x (part (plan_lists plan) s x n) ≡ zeros plan.basis.steps
 gone_zeros plan is_plan s sound x n node positive within gone =
     elim (cases_Bool (is_leaf (plan_lists plan) x)) [
       | inl leaf ↦
@@ -243,7 +244,8 @@ module _ (plan : PlanData) (is_plan : IsPlan plan) (c : Core) (s : State) (stand
           ∙ ap (λ (k : ℕ). offer plan y (part lists s y k)) (sym (updated_other s.learnt x bid.number y ne))
     ];
     bid_offered = λ y y_node. elim (cases_eq y x) [
-      | inl e ↦ ap (λ (z : Session). z.up.offered) (session_new y e) ∙ taken.up.offered ∙ stands.bid_offered x node ∙ ap (newest_number_of lists s) (sym e)
+      | inl e ↦ ap (λ (z : Session). z.up.offered) (session_new y e) ∙ taken.up.offered ∙ stands.bid_offered x node
+          ∙ ap (newest_number_of lists s) (sym e)
       | inr ne ↦ ap (λ (z : Session). z.up.offered) (session_kept y y_node ne) ∙ stands.bid_offered y y_node
     ];
     bid_taken = λ y y_node. elim (cases_eq y x) [

@@ -56,4 +56,5 @@ may_clear plan is_plan c stands = ∥∥₁_elim stands (Prim.hlevel props) (λ 
 pub cannot_clear : (plan : PlanData) (c : Core) (s : State) → StandsFor plan c s → c.auctioneer.changed ≡ false → (j : ℕ) →
     Legal (plan_lists plan) s (Clear j) → ⊥
 cannot_clear plan c s stands none j legal =
-    both_ways (not (is_same_on (plan_lists plan) 0 (knowledge (plan_lists plan) s 0) (cleared_cut s (clearings s)))) (sym stands.changed ∙ none) (ap not legal.0)
+    both_ways (not (is_same_on (plan_lists plan) 0 (knowledge (plan_lists plan) s 0) (cleared_cut s (clearings s)))) (sym stands.changed ∙ none)
+    (ap not legal.0)

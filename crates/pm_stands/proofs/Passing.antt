@@ -126,7 +126,8 @@ module _ (plan : PlanData) (is_plan : IsPlan plan) (c : Core) (s : State) (stand
     gone_is : (head_at (record_of (concentrator_of c x).window price.number).heads (place_of plan.entries y)).gone ≡ not (addresses (plan_lists plan) s j y)
     gone_is = ap (λ (h : BidHead). h.gone) the_head ∙ gone_addresses (plan_lists plan) (lawful plan is_plan) s stands.sound y j y_node j_within.1
 
-    the_step : local_step_of_record (concentrator_of c x).limits price.step (record_of (concentrator_of c x).window price.number).sum ≡ local_step_at plan (cleared_cut s j) y
+    the_step : local_step_of_record (concentrator_of c x).limits price.step (record_of (concentrator_of c x).window price.number).sum
+        ≡ local_step_at plan (cleared_cut s j) y
     the_step =
         let at = (cleared_is_part (plan_lists plan) (lawful plan is_plan) s stands.sound x j node j_within.1).0 in
         let same : SameOn (plan_lists plan) x (cut_at (s.published x) price.number) (cleared_cut s j) = λ d leaf.
@@ -375,7 +376,12 @@ module _ (plan : PlanData) (is_plan : IsPlan plan) (c : Core) (s : State) (stand
         | inl e ↦
             let was = did.taken.down.rest q (sym (ap (λ (z : Session). z.down.waiting) (session_new y e)) ∙ waits) in
             let at = stands.prices y y_node q (ap (λ (z : ℕ). (uplink_of plan c z).down.waiting) e ∙ was.0) in
-            record { above = omega (arith, was.1, last_new, ap (last_index after_state) e); due = due_more y q.index at.due; step = at.step; number = at.number }
+            record {
+              above = omega (arith, was.1, last_new, ap (last_index after_state) e);
+              due = due_more y q.index at.due;
+              step = at.step;
+              number = at.number;
+            }
         | inr ne ↦
             let at = stands.prices y y_node q (sym (ap (λ (z : Session). z.down.waiting) (session_kept y y_node ne elsewhere)) ∙ waits) in
             record { above = omega (arith, at.above, last_kept y ne); due = due_more y q.index at.due; step = at.step; number = at.number }
@@ -404,7 +410,8 @@ module _ (plan : PlanData) (is_plan : IsPlan plan) (c : Core) (s : State) (stand
     given_none = λ d leaf none. stands.given_none d leaf (sym (last_kept d (differs d leaf)) ∙ none);
     given = λ d leaf positive.
         stands.given d leaf (omega (arith, positive, last_kept d (differs d leaf)))
-        ∙ ap (λ (k : ℕ). Some (record { step = local_step_at plan (cleared_cut s k) d; number = cleared_cut s k d; index = k })) (sym (last_kept d (differs d leaf)));
+        ∙ ap (λ (k : ℕ). Some (record { step = local_step_at plan (cleared_cut s k) d; number = cleared_cut s k d; index = k }))
+        (sym (last_kept d (differs d leaf)));
   }
     where
       differs : (d : ℕ) → IsLeaf (plan_lists plan) d → d ≡ x → ⊥

@@ -73,7 +73,8 @@ opened_stands plan c is_plan opened = record {
   window_last = λ y conc. opened.sent y conc ∙ sym (newest_zero (plan_lists plan) y);
   window_answered = λ y conc.
       opened.answered y conc
-      ∙ sym (number_zero (plan_lists plan) (lawful plan is_plan) y (cleared_cut start (last_index start y)) (conc.0, conc.1) (cleared_zero (last_index start y)));
+      ∙ sym (number_zero (plan_lists plan) (lawful plan is_plan) y (cleared_cut start (last_index start y)) (conc.0, conc.1)
+      (cleared_zero (last_index start y)));
   records = λ x n node conc keeps. absurd (omega (arith, keeps.one, keeps.to, opened.sent (parent (plan_lists plan) x) conc));
   sums = λ y n conc keeps. absurd (omega (arith, keeps.one, keeps.to, opened.sent y conc));
   newest_heads = λ x node conc.

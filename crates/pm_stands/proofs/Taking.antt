@@ -141,7 +141,12 @@ module _ (plan : PlanData) (is_plan : IsPlan plan) (c : Core) (s : State) (stand
         | inl e ↦
             let was = did.taken.down.rest q (sym (ap (λ (z : Session). z.down.waiting) (session_new y e)) ∙ waits) in
             let at = stands.prices y y_node q (ap (λ (z : ℕ). (uplink_of plan c z).down.waiting) e ∙ was.0) in
-            record { above = omega (arith, was.1, last_new, ap (last_index after_state) e); due = due_more y q.index at.due; step = at.step; number = at.number }
+            record {
+              above = omega (arith, was.1, last_new, ap (last_index after_state) e);
+              due = due_more y q.index at.due;
+              step = at.step;
+              number = at.number;
+            }
         | inr ne ↦
             let at = stands.prices y y_node q (sym (ap (λ (z : Session). z.down.waiting) (session_kept y y_node ne)) ∙ waits) in
             record { above = omega (arith, at.above, last_kept y ne); due = due_more y q.index at.due; step = at.step; number = at.number }

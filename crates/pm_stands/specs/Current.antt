@@ -20,7 +20,8 @@ use Rattle.pm_stands.specs.Core.{Core, limits_at, concentrator_of, seat_of, dema
 -- the price that a device holds: that of the clearing passed to it last, unless it is of a former membership
 abbrev pub held_price : PlanData → State → ℕ → Option Held
 held_price plan s d =
-    if holds_price (plan_lists plan) s d then Some (record { step = local_step_at plan (cleared_cut s (last_index s d)) d; number = cleared_cut s (last_index s d) d; index = last_index s d })
+    if holds_price (plan_lists plan) s d
+    then Some (record { step = local_step_at plan (cleared_cut s (last_index s d)) d; number = cleared_cut s (last_index s d) d; index = last_index s d })
     else None
 
 -- everything is over all current bids: the last clearing is of all changes made; each member holds its local step over

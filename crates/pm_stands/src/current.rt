@@ -17,9 +17,11 @@ ghost use Rattle.pm_stands.specs.Current.{held_price, IsCurrent, kept_power, kep
 /// last, unless it is of a former membership. Its step is a step of the basis.
 #[tactic(auto, using(crate::proofs::Holding::held_agrees, crate::proofs::Holding::held_inside))]
 pub fn ports_answer_the_held_price()
-    ensures held { (plan : PlanData) (c : Core) (s : State) (d : ℕ) → IsPlan plan → StandsFor plan c s → IsLeaf (plan_lists plan) d →
+    ensures held { (plan : PlanData) (c : Core) (s : State) (d : ℕ) → IsPlan plan →
+        StandsFor plan c s → IsLeaf (plan_lists plan) d →
         held_by (seat_of c d) ≡ held_price plan s d }
-    ensures inside { (plan : PlanData) (c : Core) (s : State) (d : ℕ) (price : Held) → IsPlan plan → StandsFor plan c s → IsLeaf (plan_lists plan) d →
+    ensures inside { (plan : PlanData) (c : Core) (s : State) (d : ℕ) (price : Held) → IsPlan plan →
+        StandsFor plan c s → IsLeaf (plan_lists plan) d →
         held_by (seat_of c d) ≡ Some price → price.step < plan.basis.steps }
 {}
 
@@ -28,9 +30,13 @@ pub fn ports_answer_the_held_price()
 /// limited concentrators, are those of the plain auction over the changes made.
 #[tactic(auto, using(crate::proofs::AllCurrent::quiet_current, crate::proofs::QuietPowers::power_current, crate::proofs::QuietPowers::line_current))]
 pub fn quiet_clusters_are_current()
-    ensures current { (plan : PlanData) (c : Core) (s : State) → IsPlan plan → StandsFor plan c s → Idle (plan_lists plan) s → IsCurrent plan c s }
-    ensures powers { (plan : PlanData) (c : Core) (s : State) (d : ℕ) → IsPlan plan → StandsFor plan c s → Idle (plan_lists plan) s →
+    ensures current { (plan : PlanData) (c : Core) (s : State) → IsPlan plan → StandsFor plan c s →
+        Idle (plan_lists plan) s → IsCurrent plan c s }
+    ensures powers { (plan : PlanData) (c : Core) (s : State) (d : ℕ) → IsPlan plan →
+        StandsFor plan c s → Idle (plan_lists plan) s →
         IsLeaf (plan_lists plan) d → kept_power plan c d ≡ power plan (state plan) s.counts d }
-    ensures lines { (plan : PlanData) (c : Core) (s : State) (g : ℕ) → IsPlan plan → StandsFor plan c s → Idle (plan_lists plan) s →
-        IsConcentrator (plan_lists plan) g → is_limited plan g ≡ true → kept_line plan c g ≡ limited_line plan (state plan) s.counts g }
+    ensures lines { (plan : PlanData) (c : Core) (s : State) (g : ℕ) → IsPlan plan →
+        StandsFor plan c s → Idle (plan_lists plan) s →
+        IsConcentrator (plan_lists plan) g → is_limited plan g ≡ true →
+        kept_line plan c g ≡ limited_line plan (state plan) s.counts g }
 {}

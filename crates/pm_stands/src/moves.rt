@@ -22,27 +22,37 @@ use pm_market::Move;
 /// legal `Learn` of that child and number. A bid that was taken from the link may be learnt, and is newer than the one
 /// learnt last; where nothing waited on the link, no `Learn` of the child is legal.
 pub fn learning_keeps_the_market()
-    ensures made { (plan : PlanData) (c : Core) (s : State) (x : ℕ) (links : List (List Session)) (auctioneer : Auction)
-        (concentrators : List (Option Gathered)) (bid : UpBid) → IsPlan plan → StandsFor plan c s → IsNode (plan_lists plan) x →
-        DidLearn c links auctioneer concentrators bid (parent (plan_lists plan) x) (place_of plan.entries x) →
+    ensures made { (plan : PlanData) (c : Core) (s : State) (x : ℕ) (links : List (List Session))
+        (auctioneer : Auction)
+        (concentrators : List (Option Gathered)) (bid : UpBid) → IsPlan plan → StandsFor plan c s →
+        IsNode (plan_lists plan) x →
+        DidLearn c links auctioneer concentrators bid (parent (plan_lists plan) x)
+        (place_of plan.entries x) →
         MakesMove plan (learnt_core c links auctioneer concentrators) s (Move.Learn x bid.number) }
-    ensures condition { (plan : PlanData) (c : Core) (x : ℕ) (bid : UpBid) (new : Session) → IsPlan plan → ∥ Stands plan c ∥₁ →
+    ensures condition { (plan : PlanData) (c : Core) (x : ℕ) (bid : UpBid) (new : Session) →
+        IsPlan plan → ∥ Stands plan c ∥₁ →
         IsNode (plan_lists plan) x → BidTaken (uplink_of plan c x) new bid → MayLearn plan c x bid }
-    ensures nothing { (plan : PlanData) (c : Core) (s : State) (x n : ℕ) (new : Session) → StandsFor plan c s →
-        NothingWaited (uplink_of plan c x).up (uplink_of plan c x) new → Legal (plan_lists plan) s (Move.Learn x n) → ⊥ }
+    ensures nothing { (plan : PlanData) (c : Core) (s : State) (x n : ℕ) (new : Session) →
+        StandsFor plan c s →
+        NothingWaited (uplink_of plan c x).up (uplink_of plan c x) new →
+        Legal (plan_lists plan) s (Move.Learn x n) → ⊥ }
 {}
 
 /// A concentrator publishes the sum of its children's bids on the link to its parent: the cluster that stood for a state
 /// stands for the state after the legal `Publish`. What the code needs always holds; where the concentrator has nothing
 /// new, or its window is full, no `Publish` of it is legal.
 pub fn publishing_keeps_the_market()
-    ensures made { (plan : PlanData) (c : Core) (s : State) (x : ℕ) (links : List (List Session)) (concentrators : List (Option Gathered)) (n : ℕ) →
+    ensures made { (plan : PlanData) (c : Core) (s : State) (x : ℕ) (links : List (List Session))
+        (concentrators : List (Option Gathered)) (n : ℕ) →
         IsPlan plan → StandsFor plan c s → IsConcentrator (plan_lists plan) x →
-        DidPublish c x links concentrators n (parent (plan_lists plan) x) (place_of plan.entries x) →
+        DidPublish c x links concentrators n (parent (plan_lists plan) x)
+        (place_of plan.entries x) →
         MakesMove plan (published_core c links concentrators) s (Move.Publish x n) }
-    ensures condition { (plan : PlanData) (c : Core) (x : ℕ) → IsPlan plan → ∥ Stands plan c ∥₁ → IsConcentrator (plan_lists plan) x →
+    ensures condition { (plan : PlanData) (c : Core) (x : ℕ) → IsPlan plan → ∥ Stands plan c ∥₁ →
+        IsConcentrator (plan_lists plan) x →
         MayPublish plan c x }
-    ensures nothing { (plan : PlanData) (c : Core) (s : State) (x n : ℕ) → IsPlan plan → StandsFor plan c s → CannotPublish (concentrator_of c x) →
+    ensures nothing { (plan : PlanData) (c : Core) (s : State) (x n : ℕ) → IsPlan plan →
+        StandsFor plan c s → CannotPublish (concentrator_of c x) →
         Legal (plan_lists plan) s (Move.Publish x n) → ⊥ }
 {}
 
@@ -50,11 +60,14 @@ pub fn publishing_keeps_the_market()
 /// after the legal `Clear`. What the code needs always holds; where the auctioneer learnt nothing since its last
 /// clearing, no `Clear` is legal.
 pub fn clearing_keeps_the_market()
-    ensures made { (plan : PlanData) (c : Core) (s : State) (links : List (List Session)) (auctioneer : Auction) (index step : ℕ) →
+    ensures made { (plan : PlanData) (c : Core) (s : State) (links : List (List Session))
+        (auctioneer : Auction) (index step : ℕ) →
         IsPlan plan → StandsFor plan c s → DidClear c links auctioneer index step →
         MakesMove plan (cleared_core c links auctioneer) s (Move.Clear index) }
-    ensures condition { (plan : PlanData) (c : Core) → IsPlan plan → ∥ Stands plan c ∥₁ → MayClear c }
-    ensures nothing { (plan : PlanData) (c : Core) (s : State) (index : ℕ) → StandsFor plan c s → c.auctioneer.changed ≡ false →
+    ensures condition { (plan : PlanData) (c : Core) → IsPlan plan → ∥ Stands plan c ∥₁ →
+        MayClear c }
+    ensures nothing { (plan : PlanData) (c : Core) (s : State) (index : ℕ) → StandsFor plan c s →
+        c.auctioneer.changed ≡ false →
         Legal (plan_lists plan) s (Move.Clear index) → ⊥ }
 {}
 
@@ -62,5 +75,6 @@ pub fn clearing_keeps_the_market()
 /// pending: what is pending is seen in what is kept.
 #[tactic(auto, using(crate::proofs::MoveLaws::quiet_is_idle))]
 pub fn nothing_pending_is_idle()
-    ensures { (plan : PlanData) (c : Core) (s : State) → IsPlan plan → StandsFor plan c s → IsQuiet plan c ↔ Idle (plan_lists plan) s }
+    ensures { (plan : PlanData) (c : Core) (s : State) → IsPlan plan → StandsFor plan c s →
+        IsQuiet plan c ↔ Idle (plan_lists plan) s }
 {}

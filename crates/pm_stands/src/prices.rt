@@ -21,24 +21,30 @@ use pm_market::Move;
 /// Where no price waits no pass to the node is legal, a device or a concentrator.
 #[tactic(auto, using(crate::proofs::MayPass::pass_made))]
 pub fn passing_keeps_the_market()
-    ensures made { (plan : PlanData) (c : Core) (s : State) (x : ℕ) (between links : List (List Session)) (concentrators : List (Option Gathered))
+    ensures made { (plan : PlanData) (c : Core) (s : State) (x : ℕ)
+        (between links : List (List Session)) (concentrators : List (Option Gathered))
         (price : PriceUpdate) →
         IsPlan plan → StandsFor plan c s → IsConcentrator (plan_lists plan) x →
-        DidPass c x between links concentrators price (parent (plan_lists plan) x) (place_of plan.entries x) →
+        DidPass c x between links concentrators price (parent (plan_lists plan) x)
+        (place_of plan.entries x) →
         MakesMove plan (passed_core c links concentrators) s (Move.Pass x price.index) }
-    ensures condition { (plan : PlanData) (c : Core) (s : State) (x : ℕ) (between : List (List Session)) (price : PriceUpdate) →
+    ensures condition { (plan : PlanData) (c : Core) (s : State) (x : ℕ)
+        (between : List (List Session)) (price : PriceUpdate) →
         IsPlan plan → StandsFor plan c s → IsConcentrator (plan_lists plan) x →
-        PriceTaken (uplink_of plan c x) (link_at between (parent (plan_lists plan) x) (place_of plan.entries x)) price →
+        PriceTaken (uplink_of plan c x)
+        (link_at between (parent (plan_lists plan) x) (place_of plan.entries x)) price →
         OneLink c.links between (parent (plan_lists plan) x) (place_of plan.entries x) →
         MayPass c x between price }
     ensures nothing { (plan : PlanData) (c : Core) (s : State) (x j : ℕ) (new : Session) →
-        StandsFor plan c s → IsNode (plan_lists plan) x → NothingWaited (uplink_of plan c x).down (uplink_of plan c x) new →
+        StandsFor plan c s → IsNode (plan_lists plan) x →
+        NothingWaited (uplink_of plan c x).down (uplink_of plan c x) new →
         Legal (plan_lists plan) s (Move.Pass x j) → ⊥ }
 {}
 
 /// A device that takes the price that waits on its link makes a legal pass by it.
 pub fn taking_keeps_the_market()
-    ensures made { (plan : PlanData) (c : Core) (s : State) (x : ℕ) (links : List (List Session)) (ports : List Seat) (price : PriceUpdate) →
+    ensures made { (plan : PlanData) (c : Core) (s : State) (x : ℕ) (links : List (List Session))
+        (ports : List Seat) (price : PriceUpdate) →
         IsPlan plan → StandsFor plan c s → IsLeaf (plan_lists plan) x →
         DidTake c x links ports price (parent (plan_lists plan) x) (place_of plan.entries x) →
         MakesMove plan (taken_core c links ports) s (Move.Pass x price.index) }

@@ -13,7 +13,9 @@ ghost use Rattle.pm_stands.specs.Still.{IsStill};
 /// A node is still exactly where no node move of it is legal in the state that the cluster stands for, and all nodes are
 /// still exactly where nothing is pending.
 pub fn a_node_is_still_where_it_has_no_move()
-    ensures node { (plan : PlanData) (c : Core) (s : State) (x : ℕ) → IsPlan plan → StandsFor plan c s → x ≤ nodes (plan_lists plan) →
+    ensures node { (plan : PlanData) (c : Core) (s : State) (x : ℕ) → IsPlan plan →
+        StandsFor plan c s → x ≤ nodes (plan_lists plan) →
         IsStill plan c x ↔ NoMoveOf (plan_lists plan) s x }
-    ensures all { (plan : PlanData) (c : Core) → IsPlan plan → ((x : ℕ) → x ≤ nodes (plan_lists plan) → IsStill plan c x) ↔ IsQuiet plan c }
+    ensures all { (plan : PlanData) (c : Core) → IsPlan plan →
+        ((x : ℕ) → x ≤ nodes (plan_lists plan) → IsStill plan c x) ↔ IsQuiet plan c }
 {}

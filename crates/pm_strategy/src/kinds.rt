@@ -14,7 +14,8 @@ pub(crate) fn levels_of(kind: &Kind, state: DeviceState, last: usize) -> Option<
     requires valid { IsTrue (is_valid kind.now) }
     requires fits { IsTrue (state_fits kind.now state.0) }
     requires last_small { last ≤ last_limit }
-    ensures levels { MatchOption result (kind.now ≡ Kind.Manual) (AreLevelsOf kind.now state.0 last) }
+    ensures levels { MatchOption result (kind.now ≡ Kind.Manual)
+        (AreLevelsOf kind.now state.0 last) }
 {
     let DeviceState(now) = state;
     match *kind {
@@ -54,7 +55,8 @@ fn freezer(low: i64, high: i64, power: i64, temperature: i64, last: usize) -> Le
     requires band { IsTrue (is_band low high) }
     requires temperature { IsTrue (is_temperature temperature) }
     requires last_small { last ≤ last_limit }
-    ensures { (step : ℕ) → level_at result step ≡ freezer_demand low high power temperature last step }
+    ensures { (step : ℕ) → level_at result step
+        ≡ freezer_demand low high power temperature last step }
 {
     if temperature >= high {
         return Levels::flat(power);
@@ -89,7 +91,8 @@ fn cogeneration(low: i64, high: i64, power: i64, buffer: i64, last: usize) -> Le
     requires power { IsTrue (is_power power) }
     requires buffer { IsTrue (is_temperature buffer) }
     requires last_small { last ≤ last_limit }
-    ensures { (step : ℕ) → level_at result step ≡ cogeneration_demand low high power buffer last step }
+    ensures { (step : ℕ) → level_at result step
+        ≡ cogeneration_demand low high power buffer last step }
 {
     if buffer <= low {
         return Levels::flat(-power);

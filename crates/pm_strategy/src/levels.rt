@@ -29,7 +29,8 @@ impl Levels {
 
     /// One demand at the steps before the end, and another from there on.
     pub(crate) fn split(before: i64, end: i64, after: i64) -> Levels
-        ensures { (step : ℕ) → level_at result step ≡ (if int_lt (pos step) end then before else after) }
+        ensures { (step : ℕ) → level_at result step
+            ≡ (if int_lt (pos step) end then before else after) }
     {
         Levels {
             first: before,

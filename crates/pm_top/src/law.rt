@@ -17,12 +17,15 @@ pub fn texts_have_causes()
         IsDue command old new Status.Invalid text → RefutesFile command old new text }
     ensures usage { (command : Option Command) (old new : Option (List ℕ)) (text : List ℕ) →
         IsDue command old new Status.Usage text → (command ≡ None) × (text ≡ usage_line) }
-    ensures too_long { (command : Option Command) (input : List ℕ) (new : Option (List ℕ)) (text : List ℕ) →
+    ensures too_long { (command : Option Command) (input : List ℕ) (new : Option (List ℕ))
+        (text : List ℕ) →
         IsDue command (Some input) new Status.TooLong text → WasTooLong command input text }
     ensures refused { (command : Option Command) (old new : Option (List ℕ)) (text : List ℕ) →
         IsDue command old new Status.Refused text → WasRefused command old new text }
     ensures served { (old new : Option (List ℕ)) (text : List ℕ) →
         IsDue (Some Command.Serve) old new Status.Done text → WasServed old new text }
-    ensures no_other { (command : Option Command) (old new : Option (List ℕ)) (status : Status) (text : List ℕ) →
-        IsDue command old new status text → (status ≢ Status.ReadFault) × (status ≢ Status.WriteFault) × (status ≢ Status.NoMemory) }
+    ensures no_other { (command : Option Command) (old new : Option (List ℕ)) (status : Status)
+        (text : List ℕ) →
+        IsDue command old new status text → (status ≢ Status.ReadFault)
+        × (status ≢ Status.WriteFault) × (status ≢ Status.NoMemory) }
 {}

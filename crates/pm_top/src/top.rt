@@ -57,7 +57,8 @@ fn too_long_line(asked: FileCommand) -> &'static str
 fn give<K: Sink>(sink: &mut K, status: Status, text: &[u8]) -> Status
     requires { status ≢ Status.WriteFault }
     ensures either { (result ≡ status) ⊎ (result ≡ Status.WriteFault) }
-    ensures given { result ≢ Status.WriteFault → (result ≡ status) × Appends (K.held sink.old) (K.held sink.new) text.now }
+    ensures given { result ≢ Status.WriteFault → (result ≡ status)
+        × Appends (K.held sink.old) (K.held sink.new) text.now }
     ensures fault { result ≡ Status.WriteFault → Rose (K.faults sink.old) (K.faults sink.new)
         × WrotePrefix (K.held sink.old) (K.held sink.new) text.now }
     ensures count { K.faults sink.old ≤ K.faults sink.new }
@@ -77,12 +78,14 @@ fn demo<R: Threads + Wait + Sync, K: Sink, G: Gate>(
     sink: &mut K,
     gate: &G,
 ) -> Status
-    ensures status { (result ≡ Status.Done) ⊎ (result ≡ Status.WriteFault) ⊎ (result ≡ Status.NoMemory) }
+    ensures status { (result ≡ Status.Done) ⊎ (result ≡ Status.WriteFault)
+        ⊎ (result ≡ Status.NoMemory) }
     ensures size { result ≡ Status.Done → is_size size ≡ true }
     ensures written { result ≡ Status.Done → (text : List ℕ) × IsSummary size number text
         × Appends (K.held sink.old) (K.held sink.new) text }
     ensures write_fault { result ≡ Status.WriteFault → Rose (K.faults sink.old) (K.faults sink.new)
-        × ((text : List ℕ) × IsSummary size number text × WrotePrefix (K.held sink.old) (K.held sink.new) text) }
+        × ((text : List ℕ) × IsSummary size number text
+        × WrotePrefix (K.held sink.old) (K.held sink.new) text) }
     ensures no_memory { result ≡ Status.NoMemory → sink.new ≡ sink.old }
     ensures count { K.faults sink.old ≤ K.faults sink.new }
 {
@@ -102,7 +105,8 @@ fn file<R: Threads + Wait + Sync, S: Source, K: Sink, G: Gate>(
     sink: &mut K,
     gate: &G,
 ) -> Status
-    ensures written { result ≢ Status.ReadFault → result ≢ Status.WriteFault → result ≢ Status.NoMemory → (text : List ℕ)
+    ensures written { result ≢ Status.ReadFault → result ≢ Status.WriteFault →
+        result ≢ Status.NoMemory → (text : List ℕ)
         × IsDue (Some (Command.File asked)) (S.left source.old) (S.left source.new) result text
         × Appends (K.held sink.old) (K.held sink.new) text }
     ensures write_fault { result ≡ Status.WriteFault → Rose (K.faults sink.old) (K.faults sink.new)
@@ -114,9 +118,11 @@ fn file<R: Threads + Wait + Sync, S: Source, K: Sink, G: Gate>(
     ensures no_memory { result ≡ Status.NoMemory → sink.new ≡ sink.old }
 
     // An input that is read to its end or past the limit has the answer that it should.
-    ensures took_more { input_limit asked < length (taken_bytes (S.left source.old) (S.left source.new))
+    ensures took_more { input_limit asked < length
+        (taken_bytes (S.left source.old) (S.left source.new))
         → (result ≡ Status.TooLong) ⊎ (result ≡ Status.WriteFault) ⊎ (result ≡ Status.NoMemory) }
-    ensures answer { IfSome (S.left source.old) (λ input. (status : Status) → HasStatus asked input status → (result ≡ status)
+    ensures answer { IfSome (S.left source.old)
+        (λ input. (status : Status) → HasStatus asked input status → (result ≡ status)
         ⊎ (result ≡ Status.ReadFault) ⊎ (result ≡ Status.WriteFault) ⊎ (result ≡ Status.NoMemory)) }
     ensures source_count { S.faults source.old ≤ S.faults source.new }
     ensures sink_count { K.faults sink.old ≤ K.faults sink.new }
@@ -136,24 +142,31 @@ fn file<R: Threads + Wait + Sync, S: Source, K: Sink, G: Gate>(
 
 /// Serves the auctioneer over the source and the sink.
 fn service<S: Source, K: Sink>(alloc: Global, source: &mut S, sink: &mut K) -> Status
-    ensures end { IsServiceEnd result (S.left source.old) (S.left source.new) (K.held sink.old) (K.held sink.new) }
-    ensures read_fault { result ≡ Status.ReadFault → Rose (S.faults source.old) (S.faults source.new) }
-    ensures write_fault { result ≡ Status.WriteFault → Rose (K.faults sink.old) (K.faults sink.new) }
+    ensures end { IsServiceEnd result (S.left source.old) (S.left source.new) (K.held sink.old)
+        (K.held sink.new) }
+    ensures read_fault { result ≡ Status.ReadFault →
+        Rose (S.faults source.old) (S.faults source.new) }
+    ensures write_fault { result ≡ Status.WriteFault →
+        Rose (K.faults sink.old) (K.faults sink.new) }
     ensures bad_frame { (all : List ℕ) (offset : ℕ) → S.left source.old ≡ Some all
         → HasBadFrame (taken_bytes (S.left source.old) (S.left source.new)) offset
         → (result ≡ Status.Refused) ⊎ (result ≡ Status.WriteFault) ⊎ (result ≡ Status.NoMemory) }
     ensures took_more { (all : List ℕ) → S.left source.old ≡ Some all
         → stream_limit < length (taken_bytes (S.left source.old) (S.left source.new))
-        → ((offset : ℕ) → ¬ HasBadFrame (taken_bytes (S.left source.old) (S.left source.new)) offset)
+        → ((offset : ℕ) → ¬ HasBadFrame (taken_bytes (S.left source.old) (S.left source.new))
+        offset)
         → (result ≡ Status.TooLong) ⊎ (result ≡ Status.WriteFault) ⊎ (result ≡ Status.NoMemory) }
-    ensures frames { (all : List ℕ) (frames : List Frame) → S.left source.old ≡ Some all → length all ≤ stream_limit
+    ensures frames { (all : List ℕ) (frames : List Frame) → S.left source.old ≡ Some all →
+        length all ≤ stream_limit
         → AreFrames all frames → (result ≡ Status.Done)
         ⊎ (result ≡ Status.ReadFault) ⊎ (result ≡ Status.WriteFault) ⊎ (result ≡ Status.NoMemory) }
-    ensures refusal { (all : List ℕ) (offset : ℕ) → S.left source.old ≡ Some all → length all ≤ stream_limit
+    ensures refusal { (all : List ℕ) (offset : ℕ) → S.left source.old ≡ Some all →
+        length all ≤ stream_limit
         → HasBadFrame all offset ⊎ EndsWithin all offset → (result ≡ Status.Refused)
         ⊎ (result ≡ Status.ReadFault) ⊎ (result ≡ Status.WriteFault) ⊎ (result ≡ Status.NoMemory) }
     ensures complete { (all : List ℕ) → S.left source.old ≡ Some all → length all ≤ stream_limit
-        → ¬ Rose (S.faults source.old) (S.faults source.new) → ¬ Rose (K.faults sink.old) (K.faults sink.new)
+        → ¬ Rose (S.faults source.old) (S.faults source.new) →
+        ¬ Rose (K.faults sink.old) (K.faults sink.new)
         → (result ≡ Status.Done) ⊎ (result ≡ Status.Refused) ⊎ (result ≡ Status.NoMemory) }
     ensures source_count { S.faults source.old ≤ S.faults source.new }
     ensures sink_count { K.faults sink.old ≤ K.faults sink.new }
@@ -192,47 +205,61 @@ pub fn market<R: Threads + Wait + Sync, S: Source, K: Sink, G: Gate>(
     gate: &G,
 ) -> Status
     // Done, Invalid, Usage, TooLong and Refused come only where their causes stand, and their texts are appended, whole.
-    ensures written { result ≢ Status.ReadFault → result ≢ Status.WriteFault → result ≢ Status.NoMemory → (text : List ℕ)
-        × IsDue (command (map string_bytes arguments.now)) (S.left source.old) (S.left source.new) result text
+    ensures written { result ≢ Status.ReadFault → result ≢ Status.WriteFault →
+        result ≢ Status.NoMemory → (text : List ℕ)
+        × IsDue (command (map string_bytes arguments.now)) (S.left source.old)
+        (S.left source.new) result text
         × Appends (K.held sink.old) (K.held sink.new) text }
 
     // The headline: a text that is written with Done tells the market, by what the arguments ask, and one that is written
     // with Invalid refutes the trace. It does not say that a run ends, how long it takes, or how much memory.
     ensures headline { result ≡ Status.Done → (text : List ℕ)
-        × TellsTheMarket (command (map string_bytes arguments.now)) (S.left source.old) (S.left source.new) text
+        × TellsTheMarket (command (map string_bytes arguments.now)) (S.left source.old)
+        (S.left source.new) text
         × Appends (K.held sink.old) (K.held sink.new) text }
     ensures refutation { result ≡ Status.Invalid → (text : List ℕ)
-        × RefutesFile (command (map string_bytes arguments.now)) (S.left source.old) (S.left source.new) text
+        × RefutesFile (command (map string_bytes arguments.now)) (S.left source.old)
+        (S.left source.new) text
         × Appends (K.held sink.old) (K.held sink.new) text }
 
     // The two faults come only where a count rose.
-    ensures read_fault { result ≡ Status.ReadFault → Rose (S.faults source.old) (S.faults source.new) }
-    ensures write_fault { result ≡ Status.WriteFault → Rose (K.faults sink.old) (K.faults sink.new) }
+    ensures read_fault { result ≡ Status.ReadFault →
+        Rose (S.faults source.old) (S.faults source.new) }
+    ensures write_fault { result ≡ Status.WriteFault →
+        Rose (K.faults sink.old) (K.faults sink.new) }
 
     // But for a service, which writes while it reads, a fault of the source and an allocation failure leave the sink as it
     // was, and a fault of the sink leaves a part of the text due.
-    ensures unread { command (map string_bytes arguments.now) ≢ Some Command.Serve → result ≡ Status.ReadFault
+    ensures unread { command (map string_bytes arguments.now) ≢ Some Command.Serve →
+        result ≡ Status.ReadFault
         → sink.new ≡ sink.old }
-    ensures cut_short { command (map string_bytes arguments.now) ≢ Some Command.Serve → result ≡ Status.WriteFault
+    ensures cut_short { command (map string_bytes arguments.now) ≢ Some Command.Serve →
+        result ≡ Status.WriteFault
         → (due : Status) × ((text : List ℕ)
-        × IsDue (command (map string_bytes arguments.now)) (S.left source.old) (S.left source.new) due text
+        × IsDue (command (map string_bytes arguments.now)) (S.left source.old)
+        (S.left source.new) due text
         × WrotePrefix (K.held sink.old) (K.held sink.new) text) }
-    ensures no_memory { command (map string_bytes arguments.now) ≢ Some Command.Serve → result ≡ Status.NoMemory
+    ensures no_memory { command (map string_bytes arguments.now) ≢ Some Command.Serve →
+        result ≡ Status.NoMemory
         → sink.new ≡ sink.old }
 
     // Nothing is read but for a file or a service.
-    ensures reads_nothing { ((asked : FileCommand) → command (map string_bytes arguments.now) ≢ Some (Command.File asked))
+    ensures reads_nothing { ((asked : FileCommand) →
+        command (map string_bytes arguments.now) ≢ Some (Command.File asked))
         → command (map string_bytes arguments.now) ≢ Some Command.Serve → source.new ≡ source.old }
 
     // Where the cause of Usage, TooLong, Refused or Invalid stands, and the source tells what it has, this is the answer, or a
     // fault or an allocation failure.
     ensures only_usage { command (map string_bytes arguments.now) ≡ None
         → (result ≡ Status.Usage) ⊎ (result ≡ Status.WriteFault) }
-    ensures took_more { (asked : FileCommand) → command (map string_bytes arguments.now) ≡ Some (Command.File asked)
+    ensures took_more { (asked : FileCommand) → command (map string_bytes arguments.now)
+        ≡ Some (Command.File asked)
         → input_limit asked < length (taken_bytes (S.left source.old) (S.left source.new))
         → (result ≡ Status.TooLong) ⊎ (result ≡ Status.WriteFault) ⊎ (result ≡ Status.NoMemory) }
-    ensures answer { (asked : FileCommand) → command (map string_bytes arguments.now) ≡ Some (Command.File asked)
-        → IfSome (S.left source.old) (λ input. (status : Status) → HasStatus asked input status → (result ≡ status)
+    ensures answer { (asked : FileCommand) → command (map string_bytes arguments.now)
+        ≡ Some (Command.File asked)
+        → IfSome (S.left source.old) (λ input. (status : Status) → HasStatus asked input status →
+        (result ≡ status)
         ⊎ (result ≡ Status.ReadFault) ⊎ (result ≡ Status.WriteFault) ⊎ (result ≡ Status.NoMemory)) }
     ensures exact_refused { (asked : FileCommand) (input before : List ℕ) (r : Refusal)
         → command (map string_bytes arguments.now) ≡ Some (Command.File asked)
@@ -251,7 +278,8 @@ pub fn market<R: Threads + Wait + Sync, S: Source, K: Sink, G: Gate>(
     // With no fault of either the answer is what the arguments and the input say, or an allocation failed.
     ensures complete_usage { command (map string_bytes arguments.now) ≡ None
         → ¬ Rose (K.faults sink.old) (K.faults sink.new) → result ≡ Status.Usage }
-    ensures complete { (asked : FileCommand) → command (map string_bytes arguments.now) ≡ Some (Command.File asked)
+    ensures complete { (asked : FileCommand) → command (map string_bytes arguments.now)
+        ≡ Some (Command.File asked)
         → IfSome (S.left source.old) (λ input. (status : Status) → HasStatus asked input status
         → ¬ Rose (S.faults source.old) (S.faults source.new)
         → ¬ Rose (K.faults sink.old) (K.faults sink.new)
@@ -263,7 +291,8 @@ pub fn market<R: Threads + Wait + Sync, S: Source, K: Sink, G: Gate>(
 
     // A service ends as its status says; which status that is follows from what the source has, but for a failure.
     ensures served { command (map string_bytes arguments.now) ≡ Some Command.Serve
-        → IsServiceEnd result (S.left source.old) (S.left source.new) (K.held sink.old) (K.held sink.new) }
+        → IsServiceEnd result (S.left source.old) (S.left source.new) (K.held sink.old)
+        (K.held sink.new) }
     ensures serve_bad_frame { command (map string_bytes arguments.now) ≡ Some Command.Serve
         → (all : List ℕ) (offset : ℕ) → S.left source.old ≡ Some all
         → HasBadFrame (taken_bytes (S.left source.old) (S.left source.new)) offset
@@ -271,10 +300,12 @@ pub fn market<R: Threads + Wait + Sync, S: Source, K: Sink, G: Gate>(
     ensures serve_took_more { command (map string_bytes arguments.now) ≡ Some Command.Serve
         → (all : List ℕ) → S.left source.old ≡ Some all
         → stream_limit < length (taken_bytes (S.left source.old) (S.left source.new))
-        → ((offset : ℕ) → ¬ HasBadFrame (taken_bytes (S.left source.old) (S.left source.new)) offset)
+        → ((offset : ℕ) → ¬ HasBadFrame (taken_bytes (S.left source.old) (S.left source.new))
+        offset)
         → (result ≡ Status.TooLong) ⊎ (result ≡ Status.WriteFault) ⊎ (result ≡ Status.NoMemory) }
     ensures serve_frames { command (map string_bytes arguments.now) ≡ Some Command.Serve
-        → (all : List ℕ) (frames : List Frame) → S.left source.old ≡ Some all → length all ≤ stream_limit
+        → (all : List ℕ) (frames : List Frame) → S.left source.old ≡ Some all →
+        length all ≤ stream_limit
         → AreFrames all frames → (result ≡ Status.Done)
         ⊎ (result ≡ Status.ReadFault) ⊎ (result ≡ Status.WriteFault) ⊎ (result ≡ Status.NoMemory) }
     ensures serve_refusal { command (map string_bytes arguments.now) ≡ Some Command.Serve
@@ -283,7 +314,8 @@ pub fn market<R: Threads + Wait + Sync, S: Source, K: Sink, G: Gate>(
         ⊎ (result ≡ Status.ReadFault) ⊎ (result ≡ Status.WriteFault) ⊎ (result ≡ Status.NoMemory) }
     ensures serve_complete { command (map string_bytes arguments.now) ≡ Some Command.Serve
         → (all : List ℕ) → S.left source.old ≡ Some all → length all ≤ stream_limit
-        → ¬ Rose (S.faults source.old) (S.faults source.new) → ¬ Rose (K.faults sink.old) (K.faults sink.new)
+        → ¬ Rose (S.faults source.old) (S.faults source.new) →
+        ¬ Rose (K.faults sink.old) (K.faults sink.new)
         → (result ≡ Status.Done) ⊎ (result ≡ Status.Refused) ⊎ (result ≡ Status.NoMemory) }
     ensures source_count { S.faults source.old ≤ S.faults source.new }
     ensures sink_count { K.faults sink.old ≤ K.faults sink.new }

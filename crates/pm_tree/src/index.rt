@@ -33,8 +33,10 @@ pub(crate) fn index_entries(alloc: Global, entries: &[TreeEntry]) -> Result<Inde
     requires { length entries.now ≤ most_nodes }
     ensures index { IfOk result (λ index.
         IsIndexOf (entries_of entries.now) (map string_bytes index.names.keys) index.nodes.items) }
-    ensures lawful { let es = entries_of entries.now in OnOk result (IsTree (parents_of es) (leaves_of es)) }
-    ensures accepted { OnOk result (slice_get (refusals_after [] (entries_of entries.now)) 0 ≡ None) }
+    ensures lawful { let es = entries_of entries.now in
+        OnOk result (IsTree (parents_of es) (leaves_of es)) }
+    ensures accepted { OnOk result (slice_get (refusals_after [] (entries_of entries.now)) 0
+        ≡ None) }
     ensures refused { IfErr result (λ fault.
         (slice_get (refusals_after [] (entries_of entries.now)) 0 ≡ Some fault)
         ⊎ (fault ≡ TreeFault.NoMemory)) }
@@ -50,7 +52,8 @@ pub(crate) fn index_entries(alloc: Global, entries: &[TreeEntry]) -> Result<Inde
 impl Index {
     /// The index of no entries: the auctioneer alone.
     fn new(alloc: Global) -> Result<Index, AllocError>
-        ensures { IfOk result (λ index. IsIndexOf [] (map string_bytes index.names.keys) index.nodes.items) }
+        ensures { IfOk result (λ index. IsIndexOf []
+            (map string_bytes index.names.keys) index.nodes.items) }
     {
         let mut index = Index {
             names: IndexSet::new(alloc),
@@ -102,7 +105,8 @@ impl Index {
         ensures accepted { let names = map string_bytes self.now.names.keys in
             OnOk result (name_refusal names (string_bytes entry.now.name) at ≡ None) }
         ensures refused { let names = map string_bytes self.now.names.keys in
-            IfErr result (λ fault. name_refusal names (string_bytes entry.now.name) at ≡ Some fault) }
+            IfErr result (λ fault. name_refusal names (string_bytes entry.now.name) at
+            ≡ Some fault) }
     {
         if !is_name(entry.name.as_str()) {
             return Err(TreeFault::BadName { at });
@@ -118,10 +122,12 @@ impl Index {
         requires few { length self.now.names.keys ≤ most_nodes + 1 }
         requires rows { length self.now.nodes.items ≡ length self.now.names.keys }
         ensures parent { let names = map string_bytes self.now.names.keys in
-            IfOk result (λ parent. IsParent names self.now.nodes.items (string_bytes entry.now.parent) parent.0) }
+            IfOk result (λ parent. IsParent names self.now.nodes.items
+            (string_bytes entry.now.parent) parent.0) }
         ensures inside { IfOk result (λ parent. parent.0 < length self.now.nodes.items) }
         ensures refused { let names = map string_bytes self.now.names.keys in IfErr result (λ fault.
-            parent_refusal names self.now.nodes.items (string_bytes entry.now.parent) at ≡ Some fault) }
+            parent_refusal names self.now.nodes.items (string_bytes entry.now.parent) at
+            ≡ Some fault) }
     {
         let Some(parent) = find_node(&self.names, entry.parent.as_str()) else {
             return Err(TreeFault::NoParent { at });
@@ -137,7 +143,8 @@ impl Index {
     fn make_row(&self, entry: &TreeEntry, parent: NodeId, at: u32) -> Result<Node, TreeFault>
         requires { parent.0 < length self.now.nodes.items }
         ensures row { IfOk result (IsRowBelow self.now.nodes.items parent.0 entry.now.leaf) }
-        ensures accepted { OnOk result (depth_refusal self.now.nodes.items parent.0 entry.now.leaf at ≡ None) }
+        ensures accepted { OnOk result (depth_refusal self.now.nodes.items parent.0
+            entry.now.leaf at ≡ None) }
         ensures refused { IfErr result (λ fault.
             depth_refusal self.now.nodes.items parent.0 entry.now.leaf at ≡ Some fault) }
     {

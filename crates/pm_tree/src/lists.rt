@@ -19,7 +19,8 @@ pub(crate) fn collect_children(alloc: Global, nodes: &[Node]) -> Result<Children
     requires lawful { IsTree (shape_parents nodes.now) (shape_leaves nodes.now) }
     requires few { length nodes.now ≤ most_nodes + 1 }
     ensures lists { IfOk result (λ children.
-        AreLists (length nodes.now) (children_at (shape_parents nodes.now)) (node_lists children.lists.items)) }
+        AreLists (length nodes.now) (children_at (shape_parents nodes.now))
+        (node_lists children.lists.items)) }
     ensures places { IfOk result (λ children.
         AreNumbers (length nodes.now) (place_at (shape_parents nodes.now)) children.places.items) }
 {
@@ -39,7 +40,8 @@ pub(crate) fn collect_leaves(alloc: Global, nodes: &[Node]) -> Result<Vec<Vec<No
     requires table { IsNodeTable (shape_parents nodes.now) (shape_leaves nodes.now) nodes.now }
     requires lawful { IsTree (shape_parents nodes.now) (shape_leaves nodes.now) }
     requires few { length nodes.now ≤ most_nodes + 1 }
-    ensures { let leaves_below = leaves_below_at (shape_parents nodes.now) (shape_leaves nodes.now) in
+    ensures { let leaves_below = leaves_below_at (shape_parents nodes.now) (shape_leaves nodes.now)
+        in
         IfOk result (λ lists. AreLists (length nodes.now) leaves_below (node_lists lists.items)) }
 {
     let mut lists = empty_lists(alloc, nodes.len())?;

@@ -64,7 +64,8 @@ impl Tree {
     /// concentrator, and a concentrator has at most 5 concentrators above it. An allocation failure may be
     /// answered at any list.
     pub fn new(alloc: Global, entries: Vec<TreeEntry>) -> Result<Tree, TreeFault>
-        ensures tree { (result ≡ checked_tree (entries_of entries.items)) ⊎ (result ≡ Err TreeFault.NoMemory) }
+        ensures tree { (result ≡ checked_tree (entries_of entries.items))
+            ⊎ (result ≡ Err TreeFault.NoMemory) }
     {
         if entries.len() > MOST_NODES {
             return Err(TreeFault::TooMany {

@@ -115,7 +115,8 @@ pub fn turn_of<G: Gate>(board: &mut Board, node: NodeId, gate: &G) -> bool
     ensures plan { board.new.plan ≡ board.old.plan }
     ensures made { result ≡ true → TakesTurn board.old board.new node.0 }
     ensures same { result ≡ false → board.new ≡ board.old }
-    ensures none { result ≡ false → NoMoveOf (plan_lists board.old.plan) (board_state board.old) node.0 }
+    ensures none { result ≡ false → NoMoveOf (plan_lists board.old.plan)
+        (board_state board.old) node.0 }
 {
     gate.before(node.0);
     let Ok(line) = board.turn(node) else {
@@ -128,11 +129,15 @@ pub fn turn_of<G: Gate>(board: &mut Board, node: NodeId, gate: &G) -> bool
 /// The next change of the first device that has one.
 pub fn first_next(board: &Board) -> Option<Next>
     ensures next { let s = board_state board.now in
-        IfSome result (λ next. IsLeaf (plan_lists board.now.plan) next.device × IsNext board.now.plan s.closed s.counts next.device next) }
+        IfSome result (λ next. IsLeaf (plan_lists board.now.plan) next.device
+        × IsNext board.now.plan s.closed s.counts next.device next) }
     ensures first { let s = board_state board.now in
-        IfSome result (λ next. (d : ℕ) → d < next.device → IsLeaf (plan_lists board.now.plan) d → HasNoNext board.now.plan s.closed s.counts d) }
+        IfSome result (λ next. (d : ℕ) → d < next.device → IsLeaf (plan_lists board.now.plan) d →
+        HasNoNext board.now.plan s.closed s.counts d) }
     ensures none { let s = board_state board.now in
-        result ≡ None → ((d : ℕ) → IsLeaf (plan_lists board.now.plan) d → HasNoNext board.now.plan s.closed s.counts d) }
+        result ≡ None →
+        ((d : ℕ) → IsLeaf (plan_lists board.now.plan) d →
+        HasNoNext board.now.plan s.closed s.counts d) }
 {
     let nodes = board.plan().tree().len();
     for number in 0..nodes + 1 {
@@ -147,10 +152,12 @@ pub fn first_next(board: &Board) -> Option<Next>
 /// The next change of a node, where it is a device that has one.
 pub fn next_of(board: &Board, number: u32) -> Option<Next>
     ensures next { let s = board_state board.now in
-        IfSome result (λ next. IsLeaf (plan_lists board.now.plan) next.device × IsNext board.now.plan s.closed s.counts next.device next) }
+        IfSome result (λ next. IsLeaf (plan_lists board.now.plan) next.device
+        × IsNext board.now.plan s.closed s.counts next.device next) }
     ensures its { IfSome result (λ next. next.device ≡ number) }
     ensures none { let s = board_state board.now in
-        result ≡ None → IsLeaf (plan_lists board.now.plan) number → HasNoNext board.now.plan s.closed s.counts number }
+        result ≡ None → IsLeaf (plan_lists board.now.plan) number →
+        HasNoNext board.now.plan s.closed s.counts number }
 {
     if !is_device(board.plan(), number) {
         return None;
@@ -161,11 +168,13 @@ pub fn next_of(board: &Board, number: u32) -> Option<Next>
 /// Makes the next change of a device, by its agent.
 pub fn change<G: Gate>(board: &mut Board, agents: &mut [Option<DeviceAgent>], next: Next, gate: &G)
     requires leaf { IsLeaf (plan_lists board.old.plan) next.device }
-    requires next { let s = board_state board.old in IsNext board.old.plan s.closed s.counts next.device next }
+    requires next { let s = board_state board.old in
+        IsNext board.old.plan s.closed s.counts next.device next }
     requires agents { AreAgents board.old.plan agents.old }
     ensures plan { board.new.plan ≡ board.old.plan }
     ensures agents { agents.new ≡ agents.old }
-    ensures adds { AddsLine board.old board.new (record { what = Move.Change next.device next.number; held = None }) }
+    ensures adds { AddsLine board.old board.new
+        (record { what = Move.Change next.device next.number; held = None }) }
     ensures ends { board.new.ends ≡ board.old.ends }
 {
     let Some(agent) = agents[next.device as usize].as_mut() else {
@@ -177,11 +186,13 @@ pub fn change<G: Gate>(board: &mut Board, agents: &mut [Option<DeviceAgent>], ne
 /// Makes the next change of the device of an agent.
 fn make_change<G: Gate>(board: &mut Board, agent: &mut DeviceAgent, next: Next, gate: &G)
     requires leaf { IsLeaf (plan_lists board.old.plan) next.device }
-    requires next { let s = board_state board.old in IsNext board.old.plan s.closed s.counts next.device next }
+    requires next { let s = board_state board.old in
+        IsNext board.old.plan s.closed s.counts next.device next }
     requires its { IsAgentOf board.old.plan next.device agent.old }
     ensures plan { board.new.plan ≡ board.old.plan }
     ensures agent { agent.new ≡ agent.old }
-    ensures adds { AddsLine board.old board.new (record { what = Move.Change next.device next.number; held = None }) }
+    ensures adds { AddsLine board.old board.new
+        (record { what = Move.Change next.device next.number; held = None }) }
     ensures ends { board.new.ends ≡ board.old.ends }
 {
     // The call tells a fact of the type: the plan keeps its limits.
@@ -198,7 +209,8 @@ fn make_change<G: Gate>(board: &mut Board, agent: &mut DeviceAgent, next: Next, 
 fn close<G: Gate>(board: &mut Board, gate: &G)
     requires open_phase { (board_state board.old).closed ≢ phases board.old.plan }
     requires idle { Idle (plan_lists board.old.plan) (board_state board.old) }
-    requires made { let s = board_state board.old in (d : ℕ) → IsLeaf (plan_lists board.old.plan) d → HasNoNext board.old.plan s.closed s.counts d }
+    requires made { let s = board_state board.old in (d : ℕ) →
+        IsLeaf (plan_lists board.old.plan) d → HasNoNext board.old.plan s.closed s.counts d }
     ensures plan { board.new.plan ≡ board.old.plan }
     ensures closes { ClosesPhase board.old board.new }
 {

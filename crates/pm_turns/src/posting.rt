@@ -29,12 +29,14 @@ pub fn post_made(board: &mut Board, made: &Made) -> Posted
     ensures plan { board.new.plan ≡ board.old.plan }
     ensures ends { board.new.ends ≡ board.old.ends }
     ensures adds { result ≡ posted.Made →
-        AddsLine board.old board.new (record { what = Move.Change made.now.next.device made.now.next.number; held = None }) }
+        AddsLine board.old board.new
+        (record { what = Move.Change made.now.next.device made.now.next.number; held = None }) }
     ensures stale { let s = board_state board.old in
         result ≡ posted.Stale → IsLeaf (plan_lists board.old.plan) made.now.next.device →
         IsNext board.old.plan s.closed s.counts made.now.next.device made.now.next → ⊥ }
     ensures unfit { let s = board_state board.old in
-        result ≡ posted.Unfit → IsNext board.old.plan s.closed s.counts made.now.next.device made.now.next
+        result ≡ posted.Unfit → IsNext board.old.plan s.closed s.counts made.now.next.device
+        made.now.next
         × (kind_of (node board.old.plan made.now.next.device) ≡ Some made.now.kind → ⊥) }
     ensures unchanged { (result ≡ posted.Stale) ⊎ (result ≡ posted.Unfit) → board.new ≡ board.old }
 {

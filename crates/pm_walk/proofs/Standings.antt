@@ -275,7 +275,8 @@ stands-put plan old d here bid is leaf stands reached bid_is steps =
             (get_or-set_same old.sums (group plan d) sum [] (omega (arith, stands.sum_each, inside))
             ∙ ap (λ l. pairwise_sum (pairwise_difference l (get_or old.demands d [])) bid) (stands.sums (group plan d) inside)
             ∙ ap (λ l. pairwise_sum (pairwise_difference (sum_in plan (state plan) a (group plan d)) l) bid) (stands.demands d high)
-            ∙ ap (λ l. pairwise_sum (pairwise_difference (sum_in plan (state plan) a (group plan d)) (demand_in_cut plan (state plan) a d)) l) (sym demand_is)
+            ∙ ap (λ l. pairwise_sum (pairwise_difference (sum_in plan (state plan) a (group plan d)) (demand_in_cut plan (state plan) a d)) l)
+            (sym demand_is)
             ∙ sum_exchanged plan (state plan) a b d low high (standing_fits plan old stands) (ap (λ l. length l) demand_is ∙ steps) other)
         | inr h ↦ get_or-set_other old.sums (group plan d) g sum [] h ∙ stands.sums g within
             ∙ sym (sum_kept plan (state plan) a b g d (λ e. h (sym e)) other)

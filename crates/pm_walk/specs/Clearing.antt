@@ -11,7 +11,8 @@ use Rattle.pm_walk.specs.declared.clearing.Clearing.{Clearing}
 pub record AreGroupSteps (plan : PlanData) (cut : Cut) (steps : List ℕ) : Type 0 where
   pub one_each : length steps ≡ length plan.nodes + 1
   pub inside : (g : ℕ) → g ≤ length plan.nodes → slice_index_or steps g 0 < plan.basis.steps
-  pub same : (g : ℕ) → g ≤ length plan.nodes → slice_index_or steps g 0 ≡ local_step_of_group plan (state plan) cut (plain_step plan (state plan) cut) g
+  pub same : (g : ℕ) → g ≤ length plan.nodes → slice_index_or steps g 0 ≡ local_step_of_group plan (state plan) cut
+      (plain_step plan (state plan) cut) g
 
 -- the power of each node; a node that is no member has none
 pub record ArePowers (plan : PlanData) (cut : Cut) (powers : List ℤ) : Type 0 where

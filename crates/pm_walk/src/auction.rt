@@ -40,8 +40,10 @@ impl CutAuction {
         requires first { 1 ≤ phase }
         requires last { phase ≤ phases plan.now }
         requires auction { IsAuction plan.now (phase - 1) self.old }
-        requires rises { (d : ℕ) → is_leaf plan.now d ≡ true → auction_cut self.old d ≤ cut_of cut.now d }
-        requires planned { (d : ℕ) → is_leaf plan.now d ≡ true → cut_of cut.now d ≤ end_cut plan.now phase d }
+        requires rises { (d : ℕ) → is_leaf plan.now d ≡ true →
+            auction_cut self.old d ≤ cut_of cut.now d }
+        requires planned { (d : ℕ) → is_leaf plan.now d ≡ true →
+            cut_of cut.now d ≤ end_cut plan.now phase d }
         ensures auction { IsAuction plan.now (phase - 1) self.new }
         ensures cut { auction_cut self.new ≡ device_cut plan.now (cut_of cut.now) }
     {
@@ -55,7 +57,8 @@ impl CutAuction {
     pub fn close(&mut self, plan: &Plan, phase: u32)
         requires first { 1 ≤ phase }
         requires auction { IsAuction plan.now (phase - 1) self.old }
-        requires ended { (d : ℕ) → is_leaf plan.now d ≡ true → auction_cut self.old d ≡ end_cut plan.now phase d }
+        requires ended { (d : ℕ) → is_leaf plan.now d ≡ true →
+            auction_cut self.old d ≡ end_cut plan.now phase d }
         ensures auction { IsAuction plan.now phase self.new }
         ensures cut { auction_cut self.new ≡ auction_cut self.old }
     {
@@ -65,7 +68,8 @@ impl CutAuction {
     /// The step of the nodes below each limited concentrator, at the concentrator's place; at every other place, the
     /// auctioneer's 0 among them, the step of the plain auction. So the step of a node stands at the place of its group.
     pub fn group_steps(&self) -> &[u32]
-        ensures { (plan : PlanData) (p : ℕ) → IsAuction plan p self.now → AreGroupSteps plan (auction_cut self.now) result.now }
+        ensures { (plan : PlanData) (p : ℕ) → IsAuction plan p self.now →
+            AreGroupSteps plan (auction_cut self.now) result.now }
     {
         &self.run.clearing.group_steps
     }

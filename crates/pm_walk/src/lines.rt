@@ -45,7 +45,8 @@ fn members_of(
 ) -> Result<Vec<MemberLine>, AllocError>
     requires stands { IsStanding plan.now standing.now }
     requires powers { ArePowers plan.now (cut_made standing.now.progress) powers.now }
-    ensures { IfOk result (λ v. v.items ≡ members_to plan.now (cut_made standing.now.progress) (length plan.now.nodes)) }
+    ensures { IfOk result (λ v. v.items ≡ members_to plan.now (cut_made standing.now.progress)
+        (length plan.now.nodes)) }
 {
     let mut lines = Vec::new(alloc);
     for number in 1..plan.tree().len() + 1 {
@@ -61,7 +62,8 @@ fn member_line(plan: &Plan, standing: &Standing, powers: &[i64], device: NodeId)
     requires stands { IsStanding plan.now standing.now }
     requires inside { device.0 ≤ length plan.now.nodes }
     requires powers { ArePowers plan.now (cut_made standing.now.progress) powers.now }
-    ensures { result ≡ member_line plan.now (state plan.now) (cut_made standing.now.progress) device.0 }
+    ensures { result ≡ member_line plan.now (state plan.now)
+        (cut_made standing.now.progress) device.0 }
 {
     MemberLine {
         node: device.0,
@@ -79,7 +81,8 @@ fn limited_of(
 ) -> Result<Vec<LimitedLine>, AllocError>
     requires stands { IsStanding plan.now standing.now }
     requires steps { AreGroupSteps plan.now (cut_made standing.now.progress) group_steps.now }
-    ensures { IfOk result (λ v. v.items ≡ limited_to plan.now (cut_made standing.now.progress) (length plan.now.nodes)) }
+    ensures { IfOk result (λ v. v.items ≡ limited_to plan.now (cut_made standing.now.progress)
+        (length plan.now.nodes)) }
 {
     let mut lines = Vec::new(alloc);
     for number in 1..plan.tree().len() + 1 {
@@ -95,7 +98,8 @@ fn limited_line(plan: &Plan, standing: &Standing, group_steps: &[u32], at: NodeI
     requires stands { IsStanding plan.now standing.now }
     requires inside { at.0 ≤ length plan.now.nodes }
     requires steps { AreGroupSteps plan.now (cut_made standing.now.progress) group_steps.now }
-    ensures { result ≡ limited_line plan.now (state plan.now) (cut_made standing.now.progress) at.0 }
+    ensures { result ≡ limited_line plan.now (state plan.now)
+        (cut_made standing.now.progress) at.0 }
 {
     let step = group_steps[at.0 as usize];
     LimitedLine {

@@ -30,14 +30,17 @@ impl Standing {
         requires inside { device.0 ≤ length plan.now.nodes }
         requires first { 1 ≤ phase }
         requires stands { IsStanding plan.now self.old }
-        requires begun { end_cut plan.now (phase - 1) device.0 ≤ cut_made self.old.progress device.0 }
+        requires begun { end_cut plan.now (phase - 1) device.0
+            ≤ cut_made self.old.progress device.0 }
         requires rises { cut_made self.old.progress device.0 ≤ number }
         requires planned { number ≤ end_cut plan.now phase device.0 }
-        requires used { used ≡ power plan.now (state plan.now) (end_cut plan.now (phase - 1)) device.0 }
+        requires used { used ≡ power plan.now (state plan.now)
+            (end_cut plan.now (phase - 1)) device.0 }
         requires spare { length spare.old ≡ plan.now.basis.steps }
         ensures stands { IsStanding plan.now self.new }
         ensures done { cut_made self.new.progress device.0 ≡ number }
-        ensures others { (x : ℕ) → x ≢ device.0 → cut_made self.new.progress x ≡ cut_made self.old.progress x }
+        ensures others { (x : ℕ) → x ≢ device.0 →
+            cut_made self.new.progress x ≡ cut_made self.old.progress x }
         ensures spare { length spare.new ≡ plan.now.basis.steps }
     {
         let before = self.progress(plan, device);
@@ -62,9 +65,12 @@ impl Standing {
         requires first { 1 ≤ phase }
         requires last { phase ≤ phases plan.now }
         requires stands { IsStanding plan.now self.old }
-        requires begun { (d : ℕ) → is_leaf plan.now d ≡ true → end_cut plan.now (phase - 1) d ≤ cut_made self.old.progress d }
-        requires rises { (d : ℕ) → is_leaf plan.now d ≡ true → cut_made self.old.progress d ≤ cut_of cut.now d }
-        requires planned { (d : ℕ) → is_leaf plan.now d ≡ true → cut_of cut.now d ≤ end_cut plan.now phase d }
+        requires begun { (d : ℕ) → is_leaf plan.now d ≡ true →
+            end_cut plan.now (phase - 1) d ≤ cut_made self.old.progress d }
+        requires rises { (d : ℕ) → is_leaf plan.now d ≡ true →
+            cut_made self.old.progress d ≤ cut_of cut.now d }
+        requires planned { (d : ℕ) → is_leaf plan.now d ≡ true →
+            cut_of cut.now d ≤ end_cut plan.now phase d }
         requires powers { ArePowers plan.now (end_cut plan.now (phase - 1)) powers.now }
         requires spare { length spare.old ≡ plan.now.basis.steps }
         ensures stands { IsStanding plan.now self.new }

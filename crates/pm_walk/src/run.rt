@@ -137,7 +137,8 @@ pub fn all_ends(alloc: Global, plan: &Plan) -> Result<Vec<PhaseEnd>, AllocError>
 /// A device that stops early has the state after its changes made, where its ticks use the powers of the whole run.
 pub fn end_of_cut(alloc: Global, plan: &Plan, cut: &[u32]) -> Result<PhaseEnd, AllocError>
     requires one_each { length cut.now ≡ length plan.now.nodes }
-    requires planned { (x : ℕ) → 1 ≤ x → x ≤ length plan.now.nodes → file_cut cut.now x ≤ change_count plan.now x }
+    requires planned { (x : ℕ) → 1 ≤ x → x ≤ length plan.now.nodes →
+        file_cut cut.now x ≤ change_count plan.now x }
     ensures { IfOk result (λ e. e.end ≡ end_of plan.now (file_cut cut.now)) }
 {
     let standing = standing_at(alloc, plan, cut)?;
@@ -147,7 +148,8 @@ pub fn end_of_cut(alloc: Global, plan: &Plan, cut: &[u32]) -> Result<PhaseEnd, A
 /// The standing in which each node has made as many changes as the cut says.
 fn standing_at(alloc: Global, plan: &Plan, cut: &[u32]) -> Result<Standing, AllocError>
     requires one_each { length cut.now ≡ length plan.now.nodes }
-    requires planned { (x : ℕ) → 1 ≤ x → x ≤ length plan.now.nodes → file_cut cut.now x ≤ change_count plan.now x }
+    requires planned { (x : ℕ) → 1 ≤ x → x ≤ length plan.now.nodes →
+        file_cut cut.now x ≤ change_count plan.now x }
     ensures stands { IfOk result (IsStanding plan.now) }
     ensures cut { IfOk result (λ s. cut_made s.progress ≡ file_cut cut.now) }
 {

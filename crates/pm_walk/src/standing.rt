@@ -73,7 +73,8 @@ impl Standing {
     pub(crate) fn demand(&self, plan: &Plan, at: NodeId) -> &ArrayBid
         requires stands { IsStanding plan.now self.now }
         requires inside { at.0 ≤ length plan.now.nodes }
-        ensures demand { result.now ≡ demand_in_cut plan.now (state plan.now) (cut_made self.now.progress) at.0 }
+        ensures demand { result.now ≡ demand_in_cut plan.now (state plan.now)
+            (cut_made self.now.progress) at.0 }
         ensures steps { length result.now ≡ plan.now.basis.steps }
     {
         &self.demands[at.0 as usize]
@@ -83,7 +84,8 @@ impl Standing {
     pub(crate) fn sum(&self, plan: &Plan, group: NodeId) -> &ArrayBid
         requires stands { IsStanding plan.now self.now }
         requires inside { group.0 ≤ length plan.now.nodes }
-        ensures sum { result.now ≡ sum_in plan.now (state plan.now) (cut_made self.now.progress) group.0 }
+        ensures sum { result.now ≡ sum_in plan.now (state plan.now)
+            (cut_made self.now.progress) group.0 }
         ensures steps { length result.now ≡ plan.now.basis.steps }
     {
         &self.sums[group.0 as usize]
@@ -143,12 +145,15 @@ impl Standing {
         requires first { 1 ≤ phase }
         requires last { phase ≤ phases plan.now }
         requires stands { IsStanding plan.now self.old }
-        requires begun { cut_made self.old.progress device.0 ≡ end_cut plan.now (phase - 1) device.0 }
-        requires used { used ≡ power plan.now (state plan.now) (end_cut plan.now (phase - 1)) device.0 }
+        requires begun { cut_made self.old.progress device.0
+            ≡ end_cut plan.now (phase - 1) device.0 }
+        requires used { used ≡ power plan.now (state plan.now)
+            (end_cut plan.now (phase - 1)) device.0 }
         requires spare { length spare.old ≡ plan.now.basis.steps }
         ensures stands { IsStanding plan.now self.new }
         ensures done { cut_made self.new.progress device.0 ≡ end_cut plan.now phase device.0 }
-        ensures others { (x : ℕ) → x ≢ device.0 → cut_made self.new.progress x ≡ cut_made self.old.progress x }
+        ensures others { (x : ℕ) → x ≢ device.0 →
+            cut_made self.new.progress x ≡ cut_made self.old.progress x }
         ensures same { result ≡ false → self.new ≡ self.old }
         ensures spare { length spare.new ≡ plan.now.basis.steps }
     {

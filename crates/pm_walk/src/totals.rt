@@ -37,9 +37,11 @@ fn add_group(plan: &Plan, standing: &Standing, at: NodeId, spare: &mut ArrayBid,
     requires first { 1 ≤ at.0 }
     requires last { at.0 ≤ length plan.now.nodes }
     requires spare { length spare.old ≡ plan.now.basis.steps }
-    requires before { out.old ≡ total_to plan.now (state plan.now) (cut_made standing.now.progress) (at.0 - 1) }
+    requires before { out.old ≡ total_to plan.now (state plan.now) (cut_made standing.now.progress)
+        (at.0 - 1) }
     ensures spare { length spare.new ≡ plan.now.basis.steps }
-    ensures after { out.new ≡ total_to plan.now (state plan.now) (cut_made standing.now.progress) at.0 }
+    ensures after { out.new ≡ total_to plan.now (state plan.now)
+        (cut_made standing.now.progress) at.0 }
 {
     if let Some(limits) = limits_of(plan, at) {
         announce(plan, standing, at, limits, spare);
@@ -62,7 +64,8 @@ fn announce(plan: &Plan, standing: &Standing, at: NodeId, limits: Limits, out: &
     requires inside { at.0 ≤ length plan.now.nodes }
     requires limits { limits_of (node plan.now at.0) ≡ Some limits }
     requires out { length out.old ≡ plan.now.basis.steps }
-    ensures announced { out.new ≡ announcement plan.now (state plan.now) (cut_made standing.now.progress) at.0 }
+    ensures announced { out.new ≡ announcement plan.now (state plan.now)
+        (cut_made standing.now.progress) at.0 }
     ensures steps { length out.new ≡ plan.now.basis.steps }
 {
     standing.sum(plan, at).clamp_into(
@@ -78,7 +81,8 @@ pub(crate) fn group_step(plan: &Plan, standing: &Standing, step: usize, group: N
     requires stands { IsStanding plan.now standing.now }
     requires group { group.0 ≤ length plan.now.nodes }
     requires step { step < plan.now.basis.steps }
-    ensures step { result ≡ local_step_of_group plan.now (state plan.now) (cut_made standing.now.progress) step group.0 }
+    ensures step { result ≡ local_step_of_group plan.now (state plan.now)
+        (cut_made standing.now.progress) step group.0 }
     ensures inside { result < plan.now.basis.steps }
 {
     match limits_of(plan, group) {

@@ -85,10 +85,12 @@ impl Decoder {
     /// next the answer is its offset, and it stays so. Where an allocation fails nothing changes.
     pub fn next(&mut self) -> Result<Option<Frame>, DecodeFault>
         requires { self.old.offset + length self.old.rest ≤ 4294967296 }
-        ensures given { IfOk result (λ next. IfSome next (λ frame. GivesFrame self.old frame self.new)) }
+        ensures given { IfOk result (λ next. IfSome next
+            (λ frame. GivesFrame self.old frame self.new)) }
         ensures nothing { IfOk result (λ next. IfNone next
             (IsUnfinished self.old.place self.old.rest × (self.new ≡ self.old))) }
-        ensures bad { IfErr result (λ fault. (at : ℕ) → fault ≡ DecodeFault.Bad at → (at ≡ self.old.offset)
+        ensures bad { IfErr result (λ fault. (at : ℕ) → fault ≡ DecodeFault.Bad at →
+            (at ≡ self.old.offset)
             × BeginsBadly self.old.place self.old.rest × (self.new ≡ with_refusal self.old)) }
         ensures no_memory { result ≡ Err DecodeFault.NoMemory → self.new ≡ self.old }
 
@@ -99,7 +101,8 @@ impl Decoder {
         ensures waits { IsUnfinished self.old.place self.old.rest
             → (result ≡ Ok None) ⊎ (result ≡ Err DecodeFault.NoMemory) }
         ensures refuses { BeginsBadly self.old.place self.old.rest
-            → (result ≡ Err (DecodeFault.Bad self.old.offset)) ⊎ (result ≡ Err DecodeFault.NoMemory) }
+            → (result ≡ Err (DecodeFault.Bad self.old.offset))
+            ⊎ (result ≡ Err DecodeFault.NoMemory) }
 
         // A bad frame that was told once is told always.
         ensures always { self.old.refused ≡ true → result ≡ Err (DecodeFault.Bad self.old.offset) }

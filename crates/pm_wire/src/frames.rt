@@ -20,11 +20,14 @@ pub(crate) fn take_frames(
     requires held { decoder.old.held < held_limit }
     ensures rest { OnOk result (length decoder.new.rest < frame_limit) }
     ensures held { OnOk result (decoder.new.held < rest_limit) }
-    ensures answers { length out.new.items ≤ length out.old.items + reply_limit * length decoder.old.rest }
+    ensures answers { length out.new.items ≤ length out.old.items + reply_limit * length
+        decoder.old.rest }
     ensures taken { OnOk result ((frames : List Frame) × (reply : List ℕ)
         × Takes frames decoder.old decoder.new server.old server.new reply
-        × IsUnfinished decoder.new.place decoder.new.rest × (out.new.items ≡ out.old.items ++ reply)) }
-    ensures bad { IfErr result (λ fault. (at : ℕ) → fault ≡ DecodeFault.Bad at → (frames : List Frame) × (reply : List ℕ)
+        × IsUnfinished decoder.new.place decoder.new.rest
+        × (out.new.items ≡ out.old.items ++ reply)) }
+    ensures bad { IfErr result (λ fault. (at : ℕ) → fault ≡ DecodeFault.Bad at →
+        (frames : List Frame) × (reply : List ℕ)
         × Takes frames decoder.old decoder.new server.old server.new reply
         × BeginsBadly decoder.new.place decoder.new.rest × (out.new.items ≡ out.old.items ++ reply)
         × (at ≡ decoder.new.offset)) }
@@ -42,7 +45,8 @@ pub(crate) fn take_piece(
     piece: &[u8],
     out: &mut Vec<u8>,
 ) -> Result<(), DecodeFault>
-    requires follows { (bytes : List ℕ) × (frames : List Frame) × AreBehind bytes frames decoder.old server.old }
+    requires follows { (bytes : List ℕ) × (frames : List Frame)
+        × AreBehind bytes frames decoder.old server.old }
     requires fits { decoder.old.offset + length decoder.old.rest + length piece.now < 2147483648 }
     requires empty { out.old.items ≡ [] }
     // What may be in memory before a piece may be in memory behind it, and the answers to it have so many bytes at most.
@@ -52,13 +56,16 @@ pub(crate) fn take_piece(
     ensures rest { OnOk result (length decoder.new.rest < frame_limit) }
     ensures held { OnOk result (decoder.new.held < rest_limit) }
     ensures answers { length out.new.items ≤ answers_limit }
-    ensures taken { OnOk result ((bytes : List ℕ) (frames : List Frame) → AreBehind bytes frames decoder.old server.old
-        → (more : List Frame) × AreBehind (bytes ++ piece.now) (frames ++ more) decoder.new server.new
+    ensures taken { OnOk result ((bytes : List ℕ) (frames : List Frame) →
+        AreBehind bytes frames decoder.old server.old
+        → (more : List Frame) × AreBehind (bytes ++ piece.now)
+        (frames ++ more) decoder.new server.new
         × IsUnfinished decoder.new.place decoder.new.rest
         × (replies frames ++ out.new.items ≡ replies (frames ++ more))) }
     ensures bad { IfErr result (λ fault. (at : ℕ) → fault ≡ DecodeFault.Bad at
         → (bytes : List ℕ) (frames : List Frame) → AreBehind bytes frames decoder.old server.old
-        → (more : List Frame) × AreBehind (bytes ++ piece.now) (frames ++ more) decoder.new server.new
+        → (more : List Frame) × AreBehind (bytes ++ piece.now)
+        (frames ++ more) decoder.new server.new
         × BeginsBadly decoder.new.place decoder.new.rest
         × (replies frames ++ out.new.items ≡ replies (frames ++ more))
         × (at ≡ decoder.new.offset)) }

@@ -9,7 +9,8 @@ ghost use Rattle.pm_wire.specs.Frames.{BeginsWith, AreFrames, Stops, place_behin
 pub fn streams_have_one_reading()
     ensures one_list { (bytes : List ℕ) (frames others : List Frame) (rest left : List ℕ)
         → BeginsWith bytes frames rest → Stops (place_behind None frames) rest
-        → BeginsWith bytes others left → Stops (place_behind None others) left → (frames ≡ others) × (rest ≡ left) }
+        → BeginsWith bytes others left → Stops (place_behind None others) left →
+        (frames ≡ others) × (rest ≡ left) }
     ensures one_offset { (bytes : List ℕ) (offset other : ℕ)
         → HasBadFrame bytes offset → HasBadFrame bytes other → offset ≡ other }
     ensures one_end { (bytes : List ℕ) (offset other : ℕ)
@@ -30,17 +31,22 @@ pub fn streams_have_one_reading()
 /// An input past the limit is answered to its end only up to a bad frame.
 pub fn replies_are_of_the_bytes()
     ensures done { (all held : List ℕ) (new other holds kept : Option (List ℕ))
-        → IsDone (Some all) new (Some held) holds → IsDone (Some all) other (Some held) kept → holds ≡ kept }
+        → IsDone (Some all) new (Some held) holds → IsDone (Some all) other (Some held) kept →
+        holds ≡ kept }
     ensures refused { (all held : List ℕ) (new other holds kept : Option (List ℕ))
-        → IsRefused (Some all) new (Some held) holds → IsRefused (Some all) other (Some held) kept → holds ≡ kept }
+        → IsRefused (Some all) new (Some held) holds → IsRefused (Some all) other (Some held) kept →
+        holds ≡ kept }
     ensures not_both { (all held : List ℕ) (new other holds kept : Option (List ℕ))
         → IsDone (Some all) new (Some held) holds → ¬ IsRefused (Some all) other (Some held) kept }
     ensures answered { (all held input taken : List ℕ) (new holds kept : Option (List ℕ))
-        → IsAnswered (Some all) new (Some held) holds input → IsAnswered (Some all) new (Some held) kept taken
+        → IsAnswered (Some all) new (Some held) holds input →
+        IsAnswered (Some all) new (Some held) kept taken
         → holds ≡ kept }
     ensures within_or_past { (all held : List ℕ) (new holds kept : Option (List ℕ))
-        → FailsReading (Some all) new (Some held) holds → ¬ IsLongStream (Some all) new (Some held) kept }
-    ensures past_the_limit { (all held : List ℕ) (new holds : Option (List ℕ)) → stream_limit < length all
+        → FailsReading (Some all) new (Some held) holds →
+        ¬ IsLongStream (Some all) new (Some held) kept }
+    ensures past_the_limit { (all held : List ℕ) (new holds : Option (List ℕ)) →
+        stream_limit < length all
         → EndsWhole (Some all) new (Some held) holds → (offset : ℕ) × HasBadFrame all offset }
 {}
 
@@ -49,10 +55,12 @@ pub fn replies_are_of_the_bytes()
 /// the sink fails, at least one byte is missing.
 pub fn early_ends_hold_a_beginning()
     ensures read_fault { (all held : List ℕ) (new other holds kept : Option (List ℕ))
-        → FailsReading (Some all) new (Some held) holds → EndsWhole (Some all) other (Some held) kept
+        → FailsReading (Some all) new (Some held) holds →
+        EndsWhole (Some all) other (Some held) kept
         → HoldsFirstAnswers all held holds kept }
     ensures too_long { (all held : List ℕ) (new other holds kept : Option (List ℕ))
-        → IsLongStream (Some all) new (Some held) holds → EndsWhole (Some all) other (Some held) kept
+        → IsLongStream (Some all) new (Some held) holds →
+        EndsWhole (Some all) other (Some held) kept
         → HoldsFirstAnswers all held holds kept }
     ensures no_memory { (all held : List ℕ) (new other holds kept : Option (List ℕ))
         → IsBegun (Some all) new (Some held) holds → EndsWhole (Some all) other (Some held) kept

@@ -34,7 +34,8 @@ fn write_price(
     step: u16,
     out: &mut Vec<u8>,
 ) -> Result<(), AllocError>
-    ensures written { OnOk result (out.new.items ≡ out.old.items ++ reply_bytes (price_for index step child head)) }
+    ensures written { OnOk result (out.new.items ≡ out.old.items
+        ++ reply_bytes (price_for index step child head)) }
     ensures unchanged { OnErr result (out.new.items ≡ out.old.items) }
 {
     if head.gone {
@@ -57,7 +58,8 @@ fn write_prices(
     out: &mut Vec<u8>,
 ) -> Result<(), AllocError>
     requires { length heads.now + 1 < 2 ^ 16 }
-    ensures written { OnOk result (out.new.items ≡ out.old.items ++ reply_bytes (prices index step 1 heads.now)) }
+    ensures written { OnOk result (out.new.items ≡ out.old.items
+        ++ reply_bytes (prices index step 1 heads.now)) }
     ensures begun { OnErr result ((more : List ℕ) × (out.new.items ≡ out.old.items ++ more)) }
 {
     let mut child = 1;
@@ -94,10 +96,14 @@ impl Market {
         requires sound { IsMarket self.old }
         requires first { 1 ≤ child }
         requires last { child ≤ length self.old.cache.heads }
-        requires steps { length (demand_of_offer self.old.cache (option_copied demand)) ≡ self.old.cache.steps }
-        requires small { AllWithinLimit demand_limit (demand_of_offer self.old.cache (option_copied demand)) }
-        ensures counted { OnOk result (self.new ≡ after_entry self.old child number (option_copied demand.entry)) }
-        ensures answered { OnOk result (out.new.items ≡ out.old.items ++ reply_bytes (receipt self.old child number)) }
+        requires steps { length (demand_of_offer self.old.cache (option_copied demand))
+            ≡ self.old.cache.steps }
+        requires small { AllWithinLimit demand_limit
+            (demand_of_offer self.old.cache (option_copied demand)) }
+        ensures counted { OnOk result (self.new ≡ after_entry self.old child number
+            (option_copied demand.entry)) }
+        ensures answered { OnOk result (out.new.items ≡ out.old.items
+            ++ reply_bytes (receipt self.old child number)) }
         ensures unchanged { OnErr result ((self.new ≡ self.old) × (out.new.items ≡ out.old.items)) }
         ensures sound { IsMarket self.new }
     {
@@ -118,7 +124,8 @@ impl Market {
         requires sound { IsMarket self.old }
         requires index { self.old.index + 1 < 2 ^ 32 }
         ensures cleared { OnOk result (self.new ≡ after_clear self.old) }
-        ensures answered { OnOk result (out.new.items ≡ out.old.items ++ reply_bytes (answers_to (Some self.old) Frame.Clear)) }
+        ensures answered { OnOk result (out.new.items ≡ out.old.items
+            ++ reply_bytes (answers_to (Some self.old) Frame.Clear)) }
         ensures unchanged { OnErr result ((self.new ≡ self.old) × (out.new.items ≡ out.old.items)) }
         ensures sound { IsMarket self.new }
     {
@@ -144,7 +151,8 @@ impl Market {
         requires stands { MayStand (Some self.old.cache.steps) frame.now }
         requires index { self.old.index + 1 < 2 ^ 32 }
         ensures taken { OnOk result (Some self.new ≡ market_after (Some self.old) frame.now) }
-        ensures answered { OnOk result (out.new.items ≡ out.old.items ++ reply_bytes (answers_to (Some self.old) frame.now)) }
+        ensures answered { OnOk result (out.new.items ≡ out.old.items
+            ++ reply_bytes (answers_to (Some self.old) frame.now)) }
         ensures unchanged { OnErr result ((self.new ≡ self.old) × (out.new.items ≡ out.old.items)) }
         ensures sound { IsMarket self.new }
         ensures few { OnOk result (length out.new.items ≤ length out.old.items + reply_limit) }

@@ -48,7 +48,8 @@ impl Server {
         requires stands { MayStand (place_known self.old) frame.now }
         requires clearings { IfSome self.old (λ market. market.index < 2147483648) }
         ensures taken { OnOk result (self.new ≡ market_after self.old frame.now) }
-        ensures answered { OnOk result (out.new.items ≡ out.old.items ++ reply_bytes (answers_to self.old frame.now)) }
+        ensures answered { OnOk result (out.new.items ≡ out.old.items
+            ++ reply_bytes (answers_to self.old frame.now)) }
         ensures unchanged { OnErr result (self.new ≡ self.old) }
         ensures nothing_appended { OnErr result (out.new.items ≡ out.old.items) }
 

@@ -57,12 +57,15 @@ fn flush<K: Sink>(sink: &mut K, out: &mut Vec<u8>) -> Result<(), WriteFault>
 
 /// Appends the fault of the frame at this offset to the answers, and writes them.
 fn refuse<K: Sink>(sink: &mut K, out: &mut Vec<u8>, offset: u64) -> Served
-    ensures either { (result ≡ Served.Refused) ⊎ (result ≡ Served.WriteFault) ⊎ (result ≡ Served.NoMemory) }
+    ensures either { (result ≡ Served.Refused) ⊎ (result ≡ Served.WriteFault)
+        ⊎ (result ≡ Served.NoMemory) }
     ensures refused { result ≡ Served.Refused
-        → Appends (K.held sink.old) (K.held sink.new) (out.old.items ++ answer_bytes (Fault offset)) }
+        → Appends (K.held sink.old) (K.held sink.new)
+        (out.old.items ++ answer_bytes (Fault offset)) }
     ensures write_fault { result ≡ Served.WriteFault → Rose (K.faults sink.old) (K.faults sink.new)
         × ((written : ℕ) × (written < length (out.old.items ++ answer_bytes (Fault offset)))
-        × Appends (K.held sink.old) (K.held sink.new) (take written (out.old.items ++ answer_bytes (Fault offset)))) }
+        × Appends (K.held sink.old) (K.held sink.new)
+        (take written (out.old.items ++ answer_bytes (Fault offset)))) }
     ensures no_memory { result ≡ Served.NoMemory → sink.new ≡ sink.old }
     ensures count { K.faults sink.old ≤ K.faults sink.new }
 {
@@ -86,8 +89,10 @@ fn run<S: Source, K: Sink>(
     requires decoder { decoder.old ≡ nothing_fed }
     requires server { server.old ≡ None }
     requires out { out.old.items ≡ [] }
-    ensures ends { EndsSo (S.left source.old) (S.left source.new) (K.held sink.old) (K.held sink.new)
-        (Rose (S.faults source.old) (S.faults source.new)) (Rose (K.faults sink.old) (K.faults sink.new)) result }
+    ensures ends { EndsSo (S.left source.old) (S.left source.new) (K.held sink.old)
+        (K.held sink.new)
+        (Rose (S.faults source.old) (S.faults source.new))
+        (Rose (K.faults sink.old) (K.faults sink.new)) result }
     ensures source_count { S.faults source.old ≤ S.faults source.new }
     ensures sink_count { K.faults sink.old ≤ K.faults sink.new }
 {
@@ -131,7 +136,8 @@ pub fn serve<S: Source, K: Sink>(alloc: Global, source: &mut S, sink: &mut K) ->
         → IsRefused (S.left source.old) (S.left source.new) (K.held sink.old) (K.held sink.new) }
     ensures too_long { result ≡ Served.TooLong
         → IsLongStream (S.left source.old) (S.left source.new) (K.held sink.old) (K.held sink.new) }
-    ensures read_fault { result ≡ Served.ReadFault → Rose (S.faults source.old) (S.faults source.new)
+    ensures read_fault { result ≡ Served.ReadFault →
+        Rose (S.faults source.old) (S.faults source.new)
         × FailsReading (S.left source.old) (S.left source.new) (K.held sink.old) (K.held sink.new) }
     ensures write_fault { result ≡ Served.WriteFault → Rose (K.faults sink.old) (K.faults sink.new)
         × IsCutShort (S.left source.old) (S.left source.new) (K.held sink.old) (K.held sink.new) }
@@ -145,21 +151,25 @@ pub fn serve<S: Source, K: Sink>(alloc: Global, source: &mut S, sink: &mut K) ->
         → (result ≡ Served.Refused) ⊎ (result ≡ Served.WriteFault) ⊎ (result ≡ Served.NoMemory) }
     ensures took_more { (all : List ℕ) → S.left source.old ≡ Some all
         → stream_limit < length (taken_bytes (S.left source.old) (S.left source.new))
-        → ((offset : ℕ) → ¬ HasBadFrame (taken_bytes (S.left source.old) (S.left source.new)) offset)
+        → ((offset : ℕ) → ¬ HasBadFrame (taken_bytes (S.left source.old) (S.left source.new))
+        offset)
         → (result ≡ Served.TooLong) ⊎ (result ≡ Served.WriteFault) ⊎ (result ≡ Served.NoMemory) }
 
     // An input within the limit is Done where it is a list of frames, and Refused where it has a bad frame or ends within
     // one, but for a failure.
-    ensures frames { (all : List ℕ) (frames : List Frame) → S.left source.old ≡ Some all → length all ≤ stream_limit
+    ensures frames { (all : List ℕ) (frames : List Frame) → S.left source.old ≡ Some all →
+        length all ≤ stream_limit
         → AreFrames all frames → (result ≡ Served.Done)
         ⊎ (result ≡ Served.ReadFault) ⊎ (result ≡ Served.WriteFault) ⊎ (result ≡ Served.NoMemory) }
-    ensures refusal { (all : List ℕ) (offset : ℕ) → S.left source.old ≡ Some all → length all ≤ stream_limit
+    ensures refusal { (all : List ℕ) (offset : ℕ) → S.left source.old ≡ Some all →
+        length all ≤ stream_limit
         → HasBadFrame all offset ⊎ EndsWithin all offset → (result ≡ Served.Refused)
         ⊎ (result ≡ Served.ReadFault) ⊎ (result ≡ Served.WriteFault) ⊎ (result ≡ Served.NoMemory) }
 
     // An input within the limit, and no fault of either, end in one of these.
     ensures complete { (all : List ℕ) → S.left source.old ≡ Some all → length all ≤ stream_limit
-        → ¬ Rose (S.faults source.old) (S.faults source.new) → ¬ Rose (K.faults sink.old) (K.faults sink.new)
+        → ¬ Rose (S.faults source.old) (S.faults source.new) →
+        ¬ Rose (K.faults sink.old) (K.faults sink.new)
         → (result ≡ Served.Done) ⊎ (result ≡ Served.Refused) ⊎ (result ≡ Served.NoMemory) }
     ensures source_count { S.faults source.old ≤ S.faults source.new }
     ensures sink_count { K.faults sink.old ≤ K.faults sink.new }

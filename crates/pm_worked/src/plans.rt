@@ -72,7 +72,8 @@ fn parts_of(
     alloc: Global,
     lines: &[NodeLine],
 ) -> Result<(Vec<TreeEntry>, Vec<NodeSpec>), AllocError>
-    ensures { IfOk result (λ parts. map is_device (map node_part parts.1.items) ≡ leaves_of (entries_of parts.0.items)) }
+    ensures { IfOk result (λ parts. map is_device (map node_part parts.1.items)
+        ≡ leaves_of (entries_of parts.0.items)) }
 {
     let mut entries = Vec::new(alloc);
     let mut nodes = Vec::new(alloc);

@@ -125,7 +125,9 @@ fn has_changes(plan: &Plan, node: NodeId, count: u32) -> bool
 /// Whether a list is a cut of the plan's nodes.
 fn is_cut(plan: &Plan, cut: &[u32]) -> bool
     ensures one_each { result ≡ true → length cut.now ≡ length plan.now.nodes }
-    ensures planned { result ≡ true → ((x : ℕ) → 1 ≤ x → x ≤ length plan.now.nodes → file_cut cut.now x ≤ change_count plan.now x) }
+    ensures planned { result ≡ true →
+        ((x : ℕ) → 1 ≤ x → x ≤ length plan.now.nodes →
+        file_cut cut.now x ≤ change_count plan.now x) }
 {
     if cut.len() != plan.tree().len() as usize {
         return false;

@@ -30,7 +30,8 @@ impl Market {
     fn mark_above(&self, marks: &mut [bool], below: usize)
         ensures length { length marks.new ≡ length marks.old }
         ensures marks { (x : ℕ) → x < length marks.old →
-            slice_index_or marks.new x false ≡ (slice_index_or marks.old x false || is_below (market_lists self.now) x below) }
+            slice_index_or marks.new x false
+            ≡ (slice_index_or marks.old x false || is_below (market_lists self.now) x below) }
     {
         let mut at = below;
         for _step in 0..below {
@@ -46,8 +47,10 @@ impl Market {
     /// Marks each node that a device is or stands below, where a cut has a number above 0 of the device.
     fn mark_leaf(&self, marks: &mut [bool], cut: &[u32], device: usize)
         ensures length { length marks.new ≡ length marks.old }
-        ensures marks { (x : ℕ) → x < length marks.old → slice_index_or marks.new x false ≡ (slice_index_or marks.old x false
-            || not (if is_leaf_of (market_lists self.now) x device then cut_of cut.now device == 0 else true)) }
+        ensures marks { (x : ℕ) → x < length marks.old →
+            slice_index_or marks.new x false ≡ (slice_index_or marks.old x false
+            || not (if is_leaf_of (market_lists self.now) x device then cut_of cut.now device == 0
+            else true)) }
     {
         if self.is_leaf(device) && item_at(cut, device, 0) > 0 {
             self.mark_above(marks, device);
@@ -57,7 +60,8 @@ impl Market {
     /// For each node, the auctioneer first, whether a cut has a number above 0 of one of its leaves.
     fn cut_marks(&self, cut: &[u32]) -> Result<Vec<bool>, AllocError>
         ensures { IfOk result (λ marks. (x : ℕ) → x ≤ nodes (market_lists self.now) →
-            slice_index_or marks.items x false ≡ not (is_same_on (market_lists self.now) x (cut_of cut.now) no_changes)) }
+            slice_index_or marks.items x false ≡ not
+            (is_same_on (market_lists self.now) x (cut_of cut.now) no_changes)) }
     {
         let mut marks = vec![in self.alloc; false; self.due.len()]?;
         for before in 0..self.parents.len() {
@@ -77,8 +81,10 @@ impl Market {
         marks: &[bool],
         node: usize,
     ) -> usize
-        requires { slice_index_or marks.now node false ≡ not (is_same_on (market_lists self.now) node (cut_of cut.now) no_changes) }
-        ensures { result ≡ due_after (market_lists self.now) (market_due self.now) reached index (cut_of cut.now) node }
+        requires { slice_index_or marks.now node false
+            ≡ not (is_same_on (market_lists self.now) node (cut_of cut.now) no_changes) }
+        ensures { result ≡ due_after (market_lists self.now) (market_due self.now) reached index
+            (cut_of cut.now) node }
     {
         let is_addressed = if self.is_leaf(node) {
             self.is_member(node, item_at(cut, node, 0) as usize)
@@ -103,7 +109,8 @@ impl Market {
     ) -> Result<Vec<usize>, AllocError>
         ensures length { IfOk result (λ row. vec_len row ≡ nodes (market_lists self.now) + 1) }
         ensures due { IfOk result (λ row. (x : ℕ) → x ≤ nodes (market_lists self.now) →
-            slice_index_or row.items x 0 ≡ due_after (market_lists self.now) (market_due self.now) reached index (cut_of cut.now) x) }
+            slice_index_or row.items x 0 ≡ due_after (market_lists self.now)
+            (market_due self.now) reached index (cut_of cut.now) x) }
     {
         let marks = self.cut_marks(cut)?;
         let mut row = Vec::with_capacity(self.alloc, self.due.len())?;

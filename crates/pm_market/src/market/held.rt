@@ -12,7 +12,8 @@ impl Market {
 
     /// Whether every phase is closed.
     pub fn is_complete(&self) -> bool
-        ensures { IsTrue result ↔ ((market_state self.now).closed ≡ phases (market_lists self.now)) }
+        ensures { IsTrue result
+            ↔ ((market_state self.now).closed ≡ phases (market_lists self.now)) }
     {
         self.closed as usize == self.ends.len()
     }
@@ -34,7 +35,8 @@ impl Market {
     /// Whether a change of a device is a join: it is a member after the change, and was none before it.
     fn is_join(&self, device: usize, number: usize) -> bool
         requires { 1 ≤ number }
-        ensures { result ≡ (is_member (market_lists self.now) device number && not (is_member (market_lists self.now) device (number - 1))) }
+        ensures { result ≡ (is_member (market_lists self.now) device number && not
+            (is_member (market_lists self.now) device (number - 1))) }
     {
         self.is_member(device, number) && !self.is_member(device, number - 1)
     }

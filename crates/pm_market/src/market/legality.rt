@@ -15,7 +15,8 @@ impl Market {
     /// Whether the parent of a node may learn a number of it.
     #[tactic(auto, unfolding(crate::specs::Legality::learn_is_legal))]
     fn may_learn(&self, child: usize, number: usize) -> bool
-        ensures { result ≡ learn_is_legal (market_lists self.now) (market_state self.now) child number }
+        ensures { result ≡ learn_is_legal (market_lists self.now)
+            (market_state self.now) child number }
     {
         self.is_node(child)
             && (self.learnt(child) as usize) < number
@@ -36,7 +37,8 @@ impl Market {
     /// Whether a concentrator may publish under a number.
     #[tactic(auto, unfolding(crate::specs::Legality::publish_is_legal))]
     fn may_publish_as(&self, node: usize, number: usize) -> bool
-        ensures { result ≡ publish_is_legal (market_lists self.now) (market_state self.now) node number }
+        ensures { result ≡ publish_is_legal (market_lists self.now)
+            (market_state self.now) node number }
     {
         number > 0 && number - 1 == self.newest(node) && self.may_publish(node)
     }
@@ -44,7 +46,8 @@ impl Market {
     /// Whether the auctioneer may clear, under its next index.
     #[tactic(auto, unfolding(crate::specs::Legality::clear_is_legal))]
     fn may_clear(&self) -> bool
-        ensures { result ≡ clear_is_legal (market_lists self.now) (market_state self.now) (clearings (market_state self.now) + 1) }
+        ensures { result ≡ clear_is_legal (market_lists self.now) (market_state self.now)
+            (clearings (market_state self.now) + 1) }
     {
         !self.knows_same(0)
     }
@@ -60,7 +63,8 @@ impl Market {
     /// Whether a clearing may be passed to a node.
     #[tactic(auto, unfolding(crate::specs::Legality::pass_is_legal))]
     fn may_pass(&self, node: usize, index: usize) -> bool
-        ensures { result ≡ pass_is_legal (market_lists self.now) (market_state self.now) node index }
+        ensures { result ≡ pass_is_legal (market_lists self.now)
+            (market_state self.now) node index }
     {
         self.is_node(node)
             && self.last(node) < index
@@ -70,7 +74,8 @@ impl Market {
 
     /// Whether no clearing may be passed to a node.
     fn may_pass_none(&self, node: usize) -> bool
-        ensures { result ≡ all_to (clearings (market_state self.now)) (λ j. not (pass_is_legal (market_lists self.now) (market_state self.now) node j)) }
+        ensures { result ≡ all_to (clearings (market_state self.now))
+            (λ j. not (pass_is_legal (market_lists self.now) (market_state self.now) node j)) }
     {
         !self.is_node(node) || self.due(node) <= self.last(node)
     }
@@ -101,7 +106,8 @@ impl Market {
     /// Whether a device may make a change.
     #[tactic(auto, unfolding(crate::specs::Legality::change_is_legal))]
     fn may_change(&self, device: usize, number: u32) -> bool
-        ensures { result ≡ change_is_legal (market_lists self.now) (market_state self.now) device number }
+        ensures { result ≡ change_is_legal (market_lists self.now)
+            (market_state self.now) device number }
     {
         self.is_leaf(device)
             && (self.closed as usize) < self.ends.len()
@@ -112,7 +118,8 @@ impl Market {
 
     /// Whether a node is no device, or its changes of the phases up to this one are made.
     fn is_made_at(&self, phase: usize, node: usize) -> bool
-        ensures { result ≡ (if is_leaf (market_lists self.now) node then (market_state self.now).counts node == end_count
+        ensures { result ≡ (if is_leaf (market_lists self.now) node
+            then (market_state self.now).counts node == end_count
             (market_lists self.now) phase node else true) }
     {
         !self.is_leaf(node) || item_at(&self.counts, node, 0) == self.end(phase, node)

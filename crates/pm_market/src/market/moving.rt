@@ -51,7 +51,8 @@ impl Market {
 
     /// What a node knows, a number for each node from the auctioneer's on.
     fn known_row(&self, node: usize) -> Result<Vec<u32>, AllocError>
-        ensures { IfOk result (λ row. cut_of row.items ≡ knowledge (market_lists self.now) (market_state self.now) node) }
+        ensures { IfOk result (λ row. cut_of row.items
+            ≡ knowledge (market_lists self.now) (market_state self.now) node) }
     {
         let mut row = Vec::with_capacity(self.alloc, self.counts.len())?;
         for device in 0..self.counts.len() {
@@ -64,7 +65,8 @@ impl Market {
     fn count(&mut self, device: usize, number: u32)
         requires { device ≤ nodes (market_lists self.old) }
         ensures lists { market_lists self.new ≡ market_lists self.old }
-        ensures state { market_state self.new ≡ record (market_state self.old) { counts = update (market_state self.old).counts device number } }
+        ensures state { market_state self.new ≡ record (market_state self.old)
+            { counts = update (market_state self.old).counts device number } }
     {
         self.counts[device] = number;
     }
@@ -73,7 +75,8 @@ impl Market {
     fn learn(&mut self, child: usize, number: u32)
         requires { IsNode (market_lists self.old) child }
         ensures lists { market_lists self.new ≡ market_lists self.old }
-        ensures state { market_state self.new ≡ record (market_state self.old) { learnt = update (market_state self.old).learnt child number } }
+        ensures state { market_state self.new ≡ record (market_state self.old)
+            { learnt = update (market_state self.old).learnt child number } }
     {
         self.learnt[child] = number;
     }
@@ -82,7 +85,8 @@ impl Market {
     fn publish(&mut self, node: usize) -> Result<(), AllocError>
         requires { IsNode (market_lists self.old) node }
         ensures lists { market_lists self.new ≡ market_lists self.old }
-        ensures ok { OnOk result (Publishes (market_lists self.old) (market_state self.old) (market_state self.new) node) }
+        ensures ok { OnOk result (Publishes (market_lists self.old) (market_state self.old)
+            (market_state self.new) node) }
         ensures err { OnErr result (market_state self.new ≡ market_state self.old) }
     {
         let row = self.known_row(node)?;
@@ -92,7 +96,8 @@ impl Market {
     /// What the auctioneer knows joins the cuts that it cleared, and is due to its children that it addresses.
     fn clear(&mut self) -> Result<(), AllocError>
         ensures lists { market_lists self.new ≡ market_lists self.old }
-        ensures ok { OnOk result (Publishes (market_lists self.old) (market_state self.old) (market_state self.new) 0) }
+        ensures ok { OnOk result (Publishes (market_lists self.old) (market_state self.old)
+            (market_state self.new) 0) }
         ensures err { OnErr result (market_state self.new ≡ market_state self.old) }
     {
         let row = self.known_row(0)?;
@@ -106,9 +111,11 @@ impl Market {
     fn pass_to_last(&mut self, node: usize, index: usize) -> Result<(), AllocError>
         requires node { node ≤ nodes (market_lists self.old) }
         requires made { index ≤ clearings (market_state self.old) }
-        requires childless { (x : ℕ) → IsNode (market_lists self.old) x → parent (market_lists self.old) x ≢ node }
+        requires childless { (x : ℕ) → IsNode (market_lists self.old) x →
+            parent (market_lists self.old) x ≢ node }
         ensures lists { market_lists self.new ≡ market_lists self.old }
-        ensures ok { OnOk result (Passes (market_state self.old) (market_state self.new) node index) }
+        ensures ok { OnOk result (Passes (market_state self.old)
+            (market_state self.new) node index) }
         ensures err { OnErr result (market_state self.new ≡ market_state self.old) }
     {
         push_at(&mut self.passed, node, index)
@@ -119,7 +126,8 @@ impl Market {
         requires node { node ≤ nodes (market_lists self.old) }
         requires made { index ≤ clearings (market_state self.old) }
         ensures lists { market_lists self.new ≡ market_lists self.old }
-        ensures ok { OnOk result (Passes (market_state self.old) (market_state self.new) node index) }
+        ensures ok { OnOk result (Passes (market_state self.old)
+            (market_state self.new) node index) }
         ensures err { OnErr result (market_state self.new ≡ market_state self.old) }
     {
         if !item_at(&self.has_child, node, true) {
@@ -135,7 +143,8 @@ impl Market {
     pub fn apply(&mut self, what: Move) -> Result<(), AllocError>
         requires { is_legal (market_lists self.old) (market_state self.old) what ≡ true }
         ensures lists { market_lists self.new ≡ market_lists self.old }
-        ensures ok { OnOk result (market_state self.new ≡ step (market_lists self.old) (market_state self.old) what) }
+        ensures ok { OnOk result (market_state self.new
+            ≡ step (market_lists self.old) (market_state self.old) what) }
         ensures err { OnErr result (market_state self.new ≡ market_state self.old) }
     {
         match what {

@@ -25,10 +25,12 @@ pub(crate) fn add_events(
     requires whole { length draft.old.nodes ≡ length draft.old.entries }
     requires few { length specs.now ≤ most_events }
     requires arrays { length draft.old.arrays + most_events < 2 ^ 63 }
-    ensures made { Makes result draft.new (fold_from 1 (add_event phase) draft.old (map event_part specs.now)) }
+    ensures made { Makes result draft.new
+        (fold_from 1 (add_event phase) draft.old (map event_part specs.now)) }
     ensures entries { OnOk result (draft.new.entries ≡ draft.old.entries) }
     ensures nodes { OnOk result (length draft.new.nodes ≡ length draft.old.nodes) }
-    ensures arrays { OnOk result (length draft.new.arrays ≤ length draft.old.arrays + length specs.now) }
+    ensures arrays { OnOk result (length draft.new.arrays
+        ≤ length draft.old.arrays + length specs.now) }
 {
     let mut number = 0;
     for spec in specs {
@@ -100,7 +102,8 @@ fn add_state(
 ) -> Result<(), PlanFault>
     requires whole { length draft.old.nodes ≡ length draft.old.entries }
     requires few { length draft.old.arrays < 2 ^ 63 }
-    ensures made { Makes result draft.new (event_of place phase draft.old (state name.now (state_part value.now))) }
+    ensures made { Makes result draft.new
+        (event_of place phase draft.old (state name.now (state_part value.now))) }
     ensures entries { OnOk result (draft.new.entries ≡ draft.old.entries) }
     ensures nodes { OnOk result (length draft.new.nodes ≡ length draft.old.nodes) }
     ensures arrays { OnOk result (length draft.new.arrays ≤ length draft.old.arrays + 1) }

@@ -48,7 +48,8 @@ impl Plan {
         phases: Vec<PhaseSpec>,
     ) -> Result<Plan, PlanFault>
         requires nodes { AreNodesOf tree (map node_part nodes.items) }
-        ensures plan { Gives refusal_in (λ p. p) result (checked_plan basis tree (map node_part nodes.items) (map phase_part phases.items)) }
+        ensures plan { Gives refusal_in (λ p. p) result
+            (checked_plan basis tree (map node_part nodes.items) (map phase_part phases.items)) }
         ensures phases { IfOk result (λ p. phase_count p ≡ length phases.items) }
     {
         let draft = build(alloc, basis, tree, &nodes, &phases)?;
@@ -66,7 +67,8 @@ fn build(
     phases: &[PhaseSpec],
 ) -> Result<Draft, PlanFault>
     requires nodes { AreNodesOf tree (map node_part nodes.now) }
-    ensures draft { Gives refusal_in (λ draft. draft) result (checked_plan basis tree (map node_part nodes.now) (map phase_part phases.now)) }
+    ensures draft { Gives refusal_in (λ draft. draft) result
+        (checked_plan basis tree (map node_part nodes.now) (map phase_part phases.now)) }
     ensures sound { OnOk result (IsBasis basis) }
     ensures accepted { OnOk result (checked_tree tree ≡ Ok tree) }
     ensures lawful { OnOk result (IsTree (parents_of tree) (leaves_of tree)) }
@@ -92,7 +94,8 @@ fn add_parts(
     requires few_nodes { length nodes.now ≤ most_nodes }
     requires few_phases { length phases.now ≤ most_phases }
     requires arrays { length draft.old.arrays ≡ 0 }
-    ensures { Makes result draft.new (nodes_and_phases draft.old (map node_part nodes.now) (map phase_part phases.now)) }
+    ensures { Makes result draft.new
+        (nodes_and_phases draft.old (map node_part nodes.now) (map phase_part phases.now)) }
 {
     add_nodes(alloc, draft, nodes)?;
     add_phases(alloc, draft, phases)

@@ -28,7 +28,8 @@ pub(crate) fn add_nodes(
     requires one_each { length specs.now ≡ length draft.old.entries }
     requires few { length specs.now ≤ most_nodes }
     requires arrays { length draft.old.arrays ≡ 0 }
-    ensures made { Makes result draft.new (fold_from 1 add_node draft.old (map node_part specs.now)) }
+    ensures made { Makes result draft.new
+        (fold_from 1 add_node draft.old (map node_part specs.now)) }
     ensures entries { OnOk result (draft.new.entries ≡ draft.old.entries) }
     ensures nodes { OnOk result (length draft.new.nodes ≡ length draft.new.entries) }
     ensures arrays { OnOk result (length draft.new.arrays ≤ most_nodes) }

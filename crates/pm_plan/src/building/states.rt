@@ -26,7 +26,8 @@ pub(crate) fn take_state(
     spec: &StateSpec,
 ) -> Result<i64, PlanFault>
     requires few { length draft.old.arrays < 2 ^ 63 }
-    ensures made { MakesValue result draft.new (state_of place kind draft.old (state_part spec.now)) }
+    ensures made { MakesValue result draft.new
+        (state_of place kind draft.old (state_part spec.now)) }
     ensures nodes { OnOk result (draft.new.nodes ≡ draft.old.nodes) }
     ensures entries { OnOk result (draft.new.entries ≡ draft.old.entries) }
     ensures arrays { OnOk result (length draft.new.arrays ≤ length draft.old.arrays + 1) }
@@ -67,7 +68,8 @@ fn take_manual(
     spec: &StateSpec,
 ) -> Result<i64, PlanFault>
     requires few { length draft.old.arrays < 2 ^ 63 }
-    ensures made { MakesValue result draft.new (manual_state place draft.old (state_part spec.now)) }
+    ensures made { MakesValue result draft.new
+        (manual_state place draft.old (state_part spec.now)) }
     ensures nodes { OnOk result (draft.new.nodes ≡ draft.old.nodes) }
     ensures entries { OnOk result (draft.new.entries ≡ draft.old.entries) }
     ensures arrays { OnOk result (length draft.new.arrays ≤ length draft.old.arrays + 1) }
@@ -83,7 +85,8 @@ fn manual_bid(
     place: Place,
     spec: &StateSpec,
 ) -> Result<ArrayBid, PlanFault>
-    ensures { Gives refusal_in (λ bid. bid) result (manual_bid place basis.now (state_part spec.now)) }
+    ensures { Gives refusal_in (λ bid. bid) result
+        (manual_bid place basis.now (state_part spec.now)) }
 {
     match spec {
         StateSpec::Number(_) => Err(PlanFault::Refused(Refusal::at(Cause::UnfitState, place))),
@@ -99,7 +102,8 @@ fn bid_of_demands(
     place: Place,
     demands: &[i64],
 ) -> Result<ArrayBid, PlanFault>
-    ensures { Gives refusal_in (λ bid. bid) result (array_or_refuse place (checked_bid basis.now.steps demands.now)) }
+    ensures { Gives refusal_in (λ bid. bid) result
+        (array_or_refuse place (checked_bid basis.now.steps demands.now)) }
 {
     let demands = demands.to_vec(alloc)?;
     match ArrayBid::new(demands, basis.steps(), &mut Steps::<Brand>::start()) {
@@ -115,7 +119,8 @@ fn bid_of_points(
     place: Place,
     points: &[(i64, i64)],
 ) -> Result<ArrayBid, PlanFault>
-    ensures { Gives refusal_in (λ bid. bid) result (points_or_refuse basis.now place (checked_points basis.now points.now)) }
+    ensures { Gives refusal_in (λ bid. bid) result
+        (points_or_refuse basis.now place (checked_points basis.now points.now)) }
 {
     let points = points.to_vec(alloc)?;
     match PointBid::new(points, basis) {

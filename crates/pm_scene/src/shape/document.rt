@@ -27,7 +27,8 @@ pub(crate) struct Shape {
 
 /// A member of the document.
 fn member_at<'a>(value: &'a Value, name: &str) -> Result<&'a Value, Refusal>
-    ensures { MatchResult result (λ v. need Cause.MissingMember Document (get name.now (view value.now)) ≡ Ok (view v.now))
+    ensures { MatchResult result
+        (λ v. need Cause.MissingMember Document (get name.now (view value.now)) ≡ Ok (view v.now))
         (λ e. need Cause.MissingMember Document (get name.now (view value.now)) ≡ Err e) }
 {
     value

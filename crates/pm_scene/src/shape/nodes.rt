@@ -157,7 +157,8 @@ pub(super) fn read_nodes(
     knows_limited: bool,
     values: &[Value],
 ) -> Result<Vec<NamedNode>, PlanFault>
-    ensures { Gives refusal_in (λ v. map named_part v.items) result (nodes_of knows_limited (map view values.now)) }
+    ensures { Gives refusal_in (λ v. map named_part v.items) result
+        (nodes_of knows_limited (map view values.now)) }
 {
     let mut nodes = Vec::new(alloc);
     let mut number: u32 = 0;

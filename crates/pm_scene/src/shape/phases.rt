@@ -46,7 +46,8 @@ fn read_spec(alloc: Global, form: EventForm, value: &Value) -> Result<EventSpec,
 /// An event of the file.
 #[tactic(auto, unfolding(crate::specs::Phases::event_shape))]
 fn read_event(alloc: Global, phase: u32, number: u32, value: &Value) -> Result<EventSpec, PlanFault>
-    ensures { Gives refusal_in event_part result (event_shape (Place.Event phase number) (view value.now)) }
+    ensures { Gives refusal_in event_part result
+        (event_shape (Place.Event phase number) (view value.now)) }
 {
     let place = Place::Event { phase, number };
     let form = event_form(value);
@@ -56,7 +57,8 @@ fn read_event(alloc: Global, phase: u32, number: u32, value: &Value) -> Result<E
 
 /// The events of a phase, counted from 1.
 fn read_events(alloc: Global, phase: u32, values: &[Value]) -> Result<Vec<EventSpec>, PlanFault>
-    ensures { Gives refusal_in (λ v. map event_part v.items) result (events_of phase (map view values.now)) }
+    ensures { Gives refusal_in (λ v. map event_part v.items) result
+        (events_of phase (map view values.now)) }
 {
     let mut events = Vec::new(alloc);
     let mut number: u32 = 0;
@@ -100,7 +102,8 @@ fn read_phase(alloc: Global, number: u32, value: &Value) -> Result<PhaseSpec, Pl
 
 /// The phases of the file, counted from 1.
 pub(super) fn read_phases(alloc: Global, values: &[Value]) -> Result<Vec<PhaseSpec>, PlanFault>
-    ensures { Gives refusal_in (λ v. map phase_part v.items) result (phases_of (map view values.now)) }
+    ensures { Gives refusal_in (λ v. map phase_part v.items) result
+        (phases_of (map view values.now)) }
 {
     let mut phases = Vec::new(alloc);
     let mut number: u32 = 0;

@@ -84,5 +84,6 @@ returns-clause-own c s stands =
 
 pub returns-clause-step : goal.returns-clause-step
 returns-clause-step c s stands =
-    so_told (goal.at.returns-clause-step c).After-held s (λ price. price.step ≡ local_step_at c.args.self.now.plan (cleared_cut s price.index) c.args.device.0) stands
+    so_told (goal.at.returns-clause-step c).After-held s
+    (λ price. price.step ≡ local_step_at c.args.self.now.plan (cleared_cut s price.index) c.args.device.0) stands
     (λ price own. own.step)

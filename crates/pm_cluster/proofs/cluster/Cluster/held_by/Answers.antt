@@ -28,7 +28,8 @@ returns-in_default c = record {
       let plan = c.args.self.now.plan in
       let x = c.args.node.0 in
       ap pair_of (c.in_default.ensures.held s stands) ∙ pairs_are plan s x
-      ∙ sym (cond-true (is_leaf (plan_lists plan) x) (holding (plan_lists plan) (local_step_at plan) s x) None (leaf (goal.at.returns-in_default c).After-held));
+      ∙ sym (cond-true (is_leaf (plan_lists plan) x) (holding (plan_lists plan) (local_step_at plan) s x) None
+      (leaf (goal.at.returns-in_default c).After-held));
 }
 
 pub returns : goal.returns
