@@ -1,5 +1,6 @@
 """Whether each concept has one home: one meaning a name, one place a lemma, one name a limit. And whether what is written
-can be read: no line above a limit, a comment on each public lemma.
+can be read: no line above a limit, no clause above 100 columns, no definition named by a bare participle, a comment on each
+public lemma.
 
 Looks at the sources, definitions and proofs of all crates, tests and comments left out. Prints a line for each finding
 and ends with 'N passed, M failed'.
@@ -16,8 +17,48 @@ CRATES = TOP / "crates"
 # Names that two crates use for one thing: of a plan, and of the lists of the market of cuts that it stands for.
 OF_PLAN_AND_LISTS = {"is_leaf", "is_member", "parent", "phases"}
 
-# The crates of tests alone.
+# The crates of tests alone, and the programs that measure and try, whose names no crate uses.
 TESTS = {"pm_played", "pm_threaded", "pm_whole", "pm_worked"}
+TOOLS = {"measure", "trials"}
+
+# Functions of code that have one name in two crates, and the one thing that the name says in both.
+SAME_IN_CODE = {
+    "change": "makes a change of a device",
+    "clear": "the auctioneer clears",
+    "close": "closes the open phase",
+    "concentrator": "a concentrator",
+    "find_rise": "the first place of a list that rises",
+    "find_too_large": "the first place of a list whose number is too large",
+    "group_of": "the group of a node",
+    "is_device": "whether a node of a plan is a device",
+    "limits_of": "the limits of a node",
+    "make_change": "makes a change of a device",
+    "make_changes": "makes the changes of a phase",
+    "make_phases": "makes the phases",
+    "make_plan": "makes a plan of its parts",
+    "no_changes": "no change of any device",
+    "pass": "a concentrator passes a price on",
+    "power_of": "the power of a device",
+    "publish": "a concentrator publishes",
+    "run": "runs what the crate is for to its end",
+    "run_free": "a run over links without a lock",
+    "start_of": "a device before its first change",
+    "starts": "the devices before their first change",
+    "take_bid": "takes the bid that waits on a link",
+    "take_price": "takes the price that waits on a link",
+}
+
+# The most columns of a line of a clause.
+CLAUSE_LIMIT = 100
+
+# Participles that do not end in -ed or -ing.
+IRREGULAR = {
+    "begun", "broken", "drawn", "given", "gone", "heard", "held", "kept", "known", "learnt", "left", "made", "met", "put", "read",
+    "said", "seen", "sent", "taken", "told", "took", "written",
+}
+
+# Nouns that look like participles.
+NOUNS = {"clearing", "holding", "need", "setting"}
 
 # The most bytes of a line of sources, definitions and proofs.
 LINE_LIMIT = 160
@@ -43,6 +84,8 @@ OTHER_MEANINGS = [
 
 DEFINITION = re.compile(r"^(?:abbrev pub|unfoldable pub|pub record|pub data|abbrev|unfoldable|record|data) (\S+)", re.M)
 LEMMA = re.compile(r"^(?:pub )?([^\s:({]+) : (.*?)(?=\n\S|\Z)", re.M | re.S)
+CODE_NAME = re.compile(r"^(?:pub(?:\(crate\))? )?(?:const )?(fn|struct|enum|trait) (\w+)", re.M)
+CLAUSE = re.compile(r"\s*(?:requires|ensures)\*?(?: \w+)? \{")
 NUMBER = re.compile(r"(?<![\w.\-])\d[\d_]*(?![\w.])")
 
 
@@ -70,6 +113,38 @@ def names_with_two_homes():
     for name, crates in sorted(homes.items()):
         if len(crates) > 1 and name not in OF_PLAN_AND_LISTS:
             yield f"the definition {name} stands in {', '.join(sorted(crates))}"
+
+
+def names_of_code_with_two_homes():
+    homes = defaultdict(set)
+    for crate, _, text in files("src"):
+        if crate not in TOOLS:
+            for sort, name in CODE_NAME.findall(text):
+                homes["function" if sort == "fn" else "type", name].add(crate)
+    for (sort, name), crates in sorted(homes.items()):
+        if len(crates) > 1 and name not in SAME_IN_CODE and name != "main":
+            yield f"the {sort} {name} stands in {', '.join(sorted(crates))}"
+    for name in SAME_IN_CODE:
+        if len(homes["function", name]) < 2:
+            yield f"the function {name} has one home, and needs no place in SAME_IN_CODE"
+
+
+def definitions_named_by_participles():
+    for _, path, text in files("specs"):
+        for name in DEFINITION.findall(text):
+            is_participle = name in IRREGULAR or re.fullmatch(r"[a-z]+(ed|ing)", name)
+            if is_participle and name not in NOUNS:
+                yield f"the definition {name} in {path} is named by a bare participle, and does not say what it gives"
+
+
+def long_clauses():
+    for _, path, text in files("src"):
+        depth = 0
+        for number, line in enumerate(text.split("\n"), 1):
+            if depth or CLAUSE.match(line):
+                depth += line.count("{") - line.count("}")
+                if len(line) > CLAUSE_LIMIT:
+                    yield f"a clause above {CLAUSE_LIMIT} columns in {path}: {number}"
 
 
 def said_alike(statement):
@@ -119,7 +194,17 @@ def lemmas_without_words():
 
 def main():
     passed, failed = 0, 0
-    for check in (names_with_two_homes, lemmas_with_two_homes, bare_limits, long_lines, lemmas_without_words):
+    checks = (
+        names_with_two_homes,
+        names_of_code_with_two_homes,
+        definitions_named_by_participles,
+        lemmas_with_two_homes,
+        bare_limits,
+        long_lines,
+        long_clauses,
+        lemmas_without_words,
+    )
+    for check in checks:
         findings = list(check())
         for it in findings:
             print(it)

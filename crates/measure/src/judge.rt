@@ -3,8 +3,8 @@
 
 use crate::lists::market_of;
 use anyhow::Context;
+use pm_check::read_line;
 use pm_envelope::open_envelope;
-use pm_lines::read_line;
 use pm_market::Market;
 use pm_plan::Plan;
 use pm_scene::read_scene;

@@ -6,8 +6,10 @@
 //! cite, by subject.
 #![tactic(auto)]
 
+mod cuts;
 mod limits;
 
+pub use cuts::number_in_cut;
 pub use limits::{
     DEMAND_LIMIT, LEAST_STEPS, Limits, MOST_CHANGES, MOST_DEPTH, MOST_EVENTS, MOST_NODES,
     MOST_PHASES, MOST_STEPS, PRICE_LIMIT, SUM_LIMIT, WINDOW_SIZE, constants_are_the_limits,

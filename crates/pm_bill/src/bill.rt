@@ -10,7 +10,7 @@ ghost use Rattle.pm_bill.specs.Text.{bill_text};
 
 use crate::account::Account;
 use crate::share::{GroupSum, Share};
-use crate::sums::{add_shares, sums_of};
+use crate::sums::{add_shares, sums_of_groups};
 use crate::text::{push_accounts, push_grid, push_ticks};
 use pm_plan::Plan;
 use pm_tree::{NodeId, Tree};
@@ -93,7 +93,7 @@ impl Bill {
         ensures minutes { self.new.minutes ≡ self.old.minutes +ℤ minutes }
     {
         add_shares(&mut self.accounts, shares, minutes);
-        let (cost, power) = sums_of(groups);
+        let (cost, power) = sums_of_groups(groups);
         self.grid.add(-cost, -power, minutes);
         self.ticks += 1;
         self.minutes += minutes;

@@ -26,7 +26,7 @@ pub(crate) fn add_shares(accounts: &mut [Account], shares: &[Share], minutes: i6
 }
 
 /// What the power of groups costs a minute, and how much it is in watts.
-pub(crate) fn sums_of(groups: &[GroupSum]) -> (i128, i128)
+pub(crate) fn sums_of_groups(groups: &[GroupSum]) -> (i128, i128)
     requires { AreGroups groups.now }
     ensures cost { result.0 ≡ sum_each group_cost groups.now }
     ensures power { result.1 ≡ sum_each (λ group. group.power) groups.now }

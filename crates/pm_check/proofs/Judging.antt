@@ -21,7 +21,7 @@ use Rattle.pm_offer.specs.Offers.{local_step_at}
 use Rattle.pm_report.specs.Words.{text_line}
 use Rattle.pm_report.specs.Trace.{IsLineOfRun, move_line}
 use Rattle.pm_report.proofs.Traces.{same_one}
-use Rattle.pm_lines.specs.Reading.{Reads}
+use Rattle.pm_check.specs.MoveReading.{Reads}
 use Rattle.pm_envelope.specs.Lines.{HasNoLineFeed}
 use Rattle.pm_check.specs.declared.judge.Judge.{Judge}
 use Rattle.pm_check.specs.Lines.{IsWholeLine, text_of_lines}

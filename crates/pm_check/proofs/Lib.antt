@@ -6,3 +6,9 @@ pub mod Judgements
 pub mod Cleared
 pub mod Making
 pub mod Judging
+pub mod Splitting
+pub mod Digits
+pub mod NodeNames
+pub mod StepPrices
+pub mod Readings
+pub mod MoveLines

@@ -2,3 +2,4 @@ pub mod Lines
 pub mod Traces
 pub mod Judges
 pub mod Reading
+pub mod MoveReading

@@ -1,5 +1,4 @@
 ghost use Rattle.std.specs.Prelude.{◌≡◌, ◌≢◌, ◌↔◌, ◌≤◌, true, false, length, IsTrue, IfOk, OnOk};
-ghost use Rattle.pm_base.specs.Cuts.{cut_of};
 ghost use Rattle.pm_market.specs.Lists.{phases};
 ghost use Rattle.pm_market.specs.State.{start};
 ghost use Rattle.pm_market.specs.Legality.{is_legal};
@@ -8,8 +7,9 @@ ghost use Rattle.pm_market.specs.declared.moves.Move.{Move};
 ghost use Rattle.pm_report.specs.Trace.{NamesNodes};
 
 use crate::lists::market_of;
+use crate::reading::read_line;
 use crate::steps::ClearedSteps;
-use pm_lines::read_line;
+use pm_base::number_in_cut;
 use pm_market::{Market, Move};
 use pm_plan::Plan;
 use pm_tree::NodeId;
@@ -114,7 +114,7 @@ impl Judge {
             return None;
         }
         let index = self.market.last_passed(at);
-        let number = number_at(self.market.cleared(index), at);
+        let number = number_in_cut(self.market.cleared(index), at);
         let step = self.steps.step(plan, index, NodeId(node));
         Some((step, number))
     }
@@ -130,11 +130,4 @@ fn is_same(one: Option<(u32, u32)>, other: Option<(u32, u32)>) -> bool
         (None, None) => true,
         (Some(_), None) | (None, Some(_)) => false,
     }
-}
-
-/// The number that a cut has at a place, 0 where there is none.
-fn number_at(cut: &[u32], at: usize) -> u32
-    ensures { result ≡ cut_of cut.now at }
-{
-    cut.get(at).copied().unwrap_or(0)
 }

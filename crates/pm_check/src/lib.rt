@@ -4,10 +4,11 @@
 //! cuts (`pm_market`), and then made there. No cluster, cache or record takes part: a trace is judged by the definitions of
 //! the moves, of the plain auction and of the lines alone. So a run can be judged later, elsewhere, and by another build.
 //!
-//! `lines` splits a text, `lists` makes the market of a plan, `steps` keeps the plain auction of each clearing, `judge` has
-//! a market with these steps and takes one line a call, and `trace` judges a whole trace. The definitions stand in `specs/`:
-//! `Lines` (the lines of a text), `Traces` (which line is due, valid traces, the bad line), `Judges` and `Reading` (what is
-//! kept while a trace is read).
+//! `lines` splits a text, `reading` reads a line ([`read_line`]), `lists` makes the market of a plan, `steps` keeps the
+//! plain auction of each clearing, `judge` has a market with these steps and takes one line a call, and `trace` judges a
+//! whole trace. The definitions stand in `specs/`: `Lines` (the lines of a text), `MoveReading` (the line that tells a
+//! move), `Traces` (which line is due, valid traces, the bad line), `Judges` and `Reading` (what is kept while a trace is
+//! read).
 #![tactic(auto)]
 
 mod fault;
@@ -15,9 +16,11 @@ mod judge;
 mod law;
 mod lines;
 mod lists;
+mod reading;
 mod steps;
 mod trace;
 
 pub use fault::CheckFault;
 pub use law::traces_have_one_judgement;
+pub use reading::read_line;
 pub use trace::check;

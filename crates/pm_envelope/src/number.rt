@@ -11,7 +11,7 @@ pub fn number_up_to(most: u32, text: &[u8]) -> Option<u32>
     if text.is_empty() || has_leading_zero(text) {
         return None;
     }
-    value_up_to(most, text)
+    value_of_digits(most, text)
 }
 
 /// Whether a zero stands before other bytes.
@@ -22,7 +22,7 @@ fn has_leading_zero(text: &[u8]) -> bool
 }
 
 /// The value of decimal digits, where all bytes are digits and it is at most `most`.
-fn value_up_to(most: u32, digits: &[u8]) -> Option<u32>
+fn value_of_digits(most: u32, digits: &[u8]) -> Option<u32>
     ensures { SomeIff result (AllDigits 10 digits.now × (digits_value 10 digits.now ≤ most))
         (digits_value 10 digits.now) }
 {

@@ -11,7 +11,7 @@ const YIELDS_OF_A_LEVEL: u32 = 30;
 
 /// Which nodes of a tree wait before each of their turns.
 #[derive(Clone, Copy)]
-pub enum Held {
+pub enum HeldNodes {
     /// The first node of the file.
     First,
     /// The last one.
@@ -24,14 +24,14 @@ pub enum Held {
     Depth,
 }
 
-impl fmt::Display for Held {
+impl fmt::Display for HeldNodes {
     fn fmt<W: fmt::Write>(&self, f: &mut fmt::Formatter<W>) -> fmt::Result {
         match self {
-            Held::First => write!(f, "the first node"),
-            Held::Last => write!(f, "the last node"),
-            Held::Auctioneer => write!(f, "the auctioneer"),
-            Held::Subtree => write!(f, "a subtree"),
-            Held::Depth => write!(f, "nodes by their depth"),
+            HeldNodes::First => write!(f, "the first node"),
+            HeldNodes::Last => write!(f, "the last node"),
+            HeldNodes::Auctioneer => write!(f, "the auctioneer"),
+            HeldNodes::Subtree => write!(f, "a subtree"),
+            HeldNodes::Depth => write!(f, "nodes by their depth"),
         }
     }
 }
@@ -40,14 +40,14 @@ impl fmt::Display for Held {
 pub(crate) fn holding_gate(
     alloc: Global,
     tree: &Tree,
-    held: Held,
+    held: HeldNodes,
 ) -> Result<HoldingGate, AllocError> {
     let yields = match held {
-        Held::First => yields_of_node(alloc, tree, 1)?,
-        Held::Last => yields_of_node(alloc, tree, tree.len())?,
-        Held::Auctioneer => yields_of_node(alloc, tree, 0)?,
-        Held::Subtree => yields_below(alloc, tree, first_concentrator(tree))?,
-        Held::Depth => yields_by_depth(alloc, tree)?,
+        HeldNodes::First => yields_of_node(alloc, tree, 1)?,
+        HeldNodes::Last => yields_of_node(alloc, tree, tree.len())?,
+        HeldNodes::Auctioneer => yields_of_node(alloc, tree, 0)?,
+        HeldNodes::Subtree => yields_below(alloc, tree, first_concentrator(tree))?,
+        HeldNodes::Depth => yields_by_depth(alloc, tree)?,
     };
     Ok(HoldingGate::new(yields))
 }

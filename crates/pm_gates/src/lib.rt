@@ -15,7 +15,7 @@ mod telling;
 
 pub use closing::ClosingGate;
 pub use drawing::DrawingGate;
-pub use held::Held;
+pub use held::HeldNodes;
 pub use holding::HoldingGate;
 pub use meeting::{MeetingGate, Moment};
 pub use schedule::{SCHEDULES, Schedule};

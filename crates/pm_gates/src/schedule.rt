@@ -1,5 +1,5 @@
 use crate::drawing::DrawingGate;
-use crate::held::{Held, holding_gate};
+use crate::held::{HeldNodes, holding_gate};
 use crate::meeting::{MeetingGate, Moment};
 use crate::scheduled::ScheduledGate;
 use pm_tree::{NodeId, Tree};
@@ -20,7 +20,7 @@ pub enum Schedule {
     /// The first device and the last one wait for each other.
     Meeting(Moment),
     /// Some nodes wait before each turn.
-    Held(Held),
+    Held(HeldNodes),
     /// Turns wait that are drawn from a seed.
     Drawn { seed: u64 },
 }
@@ -30,11 +30,11 @@ pub const SCHEDULES: [Schedule; 11] = [
     Schedule::Open,
     Schedule::Meeting(Moment::Line),
     Schedule::Meeting(Moment::Turn),
-    Schedule::Held(Held::First),
-    Schedule::Held(Held::Last),
-    Schedule::Held(Held::Auctioneer),
-    Schedule::Held(Held::Subtree),
-    Schedule::Held(Held::Depth),
+    Schedule::Held(HeldNodes::First),
+    Schedule::Held(HeldNodes::Last),
+    Schedule::Held(HeldNodes::Auctioneer),
+    Schedule::Held(HeldNodes::Subtree),
+    Schedule::Held(HeldNodes::Depth),
     Schedule::Drawn { seed: 1 },
     Schedule::Drawn { seed: 2 },
     Schedule::Drawn { seed: 3 },

@@ -11,7 +11,7 @@ use Rattle.pm_plan.specs.declared.planned.Planned.TheVariants.{Join, Leave, Tick
 use Rattle.pm_plan.specs.Devices.{DeviceData, member_after, is_member_after}
 use Rattle.pm_plan.specs.declared.node.Node.TheVariants.{Concentrator, Limited, Device}
 use Rattle.pm_plan.specs.Plans.{PlanData, NodeData, node, node_at, is_device, changes_of, all_changes}
-use Rattle.pm_plan.specs.Building.{with_change, map_device, with_change_of, is_member_now, ticks_now, ticked, with_tick}
+use Rattle.pm_plan.specs.Building.{with_change, map_device, with_change_of, is_member_now, ticks_now, device_after_tick, with_tick}
 use Rattle.pm_plan.proofs.DeviceNodes.{is_device-map_device}
 use Rattle.pm_gen.specs.Nodes.{demo_entries, concentrator_count}
 use Rattle.pm_gen.specs.Rounds.{is_joined}
@@ -154,7 +154,8 @@ member_at-chosen p minutes old true = fold_push (λ (member : Bool) (change : Ch
     (record { phase = p; what = Tick minutes })
 member_at-chosen p minutes old false = refl
 
-member_at-tick : (p : ℕ) (minutes : ℤ) (n : NodeData) → is_member_after (changes_of (map_device (ticked p minutes) n)) ≡ is_member_after (changes_of n)
+member_at-tick : (p : ℕ) (minutes : ℤ) (n : NodeData) → is_member_after (changes_of (map_device (device_after_tick p minutes) n))
+    ≡ is_member_after (changes_of n)
 member_at-tick p minutes (Device planned) = member_at-chosen p minutes planned (ticks_now planned)
 member_at-tick p minutes Concentrator = refl
 member_at-tick p minutes (Limited limits) = refl
@@ -164,42 +165,43 @@ changes_at-chosen : (p : ℕ) (minutes : ℤ) (old : DeviceData) (b : Bool) →
 changes_at-chosen p minutes old true = omega (arith, length-append old.changes ((record { phase = p; what = Tick minutes }) ∷ []))
 changes_at-chosen p minutes old false = omega arith
 
-changes_at-tick : (p : ℕ) (minutes : ℤ) (n : NodeData) → length (changes_of (map_device (ticked p minutes) n)) ≤ length (changes_of n) + 1
+changes_at-tick : (p : ℕ) (minutes : ℤ) (n : NodeData) → length (changes_of (map_device (device_after_tick p minutes) n)) ≤ length (changes_of n) + 1
 changes_at-tick p minutes (Device planned) = changes_at-chosen p minutes planned (ticks_now planned)
 changes_at-tick p minutes Concentrator = omega arith
 changes_at-tick p minutes (Limited limits) = omega arith
 
-all_changes-tick : (p : ℕ) (minutes : ℤ) (nodes : List NodeData) → all_changes (map (map_device (ticked p minutes)) nodes)
+all_changes-tick : (p : ℕ) (minutes : ℤ) (nodes : List NodeData) → all_changes (map (map_device (device_after_tick p minutes)) nodes)
     ≤ all_changes nodes + length nodes
 all_changes-tick p minutes [] = omega arith
 all_changes-tick p minutes (n ∷ nodes) =
     let rest = all_changes-tick p minutes nodes in
     let first = changes_at-tick p minutes n in
     let old = sum_by-cons (λ (m : NodeData). length (changes_of m)) n nodes in
-    let new = sum_by-cons (λ (m : NodeData). length (changes_of m)) (map_device (ticked p minutes) n) (map (map_device (ticked p minutes)) nodes) in
+    let new = sum_by-cons (λ (m : NodeData). length (changes_of m)) (map_device (device_after_tick p minutes) n)
+    (map (map_device (device_after_tick p minutes)) nodes) in
     omega arith
 
 -- the node of a number after the tick
-ticked-at : (nodes : List NodeData) (p d : ℕ) (minutes : ℤ) → 1 ≤ d → d ≤ length nodes →
-    node_at (map (map_device (ticked p minutes)) nodes) d ≡ map_device (ticked p minutes) (node_at nodes d)
-ticked-at nodes p d minutes low high =
-    node_at-below (map (map_device (ticked p minutes)) nodes) d low
-    ∙ get_or-map (map_device (ticked p minutes)) nodes (d - 1) Concentrator Concentrator (omega arith)
-    ∙ ap (map_device (ticked p minutes)) (sym (node_at-below nodes d low))
+device_after_tick-at : (nodes : List NodeData) (p d : ℕ) (minutes : ℤ) → 1 ≤ d → d ≤ length nodes →
+    node_at (map (map_device (device_after_tick p minutes)) nodes) d ≡ map_device (device_after_tick p minutes) (node_at nodes d)
+device_after_tick-at nodes p d minutes low high =
+    node_at-below (map (map_device (device_after_tick p minutes)) nodes) d low
+    ∙ get_or-map (map_device (device_after_tick p minutes)) nodes (d - 1) Concentrator Concentrator (omega arith)
+    ∙ ap (map_device (device_after_tick p minutes)) (sym (node_at-below nodes d low))
 
 -- the draft stands so after a tick too, with at most one change more for each node
 pub stands-ticked : (size : ℕ) (earlier : List ℕ) (most : ℕ) (plan : PlanData) (p : ℕ) (minutes : ℤ) → Stands size earlier most plan →
     Stands size earlier (most + (concentrator_count size + size)) (with_tick p minutes plan)
 stands-ticked size earlier most plan p minutes stands = record {
   entries_are = stands.entries_are;
-  one_each = length-map plan.nodes (map_device (ticked p minutes)) ∙ stands.one_each;
+  one_each = length-map plan.nodes (map_device (device_after_tick p minutes)) ∙ stands.one_each;
   devices = λ i low high.
-      ap is_device (ticked-at plan.nodes p (concentrator_count size + i) minutes (omega arith) (omega (arith, stands.one_each)))
-      ∙ is_device-map_device (ticked p minutes) (node plan (concentrator_count size + i))
+      ap is_device (device_after_tick-at plan.nodes p (concentrator_count size + i) minutes (omega arith) (omega (arith, stands.one_each)))
+      ∙ is_device-map_device (device_after_tick p minutes) (node plan (concentrator_count size + i))
       ∙ stands.devices i low high;
   joined = λ i low high.
       ap (λ (n : NodeData). is_member_after (changes_of n))
-      (ticked-at plan.nodes p (concentrator_count size + i) minutes (omega arith) (omega (arith, stands.one_each)))
+      (device_after_tick-at plan.nodes p (concentrator_count size + i) minutes (omega arith) (omega (arith, stands.one_each)))
       ∙ member_at-tick p minutes (node plan (concentrator_count size + i))
       ∙ stands.joined i low high;
   few = omega (arith, all_changes-tick p minutes plan.nodes, stands.few, stands.one_each);

@@ -11,7 +11,7 @@ use Rattle.std.proofs.lemmas.Bool.Decides.{nat_tests}
 use Rattle.pm_plan.specs.Parts.{EventPart, PhasePart, events, tick, join, leave}
 use Rattle.pm_gen.specs.Draws.{next, draw_below}
 use Rattle.pm_gen.specs.Nodes.{device_name}
-use Rattle.pm_gen.specs.Rounds.{picks, is_joined, joined_flags, turn, turns, round_len, round_picks, rounds, seed_after}
+use Rattle.pm_gen.specs.Rounds.{picks, is_joined, joined_flags, turn_event, turns, round_len, round_picks, rounds, seed_after}
 use Rattle.pm_gen.proofs.Ranges.{range_with_len-append}
 use Rattle.pm_gen.proofs.Drafts.{is_joined-same, is_joined-other}
 use Rattle.pm_gen.proofs.Turns.{not_turned}
@@ -31,12 +31,13 @@ picks-more (suc n) size seed =
     let one : suc n + 1 ≡ suc (n + 1) = omega arith in
     ap (λ m. picks m size seed) one ∙ ap (λ devices. (1 + draw_below size seed) ∷ devices) (picks-more n size (next seed))
 
-turns-more : (earlier devices : List ℕ) (i : ℕ) → turns earlier (devices ++ i ∷ []) ≡ turns earlier devices ++ turn (earlier ++ devices) i ∷ []
+turns-more : (earlier devices : List ℕ) (i : ℕ) → turns earlier (devices ++ i ∷ [])
+    ≡ turns earlier devices ++ turn_event (earlier ++ devices) i ∷ []
 unfolding turns
-turns-more earlier [] i = ap (λ es. turn es i ∷ []) (sym (append-nil earlier))
+turns-more earlier [] i = ap (λ es. turn_event es i ∷ []) (sym (append-nil earlier))
 turns-more earlier (d ∷ devices) i =
-    ap (λ events. turn earlier d ∷ events) (turns-more (earlier ++ d ∷ []) devices i
-    ∙ ap (λ es. turns (earlier ++ d ∷ []) devices ++ turn es i ∷ []) (append_assoc earlier (d ∷ []) devices))
+    ap (λ events. turn_event earlier d ∷ events) (turns-more (earlier ++ d ∷ []) devices i
+    ∙ ap (λ es. turns (earlier ++ d ∷ []) devices ++ turn_event es i ∷ []) (append_assoc earlier (d ∷ []) devices))
 
 -- ---- flags
 

@@ -15,7 +15,7 @@ use Rattle.pm_plan.specs.Refusals.{need, check}
 use Rattle.pm_base.specs.Outcomes.{◌>>=◌, ◌>>◌, fold_from}
 use Rattle.pm_gen.specs.Draws.{next}
 use Rattle.pm_gen.specs.Nodes.{device_name, concentrator_count}
-use Rattle.pm_gen.specs.Rounds.{picks, is_joined, turn, turns}
+use Rattle.pm_gen.specs.Rounds.{picks, is_joined, turn_event, turns}
 use Rattle.pm_gen.proofs.Ranges.{range_with_len-append}
 use Rattle.pm_gen.proofs.Trees.{device_named-demo}
 use Rattle.pm_gen.proofs.Drafts.{Stands, turning, stands-turned}
@@ -39,16 +39,16 @@ join-accepted place p plan name d named stranger =
     ∙ ap (λ b. (check cause.JoinedAlready place (not b) >> Ok d) >>= λ e. Ok (with_change_of plan e p Join)) stranger
 
 module _ (size : ℕ) (few : size ≤ 200) where
-  turn-accepted : (earlier : List ℕ) (most : ℕ) (plan : PlanData) (i : ℕ) (place : Place) (p : ℕ) → Stands size earlier most plan →
+  turn_event-accepted : (earlier : List ℕ) (most : ℕ) (plan : PlanData) (i : ℕ) (place : Place) (p : ℕ) → Stands size earlier most plan →
       1 ≤ i → i ≤ size
-      → event_of place p plan (turn earlier i) ≡ Ok (with_change_of plan (concentrator_count size + i) p (turning (is_joined earlier i)))
-  turn-accepted earlier most plan i place p stands low high = by (is_joined earlier i) refl
+      → event_of place p plan (turn_event earlier i) ≡ Ok (with_change_of plan (concentrator_count size + i) p (turning (is_joined earlier i)))
+  turn_event-accepted earlier most plan i place p stands low high = by (is_joined earlier i) refl
     where
       named : device_named plan.entries (device_name i) ≡ Some (concentrator_count size + i)
       named = ap (λ entries. device_named entries (device_name i)) stands.entries_are ∙ device_named-demo size i low high few
 
       by : (b : Bool) → is_joined earlier i ≡ b →
-          event_of place p plan (turn earlier i) ≡ Ok (with_change_of plan (concentrator_count size + i) p (turning (is_joined earlier i)))
+          event_of place p plan (turn_event earlier i) ≡ Ok (with_change_of plan (concentrator_count size + i) p (turning (is_joined earlier i)))
       by true is =
           ap (λ b. event_of place p plan (if b then leave (device_name i) else join (device_name i))) is
           ∙ leave-accepted place p plan (device_name i) (concentrator_count size + i) named (stands.joined i low high ∙ is)
@@ -85,7 +85,7 @@ module _ (size : ℕ) (few : size ≤ 200) where
   )
   turns-accepted n p earlier (i ∷ devices) most plan all stands =
       let new : PlanData = with_change_of plan (concentrator_count size + i) p (turning (is_joined earlier i)) in
-      let here = turn-accepted earlier most plan i (Event p n) p stands all.0.0 all.0.1 in
+      let here = turn_event-accepted earlier most plan i (Event p n) p stands all.0.0 all.0.1 in
       let rest = turns-accepted (n + 1) p (earlier ++ i ∷ []) devices (most + 1) new all.1
       (stands-turned size earlier most plan stands i all.0.0 all.0.1 p) in
       let longer : most + 1 + length devices ≡ most + length (i ∷ devices) = omega arith in (

@@ -25,13 +25,13 @@ abbrev pub joined_flags : ℕ → List ℕ → List Bool
 joined_flags size earlier = map (is_joined earlier) (range_with_len 1 size)
 
 -- an event of a device after events of these: a leave where it is joined, else a join
-abbrev pub turn : List ℕ → ℕ → EventPart
-turn earlier i = if is_joined earlier i then leave (device_name i) else join (device_name i)
+abbrev pub turn_event : List ℕ → ℕ → EventPart
+turn_event earlier i = if is_joined earlier i then leave (device_name i) else join (device_name i)
 
 -- the events of devices, one after another, after events of the earlier ones
 unfoldable pub turns : List ℕ → List ℕ → List EventPart
 turns earlier [] = []
-turns earlier (i ∷ rest) = turn earlier i ∷ turns (earlier ++ i ∷ []) rest
+turns earlier (i ∷ rest) = turn_event earlier i ∷ turns (earlier ++ i ∷ []) rest
 
 -- how many events a round has
 abbrev pub round_len : ℕ → ℕ

@@ -47,7 +47,7 @@ fn join_all(alloc: Global, size: u32) -> Result<Vec<EventSpec>, AllocError>
 }
 
 /// The event that turns a device round, which is at this place from 0: it leaves where it is joined, else it joins.
-fn turn(alloc: Global, members: &mut [bool], place: usize) -> Result<EventSpec, AllocError>
+fn turn_event(alloc: Global, members: &mut [bool], place: usize) -> Result<EventSpec, AllocError>
     requires inside { place < length members.old }
     requires few { length members.old ≤ 200 }
     ensures event { IfOk result (λ event. event_part event
@@ -87,7 +87,7 @@ fn turn_round(
     let mut events = Vec::new(alloc);
     for _ in 0..members.len() / 10 + 1 {
         let place = draws.draw(members.len() as u32) as usize;
-        events.push(turn(alloc, members, place)?)?;
+        events.push(turn_event(alloc, members, place)?)?;
     }
     Ok(events)
 }

@@ -22,3 +22,7 @@ pub mod TreeAuctions
 pub mod Unstuck
 pub mod HeldPrices
 pub mod Unbound
+pub mod Offers
+pub mod Steps
+pub mod Told
+pub mod Membership

@@ -9,3 +9,6 @@ pub mod Settled
 pub mod TreeAuction
 pub mod HeldPrice
 pub mod SmallRuns
+pub mod Agents
+pub mod Devices
+pub mod SmallDevices

@@ -66,8 +66,8 @@ index_held events = ((run_of two_branches (cleared_thrice events)).taken 2).inde
 
 -- The relay takes prices 1 and 3, restarts with index 1, and has its record again. It now takes price 2, which it had
 -- skipped, and passes it on; then the rest.
-abbrev pub skipped : List Event → List Event
-skipped rest = TakesPrice 1 0 ∷ TakesPrice 1 2 ∷ Restarts 1 0 ∷ TakesBid 2 0 ∷ Rebuilds 1 ∷ TakesPrice 1 1 ∷ rest
+abbrev pub with_skipped_price : List Event → List Event
+with_skipped_price rest = TakesPrice 1 0 ∷ TakesPrice 1 2 ∷ Restarts 1 0 ∷ TakesBid 2 0 ∷ Rebuilds 1 ∷ TakesPrice 1 1 ∷ rest
 
 -- a relay that sent as many bids as its window has, heard something new, and holds this number for answered
 abbrev pub window_sent : ℕ → Network

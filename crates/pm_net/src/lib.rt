@@ -2,7 +2,7 @@
 //! messages and which restart, run the market of cuts.
 //!
 //! A channel is the list of all messages that were ever sent on it; a node takes any of them, at any time and as often as it
-//! likes. Each law is the contract of a function with an empty body.
+//! likes. Each law is the contract of a function with an empty body. Those of devices with setpoints are in `devices`.
 #![tactic(auto)]
 
 ghost use Rattle.std.specs.Prelude.{◌≡◌, ◌⊎◌, ℕ, ◌<◌, ◌≤◌, ℤ, true, false, pos, negsuc, List, [], ◌∷◌, length, Option};
@@ -24,7 +24,13 @@ ghost use Rattle.pm_net.specs.Agrees.{price_of_clearing, HoldsIts, NetworkAgrees
 ghost use Rattle.pm_net.specs.Settled.{IsSettledNetwork, AllTaken};
 ghost use Rattle.pm_net.specs.HeldPrice.{goes_by, IsOfItsClearing};
 ghost use Rattle.pm_net.specs.TreeAuction.{TreeDemand, IsTreeDemand, add_below, tree_pricing, AreAsGood, with_limits};
-ghost use Rattle.pm_net.specs.SmallRuns.{one_relay, run_of, limited_run_of, device_holds, cleared_once, index_held, skipped, window_sent};
+ghost use Rattle.pm_net.specs.SmallRuns.{one_relay, run_of, limited_run_of, device_holds, cleared_once, index_held, with_skipped_price, window_sent};
+
+mod devices;
+
+pub use devices::{
+    setpoints_answer_offers, settled_devices_were_told, small_devices_are_as_worked_out,
+};
 
 /// Each run of a network, with whatever losses, repetitions and restarts, is a legal journal of the market of cuts: some
 /// legal moves lead from the start to a state that the network then stands for. An event goes on from whatever state the
@@ -176,10 +182,11 @@ pub fn small_networks_are_as_worked_out()
         ≡ None }
     // A price that a relay skipped before it restarted is passed on after it: a journal that passes to the relay just what it
     // took, clearing 1 and then 3, cannot go on.
-    ensures skipped_is_passed { index_held (skipped (Event.TakesPrice 2 2 ∷ [])) ≡ 2 }
+    ensures skipped_is_passed { index_held (with_skipped_price (Event.TakesPrice 2 2 ∷ [])) ≡ 2 }
     // A device that took price 3 does not go back to it, but it does where it restarts itself with the index of price 1.
-    ensures not_back { index_held (skipped (Event.TakesPrice 2 1 ∷ Event.TakesPrice 2 2 ∷ [])) ≡ 3 }
-    ensures goes_back { index_held (skipped
+    ensures not_back { index_held (with_skipped_price
+        (Event.TakesPrice 2 1 ∷ Event.TakesPrice 2 2 ∷ [])) ≡ 3 }
+    ensures goes_back { index_held (with_skipped_price
         (Event.TakesPrice 2 1 ∷ Event.Restarts 2 0 ∷ Event.TakesPrice 2 2 ∷ [])) ≡ 2 }
     // A relay that stops before its bid 1 is sent has no news then, and no message is left, though nobody is told anything; it
     // has to send that bid again.
@@ -262,7 +269,8 @@ pub fn small_networks_keep_the_rules()
         (cleared_once (Event.TakesPrice 1 0 ∷ Event.Restarts 1 7 ∷ [])) in
         (net.taken 1 ≡ price_message 0 0 0) × (net.answered 1 ≡ 0) }
     // A device that holds price 1 does not come back with price 3, which was sent to it and which it never took.
-    ensures never_newer { index_held (skipped (Event.TakesPrice 2 0 ∷ Event.Restarts 2 1 ∷ []))
+    ensures never_newer { index_held (with_skipped_price
+        (Event.TakesPrice 2 0 ∷ Event.Restarts 2 1 ∷ []))
         ≡ 1 }
     // The price of a record that can be had again is left for later; that of one which is overtaken is taken alone.
     ensures left_for_later { device_holds

@@ -10,7 +10,7 @@ use Rattle.pm_plan.specs.declared.planned.Planned.{Planned}
 use Rattle.pm_plan.specs.Devices.{DeviceData}
 use Rattle.pm_plan.specs.declared.node.Node.TheVariants.{Concentrator}
 use Rattle.pm_plan.specs.Plans.{PlanData, NodeData, node, parent, is_limited, group, group_in}
-use Rattle.pm_plan.specs.Building.{with_node, with_change, map_device, with_change_of, with_tick, ticked}
+use Rattle.pm_plan.specs.Building.{with_node, with_change, map_device, with_change_of, with_tick, device_after_tick}
 use Rattle.pm_plan.proofs.DeviceNodes.{node-beyond}
 use Rattle.pm_plan.proofs.Groups.{Earlier, group_in-zero}
 
@@ -86,8 +86,9 @@ get_or-map_at f (x ∷ xs) zero d = refl
 get_or-map_at f (x ∷ xs) (suc i) d = get_or-map_at f xs i d
 
 -- a node after a tick is, where a device, what the tick makes of the old one, and else the old one
-pub node-ticked : (plan : PlanData) (p : ℕ) (minutes : ℤ) (x : ℕ) → node (with_tick p minutes plan) x ≡ map_device (ticked p minutes) (node plan x)
-node-ticked plan p minutes x = get_or-map_at (map_device (ticked p minutes)) (Concentrator ∷ plan.nodes) x Concentrator
+pub node-ticked : (plan : PlanData) (p : ℕ) (minutes : ℤ) (x : ℕ) → node (with_tick p minutes plan) x
+    ≡ map_device (device_after_tick p minutes) (node plan x)
+node-ticked plan p minutes x = get_or-map_at (map_device (device_after_tick p minutes)) (Concentrator ∷ plan.nodes) x Concentrator
 
 -- ---- groups
 

@@ -28,7 +28,7 @@ use Rattle.pm_base.specs.Limits.{most_events, most_changes}
 use Rattle.pm_plan.specs.Refusals.{need}
 use Rattle.pm_base.specs.Outcomes.{◌>>=◌, fold_from}
 use Rattle.pm_plan.specs.Building.{leaf_or_none, device_named, with_change, map_device, with_change_of, is_member_now, member_named, stranger_named, state_of}
-use Rattle.pm_plan.specs.Building.{event_of, add_event, ticks_now, ticked, with_phase, with_tick, phase_of, add_phase}
+use Rattle.pm_plan.specs.Building.{event_of, add_event, ticks_now, device_after_tick, with_phase, with_tick, phase_of, add_phase}
 use Rattle.pm_plan.proofs.DeviceNodes.{device-is, is_device-map_device, limited-map_device, device_first, device_last}
 use Rattle.pm_plan.proofs.Inversions.{bind-ok, check-ok, ok-is, fold_keeps}
 use Rattle.pm_plan.proofs.Changes.{DeviceHolds, NodeHolds, with_change-holds, next_phase}
@@ -87,7 +87,7 @@ chosen_count : (q : ℕ) (b : Bool) (x y : DeviceData) → of_phase q (Device x)
 chosen_count q true x y same = same
 chosen_count q false x y same = refl
 
-ticked_count : (q p : ℕ) (minutes : ℤ) (n : NodeData) → p ≢ q → of_phase q (map_device (ticked p minutes) n) ≡ of_phase q n
+ticked_count : (q p : ℕ) (minutes : ℤ) (n : NodeData) → p ≢ q → of_phase q (map_device (device_after_tick p minutes) n) ≡ of_phase q n
 ticked_count q p minutes Concentrator other = refl
 ticked_count q p minutes (Limited limits) other = refl
 ticked_count q p minutes (Device planned) other =
@@ -105,7 +105,8 @@ sum_by-map f g h same (x ∷ xs) =
     omega (arith, one, two, rest, here)
 
 changes_ticked : (plan : PlanData) (p q : ℕ) (minutes : ℤ) → p ≢ q → changes_in (with_tick p minutes plan).nodes q ≡ changes_in plan.nodes q
-changes_ticked plan p q minutes other = sum_by-map (of_phase q) (map_device (ticked p minutes)) (of_phase q) (λ n. ticked_count q p minutes n other) plan.nodes
+changes_ticked plan p q minutes other = sum_by-map (of_phase q) (map_device (device_after_tick p minutes)) (of_phase q)
+    (λ n. ticked_count q p minutes n other) plan.nodes
 
 -- ---- the way through the phases
 
@@ -383,7 +384,7 @@ chosen_holds p true x y one two = one
 chosen_holds p false x y one two = two
 
 ticked_holds : (p : ℕ) (minutes : ℤ) (n : NodeData) → NodeHolds p n → 1 ≤ p → IsTrue (are_minutes minutes) →
-    NodeHolds p (map_device (ticked p minutes) n)
+    NodeHolds p (map_device (device_after_tick p minutes) n)
 ticked_holds p minutes Concentrator hold low fits = tt
 ticked_holds p minutes (Limited limits) hold low fits = hold
 ticked_holds p minutes (Device planned) hold low fits =
@@ -395,11 +396,13 @@ tick_closed : (entries : List Entry) (k : ℕ) (plan : PlanData) (minutes : ℤ)
 tick_closed entries k plan minutes way fits =
     let new = with_tick (k + 1) minutes plan in
     let limited : (x : ℕ) → is_limited new x ≡ is_limited plan x =
-    λ x. ap (λ (n : NodeData). is_some (limits_of n)) (node-ticked plan (k + 1) minutes x) ∙ limited-map_device (ticked (k + 1) minutes) (node plan x) in
+    λ x. ap (λ (n : NodeData). is_some (limits_of n)) (node-ticked plan (k + 1) minutes x)
+    ∙ limited-map_device (device_after_tick (k + 1) minutes) (node plan x) in
     record {
       same_entries = way.same_entries;
-      many = length-map plan.nodes (map_device (ticked (k + 1) minutes)) ∙ way.many;
-      devices = λ x. ap is_device (node-ticked plan (k + 1) minutes x) ∙ is_device-map_device (ticked (k + 1) minutes) (node plan x) ∙ way.devices x;
+      many = length-map plan.nodes (map_device (device_after_tick (k + 1) minutes)) ∙ way.many;
+      devices = λ x. ap is_device (node-ticked plan (k + 1) minutes x) ∙ is_device-map_device (device_after_tick (k + 1) minutes) (node plan x)
+          ∙ way.devices x;
       closed = length-append plan.minutes (Some minutes ∷ []) ∙ ap (λ n. n + 1) way.closed;
       minutes = minutes_with plan.minutes (Some minutes) way.minutes
           (λ m is. subst (λ z. IsTrue (are_minutes z)) (let same : minutes ≡ m = cc is in same) fits);

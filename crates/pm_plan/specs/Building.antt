@@ -169,14 +169,14 @@ add_event p n plan part = event_of (Event p n) p plan part
 abbrev pub ticks_now : DeviceData → Bool
 ticks_now planned = has_ticks planned.kind && is_member_after planned.changes
 
-abbrev pub ticked : ℕ → ℤ → DeviceData → DeviceData
-ticked p minutes old = if ticks_now old then with_change p (Tick minutes) old else old
+abbrev pub device_after_tick : ℕ → ℤ → DeviceData → DeviceData
+device_after_tick p minutes old = if ticks_now old then with_change p (Tick minutes) old else old
 
 abbrev pub with_phase : PlanData → Option ℤ → PlanData
 with_phase plan minutes = record plan { minutes = plan.minutes ++ minutes ∷ [] }
 
 abbrev pub with_tick : ℕ → ℤ → PlanData → PlanData
-with_tick p minutes plan = record plan { nodes = map (map_device (ticked p minutes)) plan.nodes; minutes = plan.minutes ++ Some minutes ∷ [] }
+with_tick p minutes plan = record plan { nodes = map (map_device (device_after_tick p minutes)) plan.nodes; minutes = plan.minutes ++ Some minutes ∷ [] }
 
 unfoldable pub phase_of : ℕ → PlanData → PhasePart → Result PlanData Refusal
 phase_of p plan (tick minutes) = do

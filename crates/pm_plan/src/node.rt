@@ -1,7 +1,7 @@
 ghost use Rattle.std.specs.Prelude.{◌≡◌, [], OnOk, OnErr, true};
 ghost use Rattle.pm_plan.specs.Devices.{is_member_after};
 ghost use Rattle.pm_plan.specs.Plans.{is_device, limits_of, changes_of};
-ghost use Rattle.pm_plan.specs.Building.{with_change, map_device, ticked};
+ghost use Rattle.pm_plan.specs.Building.{with_change, map_device, device_after_tick};
 
 use crate::planned::{Change, Planned};
 use pm_base::Limits;
@@ -70,7 +70,7 @@ impl Device {
 
     /// Plans a tick of so many minutes, where the device is a member whose state changes by itself.
     fn tick(&mut self, phase: u32, minutes: i64) -> Result<(), AllocError>
-        ensures { OnOk result (self.new ≡ ticked phase minutes self.old) }
+        ensures { OnOk result (self.new ≡ device_after_tick phase minutes self.old) }
     {
         if self.kind.ticks() && self.member {
             self.plan(phase, Planned::Tick { minutes })?;
@@ -132,7 +132,7 @@ impl Node {
 
     /// Plans a tick of so many minutes, where the node is a device that is a member and whose state changes by itself.
     pub(crate) fn tick(&mut self, phase: u32, minutes: i64) -> Result<(), AllocError>
-        ensures { OnOk result (self.new ≡ map_device (ticked phase minutes) self.old) }
+        ensures { OnOk result (self.new ≡ map_device (device_after_tick phase minutes) self.old) }
     {
         match self {
             Node::Device(device) => device.tick(phase, minutes),

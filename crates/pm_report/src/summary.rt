@@ -7,7 +7,7 @@ use pm_plan::{PhaseEnd, Plan};
 use std::alloc::{AllocError, Global};
 
 /// The sum of the prices of ends, in price units, and that of their totals, in watts.
-fn sums_of(ends: &[PhaseEnd]) -> (i128, i128)
+fn sums_of_ends(ends: &[PhaseEnd]) -> (i128, i128)
     requires { length ends.now ≤ most_phases }
     ensures prices { result.0 ≡ sum_over (λ end. end.price) (ends_of ends.now) }
     ensures totals { result.1 ≡ sum_over (λ end. end.total) (ends_of ends.now) }
@@ -41,7 +41,7 @@ fn push_sums_line(text: &mut String, ends: &[PhaseEnd]) -> Result<(), AllocError
     ensures { OnOk result (string_bytes text.new ≡ string_bytes text.old
         ++ sums_line (ends_of ends.now)) }
 {
-    let (prices, totals) = sums_of(ends);
+    let (prices, totals) = sums_of_ends(ends);
     writeln!(text, "prices {prices} totals {totals}")
 }
 

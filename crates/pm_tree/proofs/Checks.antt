@@ -16,7 +16,7 @@ use Rattle.pm_tree.specs.Tables.{IsRowOf, IsIndexOf}
 use Rattle.pm_tree.specs.declared.entry.TreeEntry.{TreeEntry}
 use Rattle.pm_tree.specs.declared.fault.TreeFault.{TreeFault}
 use Rattle.pm_tree.specs.declared.fault.TreeFault.TheVariants.{BadName, Twice, NoParent, TooDeep}
-use Rattle.pm_tree.specs.declared.node.Node.{Node}
+use Rattle.pm_tree.specs.declared.node.TreeNode.{TreeNode}
 use Rattle.pm_tree.proofs.Rows.{length-table}
 use Rattle.pm_tree.proofs.Named.{number_named-inside, length-parents_of}
 
@@ -42,7 +42,7 @@ shallow_by true above depth low is concentrator = omega arith
 shallow_by false above depth low is concentrator = concentrator refl
 
 -- what the tables of some entries tell
-module _ (before : List Entry) (names : List (List ℕ)) (nodes : List Node) (index : IsIndexOf before names nodes) where
+module _ (before : List Entry) (names : List (List ℕ)) (nodes : List TreeNode) (index : IsIndexOf before names nodes) where
   -- an index has as many rows as names
   pub as_many_rows : length nodes ≡ length names
   as_many_rows = omega (
@@ -71,7 +71,7 @@ module _ (before : List Entry) (names : List (List ℕ)) (nodes : List Node) (in
       (not e.leaf && nat_le most_depth (depth_of before (number_named before e.parent))) (length before + 1))
 
   -- a row below the parent of an accepted entry is that entry's
-  row_of : (e : Entry) (at parent : ℕ) (row : Node) → IsTree (parents_of before) (leaves_of before) →
+  row_of : (e : Entry) (at parent : ℕ) (row : TreeNode) → IsTree (parents_of before) (leaves_of before) →
       name_refusal names e.name at ≡ None → IsParent names nodes e.parent parent → IsRowBelow nodes parent e.leaf row → IsRowOf before e row
   row_of e at parent row tree free is_parent below =
       let found : node_named before e.parent ≡ Some parent = sym (named_is e.parent) ∙ is_parent.named in
@@ -90,7 +90,7 @@ module _ (before : List Entry) (names : List (List ℕ)) (nodes : List Node) (in
 
 -- the entry read at a place, after the entries before it
 module _ (entries : List TreeEntry) (place : ℕ) (e : TreeEntry) (inside : place < length entries) (read : e ≡ get_or entries place e)
-    (names : List (List ℕ)) (nodes : List Node) (index : IsIndexOf (take place (entries_of entries)) names nodes) where
+    (names : List (List ℕ)) (nodes : List TreeNode) (index : IsIndexOf (take place (entries_of entries)) names nodes) where
   abbrev before : List Entry
   before = take place (entries_of entries)
 
@@ -124,7 +124,7 @@ module _ (entries : List TreeEntry) (place : ℕ) (e : TreeEntry) (inside : plac
       refusal_below refusal is = refusal_here ∙ rw (free, is_parent.named, is_parent.no_leaf) is
 
       -- the row below the parent of the entry read is the row of that entry
-      pub row_is : IsTree (parents_of before) (leaves_of before) → (row : Node) → IsRowBelow nodes parent e.leaf row →
+      pub row_is : IsTree (parents_of before) (leaves_of before) → (row : TreeNode) → IsRowBelow nodes parent e.leaf row →
           IsRowOf before (entry_at (entries_of entries) place) row
       row_is tree row below =
           subst (λ entry. IsRowOf before entry row) entry_here

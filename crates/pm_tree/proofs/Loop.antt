@@ -11,7 +11,7 @@ use Rattle.std.specs.Str.{bytes_eq}
 use Rattle.pm_tree.specs.Tables.{IsRowOf, IsIndexOf}
 use Rattle.pm_tree.specs.declared.entry.TreeEntry.{TreeEntry}
 use Rattle.pm_tree.specs.declared.fault.TreeFault.{TreeFault}
-use Rattle.pm_tree.specs.declared.node.Node.{Node}
+use Rattle.pm_tree.specs.declared.node.TreeNode.{TreeNode}
 use Rattle.pm_tree.proofs.Refusals.{refusals_after-append}
 use Rattle.pm_tree.proofs.Rows.{index-more, lawful-more}
 
@@ -27,14 +27,14 @@ module _ (entries : List Entry) (place : ℕ) (inside : place < length entries) 
   more = take_more entries place nothing inside
 
   -- the index of the entries before a place, with the name and the row of the entry there, is that of one more
-  pub index_step : (names names' : List (List ℕ)) (nodes nodes' : List Node) (row : Node) → IsIndexOf before names nodes →
+  pub index_step : (names names' : List (List ℕ)) (nodes nodes' : List TreeNode) (row : TreeNode) → IsIndexOf before names nodes →
       IsTree (parents_of before) (leaves_of before) → IsRowOf before (entry_at entries place) row
       → names' ≡ names ++ (entry_at entries place).name ∷ [] → nodes' ≡ nodes ++ row ∷ [] → IsIndexOf (take (place + 1) entries) names' nodes'
   index_step names names' nodes nodes' row index tree row_is names_are nodes_are =
       rw (more, names_are, nodes_are) (index-more before (entry_at entries place) tree names nodes row index row_is.parent_is_named row_is)
 
   -- the tree of the entries before a place stays lawful with the entry there, where that has a lawful row
-  pub lawful_step : (names : List (List ℕ)) (nodes : List Node) (row : Node) → IsIndexOf before names nodes →
+  pub lawful_step : (names : List (List ℕ)) (nodes : List TreeNode) (row : TreeNode) → IsIndexOf before names nodes →
       IsTree (parents_of before) (leaves_of before) → IsRowOf before (entry_at entries place) row →
       IsTree (parents_of (take (place + 1) entries)) (leaves_of (take (place + 1) entries))
   lawful_step names nodes row index tree row_is =
@@ -72,7 +72,7 @@ pub length-entries_of : (entries : List TreeEntry) → length (entries_of entrie
 length-entries_of entries = length-map entries entry_of
 
 -- a name that no node so far has is not among the names
-pub unknown_name : (before : List Entry) (names : List (List ℕ)) (nodes : List Node) (entry : Entry) → IsIndexOf before names nodes →
+pub unknown_name : (before : List Entry) (names : List (List ℕ)) (nodes : List TreeNode) (entry : Entry) → IsIndexOf before names nodes →
     node_named before entry.name ≡ None
     → (name bytes : List ℕ) → entry.name ≡ name → bytes ≡ name → position (bytes_eq bytes) names ≡ None
 unfolding node_named

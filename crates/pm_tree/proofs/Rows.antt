@@ -8,36 +8,36 @@ use Rattle.pm_base.specs.Limits.{most_depth}
 use Rattle.pm_tree.specs.Shape.{parent_at, leaf_at, depth_at, IsTree}
 use Rattle.pm_tree.specs.Entries.{Entry, node_named, number_named, parents_of, leaves_of, is_leaf_at, depth_of}
 use Rattle.pm_tree.specs.Tables.{parent_numbers, leaf_marks, depth_numbers, IsNodeTable, IsRowOf, IsIndexOf}
-use Rattle.pm_tree.specs.declared.node.Node.{Node}
+use Rattle.pm_tree.specs.declared.node.TreeNode.{TreeNode}
 use Rattle.pm_tree.proofs.Paths.{Falls, falls, parent_at-append, leaf_at-append, depth_at-append, depth_at-step, depth_at-auctioneer, parent_at-past}
 use Rattle.pm_tree.specs.Names.{auctioneer}
 use Rattle.pm_tree.proofs.Named.{parents_of-more, leaves_of-more, are_named-more, are_named, names_of-append, number_named-inside, length-parents_of}
 
 -- what a row that is read says
-module _ (parents : List ℕ) (leaves : List Bool) (nodes : List Node) (table : IsNodeTable parents leaves nodes) where
+module _ (parents : List ℕ) (leaves : List Bool) (nodes : List TreeNode) (table : IsNodeTable parents leaves nodes) where
   -- a node table has a row for each node, and one for the auctioneer
   pub length-table : length nodes ≡ length parents + 1
   length-table =
-      let mapped : length (parent_numbers nodes) ≡ length nodes = length-map nodes (λ (row : Node). row.parent.0) in
+      let mapped : length (parent_numbers nodes) ≡ length nodes = length-map nodes (λ (row : TreeNode). row.parent.0) in
       let same : length (parent_numbers nodes) ≡ length (0 ∷ parents) = ap length table.parent_is in
       omega arith
 
   -- the parent in a row of a node table is the parent of its node
-  pub row_parent : (node : ℕ) (other : Node) → node < length nodes → (get_or nodes node other).parent.0 ≡ parent_at parents node
+  pub row_parent : (node : ℕ) (other : TreeNode) → node < length nodes → (get_or nodes node other).parent.0 ≡ parent_at parents node
   row_parent node other inside =
-      sym (get_or-map (λ (r : Node). r.parent.0) nodes node other 0 inside)
+      sym (get_or-map (λ (r : TreeNode). r.parent.0) nodes node other 0 inside)
       ∙ ap (λ numbers. get_or numbers node 0) table.parent_is
 
   -- the leaf mark in a row of a node table is that of its node
-  pub row_leaf : (node : ℕ) (other : Node) → node < length nodes → (get_or nodes node other).leaf ≡ leaf_at leaves node
+  pub row_leaf : (node : ℕ) (other : TreeNode) → node < length nodes → (get_or nodes node other).leaf ≡ leaf_at leaves node
   row_leaf node other inside =
-      sym (get_or-map (λ (r : Node). r.leaf) nodes node other false inside)
+      sym (get_or-map (λ (r : TreeNode). r.leaf) nodes node other false inside)
       ∙ ap (λ marks. get_or marks node false) table.leaf_is
 
   -- the depth in a row of a node table is the depth of its node
-  pub row_depth : (node : ℕ) (other : Node) → node < length nodes → (get_or nodes node other).depth ≡ depth_at parents leaves node
+  pub row_depth : (node : ℕ) (other : TreeNode) → node < length nodes → (get_or nodes node other).depth ≡ depth_at parents leaves node
   row_depth node other inside =
-      sym (get_or-map (λ (r : Node). r.depth) nodes node other 0 inside)
+      sym (get_or-map (λ (r : TreeNode). r.depth) nodes node other 0 inside)
       ∙ table.depth_is node (omega (arith, length-table))
 
 -- a parent is no later than the last node
@@ -119,24 +119,24 @@ module _ (parents : List ℕ) (leaves : List Bool) (parent : ℕ) (leaf : Bool) 
       up_inside node low = up_by (parent_at parents node) node (length parents) low (λ top. ap (parent_at parents) top) (falls parents leaves tree node)
 
   -- the node table with the new node's row
-  pub IsNodeTable-more : (nodes : List Node) (row : Node) → IsNodeTable parents leaves nodes → row.parent.0 ≡ parent →
+  pub IsNodeTable-more : (nodes : List TreeNode) (row : TreeNode) → IsNodeTable parents leaves nodes → row.parent.0 ≡ parent →
       row.leaf ≡ leaf → row.depth ≡ depth_at parents leaves parent + (if leaf then 0 else 1) →
       IsNodeTable (parents ++ parent ∷ []) (leaves ++ leaf ∷ []) (nodes ++ row ∷ [])
   IsNodeTable-more nodes row table parent_is leaf_is depth_is = record {
-    parent_is = map-append (λ (r : Node). r.parent.0) nodes (row ∷ []) ∙ (λ i. table.parent_is i ++ parent_is i ∷ []);
-    leaf_is = map-append (λ (r : Node). r.leaf) nodes (row ∷ []) ∙ (λ i. table.leaf_is i ++ leaf_is i ∷ []);
+    parent_is = map-append (λ (r : TreeNode). r.parent.0) nodes (row ∷ []) ∙ (λ i. table.parent_is i ++ parent_is i ∷ []);
+    leaf_is = map-append (λ (r : TreeNode). r.leaf) nodes (row ∷ []) ∙ (λ i. table.leaf_is i ++ leaf_is i ∷ []);
     depth_is = λ node within. each_by (λ n. get_or (depth_numbers (nodes ++ row ∷ [])) n 0 ≡ depth_at (parents ++ parent ∷ [])
         (leaves ++ leaf ∷ []) n) (length parents) node (omega (arith, length-new))
-        (λ low. ap (λ numbers. get_or numbers node 0) (map-append (λ (r : Node). r.depth) nodes (row ∷ []))
+        (λ low. ap (λ numbers. get_or numbers node 0) (map-append (λ (r : TreeNode). r.depth) nodes (row ∷ []))
         ∙ get_or_append_left (depth_numbers nodes) (row.depth ∷ []) 0 node
-        (omega (arith, length-map nodes (λ (r : Node). r.depth), length-table parents leaves nodes table))
+        (omega (arith, length-map nodes (λ (r : TreeNode). r.depth), length-table parents leaves nodes table))
         ∙ table.depth_is node low ∙ sym (depth_at-earlier node low))
         (let last : length parents + 1 ≡ length (depth_numbers nodes) = omega (
           arith,
-          length-map nodes (λ (r : Node). r.depth),
+          length-map nodes (λ (r : TreeNode). r.depth),
           length-table parents leaves nodes table,
         ) in
-        ap (λ numbers. get_or numbers (length parents + 1) 0) (map-append (λ (r : Node). r.depth) nodes (row ∷ []))
+        ap (λ numbers. get_or numbers (length parents + 1) 0) (map-append (λ (r : TreeNode). r.depth) nodes (row ∷ []))
         ∙ ap (λ n. get_or (depth_numbers nodes ++ row.depth ∷ []) n 0) last
         ∙ get_or-append_seam (depth_numbers nodes) row.depth [] 0 ∙ depth_is ∙ sym depth_at-new);
   }
@@ -159,7 +159,7 @@ module _ (before : List Entry) (e : Entry) (tree : IsTree (parents_of before) (l
       rw (parents, leaves) more
 
   -- names and nodes with the name and the row of one entry more are the index of one entry more
-  pub index-more : (names : List (List ℕ)) (nodes : List Node) (row : Node) → IsIndexOf before names nodes →
+  pub index-more : (names : List (List ℕ)) (nodes : List TreeNode) (row : TreeNode) → IsIndexOf before names nodes →
       is_some (node_named before e.parent) ≡ true → IsRowOf before e row → IsIndexOf (before ++ e ∷ []) (names ++ e.name ∷ []) (nodes ++ row ∷ [])
   index-more names nodes row index parent_named row_is =
       let parents = parents_of-more before e index.parents_are_named parent_named in
@@ -173,7 +173,7 @@ module _ (before : List Entry) (e : Entry) (tree : IsTree (parents_of before) (l
       }
 
 -- the auctioneer alone
-abbrev pub first_row : Node
+abbrev pub first_row : TreeNode
 first_row = record { parent = record { 0 = 0 }; leaf = false; depth = 0 }
 
 first_depth : (node : ℕ) → node ≤ 0 → get_or (0 ∷ []) node 0 ≡ depth_at [] [] node
@@ -182,7 +182,8 @@ first_depth node low =
     subst (λ n. get_or (0 ∷ []) n 0 ≡ depth_at [] [] n) top (sym (depth_at-auctioneer [] []))
 
 -- the auctioneer's name and the auctioneer's row alone are the index of no entries
-pub IsIndexOf-nil : (names : List (List ℕ)) (nodes : List Node) → names ≡ auctioneer ∷ [] → nodes ≡ first_row ∷ [] → IsIndexOf [] names nodes
+pub IsIndexOf-nil : (names : List (List ℕ)) (nodes : List TreeNode) → names ≡ auctioneer ∷ [] → nodes ≡ first_row ∷ [] →
+    IsIndexOf [] names nodes
 unfolding parents_of leaves_of
 IsIndexOf-nil names nodes names_are nodes_are = record {
   names_are = names_are;

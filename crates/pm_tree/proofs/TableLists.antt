@@ -11,7 +11,7 @@ use Rattle.pm_base.proofs.Lists.{get_or-replicate_same}
 use Rattle.pm_tree.specs.Shape.{parent_at, leaf_at, is_on_path, children_among, leaves_among, children_at, leaves_below_at, place_at}
 use Rattle.pm_tree.proofs.Ranges.{children_among-more, leaves_among-more, length-children_among}
 use Rattle.pm_tree.specs.Tables.{parent_numbers, shape_parents, added_on_path, AreLists, AreNumbers, node_lists, id_numbers}
-use Rattle.pm_tree.specs.declared.node.Node.{Node}
+use Rattle.pm_tree.specs.declared.node.TreeNode.{TreeNode}
 use Rattle.pm_tree.proofs.Paths.{Falls, added_on_path-step, added_on_path-auctioneer}
 use Rattle.pm_tree.specs.declared.node.NodeId.{NodeId}
 
@@ -173,8 +173,8 @@ children_done parents count number lists all are =
     record { count_is = are.count_is; list_is = λ node low. are.list_is node low ∙ ap (λ n. children_among parents n node) all }
 
 -- a node table gives as many parents as it has rows behind the auctioneer's
-pub length-shape_parents : (nodes : List Node) → length (shape_parents nodes) ≡ length nodes - 1
-length-shape_parents nodes = length-drop 1 (parent_numbers nodes) ∙ ap (λ n. n - 1) (length-map nodes (λ (row : Node). row.parent.0))
+pub length-shape_parents : (nodes : List TreeNode) → length (shape_parents nodes) ≡ length nodes - 1
+length-shape_parents nodes = length-drop 1 (parent_numbers nodes) ∙ ap (λ n. n - 1) (length-map nodes (λ (row : TreeNode). row.parent.0))
 
 -- one place more
 pub place_step : (number : ℕ) (number_at : ℕ → ℕ) (places : List ℕ) (place : ℕ) → place ≡ number_at number →

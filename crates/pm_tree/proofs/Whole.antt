@@ -9,7 +9,7 @@ use Rattle.pm_tree.specs.Entries.{Entry, parents_of, leaves_of, parent_of, is_le
 use Rattle.pm_tree.specs.Tables.{shape_parents, shape_leaves, AreLists, AreNumbers, IsIndexOf, AreTables}
 use Rattle.pm_tree.specs.declared.fault.TreeFault.{TreeFault}
 use Rattle.pm_tree.specs.declared.fault.TreeFault.TheVariants.{TooMany, NoMemory}
-use Rattle.pm_tree.specs.declared.node.Node.{Node}
+use Rattle.pm_tree.specs.declared.node.TreeNode.{TreeNode}
 use Rattle.pm_tree.proofs.Named.{length-parents_of}
 use Rattle.pm_tree.proofs.Rows.{length-table, row_parent, row_leaf, row_depth}
 
@@ -42,34 +42,34 @@ pub tree_accepted : (entries : List Entry) → first_refusal entries ≡ None �
 tree_accepted entries accepted = sym (ap (tree_unless entries) accepted)
 
 -- an index has a node for each entry, and one for the auctioneer
-pub length-index : (entries : List Entry) (names : List (List ℕ)) (nodes : List Node) → IsIndexOf entries names nodes →
+pub length-index : (entries : List Entry) (names : List (List ℕ)) (nodes : List TreeNode) → IsIndexOf entries names nodes →
     length nodes ≡ length entries + 1
 length-index entries names nodes index = length-table (parents_of entries) (leaves_of entries) nodes index.nodes_are
     ∙ ap (λ n. n + 1) (length-parents_of entries)
 
 -- the row of a node, as it is read from an index
-module _ (entries : List Entry) (names : List (List ℕ)) (nodes : List Node) (index : IsIndexOf entries names nodes) (node : ℕ)
+module _ (entries : List Entry) (names : List (List ℕ)) (nodes : List TreeNode) (index : IsIndexOf entries names nodes) (node : ℕ)
     (low : node ≤ length entries) where
   -- a node has a row
   pub row_inside : node < length nodes
   row_inside = omega (arith, length-index entries names nodes index)
 
-  module _ (row : Node) (read : row ≡ get_or nodes node row) where
+  module _ (row : TreeNode) (read : row ≡ get_or nodes node row) where
     -- the parent in the row is that of the node
     pub row_tells_parent : row.parent.0 ≡ parent_of entries node
     row_tells_parent =
-        ap (λ (r : Node). r.parent.0) read ∙ row_parent (parents_of entries) (leaves_of entries) nodes index.nodes_are node row row_inside
+        ap (λ (r : TreeNode). r.parent.0) read ∙ row_parent (parents_of entries) (leaves_of entries) nodes index.nodes_are node row row_inside
 
     -- the leaf mark in the row is that of the node
     pub row_tells_leaf : row.leaf ≡ is_leaf_at entries node
-    row_tells_leaf = ap (λ (r : Node). r.leaf) read ∙ row_leaf (parents_of entries) (leaves_of entries) nodes index.nodes_are node row row_inside
+    row_tells_leaf = ap (λ (r : TreeNode). r.leaf) read ∙ row_leaf (parents_of entries) (leaves_of entries) nodes index.nodes_are node row row_inside
 
     -- the depth in the row is that of the node
     pub row_tells_depth : row.depth ≡ depth_of entries node
-    row_tells_depth = ap (λ (r : Node). r.depth) read ∙ row_depth (parents_of entries) (leaves_of entries) nodes index.nodes_are node row row_inside
+    row_tells_depth = ap (λ (r : TreeNode). r.depth) read ∙ row_depth (parents_of entries) (leaves_of entries) nodes index.nodes_are node row row_inside
 
 -- the tables that were collected are those of the entries
-pub kept_all : (entries : List Entry) (names : List (List ℕ)) (nodes : List Node) (children : List (List ℕ)) (places : List ℕ)
+pub kept_all : (entries : List Entry) (names : List (List ℕ)) (nodes : List TreeNode) (children : List (List ℕ)) (places : List ℕ)
     (leaf_lists : List (List ℕ))
     → first_refusal entries ≡ None → length entries ≤ most_nodes → IsTree (parents_of entries) (leaves_of entries) → IsIndexOf entries names nodes
     → AreLists (length nodes) (children_at (shape_parents nodes)) children → AreNumbers (length nodes) (place_at (shape_parents nodes)) places

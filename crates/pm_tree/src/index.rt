@@ -10,7 +10,7 @@ ghost use Rattle.pm_tree.specs.Tables.{IsIndexOf, IsRowOf};
 use crate::entry::TreeEntry;
 use crate::fault::TreeFault;
 use crate::name::{AUCTIONEER, is_name};
-use crate::node::{Node, NodeId};
+use crate::node::{NodeId, TreeNode};
 use indexmap::IndexSet;
 use pm_base::MOST_DEPTH;
 use std::alloc::{AllocError, Global};
@@ -18,7 +18,7 @@ use std::alloc::{AllocError, Global};
 /// The names and the node table of the entries so far, both with the auctioneer first.
 pub(crate) struct Index {
     pub(crate) names: IndexSet<String>,
-    pub(crate) nodes: Vec<Node>,
+    pub(crate) nodes: Vec<TreeNode>,
 }
 
 /// Its owner lets go of it in one step, where a derived drop would be one for each part.
@@ -59,7 +59,7 @@ impl Index {
             names: IndexSet::new(alloc),
             nodes: Vec::new(alloc),
         };
-        let row = Node {
+        let row = TreeNode {
             parent: NodeId(0),
             leaf: false,
             depth: 0,
@@ -69,7 +69,7 @@ impl Index {
     }
 
     /// The names and the node table.
-    pub(crate) fn into_parts(self) -> (IndexSet<String>, Vec<Node>)
+    pub(crate) fn into_parts(self) -> (IndexSet<String>, Vec<TreeNode>)
         ensures names { result.0 ≡ self.names }
         ensures nodes { result.1 ≡ self.nodes }
     {
@@ -78,7 +78,7 @@ impl Index {
     }
 
     /// Checks the entry at a place after the entries before it, and gives its row.
-    fn check(&self, entries: &[TreeEntry], place: usize) -> Result<Node, TreeFault>
+    fn check(&self, entries: &[TreeEntry], place: usize) -> Result<TreeNode, TreeFault>
         requires inside { place < length entries.now }
         requires few { length entries.now ≤ most_nodes }
         requires index { let before = take place (entries_of entries.now) in
@@ -140,7 +140,7 @@ impl Index {
     }
 
     /// Makes the row of an entry, which is number `at`, below its parent.
-    fn make_row(&self, entry: &TreeEntry, parent: NodeId, at: u32) -> Result<Node, TreeFault>
+    fn make_row(&self, entry: &TreeEntry, parent: NodeId, at: u32) -> Result<TreeNode, TreeFault>
         requires { parent.0 < length self.now.nodes.items }
         ensures row { IfOk result (IsRowBelow self.now.nodes.items parent.0 entry.now.leaf) }
         ensures accepted { OnOk result (depth_refusal self.now.nodes.items parent.0
@@ -150,7 +150,7 @@ impl Index {
     {
         let above = self.nodes[parent.0 as usize];
         if entry.leaf {
-            return Ok(Node {
+            return Ok(TreeNode {
                 parent,
                 leaf: true,
                 depth: above.depth,
@@ -159,7 +159,7 @@ impl Index {
         if above.depth >= MOST_DEPTH {
             return Err(TreeFault::TooDeep { at });
         }
-        Ok(Node {
+        Ok(TreeNode {
             parent,
             leaf: false,
             depth: above.depth + 1,
@@ -167,7 +167,7 @@ impl Index {
     }
 
     /// Adds a node that no node so far has the name of.
-    fn push(&mut self, alloc: Global, name: &str, row: Node) -> Result<(), AllocError>
+    fn push(&mut self, alloc: Global, name: &str, row: TreeNode) -> Result<(), AllocError>
         requires { position (bytes_eq name.now) (map string_bytes self.old.names.keys) ≡ None }
         ensures names { OnOk result (map string_bytes self.new.names.keys
             ≡ map string_bytes self.old.names.keys ++ name.now ∷ []) }

@@ -3,7 +3,7 @@ ghost use Rattle.pm_base.specs.Limits.{most_nodes};
 ghost use Rattle.pm_tree.specs.Shape.{children_at, leaves_below_at, place_at, IsTree};
 ghost use Rattle.pm_tree.specs.Tables.{shape_parents, shape_leaves, added_on_path, AreLists, AreNumbers, IsNodeTable, node_lists};
 
-use crate::node::{Node, NodeId};
+use crate::node::{NodeId, TreeNode};
 use std::alloc::{AllocError, Global};
 
 /// The children of each node in list order, and the place of each node among its parent's children.
@@ -14,7 +14,7 @@ pub(crate) struct Children {
 }
 
 /// Collects the children and the places of the nodes of a table.
-pub(crate) fn collect_children(alloc: Global, nodes: &[Node]) -> Result<Children, AllocError>
+pub(crate) fn collect_children(alloc: Global, nodes: &[TreeNode]) -> Result<Children, AllocError>
     requires table { IsNodeTable (shape_parents nodes.now) (shape_leaves nodes.now) nodes.now }
     requires lawful { IsTree (shape_parents nodes.now) (shape_leaves nodes.now) }
     requires few { length nodes.now ≤ most_nodes + 1 }
@@ -36,7 +36,10 @@ pub(crate) fn collect_children(alloc: Global, nodes: &[Node]) -> Result<Children
 }
 
 /// Collects for each node the leaves below it; of a leaf itself.
-pub(crate) fn collect_leaves(alloc: Global, nodes: &[Node]) -> Result<Vec<Vec<NodeId>>, AllocError>
+pub(crate) fn collect_leaves(
+    alloc: Global,
+    nodes: &[TreeNode],
+) -> Result<Vec<Vec<NodeId>>, AllocError>
     requires table { IsNodeTable (shape_parents nodes.now) (shape_leaves nodes.now) nodes.now }
     requires lawful { IsTree (shape_parents nodes.now) (shape_leaves nodes.now) }
     requires few { length nodes.now ≤ most_nodes + 1 }
@@ -54,7 +57,11 @@ pub(crate) fn collect_leaves(alloc: Global, nodes: &[Node]) -> Result<Vec<Vec<No
 }
 
 /// Adds a leaf at the end of the list of each node on its path to the auctioneer.
-fn push_on_path(lists: &mut [Vec<NodeId>], nodes: &[Node], leaf: NodeId) -> Result<(), AllocError>
+fn push_on_path(
+    lists: &mut [Vec<NodeId>],
+    nodes: &[TreeNode],
+    leaf: NodeId,
+) -> Result<(), AllocError>
     requires table { IsNodeTable (shape_parents nodes.now) (shape_leaves nodes.now) nodes.now }
     requires lawful { IsTree (shape_parents nodes.now) (shape_leaves nodes.now) }
     requires inside { leaf.0 < length nodes.now }

@@ -4,7 +4,7 @@ pub struct NodeId(pub u32);
 
 /// What is kept of a node in one row of the node table.
 #[derive(Clone, Copy)]
-pub(crate) struct Node {
+pub(crate) struct TreeNode {
     /// The parent; of the auctioneer itself.
     pub(crate) parent: NodeId,
     /// Whether the node is a device.

@@ -9,7 +9,7 @@ use crate::entry::TreeEntry;
 use crate::fault::TreeFault;
 use crate::index::{find_node, index_entries};
 use crate::lists::{collect_children, collect_leaves};
-use crate::node::{Node, NodeId};
+use crate::node::{NodeId, TreeNode};
 use crate::same::same_entries;
 use indexmap::IndexSet;
 use pm_base::MOST_NODES;
@@ -20,7 +20,7 @@ use std::marker::Model;
 pub struct Tree {
     entries: Vec<TreeEntry>,
     names: IndexSet<String>,
-    nodes: Vec<Node>,
+    nodes: Vec<TreeNode>,
     children: Vec<Vec<NodeId>>,
     places: Vec<usize>,
     leaves_below: Vec<Vec<NodeId>>,

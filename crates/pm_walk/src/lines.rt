@@ -25,7 +25,7 @@ pub(crate) fn end_of(
     ensures { IfOk result (λ e. e.end ≡ end_of plan.now (cut_made standing.now.progress)) }
 {
     let step = clearing.step as usize;
-    let members = members_of(alloc, plan, standing, &clearing.powers)?;
+    let members = member_lines(alloc, plan, standing, &clearing.powers)?;
     let limited = limited_of(alloc, plan, standing, &clearing.group_steps)?;
     Ok(PhaseEnd::new(
         plan.basis(),
@@ -37,7 +37,7 @@ pub(crate) fn end_of(
 }
 
 /// The lines of the members in file order.
-fn members_of(
+fn member_lines(
     alloc: Global,
     plan: &Plan,
     standing: &Standing,

@@ -9,6 +9,7 @@ ghost use Rattle.pm_walk.specs.Standing.{IsStanding, cut_made};
 
 use crate::changes::make_changes;
 use crate::standing::Standing;
+use pm_base::number_in_cut;
 use pm_bid::ArrayBid;
 use pm_plan::Plan;
 use pm_tree::NodeId;
@@ -82,18 +83,15 @@ impl Standing {
             let device = NodeId(number);
             let at = number as usize;
             if tree.is_leaf(device) {
-                self.raise_device(plan, device, phase, powers[at], number_at(cut, at), spare);
+                self.raise_device(
+                    plan,
+                    device,
+                    phase,
+                    powers[at],
+                    number_in_cut(cut, at),
+                    spare,
+                );
             }
         }
-    }
-}
-
-/// The number that a cut has at a place, 0 where there is none.
-fn number_at(cut: &[u32], at: usize) -> u32
-    ensures { result ≡ cut_of cut.now at }
-{
-    match cut.get(at) {
-        Some(number) => *number,
-        None => 0,
     }
 }

@@ -1,7 +1,7 @@
 use crate::plans::{CHAIN, joined_plan};
 use crate::same::same;
 use pm_basis::Basis;
-use pm_lines::read_line;
+use pm_check::read_line;
 use pm_market::{Line, Move};
 use pm_plan::Plan;
 use std::alloc::Global;

@@ -4,7 +4,8 @@ ghost use Rattle.pm_tree.specs.Entries.{checked_tree, parents_of, leaves_of};
 ghost use Rattle.pm_tree.specs.Shape.{IsTree};
 ghost use Rattle.pm_plan.specs.Plans.{node as planned_node, is_device, kind_of, group, is_limited, all_changes};
 ghost use Rattle.pm_base.specs.Limits.{most_changes, most_nodes};
-ghost use Rattle.pm_plan.specs.Building.{empty_plan, with_array, with_node, with_phase, with_tick, with_change_of, is_member_now, map_device, ticked};
+ghost use Rattle.pm_plan.specs.Building.{empty_plan, with_array, with_node, with_phase};
+ghost use Rattle.pm_plan.specs.Building.{with_tick, with_change_of, is_member_now, map_device, device_after_tick};
 
 use crate::draft::Draft;
 use crate::node::Node;
@@ -137,7 +138,8 @@ impl Draft {
 
 /// Plans a tick for each of the nodes that is a member whose state changes by itself.
 fn tick_each(nodes: &mut [Node], phase: u32, minutes: i64) -> Result<(), AllocError>
-    ensures { OnOk result (nodes.new ≡ map (map_device (ticked phase minutes)) nodes.old) }
+    ensures { OnOk result (nodes.new ≡ map (map_device (device_after_tick phase minutes))
+        nodes.old) }
 {
     for node in nodes.iter_mut() {
         node.tick(phase, minutes)?;

@@ -16,5 +16,5 @@ pub returns : goal.returns
 returns c =
     let some : 0 < length c.args.text.now = grind (arith, nat_tests) in
     let lone : get_or c.args.text.now 0 0 ≡ 48 → length c.args.text.now ≡ 1 = λ zero. grind (arith, nat_tests) in
-    let is = value_is_number c.args.most c.args.text.now c.value_up_to.result (omega arith) some lone c.value_up_to.ensures in
+    let is = value_is_number c.args.most c.args.text.now c.value_of_digits.result (omega arith) some lone c.value_of_digits.ensures in
     record { most = search rules; text = is.0; none = is.1 }

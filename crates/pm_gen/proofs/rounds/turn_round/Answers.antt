@@ -23,12 +23,12 @@ loop-preserved c =
     c.draw-place.ensures.drawn ∙ (λ i. draw_below (size_is i) (seed_is i)) in
     record {
       seed = c.draw-place.ensures.seed ∙ ap next seed_is ∙ sym (after-more c.loop.counter c.args.draws.now.seed);
-      size = ap length c.in_ok-turn.ensures.members
+      size = ap length c.in_ok-turn_event.ensures.members
           ∙ length-set c.loop.members c.draw-place.result (not (get_or c.loop.members c.draw-place.result false)) ∙ size_is;
       turned = λ earlier flags. turned-more (length c.args.members.now) earlier c.args.draws.now.seed c.loop.counter
-          c.draw-place.result c.loop.members c.turn.new.members
-          (map event_part c.loop.events.items) (map event_part c.push.new.self.items) (event_part c.in_ok-turn.field-0) low pick
+          c.draw-place.result c.loop.members c.turn_event.new.members
+          (map event_part c.loop.events.items) (map event_part c.push.new.self.items) (event_part c.in_ok-turn_event.field-0) low pick
           (c.loop.invariant.turned earlier flags)
-          c.in_ok-turn.ensures.members c.in_ok-turn.ensures.event
-          (ap (map event_part) c.in_ok-push.ensures.items ∙ map-append event_part c.loop.events.items (c.in_ok-turn.field-0 ∷ []));
+          c.in_ok-turn_event.ensures.members c.in_ok-turn_event.ensures.event
+          (ap (map event_part) c.in_ok-push.ensures.items ∙ map-append event_part c.loop.events.items (c.in_ok-turn_event.field-0 ∷ []));
     }

@@ -60,20 +60,20 @@ add_shares-requires-clause-within c =
     rw c.deref_mut.ensures.value (all_wider (c.self.inside.ticks * tick_limit) (most_phases * tick_limit) c.self.inside.accounts.items
     (omega (arith, ticks)) c.self.invariant.within)
 
-pub sums_of-cost-requires : goal.sums_of-cost-requires
-sums_of-cost-requires c = c.requires.groups
+pub sums_of_groups-cost-requires : goal.sums_of_groups-cost-requires
+sums_of_groups-cost-requires c = c.requires.groups
 
 pub overflow_sub-cost : goal.overflow_sub-cost
-overflow_sub-cost c = opposite_fits _ c.sums_of-cost.ensures.cost_within
+overflow_sub-cost c = opposite_fits _ c.sums_of_groups-cost.ensures.cost_within
 
 pub overflow_sub-power : goal.overflow_sub-power
-overflow_sub-power c = opposite_fits _ c.sums_of-cost.ensures.power_within
+overflow_sub-power c = opposite_fits _ c.sums_of_groups-cost.ensures.power_within
 
 pub add-requires-clause-cost : goal.add-requires-clause-cost
-add-requires-clause-cost c = opposite_within _ c.sums_of-cost.ensures.cost_within
+add-requires-clause-cost c = opposite_within _ c.sums_of_groups-cost.ensures.cost_within
 
 pub add-requires-clause-power : goal.add-requires-clause-power
-add-requires-clause-power c = opposite_within _ c.sums_of-cost.ensures.power_within
+add-requires-clause-power c = opposite_within _ c.sums_of_groups-cost.ensures.power_within
 
 pub overflow_add-self-2 : goal.overflow_add-self-2
 overflow_add-self-2 c =
@@ -84,13 +84,14 @@ overflow_add-self-2 c =
 grid_is : (c : goal.After-self-4-1) → c.add.new.self ≡ account_sum c.self.inside.grid (account_of_grid c.args.minutes c.args.shares.now c.args.groups.now)
 unfolding account_of_grid
 grid_is c =
-    let cost = opposite c.sums_of-cost.result.0 _ c.sums_of-cost.ensures.cost_within c.sums_of-cost.ensures.cost in
-    let power = opposite c.sums_of-cost.result.1 _ c.sums_of-cost.ensures.power_within (c.sums_of-cost.ensures.power ∙ sym c.requires.same.powers) in
+    let cost = opposite c.sums_of_groups-cost.result.0 _ c.sums_of_groups-cost.ensures.cost_within c.sums_of_groups-cost.ensures.cost in
+    let power = opposite c.sums_of_groups-cost.result.1 _ c.sums_of_groups-cost.ensures.power_within
+    (c.sums_of_groups-cost.ensures.power ∙ sym c.requires.same.powers) in
     let minutes = to_z-of_z w64 c.args.minutes c.ranges.minutes in
     let grid = c.self.inside.grid in
     c.add.ensures
-    ∙ ap (λ z. account_sum grid (account_of z (negated c.sums_of-cost.result.0) (negated c.sums_of-cost.result.1))) minutes
-    ∙ ap (λ z. account_sum grid (account_of c.args.minutes z (negated c.sums_of-cost.result.1))) cost.0
+    ∙ ap (λ z. account_sum grid (account_of z (negated c.sums_of_groups-cost.result.0) (negated c.sums_of_groups-cost.result.1))) minutes
+    ∙ ap (λ z. account_sum grid (account_of c.args.minutes z (negated c.sums_of_groups-cost.result.1))) cost.0
     ∙ ap (λ z. account_sum grid (account_of c.args.minutes (neg_ℤ (sum_each group_cost c.args.groups.now)) z)) power.0
 
 -- the accounts after the tick
@@ -121,8 +122,9 @@ pub invariant_of-self : goal.invariant_of-self
 invariant_of-self c =
     let asked = of_fields c.args.self.now _ c.args.shares.now c.self.view_is c.requires.ticks c.requires.shares in
     let minutes = minutes_after c.self.inside.ticks c.self.inside.minutes c.args.minutes asked.0 c.self.invariant.minutes_of c.requires.minutes in
-    let cost = opposite c.sums_of-cost.result.0 _ c.sums_of-cost.ensures.cost_within c.sums_of-cost.ensures.cost in
-    let power = opposite c.sums_of-cost.result.1 _ c.sums_of-cost.ensures.power_within (c.sums_of-cost.ensures.power ∙ sym c.requires.same.powers) in
+    let cost = opposite c.sums_of_groups-cost.result.0 _ c.sums_of_groups-cost.ensures.cost_within c.sums_of_groups-cost.ensures.cost in
+    let power = opposite c.sums_of_groups-cost.result.1 _ c.sums_of_groups-cost.ensures.power_within
+    (c.sums_of_groups-cost.ensures.power ∙ sym c.requires.same.powers) in
     let may : MayTick (fields_of c) c.args.minutes c.args.shares.now c.args.groups.now = record {
       few = asked.0;
       are = c.requires.minutes;

@@ -10,7 +10,7 @@ use Rattle.pm_check.proofs.Making.{was_passed, has_steps, told_held}
 use Rattle.pm_check.proofs.judge.Judge.held.Goals as goal
 
 -- the node is a device
-leaf_at : (c : goal.After-number_at-number) → IsLeaf (plan_lists c.args.plan.now) c.args.node
+leaf_at : (c : goal.After-number_in_cut-number) → IsLeaf (plan_lists c.args.plan.now) c.args.node
 leaf_at c =
     is_leaf-is c.args.plan.now c.args.node ∙ ap (λ e. is_leaf_at e c.args.node) (sym c.tree.ensures.tree) ∙ sym c.is_leaf.ensures
     ∙ c.if-not-is_leaf.false
@@ -38,5 +38,6 @@ returns c =
     let leaf : IsLeaf (plan_lists c.args.plan.now) c.args.node =
     is_leaf-is c.args.plan.now c.args.node ∙ ap (λ e. is_leaf_at e c.args.node) (sym c.tree.ensures.tree) ∙ sym c.is_leaf.ensures
     ∙ c.if-not-is_leaf.false in
-    told_held c.args.plan.now c.args.self.now c.requires.judge c.args.node leaf holds c.last_passed-index.result c.number_at-number.result c.step-step.result
-    c.last_passed-index.ensures (c.number_at-number.ensures ∙ ap (λ (cut : Cut). cut c.args.node) c.cleared.ensures) c.step-step.ensures
+    told_held c.args.plan.now c.args.self.now c.requires.judge c.args.node leaf holds c.last_passed-index.result c.number_in_cut-number.result
+    c.step-step.result
+    c.last_passed-index.ensures (c.number_in_cut-number.ensures ∙ ap (λ (cut : Cut). cut c.args.node) c.cleared.ensures) c.step-step.ensures

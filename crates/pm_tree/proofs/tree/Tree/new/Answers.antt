@@ -8,7 +8,7 @@ use Rattle.pm_tree.specs.Tables.{IsIndexOf, AreLists, AreNumbers, shape_parents,
 use Rattle.pm_tree.specs.declared.entry.TreeEntry.{TreeEntry}
 use Rattle.pm_tree.specs.declared.fault.TreeFault.{TreeFault}
 use Rattle.pm_tree.specs.declared.fault.TreeFault.TheVariants.{NoMemory}
-use Rattle.pm_tree.specs.declared.node.Node.{Node}
+use Rattle.pm_tree.specs.declared.node.TreeNode.{TreeNode}
 use Rattle.pm_tree.proofs.Loop.{length-entries_of}
 use Rattle.pm_tree.proofs.Whole.{too_many, entry_refused, first_refusal-few, tree_accepted, length-index, kept_all}
 use Rattle.pm_tree.proofs.tree.Tree.new.Goals as goal
@@ -52,11 +52,11 @@ invariant_of-result c =
     (subst (λ (es : List TreeEntry). IsTree (parents_of (entries_of es)) (leaves_of (entries_of es))) c.deref.ensures.value c.in_ok-index.ensures.lawful)
     (subst (λ (es : List TreeEntry). IsIndexOf (entries_of es) (map string_bytes c.in_ok-index.index.names.keys)
     c.in_ok-index.index.nodes.items) c.deref.ensures.value c.in_ok-index.ensures.index)
-    (subst (λ (ns : List Node). AreLists (length ns) (children_at (shape_parents ns))
+    (subst (λ (ns : List TreeNode). AreLists (length ns) (children_at (shape_parents ns))
     (node_lists c.in_ok-children.children.lists.items)) c.deref-2.ensures.value c.in_ok-children.ensures.lists)
-    (subst (λ (ns : List Node). AreNumbers (length ns) (place_at (shape_parents ns)) c.in_ok-children.children.places.items)
+    (subst (λ (ns : List TreeNode). AreNumbers (length ns) (place_at (shape_parents ns)) c.in_ok-children.children.places.items)
     c.deref-2.ensures.value c.in_ok-children.ensures.places)
-    (subst (λ (ns : List Node). AreLists (length ns) (leaves_below_at (shape_parents ns) (shape_leaves ns))
+    (subst (λ (ns : List TreeNode). AreLists (length ns) (leaves_below_at (shape_parents ns) (shape_leaves ns))
     (node_lists c.in_ok-leaves_below.leaves_below.items)) c.deref-3.ensures.value c.in_ok-leaves_below.ensures))
 
 pub returns : goal.returns

@@ -44,8 +44,8 @@ raise_device-requires c =
       first = c.requires.first;
       stands = c.loop-number.invariant.stands;
       begun = omega (arith, before, c.requires.begun n leaf);
-      rises = omega (arith, before, c.requires.rises n leaf, c.number_at.ensures);
-      planned = omega (arith, c.requires.planned n leaf, c.number_at.ensures);
+      rises = omega (arith, before, c.requires.rises n leaf, c.number_in_cut.ensures);
+      planned = omega (arith, c.requires.planned n leaf, c.number_in_cut.ensures);
       used = search rules;
       spare = c.loop-number.invariant.spare;
     }
@@ -62,7 +62,7 @@ loop-number-preserved c =
       | then-is_leaf w ↦
           let leaf : is_leaf plan n ≡ true = ap (λ e. is_leaf_at e n) (sym c.tree-tree.ensures.tree) ∙ sym c.is_leaf.ensures ∙ w.if-is_leaf.true in
           let raised = w.raise_device.ensures in
-          let here = raised.done ∙ w.number_at.ensures ∙ sym (device-here plan cut n leaf) in
+          let here = raised.done ∙ w.number_in_cut.ensures ∙ sym (device-here plan cut n leaf) in
           along-more plan n kept _ _ spare _ _ (device_cut plan cut) before c.loop-number.invariant
           raised.stands here raised.others raised.spare w.self-is w.spare-is
       | else-is_leaf w ↦

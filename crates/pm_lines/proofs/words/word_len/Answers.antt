@@ -1,6 +1,0 @@
-use Rattle.std.proofs.Common.{arith}
-use Rattle.pm_lines.proofs.Splitting.{word_more}
-use Rattle.pm_lines.proofs.words.word_len.Goals as goal
-
-pub loop-at-preserved : goal.loop-at-preserved
-loop-at-preserved c = word_more c.args.bytes.now c.loop-at.at (omega arith) c.loop-at.invariant (omega arith)

@@ -1,6 +1,0 @@
-use Rattle.std.proofs.Common.{◌≡◌, true, take}
-use Rattle.pm_lines.specs.Reading.{is_word}
-use Rattle.pm_lines.proofs.words.word_len.Given as goal
-
-abbrev pub invariant-loop-at : goal.invariant-loop-at
-invariant-loop-at l = is_word (take l.at l.bytes) ≡ true

@@ -1,4 +1,0 @@
-pub mod Offers
-pub mod Steps
-pub mod Told
-pub mod Membership

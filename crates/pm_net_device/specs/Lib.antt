@@ -1,3 +1,0 @@
-pub mod Agents
-pub mod Devices
-pub mod SmallDevices
