@@ -15,4 +15,4 @@ returns-clause-ok g c =
     map-set (λ row. row.items) c.args.table.now c.args.place c.push.new.self
     ∙ ap (λ row. set (rows_of c.args.table.now) c.args.place row)
     (c.in_ok-push.ensures.items ∙ ap (λ row. row ++ c.args.item ∷ [])
-    (sym (get_or-rows_of c.args.table.now c.args.place c.index-table-place.result [] c.requires)))
+    (sym (get_or-map (λ row. row.items) c.args.table.now c.args.place c.index-table-place.result [] c.requires)))
