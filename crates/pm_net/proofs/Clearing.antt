@@ -6,7 +6,7 @@ use Rattle.pm_base.specs.Cuts.{Cut}
 use Rattle.pm_bid.specs.Clearing.{clearing_step}
 use Rattle.pm_market.specs.Lists.{Lists, nodes, parent, IsNode, IsInner, Lawful}
 use Rattle.pm_laws.proofs.Facts.{last_within}
-use Rattle.pm_market.specs.State.{State, knowledge, number, last_index, clearings, cleared_cut, addresses, addresses_of}
+use Rattle.pm_market.specs.State.{State, knowledge, number, last_index, clearings, cleared_cut, addresses, addresses_of, newest_number_of}
 use Rattle.pm_market.specs.Moves.{step, Legal, LegalFrom, after_from}
 use Rattle.pm_market.specs.Sound.{Sound}
 use Rattle.pm_market.specs.declared.moves.Move.{Move}
@@ -170,7 +170,7 @@ module _ (lists : Lists) (law : Lawful lists) (p : Pricing) (by : GoesByNodes li
         ];
   }
     where
-      newest_same : (x : ℕ) → IsNode lists x → Rattle.pm_market.specs.State.newest lists next x ≡ Rattle.pm_market.specs.State.newest lists s x
+      newest_same : (x : ℕ) → IsNode lists x → newest_number_of lists next x ≡ newest_number_of lists s x
       newest_same x node = has.newest_kept x (λ e. omega (arith, node.0, e))
 
   -- it stops before a price is sent
