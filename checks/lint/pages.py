@@ -1,0 +1,302 @@
+"""Whether the pages can be read: links that lead somewhere, a first page of 8 KB, short sentences, words spelt right.
+
+    python3 -m checks.lint.pages           checks all pages
+    python3 -m checks.lint.pages words     prints the mean length of a sentence of each page, the longest page first
+    python3 -m checks.lint.pages long N    prints each sentence above N words, with its page
+    python3 -m checks.lint.pages link      makes a link of each path that a page names without one the first time
+
+A page is a file in Markdown. The check prints a line for each finding and ends with 'N passed, M failed'. It refuses
+
+- a link inside the repository to a file that is not there, or to a heading that its page has not;
+- a README above 8 KB;
+- a mean above 17 words a sentence, over the README and the pages of docs/;
+- a path of the repository that a page names and does not link the first time. Headings, code blocks and what a command is
+  given are left out;
+- what codespell calls a misspelling, if codespell is there.
+"""
+
+import re
+import shutil
+import subprocess
+import sys
+from collections.abc import Callable, Iterator
+from pathlib import Path
+
+from checks import TOP
+
+README_LIMIT = 8192
+MEAN_LIMIT = 17.0
+
+# Folders that hold no pages of ours.
+OTHERS = {".git", "out", "build", "__pycache__"}
+
+# Words that codespell takes for slips, and that the field or the language has.
+IGNORED_WORDS = "crate,fo,hist,leaf,lets,mone,rekey,statics,te,ue,wast"
+
+LINK = re.compile(r"!?\[((?:[^\[\]]|\[[^\]]*\])*)\]\(([^()\s]+)\)")
+CODE = re.compile(r"`([^`\n]+)`")
+PATH = re.compile(r"(?<![\w/.@:-])(?:\.{0,2}/)?[\w.@-]+(?:/[\w.@-]+)*/?(?![\w@-])")
+FENCE = re.compile(r"^ *(```|~~~)")
+
+
+def pages() -> list[Path]:
+    """All pages, the README first."""
+    found = [it for it in TOP.rglob("*.md") if not OTHERS & set(it.relative_to(TOP).parts)]
+    return sorted(found, key=lambda it: (it != TOP / "README.md", str(it)))
+
+
+def name_of(page: Path) -> str:
+    """A page as it is named from the top."""
+    return str(page.relative_to(TOP))
+
+
+def prose_of(text: str) -> str:
+    """The text with code blocks, comments and headings blanked out, so that all places stay where they are."""
+    kept: list[str] = []
+    fenced, code, blank, item = False, False, True, False
+    for line in re.sub(r"<!--.*?-->", lambda it: blanked(it.group()), text, flags=re.S).split("\n"):
+        if FENCE.match(line):
+            fenced, line = not fenced, ""
+        elif fenced or line.startswith("#"):
+            line = blanked(line)
+        elif line.startswith("    ") and not item and (blank or code):
+            code = True
+            kept.append(blanked(line))
+            continue
+        code = code and not line.strip()
+        # What is indented below an item of a list belongs to it.
+        item = bool(re.match(r" *([-*]|\d+\.) ", line)) or (item and (line.startswith("  ") or not line.strip()))
+        blank = not line.strip()
+        kept.append(line)
+    return "\n".join(kept)
+
+
+def blanked(text: str) -> str:
+    """As many blanks, and the same lines."""
+    return re.sub(r"[^\n]", " ", text)
+
+
+def anchors_of(page: Path) -> set[str]:
+    """The anchors of a page's headings, as the usual readers of Markdown make them."""
+    found: dict[str, int] = {}
+    anchors = set()
+    fenced = False
+    for line in page.read_text().split("\n"):
+        fenced = fenced != bool(FENCE.match(line))
+        heading = re.match(r"#{1,6} +(.*?)(?: #+)?$", line)
+        if heading and not fenced:
+            words = LINK.sub(r"\1", heading.group(1)).lower()
+            slug = re.sub(r"[^\w\- ]", "", words).replace(" ", "-")
+            number = found.get(slug, 0)
+            found[slug] = number + 1
+            anchors.add(f"{slug}-{number}" if number else slug)
+    return anchors
+
+
+def target_of(page: Path, link: str) -> Path:
+    """The file or folder that a link of a page leads to."""
+    path = link.partition("#")[0]
+    return (page.parent / path).resolve() if path else page
+
+
+def dead_links(page: Path) -> Iterator[str]:
+    """The links of a page that lead nowhere inside the repository."""
+    for found in LINK.finditer(prose_of(page.read_text())):
+        link = found.group(2)
+        if re.match(r"[a-z]+:", link):
+            continue
+        target, anchor = target_of(page, link), link.partition("#")[2]
+        if not target.exists():
+            yield f"{name_of(page)}: the link {link} leads to no file"
+        elif not target.is_relative_to(TOP):
+            yield f"{name_of(page)}: the link {link} leads out of the repository"
+        elif anchor and (target.suffix != ".md" or anchor not in anchors_of(target)):
+            yield f"{name_of(page)}: the link {link} leads to no heading of {name_of(target)}"
+
+
+def path_named(page: Path, words: str) -> Path | None:
+    """The file or folder of the repository that these words name, if they name one."""
+    if words == "./market" or not re.search(r"/|\.\w+$|^[A-Z][A-Za-z]+$", words) or "://" in words:
+        return None
+    for folder in (page.parent, TOP):
+        found = (folder / words).resolve()
+        if found.exists() and found.is_relative_to(TOP) and found not in (TOP, page):
+            return found
+    return None
+
+
+def names_of(page: Path, text: str) -> Iterator[tuple[int, int, Path]]:
+    """Where a text outside links names a path: in code the first word, elsewhere each word with a slash or an end."""
+    spans = [(it.start(), it.end(), it.group(1)) for it in CODE.finditer(text)]
+    for start, end, code in spans:
+        found = path_named(page, code.split()[0]) if code.split() else None
+        if found:
+            yield start, end, found
+    rest = CODE.sub(lambda it: blanked(it.group()), text)
+    for it in PATH.finditer(rest):
+        words = it.group().rstrip(".")
+        found = path_named(page, words) if "/" in words or re.search(r"\.(md|txt|json|py|sh)$", words) else None
+        if found:
+            yield it.start(), it.start() + len(words), found
+
+
+def unlinked(page: Path) -> list[tuple[int, int, Path]]:
+    """Where a page names a path for the first time without a link."""
+    text = prose_of(page.read_text())
+    links = [(it.start(), target_of(page, it.group(2))) for it in LINK.finditer(text) if not re.match(r"[a-z]+:", it.group(2))]
+    rest = LINK.sub(lambda it: blanked(it.group()), text)
+    named = [(start, end, path) for start, end, path in names_of(page, rest)]
+    events = sorted([(start, start, path, True) for start, path in links] + [(*it, False) for it in named])
+    # What stands in a link counts as linked, whatever the link leads to.
+    inside = [(it.start(), path) for it in LINK.finditer(text) for _, _, path in names_of(page, it.group(1))]
+    events = sorted(events + [(start, start, path, True) for start, path in inside])
+    seen: set[Path] = set()
+    findings = []
+    for start, end, path, linked in events:
+        if path not in seen and not linked:
+            findings.append((start, end, path))
+        seen.add(path)
+    return findings
+
+
+def paths_without_a_link(page: Path) -> Iterator[str]:
+    """A line for each path that a page names for the first time without a link."""
+    text = page.read_text()
+    for start, end, _ in unlinked(page):
+        yield f"{name_of(page)}:{text.count(chr(10), 0, start) + 1}: {text[start:end]} is no link the first time"
+
+
+def relative(page: Path, path: Path) -> str:
+    """The path as a link of the page has it."""
+    up = len(page.parent.relative_to(TOP).parts)
+    if path.is_relative_to(page.parent):
+        return str(path.relative_to(page.parent))
+    return "../" * up + str(path.relative_to(TOP))
+
+
+def make_links() -> int:
+    """Makes a link of each path that a page names without one the first time."""
+    made = 0
+    for page in pages():
+        text = page.read_text()
+        for start, end, path in reversed(unlinked(page)):
+            text = f"{text[:start]}[{text[start:end]}]({relative(page, path)}){text[end:]}"
+            made += 1
+        page.write_text(text)
+    print(f"{made} links made")
+    return 0
+
+
+def blocks_of(page: Path) -> Iterator[str]:
+    """The paragraphs and items of a page, without tables, pictures and code blocks."""
+    block: list[str] = []
+    for line in [*prose_of(page.read_text()).split("\n"), ""]:
+        line = line.lstrip("> ") if line.startswith(">") else line
+        begins = re.match(r" *([-*]|\d+\.) (?:\[[ x]\] )?", line)
+        if (not line.strip() or begins or line.startswith("|")) and block:
+            yield " ".join(block)
+            block = []
+        if line.strip() and not line.startswith("|") and not line.startswith("!["):
+            block.append(line[begins.end() :] if begins else line.strip())
+
+
+def sentences_of(page: Path) -> Iterator[str]:
+    """The sentences of a page. A piece of code is one word."""
+    for block in blocks_of(page):
+        words = CODE.sub("code", LINK.sub(r"\1", block))
+        words = re.sub(r"\*\*?|\.{2,}", "", words)
+        for sentence in re.split(r"(?<![A-Z])[.?!][)\"*]*(?=\s|$)", words):
+            if re.search(r"\w", sentence):
+                yield sentence.strip()
+
+
+def lengths_of(page: Path) -> list[int]:
+    """The words of each sentence of a page."""
+    return [len(re.findall(r"[^\s]*\w[^\s]*", it)) for it in sentences_of(page)]
+
+
+def read_first() -> list[Path]:
+    """The pages whose sentences are measured: the README and those of docs/."""
+    return [it for it in pages() if it == TOP / "README.md" or it.is_relative_to(TOP / "docs")]
+
+
+def long_sentences() -> Iterator[str]:
+    """A line if the mean sentence is too long."""
+    lengths = [it for page in read_first() for it in lengths_of(page)]
+    mean = sum(lengths) / len(lengths)
+    if mean > MEAN_LIMIT:
+        yield f"the mean sentence of the README and docs/ has {mean:.1f} words, above {MEAN_LIMIT:.0f}: words lists the pages"
+
+
+def long_readme() -> Iterator[str]:
+    """A line if the README is too long."""
+    size = (TOP / "README.md").stat().st_size
+    if size > README_LIMIT:
+        yield f"README.md has {size:,} bytes, above {README_LIMIT:,}"
+
+
+def misspellings() -> Iterator[str]:
+    """What codespell finds in the pages."""
+    command = ["codespell", "--ignore-words-list", IGNORED_WORDS, *map(name_of, pages())]
+    told = subprocess.run(command, cwd=TOP, capture_output=True, text=True, check=False)
+    if told.returncode not in (0, 65):
+        yield f"codespell ended with status {told.returncode}: {told.stderr.strip()}"
+    yield from told.stdout.splitlines()
+
+
+def print_means() -> int:
+    """Prints the mean sentence of each page, and of those that are measured."""
+    rows = [(sum(it) / len(it), len(it), name_of(page)) for page in pages() if (it := lengths_of(page))]
+    for mean, count, name in sorted(rows, reverse=True):
+        print(f"{mean:6.1f} words in {count:4} sentences  {name}")
+    lengths = [it for page in read_first() for it in lengths_of(page)]
+    print(f"{sum(lengths) / len(lengths):6.1f} words in {len(lengths):4} sentences  README.md and docs/")
+    return 0
+
+
+def print_long(limit: int) -> int:
+    """Prints each sentence above so many words."""
+    for page in pages():
+        for sentence, length in zip(sentences_of(page), lengths_of(page)):
+            if length > limit:
+                print(f"{name_of(page)}: {length}: {sentence}")
+    return 0
+
+
+def check() -> int:
+    """Runs all checks, prints the findings and answers the status."""
+    checks: list[Callable[[], Iterator[str]]] = [long_readme, long_sentences]
+    checks += [lambda page=page: dead_links(page) for page in pages()]
+    checks += [lambda page=page: paths_without_a_link(page) for page in pages()]
+    if shutil.which("codespell"):
+        checks.append(misspellings)
+    else:
+        print("skipped: the spelling of the pages: there is no codespell (Debian: codespell)")
+    passed, failed = 0, 0
+    for it in checks:
+        findings = list(it())
+        for line in findings:
+            print(line)
+        failed += len(findings)
+        passed += not findings
+    print(f"{passed} passed, {failed} failed")
+    return 1 if failed else 0
+
+
+def main() -> int:
+    """Runs what the arguments ask for."""
+    match sys.argv[1:]:
+        case []:
+            return check()
+        case ["words"]:
+            return print_means()
+        case ["long", limit] if limit.isdigit():
+            return print_long(int(limit))
+        case ["link"]:
+            return make_links()
+    print("usage: checks/run pages [words | long N | link]", file=sys.stderr)
+    return 2
+
+
+if __name__ == "__main__":
+    sys.exit(main())
