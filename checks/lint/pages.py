@@ -1,9 +1,9 @@
 """Whether the pages can be read: links that lead somewhere, a first page of 8 KB, short sentences, words spelt right.
 
-    python3 -m checks.lint.pages           checks all pages
-    python3 -m checks.lint.pages words     prints the mean length of a sentence of each page, the longest page first
-    python3 -m checks.lint.pages long N    prints each sentence above N words, with its page
-    python3 -m checks.lint.pages link      makes a link of each path that a page names without one the first time
+    python3 -m checks.lint.pages                checks all pages
+    python3 -m checks.lint.pages words          prints the mean sentence of each page, the longest first
+    python3 -m checks.lint.pages long N         prints each sentence above N words, with its page
+    python3 -m checks.lint.pages link PAGE ..   makes a link of each path that these pages name without one the first time
 
 A page is a file in Markdown. The check prints a line for each finding and ends with 'N passed, M failed'. It refuses
 
@@ -27,8 +27,8 @@ from checks import TOP
 README_LIMIT = 8192
 MEAN_LIMIT = 17.0
 
-# Folders that hold no pages of ours.
-OTHERS = {".git", "out", "build", "__pycache__"}
+# Folders that hold no pages of ours, beside the hidden ones.
+OTHERS = {"out", "build", "__pycache__"}
 
 # Words that codespell takes for slips, and that the field or the language has.
 IGNORED_WORDS = "crate,fo,hist,leaf,lets,mone,rekey,statics,te,ue,wast"
@@ -41,7 +41,11 @@ FENCE = re.compile(r"^ *(```|~~~)")
 
 def pages() -> list[Path]:
     """All pages, the README first."""
-    found = [it for it in TOP.rglob("*.md") if not OTHERS & set(it.relative_to(TOP).parts)]
+    found = []
+    for it in TOP.rglob("*.md"):
+        parts = it.relative_to(TOP).parts
+        if not OTHERS & set(parts) and not any(part.startswith(".") for part in parts):
+            found.append(it)
     return sorted(found, key=lambda it: (it != TOP / "README.md", str(it)))
 
 
@@ -58,7 +62,7 @@ def prose_of(text: str) -> str:
         if FENCE.match(line):
             fenced, line = not fenced, ""
         elif fenced or line.startswith("#"):
-            line = blanked(line)
+            line, item = blanked(line), False
         elif line.startswith("    ") and not item and (blank or code):
             code = True
             kept.append(blanked(line))
@@ -174,10 +178,10 @@ def relative(page: Path, path: Path) -> str:
     return "../" * up + str(path.relative_to(TOP))
 
 
-def make_links() -> int:
-    """Makes a link of each path that a page names without one the first time."""
+def make_links(chosen: list[Path]) -> int:
+    """Makes a link of each path that these pages name without one the first time."""
     made = 0
-    for page in pages():
+    for page in chosen:
         text = page.read_text()
         for start, end, path in reversed(unlinked(page)):
             text = f"{text[:start]}[{text[start:end]}]({relative(page, path)}){text[end:]}"
@@ -201,11 +205,11 @@ def blocks_of(page: Path) -> Iterator[str]:
 
 
 def sentences_of(page: Path) -> Iterator[str]:
-    """The sentences of a page. A piece of code is one word."""
+    """The sentences of a page. A piece of code is one word, and the full stop behind an initial ends none."""
     for block in blocks_of(page):
         words = CODE.sub("code", LINK.sub(r"\1", block))
         words = re.sub(r"\*\*?|\.{2,}", "", words)
-        for sentence in re.split(r"(?<![A-Z])[.?!][)\"*]*(?=\s|$)", words):
+        for sentence in re.split(r"(?:(?<![A-Z])|(?<=\d [A-Z]))[.?!][)\"*]*(?=\s|$)", words):
             if re.search(r"\w", sentence):
                 yield sentence.strip()
 
@@ -292,9 +296,9 @@ def main() -> int:
             return print_means()
         case ["long", limit] if limit.isdigit():
             return print_long(int(limit))
-        case ["link"]:
-            return make_links()
-    print("usage: checks/run pages [words | long N | link]", file=sys.stderr)
+        case ["link", *chosen] if chosen:
+            return make_links([(TOP / it).resolve() for it in chosen])
+    print("usage: checks/run pages [words | long N | link PAGE ..]", file=sys.stderr)
     return 2
 
 
