@@ -85,12 +85,14 @@ libexec/market/market
 share/bash-completion/completions/market
 share/doc/market/CHANGELOG.md
 share/doc/market/CLUSTER_FILE.md
+share/doc/market/COMMANDS.md
+share/doc/market/GLOSSARY.md
 share/doc/market/LICENSE
 share/doc/market/NOTICE
+share/doc/market/PROTOCOL.md
 share/doc/market/SERVE.md
+share/doc/market/TUTORIAL.md
 share/doc/market/examples/README.md
-share/doc/market/pictures/battery_day_ask.png
-share/doc/market/pictures/battery_day_bill.png
 share/fish/vendor_completions.d/market.fish
 share/man/man1/market.1
 share/market/cluster.schema.json
@@ -102,7 +104,7 @@ share/market/units/market-serve@.service
 share/market/words.sh
 share/zsh/site-functions/_market
 FILES
-    for file in examples/*.json examples/*.txt examples/serve/*.py pictures/*.py; do
+    for file in examples/*.json examples/*.txt examples/serve/*.py pictures/*.py pictures/*.png; do
         echo "share/doc/market/$file"
     done
 }
@@ -143,6 +145,18 @@ names_only_installed() {
         # A pattern of files is due as a file that fits it.
         compgen -G "$path" >/dev/null || missing="$missing $path"
     done < <(grep -rhoIE "$1/[A-Za-z0-9_./@*-]+" "$1" | sort -u)
+    [ -z "$missing" ] || { echo "missing:$missing"; return 1; }
+}
+
+# Each link of an installed page leads to a file or a folder that is installed.
+links_are_installed() {
+    local page link missing=""
+    while read -r page; do
+        while read -r link; do
+            link="${link#*](}"
+            [ -e "$(cd "${page%/*}" && realpath -m "${link%%[)#]*}")" ] || missing="$missing ${page##*/}:$link"
+        done < <(grep -oE '\]\([^#)][^)]*\)' "$page" | grep -v '(https\{0,1\}:')
+    done < <(find "$1/share/doc/market" -name '*.md')
     [ -z "$missing" ] || { echo "missing:$missing"; return 1; }
 }
 
@@ -252,6 +266,7 @@ passes "the program is the proved one" cmp crates/market/out/market "$at/libexec
 passes "installcheck" make_it -s installcheck PREFIX="$at"
 passes "nothing of the sources" names_no_sources "$at"
 passes "nothing that is not installed" names_only_installed "$at"
+passes "links" links_are_installed "$at"
 passes "units" units_are_installed "$at"
 
 # The installed command.
