@@ -85,7 +85,7 @@ if os.path.exists("meanwhile"):
         open(source, "w").write(kept)
 END_OF_PROVE
 # The checks tell their arguments and a last line; that of the program tells its arguments alone.
-all="program traces serve trials memory hostile script install schema pictures names definitions edits pages"
+all="program traces serve trials memory hostile script install pages schema pictures names definitions edits"
 folder_of() {
     case "$1" in
         cases | traces | serve | trials | memory | hostile) echo "$top/checks/drive" ;;
@@ -98,7 +98,7 @@ stub() {
         echo 'import sys; print(*sys.argv[1:]); print("1 passed, 0 failed")' >"$(folder_of "$name")/$name.py"
     done
 }
-stub traces serve trials memory hostile schema pictures names definitions edits pages
+stub traces serve trials memory hostile pages schema pictures names definitions edits
 for name in script install; do
     echo 'echo "1 passed, 0 failed"' >"$top/checks/drive/$name.sh"
 done
@@ -389,7 +389,7 @@ is "another check without a proof" 1 "no program is proved from the sources of t
 0 passed, 1 failed" "" 'forget; checks/run traces'
 prove
 is "the list" 0 "$all" "" 'echo $(checks/run | cut -d " " -f 1)'
-is "the list says how long and why" 0 14 "" 'checks/run | grep -cE "^[a-z]+ +([0-9]+|some) s +[A-Z].*[?]$"'
+is "the list says how long and why" 0 "$(set -- $all; echo $#)" "" 'checks/run | grep -cE "^[a-z]+ +([0-9]+|some) s +[A-Z].*[?]$"'
 is "no such check" 2 "" "no check has the name rum: checks/run lists them" 'checks/run rum'
 is "all of something" 2 "" "checks/run all takes no arguments; checks/run NAME may" 'checks/run all traces'
 is "a check with arguments" 0 "crates/market/out/market all 10
@@ -413,7 +413,7 @@ due_of() {
     case "$1" in
         program | traces | serve | memory | hostile) echo crates/market/out/market ;;
         trials) echo crates/trials/out/trials ;;
-        schema | pictures | names | pages) echo ;;
+        pages | schema | pictures | names) echo ;;
         definitions) echo check ;;
         edits) echo --self-test ;;
     esac

@@ -12,6 +12,7 @@ A page is a file in Markdown. The check prints a line for each finding and ends 
 - a mean above 17 words a sentence, over the README and the pages of docs/;
 - a path of the repository that a page names and does not link the first time. Headings, code blocks and what a command is
   given are left out;
+- a report that a page quotes and that is no part of the text of an example;
 - what codespell calls a misspelling, if codespell is there.
 """
 
@@ -37,6 +38,7 @@ LINK = re.compile(r"!?\[((?:[^\[\]]|\[[^\]]*\])*)\]\(([^()\s]+)\)")
 CODE = re.compile(r"`([^`\n]+)`")
 PATH = re.compile(r"(?<![\w/.@:-])(?:\.{0,2}/)?[\w.@-]+(?:/[\w.@-]+)*/?(?![\w@-])")
 FENCE = re.compile(r"^ *(```|~~~)")
+REPORT = re.compile(r" {4,}((?:phase \d|member [\w-]+ power -?\d|limited [\w-]+ price -?\d|end phases \d).*)")
 
 
 def pages() -> list[Path]:
@@ -170,6 +172,19 @@ def paths_without_a_link(page: Path) -> Iterator[str]:
         yield f"{name_of(page)}:{text.count(chr(10), 0, start) + 1}: {text[start:end]} is no link the first time"
 
 
+def reports_of_no_example(page: Path) -> Iterator[str]:
+    """The reports that a page quotes and that are no lines, one after another, of the text of an example."""
+    texts = [it.read_text() for it in sorted((TOP / "examples").glob("*.txt"))]
+    quoted: list[str] = []
+    for number, line in enumerate([*page.read_text().split("\n"), ""], 1):
+        if found := REPORT.fullmatch(line):
+            quoted.append(found.group(1))
+        elif quoted:
+            if not any("".join(f"{it}\n" for it in quoted) in text for text in texts):
+                yield f"{name_of(page)}:{number - len(quoted)}: the text of no example has the report that begins '{quoted[0]}'"
+            quoted = []
+
+
 def relative(page: Path, path: Path) -> str:
     """The path as a link of the page has it."""
     up = len(page.parent.relative_to(TOP).parts)
@@ -272,6 +287,7 @@ def check() -> int:
     checks: list[Callable[[], Iterator[str]]] = [long_readme, long_sentences]
     checks += [lambda page=page: dead_links(page) for page in pages()]
     checks += [lambda page=page: paths_without_a_link(page) for page in pages()]
+    checks += [lambda page=page: reports_of_no_example(page) for page in pages()]
     if shutil.which("codespell"):
         checks.append(misspellings)
     else:
