@@ -17,14 +17,17 @@ pub record Auction : Type 0 where
 abbrev pub new_auction : ℕ → ℕ → Auction
 new_auction children steps = record { cache = empty_cache children steps; step = 0; index = 0; changed = false }
 
--- the market was cleared under the next index, at the clearing step of the children's sum, and the
--- price was offered to each child that is not gone, with the number of its head
-pub record ClearedAt (old new : Auction) (downs_old downs_new : List Session) (index' step' : ℕ) : Type 0 where
+-- the market was cleared under the next index, at the clearing step of the children's sum
+pub record MarketCleared (old new : Auction) (index' step' : ℕ) : Type 0 where
   pub changed : old.changed ≡ true
   pub index : index' ≡ old.index + 1
   pub step : step' ≡ clearing_step (aggregate_of old.cache)
-  pub prices : PricesOffered old.cache.heads step' index' downs_old downs_new
   pub cache : new.cache ≡ old.cache
   pub new_index : new.index ≡ index'
   pub new_step : new.step ≡ step'
   pub not_changed : new.changed ≡ false
+
+-- the market was cleared, and the price was offered to each child that is not gone, with the number of its head
+pub record ClearedAt (old new : Auction) (downs_old downs_new : List Session) (index step : ℕ) : Type 0 where
+  pub cleared : MarketCleared old new index step
+  pub prices : PricesOffered old.cache.heads step index downs_old downs_new

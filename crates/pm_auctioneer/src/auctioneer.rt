@@ -1,16 +1,16 @@
-ghost use Rattle.std.specs.Prelude.{◌≡◌, ◌+◌, ◌<◌, ◌≤◌, ◌^◌, true, false, length, IfOk, IfErr, ◌||◌, not, nat_le};
+ghost use Rattle.std.specs.Prelude.{◌≡◌, ◌+◌, ◌<◌, ◌≤◌, ◌^◌, true, false, length, IfOk, IfErr, OnErr, ◌||◌, not, nat_le};
 ghost use Rattle.std.specs.Option.{option_copied};
 ghost use Rattle.pm_base.specs.Limits.{AreSteps, most_nodes};
 ghost use Rattle.pm_cache.specs.Cache.{kept_number, answer_to};
 ghost use Rattle.pm_cache.specs.Learning.{CanLearn, after_learning};
 ghost use Rattle.pm_session.specs.Prices.{IsNewIndex};
-ghost use Rattle.pm_auctioneer.specs.Auctions.{new_auction, ClearedAt};
+ghost use Rattle.pm_auctioneer.specs.Auctions.{new_auction, MarketCleared, ClearedAt};
 ghost use Rattle.pm_auctioneer.specs.declared.fault.ClearFault.TheVariants.{NotChanged};
 
 use crate::fault::ClearFault;
 use pm_bid::{ArrayBid, Steps};
 use pm_cache::{BidCache, CacheFault};
-use pm_session::{Link, offer_prices};
+use pm_session::{Link, Prices};
 use std::alloc::{AllocError, Global};
 use std::marker::{Brand, Model};
 
@@ -88,9 +88,46 @@ impl Auctioneer {
     }
 
     /// Clears the market: the step is the clearing step of the children's sum, the index the next
-    /// one. The price is offered to each child that is not gone, with the number of its head.
-    /// `NotChanged` comes exactly where nothing was learnt since the last clearing; nothing changes
-    /// then.
+    /// one. `NotChanged` comes exactly where nothing was learnt since the last clearing; nothing
+    /// changes then.
+    pub fn next_clearing(&mut self) -> Result<Cleared, ClearFault>
+        requires last { self.old.index + 1 < 2 ^ 32 }
+        ensures cleared { IfOk result (λ cleared. MarketCleared self.old self.new cleared.index
+            cleared.step) }
+        ensures step { IfOk result (λ cleared. cleared.step < self.old.cache.steps) }
+        ensures refused { IfErr result
+            (λ fault. (self.old.changed ≡ false) × (fault ≡ NotChanged)) }
+        ensures unchanged { OnErr result (self.new ≡ self.old) }
+    {
+        if !self.changed {
+            return Err(ClearFault::NotChanged);
+        }
+        let total = self.cache.aggregate();
+        let step = total.first_not_positive(&mut Steps::<Brand>::start()) as u32;
+        let index = self.index + 1;
+        self.step = step;
+        self.index = index;
+        self.changed = false;
+        Ok(Cleared { index, step })
+    }
+
+    /// The prices of the last clearing, by the heads that the children have now: for each child
+    /// that is not gone the step and the index, with the number of its head.
+    pub fn prices(&self) -> Prices<'_>
+        ensures heads { result.heads.now ≡ self.now.cache.heads }
+        ensures step { result.step ≡ self.now.step }
+        ensures index { result.index ≡ self.now.index }
+    {
+        Prices {
+            heads: self.cache.heads(),
+            step: self.step,
+            index: self.index,
+        }
+    }
+
+    /// Clears the market, and offers the price to each child that is not gone:
+    /// [`Auctioneer::next_clearing`], with its faults, and [`Auctioneer::prices`] on links. Nothing
+    /// changes where a fault comes.
     pub fn clear(&mut self, downs: &mut [Link]) -> Result<Cleared, ClearFault>
         requires same_length { length downs.old ≡ length self.old.cache.heads }
         requires last { self.old.index + 1 < 2 ^ 32 }
@@ -103,17 +140,9 @@ impl Auctioneer {
         ensures unchanged { IfErr result
             (λ fault. (self.new ≡ self.old) × (downs.new ≡ downs.old)) }
     {
-        if !self.changed {
-            return Err(ClearFault::NotChanged);
-        }
-        let total = self.cache.aggregate();
-        let step = total.first_not_positive(&mut Steps::<Brand>::start()) as u32;
-        let index = self.index + 1;
-        offer_prices(self.cache.heads(), step, index, downs);
-        self.step = step;
-        self.index = index;
-        self.changed = false;
-        Ok(Cleared { index, step })
+        let cleared = self.next_clearing()?;
+        self.prices().offer(downs);
+        Ok(cleared)
     }
 
     /// The entries of the children.

@@ -3,10 +3,10 @@ use Rattle.std.specs.Prelude.{ℕ, ◌<◌, ℤ, List, Option, Some, None}
 use Rattle.pm_base.specs.declared.limits.Limits.{Limits}
 use Rattle.pm_bid.specs.Limited.{local_step}
 
--- the limits, and how many steps the sums have that are moved within them
+-- the limits, and the demand of the newest bid
 pub record LimitedValue : Type 0 where
   pub limits : Limits
-  pub steps : ℕ
+  pub announced : List ℤ
 
 -- the sum that a record keeps: one only where there are limits
 abbrev pub sum_kept : Option Limits → List ℤ → Option (List ℤ)

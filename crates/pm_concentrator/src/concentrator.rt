@@ -1,15 +1,15 @@
-ghost use Rattle.std.specs.Prelude.{◌≡◌, ◌+◌, ◌-◌, ◌<◌, ◌≤◌, ◌^◌, false, length, option_map, Some, None, IfOk, IfErr, IsTrue};
-ghost use Rattle.std.specs.Prelude.{IsFalse, ◌↔◌};
+ghost use Rattle.std.specs.Prelude.{◌≡◌, ◌+◌, ◌-◌, ◌<◌, ◌≤◌, ◌^◌, length, option_map, Some, None, IfOk, IfErr, OnErr, IsTrue};
+ghost use Rattle.std.specs.Prelude.{IsFalse, ◌↔◌, unwrap_or};
 ghost use Rattle.std.specs.Option.{option_copied};
 ghost use Rattle.pm_base.specs.Limits.{AreSteps, AreLimits, most_nodes, window_size};
 ghost use Rattle.pm_bid.specs.Limited.{within_limits};
 ghost use Rattle.pm_cache.specs.Cache.{aggregate_of, kept_number, answer_to};
 ghost use Rattle.pm_cache.specs.Learning.{CanLearn, after_learning};
-ghost use Rattle.pm_session.specs.Links.{BidOffered};
 ghost use Rattle.pm_session.specs.Prices.{PricesOffered, IsNewIndex};
 ghost use Rattle.pm_session.specs.Windows.{Keeps, unanswered_count, record_of, RecordSent, IsWindow, steps_of};
 ghost use Rattle.pm_concentrator.specs.Limited.{LimitedValue, sum_kept, sum_steps, local_step_of_record, IsStepOf};
-ghost use Rattle.pm_concentrator.specs.Concentrators.{published_heads, IsNewConcentrator, Published, Passed, IsGathered};
+ghost use Rattle.pm_concentrator.specs.Concentrators.{own_demand, published_heads, IsNewConcentrator};
+ghost use Rattle.pm_concentrator.specs.Concentrators.{BidMade, Published, Passed, IsGathered};
 ghost use Rattle.pm_concentrator.specs.Faults.{NotPublished};
 
 use crate::fault::PublishFault;
@@ -17,14 +17,14 @@ use crate::limited::Limited;
 use pm_base::{Limits, WINDOW_SIZE};
 use pm_bid::{ArrayBid, BidHead, Steps};
 use pm_cache::{BidCache, CacheFault};
-use pm_session::{Link, PriceUpdate, Record, Window, offer_prices};
+use pm_session::{Link, PriceUpdate, Prices, Record, Window};
 use std::alloc::{AllocError, Global};
 use std::marker::{Brand, Model};
 
 /// A node between the devices and the auctioneer, with up to 256 children, which count from 0.
 ///
 /// Contracts see the entries of its children (see [`BidCache`]), the records of what it published
-/// (see [`Window`]), and its limits where it has some.
+/// (see [`Window`]), and its limits where it has some, with the demand of its newest bid then.
 pub struct Concentrator {
     cache: BidCache,
     window: Window,
@@ -112,19 +112,16 @@ impl Concentrator {
             .learn(child, number, demand, &mut Steps::<Brand>::start())
     }
 
-    /// Offers the sum of the children's bids, within the limits where there are some, to the parent
-    /// under the next number, which is the answer. The heads of the children are its record, with
-    /// the sum as it was before the limits. `NotChanged` comes exactly where the heads equal those
-    /// of the last record, or of the opening where there is none; else `WindowFull` exactly where
-    /// eight numbers are unanswered. Nothing changes then.
-    pub fn publish(&mut self, up: &mut Link) -> Result<u32, PublishFault>
-        requires steps { up.old.steps ≡ self.old.cache.steps }
+    /// Makes the bid of the next number, which is the answer: its demand is the sum of the
+    /// children's bids, within the limits where there are some (see [`Concentrator::demand`]). The
+    /// heads of the children are its record, with the sum as it was before the limits. `NotChanged`
+    /// comes exactly where the heads equal those of the last record, or of the opening where there
+    /// is none; else `WindowFull` exactly where eight numbers are unanswered. Nothing changes then.
+    pub fn next_bid(&mut self) -> Result<u32, PublishFault>
         requires last { self.old.window.last + 1 < 2 ^ 32 }
-        requires number { up.old.up.offered < self.old.window.last + 1 }
-        ensures published { IfOk result (λ number. Published self.old self.new up.old up.new
-            number) }
+        ensures made { IfOk result (λ number. BidMade self.old self.new number) }
         ensures refused { IfErr result (λ fault. NotPublished self.old fault) }
-        ensures unchanged { IfErr result (λ fault. (self.new ≡ self.old) × (up.new ≡ up.old)) }
+        ensures unchanged { OnErr result (self.new ≡ self.old) }
     {
         if !self.changed() {
             return Err(PublishFault::NotChanged);
@@ -135,14 +132,72 @@ impl Concentrator {
             });
         }
         let number = self.window.last() + 1;
-        send(&self.cache, &mut self.limited, &mut self.window, number, up);
+        record_bid(&self.cache, &mut self.limited, &mut self.window, number);
         Ok(number)
     }
 
+    /// The demand of the concentrator, in watts at each step. With limits it is that of its newest
+    /// bid, zeros before the first. Without limits it is the sum of the children's bids, and so that
+    /// of its newest bid until the next bid of a child is learnt.
+    pub fn demand(&self) -> &ArrayBid
+        ensures demand { result.now ≡ own_demand self.now }
+        ensures steps { length result.now ≡ self.now.cache.steps }
+    {
+        match &self.limited {
+            None => self.cache.aggregate(),
+            Some(limits) => limits.announced(),
+        }
+    }
+
+    /// Offers the sum of the children's bids, within the limits where there are some, to the parent
+    /// under the next number, which is the answer: [`Concentrator::next_bid`], with its faults, on a
+    /// link. Nothing changes where a fault comes.
+    pub fn publish(&mut self, up: &mut Link) -> Result<u32, PublishFault>
+        requires steps { up.old.steps ≡ self.old.cache.steps }
+        requires last { self.old.window.last + 1 < 2 ^ 32 }
+        requires number { up.old.up.offered < self.old.window.last + 1 }
+        ensures published { IfOk result (λ number. Published self.old self.new up.old up.new
+            number) }
+        ensures refused { IfErr result (λ fault. NotPublished self.old fault) }
+        ensures unchanged { IfErr result (λ fault. (self.new ≡ self.old) × (up.new ≡ up.old)) }
+    {
+        let number = self.next_bid()?;
+        let _ = up.offer_bid(number, Some(self.demand()));
+        Ok(number)
+    }
+
+    /// What a price is for each child that is not gone in the record of the number that the price
+    /// names: the price with the child's number in that record. Of a limited concentrator the step
+    /// is the local step of the record's sum in place of the price's step, which is one of its steps.
+    pub fn prices(&self, price: PriceUpdate) -> Prices<'_>
+        requires kept { Keeps self.now.window price.number }
+        requires step { IsStepOf self.now.limits self.now.cache.steps price.step }
+        ensures heads { result.heads.now ≡ (record_of self.now.window price.number).heads }
+        ensures children { length result.heads.now ≡ length self.now.cache.heads }
+        ensures step { result.step ≡ local_step_of_record self.now.limits price.step
+            (record_of self.now.window price.number).sum }
+        ensures inside { price.step < self.now.cache.steps → result.step < self.now.cache.steps }
+        ensures index { result.index ≡ price.index }
+    {
+        let record = self.window.record(price.number);
+        Prices {
+            heads: record.children(),
+            step: step_below(&self.limited, price.step, record),
+            index: price.index,
+        }
+    }
+
+    /// Takes the record of a number, which is kept, for the one answered last. The older records are
+    /// dropped.
+    pub fn answer(&mut self, number: u32)
+        requires kept { Keeps self.old.window number }
+        ensures passed { Passed self.old self.new number }
+    {
+        let _record = self.window.answered(number);
+    }
+
     /// Passes a price on to each child that is not gone in the record of the number that the price
-    /// names, with the child's number in that record. That record is then the one answered last.
-    /// A limited concentrator passes the local step of the record's sum in place of the price's
-    /// step, which is one of its steps.
+    /// names: [`Concentrator::prices`] on links, and [`Concentrator::answer`].
     pub fn pass(&mut self, price: PriceUpdate, downs: &mut [Link]) -> Result<(), AllocError>
         requires kept { Keeps self.old.window price.number }
         requires same_length { length downs.old ≡ length self.old.cache.heads }
@@ -157,9 +212,8 @@ impl Concentrator {
             → local_step_of_record self.old.limits price.step
             (record_of self.old.window price.number).sum < self.old.cache.steps }
     {
-        let record = self.window.answered(price.number);
-        let step = step_below(&self.limited, price.step, record);
-        offer_prices(record.children(), step, price.index, downs);
+        self.prices(price).offer(downs);
+        self.answer(price.number);
         Ok(())
     }
 
@@ -202,46 +256,35 @@ impl Concentrator {
     }
 }
 
-/// Offers the sum, within the limits where there are some, and keeps its record.
-fn send(
-    cache: &BidCache,
-    limited: &mut Option<Limited>,
-    window: &mut Window,
-    number: u32,
-    up: &mut Link,
-)
-    requires up_steps { up.old.steps ≡ cache.now.steps }
+/// Keeps the record of the bid of this number, and makes its demand where there are limits.
+fn record_bid(cache: &BidCache, limited: &mut Option<Limited>, window: &mut Window, number: u32)
     requires limits { (limits : LimitedValue) → limited.old ≡ Some limits →
-        limits.steps ≡ cache.now.steps }
+        length limits.announced ≡ cache.now.steps }
     requires room { unanswered_count window.old < window_size }
     requires number { number ≡ window.old.last + 1 }
-    requires offered { up.old.up.offered < number }
     requires children { window.old.children ≡ length cache.now.heads }
     requires sum_steps { window.old.steps ≡ sum_steps
         (option_map (λ l. l.limits) limited.old) cache.now.steps }
-    ensures bid { BidOffered up.old up.new
-        (record {
-          number = number;
-          gone = false;
-          demand = within_limits (option_map (λ l. l.limits) limited.old)
-              (aggregate_of cache.now);
-        }) }
     ensures sent { RecordSent window.old window.new
         (record {
           number = number;
           heads = cache.now.heads;
           sum = sum_kept (option_map (λ l. l.limits) limited.old) (aggregate_of cache.now);
         }) }
-    ensures limits { limited.new ≡ limited.old }
+    ensures demand { unwrap_or (option_map (λ l. l.announced) limited.new) (aggregate_of cache.now)
+        ≡ within_limits (option_map (λ l. l.limits) limited.old) (aggregate_of cache.now) }
+    ensures steps { steps_of (option_map (λ l. l.announced) limited.new)
+        ≡ sum_steps (option_map (λ l. l.limits) limited.old) cache.now.steps }
+    ensures limits { option_map (λ l. l.limits) limited.new
+        ≡ option_map (λ l. l.limits) limited.old }
 {
     let sum = cache.aggregate();
     match limited {
         None => {
-            let _ = up.offer_bid(number, Some(sum));
             let _ = window.sent(number, cache.heads());
         }
         Some(limits) => {
-            limits.offer(number, sum, up);
+            limits.announce(sum);
             window.sent_limited(number, cache.heads(), sum);
         }
     }
@@ -249,13 +292,15 @@ fn send(
 
 /// The step that a price of this step has for the children, whose bids have so many steps.
 fn step_below(limited: &Option<Limited>, step: u32, sent: &Record) -> u32
-    requires step { (limits : LimitedValue) → limited.now ≡ Some limits → step < limits.steps }
+    requires step { (limits : LimitedValue) → limited.now ≡ Some limits →
+        step < length limits.announced }
     requires sums { (limits : LimitedValue) → limited.now ≡ Some limits →
-        steps_of sent.now.sum ≡ Some limits.steps }
+        steps_of sent.now.sum ≡ Some (length limits.announced) }
     requires no_sums { limited.now ≡ None → sent.now.sum ≡ None }
     ensures step { result ≡ local_step_of_record (option_map (λ l. l.limits) limited.now) step
         sent.now.sum }
-    ensures inside { (limits : LimitedValue) → limited.now ≡ Some limits → result < limits.steps }
+    ensures inside { (limits : LimitedValue) → limited.now ≡ Some limits →
+        result < length limits.announced }
     ensures same { limited.now ≡ None → result ≡ step }
 {
     match limited {

@@ -1,20 +1,20 @@
-ghost use Rattle.std.specs.Prelude.{◌≡◌, ◌<◌, false, length, IfOk};
+//! What limits add to a concentrator: the demand that it announces, and the step that it passes down.
+
+ghost use Rattle.std.specs.Prelude.{◌≡◌, ◌<◌, length, IfOk};
 ghost use Rattle.pm_base.specs.Limits.{AreSteps, AreLimits};
-ghost use Rattle.pm_bid.specs.Bids.{clamp};
+ghost use Rattle.pm_bid.specs.Bids.{zeros, clamp};
 ghost use Rattle.pm_bid.specs.Limited.{step_within};
-ghost use Rattle.pm_session.specs.Links.{BidOffered};
 
 use pm_base::Limits;
 use pm_bid::{ArrayBid, Steps};
-use pm_session::Link;
 use std::alloc::{AllocError, Global};
 use std::marker::{Brand, Model};
 
-/// The limits of a limited concentrator, and the room for a sum that is moved within them.
+/// The limits of a limited concentrator, and the demand of its newest bid.
 #[derive(Drop)]
 pub(crate) struct Limited {
     limits: Limits,
-    clamped: ArrayBid,
+    announced: ArrayBid,
 }
 
 impl Model for Limited {
@@ -31,39 +31,33 @@ impl Model for Limited {
 }
 
 impl Limited {
-    /// Limits for sums of so many steps.
+    /// Limits for sums of so many steps. The newest bid is that of the opening, with zeros.
     pub(crate) fn new(alloc: Global, steps: usize, limits: Limits) -> Result<Limited, AllocError>
         requires steps { AreSteps steps }
         requires limits { AreLimits limits }
         ensures limits { IfOk result (λ limited. limited
-            ≡ record { limits = limits; steps = steps }) }
+            ≡ record { limits = limits; announced = zeros steps }) }
     {
-        let clamped = ArrayBid::zero(alloc, steps, &mut Steps::<Brand>::start())?;
-        Ok(Limited { limits, clamped })
+        let announced = ArrayBid::zero(alloc, steps, &mut Steps::<Brand>::start())?;
+        Ok(Limited { limits, announced })
     }
 
-    /// Offers the sum within the limits.
-    pub(crate) fn offer(&mut self, number: u32, sum: &ArrayBid, up: &mut Link)
-        requires number { up.old.up.offered < number }
-        requires steps { length sum.now ≡ self.old.steps }
-        requires up_steps { up.old.steps ≡ self.old.steps }
-        ensures bid { BidOffered up.old up.new
-            (record {
-              number = number;
-              gone = false;
-              demand = clamp self.old.limits.floor self.old.limits.ceiling sum.now;
-            }) }
-        ensures same { self.new ≡ self.old }
+    /// Makes the sum within the limits the demand of the newest bid.
+    pub(crate) fn announce(&mut self, sum: &ArrayBid)
+        requires steps { length sum.now ≡ length self.old.announced }
+        ensures announced { self.new ≡ record self.old
+            { announced = clamp self.old.limits.floor self.old.limits.ceiling sum.now } }
     {
+        let Limits { floor, ceiling } = self.limits;
         let mut counter = Steps::<Brand>::start();
-        let clamped = &mut self.clamped;
-        sum.clamp_into(
-            self.limits.floor,
-            self.limits.ceiling,
-            clamped,
-            &mut counter,
-        );
-        let _ = up.offer_bid(number, Some(&self.clamped));
+        sum.clamp_into(floor, ceiling, &mut self.announced, &mut counter);
+    }
+
+    /// The demand of the newest bid.
+    pub(crate) fn announced(&self) -> &ArrayBid
+        ensures announced { result.now ≡ self.now.announced }
+    {
+        &self.announced
     }
 
     /// The step of the nodes below for a price of this step and the children's sum.

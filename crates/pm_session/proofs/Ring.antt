@@ -194,3 +194,31 @@ module _ (children : ℕ) (steps : Option ℕ) (places : List Sent) (answered la
   -- the record in the place of a number that is kept is the window's record of that number
   pub record_given : record_in places number ≡ record_of (window_from children steps places answered last) number
   record_given = sym (record_kept children steps places answered last number keeps.from keeps.to)
+
+-- what is read from the place of a number that is kept
+pub record IsKept (window : WindowValue) (number' : ℕ) (read : Sent) : Type 0 where
+  -- it is the window's record of that number
+  pub sent : read ≡ record_of window number'
+  -- it has the window's children, and a sum where the window keeps sums
+  pub fits : Fits window read
+  -- it has that number
+  pub number : read.number ≡ number'
+
+kept_inside : (inside : Inside) (number : ℕ) (read : Sent) → IsRing inside → Keeps (window_of inside) number →
+    read ≡ get_or inside.places.items (number % ring_size) read → IsKept (window_of inside) number read
+kept_inside inside number read is keeps at =
+    let ring = ring_of inside is in
+    let place = read_in inside.places.items number read is.size at in
+    let sent = place ∙ record_given inside.children inside.steps inside.places.items inside.answered inside.last number ring keeps in
+    record {
+      sent = sent;
+      fits = subst (λ (r : Sent). Fits (window_of inside) r) (sym place) (is.each number);
+      number = ap (λ r. r.number) sent ∙ is.sound.numbers number keeps;
+    }
+
+-- where the number is kept, what is read from its place is its record
+pub is_kept : (inside : Inside) (window : WindowValue) (number : ℕ) (read : Sent) → IsRing inside → window_of inside ≡ window →
+    Keeps window number → read ≡ get_or inside.places.items (number % ring_size) read → IsKept window number read
+is_kept inside window number read is view keeps at =
+    subst (λ (w : WindowValue). IsKept w number read) view
+    (kept_inside inside number read is (subst (λ (w : WindowValue). Keeps w number) (sym view) keeps) at)

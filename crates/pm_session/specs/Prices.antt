@@ -1,12 +1,18 @@
 -- A price on its way to the children of a node.
-use Rattle.std.specs.Prelude.{◌≡◌, ℕ, ◌<◌, true, false, List, length, slice_index_or}
+use Rattle.std.specs.Prelude.{◌≡◌, ℕ, ◌<◌, true, false, if◌then◌else◌, List, length, slice_index_or, Option, Some, None}
 use Rattle.pm_bid.specs.Heads.{nothing_sent}
 use Rattle.pm_bid.specs.declared.head.BidHead.{BidHead}
+use Rattle.pm_session.specs.declared.price.PriceUpdate.{PriceUpdate}
 use Rattle.pm_session.specs.Links.{Session, new_session, PriceOffered}
 
 -- the head of a child
 abbrev pub head_at : List BidHead → ℕ → BidHead
 head_at heads child = slice_index_or heads child nothing_sent
+
+-- the price for a child: the step, the number of its head, and the index; none where the head is gone
+abbrev pub price_to : List BidHead → ℕ → ℕ → ℕ → Option PriceUpdate
+price_to heads step index child =
+    if (head_at heads child).gone then None else Some (record { step = step; number = (head_at heads child).number; index = index })
 
 -- the link of a child
 abbrev pub session_at : List Session → ℕ → Session

@@ -23,6 +23,6 @@ pub use link::Link;
 pub use pm_bid::BidHead;
 pub use port::Port;
 pub use price::{Held, PriceUpdate};
-pub use prices::offer_prices;
+pub use prices::Prices;
 pub use record::Record;
 pub use window::Window;

@@ -109,6 +109,16 @@ impl Window {
         &self.places[self.last as usize % PLACES]
     }
 
+    /// The record of a number that is kept.
+    pub fn record(&self, number: u32) -> &Record
+        requires kept { Keeps self.now number }
+        ensures record { result.now ≡ record_of self.now number }
+        ensures fits { Fits self.now result.now }
+        ensures number { result.now.number ≡ number }
+    {
+        &self.places[number as usize % PLACES]
+    }
+
     /// Keeps a record under the next number, for a window without sums. There is room, and the list
     /// is as long as the window's children.
     pub fn sent(&mut self, number: u32, children: &[BidHead]) -> Result<(), AllocError>

@@ -58,7 +58,7 @@ learnt_root a a' cs y k n demand e newer is =
       others = λ i ne.
           let inner : i ≡ 0 → ⊥ = λ z. ne (z ∙ sym e) in
           cache_inner a' cs i inner ∙ sym (cache_inner a cs i inner);
-      kept = λ i. record { window = refl; limits = refl };
+      kept = λ i. record { window = refl; limits = refl; announced = refl };
       there = λ i h. h;
       all = refl;
       index = ap (λ (x : Auction). x.index) is;
@@ -92,10 +92,15 @@ learnt_inner a cs g g' y k n demand ne lt at newer is =
             record {
               window = ap (λ (x : Gathered). x.window) new_is ∙ sym (ap (λ (x : Gathered). x.window) was);
               limits = ap (λ (x : Gathered). x.limits) new_is ∙ sym (ap (λ (x : Gathered). x.limits) was);
+              announced = ap (λ (x : Gathered). x.announced) new_is ∙ sym (ap (λ (x : Gathered). x.announced) was);
             }
         | inr differs ↦
             let other = gathered_other cs y i g' differs in
-            record { window = ap (λ (x : Gathered). x.window) other; limits = ap (λ (x : Gathered). x.limits) other }
+            record {
+              window = ap (λ (x : Gathered). x.window) other;
+              limits = ap (λ (x : Gathered). x.limits) other;
+              announced = ap (λ (x : Gathered). x.announced) other;
+            }
       ];
       there = λ i h. elim (cases_eq i y) [
         | inl e ↦

@@ -64,12 +64,12 @@ module _ (plan : PlanData) (is_plan : IsPlan plan) (c : Core) (s : State) (stand
   after_state = step lists s (Clear j)
 
   j_is : j ≡ clearings s + 1
-  j_is = omega (arith, made.index, stands.index)
+  j_is = omega (arith, made.cleared.index, stands.index)
 
   legal : Legal lists s (Clear j)
   legal = (
     elim (cases_Bool (is_same_on lists 0 (knowledge lists s 0) (cleared_cut s (clearings s)))) [
-      | inl e ↦ absurd (both_ways c.auctioneer.changed (stands.changed ∙ ap not e) made.changed)
+      | inl e ↦ absurd (both_ways c.auctioneer.changed (stands.changed ∙ ap not e) made.cleared.changed)
       | inr e ↦ e
     ],
     j_is,
@@ -161,7 +161,7 @@ module _ (plan : PlanData) (is_plan : IsPlan plan) (c : Core) (s : State) (stand
 
     the_step : k ≡ local_step_at plan (cleared_cut after_state j) y
     the_step =
-        made.step
+        made.cleared.step
         ∙ ap (λ (q : Cache). clearing_step (aggregate_of q)) (sym (cache_root c.auctioneer c.concentrators 0 refl))
         ∙ ap (λ (n : ℕ). clearing_step (sum_of n (node_cache c 0).demands)) (stands.shaped.cache_steps 0 (omega arith) (leaf_zero lists))
         ∙ ap (λ ds. clearing_step (sum_of plan.basis.steps ds)) (demands_are plan is_plan c s stands 0 (omega arith) (leaf_zero lists))
@@ -238,7 +238,7 @@ module _ (plan : PlanData) (is_plan : IsPlan plan) (c : Core) (s : State) (stand
 
   cache_kept : (y : ℕ) → node_cache after_core y ≡ node_cache c y
   cache_kept y = elim (cases_eq y 0) [
-    | inl z ↦ cache_root auctioneer c.concentrators y z ∙ made.cache ∙ sym (cache_root c.auctioneer c.concentrators y z)
+    | inl z ↦ cache_root auctioneer c.concentrators y z ∙ made.cleared.cache ∙ sym (cache_root c.auctioneer c.concentrators y z)
     | inr nz ↦ cache_inner auctioneer c.concentrators y nz ∙ sym (cache_inner c.auctioneer c.concentrators y nz)
   ]
 
@@ -255,7 +255,7 @@ module _ (plan : PlanData) (is_plan : IsPlan plan) (c : Core) (s : State) (stand
 
   the_new_step : auctioneer.step ≡ clearing_step (children_sum plan 0 (cleared_cut after_state (clearings after_state)))
   the_new_step =
-      made.new_step ∙ made.step
+      made.cleared.new_step ∙ made.cleared.step
       ∙ ap (λ (q : Cache). clearing_step (aggregate_of q)) (sym (cache_root c.auctioneer c.concentrators 0 refl))
       ∙ ap (λ (n : ℕ). clearing_step (sum_of n (node_cache c 0).demands)) (stands.shaped.cache_steps 0 (omega arith) (leaf_zero lists))
       ∙ ap (λ ds. clearing_step (sum_of plan.basis.steps ds)) (demands_are plan is_plan c s stands 0 (omega arith) (leaf_zero lists))
@@ -320,11 +320,11 @@ module _ (plan : PlanData) (is_plan : IsPlan plan) (c : Core) (s : State) (stand
         let same = list_kept lists law s stands.sound 0 (leaf_zero lists) sound' (parent lists z) (not_root (parent lists z) (conc_z.0, conc_z.1)) in
         stands.newest_heads z z_node conc_z ∙ record_kept z (length (s.published (parent lists z))) z_node (omega arith)
         ∙ ap (λ (l : List Cut). head_for lists z (number lists after_state z (cut_at (after_state.published (parent lists z)) (length l)))) (sym same);
-    index = made.new_index ∙ sym clearings_is;
+    index = made.cleared.new_index ∙ sym clearings_is;
     auction_step = the_new_step
         ∙ sym (cond-false (eqb (clearings after_state) 0) 0 (clearing_step (children_sum plan 0 (cleared_cut after_state (clearings after_state))))
         (ne_eqb (clearings after_state) 0 (λ e. omega (arith, clearings_is, j_is, e))));
-    changed = made.not_changed
+    changed = made.cleared.not_changed
         ∙ sym (ap not (is_same_from lists 0 (knowledge lists after_state 0) (cleared_cut after_state (clearings after_state)) (λ d leaf.
         sym (known_same lists law s stands.sound 0 (leaf_zero lists) sound' 0 (leaf_zero lists) d leaf)
         ∙ ap (λ (a : Cut). a d) (sym (ap (cleared_cut after_state) clearings_is ∙ new_cleared)))));

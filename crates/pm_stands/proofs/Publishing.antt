@@ -29,7 +29,7 @@ use Rattle.pm_session.specs.Ways.{Waits}
 use Rattle.pm_session.specs.Prices.{head_at}
 use Rattle.pm_session.specs.Windows.{WindowValue, Sent, Keeps, record_of}
 use Rattle.pm_concentrator.specs.Limited.{sum_kept}
-use Rattle.pm_concentrator.specs.Concentrators.{Gathered, Published, published_heads}
+use Rattle.pm_concentrator.specs.Concentrators.{Gathered, BidMade, Published, published_heads}
 use Rattle.pm_plan.specs.Kept.{IsPlan}
 use Rattle.pm_plan.specs.Plans.{PlanData}
 use Rattle.pm_plan.specs.Market.{plan_lists}
@@ -89,7 +89,7 @@ module _ (plan : PlanData) (is_plan : IsPlan plan) (c : Core) (s : State) (stand
 
 module _ (plan : PlanData) (is_plan : IsPlan plan) (c : Core) (s : State) (stands : StandsFor plan c s) (x : ℕ) (conc : IsConcentrator (plan_lists plan) x)
     (links : List (List Session)) (concentrators : List (Option Gathered)) (n : ℕ)
-    (made : Published (concentrator_of c x) (gathered_at concentrators x) (uplink_of plan c x)
+    (published : Published (concentrator_of c x) (gathered_at concentrators x) (uplink_of plan c x)
     (link_at links (parent (plan_lists plan) x) (place_of plan.entries x)) n)
     (one : OneLink c.links links (parent (plan_lists plan) x) (place_of plan.entries x))
     (alone : OneConcentrator c.concentrators concentrators x) where
@@ -104,6 +104,9 @@ module _ (plan : PlanData) (is_plan : IsPlan plan) (c : Core) (s : State) (stand
 
   node : IsNode lists x
   node = (conc.0, conc.1)
+
+  made : BidMade (concentrator_of c x) (gathered_at concentrators x) n
+  made = published.made
 
   abbrev after_core : Core
   after_core = record c { links = links; concentrators = concentrators }
@@ -147,7 +150,7 @@ module _ (plan : PlanData) (is_plan : IsPlan plan) (c : Core) (s : State) (stand
 
   down_kept : (y : ℕ) → IsNode lists y → (uplink_of plan after_core y).down ≡ (uplink_of plan c y).down
   down_kept y y_node = elim (cases_eq y x) [
-    | inl e ↦ ap (λ (z : Session). z.down) (session_new y e) ∙ made.bid.down ∙ ap (λ (z : ℕ). (uplink_of plan c z).down) (sym e)
+    | inl e ↦ ap (λ (z : Session). z.down) (session_new y e) ∙ published.bid.down ∙ ap (λ (z : ℕ). (uplink_of plan c z).down) (sym e)
     | inr ne ↦ ap (λ (z : Session). z.down) (session_kept y y_node ne)
   ]
 
@@ -272,7 +275,7 @@ module _ (plan : PlanData) (is_plan : IsPlan plan) (c : Core) (s : State) (stand
       all_powers = stands.shaped.all_powers;
       rows = λ y le. one.rows y ∙ stands.shaped.rows y le;
       link_steps = λ y y_node. elim (cases_eq y x) [
-        | inl e ↦ ap (λ (z : Session). z.steps) (session_new y e) ∙ made.bid.steps ∙ stands.shaped.link_steps x node
+        | inl e ↦ ap (λ (z : Session). z.steps) (session_new y e) ∙ published.bid.steps ∙ stands.shaped.link_steps x node
         | inr ne ↦ ap (λ (z : Session). z.steps) (session_kept y y_node ne) ∙ stands.shaped.link_steps y y_node
       ];
       there = λ y conc_y. alone.there y (stands.shaped.there y conc_y);
@@ -301,19 +304,19 @@ module _ (plan : PlanData) (is_plan : IsPlan plan) (c : Core) (s : State) (stand
         ∙ ap (offer plan y) (sym (part_old lists law s stands.sound x conc.2 sound' y (s.learnt y) (stands.sound.learnt_within y y_node)));
     bid_offered = λ y y_node. elim (cases_eq y x) [
       | inl e ↦
-          ap (λ (z : Session). z.up.offered) (session_new y e) ∙ made.bid.up.offered
+          ap (λ (z : Session). z.up.offered) (session_new y e) ∙ published.bid.up.offered
           ∙ omega (arith, number_is, newest_is, ap (newest_number_of lists after_state) e, newest_more lists law s stands.sound x conc.2 sound')
       | inr ne ↦ ap (λ (z : Session). z.up.offered) (session_kept y y_node ne) ∙ stands.bid_offered y y_node
           ∙ sym (newest_other lists law s stands.sound x conc.2 sound' y ne)
     ];
     bid_taken = λ y y_node. elim (cases_eq y x) [
-      | inl e ↦ ap (λ (z : Session). z.up.taken) (session_new y e) ∙ made.bid.up.taken ∙ stands.bid_taken x node ∙ ap s.learnt (sym e)
+      | inl e ↦ ap (λ (z : Session). z.up.taken) (session_new y e) ∙ published.bid.up.taken ∙ stands.bid_taken x node ∙ ap s.learnt (sym e)
       | inr ne ↦ ap (λ (z : Session). z.up.taken) (session_kept y y_node ne) ∙ stands.bid_taken y y_node
     ];
     bids = λ y y_node b waits. elim (cases_eq y x) [
       | inl e ↦
           let waits' : Waits (link_at links (parent lists x) (place x)).up b = sym (ap (λ (z : Session). z.up.waiting) (session_new y e)) ∙ waits in
-          let at : BidAgrees plan after_state x b = elim (made.bid.up.others b waits') [
+          let at : BidAgrees plan after_state x b = elim (published.bid.up.others b waits') [
             | inl is ↦ new_agrees b is
             | inr old ↦ kept_agrees x b (stands.bids x node b old)
           ] in

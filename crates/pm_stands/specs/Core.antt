@@ -57,6 +57,7 @@ no_concentrator = record {
   cache = record { steps = 0; heads = []; demands = [] };
   window = record { children = 0; steps = None; records = []; answered = 0; last = 0 };
   limits = None;
+  announced = None;
 }
 
 abbrev pub gathered_in : Option Gathered → Gathered

@@ -30,6 +30,7 @@ pub record OneConcentrator (old new : List (Option Gathered)) (y : ℕ) : Type 0
 pub record SameButCache (old new : Gathered) : Type 0 where
   pub window : new.window ≡ old.window
   pub limits : new.limits ≡ old.limits
+  pub announced : new.announced ≡ old.announced
 
 -- y learnt bid n of its child in place k, and nobody else learnt anything
 pub record EntryLearnt (old_a new_a : Auction) (old_c new_c : List (Option Gathered)) (y k n : ℕ) (demand : Option (List ℤ)) : Type 0 where

@@ -3,7 +3,7 @@ use Rattle.std.proofs.Common.{◌≡◌, ◌∙◌, sym, ap, subst, ℕ, ◌+◌
 use Rattle.std.proofs.Common.{Option, None}
 use Rattle.std.proofs.Common.{IfSome, arith, append_assoc, length-append}
 use Rattle.pm_wire.specs.declared.frame.Frame.{Frame}
-use Rattle.pm_wire.specs.declared.market.Market.{Market}
+use Rattle.pm_wire.specs.Answers.{Market}
 use Rattle.pm_wire.specs.Frames.{stream_bytes, place_behind, AllStand}
 use Rattle.pm_wire.specs.Answers.{answers_behind, reply_bytes, market_behind, place_known}
 use Rattle.pm_wire.specs.Decoding.{Decoding, with_piece}

@@ -17,7 +17,9 @@ use Rattle.pm_bid.proofs.EachStep.{all_small}
 use Rattle.pm_cache.specs.Cache.{Cache, IsCache, empty_cache}
 use Rattle.pm_cache.specs.Learning.{HasSingleBids}
 use Rattle.pm_cache.proofs.Entries.{empty_sound}
+use Rattle.pm_auctioneer.specs.Auctions.{Auction, new_auction}
 use Rattle.pm_wire.specs.Answers.{open_market, price_for, prices, reply_bytes, answer_bytes}
+use Rattle.pm_wire.specs.MarketFields.{market_of}
 use Rattle.pm_wire.specs.ServerFields.{IsMarket}
 
 -- the prices for one child more
@@ -33,10 +35,9 @@ prices_more index step child i heads d out out' total inside before is =
     ∙ ap (λ l. out ++ reply_bytes (prices index step child l)) (sym first) ∙ before
 
 -- a market in which nothing was sent
-pub open_market_is : (steps : ℕ) (cache : Cache) → cache ≡ empty_cache most_nodes steps →
-    record { cache = cache; index = 0; changed = false } ≡ open_market steps
+pub open_market_is : (steps : ℕ) (auction : Auction) → auction ≡ new_auction most_nodes steps → market_of auction ≡ open_market steps
 unfolding open_market
-open_market_is steps cache is = ap (λ c. record { cache = c; index = 0; changed = false }) is
+open_market_is steps auction is = ap market_of is
 
 no_power_small : (steps : ℕ) → AllWithinLimit demand_limit (zeros steps)
 no_power_small steps = λ step h.
@@ -75,7 +76,3 @@ accepted_small steps demand h =
     let large = else_ok (nat_lt (first_rising demand) (length demand)) _ _ demand falls in
     let small = else_ok (nat_lt (first_too_large demand) (length demand)) _ _ demand large.1 in
     all_small demand (grind (arith, nat_tests, small.0))
-
--- what was appended to what was appended
-pub begun_more : (out0 out out' more reply : List ℕ) → out ≡ out0 ++ more → out' ≡ out ++ reply → (all : List ℕ) × (out' ≡ out0 ++ all)
-begun_more out0 out out' more reply e e' = (more ++ reply, e' ∙ ap (λ l. l ++ reply) e ∙ append_assoc out0 more reply)

@@ -11,7 +11,7 @@ use Rattle.pm_wire.specs.declared.answer.Answer.{Answer}
 use Rattle.pm_wire.specs.declared.answer.Answer.TheVariants.{Price, NotChanged}
 use Rattle.pm_wire.specs.declared.frame.Frame.{Frame}
 use Rattle.pm_wire.specs.declared.frame.Frame.TheVariants.{Clear}
-use Rattle.pm_wire.specs.declared.market.Market.{Market}
+use Rattle.pm_wire.specs.Answers.{Market}
 use Rattle.pm_wire.specs.Answers.{answer_bytes, reply_bytes, price_for, prices, clearing_prices, answers_to}
 use Rattle.pm_wire.specs.Decoding.{Decoding, GivesFrame}
 use Rattle.pm_wire.specs.Frames.{frame_bytes}
@@ -25,7 +25,7 @@ few_either most true xs ys few also = few
 few_either most false xs ys few also = also
 
 -- the price for a child has at most 13 bytes
-price_for_few : (index step child : ℕ) (head : BidHead) → length (reply_bytes (price_for index step child head)) ≤ 13
+pub price_for_few : (index step child : ℕ) (head : BidHead) → length (reply_bytes (price_for index step child head)) ≤ 13
 price_for_few index step child head = few_either 13 head.gone [] (Price child head.number index step ∷ []) (omega arith) (omega arith)
 
 -- and those for some children as many times 13

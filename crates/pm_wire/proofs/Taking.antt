@@ -9,7 +9,7 @@ use Rattle.pm_cache.specs.Cache.{Cache}
 use Rattle.pm_cache.specs.Learning.{with_newer_bid}
 use Rattle.pm_wire.specs.declared.frame.Frame.{Frame}
 use Rattle.pm_wire.specs.declared.frame.Frame.TheVariants.{Hello, Bid, Gone, Clear}
-use Rattle.pm_wire.specs.declared.market.Market.{Market}
+use Rattle.pm_wire.specs.Answers.{Market}
 use Rattle.pm_wire.specs.Frames.{frame_bytes, stream_bytes, place_after, place_behind, MayStand, AllStand, BeginsBadly}
 use Rattle.pm_wire.specs.Answers.{open_market, market_after, market_behind, answers_to, answers_behind, answer_bytes, reply_bytes}
 use Rattle.pm_wire.specs.Answers.{place_known}

@@ -1,18 +1,17 @@
 -- What the auctioneer answers to a list of frames.
-use Rattle.std.specs.Prelude.{ℕ, ◌+◌, ◌-◌, ◌||◌, ℤ, false, not, nat_le, if◌then◌else◌, List, []}
+use Rattle.std.specs.Prelude.{ℕ, ◌+◌, ◌-◌, ◌||◌, ℤ, Bool, false, not, nat_le, if◌then◌else◌, List, []}
 use Rattle.std.specs.Prelude.{◌∷◌, ◌++◌, Option, Some, None}
 use Rattle.std.specs.Int.{w16, w32, w64, to_be_bytes}
 use Rattle.std.specs.List.{flat_map}
 use Rattle.pm_base.specs.Limits.{most_nodes}
 use Rattle.pm_bid.specs.Clearing.{clearing_step}
 use Rattle.pm_bid.specs.declared.head.BidHead.{BidHead}
-use Rattle.pm_cache.specs.Cache.{empty_cache, kept_number, aggregate_of}
+use Rattle.pm_cache.specs.Cache.{Cache, empty_cache, kept_number, aggregate_of}
 use Rattle.pm_cache.specs.Learning.{after_learning}
 use Rattle.pm_wire.specs.declared.answer.Answer.{Answer}
 use Rattle.pm_wire.specs.declared.answer.Answer.TheVariants.{Price, NotChanged, Old, Fault}
 use Rattle.pm_wire.specs.declared.frame.Frame.{Frame}
 use Rattle.pm_wire.specs.declared.frame.Frame.TheVariants.{Hello, Bid, Gone, Clear}
-use Rattle.pm_wire.specs.declared.market.Market.{Market}
 
 -- ---- the bytes of an answer
 
@@ -29,6 +28,13 @@ abbrev pub reply_bytes : List Answer → List ℕ
 reply_bytes answers = flat_map answer_bytes answers
 
 -- ---- what the auctioneer knows
+
+-- the newest Bid or Gone of each child that counted, the index of the last clearing, 0 where there is none, and whether a
+-- Bid or Gone counted since
+pub record Market : Type 0 where
+  pub cache : Cache
+  pub index : ℕ
+  pub changed : Bool
 
 -- The market after Hello has an entry for each child: its newest Bid or Gone that counted. No clearing has come yet, and
 -- nothing counted.

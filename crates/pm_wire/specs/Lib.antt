@@ -3,6 +3,7 @@ pub mod Decoding
 pub mod DecoderFields
 pub mod Readings
 pub mod Answers
+pub mod MarketFields
 pub mod ServerFields
 pub mod Streams
 pub mod Memory

@@ -3,7 +3,7 @@ use Rattle.std.specs.Prelude.{◌≡◌, length, IfSome}
 use Rattle.pm_base.specs.Limits.{most_nodes}
 use Rattle.pm_cache.specs.Cache.{IsCache}
 use Rattle.pm_cache.specs.Learning.{HasSingleBids}
-use Rattle.pm_wire.specs.declared.market.Market.{Market}
+use Rattle.pm_wire.specs.Answers.{Market}
 use Rattle.pm_wire.specs.declared.server.Server.TheInside.{Inside}
 
 -- the market has an entry for each child, and each entry is one bid

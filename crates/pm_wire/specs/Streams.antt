@@ -4,7 +4,7 @@ use Rattle.std.specs.Prelude.{◌≡◌, ◌≢◌, ◌⊎◌, ℕ, ◌+◌, ◌
 use Rattle.std.specs.Io.KnownBytes.{Appends, Consumes, IsAtEnd}
 use Rattle.pm_wire.specs.declared.frame.Frame.{Frame}
 use Rattle.pm_wire.specs.declared.answer.Answer.TheVariants.{Fault}
-use Rattle.pm_wire.specs.declared.market.Market.{Market}
+use Rattle.pm_wire.specs.Answers.{Market}
 use Rattle.pm_wire.specs.declared.stream.Served.{Served}
 use Rattle.pm_wire.specs.declared.stream.Served.TheVariants.{Done, Refused, TooLong, ReadFault, WriteFault, NoMemory}
 use Rattle.pm_wire.specs.Frames.{stream_bytes, place_behind, AllStand, BeginsWith, AreFrames, IsUnfinished, BeginsBadly}

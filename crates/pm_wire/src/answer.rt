@@ -1,7 +1,10 @@
-ghost use Rattle.std.specs.Prelude.{◌≡◌, ◌++◌, OnOk, OnErr};
+ghost use Rattle.std.specs.Prelude.{◌≡◌, ◌+◌, ◌<◌, ◌≤◌, ◌++◌, length, vec_len, vec_capacity, OnOk, OnErr};
 ghost use Rattle.pm_wire.specs.Answers.{answer_bytes};
 
 use std::alloc::AllocError;
+
+/// How many bytes a price has.
+pub(crate) const PRICE_BYTES: usize = 13;
 
 /// An answer of the auctioneer.
 #[derive(Clone, Copy, Debug, PartialEq, Eq)]
@@ -28,10 +31,14 @@ pub enum Answer {
 }
 
 impl Answer {
-    /// Appends the bytes of the answer. Where an allocation fails nothing is appended.
+    /// Appends the bytes of the answer. Where an allocation fails nothing is appended. That comes only where there was no
+    /// room for them.
     pub fn write(&self, out: &mut Vec<u8>) -> Result<(), AllocError>
         ensures written { OnOk result (out.new.items ≡ out.old.items ++ answer_bytes self.now) }
         ensures unchanged { OnErr result (out.new.items ≡ out.old.items) }
+        ensures full { OnErr result
+            (vec_capacity out.old < vec_len out.old + length (answer_bytes self.now)) }
+        ensures capacity { vec_capacity out.old ≤ vec_capacity out.new }
     {
         match self {
             Answer::Price {

@@ -1,73 +1,85 @@
-ghost use Rattle.std.specs.Prelude.{◌≡◌, ◌≢◌, ◌+◌, ◌<◌, ◌≤◌, ◌++◌, ◌^◌, ℕ, List, length, drop, take, IfOk, OnOk, OnErr};
-ghost use Rattle.std.specs.Prelude.{Some, None};
+//! What the auctioneer of a stream knows, and how it answers a frame.
+
+ghost use Rattle.std.specs.Prelude.{◌≡◌, ◌+◌, ◌*◌, ◌<◌, ◌≤◌, ◌++◌, ◌^◌, length, vec_len, vec_capacity, IfOk, OnOk, OnErr, Some};
 ghost use Rattle.std.specs.Option.{option_copied};
 ghost use Rattle.pm_base.specs.Limits.{AreSteps, demand_limit};
 ghost use Rattle.pm_bid.specs.Bids.{AllWithinLimit};
 ghost use Rattle.pm_cache.specs.Learning.{demand_of_offer};
+ghost use Rattle.pm_session.specs.Prices.{head_at};
 ghost use Rattle.pm_wire.specs.Frames.{MayStand};
 ghost use Rattle.pm_wire.specs.Answers.{open_market, after_entry, after_clear, receipt, price_for, prices, reply_bytes, answers_to, market_after};
 ghost use Rattle.pm_wire.specs.Memory.{reply_limit};
 ghost use Rattle.pm_wire.specs.ServerFields.{IsMarket};
 
-use crate::answer::Answer;
+use crate::answer::{Answer, PRICE_BYTES};
 use crate::frame::Frame;
+use pm_auctioneer::Auctioneer;
 use pm_base::MOST_NODES;
-use pm_bid::{ArrayBid, BidHead, Steps};
-use pm_cache::{BidCache, CacheFault};
+use pm_bid::ArrayBid;
+use pm_cache::CacheFault;
+use pm_session::Prices;
 use std::alloc::{AllocError, Global};
-use std::marker::Brand;
+use std::marker::Model;
 
-/// What the auctioneer knows once it has a basis: the newest Bid or Gone of each child that counted, the index of the last
-/// clearing, 0 where there is none, and whether a Bid or Gone counted since.
+/// The most bytes of the answers to a frame: a price for each child.
+const REPLY_LIMIT: usize = PRICE_BYTES * MOST_NODES;
+
+/// The auctioneer once it has a basis.
+///
+/// Contracts see the newest Bid or Gone of each child that counted, the index of the last clearing, 0 where there is none,
+/// and whether a Bid or Gone counted since.
 #[derive(Drop)]
 pub(crate) struct Market {
-    pub(crate) cache: BidCache,
-    pub(crate) index: u32,
-    pub(crate) changed: bool,
+    auctioneer: Auctioneer,
 }
 
-/// Appends the price for a child, unless it is gone.
-fn write_price(
-    child: u16,
-    head: BidHead,
-    index: u32,
-    step: u16,
-    out: &mut Vec<u8>,
-) -> Result<(), AllocError>
+impl Model for Market {
+    ghost use Rattle.pm_wire.specs.Answers.{Market};
+
+    ghost Value = { Market };
+
+    ghost use Rattle.pm_wire.specs.MarketFields.{market_of};
+
+    ghost view = { λ inside. market_of inside.auctioneer };
+}
+
+/// Appends the price for the child in a place, unless it is gone. On the stream the children count from 1. An allocation
+/// fails only where there was no room for a price.
+fn write_price(clearing: &Prices<'_>, place: usize, out: &mut Vec<u8>) -> Result<(), AllocError>
+    requires place { place < length clearing.now.heads.now }
+    requires children { length clearing.now.heads.now + 1 < 2 ^ 16 }
+    requires step { clearing.now.step < 2 ^ 16 }
     ensures written { OnOk result (out.new.items ≡ out.old.items
-        ++ reply_bytes (price_for index step child head)) }
-    ensures unchanged { OnErr result (out.new.items ≡ out.old.items) }
+        ++ reply_bytes (price_for clearing.now.index clearing.now.step (place + 1)
+        (head_at clearing.now.heads.now place))) }
+    ensures full { OnErr result (vec_capacity out.old < vec_len out.old + 13) }
+    ensures capacity { vec_capacity out.old ≤ vec_capacity out.new }
 {
-    if head.gone {
+    let Some(price) = clearing.for_child(place) else {
         return Ok(());
-    }
-    let price = Answer::Price {
-        child,
-        number: head.number,
-        index,
-        step,
     };
-    price.write(out)
+    let answer = Answer::Price {
+        child: (place + 1) as u16,
+        number: price.number,
+        index: price.index,
+        step: price.step as u16,
+    };
+    answer.write(out)
 }
 
-/// Appends the price for each child that is not gone, the children counted from 1.
-fn write_prices(
-    heads: &[BidHead],
-    index: u32,
-    step: u16,
-    out: &mut Vec<u8>,
-) -> Result<(), AllocError>
-    requires { length heads.now + 1 < 2 ^ 16 }
-    ensures written { OnOk result (out.new.items ≡ out.old.items
-        ++ reply_bytes (prices index step 1 heads.now)) }
-    ensures begun { OnErr result ((more : List ℕ) × (out.new.items ≡ out.old.items ++ more)) }
+/// Appends the price for each child that is not gone, by their places. There is room for as many prices.
+fn write_prices(clearing: &Prices<'_>, out: &mut Vec<u8>)
+    requires children { length clearing.now.heads.now + 1 < 2 ^ 16 }
+    requires step { clearing.now.step < 2 ^ 16 }
+    requires room { vec_len out.old + 13 * length clearing.now.heads.now ≤ vec_capacity out.old }
+    ensures written { out.new.items ≡ out.old.items ++ reply_bytes
+        (prices clearing.now.index clearing.now.step 1 clearing.now.heads.now) }
 {
-    let mut child = 1;
-    for head in heads {
-        write_price(child, *head, index, step, out)?;
-        child += 1;
+    for place in 0..clearing.children() {
+        let Ok(()) = write_price(clearing, place, out) else {
+            unreachable!()
+        };
     }
-    Ok(())
 }
 
 impl Market {
@@ -77,12 +89,8 @@ impl Market {
         ensures new { IfOk result (λ market. market ≡ open_market steps) }
         ensures sound { IfOk result IsMarket }
     {
-        let cache = BidCache::new(alloc, MOST_NODES, steps, &mut Steps::<Brand>::start())?;
-        Ok(Market {
-            cache,
-            index: 0,
-            changed: false,
-        })
+        let auctioneer = Auctioneer::new(alloc, MOST_NODES, steps)?;
+        Ok(Market { auctioneer })
     }
 
     /// Takes a child's Bid, or its Gone where there is no demand, and appends its receipt.
@@ -108,14 +116,10 @@ impl Market {
         ensures sound { IsMarket self.new }
     {
         let entry = usize::from(child) - 1;
-        let mut counter = Steps::<Brand>::start();
-        match self.cache.learn(entry, number, demand, &mut counter) {
-            Ok(()) => {
-                self.changed = true;
-                Ok(())
-            }
-            Err(CacheFault::Old { kept }) => Answer::Old { child, kept }.write(out),
+        if let Err(CacheFault::Old { kept }) = self.auctioneer.learn(entry, number, demand) {
+            return Answer::Old { child, kept }.write(out);
         }
+        Ok(())
     }
 
     /// Clears the market, and appends the prices, or that nothing changed. The prices cost one search over the steps of the
@@ -129,20 +133,15 @@ impl Market {
         ensures unchanged { OnErr result ((self.new ≡ self.old) × (out.new.items ≡ out.old.items)) }
         ensures sound { IsMarket self.new }
     {
-        if !self.changed {
-            return Answer::NotChanged.write(out);
+        // The room for the prices comes first, so that want of memory makes no clearing.
+        out.reserve(REPLY_LIMIT)?;
+        match self.auctioneer.next_clearing() {
+            Ok(_cleared) => {
+                write_prices(&self.auctioneer.prices(), out);
+                Ok(())
+            }
+            Err(_not_changed) => Answer::NotChanged.write(out),
         }
-        let total = self.cache.aggregate();
-        let step = total.first_not_positive(&mut Steps::<Brand>::start()) as u16;
-        let index = self.index + 1;
-        let written = out.len();
-        if let Err(fault) = write_prices(self.cache.heads(), index, step, out) {
-            out.truncate(written);
-            return Err(fault);
-        }
-        self.index = index;
-        self.changed = false;
-        Ok(())
     }
 
     /// Takes a frame behind Hello, and appends the answers to it.

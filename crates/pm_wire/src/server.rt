@@ -20,7 +20,7 @@ pub struct Server {
 
 impl Model for Server {
     ghost use Rattle.std.specs.Prelude.{Option};
-    ghost use Rattle.pm_wire.specs.declared.market.Market.{Market};
+    ghost use Rattle.pm_wire.specs.Answers.{Market};
 
     ghost Value = { Option Market };
 

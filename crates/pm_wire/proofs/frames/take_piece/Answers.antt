@@ -1,6 +1,6 @@
 use Rattle.std.proofs.Common.{◌≡◌, ◌∙◌, sym, ap, subst, Result, Ok, Err, OnOk, IfErr, ℕ, List, ◌++◌, Option}
 use Rattle.pm_wire.specs.declared.frame.Frame.{Frame}
-use Rattle.pm_wire.specs.declared.market.Market.{Market}
+use Rattle.pm_wire.specs.Answers.{Market}
 use Rattle.pm_wire.specs.Decoding.{Decoding, with_piece}
 use Rattle.pm_wire.specs.Streams.{Takes, Agrees, replies}
 use Rattle.pm_wire.proofs.Following.{follows_agrees, follows_more, follows_replies}

@@ -1,11 +1,11 @@
-use Rattle.std.proofs.Common.{◌≡◌, ◌+◌, ◌++◌, List, ℕ, drop}
+use Rattle.std.proofs.Common.{◌≡◌, ◌+◌, ◌-◌, ◌*◌, ◌≤◌, ◌++◌, length, drop, vec_len}
+use Rattle.std.specs.Prelude.{vec_capacity}
 use Rattle.pm_wire.specs.Answers.{prices, reply_bytes}
 use Rattle.pm_wire.proofs.market.write_prices.Given as goal
 
-abbrev pub invariant-loop-head : goal.invariant-loop-head
-invariant-loop-head l = record {
-  child : l.child ≡ l.head-index + 1;
-  written : l.out.items ++ reply_bytes (prices l.index l.step l.child (drop l.head-index l.heads))
-      ≡ l.fn.out.items ++ reply_bytes (prices l.index l.step 1 l.heads);
-  begun : (more : List ℕ) × (l.out.items ≡ l.fn.out.items ++ more);
+abbrev pub invariant-loop-place : goal.invariant-loop-place
+invariant-loop-place l = record {
+  written : l.out.items ++ reply_bytes (prices l.clearing.index l.clearing.step (l.place + 1) (drop l.place l.clearing.heads.now))
+      ≡ l.fn.out.items ++ reply_bytes (prices l.clearing.index l.clearing.step 1 l.clearing.heads.now);
+  room : vec_len l.out + 13 * (length l.clearing.heads.now - l.place) ≤ vec_capacity l.out;
 }

@@ -1,5 +1,5 @@
 use Rattle.std.proofs.Common.{rules}
-use Rattle.pm_auctioneer.proofs.auctioneer.Auctioneer.clear.Goals as goal
+use Rattle.pm_auctioneer.proofs.auctioneer.Auctioneer.next_clearing.Goals as goal
 
 pub returns-then-not-self-clause-refused : goal.returns-then-not-self-clause-refused
 returns-then-not-self-clause-refused c = search rules
