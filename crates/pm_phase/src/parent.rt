@@ -1,7 +1,6 @@
-use crate::parts::{Part, clear, pass, publish};
+use crate::parts::{Part, clear, next_bid, pass};
 use pm_cells::{PriceUpdate, UpMessage};
 use pm_plan::Plan;
-use pm_session::Link;
 use std::alloc::{AllocError, Global};
 
 /// What the thread of a node with children owns beside its ends of the links.
@@ -60,40 +59,23 @@ impl ParentWork {
         }
     }
 
-    /// Sends what there is to send: the auctioneer clears; a concentrator publishes, once the bid before it is put, and
-    /// passes a price on. Whether there was anything.
+    /// Sends what there is to send: the auctioneer clears; a concentrator makes its next bid, once the bid before it is put,
+    /// and passes a price on. Whether there was anything.
     pub(crate) fn send(&mut self, alloc: Global) -> bool {
-        let mut published = false;
-        let passed = match &mut self.part {
-            Part::Auctioneer(auctioneer) => clear(alloc, auctioneer),
+        match &mut self.part {
+            Part::Auctioneer(auctioneer) => clear(auctioneer, &mut self.prices),
             Part::Concentrator(concentrator) => {
+                let mut made = false;
                 if self.bid.is_none() {
-                    self.bid = publish(alloc, concentrator);
-                    published = self.bid.is_some();
+                    self.bid = next_bid(alloc, concentrator);
+                    made = self.bid.is_some();
                 }
-                match self.price.take() {
-                    Some(price) => pass(alloc, concentrator, price),
-                    None => None,
-                }
+                let passed = match self.price.take() {
+                    Some(price) => pass(concentrator, price, &mut self.prices),
+                    None => false,
+                };
+                made || passed
             }
-        };
-        let Some(links) = passed else {
-            return published;
-        };
-        keep_prices(links, &mut self.prices);
-        true
-    }
-}
-
-/// Takes the price from each link, where one waits, to be put to the child in the same place.
-fn keep_prices(links: Vec<Link>, prices: &mut Vec<Option<PriceUpdate>>) {
-    for (place, link) in links.into_iter().enumerate() {
-        let mut link = link;
-        let Some(price) = link.take_price() else {
-            continue;
-        };
-        if let Some(waiting) = prices.get_mut(place) {
-            *waiting = Some(price);
         }
     }
 }

@@ -1,15 +1,16 @@
-ghost use Rattle.std.specs.Prelude.{◌≡◌, ◌<◌, ◌≤◌, IfOk, IsTrue, length, replicate};
-ghost use Rattle.pm_base.specs.Limits.{AreLimits, AreSteps, least_steps};
-ghost use Rattle.pm_session.specs.Links.{new_session};
+//! What a node with children is, and what it sends: the bids and prices of its thread.
+
+ghost use Rattle.std.specs.Prelude.{◌≡◌, ◌<◌, ◌≤◌, IsTrue, length};
+ghost use Rattle.pm_base.specs.Limits.{AreLimits, AreSteps};
 
 use pm_auctioneer::Auctioneer;
-use pm_base::{LEAST_STEPS, MOST_NODES, SUM_LIMIT};
+use pm_base::{MOST_NODES, SUM_LIMIT};
 use pm_bid::{ArrayBid, Steps};
 use pm_cache::BidCache;
 use pm_cells::{PriceUpdate, UpMessage};
 use pm_concentrator::Concentrator;
 use pm_plan::Plan;
-use pm_session::Link;
+use pm_session::Prices;
 use pm_tree::{NodeId, Tree};
 use std::alloc::{AllocError, Global};
 use std::marker::Brand;
@@ -94,73 +95,55 @@ fn are_limits(floor: i64, ceiling: i64) -> bool
     -SUM_LIMIT <= floor && floor <= 0 && 0 <= ceiling && ceiling <= SUM_LIMIT
 }
 
-/// Publishes the sum of the children's bids on a link of its own, and takes it from there; none where nothing changed, the
-/// window is full, or memory is wanting.
-pub(crate) fn publish(alloc: Global, concentrator: &mut Concentrator) -> Option<UpMessage> {
-    let steps = concentrator.cache().aggregate().steps();
+/// The next bid of a concentrator; none where nothing changed, the window is full, or memory is wanting, and no bid is made
+/// then.
+pub(crate) fn next_bid(alloc: Global, concentrator: &mut Concentrator) -> Option<UpMessage> {
     if concentrator.last() == u32::MAX || !concentrator.changed() || concentrator.room() == 0 {
         return None;
     }
     let mut counter = Steps::<Brand>::start();
-    let Ok(mut up) = Link::new(alloc, steps) else {
-        return None;
-    };
-    let Ok(mut demand) = ArrayBid::zero(alloc, steps, &mut counter) else {
-        return None;
-    };
-    if concentrator.publish(&mut up).is_err() {
-        return None;
-    }
-    let head = up.take_bid(&mut demand)?;
-    let demand = if head.gone { None } else { Some(demand) };
+    let steps = concentrator.demand().steps();
+    let mut demand = ArrayBid::zero(alloc, steps, &mut counter).ok()?;
+    let number = concentrator.next_bid().ok()?;
+    concentrator.demand().copy_into(&mut demand, &mut counter);
     Some(UpMessage {
-        number: head.number,
-        demand,
+        number,
+        demand: Some(demand),
     })
 }
 
-/// Passes a price on, on links of its own, one for each child, where its record is kept; none where it is not, or memory is
-/// wanting.
+/// Passes a price on, where its record is kept: the prices of the children wait to be put then. Whether it was passed.
 pub(crate) fn pass(
-    alloc: Global,
     concentrator: &mut Concentrator,
     price: PriceUpdate,
-) -> Option<Vec<Link>> {
-    let steps = concentrator.cache().aggregate().steps();
-    let children = concentrator.cache().heads().len();
+    waiting: &mut Vec<Option<PriceUpdate>>,
+) -> bool {
+    let steps = concentrator.demand().steps();
     if price.index == 0 || price.step as usize >= steps || !concentrator.keeps(price.number) {
-        return None;
+        return false;
     }
-    let Ok(mut links) = new_links(alloc, children) else {
-        return None;
-    };
-    let _ = concentrator.pass(price, &mut links);
-    Some(links)
+    keep_prices(concentrator.prices(price), waiting);
+    concentrator.answer(price.number);
+    true
 }
 
-/// Clears the market, with the prices on links of its own, one for each child; none where nothing was learnt since the last
-/// clearing, or memory is wanting.
-pub(crate) fn clear(alloc: Global, auctioneer: &mut Auctioneer) -> Option<Vec<Link>> {
-    let children = auctioneer.cache().heads().len();
-    if auctioneer.index() == u32::MAX || !auctioneer.changed() {
-        return None;
+/// Clears the market, where something was learnt since the last clearing: the prices of the children wait to be put then.
+/// Whether it cleared.
+pub(crate) fn clear(auctioneer: &mut Auctioneer, waiting: &mut Vec<Option<PriceUpdate>>) -> bool {
+    if auctioneer.index() == u32::MAX || auctioneer.next_clearing().is_err() {
+        return false;
     }
-    let Ok(mut links) = new_links(alloc, children) else {
-        return None;
-    };
-    match auctioneer.clear(&mut links) {
-        Ok(_) => Some(links),
-        Err(_) => None,
-    }
+    keep_prices(auctioneer.prices(), waiting);
+    true
 }
 
-/// Links of the part's own on which its prices are offered, one for each child.
-fn new_links(alloc: Global, children: usize) -> Result<Vec<Link>, AllocError>
-    ensures { IfOk result (λ links. links.items ≡ replicate children (new_session least_steps)) }
-{
-    let mut links = Vec::with_capacity(alloc, children)?;
-    for _child in 0..children {
-        links.push(Link::new(alloc, LEAST_STEPS)?)?;
+/// Lets the price of each child that has one wait, in the child's place.
+fn keep_prices(prices: Prices<'_>, waiting: &mut Vec<Option<PriceUpdate>>) {
+    for child in 0..prices.children() {
+        if let Some(price) = prices.for_child(child)
+            && let Some(place) = waiting.get_mut(child)
+        {
+            *place = Some(price);
+        }
     }
-    Ok(links)
 }
