@@ -23,6 +23,7 @@ TOOLS = {"measure", "trials"}
 
 # Functions of code that have one name in two crates, and the one thing that the name says in both.
 SAME_IN_CODE = {
+    "are_limits": "whether two powers are a floor and a ceiling",
     "change": "makes a change of a device",
     "clear": "the auctioneer clears",
     "close": "closes the open phase",
@@ -39,7 +40,6 @@ SAME_IN_CODE = {
     "no_changes": "no change of any device",
     "pass": "a concentrator passes a price on",
     "power_of": "the power of a device",
-    "publish": "a concentrator publishes",
     "run": "runs what the crate is for to its end",
     "run_free": "a run over links without a lock",
     "start_of": "a device before its first change",

@@ -3,7 +3,7 @@ ghost use Rattle.std.specs.Prelude.{◌≡◌, ◌+◌, ◌≤◌, length};
 use crate::same::same;
 use crate::shared::may_be_shared;
 use pm_io::{MemSink, MemSource};
-use pm_wire::{Answer, DecodeFault, Decoder, Frame, Served, Server, serve};
+use pm_wire::{DecodeFault, Decoder, Frame, Reply, Served, Server, serve};
 use std::alloc::Global;
 use std::process::Abort;
 use std::test::Fail;
@@ -197,6 +197,6 @@ fn frames_come_in_pieces(rt: HostRuntime) -> Result<(), Fail> {
 /// The types of the crate may be sent to threads and shared by them: it is proved here.
 #[test]
 fn all_may_be_shared() {
-    may_be_shared::<(Frame, Answer, Served, DecodeFault)>();
+    may_be_shared::<(Frame, Reply, Served, DecodeFault)>();
     may_be_shared::<(Decoder, Server)>();
 }

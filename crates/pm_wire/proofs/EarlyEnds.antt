@@ -5,7 +5,7 @@ use Rattle.std.specs.Io.KnownBytes.{Appends, Consumes}
 use Rattle.std.proofs.lemmas.List.{append-nil}
 use Rattle.pm_io.proofs.TakenLemmas.{taken_bytes-Consumes}
 use Rattle.pm_wire.specs.declared.frame.Frame.{Frame}
-use Rattle.pm_wire.specs.declared.answer.Answer.TheVariants.{Fault}
+use Rattle.pm_wire.specs.declared.answer.Reply.TheVariants.{Fault}
 use Rattle.pm_wire.specs.Frames.{stream_bytes, place_behind, BeginsWith, HasBadFrame, Stops}
 use Rattle.pm_wire.specs.Answers.{answer_bytes, answers_behind, market_behind, reply_bytes}
 use Rattle.pm_wire.specs.Streams.{stream_limit, replies, replies_and_fault, HasFault, IsReplyDue, answered, refused, IsDone, IsRefused, IsAnswered}

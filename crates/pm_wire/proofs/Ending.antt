@@ -7,9 +7,9 @@ use Rattle.std.proofs.KnownBytes.{Appends-trans, Consumes-trans}
 use Rattle.std.proofs.Math.Seq.{take-append-add}
 use Rattle.std.proofs.lemmas.List.{append-nil, nil_from_length}
 use Rattle.pm_io.specs.Causes.{Rose}
-use Rattle.pm_wire.specs.declared.answer.Answer.TheVariants.{Fault}
+use Rattle.pm_wire.specs.declared.answer.Reply.TheVariants.{Fault}
 use Rattle.pm_wire.specs.declared.frame.Frame.{Frame}
-use Rattle.pm_wire.specs.Answers.{Market}
+use Rattle.pm_wire.specs.Answers.{OpenMarket}
 use Rattle.pm_wire.specs.declared.stream.Served.{Served}
 use Rattle.pm_wire.specs.declared.stream.Served.TheVariants.{Refused, WriteFault, NoMemory}
 use Rattle.pm_wire.specs.Frames.{stream_bytes, BeginsWith, IsUnfinished, BeginsBadly}
@@ -40,7 +40,7 @@ cut_short old new held holds held' input begun text due n consumes before is_due
 -- ---- where the piece has a bad frame
 
 -- what `take_piece` says of a piece with a bad frame
-abbrev pub FindsBad : Decoding → Option Market → Decoding → Option Market → List ℕ → List ℕ → ℕ → Type 0
+abbrev pub FindsBad : Decoding → Option OpenMarket → Decoding → Option OpenMarket → List ℕ → List ℕ → ℕ → Type 0
 FindsBad old market new after piece reply at = (bytes : List ℕ) (frames : List Frame) → AreBehind bytes frames old market →
     (more : List Frame) × AreBehind (bytes ++ piece) (frames ++ more) new after
     × BeginsBadly new.place new.rest × (replies frames ++ reply ≡ replies (frames ++ more)) × (at ≡ new.offset)
@@ -57,7 +57,7 @@ fault_text begun reply frames at is same =
     sym (append_assoc begun reply (answer_bytes (Fault at))) ∙ ap (λ l. l ++ answer_bytes (Fault at)) is
     ∙ ap (λ n. replies frames ++ answer_bytes (Fault n)) same
 
-bad_due : (old mid new held holds : Option (List ℕ)) (a b : Decoding) (m n : Option Market) (count at : ℕ) (piece reply : List ℕ) (serving : Serving
+bad_due : (old mid new held holds : Option (List ℕ)) (a b : Decoding) (m n : Option OpenMarket) (count at : ℕ) (piece reply : List ℕ) (serving : Serving
     old mid held holds a m count) →
     FindsBad a m b n piece reply at → FaultDue new (serving.input ++ piece) (replies serving.frames) reply at
 bad_due old mid new held holds a b m n count at piece reply serving finds =
@@ -71,7 +71,7 @@ bad_due old mid new held holds a b m n count at piece reply serving finds =
     }
 
 -- a piece with a bad frame whose answers and fault are all written ends the service as refused
-pub bad_refused : (old mid new held holds held' : Option (List ℕ)) (a b : Decoding) (m n : Option Market) (count at : ℕ) (piece reply : List ℕ) →
+pub bad_refused : (old mid new held holds held' : Option (List ℕ)) (a b : Decoding) (m n : Option OpenMarket) (count at : ℕ) (piece reply : List ℕ) →
     Serving old mid held holds a m count →
     Consumes mid new piece → FindsBad a m b n piece reply at → Appends holds held' (reply ++ answer_bytes (Fault at)) → IsRefused old new held held'
 bad_refused old mid new held holds held' a b m n count at piece reply serving consumes finds appends =
@@ -86,7 +86,7 @@ bad_refused old mid new held holds held' a b m n count at piece reply serving co
     }
 
 -- with a proper prefix written of the answers and fault of a piece with a bad frame a service is cut short
-pub bad_cut_short : (old mid new held holds held' : Option (List ℕ)) (a b : Decoding) (m n : Option Market) (count at written : ℕ) (piece reply : List
+pub bad_cut_short : (old mid new held holds held' : Option (List ℕ)) (a b : Decoding) (m n : Option OpenMarket) (count at written : ℕ) (piece reply : List
     ℕ) → Serving old mid held holds a m count →
     Consumes mid new piece → FindsBad a m b n piece reply at → written < length (reply ++ answer_bytes (Fault at)) →
     Appends holds held' (take written (reply ++ answer_bytes (Fault at))) →
@@ -100,7 +100,7 @@ bad_cut_short old mid new held holds held' a b m n count at written piece reply 
 -- ---- where no more memory was had
 
 -- where one more piece is taken and nothing more written, the first frames of the bytes taken were answered
-pub begun_by : (old mid new held holds held' : Option (List ℕ)) (a : Decoding) (m : Option Market) (count : ℕ) (piece : List ℕ) →
+pub begun_by : (old mid new held holds held' : Option (List ℕ)) (a : Decoding) (m : Option OpenMarket) (count : ℕ) (piece : List ℕ) →
     Serving old mid held holds a m count →
     Consumes mid new piece → holds ≡ held' → IsBegun old new held held'
 begun_by old mid new held holds held' a m count piece serving consumes same =
@@ -117,13 +117,13 @@ begun_by old mid new held holds held' a m count piece serving consumes same =
 -- ---- where the piece has none
 
 -- what `take_piece` says of a piece without a bad frame
-abbrev pub TakesAll : Decoding → Option Market → Decoding → Option Market → List ℕ → List ℕ → Type 0
+abbrev pub TakesAll : Decoding → Option OpenMarket → Decoding → Option OpenMarket → List ℕ → List ℕ → Type 0
 TakesAll old market new after piece reply = (bytes : List ℕ) (frames : List Frame) → AreBehind bytes frames old market →
     (more : List Frame) × AreBehind (bytes ++ piece) (frames ++ more) new after
     × IsUnfinished new.place new.rest × (replies frames ++ reply ≡ replies (frames ++ more))
 
 -- with a proper prefix written of the answers to a piece without a bad frame a service is cut short
-pub piece_cut_short : (old mid new held holds held' : Option (List ℕ)) (a b : Decoding) (m n : Option Market) (count written : ℕ) (piece reply : List
+pub piece_cut_short : (old mid new held holds held' : Option (List ℕ)) (a b : Decoding) (m n : Option OpenMarket) (count written : ℕ) (piece reply : List
     ℕ) → Serving old mid held holds a m count →
     Consumes mid new piece → TakesAll a m b n piece reply → written < length reply → Appends holds held' (take written reply) →
     IsCutShort old new held held'
@@ -136,7 +136,7 @@ piece_cut_short old mid new held holds held' a b m n count written piece reply s
     (Consumes-trans old mid new serving.input piece serving.consumes consumes) serving.appends (answered frames has) found.3 proper appends
 
 -- with a piece without a bad frame, and all its answers written, the service goes on, its bytes counted
-pub serving_more : (old mid new held holds held' : Option (List ℕ)) (a b : Decoding) (m n : Option Market) (count more : ℕ) (piece reply : List ℕ) →
+pub serving_more : (old mid new held holds held' : Option (List ℕ)) (a b : Decoding) (m n : Option OpenMarket) (count more : ℕ) (piece reply : List ℕ) →
     Serving old mid held holds a m count →
     Consumes mid new piece → length piece ≡ more → TakesAll a m b n piece reply → Appends holds held' reply →
     Serving old new held held' b n (count + more)
@@ -158,7 +158,7 @@ serving_more old mid new held holds held' a b m n count more piece reply serving
 some_rest : (bytes : List ℕ) → 0 < length bytes → bytes ≢ []
 some_rest bytes some none = omega (arith, some, ap length none)
 
-end_due : (old mid new held holds : Option (List ℕ)) (a : Decoding) (m : Option Market) (count : ℕ) (reply : List ℕ) (serving : Serving old mid held
+end_due : (old mid new held holds : Option (List ℕ)) (a : Decoding) (m : Option OpenMarket) (count : ℕ) (reply : List ℕ) (serving : Serving old mid held
     holds a m count) → IsAtEnd new → count ≤ stream_limit →
     0 < length a.rest → reply ≡ [] → FaultDue new serving.input (replies serving.frames) reply (count - length a.rest)
 end_due old mid new held holds a m count reply serving at_end short some none =
@@ -186,7 +186,7 @@ no_more old mid new input first second =
     subst P (append-nil input) (Consumes-trans old mid new input [] first second)
 
 -- an input within the limit that ends behind its last frame is done
-pub end_done : (old mid new held holds : Option (List ℕ)) (a : Decoding) (m : Option Market) (count : ℕ) →
+pub end_done : (old mid new held holds : Option (List ℕ)) (a : Decoding) (m : Option OpenMarket) (count : ℕ) →
     Serving old mid held holds a m count → Consumes mid new [] → IsAtEnd new → count ≤ stream_limit → length a.rest ≡ 0 →
     IsDone old new held holds
 end_done old mid new held holds a m count serving consumes at_end short none =
@@ -202,7 +202,7 @@ end_done old mid new held holds a m count serving consumes at_end short none =
     }
 
 -- where more bytes than the limit were taken the stream is too long
-pub end_too_long : (old new held holds : Option (List ℕ)) (a : Decoding) (m : Option Market) (count : ℕ) →
+pub end_too_long : (old new held holds : Option (List ℕ)) (a : Decoding) (m : Option OpenMarket) (count : ℕ) →
     Serving old new held holds a m count → stream_limit < count → IsLongStream old new held holds
 end_too_long old new held holds a m count serving long =
     let P : Option ℕ → Type 0 = λ place. IsUnfinished place a.rest in
@@ -218,7 +218,7 @@ end_too_long old new held holds a m count serving long =
     }
 
 -- an input within the limit that ends within a frame, and whose fault is written, ends as refused
-pub end_refused : (old mid new held holds held' : Option (List ℕ)) (a : Decoding) (m : Option Market) (count : ℕ) (reply : List ℕ) →
+pub end_refused : (old mid new held holds held' : Option (List ℕ)) (a : Decoding) (m : Option OpenMarket) (count : ℕ) (reply : List ℕ) →
     Serving old mid held holds a m count →
     Consumes mid new [] → IsAtEnd new → count ≤ stream_limit → 0 < length a.rest → reply ≡ [] →
     Appends holds held' (reply ++ answer_bytes (Fault (count - length a.rest))) → IsRefused old new held held'
@@ -234,7 +234,7 @@ end_refused old mid new held holds held' a m count reply serving consumes at_end
     }
 
 -- with a proper prefix written of the fault of an input that ends within a frame a service is cut short
-pub end_cut_short : (old mid new held holds held' : Option (List ℕ)) (a : Decoding) (m : Option Market) (count written : ℕ) (reply : List ℕ) →
+pub end_cut_short : (old mid new held holds held' : Option (List ℕ)) (a : Decoding) (m : Option OpenMarket) (count written : ℕ) (reply : List ℕ) →
     Serving old mid held holds a m count →
     Consumes mid new [] → IsAtEnd new → count ≤ stream_limit → 0 < length a.rest → reply ≡ [] →
     written < length (reply ++ answer_bytes (Fault (count - length a.rest))) →

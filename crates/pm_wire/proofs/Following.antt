@@ -3,7 +3,7 @@ use Rattle.std.proofs.Common.{◌≡◌, ◌∙◌, sym, ap, subst, ℕ, ◌+◌
 use Rattle.std.proofs.Common.{Option, None}
 use Rattle.std.proofs.Common.{IfSome, arith, append_assoc, length-append}
 use Rattle.pm_wire.specs.declared.frame.Frame.{Frame}
-use Rattle.pm_wire.specs.Answers.{Market}
+use Rattle.pm_wire.specs.Answers.{OpenMarket}
 use Rattle.pm_wire.specs.Frames.{stream_bytes, place_behind, AllStand}
 use Rattle.pm_wire.specs.Answers.{answers_behind, reply_bytes, market_behind, place_known}
 use Rattle.pm_wire.specs.Decoding.{Decoding, with_piece}
@@ -12,7 +12,7 @@ use Rattle.pm_wire.proofs.Taking.{all_stand-append, place_behind-append, market_
 use Rattle.pm_wire.proofs.Taking.{clearings_behind, stream_length, fewer}
 
 -- how many bytes were fed
-pub follows_length : (bytes : List ℕ) (frames : List Frame) (decoding : Decoding) (market : Option Market) → AreBehind bytes frames decoding market →
+pub follows_length : (bytes : List ℕ) (frames : List Frame) (decoding : Decoding) (market : Option OpenMarket) → AreBehind bytes frames decoding market →
     length bytes ≡ decoding.offset + length decoding.rest
 follows_length bytes frames decoding market follows = omega (
   arith,
@@ -23,10 +23,10 @@ follows_length bytes frames decoding market follows = omega (
 )
 
 -- the decoder and the market agree
-pub follows_agrees : (bytes : List ℕ) (frames : List Frame) (decoding : Decoding) (market : Option Market) → AreBehind bytes frames decoding market →
+pub follows_agrees : (bytes : List ℕ) (frames : List Frame) (decoding : Decoding) (market : Option OpenMarket) → AreBehind bytes frames decoding market →
     Agrees decoding market
 follows_agrees bytes frames decoding market follows =
-    let Q : Option Market → Type 0 = λ known. IfSome known (λ k. k.index ≤ decoding.offset) in
+    let Q : Option OpenMarket → Type 0 = λ known. IfSome known (λ k. k.index ≤ decoding.offset) in
     record {
       place = ap (λ k. place_known k) follows.knows ∙ place_known-behind frames None follows.begins.stand ∙ sym follows.place;
       clearings = subst Q (sym follows.knows) (fewer (market_behind None frames) (0 + length frames) decoding.offset
@@ -34,7 +34,7 @@ follows_agrees bytes frames decoding market follows =
     }
 
 -- with one more piece, and the frames that are whole with it
-pub follows_more : (bytes piece : List ℕ) (frames more : List Frame) (old new : Decoding) (market after : Option Market) (reply : List ℕ) →
+pub follows_more : (bytes piece : List ℕ) (frames more : List Frame) (old new : Decoding) (market after : Option OpenMarket) (reply : List ℕ) →
     AreBehind bytes frames old market →
     Takes more (with_piece old piece) new market after reply → AreBehind (bytes ++ piece) (frames ++ more) new after
 follows_more bytes piece frames more old new market after reply follows takes =
@@ -59,7 +59,8 @@ follows_more bytes piece frames more old new market after reply follows takes =
     }
 
 -- the answers so far and those to the frames that are whole with the piece answer all these frames
-pub follows_replies : (bytes : List ℕ) (frames more : List Frame) (old new : Decoding) (market after : Option Market) (reply : List ℕ) (piece : List ℕ)
+pub follows_replies : (bytes : List ℕ) (frames more : List Frame) (old new : Decoding) (market after : Option OpenMarket) (reply : List ℕ)
+    (piece : List ℕ)
     → AreBehind bytes frames old market →
     Takes more (with_piece old piece) new market after reply → replies frames ++ reply ≡ replies (frames ++ more)
 follows_replies bytes frames more old new market after reply piece follows takes =

@@ -7,11 +7,11 @@ use Rattle.pm_base.specs.Limits.{most_nodes}
 use Rattle.pm_bid.specs.Clearing.{clearing_step}
 use Rattle.pm_bid.specs.declared.head.BidHead.{BidHead}
 use Rattle.pm_cache.specs.Cache.{aggregate_of}
-use Rattle.pm_wire.specs.declared.answer.Answer.{Answer}
-use Rattle.pm_wire.specs.declared.answer.Answer.TheVariants.{Price, NotChanged}
+use Rattle.pm_wire.specs.declared.answer.Reply.{Reply}
+use Rattle.pm_wire.specs.declared.answer.Reply.TheVariants.{Price, NotChanged}
 use Rattle.pm_wire.specs.declared.frame.Frame.{Frame}
 use Rattle.pm_wire.specs.declared.frame.Frame.TheVariants.{Clear}
-use Rattle.pm_wire.specs.Answers.{Market}
+use Rattle.pm_wire.specs.Answers.{OpenMarket}
 use Rattle.pm_wire.specs.Answers.{answer_bytes, reply_bytes, price_for, prices, clearing_prices, answers_to}
 use Rattle.pm_wire.specs.Decoding.{Decoding, GivesFrame}
 use Rattle.pm_wire.specs.Frames.{frame_bytes}
@@ -19,7 +19,7 @@ use Rattle.pm_wire.specs.Memory.{reply_limit}
 use Rattle.pm_wire.proofs.Places.{frame_length}
 
 -- of two lists of answers each has at most so many bytes
-few_either : (most : ℕ) (b : Bool) (xs ys : List Answer) → length (reply_bytes xs) ≤ most → length (reply_bytes ys) ≤ most
+few_either : (most : ℕ) (b : Bool) (xs ys : List Reply) → length (reply_bytes xs) ≤ most → length (reply_bytes ys) ≤ most
     → length (reply_bytes (if b then xs else ys)) ≤ most
 few_either most true xs ys few also = few
 few_either most false xs ys few also = also
@@ -39,7 +39,7 @@ prices_few index step child (head ∷ heads) =
     omega (arith, one, more, ap length (flat_map-append answer_bytes xs ys), length-append (reply_bytes xs) (reply_bytes ys))
 
 -- the answers to a Clear are at most a price for each child
-pub clear_few : (market : Market) → length market.cache.heads ≡ most_nodes → length (reply_bytes (answers_to (Some market) Clear)) ≤ reply_limit
+pub clear_few : (market : OpenMarket) → length market.cache.heads ≡ most_nodes → length (reply_bytes (answers_to (Some market) Clear)) ≤ reply_limit
 clear_few market all =
     let few = prices_few (market.index + 1) (clearing_step (aggregate_of market.cache)) 1 market.cache.heads in
     few_either reply_limit market.changed (clearing_prices market) (NotChanged ∷ []) (omega (arith, few, all)) (omega arith)

@@ -9,7 +9,7 @@ use Rattle.pm_cache.specs.Cache.{Cache}
 use Rattle.pm_cache.specs.Learning.{with_newer_bid}
 use Rattle.pm_wire.specs.declared.frame.Frame.{Frame}
 use Rattle.pm_wire.specs.declared.frame.Frame.TheVariants.{Hello, Bid, Gone, Clear}
-use Rattle.pm_wire.specs.Answers.{Market}
+use Rattle.pm_wire.specs.Answers.{OpenMarket}
 use Rattle.pm_wire.specs.Frames.{frame_bytes, stream_bytes, place_after, place_behind, MayStand, AllStand, BeginsBadly}
 use Rattle.pm_wire.specs.Answers.{open_market, market_after, market_behind, answers_to, answers_behind, answer_bytes, reply_bytes}
 use Rattle.pm_wire.specs.Answers.{place_known}
@@ -30,12 +30,12 @@ place_behind-append place [] gs = refl
 place_behind-append place (h ∷ fs) gs = place_behind-append (place_after place h) fs gs
 
 -- the market behind two lists of frames is that behind the second from the market behind the first
-pub market_behind-append : (market : Option Market) (fs gs : List Frame) → market_behind market (fs ++ gs) ≡ market_behind (market_behind market fs) gs
+pub market_behind-append : (market : Option OpenMarket) (fs gs : List Frame) → market_behind market (fs ++ gs) ≡ market_behind (market_behind market fs) gs
 market_behind-append market [] gs = refl
 market_behind-append market (h ∷ fs) gs = market_behind-append (market_after market h) fs gs
 
 -- the answers to two lists of frames are those to the first, then those to the second from its market
-pub answers_behind-append : (market : Option Market) (fs gs : List Frame) →
+pub answers_behind-append : (market : Option OpenMarket) (fs gs : List Frame) →
     answers_behind market (fs ++ gs) ≡ answers_behind market fs ++ answers_behind (market_behind market fs) gs
 answers_behind-append market [] gs = refl
 answers_behind-append market (h ∷ fs) gs =
@@ -43,7 +43,7 @@ answers_behind-append market (h ∷ fs) gs =
     ∙ sym (append_assoc (answers_to market h) (answers_behind (market_after market h) fs) (answers_behind (market_behind (market_after market h) fs) gs))
 
 -- the bytes of the answers to two lists of frames are those of the first, then those of the second
-pub reply_bytes-append : (market : Option Market) (fs gs : List Frame) →
+pub reply_bytes-append : (market : Option OpenMarket) (fs gs : List Frame) →
     reply_bytes (answers_behind market (fs ++ gs)) ≡ reply_bytes (answers_behind market fs) ++ reply_bytes (answers_behind (market_behind market fs) gs)
 reply_bytes-append market fs gs =
     ap (λ l. reply_bytes l) (answers_behind-append market fs gs)
@@ -56,7 +56,7 @@ stream_bytes-append fs gs = flat_map-append frame_bytes fs gs
 -- ---- takings
 
 -- one frame was taken
-pub takes_one : (old new : Decoding) (frame : Frame) (market after : Option Market) → GivesFrame old frame new → after ≡ market_after market frame →
+pub takes_one : (old new : Decoding) (frame : Frame) (market after : Option OpenMarket) → GivesFrame old frame new → after ≡ market_after market frame →
     Takes (frame ∷ []) old new market after (reply_bytes (answers_to market frame))
 takes_one old new frame market after gives is = record {
   stand = (gives.stands, tt);
@@ -68,7 +68,7 @@ takes_one old new frame market after gives is = record {
 }
 
 -- some frames were taken, and then others
-pub takes-trans : (fs gs : List Frame) (a b c : Decoding) (m n o : Option Market) (x y : List ℕ) → Takes fs a b m n x → Takes gs b c n o y →
+pub takes-trans : (fs gs : List Frame) (a b c : Decoding) (m n o : Option OpenMarket) (x y : List ℕ) → Takes fs a b m n x → Takes gs b c n o y →
     Takes (fs ++ gs) a c m o (x ++ y)
 takes-trans fs gs a b c m n o x y first second =
     let P : Option ℕ → Type 0 = λ place. AllStand place gs in
@@ -85,7 +85,7 @@ takes-trans fs gs a b c m n o x y first second =
     }
 
 -- some frames were taken, and one more
-pub takes_more : (fs : List Frame) (frame : Frame) (a b c : Decoding) (m n o : Option Market) (x out0 out out' : List ℕ) → Takes fs a b m n x →
+pub takes_more : (fs : List Frame) (frame : Frame) (a b c : Decoding) (m n o : Option OpenMarket) (x out0 out out' : List ℕ) → Takes fs a b m n x →
     GivesFrame b frame c →
     o ≡ market_after n frame → out ≡ out0 ++ x → out' ≡ out ++ reply_bytes (answers_to n frame) →
     (frames : List Frame) × (reply : List ℕ) × Takes frames a c m o reply × (out' ≡ out0 ++ reply)
@@ -105,18 +105,18 @@ learnt_steps cache child number demand true = refl
 learnt_steps cache child number None false = refl
 learnt_steps cache child number (Some bid) false = refl
 
-cleared_steps : (market : Market) (test : Bool) →
+cleared_steps : (market : OpenMarket) (test : Bool) →
     (if test then record { cache = market.cache; index = market.index + 1; changed = false } else market).cache.steps ≡ market.cache.steps
 cleared_steps market true = refl
 cleared_steps market false = refl
 
-cleared_index : (market : Market) (test : Bool) →
+cleared_index : (market : OpenMarket) (test : Bool) →
     (if test then record { cache = market.cache; index = market.index + 1; changed = false } else market).index ≤ market.index + 1
 cleared_index market true = omega arith
 cleared_index market false = omega arith
 
 -- the basis is that of Hello
-place_known-after : (market : Option Market) (frame : Frame) → MayStand (place_known market) frame →
+place_known-after : (market : Option OpenMarket) (frame : Frame) → MayStand (place_known market) frame →
     place_known (market_after market frame) ≡ place_after (place_known market) frame
 unfolding open_market
 place_known-after None (Hello basis) stands = refl
@@ -129,7 +129,7 @@ place_known-after (Some market) (Gone child number) stands = ap (λ n. Some n) (
 place_known-after (Some market) Clear stands = ap (λ n. Some n) (cleared_steps market market.changed)
 
 -- a frame makes at most one clearing
-clearings_after : (market : Option Market) (frame : Frame) (offset : ℕ) → MayStand (place_known market) frame →
+clearings_after : (market : Option OpenMarket) (frame : Frame) (offset : ℕ) → MayStand (place_known market) frame →
     IfSome market (λ known. known.index ≤ offset) →
     IfSome (market_after market frame) (λ known. known.index ≤ offset + 1)
 unfolding open_market
@@ -143,7 +143,7 @@ clearings_after (Some market) (Gone child number) offset stands few = omega (ari
 clearings_after (Some market) Clear offset stands few = omega (arith, few, cleared_index market market.changed)
 
 -- a market that has at most m clearings has at most n where m is at most n
-pub fewer : (market : Option Market) (m n : ℕ) → m ≤ n → IfSome market (λ known. known.index ≤ m) → IfSome market (λ known. known.index ≤ n)
+pub fewer : (market : Option OpenMarket) (m n : ℕ) → m ≤ n → IfSome market (λ known. known.index ≤ m) → IfSome market (λ known. known.index ≤ n)
 fewer None m n le few = tt
 fewer (Some market) m n le few = omega (arith, few)
 
@@ -159,7 +159,7 @@ stream_length (f ∷ fs) place all = omega (
 )
 
 -- the market of frames knows their basis
-pub place_known-behind : (fs : List Frame) (market : Option Market) → AllStand (place_known market) fs →
+pub place_known-behind : (fs : List Frame) (market : Option OpenMarket) → AllStand (place_known market) fs →
     place_known (market_behind market fs) ≡ place_behind (place_known market) fs
 place_known-behind [] market all = refl
 place_known-behind (f ∷ fs) market all =
@@ -168,7 +168,7 @@ place_known-behind (f ∷ fs) market all =
     place_known-behind fs (market_after market f) (subst P (sym same) all.1) ∙ ap (λ p. place_behind p fs) same
 
 -- behind frames a market has at most as many more clearings as there are frames
-pub clearings_behind : (fs : List Frame) (market : Option Market) (offset : ℕ) → AllStand (place_known market) fs →
+pub clearings_behind : (fs : List Frame) (market : Option OpenMarket) (offset : ℕ) → AllStand (place_known market) fs →
     IfSome market (λ known. known.index ≤ offset) →
     IfSome (market_behind market fs) (λ known. known.index ≤ offset + length fs)
 clearings_behind [] market offset all few = fewer market offset (offset + 0) (omega arith) few
@@ -179,11 +179,11 @@ clearings_behind (f ∷ fs) market offset all few =
     offset all.0 few))
 
 -- what a decoder and a market agree on they agree on behind frames
-pub agrees_more : (fs : List Frame) (old new : Decoding) (market after : Option Market) (reply : List ℕ) → Takes fs old new market after reply →
+pub agrees_more : (fs : List Frame) (old new : Decoding) (market after : Option OpenMarket) (reply : List ℕ) → Takes fs old new market after reply →
     Agrees old market → Agrees new after
 agrees_more fs old new market after reply takes agrees =
     let P : Option ℕ → Type 0 = λ place. AllStand place fs in
-    let Q : Option Market → Type 0 = λ known. IfSome known (λ k. k.index ≤ new.offset) in
+    let Q : Option OpenMarket → Type 0 = λ known. IfSome known (λ k. k.index ≤ new.offset) in
     let stand : AllStand (place_known market) fs = subst P (sym agrees.place) takes.stand in
     record {
       place = ap (λ k. place_known k) takes.knows ∙ place_known-behind fs market stand ∙ ap (λ p. place_behind p fs) agrees.place ∙ sym takes.place;
@@ -192,18 +192,18 @@ agrees_more fs old new market after reply takes agrees =
     }
 
 -- how many bytes the frames and the rest have, together, stays
-pub takes_length : (fs : List Frame) (old new : Decoding) (market after : Option Market) (reply : List ℕ) → Takes fs old new market after reply →
+pub takes_length : (fs : List Frame) (old new : Decoding) (market after : Option OpenMarket) (reply : List ℕ) → Takes fs old new market after reply →
     new.offset + length new.rest ≡ old.offset + length old.rest
 takes_length fs old new market after reply takes = omega (arith, takes.offset, ap length takes.spelled, length-append (stream_bytes fs) new.rest)
 
 -- a market with no more clearings than an offset below 2^31 has fewer than 2^31
-pub few_clearings : (market : Option Market) (offset : ℕ) → offset < 2147483648 → IfSome market (λ known. known.index ≤ offset) →
+pub few_clearings : (market : Option OpenMarket) (offset : ℕ) → offset < 2147483648 → IfSome market (λ known. known.index ≤ offset) →
     IfSome market (λ known. known.index < 2147483648)
 few_clearings None offset small few = tt
 few_clearings (Some market) offset small few = omega (arith, few)
 
 -- a decoder that told a bad frame is where it was
-pub takes_refused : (fs : List Frame) (a b c : Decoding) (m n : Option Market) (x : List ℕ) → Takes fs a b m n x →
+pub takes_refused : (fs : List Frame) (a b c : Decoding) (m n : Option OpenMarket) (x : List ℕ) → Takes fs a b m n x →
     c ≡ with_refusal b → Takes fs a c m n x
 takes_refused fs a b c m n x takes is =
     let P : Decoding → Type 0 = λ d. Takes fs a d m n x in

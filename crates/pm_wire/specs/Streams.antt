@@ -3,8 +3,8 @@
 use Rattle.std.specs.Prelude.{◌≡◌, ◌≢◌, ◌⊎◌, ℕ, ◌+◌, ◌<◌, ◌≤◌, IfSome, List, [], ◌++◌, length, take, Option, None, Some}
 use Rattle.std.specs.Io.KnownBytes.{Appends, Consumes, IsAtEnd}
 use Rattle.pm_wire.specs.declared.frame.Frame.{Frame}
-use Rattle.pm_wire.specs.declared.answer.Answer.TheVariants.{Fault}
-use Rattle.pm_wire.specs.Answers.{Market}
+use Rattle.pm_wire.specs.declared.answer.Reply.TheVariants.{Fault}
+use Rattle.pm_wire.specs.Answers.{OpenMarket}
 use Rattle.pm_wire.specs.declared.stream.Served.{Served}
 use Rattle.pm_wire.specs.declared.stream.Served.TheVariants.{Done, Refused, TooLong, ReadFault, WriteFault, NoMemory}
 use Rattle.pm_wire.specs.Frames.{stream_bytes, place_behind, AllStand, BeginsWith, AreFrames, IsUnfinished, BeginsBadly}
@@ -135,7 +135,7 @@ EndsSo old new held holds rose_source rose_sink NoMemory = IsBegun old new held 
 -- ---- on the way
 
 -- the decoder and the server are where these frames leave them, at the front of the bytes fed
-pub record AreBehind (bytes : List ℕ) (frames : List Frame) (decoding : Decoding) (market : Option Market) : Type 0 where
+pub record AreBehind (bytes : List ℕ) (frames : List Frame) (decoding : Decoding) (market : Option OpenMarket) : Type 0 where
   pub begins : BeginsWith bytes frames decoding.rest
   pub place : decoding.place ≡ place_behind None frames
   pub offset : decoding.offset ≡ length (stream_bytes frames)
@@ -143,7 +143,7 @@ pub record AreBehind (bytes : List ℕ) (frames : List Frame) (decoding : Decodi
 
 -- from a decoder and a market to a later pair of them: these frames were given and taken, and the bytes of their answers are
 -- what was appended
-pub record Takes (frames : List Frame) (old new : Decoding) (market after : Option Market) (reply : List ℕ) : Type 0 where
+pub record Takes (frames : List Frame) (old new : Decoding) (market after : Option OpenMarket) (reply : List ℕ) : Type 0 where
   pub stand : AllStand old.place frames
   pub spelled : old.rest ≡ stream_bytes frames ++ new.rest
   pub offset : new.offset ≡ old.offset + length (stream_bytes frames)
@@ -152,12 +152,12 @@ pub record Takes (frames : List Frame) (old new : Decoding) (market after : Opti
   pub replied : reply ≡ reply_bytes (answers_behind market frames)
 
 -- the market is one that a decoder of so many bytes leaves: it knows the same basis, and has no more clearings than bytes
-pub record Agrees (decoding : Decoding) (market : Option Market) : Type 0 where
+pub record Agrees (decoding : Decoding) (market : Option OpenMarket) : Type 0 where
   pub place : place_known market ≡ decoding.place
   pub clearings : IfSome market (λ known. known.index ≤ decoding.offset)
 
 -- So far: the bytes taken were fed and counted, all their whole frames were answered, and no bad frame shows.
-pub record Serving (old new held holds : Option (List ℕ)) (decoding : Decoding) (market : Option Market) (count : ℕ) : Type 0 where
+pub record Serving (old new held holds : Option (List ℕ)) (decoding : Decoding) (market : Option OpenMarket) (count : ℕ) : Type 0 where
   pub input : List ℕ
   pub frames : List Frame
   pub consumes : Consumes old new input

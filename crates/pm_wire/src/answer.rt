@@ -8,7 +8,7 @@ pub(crate) const PRICE_BYTES: usize = 13;
 
 /// An answer of the auctioneer.
 #[derive(Clone, Copy, Debug, PartialEq, Eq)]
-pub enum Answer {
+pub enum Reply {
     /// The price for a child: the number of the bid that it answers, the index of the clearing, from 1, and the step of the
     /// basis at which the market clears.
     Price {
@@ -30,7 +30,7 @@ pub enum Answer {
     },
 }
 
-impl Answer {
+impl Reply {
     /// Appends the bytes of the answer. Where an allocation fails nothing is appended. That comes only where there was no
     /// room for them.
     pub fn write(&self, out: &mut Vec<u8>) -> Result<(), AllocError>
@@ -41,7 +41,7 @@ impl Answer {
         ensures capacity { vec_capacity out.old ≤ vec_capacity out.new }
     {
         match self {
-            Answer::Price {
+            Reply::Price {
                 child,
                 number,
                 index,
@@ -54,12 +54,12 @@ impl Answer {
                     index[1], index[2], index[3], step[0], step[1],
                 ])
             }
-            Answer::NotChanged => out.extend_from_slice(&[6]),
-            Answer::Old { child, kept } => {
+            Reply::NotChanged => out.extend_from_slice(&[6]),
+            Reply::Old { child, kept } => {
                 let (child, kept) = (child.to_be_bytes(), kept.to_be_bytes());
                 out.extend_from_slice(&[7, child[0], child[1], kept[0], kept[1], kept[2], kept[3]])
             }
-            Answer::Fault { offset } => {
+            Reply::Fault { offset } => {
                 let at = offset.to_be_bytes();
                 out.extend_from_slice(&[8, at[0], at[1], at[2], at[3], at[4], at[5], at[6], at[7]])
             }

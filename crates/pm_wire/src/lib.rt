@@ -24,7 +24,7 @@ mod reading;
 mod server;
 mod stream;
 
-pub use answer::Answer;
+pub use answer::Reply;
 pub use decoder::Decoder;
 pub use fault::DecodeFault;
 pub use frame::Frame;

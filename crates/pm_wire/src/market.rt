@@ -11,7 +11,7 @@ ghost use Rattle.pm_wire.specs.Answers.{open_market, after_entry, after_clear, r
 ghost use Rattle.pm_wire.specs.Memory.{reply_limit};
 ghost use Rattle.pm_wire.specs.ServerFields.{IsMarket};
 
-use crate::answer::{Answer, PRICE_BYTES};
+use crate::answer::{PRICE_BYTES, Reply};
 use crate::frame::Frame;
 use pm_auctioneer::Auctioneer;
 use pm_base::MOST_NODES;
@@ -29,14 +29,14 @@ const REPLY_LIMIT: usize = PRICE_BYTES * MOST_NODES;
 /// Contracts see the newest Bid or Gone of each child that counted, the index of the last clearing, 0 where there is none,
 /// and whether a Bid or Gone counted since.
 #[derive(Drop)]
-pub(crate) struct Market {
+pub(crate) struct OpenMarket {
     auctioneer: Auctioneer,
 }
 
-impl Model for Market {
-    ghost use Rattle.pm_wire.specs.Answers.{Market};
+impl Model for OpenMarket {
+    ghost use Rattle.pm_wire.specs.Answers.{OpenMarket};
 
-    ghost Value = { Market };
+    ghost Value = { OpenMarket };
 
     ghost use Rattle.pm_wire.specs.MarketFields.{market_of};
 
@@ -58,7 +58,7 @@ fn write_price(clearing: &Prices<'_>, place: usize, out: &mut Vec<u8>) -> Result
     let Some(price) = clearing.for_child(place) else {
         return Ok(());
     };
-    let answer = Answer::Price {
+    let answer = Reply::Price {
         child: (place + 1) as u16,
         number: price.number,
         index: price.index,
@@ -82,15 +82,15 @@ fn write_prices(clearing: &Prices<'_>, out: &mut Vec<u8>)
     }
 }
 
-impl Market {
+impl OpenMarket {
     /// A market of so many steps in which nothing was sent.
-    pub(crate) fn new(alloc: Global, steps: usize) -> Result<Market, AllocError>
+    pub(crate) fn new(alloc: Global, steps: usize) -> Result<OpenMarket, AllocError>
         requires { AreSteps steps }
         ensures new { IfOk result (λ market. market ≡ open_market steps) }
         ensures sound { IfOk result IsMarket }
     {
         let auctioneer = Auctioneer::new(alloc, MOST_NODES, steps)?;
-        Ok(Market { auctioneer })
+        Ok(OpenMarket { auctioneer })
     }
 
     /// Takes a child's Bid, or its Gone where there is no demand, and appends its receipt.
@@ -117,7 +117,7 @@ impl Market {
     {
         let entry = usize::from(child) - 1;
         if let Err(CacheFault::Old { kept }) = self.auctioneer.learn(entry, number, demand) {
-            return Answer::Old { child, kept }.write(out);
+            return Reply::Old { child, kept }.write(out);
         }
         Ok(())
     }
@@ -140,7 +140,7 @@ impl Market {
                 write_prices(&self.auctioneer.prices(), out);
                 Ok(())
             }
-            Err(_not_changed) => Answer::NotChanged.write(out),
+            Err(_not_changed) => Reply::NotChanged.write(out),
         }
     }
 

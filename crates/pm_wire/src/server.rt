@@ -5,7 +5,7 @@ ghost use Rattle.pm_wire.specs.Answers.{market_after, answers_to, reply_bytes, p
 ghost use Rattle.pm_wire.specs.Memory.{reply_limit};
 
 use crate::frame::Frame;
-use crate::market::Market;
+use crate::market::OpenMarket;
 use std::alloc::{AllocError, Global};
 use std::marker::Model;
 
@@ -15,14 +15,14 @@ use std::marker::Model;
 #[derive(Drop)]
 pub struct Server {
     alloc: Global,
-    market: Option<Market>,
+    market: Option<OpenMarket>,
 }
 
 impl Model for Server {
     ghost use Rattle.std.specs.Prelude.{Option};
-    ghost use Rattle.pm_wire.specs.Answers.{Market};
+    ghost use Rattle.pm_wire.specs.Answers.{OpenMarket};
 
-    ghost Value = { Option Market };
+    ghost Value = { Option OpenMarket };
 
     ghost use Rattle.pm_wire.specs.ServerFields.{AreServerFields};
 
@@ -61,7 +61,7 @@ impl Server {
             return market.take(frame, out);
         }
         if let Frame::Hello { basis } = frame {
-            self.market = Some(Market::new(self.alloc, basis.steps())?);
+            self.market = Some(OpenMarket::new(self.alloc, basis.steps())?);
         }
         Ok(())
     }

@@ -5,11 +5,11 @@ ghost use Rattle.pm_io.specs.Taken.{taken_bytes};
 ghost use Rattle.pm_wire.specs.declared.frame.Frame.{Frame};
 ghost use Rattle.pm_wire.specs.Decoding.{nothing_fed};
 ghost use Rattle.pm_wire.specs.Frames.{AreFrames, HasBadFrame, EndsWithin};
-ghost use Rattle.pm_wire.specs.declared.answer.Answer.TheVariants.{Fault};
+ghost use Rattle.pm_wire.specs.declared.answer.Reply.TheVariants.{Fault};
 ghost use Rattle.pm_wire.specs.Answers.{answer_bytes};
 ghost use Rattle.pm_wire.specs.Streams.{stream_limit, IsDone, IsRefused, IsLongStream, IsCutShort, IsBegun, FailsReading, EndsSo};
 
-use crate::answer::Answer;
+use crate::answer::Reply;
 use crate::decoder::Decoder;
 use crate::fault::DecodeFault;
 use crate::frames::take_piece;
@@ -69,7 +69,7 @@ fn refuse<K: Sink>(sink: &mut K, out: &mut Vec<u8>, offset: u64) -> Served
     ensures no_memory { result ≡ Served.NoMemory → sink.new ≡ sink.old }
     ensures count { K.faults sink.old ≤ K.faults sink.new }
 {
-    if (Answer::Fault { offset }).write(out).is_err() {
+    if (Reply::Fault { offset }).write(out).is_err() {
         return Served::NoMemory;
     }
     match flush(sink, out) {

@@ -1,6 +1,6 @@
 use Rattle.std.proofs.Common.{◌≡◌, ◌∙◌, sym, ap, subst, Result, Ok, Err, OnOk, IfErr, ℕ, List, ◌++◌, Option}
 use Rattle.pm_wire.specs.declared.frame.Frame.{Frame}
-use Rattle.pm_wire.specs.Answers.{Market}
+use Rattle.pm_wire.specs.Answers.{OpenMarket}
 use Rattle.pm_wire.specs.Decoding.{Decoding, with_piece}
 use Rattle.pm_wire.specs.Streams.{Takes, Agrees, replies}
 use Rattle.pm_wire.proofs.Following.{follows_agrees, follows_more, follows_replies}
@@ -15,11 +15,11 @@ if_err_by P Q (Ok x) f h = h
 if_err_by P Q (Err e) f h = f e h
 
 -- the frames of the piece were taken from the decoder that was fed with it
-fed_takes : (frames : List Frame) (old fed new : Decoding) (piece : List ℕ) (market after : Option Market) (reply : List ℕ) →
+fed_takes : (frames : List Frame) (old fed new : Decoding) (piece : List ℕ) (market after : Option OpenMarket) (reply : List ℕ) →
     fed ≡ with_piece old piece → Takes frames fed new market after reply → Takes frames (with_piece old piece) new market after reply
 fed_takes frames old fed new piece market after reply is takes = let P : Decoding → Type 0 = λ d. Takes frames d new market after reply in subst P is takes
 
-fed_agrees : (old fed : Decoding) (piece : List ℕ) (market : Option Market) → fed ≡ with_piece old piece → Agrees old market → Agrees fed market
+fed_agrees : (old fed : Decoding) (piece : List ℕ) (market : Option OpenMarket) → fed ≡ with_piece old piece → Agrees old market → Agrees fed market
 fed_agrees old fed piece market is agrees = let P : Decoding →
     Type 0 = λ d. Agrees d market in subst P (sym is) (record { place = agrees.place; clearings = agrees.clearings })
 

@@ -1,7 +1,7 @@
 use Rattle.std.proofs.Common.{ap, refl}
 use Rattle.pm_auctioneer.specs.Auctions.{Auction}
 use Rattle.pm_wire.proofs.Markets.{open_market_is, opened_sound}
-use Rattle.pm_wire.proofs.market.Market.new.Goals as goal
+use Rattle.pm_wire.proofs.market.OpenMarket.new.Goals as goal
 
 pub returns-clause-new : goal.returns-clause-new
 returns-clause-new c = open_market_is _ _ c.in_ok-auctioneer.ensures.new

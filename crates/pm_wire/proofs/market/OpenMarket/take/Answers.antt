@@ -4,7 +4,7 @@ use Rattle.pm_wire.specs.declared.frame.Frame.{Frame}
 use Rattle.pm_wire.specs.Frames.{IsAccepted}
 use Rattle.pm_wire.proofs.Markets.{accepted_small}
 use Rattle.pm_wire.proofs.Replies.{clear_few, longer_by_few}
-use Rattle.pm_wire.proofs.market.Market.take.Goals as goal
+use Rattle.pm_wire.proofs.market.OpenMarket.take.Goals as goal
 
 pub count-requires-clause-small : goal.count-requires-clause-small
 count-requires-clause-small c =
