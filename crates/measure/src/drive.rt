@@ -47,18 +47,18 @@ fn drive(alloc: Global, cluster: &mut Cluster<'_>) -> Result<Vec<PhaseEnd>, Driv
 }
 
 /// Makes an act's move, and tells whether one was legal.
-fn try_act(alloc: Global, cluster: &mut Cluster<'_>, act: Act) -> Result<bool, DriveFault> {
-    match cluster.act(alloc, act) {
+fn try_act(cluster: &mut Cluster<'_>, act: Act) -> Result<bool, DriveFault> {
+    match cluster.act(act) {
         Ok(_) => Ok(true),
         Err(ActFault::Illegal) => Ok(false),
-        Err(ActFault::NoMemory) => Err(DriveFault::NoMemory),
+        Err(ActFault::NoMemory) => unreachable!(),
     }
 }
 
 /// Lets all moves of the open phase be made, and gives its end. No change is left after the first round.
 fn end_at_rest(alloc: Global, cluster: &mut Cluster<'_>) -> Result<PhaseEnd, DriveFault> {
     for _ in 0..MOST_ROUNDS {
-        make_round(alloc, cluster)?;
+        make_round(cluster)?;
         if cluster.idle() {
             return Ok(cluster.phase_end(alloc)?);
         }
@@ -67,33 +67,33 @@ fn end_at_rest(alloc: Global, cluster: &mut Cluster<'_>) -> Result<PhaseEnd, Dri
 }
 
 /// The bids go up, the auctioneer clears, and the prices come down.
-fn make_round(alloc: Global, cluster: &mut Cluster<'_>) -> Result<(), DriveFault> {
-    send_bids(alloc, cluster)?;
-    if try_act(alloc, cluster, Act::Clear)? {
-        pass_prices(alloc, cluster)?;
+fn make_round(cluster: &mut Cluster<'_>) -> Result<(), DriveFault> {
+    send_bids(cluster)?;
+    if try_act(cluster, Act::Clear)? {
+        pass_prices(cluster)?;
     }
     Ok(())
 }
 
 /// Each node that has a new bid sends it, and its parent learns it. A parent stands before its children, so the last node
 /// comes first.
-fn send_bids(alloc: Global, cluster: &mut Cluster<'_>) -> Result<(), DriveFault> {
+fn send_bids(cluster: &mut Cluster<'_>) -> Result<(), DriveFault> {
     let nodes = cluster.plan().tree().len();
     for after in 0..nodes {
-        send_bid(alloc, cluster, nodes - after)?;
+        send_bid(cluster, nodes - after)?;
     }
     Ok(())
 }
 
 /// A node sends its bid, if it has a new one, and its parent learns it.
-fn send_bid(alloc: Global, cluster: &mut Cluster<'_>, node: u32) -> Result<(), DriveFault> {
+fn send_bid(cluster: &mut Cluster<'_>, node: u32) -> Result<(), DriveFault> {
     let sent = if is_device(cluster.plan().tree(), node) {
-        change_device(alloc, cluster, node)?
+        change_device(cluster, node)?
     } else {
-        try_act(alloc, cluster, Act::Publish { node })?
+        try_act(cluster, Act::Publish { node })?
     };
     if sent {
-        try_act(alloc, cluster, Act::Learn { child: node })?;
+        try_act(cluster, Act::Learn { child: node })?;
     }
     Ok(())
 }
@@ -104,13 +104,9 @@ fn is_device(tree: &Tree, node: u32) -> bool {
 }
 
 /// Makes the changes of a device until it has no more in the open phase, and tells whether it made any.
-fn change_device(
-    alloc: Global,
-    cluster: &mut Cluster<'_>,
-    device: u32,
-) -> Result<bool, DriveFault> {
+fn change_device(cluster: &mut Cluster<'_>, device: u32) -> Result<bool, DriveFault> {
     for made in 0..MOST_CHANGES {
-        if !try_act(alloc, cluster, Act::Change { device })? {
+        if !try_act(cluster, Act::Change { device })? {
             return Ok(0 < made);
         }
     }
@@ -118,9 +114,9 @@ fn change_device(
 }
 
 /// Each node takes the price that waits for it, parents before their children.
-fn pass_prices(alloc: Global, cluster: &mut Cluster<'_>) -> Result<(), DriveFault> {
+fn pass_prices(cluster: &mut Cluster<'_>) -> Result<(), DriveFault> {
     for before in 0..cluster.plan().tree().len() {
-        try_act(alloc, cluster, Act::Pass { node: before + 1 })?;
+        try_act(cluster, Act::Pass { node: before + 1 })?;
     }
     Ok(())
 }

@@ -5,3 +5,4 @@ pub mod Acts
 pub mod Ends
 pub mod Opening
 pub mod Waiting
+pub mod Offering

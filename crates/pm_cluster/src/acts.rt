@@ -77,7 +77,7 @@ impl<'p> Cluster<'p> {
     ///
     /// `Illegal` comes exactly where no move of that form is legal; a node that does not exist or is of the wrong sort has
     /// none. No memory is taken, so `NoMemory` never comes.
-    pub fn act(&mut self, _alloc: Global, act: Act) -> Result<Line, ActFault>
+    pub fn act(&mut self, act: Act) -> Result<Line, ActFault>
         ensures plan { self.new.plan ≡ self.old.plan }
         ensures form { IfOk result (λ line. act_of line.what ≡ act) }
         ensures made { (s : State) → StandsFor self.old.plan self.old.core s →
@@ -181,17 +181,12 @@ impl<'p> Cluster<'p> {
     {
         let mut cluster = Cluster::open(alloc, plan)?;
         let mut journal = Journal::new(alloc);
-        cluster.act_each(alloc, acts, &mut journal)?;
+        cluster.act_each(acts, &mut journal)?;
         Ok((cluster, journal))
     }
 
     /// Makes acts in their order on a cluster that was just opened, and adds their lines to a journal without lines.
-    fn act_each(
-        &mut self,
-        alloc: Global,
-        acts: &[Act],
-        journal: &mut Journal,
-    ) -> Result<(), ApplyFault>
+    fn act_each(&mut self, acts: &[Act], journal: &mut Journal) -> Result<(), ApplyFault>
         requires opened { StandsFor self.old.plan self.old.core start }
         requires no_lines { journal.old.lines ≡ [] }
         ensures plan { self.new.plan ≡ self.old.plan }
@@ -200,10 +195,10 @@ impl<'p> Cluster<'p> {
         ensures illegal { IfErr result (λ fault. AreRefused self.old.plan acts.now fault) }
     {
         for (at, act) in acts.iter().enumerate() {
-            match self.act(alloc, *act) {
+            match self.act(*act) {
                 Ok(line) => journal.push(line)?,
                 Err(ActFault::Illegal) => return Err(ApplyFault::Illegal { at }),
-                Err(ActFault::NoMemory) => return Err(ApplyFault::NoMemory),
+                Err(ActFault::NoMemory) => unreachable!(),
             }
         }
         Ok(())

@@ -19,6 +19,7 @@ ghost use Rattle.pm_stands.specs.Rows.{OneLink};
 ghost use Rattle.pm_stands.specs.Made.{seat_after, bid_demand};
 ghost use Rattle.pm_cluster.specs.Next.{count_of, IsNext};
 ghost use Rattle.pm_cluster.specs.Acts.{Follows, NotChanged};
+ghost use Rattle.pm_cluster.specs.Offering.{IsPlannedChange, HasLink, IsOffered};
 
 use crate::cluster::Cluster;
 use crate::fault::ChangeFault;
@@ -132,36 +133,10 @@ fn offer_demand(
     spare: &mut ArrayBid,
     links: &mut Vec<Vec<Link>>,
 )
-    requires sound { IsPlan plan.now }
-    requires leaf { IsLeaf (plan_lists plan.now) next.device }
-    requires kind { kind_of (node plan.now next.device) ≡ Some kind }
-    requires change { next.number ≤ change_count plan.now next.device }
-    requires member { next.member ≡ is_member plan.now next.device next.number }
-    requires state { next.state.0 ≡ state plan.now next.device next.number }
-    requires given { next.member ≡ true → IfSome (option_copied given)
-        (λ demand. demand ≡ device_demand plan.now next.device next.number) }
-    requires room { length spare.old ≡ plan.now.basis.steps }
-    requires parent { parent (plan_lists plan.now) next.device < length links.old.items }
-    requires place { let rows = rows_of links.old.items in
-        place_of plan.now.entries next.device < length
-        (row_at rows (parent (plan_lists plan.now) next.device)) }
-    requires number { let rows = rows_of links.old.items in
-        (link_at rows (parent (plan_lists plan.now) next.device)
-        (place_of plan.now.entries next.device)).up.offered < next.number }
-    requires steps { let rows = rows_of links.old.items in
-        (link_at rows (parent (plan_lists plan.now) next.device)
-        (place_of plan.now.entries next.device)).steps ≡ plan.now.basis.steps }
-    ensures room { length spare.new ≡ plan.now.basis.steps }
-    ensures one { OneLink (rows_of links.old.items) (rows_of links.new.items)
-        (parent (plan_lists plan.now) next.device) (place_of plan.now.entries next.device) }
-    ensures offered { let old = link_at (rows_of links.old.items)
-        (parent (plan_lists plan.now) next.device)
-        (place_of plan.now.entries next.device) in
-        let new = link_at (rows_of links.new.items) (parent (plan_lists plan.now) next.device)
-        (place_of plan.now.entries next.device) in
-        BidOffered old new
-        (bid_offered old.steps next.number
-        (bid_demand (not next.member) (device_demand plan.now next.device next.number))) }
+    requires change { IsPlannedChange plan.now next kind (option_copied given) }
+    requires link { HasLink plan.now next (rows_of links.old.items) spare.old }
+    ensures { IsOffered plan.now next (rows_of links.old.items)
+        (rows_of links.new.items) spare.new }
 {
     let parent = parent_of(plan, NodeId(next.device));
     let place = place_in_row(plan, NodeId(next.device));

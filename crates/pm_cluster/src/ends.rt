@@ -152,11 +152,7 @@ impl<'p> Cluster<'p> {
                     total: sum.at(local, &mut counter),
                 }
             }
-            _ => LimitedLine {
-                node: node.0,
-                step,
-                total: 0,
-            },
+            _ => unreachable!(),
         }
     }
 
@@ -236,7 +232,7 @@ fn power_of(
         return auctioneer.cache().demand(place, step, &mut counter);
     }
     match &concentrators[parent] {
-        None => 0,
+        None => unreachable!(),
         Some(concentrator) => concentrator.cache().demand(place, step, &mut counter),
     }
 }

@@ -40,8 +40,13 @@ pub(crate) fn learn(
 {
     if parent == 0 {
         let _ = auctioneer.learn(place, number, demand);
-    } else if let Some(concentrator) = &mut concentrators[parent] {
-        let _ = concentrator.learn(place, number, demand);
+        return;
+    }
+    match &mut concentrators[parent] {
+        None => unreachable!(),
+        Some(concentrator) => {
+            let _ = concentrator.learn(place, number, demand);
+        }
     }
 }
 
@@ -76,7 +81,7 @@ pub(crate) fn publish(
     let row = &mut links[parent];
     let up = &mut row[place];
     match &mut concentrators[node] {
-        None => None,
+        None => unreachable!(),
         Some(concentrator) => match concentrator.publish(up) {
             Ok(number) => Some(number),
             Err(_) => None,
@@ -109,8 +114,11 @@ pub(crate) fn pass(
     ensures row { OneRow (rows_of links.old.items) (rows_of links.new.items) node }
 {
     let row = &mut links[node];
-    if let Some(concentrator) = &mut concentrators[node] {
-        let _ = concentrator.pass(price, row);
+    match &mut concentrators[node] {
+        None => unreachable!(),
+        Some(concentrator) => {
+            let _ = concentrator.pass(price, row);
+        }
     }
 }
 

@@ -110,7 +110,7 @@ impl<'p> Cluster<'p> {
             return false;
         }
         match &self.concentrators[node.0 as usize] {
-            None => false,
+            None => unreachable!(),
             Some(concentrator) => can_publish(concentrator),
         }
     }

@@ -3,7 +3,7 @@ use crate::state::DeviceState;
 
 /// A kind of device with its parameters. Powers are in watts, `capacity` is in watt-hours, `spread` in steps of the
 /// market basis; `warm`, `cool`, `loss` and `gain` are amounts of temperature for one tick.
-#[derive(Clone, Copy, Debug, PartialEq, Eq)]
+#[derive(Clone, Copy, Debug)]
 pub enum Kind {
     /// Keeps its temperature between `low` and `high`. It warms up by `warm`, and cools down by `cool` where it runs.
     Freezer {
@@ -49,6 +49,7 @@ pub enum Kind {
 impl Kind {
     ghost use Rattle.std.specs.Prelude.{◌≡◌};
     ghost use Rattle.pm_device.specs.Kinds.{is_valid, state_fits, has_ticks};
+    ghost use Rattle.pm_device.specs.Keys.{key_of};
 
     /// True exactly where every parameter lies within its limits and `low` is below `high`: temperatures within
     /// ±1,000,000, their changes in 0..=1,000,000, powers in 0..=1,000,000,000, a capacity in 1..=1,000,000,000, a
@@ -119,4 +120,69 @@ impl Kind {
             Kind::Solar | Kind::Load | Kind::Objective | Kind::Manual => false,
         }
     }
+
+    /// The number of the kind among the kinds, and its parameters in their order with zeros after them.
+    fn key(&self) -> (u8, i64, i64, i64, i64, i64)
+        ensures { result ≡ key_of self.now }
+    {
+        match *self {
+            Kind::Freezer {
+                low,
+                high,
+                power,
+                warm,
+                cool,
+            } => (0, low, high, power, warm, cool),
+            Kind::HeatPump {
+                low,
+                high,
+                power,
+                loss,
+                gain,
+            } => (1, low, high, power, loss, gain),
+            Kind::Cogeneration {
+                low,
+                high,
+                power,
+                loss,
+                gain,
+            } => (2, low, high, power, loss, gain),
+            Kind::Battery {
+                capacity,
+                charge,
+                discharge,
+                spread,
+            } => (3, capacity, charge, discharge, spread, 0),
+            Kind::Solar => (4, 0, 0, 0, 0, 0),
+            Kind::Load => (5, 0, 0, 0, 0, 0),
+            Kind::Objective => (6, 0, 0, 0, 0, 0),
+            Kind::Manual => (7, 0, 0, 0, 0, 0),
+        }
+    }
+}
+
+impl PartialEq for Kind {
+    ghost use Rattle.std.specs.Prelude.{◌≡◌, ◌↔◌, IsTrue};
+    ghost use Rattle.std.specs.Cmp.Rules.{comparing};
+    ghost use Rattle.std.proofs.Common.{rules};
+    ghost use Rattle.pm_device.specs.Keys.{are_same_kinds};
+
+    ghost eq = { are_same_kinds };
+
+    ghost laws = { Prim.search (comparing, rules) depth 10 };
+
+    /// True exactly where both are the same kind with the same parameters.
+    fn eq(&self, other: &Kind) -> bool
+        ensures test { result ≡ are_same_kinds self.now other.now }
+        ensures same { IsTrue result ↔ (self.now ≡ other.now) }
+    {
+        self.key() == other.key()
+    }
+}
+
+impl Eq for Kind {
+    ghost use Rattle.std.specs.Cmp.Rules.{comparing};
+    ghost use Rattle.std.proofs.Common.{rules};
+
+    ghost laws = { Prim.search (comparing, rules) depth 10 };
 }

@@ -9,6 +9,10 @@
 //! - A tick changes a temperature by fixed amounts, whatever its minutes, and a battery's charge by the energy of
 //!   the minutes, rounded down to whole watt-hours.
 //! - No call takes memory.
+//!
+//! Each question about a kind has one table: in `kind` its parameters, their limits, the states that fit, whether it ticks, and
+//! the row of numbers by which kinds are compared; in `tick` what a tick makes of a state. The definitions are in `Kinds`, `Keys`
+//! and `Ticks`.
 #![tactic(auto)]
 
 mod kind;

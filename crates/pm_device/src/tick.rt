@@ -25,14 +25,26 @@ pub fn advance(kind: &Kind, state: DeviceState, power: i64, minutes: i64) -> Dev
     ensures fits { IsTrue (state_fits kind.now result.0) }
 {
     let DeviceState(now) = state;
-    let after = match *kind {
+    DeviceState(number_after(kind, now, power, minutes))
+}
+
+/// The number of the state after a tick.
+fn number_after(kind: &Kind, now: i64, power: i64, minutes: i64) -> i64
+    requires valid { IsTrue (is_valid kind.now) }
+    requires fits { IsTrue (state_fits kind.now now) }
+    requires power_low { neg_ℤ (pos power_limit) ≤ℤ power }
+    requires power_high { power ≤ℤ pos power_limit }
+    requires at_least_one_minute { pos 1 ≤ℤ minutes }
+    requires at_most_a_day { minutes ≤ℤ pos minutes_limit }
+    ensures { result ≡ tick kind.now now power minutes }
+{
+    match *kind {
         Kind::Freezer { warm, cool, .. } => freezer_after(now, warm, cool, power > 0),
         Kind::HeatPump { loss, gain, .. } => heated_after(now, loss, gain, power > 0),
         Kind::Cogeneration { loss, gain, .. } => heated_after(now, loss, gain, power < 0),
         Kind::Battery { capacity, .. } => charge_after(capacity, now, power, minutes),
         Kind::Solar | Kind::Load | Kind::Objective | Kind::Manual => now,
-    };
-    DeviceState(after)
+    }
 }
 
 /// A freezer's temperature after a tick.

@@ -1,13 +1,10 @@
--- When kinds, changes and minutes are the same.
+-- When changes and minutes are the same.
 use Rattle.std.proofs.Common.{◌≡◌, ◌∙◌, sym, ap, ℕ, zero, suc, ℤ, true, false, ◌&&◌, refl, eqb, IsTrue, ◌↔◌, Option, Some, None}
 use Rattle.std.specs.Option.{option_eq}
 use Rattle.std.specs.Ordering.{int_eq}
 use Rattle.std.proofs.lemmas.Bool.{false≢true}
 use Rattle.std.proofs.lemmas.Bool.Decides.{Decides-eqb, Decides-int_eq, Decides-and, Decides-like}
-use Rattle.pm_device.specs.declared.kind.Kind.{Kind}
-use Rattle.pm_device.specs.declared.kind.Kind.TheVariants.{Freezer, HeatPump, Cogeneration, Battery, Solar, Load, Objective, Manual}
 use Rattle.pm_device.specs.declared.state.DeviceState.{DeviceState}
-use Rattle.pm_plan.specs.Keys.{key_of}
 use Rattle.pm_plan.specs.declared.planned.Change.{Change}
 use Rattle.pm_plan.specs.declared.planned.Planned.{Planned}
 use Rattle.pm_plan.specs.declared.planned.Planned.TheVariants.{Join, Leave, Set, Tick}
@@ -23,42 +20,6 @@ same_minutes None None = (λ _. refl, λ _. refl)
 same_minutes None (Some y) = fails (λ e. absurd (cc e))
 same_minutes (Some x) None = fails (λ e. absurd (cc e))
 same_minutes (Some x) (Some y) = Decides-like (int_eq x y) (ap Some) (λ e. cc e) (Decides-int_eq x y)
-
--- the kind of a row
-abbrev kind_of : ℕ × ℤ × ℤ × ℤ × ℤ × ℤ → Kind
-kind_of (zero, a, b, c, d, e) = Freezer a b c d e
-kind_of (suc zero, a, b, c, d, e) = HeatPump a b c d e
-kind_of (suc (suc zero), a, b, c, d, e) = Cogeneration a b c d e
-kind_of (suc (suc (suc zero)), a, b, c, d, e) = Battery a b c d
-kind_of (suc (suc (suc (suc zero))), a, b, c, d, e) = Solar
-kind_of (suc (suc (suc (suc (suc zero)))), a, b, c, d, e) = Load
-kind_of (suc (suc (suc (suc (suc (suc zero))))), a, b, c, d, e) = Objective
-kind_of (suc (suc (suc (suc (suc (suc (suc n)))))), a, b, c, d, e) = Manual
-
-kind_of-key_of : (kind : Kind) → kind_of (key_of kind) ≡ kind
-kind_of-key_of (Freezer low high power warm cool) = refl
-kind_of-key_of (HeatPump low high power loss gain) = refl
-kind_of-key_of (Cogeneration low high power loss gain) = refl
-kind_of-key_of (Battery capacity charge discharge spread) = refl
-kind_of-key_of Solar = refl
-kind_of-key_of Load = refl
-kind_of-key_of Objective = refl
-kind_of-key_of Manual = refl
-
--- kinds with the same row of numbers are the same
-pub kinds_of_keys : (kind other : Kind) → key_of kind ≡ key_of other → kind ≡ other
-kinds_of_keys kind other e = sym (kind_of-key_of kind) ∙ ap kind_of e ∙ kind_of-key_of other
-
--- the test of two rows of six numbers is true exactly where the rows are the same
-pub same_keys : (x y : ℕ × ℤ × ℤ × ℤ × ℤ × ℤ) → IsTrue
-    (((((eqb x.0 y.0 && int_eq x.1 y.1) && int_eq x.2 y.2) && int_eq x.3 y.3) && int_eq x.4 y.4) && int_eq x.5 y.5) ↔ (x ≡ y)
-same_keys x y =
-    Decides-like _
-    (λ p. λ i. (p.0.0.0.0.0 i, p.0.0.0.0.1 i, p.0.0.0.1 i, p.0.0.1 i, p.0.1 i, p.1 i))
-    (λ p. (((((λ i. (p i).0, λ i. (p i).1), λ i. (p i).2), λ i. (p i).3), λ i. (p i).4), λ i. (p i).5))
-    (Decides-and _ _ (Decides-and _ _ (Decides-and _ _
-    (Decides-and _ _ (Decides-and _ _ (Decides-eqb x.0 y.0) (Decides-int_eq x.1 y.1)) (Decides-int_eq x.2 y.2))
-    (Decides-int_eq x.3 y.3)) (Decides-int_eq x.4 y.4)) (Decides-int_eq x.5 y.5))
 
 same_planned : (x y : Planned) → IsTrue (planned.eq-value.it x y) ↔ (x ≡ y)
 same_planned Join Join = (λ _. refl, λ _. refl)

@@ -10,10 +10,8 @@ use Rattle.pm_bid.proofs.Sums.{length-zeros, zeros-within}
 use Rattle.pm_bid.specs.Bids.{AllWithinLimit, NeverRises, demand_at}
 use Rattle.pm_base.specs.Limits.{demand_limit, IsWithin}
 use Rattle.pm_device.specs.Kinds.{is_valid, state_fits, temperature_limit, is_temperature, is_between}
-use Rattle.pm_device.specs.Ticks.{tick, nearest_between, nearest_temperature, change_if, takes_power, delivers_power, floor_div}
 use Rattle.pm_device.specs.declared.kind.Kind.{Kind}
-use Rattle.pm_device.specs.declared.kind.Kind.TheVariants.{Freezer, HeatPump, Cogeneration, Battery, Solar, Load, Objective, Manual}
-use Rattle.pm_device.proofs.Between.{is_between-holds, is_battery-tells}
+use Rattle.pm_device.proofs.TicksFit.{tick-fits}
 use Rattle.pm_strategy.specs.Strategies.{bid_of}
 use Rattle.pm_strategy.proofs.BidLaws.{length-bid_of, bid_of-within, bid_of-falls}
 use Rattle.pm_plan.specs.declared.planned.Planned.{Planned}
@@ -27,29 +25,6 @@ use Rattle.pm_plan.specs.States.{changed_state, state}
 use Rattle.pm_plan.specs.Kept.{IsPlan, no_change, change_fits, change_at}
 use Rattle.pm_plan.proofs.DeviceNodes.{kind_of-tells}
 use Rattle.pm_plan.proofs.StateLaws.{state-start, state-next}
-
-nearest-fits : (low high x : ℤ) → low ≤ℤ high → IsTrue (is_between low high (nearest_between low high x))
-nearest-fits low high x order =
-    is_between-holds low high (nearest_between low high x) (record { from = omega (arith, ints, clamps); to = omega (arith, ints, clamps) })
-
-temperature-fits : (x : ℤ) → IsTrue (is_temperature (nearest_temperature x))
-temperature-fits x = nearest-fits (neg_ℤ (pos temperature_limit)) (pos temperature_limit) x (omega (arith, ints))
-
--- what a tick makes of a state that fits, fits
-pub tick-fits : (kind : Kind) (state power minutes : ℤ) → IsTrue (is_valid kind) → IsTrue (state_fits kind state) →
-    IsTrue (state_fits kind (tick kind state power minutes))
-unfolding tick
-tick-fits (Freezer low high rated warm cool) state power minutes valid fits = temperature-fits ((state +ℤ warm) -ℤ change_if (takes_power power) cool)
-tick-fits (HeatPump low high rated loss gain) state power minutes valid fits = temperature-fits ((state -ℤ loss) +ℤ change_if (takes_power power) gain)
-tick-fits (Cogeneration low high rated loss gain) state power minutes valid fits = temperature-fits
-    ((state -ℤ loss) +ℤ change_if (delivers_power power) gain)
-tick-fits (Battery capacity charge discharge spread) state power minutes valid fits =
-    let least = (is_battery-tells capacity charge discharge spread valid).capacity_within in
-    nearest-fits (pos 0) capacity (state +ℤ floor_div (power *ℤ minutes) (pos 60)) (omega (arith, ints, least.from))
-tick-fits Solar state power minutes valid fits = fits
-tick-fits Load state power minutes valid fits = fits
-tick-fits Objective state power minutes valid fits = fits
-tick-fits Manual state power minutes valid fits = fits
 
 changed-fits : (kind : Kind) (state power : ℤ) (what : Planned) → IsTrue (is_valid kind) → IsTrue (state_fits kind state) →
     IsTrue (change_fits kind what) → IsTrue (state_fits kind (changed_state kind state power what))

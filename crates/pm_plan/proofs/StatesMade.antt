@@ -21,7 +21,7 @@ use Rattle.pm_points.proofs.Passed.{passed_all}
 use Rattle.pm_points.proofs.Falls.{length-array_of, array_falls, array_within}
 use Rattle.pm_device.specs.Kinds.{state_fits}
 use Rattle.pm_device.specs.declared.kind.Kind.{Kind}
-use Rattle.pm_device.specs.declared.kind.Kind.TheVariants.{Freezer, HeatPump, Cogeneration, Battery, Solar, Load, Objective, Manual}
+use Rattle.pm_device.specs.declared.kind.Kind.TheVariants.{Manual}
 use Rattle.pm_plan.specs.declared.refusal.Place.{Place}
 use Rattle.pm_plan.specs.Parts.{StatePart, number, array, points}
 use Rattle.pm_plan.specs.Plans.{PlanData}
@@ -162,12 +162,4 @@ pub state-made : (place : Place) (kind : Kind) (plan : PlanData) (part : StatePa
     AreArrays plan → state_of place kind plan part ≡ Ok made → StateMade kind plan made
 unfolding state_of
 state-made place Manual plan part made sound all h = manual-made place plan part made sound all h
-state-made place (Freezer low high power warm cool) plan part made sound all h = number-made place (Freezer low high power warm cool) plan part made all h
-state-made place (HeatPump low high power loss gain) plan part made sound all h = number-made place (HeatPump low high power loss gain) plan part made all h
-state-made place (Cogeneration low high power loss gain) plan part made sound all h =
-    number-made place (Cogeneration low high power loss gain) plan part made all h
-state-made place (Battery capacity charge discharge spread) plan part made sound all h =
-    number-made place (Battery capacity charge discharge spread) plan part made all h
-state-made place Solar plan part made sound all h = number-made place Solar plan part made all h
-state-made place Load plan part made sound all h = number-made place Load plan part made all h
-state-made place Objective plan part made sound all h = number-made place Objective plan part made all h
+state-made place kind plan part made sound all h = number-made place kind plan part made all h

@@ -9,5 +9,4 @@ pub mod Kept
 pub mod Refusals
 pub mod Building
 pub mod Ends
-pub mod Keys
 pub mod EndLines

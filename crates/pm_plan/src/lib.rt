@@ -14,7 +14,6 @@
 //! - `Building`: the plan that the parts of a file give, or the first refusal.
 //! - `Market`: the lists of the market of cuts (`pm_market`) that a plan stands for.
 //! - `Kept`: what the type of a plan keeps.
-//! - `Keys`: kinds as rows of numbers, by which they are compared.
 //!
 //! That the demands of all devices are added up and the price is found where they balance is the PowerMatcher's (J. K.
 //! Kok, "The PowerMatcher: Smart Coordination for the Smart Electricity Grid", 2013). Phases, numbered changes, limited

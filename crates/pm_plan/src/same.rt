@@ -1,13 +1,11 @@
 ghost use Rattle.std.specs.Prelude.{◌≡◌, ◌<◌, ◌↔◌, IsTrue, length};
 ghost use Rattle.pm_bid.specs.Bids.{demand_at};
-ghost use Rattle.pm_plan.specs.Keys.{key_of};
 
 use crate::node::{Device, Node};
 use crate::plan::Plan;
 use crate::planned::Change;
 use pm_basis::Basis;
 use pm_bid::{ArrayBid, Steps};
-use pm_device::Kind;
 use std::marker::Brand;
 
 impl Plan {
@@ -61,55 +59,9 @@ fn same_node(node: &Node, other: &Node) -> bool
 fn same_device(device: &Device, other: &Device) -> bool
     ensures { IsTrue result ↔ (device.now ≡ other.now) }
 {
-    same_kind(device.kind(), other.kind())
+    device.kind() == other.kind()
         && device.start().0 == other.start().0
         && same_changes(device.changes(), other.changes())
-}
-
-/// Whether two kinds are the same, with the same parameters.
-fn same_kind(kind: Kind, other: Kind) -> bool
-    ensures { IsTrue result ↔ (kind ≡ other) }
-{
-    key(kind) == key(other)
-}
-
-/// The number of a kind among the kinds, and its parameters in their order with zeros after them.
-fn key(kind: Kind) -> (u8, i64, i64, i64, i64, i64)
-    ensures { result ≡ key_of kind }
-{
-    match kind {
-        Kind::Freezer {
-            low,
-            high,
-            power,
-            warm,
-            cool,
-        } => (0, low, high, power, warm, cool),
-        Kind::HeatPump {
-            low,
-            high,
-            power,
-            loss,
-            gain,
-        } => (1, low, high, power, loss, gain),
-        Kind::Cogeneration {
-            low,
-            high,
-            power,
-            loss,
-            gain,
-        } => (2, low, high, power, loss, gain),
-        Kind::Battery {
-            capacity,
-            charge,
-            discharge,
-            spread,
-        } => (3, capacity, charge, discharge, spread, 0),
-        Kind::Solar => (4, 0, 0, 0, 0, 0),
-        Kind::Load => (5, 0, 0, 0, 0, 0),
-        Kind::Objective => (6, 0, 0, 0, 0, 0),
-        Kind::Manual => (7, 0, 0, 0, 0, 0),
-    }
 }
 
 /// Whether two lists have the same changes.

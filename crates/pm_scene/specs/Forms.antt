@@ -1,10 +1,7 @@
--- The kinds by their names, and the forms of which an object has one.
-use Rattle.std.specs.Prelude.{ℕ, List, [], ◌∷◌, codes, Option, Some, None, if◌then◌else◌}
-use Rattle.std.specs.Str.{bytes_eq}
+-- The forms of which an object has one.
+use Rattle.std.specs.Prelude.{ℕ, List, [], ◌∷◌, codes, if◌then◌else◌}
 use Rattle.serde_json.specs.Data.{Data}
 use Rattle.pm_scene.specs.Values.{has_member}
-use Rattle.pm_scene.specs.declared.forms.KindName.{KindName}
-use Rattle.pm_scene.specs.declared.forms.KindName.TheVariants as kinds
 use Rattle.pm_scene.specs.declared.forms.StartForm.{StartForm}
 use Rattle.pm_scene.specs.declared.forms.StartForm.TheVariants as starts
 use Rattle.pm_scene.specs.declared.forms.PhaseForm.{PhaseForm}
@@ -13,21 +10,6 @@ use Rattle.pm_scene.specs.declared.forms.EventForm.{EventForm}
 use Rattle.pm_scene.specs.declared.forms.EventForm.TheVariants as events
 use Rattle.pm_scene.specs.declared.forms.ValueForm.{ValueForm}
 use Rattle.pm_scene.specs.declared.forms.ValueForm.TheVariants as values
-
-abbrev pub kind_names : List (List ℕ × KindName)
-kind_names =
-    (codes "concentrator", kinds.Concentrator) ∷ (codes "limited", kinds.Limited) ∷ (codes "freezer", kinds.Freezer)
-    ∷ (codes "heat_pump", kinds.HeatPump) ∷ (codes "cogeneration", kinds.Cogeneration) ∷ (codes "battery", kinds.Battery)
-    ∷ (codes "solar", kinds.Solar) ∷ (codes "load", kinds.Load) ∷ (codes "objective", kinds.Objective)
-    ∷ (codes "manual", kinds.Manual) ∷ []
-
--- the kind of a name in a list
-abbrev pub kind_in : List (List ℕ × KindName) → List ℕ → Option KindName
-kind_in [] text = None
-kind_in (kind ∷ rest) text = if bytes_eq text kind.0 then Some kind.1 else kind_in rest text
-
-abbrev pub kind_named : List ℕ → Option KindName
-kind_named text = kind_in kind_names text
 
 -- the form of the first of these members that is there; the form `missing` where none is
 abbrev pub form_in : {F : Type 0} → F → List (List ℕ × F) → Data → F

@@ -2,6 +2,7 @@ pub mod Values
 pub mod Members
 pub mod Forms
 pub mod Rows
+pub mod Kinds
 pub mod Nodes
 pub mod Phases
 pub mod Shape

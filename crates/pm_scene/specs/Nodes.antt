@@ -2,8 +2,6 @@
 use Rattle.std.specs.Prelude.{ℕ, min, Bool, true, false, not, ◌&&◌, List, is_some, Result, Ok, codes, string_bytes}
 use Rattle.serde_json.specs.Data.{Data}
 use Rattle.serde_json.specs.Find.{get, as_str, as_object}
-use Rattle.pm_device.specs.declared.kind.Kind.{Kind}
-use Rattle.pm_device.specs.declared.kind.Kind.TheVariants as kinds
 use Rattle.pm_plan.specs.Parts.{StatePart, number, array, points, NodePart, concentrator, limited, device, node_part}
 use Rattle.pm_plan.specs.Refusals.{need, check}
 use Rattle.pm_base.specs.Outcomes.{◌>>=◌, ◌>>◌, each_from}
@@ -13,10 +11,10 @@ use Rattle.pm_plan.specs.declared.refusal.Place.TheVariants.{Node}
 use Rattle.pm_plan.specs.declared.refusal.Refusal.{Refusal}
 use Rattle.pm_scene.specs.Values.{whole_at, text_at, elements_at, wholes_of, pairs_of}
 use Rattle.pm_scene.specs.Members.{members_check}
-use Rattle.pm_scene.specs.Forms.{kind_named, start_form}
-use Rattle.pm_scene.specs.Rows.{node_row}
-use Rattle.pm_scene.specs.declared.forms.KindName.{KindName}
-use Rattle.pm_scene.specs.declared.forms.KindName.TheVariants as names
+use Rattle.pm_scene.specs.Forms.{start_form}
+use Rattle.pm_scene.specs.Kinds.{kind_named, node_row, device_kind}
+use Rattle.pm_scene.specs.declared.kinds.KindName.{KindName}
+use Rattle.pm_scene.specs.declared.kinds.KindName.TheVariants as names
 use Rattle.pm_scene.specs.declared.forms.StartForm.{StartForm}
 use Rattle.pm_scene.specs.declared.forms.StartForm.TheVariants as starts
 use Rattle.pm_scene.specs.declared.shape.nodes.NamedNode.{NamedNode}
@@ -54,27 +52,6 @@ kind_at knows_limited place d = do
   kind ← need cause.UnknownKind place (kind_named text)
   check cause.UnknownKind place (not (names_limited kind && not knows_limited))
   Ok kind
-
--- the kind of a device with its parameters
-abbrev pub device_kind : KindName → Data → Kind
-device_kind names.Freezer d =
-    kinds.Freezer (whole_at (codes "low") d) (whole_at (codes "high") d) (whole_at (codes "power") d)
-    (whole_at (codes "warm") d) (whole_at (codes "cool") d)
-device_kind names.HeatPump d =
-    kinds.HeatPump (whole_at (codes "low") d) (whole_at (codes "high") d) (whole_at (codes "power") d)
-    (whole_at (codes "loss") d) (whole_at (codes "gain") d)
-device_kind names.Cogeneration d =
-    kinds.Cogeneration (whole_at (codes "low") d) (whole_at (codes "high") d) (whole_at (codes "power") d)
-    (whole_at (codes "loss") d) (whole_at (codes "gain") d)
-device_kind names.Battery d =
-    kinds.Battery (whole_at (codes "capacity") d) (whole_at (codes "charge") d) (whole_at (codes "discharge") d)
-    (whole_at (codes "spread") d)
-device_kind names.Solar d = kinds.Solar
-device_kind names.Load d = kinds.Load
-device_kind names.Objective d = kinds.Objective
-device_kind names.Manual d = kinds.Manual
-device_kind names.Concentrator d = kinds.Manual
-device_kind names.Limited d = kinds.Manual
 
 abbrev pub manual_start : StartForm → Data → StatePart
 manual_start starts.Demand d = array_in d

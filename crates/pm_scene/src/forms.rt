@@ -1,24 +1,9 @@
 ghost use Rattle.std.specs.Prelude.{◌≡◌};
 ghost use Rattle.serde_json.specs.View.{view};
-ghost use Rattle.pm_scene.specs.Forms.{kind_named, start_form, phase_form, event_form, value_form};
+ghost use Rattle.pm_scene.specs.Forms.{start_form, phase_form, event_form, value_form};
 
 use crate::values::has_member;
 use serde_json::Value;
-
-/// The kind that a node's text names.
-#[derive(Clone, Copy, PartialEq, Eq)]
-pub(crate) enum KindName {
-    Concentrator,
-    Limited,
-    Freezer,
-    HeatPump,
-    Cogeneration,
-    Battery,
-    Solar,
-    Load,
-    Objective,
-    Manual,
-}
 
 /// The form of a manual device's start.
 #[derive(Clone, Copy)]
@@ -48,25 +33,6 @@ pub(crate) enum ValueForm {
     Value,
     Demand,
     Points,
-}
-
-/// The kind that a text names.
-pub(crate) fn kind_named(text: &str) -> Option<KindName>
-    ensures { result ≡ kind_named text.now }
-{
-    match text {
-        "concentrator" => Some(KindName::Concentrator),
-        "limited" => Some(KindName::Limited),
-        "freezer" => Some(KindName::Freezer),
-        "heat_pump" => Some(KindName::HeatPump),
-        "cogeneration" => Some(KindName::Cogeneration),
-        "battery" => Some(KindName::Battery),
-        "solar" => Some(KindName::Solar),
-        "load" => Some(KindName::Load),
-        "objective" => Some(KindName::Objective),
-        "manual" => Some(KindName::Manual),
-        _ => None,
-    }
 }
 
 /// The form of a manual device's start: `demand` goes before `points`.

@@ -9,11 +9,13 @@
 //! 2. the tree (`tree`): names and parents;
 //! 3. the plan (`pm_plan`): limits, starts and events.
 //!
-//! The definitions in `specs/` stand in the same layers, the whole in `Scene`. The members of each kind of object stand in
-//! one table of the code (`rows`) and one of the definitions (`Rows`), and the same check goes by both.
+//! The definitions in `specs/` stand in the same layers, the whole in `Scene`. The members of each object stand in one table
+//! of the code (`kinds` for the nodes, `rows` for the others) and one of the definitions (`Kinds`, `Rows`), and the same
+//! check goes by both. `kinds` and `Kinds` have all that tells one kind of node from another.
 #![tactic(auto)]
 
 mod forms;
+mod kinds;
 mod law;
 mod members;
 mod rows;

@@ -11,7 +11,7 @@ use Rattle.pm_bid.specs.Bids.{AllWithinLimit, NeverRises, HaveSteps, zeros}
 use Rattle.pm_base.specs.Limits.{demand_limit, IsWithin}
 use Rattle.pm_device.specs.declared.kind.Kind.{Kind}
 use Rattle.pm_device.specs.declared.kind.Kind.TheVariants.{Freezer, HeatPump, Cogeneration, Battery, Solar, Load, Objective, Manual}
-use Rattle.pm_device.specs.Kinds.{is_valid, state_fits, power_limit}
+use Rattle.pm_device.specs.Kinds.{is_valid, state_fits, power_limit, is_thermal}
 use Rattle.pm_device.proofs.Between.{Between, is_power-tells, is_between-tells, is_thermal-tells, is_battery-tells}
 use Rattle.pm_strategy.specs.declared.levels.Levels.{Levels}
 use Rattle.pm_strategy.specs.Levels.{level_at, AreLevelsOf}
@@ -38,18 +38,22 @@ within_three : (a b c : Bool) (x y z : ℤ) → IsWithin demand_limit x → IsWi
     IsWithin demand_limit (if a then x else (if b then y else (if c then z else pos 0)))
 within_three a b c x y z hx hy hz = within_either a x _ hx (within_either b y _ hy (within_either c z (pos 0) hz (none-within demand_limit)))
 
+-- the power of a device that keeps a temperature
+rated_of : (low high power drift effect : ℤ) → IsTrue (is_thermal low high power drift effect) → Between (pos 0) (pos power_limit) power
+rated_of low high power drift effect valid = is_power-tells power (is_thermal-tells low high power drift effect valid).rated
+
 -- each demand of a kind lies within the limit
 pub demand_of-within : (kind : Kind) (state : ℤ) (last step : ℕ) → IsTrue (is_valid kind) → IsTrue (state_fits kind state) →
     IsWithin demand_limit (strategy_demand kind state last step)
 unfolding strategy_demand
 demand_of-within (Freezer low high power warm cool) state last step valid fits =
-    let rated = within_power power (is_power-tells power (is_thermal-tells low high power warm cool valid).rated) in
+    let rated = within_power power (rated_of low high power warm cool valid) in
     within_three _ _ _ _ _ _ rated (none-within demand_limit) rated
 demand_of-within (HeatPump low high power loss gain) state last step valid fits =
-    let rated = within_power power (is_power-tells power (is_thermal-tells low high power loss gain valid).rated) in
+    let rated = within_power power (rated_of low high power loss gain valid) in
     within_three _ _ _ _ _ _ rated (none-within demand_limit) rated
 demand_of-within (Cogeneration low high power loss gain) state last step valid fits =
-    let rated = within_delivery power (is_power-tells power (is_thermal-tells low high power loss gain valid).rated) in
+    let rated = within_delivery power (rated_of low high power loss gain valid) in
     within_three _ _ _ _ _ _ rated (none-within demand_limit) rated
 demand_of-within (Battery capacity charge discharge spread) state last step valid fits =
     let parameters = is_battery-tells capacity charge discharge spread valid in
@@ -121,35 +125,26 @@ pub demand_of-falls : (kind : Kind) (state : ℤ) (last step : ℕ) → IsTrue (
     ≤ℤ strategy_demand kind state last step
 unfolding strategy_demand
 demand_of-falls (Freezer low high power warm cool) state last step valid =
-    let rated = is_power-tells power (is_thermal-tells low high power warm cool valid).rated in
+    let rated = rated_of low high power warm cool valid in
     falls_either _ _ _ _ _ (same_falls power) (falls_either _ _ _ _ _ (same_falls (pos 0)) (up_to-falls power _ step rated))
 demand_of-falls (HeatPump low high power loss gain) state last step valid =
-    let rated = is_power-tells power (is_thermal-tells low high power loss gain valid).rated in
+    let rated = rated_of low high power loss gain valid in
     falls_either _ _ _ _ _ (same_falls power) (falls_either _ _ _ _ _ (same_falls (pos 0)) (up_to-falls power _ step rated))
 demand_of-falls (Cogeneration low high power loss gain) state last step valid =
-    let rated = is_power-tells power (is_thermal-tells low high power loss gain valid).rated in
+    let rated = rated_of low high power loss gain valid in
     falls_either _ _ _ _ _ (same_falls (neg_ℤ power))
     (falls_either _ _ _ _ _ (same_falls (pos 0)) (from_on-falls (neg_ℤ power) _ step (not_positive power rated)))
 demand_of-falls (Battery capacity charge discharge spread) state last step valid =
     let parameters = is_battery-tells capacity charge discharge spread valid in
     around-falls _ charge discharge spread step parameters.charge_within parameters.discharge_within
-demand_of-falls Solar output last step valid = same_falls (neg_ℤ output)
-demand_of-falls Load power last step valid = same_falls power
-demand_of-falls Objective target last step valid = same_falls (neg_ℤ target)
-demand_of-falls Manual number last step valid = same_falls (pos 0)
+demand_of-falls _ state last step valid = same_falls _
 
 -- the bid of a kind that has a strategy, and of a manual device
 pub bid_of-strategy : (kind : Kind) (state : ℤ) (arrays : List (List ℤ)) (steps : ℕ) → kind ≢ Manual →
     bid_of kind state arrays steps ≡ by_step steps (strategy_demand kind state (steps - 1))
 unfolding bid_of
-bid_of-strategy (Freezer low high power warm cool) state arrays steps other = refl
-bid_of-strategy (HeatPump low high power loss gain) state arrays steps other = refl
-bid_of-strategy (Cogeneration low high power loss gain) state arrays steps other = refl
-bid_of-strategy (Battery capacity charge discharge spread) state arrays steps other = refl
-bid_of-strategy Solar state arrays steps other = refl
-bid_of-strategy Load state arrays steps other = refl
-bid_of-strategy Objective state arrays steps other = refl
 bid_of-strategy Manual state arrays steps other = absurd (other refl)
+bid_of-strategy _ state arrays steps other = refl
 
 -- the bid of a manual device is the array with its state as number
 pub bid_of-manual : (kind : Kind) (state : ℤ) (arrays : List (List ℤ)) (steps : ℕ) → kind ≡ Manual →
@@ -173,15 +168,9 @@ get_or-holds P (x ∷ xs) (suc i) d all none = get_or-holds P xs i d (All-tail P
 bid_of-holds : (P : List ℤ → Type 0) (kind : Kind) (state : ℤ) (arrays : List (List ℤ)) (steps : ℕ) → (kind ≡ Manual → All P arrays) →
     P (zeros steps) → P (by_step steps (strategy_demand kind state (steps - 1))) → P (bid_of kind state arrays steps)
 unfolding bid_of
-bid_of-holds P (Freezer low high power warm cool) state arrays steps all none here = here
-bid_of-holds P (HeatPump low high power loss gain) state arrays steps all none here = here
-bid_of-holds P (Cogeneration low high power loss gain) state arrays steps all none here = here
-bid_of-holds P (Battery capacity charge discharge spread) state arrays steps all none here = here
-bid_of-holds P Solar state arrays steps all none here = here
-bid_of-holds P Load state arrays steps all none here = here
-bid_of-holds P Objective state arrays steps all none here = here
 bid_of-holds P Manual (pos number) arrays steps all none here = get_or-holds P arrays number (zeros steps) (all refl) none
 bid_of-holds P Manual (negsuc number) arrays steps all none here = none
+bid_of-holds P _ state arrays steps all none here = here
 
 -- the bid of a kind has the steps of the basis
 pub length-bid_of : (kind : Kind) (state : ℤ) (arrays : List (List ℤ)) (steps : ℕ) → HaveSteps steps arrays →

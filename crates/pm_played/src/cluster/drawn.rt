@@ -27,10 +27,10 @@ impl Draws {
 }
 
 /// Makes the first of many drawn acts that is legal; whether one was.
-fn make_drawn(alloc: Global, cluster: &mut Cluster, draws: &mut Draws) -> Result<bool, Fail> {
+fn make_drawn(cluster: &mut Cluster, draws: &mut Draws) -> Result<bool, Fail> {
     let many = act_count(cluster);
     for _try in 0..many {
-        if make(alloc, cluster, act_at(draws.below(many)))?.is_some() {
+        if make(cluster, act_at(draws.below(many)))?.is_some() {
             return Ok(true);
         }
     }
@@ -38,9 +38,9 @@ fn make_drawn(alloc: Global, cluster: &mut Cluster, draws: &mut Draws) -> Result
 }
 
 /// Makes the first of all acts that is legal; whether one was.
-fn make_any(alloc: Global, cluster: &mut Cluster) -> Result<bool, Fail> {
+fn make_any(cluster: &mut Cluster) -> Result<bool, Fail> {
     for place in 0..act_count(cluster) {
-        if make(alloc, cluster, act_at(place))?.is_some() {
+        if make(cluster, act_at(place))?.is_some() {
             return Ok(true);
         }
     }
@@ -48,9 +48,9 @@ fn make_any(alloc: Global, cluster: &mut Cluster) -> Result<bool, Fail> {
 }
 
 /// Makes acts until none is legal.
-fn settle(alloc: Global, cluster: &mut Cluster, draws: &mut Draws) -> Result<(), Fail> {
+fn settle(cluster: &mut Cluster, draws: &mut Draws) -> Result<(), Fail> {
     for _act in 0..1_000_000u32 {
-        if !make_drawn(alloc, cluster, draws)? && !make_any(alloc, cluster)? {
+        if !make_drawn(cluster, draws)? && !make_any(cluster)? {
             return Ok(());
         }
     }
@@ -91,8 +91,8 @@ fn count_on(
     draws: &mut Draws,
 ) -> Result<usize, Fail> {
     for (place, due) in ends.iter().enumerate() {
-        settle(alloc, cluster, draws)?;
-        if !rests_at(alloc, cluster, due)? || make(alloc, cluster, Act::Close)?.is_none() {
+        settle(cluster, draws)?;
+        if !rests_at(alloc, cluster, due)? || make(cluster, Act::Close)?.is_none() {
             return Ok(place);
         }
     }

@@ -27,8 +27,8 @@ pub fn open(alloc: Global, plan: &Plan) -> Result<Cluster<'_>, Fail> {
 }
 
 /// Makes an act, where it is legal.
-pub fn make(alloc: Global, cluster: &mut Cluster, act: Act) -> Result<Option<Line>, Fail> {
-    match cluster.act(alloc, act) {
+pub fn make(cluster: &mut Cluster, act: Act) -> Result<Option<Line>, Fail> {
+    match cluster.act(act) {
         Ok(line) => Ok(Some(line)),
         Err(ActFault::Illegal) => Ok(None),
         Err(ActFault::NoMemory) => Err(Fail::from("no memory")),

@@ -19,7 +19,7 @@ enum Order {
 }
 
 /// Tries each act once, but for the turns of all nodes only up to the first that is legal; whether one was.
-fn try_acts(alloc: Global, cluster: &mut Cluster, order: Order) -> Result<bool, Fail> {
+fn try_acts(cluster: &mut Cluster, order: Order) -> Result<bool, Fail> {
     let many = act_count(cluster);
     let mut moved = false;
     for place in 0..many {
@@ -28,7 +28,7 @@ fn try_acts(alloc: Global, cluster: &mut Cluster, order: Order) -> Result<bool, 
         } else {
             place
         };
-        if make(alloc, cluster, act_at(place))?.is_some() {
+        if make(cluster, act_at(place))?.is_some() {
             moved = true;
             if order != Order::RoundRobin {
                 return Ok(true);
@@ -39,9 +39,9 @@ fn try_acts(alloc: Global, cluster: &mut Cluster, order: Order) -> Result<bool, 
 }
 
 /// Makes acts until none is legal.
-fn settle(alloc: Global, cluster: &mut Cluster, order: Order) -> Result<(), Fail> {
+fn settle(cluster: &mut Cluster, order: Order) -> Result<(), Fail> {
     for _turn in 0..10_000u32 {
-        if !try_acts(alloc, cluster, order)? {
+        if !try_acts(cluster, order)? {
             return Ok(());
         }
     }
@@ -51,10 +51,10 @@ fn settle(alloc: Global, cluster: &mut Cluster, order: Order) -> Result<(), Fail
 /// Whether a phase cannot be closed before its changes are made, ends so, and can then be closed, by the call or an act.
 fn runs_phase(alloc: Global, cluster: &mut Cluster, order: Order, due: End) -> Result<bool, Fail> {
     let early = close(cluster);
-    settle(alloc, cluster, order)?;
+    settle(cluster, order)?;
     let right = ends_so(alloc, cluster, due)?;
     let closed = if order == Order::RoundRobin {
-        make(alloc, cluster, Act::Close)?.is_some()
+        make(cluster, Act::Close)?.is_some()
     } else {
         close(cluster)
     };

@@ -158,13 +158,13 @@ const ONLY_JOURNAL: [(Act, u32, Option<(u32, u32)>); 8] = [
 ];
 
 /// Whether each act in each form is illegal but for this one, also those of a node that the plan has not.
-fn others_are_illegal(alloc: Global, cluster: &mut Cluster, but: Act) -> Result<bool, Fail> {
-    if but != Act::Close && make(alloc, cluster, Act::Close)?.is_some() {
+fn others_are_illegal(cluster: &mut Cluster, but: Act) -> Result<bool, Fail> {
+    if but != Act::Close && make(cluster, Act::Close)?.is_some() {
         return Ok(false);
     }
     for place in 0..act_count(cluster).saturating_add(4) {
         let act = act_at(place);
-        if act != but && make(alloc, cluster, act)?.is_some() {
+        if act != but && make(cluster, act)?.is_some() {
             return Ok(false);
         }
     }
@@ -182,10 +182,10 @@ fn no_steps(cluster: &mut Cluster) -> Result<bool, Fail> {
 }
 
 /// The place of the first act of the journal that has another line, or beside which another act is legal.
-fn first_wrong(alloc: Global, cluster: &mut Cluster) -> Result<Option<usize>, Fail> {
+fn first_wrong(cluster: &mut Cluster) -> Result<Option<usize>, Fail> {
     for (place, (act, number, held)) in ONLY_JOURNAL.iter().enumerate() {
-        if !others_are_illegal(alloc, cluster, *act)?
-            || make(alloc, cluster, *act)? != Some(line_of(*act, *number, *held))
+        if !others_are_illegal(cluster, *act)?
+            || make(cluster, *act)? != Some(line_of(*act, *number, *held))
         {
             return Ok(Some(place));
         }
@@ -203,18 +203,18 @@ fn is_over(cluster: &mut Cluster) -> Result<bool, Fail> {
     )
 }
 
-fn makes_the_journal(alloc: Global, cluster: &mut Cluster) -> Result<bool, Fail> {
+fn makes_the_journal(cluster: &mut Cluster) -> Result<bool, Fail> {
     Ok(
         no_steps(cluster)?
-            && first_wrong(alloc, cluster)?.is_none()
-            && others_are_illegal(alloc, cluster, Act::Close)?
+            && first_wrong(cluster)?.is_none()
+            && others_are_illegal(cluster, Act::Close)?
             && is_over(cluster)?,
     )
 }
 
 fn has_one_journal(alloc: Global, plan: &Plan) -> Result<bool, Fail> {
     let mut cluster = open(alloc, plan)?;
-    makes_the_journal(alloc, &mut cluster)
+    makes_the_journal(&mut cluster)
 }
 
 #[test]

@@ -62,8 +62,8 @@ fn standing(cluster: &Cluster) -> (i64, usize) {
 }
 
 /// Whether an act makes the move of this line, or none where it is illegal.
-fn makes(alloc: Global, cluster: &mut Cluster, act: Act, due: Option<Line>) -> Result<bool, Fail> {
-    Ok(make(alloc, cluster, act)? == due)
+fn makes(cluster: &mut Cluster, act: Act, due: Option<Line>) -> Result<bool, Fail> {
+    Ok(make(cluster, act)? == due)
 }
 
 /// Whether the lowest node that has a move is this one, and its step makes the move of this line.
@@ -78,11 +78,9 @@ fn holds(cluster: &Cluster, device: u32, due: Option<(u32, u32, u32)>) -> Result
 
 fn is_right(alloc: Global, cluster: &mut Cluster, row: Row) -> Result<bool, Fail> {
     match row {
-        Row::Makes(act, number, held) => {
-            makes(alloc, cluster, act, Some(line_of(act, number, held)))
-        }
+        Row::Makes(act, number, held) => { makes(cluster, act, Some(line_of(act, number, held))) }
         Row::Steps(node, act, number, held) => steps_so(cluster, node, line_of(act, number, held)),
-        Row::Illegal(act) => makes(alloc, cluster, act, None),
+        Row::Illegal(act) => makes(cluster, act, None),
         Row::Next(node) => Ok(next_node(cluster) == Some(node)),
         Row::Rest => rest(cluster),
         Row::Holds(device, price) => holds(cluster, device, price),

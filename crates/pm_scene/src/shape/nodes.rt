@@ -3,14 +3,13 @@ ghost use Rattle.serde_json.specs.View.{view};
 ghost use Rattle.pm_plan.specs.Parts.{state_part, node_part};
 ghost use Rattle.pm_base.specs.Outcomes.{Gives};
 ghost use Rattle.pm_plan.specs.Refusals.{refusal_in};
-ghost use Rattle.pm_scene.specs.Nodes.{kind_at, device_kind, parent_in, node_of, nodes_of, named_part, manual_start, kind_part, start_part};
+ghost use Rattle.pm_scene.specs.Nodes.{kind_at, parent_in, node_of, nodes_of, named_part, manual_start, kind_part, start_part};
 
 use super::states::{read_demand, read_points};
-use crate::forms::{KindName, StartForm, kind_named, start_form};
+use crate::forms::{StartForm, start_form};
+use crate::kinds::{KindName, device_kind, kind_named, node_row};
 use crate::members::check_members;
-use crate::rows::node_row;
 use crate::values::{text_at, whole_at};
-use pm_device::Kind;
 use pm_plan::{Cause, NodeSpec, Place, PlanFault, Refusal, StateSpec};
 use serde_json::Value;
 use std::alloc::{AllocError, Global};
@@ -21,45 +20,6 @@ pub(crate) struct NamedNode {
     pub(crate) name: String,
     pub(crate) parent: String,
     pub(crate) spec: NodeSpec,
-}
-
-/// The kind of a device with its parameters.
-fn device_kind(kind: KindName, value: &Value) -> Kind
-    ensures { result ≡ device_kind kind (view value.now) }
-{
-    match kind {
-        KindName::Freezer => Kind::Freezer {
-            low: whole_at(value, "low"),
-            high: whole_at(value, "high"),
-            power: whole_at(value, "power"),
-            warm: whole_at(value, "warm"),
-            cool: whole_at(value, "cool"),
-        },
-        KindName::HeatPump => Kind::HeatPump {
-            low: whole_at(value, "low"),
-            high: whole_at(value, "high"),
-            power: whole_at(value, "power"),
-            loss: whole_at(value, "loss"),
-            gain: whole_at(value, "gain"),
-        },
-        KindName::Cogeneration => Kind::Cogeneration {
-            low: whole_at(value, "low"),
-            high: whole_at(value, "high"),
-            power: whole_at(value, "power"),
-            loss: whole_at(value, "loss"),
-            gain: whole_at(value, "gain"),
-        },
-        KindName::Battery => Kind::Battery {
-            capacity: whole_at(value, "capacity"),
-            charge: whole_at(value, "charge"),
-            discharge: whole_at(value, "discharge"),
-            spread: whole_at(value, "spread"),
-        },
-        KindName::Solar => Kind::Solar,
-        KindName::Load => Kind::Load,
-        KindName::Objective => Kind::Objective,
-        KindName::Concentrator | KindName::Limited | KindName::Manual => Kind::Manual,
-    }
 }
 
 /// The start of a manual device.

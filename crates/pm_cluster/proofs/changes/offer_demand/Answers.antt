@@ -17,12 +17,12 @@ use Rattle.pm_cluster.proofs.changes.offer_demand.Goals as goal
 
 pub parent_of-parent-requires : goal.parent_of-parent-requires
 parent_of-parent-requires c = record {
-  node = leaf_node (plan_lists c.args.plan.now) (lawful c.args.plan.now c.requires.sound) c.args.next.device c.requires.leaf;
+  node = leaf_node (plan_lists c.args.plan.now) (lawful c.args.plan.now c.requires.change.is_plan) c.args.next.device c.requires.change.leaf;
 }
 
 pub place_in_row-place-requires : goal.place_in_row-place-requires
 place_in_row-place-requires c = record {
-  node = leaf_node (plan_lists c.args.plan.now) (lawful c.args.plan.now c.requires.sound) c.args.next.device c.requires.leaf;
+  node = leaf_node (plan_lists c.args.plan.now) (lawful c.args.plan.now c.requires.change.is_plan) c.args.next.device c.requires.change.leaf;
 }
 
 pub offer_bid-requires-in-Some-clause-steps : goal.offer_bid-requires-in-Some-clause-steps
@@ -31,21 +31,22 @@ offer_bid-requires-in-Some-clause-steps c =
     let next = c.args.next in
     let member : next.member ≡ true = search rules in
     let given : c.in-Some.demand.now ≡ device_demand plan next.device next.number =
-    subst (λ g. IfSome (option_copied g) (λ demand. demand ≡ device_demand plan next.device next.number)) c.in-Some.is (c.requires.given member) in
-    ap length given ∙ demand_steps plan c.requires.sound next.device next.number
+    subst (λ g. IfSome (option_copied g) (λ demand. demand ≡ device_demand plan next.device next.number)) c.in-Some.is (c.requires.change.demand member) in
+    ap length given ∙ demand_steps plan c.requires.change.is_plan next.device next.number
     ∙ sym (read_steps plan (rows_of c.args.links.now.items) next.device c.parent_of-parent.result c.place_in_row-place.result
-    c.parent_of-parent.ensures.parent c.place_in_row-place.ensures.place c.requires.steps)
+    c.parent_of-parent.ensures.parent c.place_in_row-place.ensures.place c.requires.link.steps)
 
 pub fill_bid-requires-clause-valid : goal.fill_bid-requires-clause-valid
-fill_bid-requires-clause-valid c = kind_valid c.args.plan.now c.requires.sound c.args.next.device c.args.kind c.requires.kind
+fill_bid-requires-clause-valid c = kind_valid c.args.plan.now c.requires.change.is_plan c.args.next.device c.args.kind c.requires.change.its_kind
 
 pub fill_bid-requires-clause-fits : goal.fill_bid-requires-clause-fits
 fill_bid-requires-clause-fits c =
-    state_valid c.args.plan.now c.requires.sound c.args.next.device c.args.next.number c.args.kind c.args.next.state.0 c.requires.kind c.requires.change
-    c.requires.state
+    let change = c.requires.change in
+    state_valid c.args.plan.now change.is_plan c.args.next.device c.args.next.number c.args.kind c.args.next.state.0 change.its_kind change.planned
+    change.state_is
 
-pub returns-in_default-clause-offered : goal.returns-in_default-clause-offered
-returns-in_default-clause-offered c =
+pub returns-in_default : goal.returns-in_default
+returns-in_default c =
     let plan = c.args.plan.now in
     let next = c.args.next in
     let kind = c.args.kind in
@@ -53,16 +54,18 @@ returns-in_default-clause-offered c =
     let member : next.member ≡ true = search rules in
     let filled : c.fill_bid.new.out ≡ device_demand plan next.device next.number =
     c.fill_bid.ensures.bid
-    ∙ ap (λ (y : ℤ). bid_of kind y c.arrays.result.now (length c.args.spare.now)) c.requires.state
-    ∙ ap (λ (n : ℕ). bid_of kind z c.arrays.result.now n) c.requires.room
+    ∙ ap (λ (y : ℤ). bid_of kind y c.arrays.result.now (length c.args.spare.now)) c.requires.change.state_is
+    ∙ ap (λ (n : ℕ). bid_of kind z c.arrays.result.now n) c.requires.link.room
     ∙ ap (λ (a : List (List ℤ)). bid_of kind z a plan.basis.steps) c.arrays.ensures.arrays
-    ∙ sym (demand_of_member plan next.device next.number kind c.requires.kind (sym c.requires.member ∙ member)) in
-    offered_demand plan (rows_of c.args.links.now.items) (rows_of c.offer_bid-in_default.new.links.items) next.device
-    next.number c.parent_of-parent.result c.place_in_row-place.result next.member c.fill_bid.new.out c.parent_of-parent.ensures.parent
-    c.place_in_row-place.ensures.place member filled c.offer_bid-in_default.ensures.offered
+    ∙ sym (demand_of_member plan next.device next.number kind c.requires.change.its_kind (sym c.requires.change.member ∙ member)) in
+    record {
+      one = search rules;
+      offered = offered_demand plan (rows_of c.args.links.now.items)
+          (rows_of c.offer_bid-in_default.new.links.items) next.device
+          next.number c.parent_of-parent.result c.place_in_row-place.result next.member c.fill_bid.new.out c.parent_of-parent.ensures.parent
+          c.place_in_row-place.ensures.place member filled c.offer_bid-in_default.ensures.offered;
+      room = search rules;
+    }
 
 pub offer_bid-requires-clause-steps : goal.offer_bid-requires-clause-steps
 offer_bid-requires-clause-steps c = length-replicate _ _
-
-pub returns-then-not-next-clause-offered : goal.returns-then-not-next-clause-offered
-returns-then-not-next-clause-offered c = search rules

@@ -72,15 +72,15 @@ returns-then-parent-eq0 c =
 above : (c : After-place_in_row-place) → c.parent_of-parent.result < length c.args.concentrators.now.items
 above c = omega (arith, c.requires.told.above, c.parent_of-parent.ensures.parent)
 
-pub returns-in-None : goal.returns-in-None
-returns-in-None c =
-    let at = goal.at.returns-in-None c in
+pub unreachable-requires : goal.unreachable-requires
+unreachable-requires c =
+    let at = goal.at.unreachable-requires c in
     let none : slice_index_or c.args.concentrators.now.items c.parent_of-parent.result None ≡ None =
     concentrator_read c.args.concentrators.now.items c.parent_of-parent.result c.index-2.result.now
     (above at.After-place_in_row-place) c.index-2.ensures ∙ c.in-None.is in
     let some = c.requires.told.there (λ e. c.if-parent-eq0.false (c.parent_of-parent.ensures.parent ∙ e)) in
-    absurd (false≢true (sym (ap (λ (y : ℕ). is_some (slice_index_or c.args.concentrators.now.items y None))
-    (sym c.parent_of-parent.ensures.parent) ∙ ap is_some none) ∙ some))
+    false≢true (sym (ap (λ (y : ℕ). is_some (slice_index_or c.args.concentrators.now.items y None))
+    (sym c.parent_of-parent.ensures.parent) ∙ ap is_some none) ∙ some)
 
 inner_cache : (c : After-counter-in-Some-index-1) →
     c.cache-in-Some-index.result.now ≡ cache_in c.args.auctioneer.now c.args.concentrators.now.items c.parent_of-parent.result

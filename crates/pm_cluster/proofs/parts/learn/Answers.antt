@@ -30,8 +30,8 @@ learn-requires-in-Some c = record {
 pub returns-then-parent-eq0 : goal.returns-then-parent-eq0
 returns-then-parent-eq0 c = learnt_root _ _ _ _ _ _ _ c.if-parent-eq0.true c.requires.newer c.learn.ensures.learnt
 
-pub returns-in-Some : goal.returns-in-Some
-returns-in-Some c =
+pub returns : goal.returns
+returns c =
     learnt_inner c.args.auctioneer.now c.args.concentrators.now.items c.in-Some.concentrator _ c.args.parent c.args.place c.args.number
-    (option_copied c.args.demand) c.if-parent-eq0.false c.requires.parent (found (goal.at.returns-in-Some c).In-Some) c.requires.newer
+    (option_copied c.args.demand) c.if-parent-eq0.false c.requires.parent (found (goal.at.returns c).In-Some) c.requires.newer
     c.learn-in-Some.ensures.learnt

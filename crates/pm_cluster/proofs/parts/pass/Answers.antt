@@ -40,13 +40,13 @@ pass-requires-clause-step c =
     step_of None steps k lt = tt
     step_of (Some limits) steps k lt = lt
 
-pub returns-in-Some-clause-passed : goal.returns-in-Some-clause-passed
-returns-in-Some-clause-passed c =
-    rw (known (goal.at.returns-in-Some-clause-passed c).In-Some, gathered_same c.args.concentrators.now.items c.args.node c.pass.new.self c.requires.node)
+pub returns-clause-passed : goal.returns-clause-passed
+returns-clause-passed c =
+    rw (known (goal.at.returns-clause-passed c).In-Some, gathered_same c.args.concentrators.now.items c.args.node c.pass.new.self c.requires.node)
     c.pass.ensures.passed
 
-pub returns-in-Some-clause-alone : goal.returns-in-Some-clause-alone
-returns-in-Some-clause-alone c = one_concentrator c.args.concentrators.now.items c.args.node c.pass.new.self c.requires.node
+pub returns-clause-alone : goal.returns-clause-alone
+returns-clause-alone c = one_concentrator c.args.concentrators.now.items c.args.node c.pass.new.self c.requires.node
 
 items_are : (c : After-pass) → (with_items c.index_mut-row.result.now c.pass.new.downs).items ≡ c.pass.new.downs
 items_are c = with_items_is c.index_mut-row.result.now c.pass.new.downs (c.pass.ensures.prices.same_length ∙ c.deref_mut.ensures.len)
@@ -60,13 +60,13 @@ wrote c =
     (with_items c.index_mut-row.result.now c.pass.new.downs)
     (ap length (items_are c) ∙ c.pass.ensures.prices.same_length ∙ ap length c.deref_mut.ensures.value)
 
-pub returns-in-Some-clause-prices : goal.returns-in-Some-clause-prices
-returns-in-Some-clause-prices c =
-    let at = goal.at.returns-in-Some-clause-prices c in
+pub returns-clause-prices : goal.returns-clause-prices
+returns-clause-prices c =
+    let at = goal.at.returns-clause-prices c in
     let row = row_read (λ row. row.items) c.args.links.now.items c.args.node c.index_mut-row.result.now c.requires.row c.index_mut-row.ensures.value in
     let old_is = row ∙ sym c.deref_mut.ensures.value in
     let new_is = (wrote at.After-pass).1 ∙ items_are at.After-pass in
     rw (known at.In-Some, old_is, new_is) c.pass.ensures.prices
 
-pub returns-in-Some-clause-row : goal.returns-in-Some-clause-row
-returns-in-Some-clause-row c = (wrote (goal.at.returns-in-Some-clause-row c).After-pass).0
+pub returns-clause-row : goal.returns-clause-row
+returns-clause-row c = (wrote (goal.at.returns-clause-row c).After-pass).0

@@ -10,8 +10,8 @@ use Rattle.pm_cluster.specs.Waiting.{NothingToSend}
 use Rattle.pm_cluster.proofs.Waits.{nothing_is}
 use Rattle.pm_cluster.proofs.cluster.Cluster.can_send.Goals as goal
 
-pub returns-in-Some : goal.returns-in-Some
-returns-in-Some c =
+pub returns : goal.returns
+returns c =
     let plan = c.self.inside.plan.now in
     let x : ℕ = c.args.node.0 in
     let inside : x ≤ nodes (plan_lists plan) = subst (λ (v : ClusterValue). x ≤ nodes (plan_lists v.plan)) (sym c.self.view_is) c.requires.inside in

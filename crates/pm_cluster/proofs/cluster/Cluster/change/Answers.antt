@@ -2,6 +2,7 @@ use Rattle.std.proofs.Common.{◌≡◌, ◌∙◌, sym, ap, subst, ℕ, ℤ, tr
 use Rattle.std.specs.Prelude.{Some}
 use Rattle.std.proofs.lemmas.Option.{MatchOption-at_some, IfSome_then}
 use Rattle.pm_device.specs.declared.state.Next.{Next}
+use Rattle.pm_device.proofs.SameKinds.{same_kinds}
 use Rattle.pm_strategy.specs.Strategies.{bid_of}
 use Rattle.pm_market.specs.Lists.{is_leaf, IsLeaf}
 use Rattle.pm_plan.specs.Plans.{node, kind_of}
@@ -11,7 +12,7 @@ use Rattle.pm_cluster.specs.Acts.{IsNextOrNone}
 use Rattle.pm_cluster.specs.Clusters.{ClusterValue}
 use Rattle.pm_plan.proofs.MarketLists.{leaf_of_plan}
 use Rattle.pm_cluster.proofs.Making.{made_demand}
-use Rattle.pm_cluster.proofs.SameNext.{same_found, same_kind, not_differ, do_differ}
+use Rattle.pm_cluster.proofs.SameNext.{same_found, not_differ, do_differ}
 use Rattle.pm_cluster.proofs.cluster.Cluster.change.Goals as goal
 use Rattle.pm_cluster.proofs.cluster.Cluster.change.Goals.{After-next-due, After-own_demand}
 use Rattle.pm_cluster.proofs.cluster.Cluster.change.Goals.{then-ne-via-then-ne}
@@ -59,7 +60,7 @@ returns-then-ne-clause-refused c =
             do_differ _ _ (same_found c.next-due.result c.next-next.result) w.if-ne.ensures in
             inl (λ e. differs (e ∙ ap Some (sym c.next-next.ensures.next)))
         | then-ne-via-else-ne+then-ne-2 w ↦
-            let differs : c.kind-kind.result ≡ w.kind.result → ⊥ = do_differ _ _ (same_kind c.kind-kind.result w.kind.result) w.if-ne-2.ensures in
+            let differs : c.kind-kind.result ≡ w.kind.result → ⊥ = do_differ _ _ (same_kinds c.kind-kind.result w.kind.result) w.if-ne-2.ensures in
             inr (λ e.
             let Claim : ClusterValue → ℕ → Type 0 = λ v x. kind_of (node v.plan x) ≡ Some c.kind-kind.result in
             let read = subst (Claim c.args.self.now) (ap (λ (n : Next). n.device) c.next-next.ensures.next) (
@@ -75,7 +76,7 @@ next_is : (c : After-own_demand) → c.next-due.result ≡ Some c.next-next.resu
 next_is c = not_differ _ _ (same_found c.next-due.result c.next-next.result) c.if-ne.ensures
 
 kind_is : (c : After-own_demand) → c.kind-kind.result ≡ c.args.made.now.kind
-kind_is c = not_differ _ _ (same_kind c.kind-kind.result c.kind.result) c.if-ne-2.ensures ∙ c.kind.ensures.kind
+kind_is c = not_differ _ _ (same_kinds c.kind-kind.result c.kind.result) c.if-ne-2.ensures ∙ c.kind.ensures.kind
 
 kind_at : (c : After-own_demand) → kind_of (node c.args.self.now.plan c.next-next.result.device) ≡ Some c.args.made.now.kind
 kind_at c =

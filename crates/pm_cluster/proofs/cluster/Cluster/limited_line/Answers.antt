@@ -1,4 +1,5 @@
-use Rattle.std.proofs.Common.{◌≡◌, ◌∙◌, sym, ap, subst, ℕ, ℤ, None, is_some, arith, rules, w64, FitsSigned, to_z, of_z}
+use Rattle.std.specs.Option.{option_map}
+use Rattle.std.proofs.Common.{◌≡◌, ◌∙◌, sym, ap, subst, ℕ, ℤ, true, Option, None, Some, is_some, arith, rules, w64, FitsSigned, to_z, of_z}
 use Rattle.std.proofs.lemmas.Bool.{false≢true}
 use Rattle.std.proofs.lemmas.Int.{to_z-of_z}
 use Rattle.std.proofs.lemmas.List.{get_or_read}
@@ -16,6 +17,7 @@ use Rattle.pm_cluster.proofs.LimitedTold.{limited_of, line_told}
 use Rattle.pm_cluster.proofs.Opened.{limits_read}
 use Rattle.pm_cluster.proofs.cluster.Cluster.limited_line.Goals as goal
 use Rattle.pm_cluster.proofs.cluster.Cluster.limited_line.Goals.{After-aggregate-sum}
+use Rattle.pm_cluster.proofs.cluster.Cluster.limited_line.Goals.{in_default-via-in-Some+in_default, in_default-via-in_default}
 
 gathered_is : (c : After-aggregate-sum) → gathered_at c.self.inside.concentrators.items c.args.node.0 ≡ c.in-Some-Some.concentrator
 gathered_is c = gathered_known c.self.inside.concentrators.items c.args.node.0 c.in-Some-Some.concentrator
@@ -37,9 +39,9 @@ step_within-local-requires c =
       told.root_steps,
     )
 
-pub returns-in-Some-Some : goal.returns-in-Some-Some
-returns-in-Some-Some c =
-    let at = goal.at.returns-in-Some-Some c in
+pub returns : goal.returns
+returns c =
+    let at = goal.at.returns c in
     let fits : FitsSigned w64 c.at.result = search rules in
     let fits_floor : FitsSigned w64 c.in-Some-Some.floor = search rules in
     let fits_ceiling : FitsSigned w64 c.in-Some-Some.ceiling = search rules in
@@ -66,8 +68,19 @@ returns-in-Some-Some c =
           (to_z-of_z w64 c.at.result fits ∙ c.at.ensures.demand));
     }
 
-pub returns-in_default-2 : goal.returns-in_default-2
-returns-in_default-2 c =
-    let told = limited_of c.self.inside c.args.self.now c.self.view_is c.self.invariant c.args.node.0 c.requires.inside c.requires.limited in
-    let none = sym (get_or_read c.self.inside.concentrators.items c.args.node.0 c.index.result.now told.here c.index.ensures None) ∙ c.in_default.is-0 in
-    absurd (false≢true (sym (ap is_some none) ∙ told.there))
+-- limits that are none when they are read are none
+mapped_none : (o : Option Limits) → option_map {T = Limits} {U = ℤ × ℤ} (λ l. (l.floor, l.ceiling)) o ≡ None → is_some o ≡ true → ⊥
+mapped_none None none some = false≢true some
+mapped_none (Some l) none some = cc none
+
+pub unreachable-requires : goal.unreachable-requires
+unreachable-requires c =
+    let x : ℕ = c.args.node.0 in
+    let told = limited_of c.self.inside c.args.self.now c.self.view_is c.self.invariant x c.requires.inside c.requires.limited in
+    let limited = subst (λ (v : ClusterValue). is_some (limits_of (node v.plan x)) ≡ true) (sym c.self.view_is) c.requires.limited in
+    elim c.in_default.branch [
+      | in_default-via-in-Some+in_default w ↦ mapped_none (limits_of (node c.self.inside.plan.now x)) (sym c.limits.ensures ∙ w.in_default.is-1) limited
+      | in_default-via-in_default w ↦
+          let none = sym (get_or_read c.self.inside.concentrators.items x c.index.result.now told.here c.index.ensures None) ∙ w.in_default.is-0 in
+          false≢true (sym (ap is_some none) ∙ told.there)
+    ]

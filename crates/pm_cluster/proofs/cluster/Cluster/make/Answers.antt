@@ -1,4 +1,7 @@
-use Rattle.std.proofs.Common.{◌≡◌, ◌∙◌, sym, ap, subst, ℕ, ◌+◌, ◌<◌, ◌≤◌, ℤ, false, List, length, map, get_or, arith, refl}
+use Rattle.std.specs.Prelude.{IfSome}
+use Rattle.std.specs.Option.{option_copied}
+use Rattle.pm_offer.specs.Offers.{device_demand}
+use Rattle.std.proofs.Common.{◌≡◌, ◌∙◌, sym, ap, subst, ℕ, ◌+◌, ◌<◌, ◌≤◌, ℤ, false, true, List, length, map, get_or, arith, refl}
 use Rattle.std.proofs.lemmas.List.{get_or_read, length-map, map-set}
 use Rattle.std.proofs.Math.ListN.{set, length-set}
 use Rattle.pm_base.specs.Rows.{rows_of}
@@ -39,41 +42,39 @@ steps_are c = c.self.invariant.places.link_steps c.args.next.device (here c)
 
 pub offer_demand-requires-clause-change : goal.offer_demand-requires-clause-change
 offer_demand-requires-clause-change c =
-    within_changes c.self.inside.plan.now (core_of c.self.inside) c.args.next c.args.kind (follows (goal.at.offer_demand-requires-clause-change c).After-self)
-
-pub offer_demand-requires-clause-parent : goal.offer_demand-requires-clause-parent
-offer_demand-requires-clause-parent c =
     let plan = c.self.inside.plan.now in
-    let node = here (goal.at.offer_demand-requires-clause-parent c).After-self in
-    omega (
-      arith,
-      node.1,
-      (lawful plan c.self.invariant.is_plan).earlier c.args.next.device node,
-      c.self.invariant.places.all_links,
-      length-map c.self.inside.links.items (λ row. row.items),
-    )
+    let next = c.args.next in
+    let followed = follows (goal.at.offer_demand-requires-clause-change c).After-self in
+    record {
+      is_plan = c.self.invariant.is_plan;
+      leaf = followed.leaf;
+      its_kind = followed.its_kind;
+      planned = within_changes plan (core_of c.self.inside) next c.args.kind followed;
+      member = followed.its_next.member;
+      state_is = followed.its_next.state;
+      demand = subst (λ (v : ClusterValue). next.member ≡ true →
+          IfSome (option_copied c.args.given) (λ demand. demand ≡ device_demand v.plan next.device next.number)) (sym c.self.view_is) c.requires.given;
+    }
 
-pub offer_demand-requires-clause-place : goal.offer_demand-requires-clause-place
-offer_demand-requires-clause-place c =
+pub offer_demand-requires-clause-link : goal.offer_demand-requires-clause-link
+offer_demand-requires-clause-link c =
     let plan = c.self.inside.plan.now in
-    let node = here (goal.at.offer_demand-requires-clause-place c).After-self in
-    let above : parent (plan_lists plan) c.args.next.device ≤ nodes (plan_lists plan) =
-    omega (arith, node.1, (lawful plan c.self.invariant.is_plan).earlier c.args.next.device node) in
-    omega (
-      arith,
-      placed_in plan c.self.invariant.is_plan c.args.next.device node,
-      c.self.invariant.places.rows (parent (plan_lists plan) c.args.next.device) above,
-    )
-
-pub offer_demand-requires-clause-number : goal.offer_demand-requires-clause-number
-offer_demand-requires-clause-number c =
-    let plan = c.self.inside.plan.now in
-    new_number plan c.self.invariant.is_plan (core_of c.self.inside) c.self.invariant.stands c.args.next c.args.kind
-    (follows (goal.at.offer_demand-requires-clause-number c).After-self) (parent (plan_lists plan) c.args.next.device)
-    (place_of plan.entries c.args.next.device) refl refl
-
-pub offer_demand-requires-clause-steps : goal.offer_demand-requires-clause-steps
-offer_demand-requires-clause-steps c = steps_are (goal.at.offer_demand-requires-clause-steps c).After-self
+    let at = goal.at.offer_demand-requires-clause-link c in
+    let node = here at.After-self in
+    let lower = (lawful plan c.self.invariant.is_plan).earlier c.args.next.device node in
+    let above : parent (plan_lists plan) c.args.next.device ≤ nodes (plan_lists plan) = omega (arith, node.1, lower) in
+    record {
+      row = omega (arith, above, c.self.invariant.places.all_links, length-map c.self.inside.links.items (λ row. row.items));
+      place = omega (
+        arith,
+        placed_in plan c.self.invariant.is_plan c.args.next.device node,
+        c.self.invariant.places.rows (parent (plan_lists plan) c.args.next.device) above,
+      );
+      newer = new_number plan c.self.invariant.is_plan (core_of c.self.inside) c.self.invariant.stands c.args.next c.args.kind
+          (follows at.After-self) (parent (plan_lists plan) c.args.next.device) (place_of plan.entries c.args.next.device) refl refl;
+      steps = steps_are at.After-self;
+      room = c.self.invariant.spare;
+    }
 
 pub index-requires : goal.index-requires
 index-requires c = omega (arith, placed (goal.at.index-requires c).After-self, c.self.invariant.same_members)
