@@ -1,3 +1,5 @@
+//! Reads what the arguments of `measure` ask for.
+
 use crate::link::{LinkKind, MOST_BIDS};
 use crate::way::Way;
 use pm_envelope::number_up_to;

@@ -1,3 +1,5 @@
+//! Writes the lines that `measure` prints.
+
 use pm_plan::{PhaseEnd, Plan};
 use std::alloc::{AllocError, Global};
 

@@ -1,3 +1,5 @@
+//! The ways to find the ends of a plan, which `bench/` compares.
+
 use crate::drive::driven_ends;
 use crate::text::{ends_text, plan_text};
 use pm_plan::Plan;

@@ -1,3 +1,5 @@
+//! The agent of one device, which turns each change of the device into a bid.
+
 ghost use Rattle.std.specs.Prelude.{◌≡◌, length, IsTrue, IfOk};
 ghost use Rattle.pm_base.specs.Limits.{AreSteps};
 ghost use Rattle.pm_bid.specs.Bids.{HaveSteps};

@@ -1,3 +1,5 @@
+//! What an agent hands on: a change, the device's kind, and its demand afterwards.
+
 ghost use Rattle.std.specs.Prelude.{◌≡◌, length, IsTrue};
 ghost use Rattle.pm_bid.specs.Bids.{HaveSteps, zeros};
 ghost use Rattle.pm_device.specs.Kinds.{is_valid, state_fits};

@@ -1,3 +1,5 @@
+//! What is due for an input: its status, and the text that comes with it.
+
 ghost use Rattle.std.specs.Prelude.{◌≡◌, ◌≢◌, ℕ, List, All, IfOk, IfSome, IfNone};
 ghost use Rattle.pm_base.specs.Limits.{IsWithin, demand_limit};
 ghost use Rattle.pm_report.specs.Refusal.{refusal_line};

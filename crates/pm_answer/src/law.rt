@@ -1,3 +1,5 @@
+//! The law that a trace tells the journal of its run.
+
 ghost use Rattle.std.specs.Prelude.{◌≡◌, List};
 ghost use Rattle.pm_market.specs.declared.journal.Line.{Line};
 ghost use Rattle.pm_plan.specs.Plans.{PlanData};

@@ -1,3 +1,5 @@
+//! The statuses of the program, and their exit codes.
+
 ghost use Rattle.std.specs.Prelude.{◌≡◌};
 ghost use Rattle.pm_answer.specs.Codes.{status_code};
 

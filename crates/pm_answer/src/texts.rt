@@ -1,3 +1,5 @@
+//! Runs a plan, and writes the text that a command asks for.
+
 ghost use Rattle.std.specs.Prelude.{◌≡◌, ◌≢◌, ◌≤◌, [], All, IfOk, Err, false, length};
 ghost use Rattle.pm_base.specs.Limits.{most_phases, IsWithin, demand_limit};
 ghost use Rattle.pm_bid.specs.Bids.{NeverRises};

@@ -1,3 +1,5 @@
+//! The steps that answer some target, each with the least and the greatest of its targets.
+
 ghost use Rattle.std.specs.Prelude.{◌≡◌, ◌<◌, length, IfOk};
 ghost use Rattle.pm_base.specs.Limits.{most_steps};
 ghost use Rattle.pm_ask.specs.Curves.{least_of, greatest_of, are_crossed, break_at, breaks_of};

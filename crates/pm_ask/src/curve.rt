@@ -1,3 +1,5 @@
+//! The total of a cluster, asked for targets: the step and the total of each answer.
+
 ghost use Rattle.std.specs.Prelude.{◌≡◌, ℕ, ◌+◌, ◌^◌, ◌<◌, ◌≤◌, ◌↔◌, ℤ, List, length, All, IfOk, IfErr, OnOk};
 ghost use Rattle.std.specs.List.{AllPairs, Any};
 ghost use Rattle.pm_base.specs.Limits.{IsWithin, demand_limit};

@@ -1,3 +1,5 @@
+//! Why a total has no curve.
+
 ghost use Rattle.std.specs.Prelude.{◌≡◌};
 ghost use Rattle.pm_ask.specs.declared.fault.CurveFault.TheVariants.{NoMemory};
 

@@ -1,3 +1,5 @@
+//! Searches for the first step at which a total rises.
+
 ghost use Rattle.std.specs.Prelude.{◌≡◌, length};
 ghost use Rattle.pm_bid.specs.Checks.{first_rising};
 

@@ -1,3 +1,5 @@
+//! Searches for the first step at which a total is at most a target.
+
 ghost use Rattle.std.specs.Prelude.{◌≡◌, ℕ, ◌+◌, ◌^◌, ◌<◌, ◌≤◌, length};
 ghost use Rattle.pm_base.specs.Limits.{most_steps};
 ghost use Rattle.pm_bid.specs.Bids.{NeverRises};

@@ -1,3 +1,5 @@
+//! Reads one target: a whole number of watts within the limit of a demand.
+
 ghost use Rattle.std.specs.Prelude.{◌≡◌, ◌≢◌, ℤ, pos, ◌<ℤ◌, ◌∷◌, ◌++◌, IfSome, IfNone};
 ghost use Rattle.std.specs.Fmt.{signed_decimal};
 ghost use Rattle.pm_base.specs.Limits.{IsWithin, demand_limit};

@@ -1,3 +1,5 @@
+//! Why a text is no list of targets.
+
 ghost use Rattle.std.specs.Prelude.{◌≡◌};
 ghost use Rattle.pm_ask.specs.declared.target_fault.TargetsFault.TheVariants.{NoMemory};
 

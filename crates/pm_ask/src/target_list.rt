@@ -1,3 +1,5 @@
+//! Reads a list of targets, one a line.
+
 ghost use Rattle.std.specs.Prelude.{◌≡◌, ℕ, ℤ, List, IfOk, IfErr, IsErr};
 ghost use Rattle.pm_ask.specs.TargetLists.{IsListText, IsFirstBadLine, IsFaultOfText};
 

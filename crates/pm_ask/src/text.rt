@@ -1,3 +1,5 @@
+//! Writes the text of `ask`: the curve, then a line for each target.
+
 ghost use Rattle.std.specs.Prelude.{◌≡◌, ◌<◌, ◌++◌, codes, length, flat_map, All, IfOk, OnOk, string_bytes};
 ghost use Rattle.pm_base.specs.Limits.{IsWithin, demand_limit};
 ghost use Rattle.pm_ask.specs.Curves.{breaks_of};

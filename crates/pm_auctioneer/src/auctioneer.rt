@@ -1,3 +1,5 @@
+//! The auctioneer: it learns its children's bids, clears the market, and has a price for each child.
+
 ghost use Rattle.std.specs.Prelude.{◌≡◌, ◌+◌, ◌<◌, ◌≤◌, ◌^◌, true, false, length, IfOk, IfErr, OnErr, ◌||◌, not, nat_le};
 ghost use Rattle.std.specs.Option.{option_copied};
 ghost use Rattle.pm_base.specs.Limits.{AreSteps, most_nodes};

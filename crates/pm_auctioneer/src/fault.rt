@@ -1,3 +1,5 @@
+//! Why the auctioneer does not clear.
+
 use thiserror::Error;
 
 /// Why the market is not cleared.

@@ -1,3 +1,5 @@
+//! The limits of the market as constants, such as the most nodes and the window, for every crate.
+
 ghost use Rattle.std.specs.Prelude.{◌≡◌, pos};
 ghost use Rattle.pm_base.specs.Limits.{least_steps, most_steps, most_nodes, most_depth, window_size, price_limit, demand_limit, sum_limit, most_phases};
 ghost use Rattle.pm_base.specs.Limits.{most_events, most_changes};

@@ -1,3 +1,5 @@
+//! The prices of a market: equal steps from the least price to the greatest.
+
 ghost use Rattle.std.specs.Prelude.{◌≡◌, ◌<◌, ◌≤ℤ◌, ◌<ℤ◌, ◌*ℤ◌, pos, int_div, int_rem, not};
 ghost use Rattle.std.specs.Ordering.{int_eq};
 ghost use Rattle.pm_base.specs.Limits.{most_steps};

@@ -1,3 +1,5 @@
+//! Why three numbers are no basis, in the order of the tests.
+
 use thiserror::Error;
 
 /// Why there is no basis of these numbers. The causes are tested in this order.

@@ -1,3 +1,5 @@
+//! A bid with one demand for each step, and its sums, limits and clearing step.
+
 ghost use Rattle.std.specs.Prelude.{◌≡◌, ◌+◌, ◌*◌, ◌<◌, ◌≤◌, ◌≤ℤ◌, length, slice_set, pos, IfOk, vec_len};
 ghost use Rattle.pm_bid.specs.Bids.{demand_at, pairwise_sum, pairwise_difference, zeros, clamp, AllWithinLimit, NeverRises};
 ghost use Rattle.pm_base.specs.Limits.{AreSteps, most_steps, IsWithin, sum_limit, demand_limit};

@@ -1,3 +1,5 @@
+//! Adds, subtracts, clamps and clears demands step by step, and counts each element that it touches.
+
 ghost use Rattle.std.specs.Prelude.{◌≡◌, ◌+◌, ◌*◌, ◌≤ℤ◌, length};
 ghost use Rattle.pm_bid.specs.Bids.{pairwise_sum, pairwise_difference, zeros, clamp, AllWithinLimit};
 ghost use Rattle.pm_base.specs.Limits.{sum_limit, IsWithin};

@@ -1,3 +1,5 @@
+//! Searches for the first bad demand, and for the step at which demands cross a limit.
+
 ghost use Rattle.std.specs.Prelude.{◌≡◌, ◌+◌, ◌<◌, ◌≤◌, length};
 ghost use Rattle.pm_bid.specs.Checks.{first_rising, first_too_large};
 ghost use Rattle.pm_bid.specs.Clearing.{first_at_most, last_at_least};

@@ -1,3 +1,5 @@
+//! The account of one device or of the grid: its amount, and what it took and gave.
+
 ghost use Rattle.std.specs.Prelude.{◌≡◌, ◌*◌, ◌*ℤ◌, IsTrue};
 ghost use Rattle.pm_base.specs.Limits.{IsWithin, most_phases, price_limit, sum_limit};
 ghost use Rattle.pm_plan.specs.Kept.{are_minutes};

@@ -1,3 +1,5 @@
+//! The bill of a run: an account for each device and one for the grid, tick by tick.
+
 ghost use Rattle.std.specs.Prelude.{◌≡◌, ℕ, ◌+◌, ◌<◌, ◌+ℤ◌, true, length, IfOk, IsTrue};
 ghost use Rattle.pm_base.specs.Limits.{most_phases};
 ghost use Rattle.pm_tree.specs.Entries.{leaves_of};

@@ -1,3 +1,5 @@
+//! What a tick charges, read from the end of the phase before it.
+
 ghost use Rattle.std.specs.Prelude.{◌≡◌, ◌==◌, ◌≤◌, ◌<◌, [], All, IfOk, find, length};
 ghost use Rattle.pm_plan.specs.Plans.{group, phases};
 ghost use Rattle.pm_plan.specs.Kept.{IsPlan};

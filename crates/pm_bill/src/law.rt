@@ -1,3 +1,5 @@
+//! Laws: accounts are the sums of their ticks, and all amounts of a bill add up to 0.
+
 ghost use Rattle.std.specs.Prelude.{◌≡◌, ℕ, Bool, true, List, length, map};
 ghost use Rattle.pm_plan.specs.Plans.{PlanData, is_leaf};
 ghost use Rattle.pm_plan.specs.Kept.{IsPlan};

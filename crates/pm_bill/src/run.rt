@@ -1,3 +1,5 @@
+//! The bill of a run, from the ends of its phases.
+
 ghost use Rattle.std.specs.Prelude.{◌≡◌, IfOk};
 ghost use Rattle.pm_tree.specs.Entries.{leaves_of};
 ghost use Rattle.pm_plan.specs.States.{all_ends};

@@ -1,3 +1,5 @@
+//! What one device pays in a tick, and what one group comes to.
+
 /// What a device pays in a tick.
 #[derive(Clone, Copy, Debug, PartialEq, Eq)]
 pub struct Share {

@@ -1,3 +1,5 @@
+//! Adds the shares of a tick to the accounts, and sums the groups.
+
 ghost use Rattle.std.specs.Prelude.{◌≡◌, ◌≢◌, ◌*◌, ◌<◌, length, All, IsTrue};
 ghost use Rattle.std.specs.List.{AllPairs};
 ghost use Rattle.pm_base.specs.Limits.{IsWithin, most_phases, price_limit, demand_limit};

@@ -1,3 +1,5 @@
+//! Writes the lines of a bill.
+
 ghost use Rattle.std.specs.Prelude.{◌≡◌, ◌+◌, ◌≤◌, ◌++◌, length, OnOk, string_bytes};
 ghost use Rattle.pm_tree.specs.Entries.{leaves_of};
 ghost use Rattle.pm_bill.specs.Text.{account_line, account_lines, grid_line, ticks_line, devices};

@@ -1,3 +1,5 @@
+//! The value behind the lock of a run: a cluster, its journal, and the ends of its phases.
+
 ghost use Rattle.std.specs.Prelude.{◌≡◌, ◌≤◌, ◌↔◌, [], All, length, true, Some, IfOk, IsTrue, IfSome, MatchOption};
 ghost use Rattle.pm_market.specs.Lists.{IsLeaf, is_member};
 ghost use Rattle.pm_market.specs.State.{knowledge, clearings, cleared_cut};

@@ -1,3 +1,5 @@
+//! Makes one move on the board, and adds its line to the journal.
+
 ghost use Rattle.std.specs.Prelude.{◌≡◌, ◌≤◌, length, Ok, Some, None, true, false, IfOk, IfErr, IfSome, MatchOption};
 ghost use Rattle.pm_market.specs.Lists.{nodes};
 ghost use Rattle.pm_market.specs.declared.moves.Move.{Move};

@@ -1,3 +1,5 @@
+//! The newest bid of each child of a node, with their running sum.
+
 ghost use Rattle.std.specs.Prelude.{◌≡◌, ◌+◌, ◌*◌, ◌<◌, ◌≤◌, length, IfOk, OnOk, OnErr};
 ghost use Rattle.pm_bid.specs.Bids.{AllWithinLimit, demand_at, zeros};
 ghost use Rattle.pm_base.specs.Limits.{AreSteps, most_nodes, sum_limit, IsWithin};

@@ -1,3 +1,5 @@
+//! Why a child's bid is not taken.
+
 use thiserror::Error;
 
 /// Why a child's bid is not taken.

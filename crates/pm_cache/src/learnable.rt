@@ -1,3 +1,5 @@
+//! Tests whether a child's bid may be learnt, for callers whose messages no contract vouches for.
+
 ghost use Rattle.std.specs.Prelude.{◌≡◌, ◌+◌, ◌*◌, ◌<◌, ◌≤◌, ◌+ℤ◌, ◌-ℤ◌, true, false, IfSome, length};
 ghost use Rattle.std.specs.Option.{option_copied};
 ghost use Rattle.pm_base.specs.Limits.{sum_limit, IsWithin};

@@ -1,3 +1,5 @@
+//! Puts a bid into the link's cell for bids, and takes the newest from it, without a lock.
+
 ghost use Rattle.std.specs.Prelude.{◌≡◌, ◌<◌, All, IfOk, IfErr, IfSome, IfNone, length};
 ghost use Rattle.pm_cells.specs.Numbers.{newest_number};
 ghost use Rattle.pm_cells.specs.Calls.{PutsOne, TakesOne, LosesOne, FindsNone};

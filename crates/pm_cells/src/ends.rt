@@ -1,3 +1,5 @@
+//! The two ends of a link, each with the numbers of what it put and took.
+
 ghost use Rattle.std.specs.Prelude.{◌≡◌, ◌↔◌, IsTrue, Contains};
 ghost use Rattle.pm_cells.specs.Numbers.{newest_number};
 

@@ -1,3 +1,5 @@
+//! Why an end puts or takes nothing, such as a cell that the other end holds.
+
 use crate::message::UpMessage;
 use pm_session::PriceUpdate;
 use thiserror::Error;

@@ -1,3 +1,5 @@
+//! Opens a link with its two ends, and closes it once both are back.
+
 ghost use Rattle.std.specs.Prelude.{◌≡◌, ◌≤◌, IfOk};
 ghost use Rattle.pm_cells.specs.Numbers.{AreRising, AllAmong};
 ghost use Rattle.pm_cells.specs.Steps.{child_view, parent_view};

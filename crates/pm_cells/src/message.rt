@@ -1,3 +1,5 @@
+//! The bid and the price as they lie in a cell.
+
 use pm_bid::ArrayBid;
 use pm_session::PriceUpdate;
 use std::fmt;

@@ -1,3 +1,5 @@
+//! Puts a price into the link's cell for prices, and takes the newest from it, without a lock.
+
 ghost use Rattle.std.specs.Prelude.{◌≡◌, ◌≢◌, ◌<◌, All, Contains, IfOk, IfErr, IfSome, IfNone, Some, None, length};
 ghost use Rattle.pm_cells.specs.declared.message.Message.TheVariants as Messages;
 ghost use Rattle.pm_cells.specs.Numbers.{newest_number};

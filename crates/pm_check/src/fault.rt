@@ -1,3 +1,5 @@
+//! Why a trace is not valid, and at which line.
+
 ghost use Rattle.std.specs.Prelude.{◌≡◌};
 ghost use Rattle.pm_check.specs.declared.fault.CheckFault.TheVariants.{NoMemory};
 

@@ -1,3 +1,5 @@
+//! Judges the moves of a trace one by one, against the market of cuts.
+
 ghost use Rattle.std.specs.Prelude.{◌≡◌, ◌≢◌, ◌↔◌, ◌≤◌, true, false, length, IsTrue, IfOk, OnOk};
 ghost use Rattle.pm_market.specs.Lists.{phases};
 ghost use Rattle.pm_market.specs.State.{start};

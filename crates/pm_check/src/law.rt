@@ -1,3 +1,5 @@
+//! The law that a trace has one judgement.
+
 ghost use Rattle.std.specs.Prelude.{◌≡◌, ℕ, List};
 ghost use Rattle.pm_plan.specs.Plans.{PlanData};
 ghost use Rattle.pm_plan.specs.Kept.{IsPlan};

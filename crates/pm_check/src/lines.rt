@@ -1,3 +1,5 @@
+//! Takes the first whole line of a text.
+
 ghost use Rattle.std.specs.Prelude.{◌≡◌, ◌++◌, IfSome, IfNone};
 ghost use Rattle.pm_envelope.specs.Lines.{HasNoLineFeed};
 ghost use Rattle.pm_check.specs.Lines.{IsWholeLine};

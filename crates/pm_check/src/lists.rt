@@ -1,3 +1,5 @@
+//! Makes the market of cuts that a plan describes.
+
 ghost use Rattle.std.specs.Prelude.{◌≡◌, ◌-◌, ◌≤◌, true, length, map, replicate, IfOk};
 ghost use Rattle.std.specs.List.{range_with_len};
 ghost use Rattle.pm_base.specs.Rows.{rows_of};

@@ -1,3 +1,5 @@
+//! The step of each node at each clearing so far, by the plain auction over the clearing's cut.
+
 ghost use Rattle.std.specs.Prelude.{◌≡◌, ℕ, ◌+◌, ◌-◌, ◌<◌, ◌≤◌, true, [], length, slice_index_or, IfOk, OnOk};
 ghost use Rattle.pm_base.specs.Cuts.{cut_of};
 ghost use Rattle.pm_plan.specs.Plans.{is_leaf, phases, end_cut, group};

@@ -1,3 +1,5 @@
+//! Judges a whole trace: the report, the moves, and their number.
+
 ghost use Rattle.std.specs.Prelude.{◌≡◌, ◌↔◌, ℕ, ◌∷◌, List, [], codes, decimal, IsTrue, IfOk, IfErr};
 ghost use Rattle.pm_market.specs.State.{start};
 ghost use Rattle.pm_market.specs.Market.{market_state};

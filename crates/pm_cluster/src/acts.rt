@@ -1,3 +1,5 @@
+//! The cluster's calls that make one move of a node, one act, or a list of acts.
+
 ghost use Rattle.std.specs.Prelude.{◌≡◌, ◌+◌, ◌≤◌, if◌then◌else◌, [], length, Ok, Some, None, IfOk, IfErr, IfSome};
 ghost use Rattle.std.specs.Prelude.{MatchOption};
 ghost use Rattle.pm_market.specs.Lists.{nodes, is_leaf};

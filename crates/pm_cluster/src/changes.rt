@@ -1,3 +1,5 @@
+//! Makes the next change of a device, and offers its bid on the device's link.
+
 ghost use Rattle.std.specs.Prelude.{◌≡◌, ℤ, ◌<◌, ◌≤◌, List, length, not, true, IfOk, IfErr, IfSome};
 ghost use Rattle.std.specs.Prelude.{Some};
 ghost use Rattle.std.specs.Option.{option_copied};

@@ -1,3 +1,5 @@
+//! The cluster: the parts of all nodes over a plan, with what contracts see of them.
+
 ghost use Rattle.std.specs.Prelude.{◌≡◌, ℕ, ◌≤◌, true};
 ghost use Rattle.pm_market.specs.Lists.{nodes, IsLeaf};
 ghost use Rattle.pm_plan.specs.Market.{plan_lists};

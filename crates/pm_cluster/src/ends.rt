@@ -1,3 +1,5 @@
+//! Writes the end of a phase from what the nodes hold, and closes the open phase.
+
 ghost use Rattle.std.specs.Prelude.{◌≡◌, ℕ, ℤ, ◌+◌, ◌<◌, ◌≤◌, ◌++◌, pos, length, slice_index_or, true, false, is_some, Some, None};
 ghost use Rattle.std.specs.Prelude.{IfOk, IsTrue, IsFalse, ◌↔◌, if◌then◌else◌};
 ghost use Rattle.pm_market.specs.Lists.{nodes, parent, IsLeaf};

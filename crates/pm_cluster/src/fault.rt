@@ -1,3 +1,5 @@
+//! Why a change, an act or a list of acts is refused.
+
 ghost use Rattle.std.specs.Prelude.{◌≡◌};
 ghost use Rattle.pm_cluster.specs.declared.fault.ActFault.TheVariants as act_faults;
 ghost use Rattle.pm_cluster.specs.declared.fault.ApplyFault.TheVariants as apply_faults;

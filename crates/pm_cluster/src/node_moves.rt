@@ -1,3 +1,5 @@
+//! The moves of each node: learn, publish, pass, take and clear.
+
 ghost use Rattle.std.specs.Prelude.{◌≡◌, ℕ, ◌≤◌, Some, None, IfSome, MatchOption};
 ghost use Rattle.pm_market.specs.Lists.{nodes, parent, IsNode, IsLeaf, IsConcentrator};
 ghost use Rattle.pm_market.specs.State.{State};

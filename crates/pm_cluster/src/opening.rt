@@ -1,3 +1,5 @@
+//! Opens a cluster on a plan, with all the memory that its moves need.
+
 ghost use Rattle.std.specs.Prelude.{◌≡◌, ℕ, ◌+◌, ◌<◌, ◌≤◌, length, replicate, IfOk, map, Some, None};
 ghost use Rattle.pm_base.specs.Limits.{AreSteps};
 ghost use Rattle.pm_base.specs.Rows.{rows_of};

@@ -1,3 +1,5 @@
+//! Which node has a move to make, and what the cluster holds once none has.
+
 ghost use Rattle.std.specs.Prelude.{◌≡◌, ℕ, ◌<◌, ◌≤◌, ◌↔◌, length, true, Some, None, IsTrue, IsFalse, IfSome, MatchOption};
 ghost use Rattle.pm_basis.specs.Prices.{price_at};
 ghost use Rattle.pm_cache.specs.Cache.{aggregate_of};

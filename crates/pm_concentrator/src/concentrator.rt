@@ -1,3 +1,5 @@
+//! A concentrator: it learns its children's bids, makes a bid of their sum, and passes prices down.
+
 ghost use Rattle.std.specs.Prelude.{◌≡◌, ◌+◌, ◌-◌, ◌<◌, ◌≤◌, ◌^◌, length, option_map, Some, None, IfOk, IfErr, OnErr, IsTrue};
 ghost use Rattle.std.specs.Prelude.{IsFalse, ◌↔◌, unwrap_or};
 ghost use Rattle.std.specs.Option.{option_copied};

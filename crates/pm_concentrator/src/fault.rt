@@ -1,3 +1,5 @@
+//! Why a concentrator publishes nothing, in the order of the tests.
+
 use thiserror::Error;
 
 /// Why nothing is published. The causes are tested in this order.

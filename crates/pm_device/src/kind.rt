@@ -1,3 +1,5 @@
+//! The kinds of device with their parameters: which are valid, which states fit, which kinds tick.
+
 use crate::limits::{POWER_LIMIT, is_battery, is_between, is_power, is_temperature, is_thermal};
 use crate::state::DeviceState;
 

@@ -1,3 +1,5 @@
+//! The limits of the parameters of devices, and the tests that the kinds share.
+
 ghost use Rattle.std.specs.Prelude.{◌≡◌};
 ghost use Rattle.pm_device.specs.Kinds.{is_between, is_temperature, is_band, is_change, are_changes, is_power, is_thermal, is_battery};
 

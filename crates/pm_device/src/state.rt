@@ -1,3 +1,5 @@
+//! The state of a device, and what its next change makes of it.
+
 /// The state of a device: a temperature in the units of the cluster file (freezer, heat pump, cogeneration unit),
 /// a charge in watt-hours (battery), a power in watts (solar panel: its output; load: what it takes; objective: its
 /// target), or the number of an array bid, from 0 (manual device).

@@ -1,3 +1,5 @@
+//! What a tick makes of a device's state, kind by kind.
+
 ghost use Rattle.std.specs.Prelude.{◌≡◌, ℤ, pos, neg_ℤ, ◌≤ℤ◌, IsTrue};
 ghost use Rattle.pm_device.specs.Kinds.{is_valid, state_fits, is_between, is_temperature, is_change, power_limit, capacity_limit, minutes_limit};
 ghost use Rattle.pm_device.specs.Ticks.{tick, nearest_temperature, change_if, freezer_after, heated_after, charge_after};

@@ -1,3 +1,5 @@
+//! Splits an input into the cluster file that it begins with and the rest, for `check` and `ask`.
+
 ghost use Rattle.std.specs.Prelude.{◌≡◌, ℕ, List, IfSome, IfNone};
 ghost use Rattle.pm_envelope.specs.Envelopes.{IsEnvelope};
 

@@ -1,3 +1,5 @@
+//! Splits a text at its first line feed.
+
 ghost use Rattle.std.specs.Prelude.{IfSome, IfNone};
 ghost use Rattle.pm_envelope.specs.Lines.{IsFirstLine, HasNoLineFeed};
 

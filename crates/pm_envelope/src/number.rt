@@ -1,3 +1,5 @@
+//! Reads a decimal number up to a limit, with no sign and no leading zero.
+
 ghost use Rattle.std.specs.Prelude.{◌≡◌, ◌≢◌, ℕ, ◌≤◌, ◌==◌, ◌&&◌, nat_lt, length, slice_index, IfSome, IfNone, decimal};
 ghost use Rattle.std.specs.Option.{SomeIff};
 ghost use Rattle.std.specs.Str.Parse.{AllDigits, digits_value};

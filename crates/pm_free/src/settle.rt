@@ -1,3 +1,5 @@
+//! Runs a whole plan over links without a lock, beside the board whose report is printed.
+
 ghost use Rattle.std.specs.Prelude.{◌≡◌, IfOk};
 ghost use Rattle.pm_plan.specs.Plans.{phases};
 ghost use Rattle.pm_board.specs.Boards.{kept_ends, ends_to};

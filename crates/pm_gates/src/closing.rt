@@ -1,3 +1,5 @@
+//! A gate that counts the closings that it is told of.
+
 use pm_market::{Line, Move};
 use pm_nodes::Gate;
 use std::sync::atomic::{AtomicU64, Ordering};

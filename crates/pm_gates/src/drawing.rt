@@ -1,3 +1,5 @@
+//! A gate that delays each turn by a drawn time.
+
 use pm_market::Line;
 use pm_nodes::Gate;
 use std::sync::atomic::{AtomicU64, Ordering};

@@ -1,3 +1,5 @@
+//! Which nodes of a tree a gate holds back, and for how long.
+
 use crate::holding::HoldingGate;
 use pm_tree::{NodeId, Tree};
 use std::alloc::{AllocError, Global};

@@ -1,3 +1,5 @@
+//! A gate that delays each turn of chosen nodes.
+
 use pm_market::Line;
 use pm_nodes::Gate;
 use std::thread;

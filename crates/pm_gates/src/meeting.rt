@@ -1,3 +1,5 @@
+//! A gate at which two nodes wait for each other, which shows that two threads run.
+
 use pm_market::Line;
 use pm_nodes::Gate;
 use std::sync::atomic::{AtomicU64, Ordering};

@@ -1,3 +1,5 @@
+//! The schedules of trials, each of which makes a gate for a tree.
+
 use crate::drawing::DrawingGate;
 use crate::held::{HeldNodes, holding_gate};
 use crate::meeting::{MeetingGate, Moment};

@@ -1,3 +1,5 @@
+//! The gate of any schedule, as one type.
+
 use crate::drawing::DrawingGate;
 use crate::holding::HoldingGate;
 use crate::meeting::MeetingGate;

@@ -1,3 +1,5 @@
+//! A gate that keeps the lines that it is told, over another gate.
+
 use pm_market::Line;
 use pm_nodes::Gate;
 use std::alloc::Global;

@@ -1,3 +1,5 @@
+//! Makes the plan of a demo cluster from its size and number.
+
 ghost use Rattle.std.specs.Prelude.{◌≡◌, ◌<◌, ◌≤◌, true, false, Ok, Err, IfOk, IfErr, IsOk, OnOk};
 ghost use Rattle.pm_plan.specs.Plans.{phases};
 ghost use Rattle.pm_gen.specs.Demo.{is_size, demo_basis, demo_plan_from, demo_plan};

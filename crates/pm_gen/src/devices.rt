@@ -1,3 +1,5 @@
+//! Draws the devices of a demo cluster: their kinds, powers and starts.
+
 ghost use Rattle.std.specs.Prelude.{◌≡◌, ◌<◌, ◌≤◌, ◌+◌, ◌*◌, ◌++◌, ◌≤ℤ◌, pos, neg_ℤ, IfOk, OnOk, map, replicate};
 ghost use Rattle.pm_plan.specs.Parts.{node_part, concentrator, device as device_part, number as number_part};
 ghost use Rattle.pm_gen.specs.Draws.{next};

@@ -1,3 +1,5 @@
+//! The generator of numbers behind a demo.
+
 ghost use Rattle.std.specs.Prelude.{◌≡◌, ◌<◌};
 ghost use Rattle.pm_gen.specs.Draws.{next, draw_below, first_seed};
 

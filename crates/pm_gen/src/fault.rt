@@ -1,3 +1,5 @@
+//! Why no demo cluster was made.
+
 ghost use Rattle.std.specs.Prelude.{◌≡◌};
 ghost use Rattle.pm_gen.specs.declared.fault.GenFault.TheVariants.{NoMemory};
 

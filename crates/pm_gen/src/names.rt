@@ -1,3 +1,5 @@
+//! The names of the nodes of a demo cluster.
+
 ghost use Rattle.std.specs.Prelude.{◌≡◌, IfOk, string_bytes};
 ghost use Rattle.pm_gen.specs.Nodes.{concentrator_name, device_name, parent_name};
 

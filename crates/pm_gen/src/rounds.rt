@@ -1,3 +1,5 @@
+//! The phases of a demo: all devices join, then rounds of a tick and drawn leaves and joins.
+
 ghost use Rattle.std.specs.Prelude.{◌≡◌, ℕ, ◌<◌, ◌≤◌, ◌+◌, ◌-◌, ◌++◌, [], ◌∷◌, List, pos, false, true, not};
 ghost use Rattle.std.specs.Prelude.{if◌then◌else◌, length, map, replicate, slice_index_or, slice_set, IfOk, OnOk};
 ghost use Rattle.std.specs.List.{range_with_len};

@@ -1,3 +1,5 @@
+//! The tree of a demo cluster: its concentrators, and the devices below them.
+
 ghost use Rattle.std.specs.Prelude.{◌≡◌, ◌<◌, ◌≤◌, ◌++◌, IfOk, IfErr, OnOk};
 ghost use Rattle.pm_tree.specs.Entries.{entry_of, entries_of};
 ghost use Rattle.pm_gen.specs.Nodes.{concentrator_entry, device_entry, concentrator_entries, device_entries, demo_entries, concentrator_count};

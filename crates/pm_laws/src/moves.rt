@@ -1,3 +1,5 @@
+//! Laws of what each move adds to the cuts: what is known, what is learnt, and which clearings fall due.
+
 ghost use Rattle.std.specs.Prelude.{◌≡◌, ◌≢◌, ℕ, ◌+◌, ◌≤◌, ◌↔◌, ◌⊎◌, true, length};
 ghost use Rattle.pm_market.specs.Lists.{Lists, parent, IsNode, IsInner, IsConcentrator, IsLeafOf, Lawful};
 ghost use Rattle.pm_market.specs.State.{State, SameOn, DifferOn, cut_at, part, knowledge, clearings, addresses, addresses_of};

@@ -1,3 +1,5 @@
+//! The list of a run's moves, each with what a device then holds, within memory reserved before.
+
 ghost use Rattle.std.specs.Prelude.{◌≡◌, ◌+◌, ◌-◌, ◌<◌, ◌≤◌, ◌++◌, ◌∷◌, ◌↔◌, [], length, OnOk, OnErr, IsOk, IsNone};
 ghost use Rattle.std.specs.Prelude.{IsTrue, slice_get};
 

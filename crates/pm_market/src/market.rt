@@ -1,3 +1,5 @@
+//! The market of cuts as a plain program, which keeps every cut whole; `check` judges traces by it.
+
 ghost use Rattle.std.specs.Prelude.{◌≡◌, ◌+◌, [], map, vec_len, slice_index, slice_index_or};
 ghost use Rattle.pm_base.specs.Cuts.{cut_of};
 ghost use Rattle.pm_base.specs.Rows.{rows_of};

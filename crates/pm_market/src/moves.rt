@@ -1,3 +1,5 @@
+//! The moves of the market, and the acts, which are moves without their numbers.
+
 /// One step of the market. Nodes are numbered from 1, and 0 is the auctioneer.
 #[derive(Clone, Copy, Debug, PartialEq, Eq)]
 pub enum Move {

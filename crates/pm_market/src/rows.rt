@@ -1,3 +1,5 @@
+//! Lists and tables that count from 0 or from 1, in which a missing item has a default.
+
 ghost use Rattle.std.specs.Prelude.{◌≡◌, ◌==◌, ◌<◌, ◌||◌, ◌∷◌, ◌++◌, ℕ, false, [], length, replicate, slice_index_or};
 ghost use Rattle.std.specs.Prelude.{slice_set, IfOk, OnErr, OnOk};
 ghost use Rattle.pm_base.specs.Rows.{rows_of};

@@ -1,3 +1,5 @@
+//! Makes the agents of a plan's devices, and tests that a change suits its agent.
+
 ghost use Rattle.std.specs.Prelude.{◌≡◌, ◌+◌, length, true, false, None, IfOk, IfSome, IsTrue};
 ghost use Rattle.pm_bid.specs.Bids.{HaveSteps};
 ghost use Rattle.pm_device.specs.Kinds.{state_fits};

@@ -1,3 +1,5 @@
+//! Whether a number is that of a device of a plan.
+
 ghost use Rattle.std.specs.Prelude.{◌≡◌, true, false};
 ghost use Rattle.pm_market.specs.Lists.{IsLeaf};
 ghost use Rattle.pm_plan.specs.Market.{plan_lists};

@@ -1,3 +1,5 @@
+//! The gate that a run tells of each turn, and the gate that does nothing.
+
 use pm_market::Line;
 
 /// Is told of the turns of nodes, without the lock.

@@ -1,3 +1,5 @@
+//! Closes the links of a phase once their ends are back, and returns what the nodes own.
+
 ghost use Rattle.std.specs.Prelude.{◌≡◌, All, IfSome};
 ghost use Rattle.pm_phase.specs.Ends.{AreOf, IsUpOf, IsDownOf, IsPlaced, ArePlaced};
 

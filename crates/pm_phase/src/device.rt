@@ -1,3 +1,5 @@
+//! The work of a device's thread: its changes, the bid that waits, and the price that it holds.
+
 use pm_agent::DeviceAgent;
 use pm_bid::{ArrayBid, Steps};
 use pm_cells::{PriceUpdate, UpMessage};

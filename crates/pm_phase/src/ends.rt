@@ -1,3 +1,5 @@
+//! The calls of a node on its ends of links; what cannot be put now waits.
+
 ghost use Rattle.std.specs.Prelude.{◌≡◌};
 ghost use Rattle.pm_phase.specs.Ends.{IsUpOf, IsDownOf};
 

@@ -1,3 +1,5 @@
+//! A node with all that its thread owns, and the turns that it makes.
+
 ghost use Rattle.std.specs.Prelude.{◌≡◌, All, IfSome};
 ghost use Rattle.pm_phase.specs.Ends.{AreOf, IsUpOf, IsDownOf};
 

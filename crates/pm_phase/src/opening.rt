@@ -1,3 +1,5 @@
+//! Opens the links of a phase, and hands their ends to the nodes.
+
 ghost use Rattle.std.specs.Prelude.{◌≡◌, All, IfOk, [], ◌∷◌, ◌++◌};
 ghost use Rattle.pm_cells.specs.Ends.{TableId};
 ghost use Rattle.pm_phase.specs.Ends.{AreOf, IsUpOf, IsDownOf, ArePlaced};

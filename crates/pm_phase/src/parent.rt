@@ -1,3 +1,5 @@
+//! The work of a thread whose node has children: bids learnt, prices to put.
+
 use crate::parts::{Part, clear, next_bid, pass};
 use pm_cells::{PriceUpdate, UpMessage};
 use pm_plan::Plan;

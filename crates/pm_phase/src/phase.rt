@@ -1,3 +1,5 @@
+//! Runs one phase over links without a lock, and ends it on the caller's thread.
+
 ghost use Rattle.std.specs.Prelude.{◌≡◌, All};
 ghost use Rattle.pm_phase.specs.Ends.{AreOf};
 

@@ -1,3 +1,5 @@
+//! Starts a thread for each node of a phase, and gathers what the threads bring back.
+
 ghost use Rattle.std.specs.Prelude.{◌≡◌, All, IfOk};
 ghost use Rattle.std.specs.Thread.{IsSync};
 ghost use Rattle.pm_phase.specs.Ends.{AreOf};

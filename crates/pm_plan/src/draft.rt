@@ -1,3 +1,5 @@
+//! A plan so far, with what contracts see of it.
+
 ghost use Rattle.std.specs.Prelude.{◌≡◌, ◌<◌, ◌≤◌, length};
 ghost use Rattle.pm_plan.specs.Plans.{node as planned_node, parent, phases};
 

@@ -1,3 +1,5 @@
+//! The end of a phase: its price and total, and the lines of members and limited concentrators.
+
 ghost use Rattle.std.specs.Prelude.{◌≡◌, ◌+◌, ◌-◌, ◌<◌, ◌≤◌, ◌++◌, ◌∷◌, [], IfOk, length};
 ghost use Rattle.pm_basis.specs.Prices.{price_at};
 ghost use Rattle.pm_plan.specs.Ends.{no_end};

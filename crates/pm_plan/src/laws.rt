@@ -1,3 +1,5 @@
+//! Laws of plans: their states fit, their lists are lawful, and their numbers keep the limits.
+
 ghost use Rattle.std.specs.Prelude.{◌≡◌, ℕ, ◌≤◌, length, IsTrue, List, Ok};
 ghost use Rattle.pm_basis.specs.Prices.{BasisValue, IsBasis};
 ghost use Rattle.pm_tree.specs.Entries.{Entry, checked_tree, parents_of, leaves_of};

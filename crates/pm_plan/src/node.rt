@@ -1,3 +1,5 @@
+//! What a plan keeps of each node: a device's kind, start and changes, or a concentrator's limits.
+
 ghost use Rattle.std.specs.Prelude.{◌≡◌, [], OnOk, OnErr, true};
 ghost use Rattle.pm_plan.specs.Devices.{is_member_after};
 ghost use Rattle.pm_plan.specs.Plans.{is_device, limits_of, changes_of};

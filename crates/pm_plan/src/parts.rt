@@ -1,3 +1,5 @@
+//! The parts of a cluster file, from which a plan is made: states, nodes, events and phases.
+
 use pm_device::Kind;
 
 /// A state as a cluster file writes it.

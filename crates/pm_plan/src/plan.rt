@@ -1,3 +1,5 @@
+//! The plan of a run, as the crates above read it: basis, tree, kinds, limits, phases and changes.
+
 ghost use Rattle.std.specs.Prelude.{◌≡◌, ℕ, ◌≤◌, ◌<◌, ◌-◌, ◌^◌, length, Some, option_map, slice_index_or, true};
 ghost use Rattle.std.specs.List.{prefix_len};
 ghost use Rattle.pm_plan.specs.Plans.{node as planned_node, kind_of, start_of, limits_of, phases};

@@ -1,3 +1,5 @@
+//! One change that a plan asks of a device, and the phase that it belongs to.
+
 use pm_device::DeviceState;
 
 /// One change of a device that a plan asks for.

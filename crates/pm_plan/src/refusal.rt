@@ -1,3 +1,5 @@
+//! Why an input is refused, with the cause's code, and the place and the item at fault.
+
 ghost use Rattle.std.specs.Prelude.{◌≡◌, None, Some};
 ghost use Rattle.pm_plan.specs.Causes.{cause_code};
 ghost use Rattle.pm_plan.specs.declared.refusal.PlanFault.TheVariants.{NoMemory, Refused};

@@ -1,3 +1,5 @@
+//! Decides whether two plans are the same, for a board that comes out of a lock.
+
 ghost use Rattle.std.specs.Prelude.{◌≡◌, ◌<◌, ◌↔◌, IsTrue, length};
 ghost use Rattle.pm_bid.specs.Bids.{demand_at};
 

@@ -1,3 +1,5 @@
+//! Tests of the auctioneer: it clears once something is learnt, and not otherwise.
+
 ghost use Rattle.std.specs.Prelude.{◌≡◌, ◌+◌, ◌≤◌, length, IfOk};
 ghost use Rattle.pm_bid.specs.Bids.{AllWithinLimit};
 ghost use Rattle.pm_base.specs.Limits.{demand_limit};

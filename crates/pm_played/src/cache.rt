@@ -1,3 +1,5 @@
+//! Tests of caches: the sum follows the newest bids, and the count of touched elements is exact.
+
 ghost use Rattle.std.specs.Prelude.{◌≡◌, ◌<◌, ◌≤◌, length, IfOk};
 ghost use Rattle.std.specs.Option.{option_copied};
 ghost use Rattle.pm_bid.specs.Bids.{AllWithinLimit};

@@ -1,3 +1,5 @@
+//! Tests of links without a lock on one thread: the newest message is taken once.
+
 ghost use Rattle.std.specs.Prelude.{◌≡◌};
 
 mod two_threads;

@@ -1,3 +1,5 @@
+//! Tests of the market of cuts: held prices, full windows, and cuts published in several ways.
+
 use crate::same::same;
 use crate::shared::may_be_shared;
 use pm_market::{Act, Journal, Line, Market, Move};

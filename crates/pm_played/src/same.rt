@@ -1,3 +1,5 @@
+//! Ends a test if a case does not give the value that is due, and names the case.
+
 use std::fmt::Debug;
 use std::process::Abort;
 

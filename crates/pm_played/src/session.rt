@@ -1,3 +1,5 @@
+//! Tests of links, windows and ports: what waits, what is kept, and what a port drops.
+
 ghost use Rattle.std.specs.Prelude.{◌≡◌, length, IfOk};
 ghost use Rattle.pm_session.specs.Windows.{Keeps};
 

@@ -1,3 +1,5 @@
+//! Tests of the service of a stream: answers in pieces of each size, and faults at each call.
+
 ghost use Rattle.std.specs.Prelude.{◌≡◌, ◌+◌, ◌≤◌, length};
 
 use crate::same::same;

@@ -1,3 +1,5 @@
+//! Why a list of points is no bid, in the order of the tests.
+
 use thiserror::Error;
 
 /// Why a list of points is no bid. The causes are tested in this order. Positions begin at 0.

@@ -1,3 +1,5 @@
+//! The demand on the straight line between two points, rounded down.
+
 ghost use Rattle.std.specs.Prelude.{◌≡◌, ◌≤ℤ◌, ◌<ℤ◌, ◌*ℤ◌, pos, negsuc};
 ghost use Rattle.std.specs.Int.{int_div_euclid};
 ghost use Rattle.pm_points.specs.Points.{demand_between, IsBetween};

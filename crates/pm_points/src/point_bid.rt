@@ -1,3 +1,5 @@
+//! A bid of up to 64 points, and the array bid that it gives over a basis.
+
 ghost use Rattle.std.specs.Prelude.{◌≡◌, ◌<◌, length, IfOk};
 ghost use Rattle.pm_bid.specs.Bids.{AllWithinLimit, NeverRises};
 ghost use Rattle.pm_base.specs.Limits.{demand_limit, IsWithin, price_limit};

@@ -1,3 +1,5 @@
+//! Searches for the first bad point, and for the points around a price.
+
 ghost use Rattle.std.specs.Prelude.{◌≡◌, ◌≤◌, ◌<ℤ◌, length, All, IfSome, IfNone};
 ghost use Rattle.pm_basis.specs.Prices.{IsBasis};
 ghost use Rattle.pm_points.specs.Points.{last_at_most, IsLastAtMost, price_of_point};

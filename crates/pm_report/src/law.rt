@@ -1,3 +1,5 @@
+//! Laws: a trace tells its journal, and a line of a trace tells its move.
+
 ghost use Rattle.std.specs.Prelude.{◌≡◌, List, All};
 ghost use Rattle.pm_market.specs.declared.journal.Line.{Line};
 ghost use Rattle.pm_plan.specs.Plans.{PlanData};

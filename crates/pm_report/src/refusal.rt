@@ -1,3 +1,5 @@
+//! Writes the line of a refusal: its code, its place and the item at fault.
+
 ghost use Rattle.std.specs.Prelude.{◌≡◌, IfOk, string_bytes};
 ghost use Rattle.pm_report.specs.Refusal.{place_text, refusal_line};
 

@@ -1,3 +1,5 @@
+//! Writes the report: the lines of each phase's end, and the last line.
+
 ghost use Rattle.std.specs.Prelude.{◌≡◌, ◌<◌, ◌≤◌, ◌++◌, length, flat_map, All, IfOk, OnOk, string_bytes};
 ghost use Rattle.pm_base.specs.Limits.{most_phases};
 ghost use Rattle.pm_report.specs.Report.{IsEndOf, phase_line, phase_text, phase_texts, end_line, report_text, ends_of, member_text, limited_text};

@@ -1,3 +1,5 @@
+//! Writes the trace: the report, a line for each move, and their number.
+
 ghost use Rattle.std.specs.Prelude.{◌≡◌, ◌<◌, ◌≤◌, ◌++◌, length, flat_map, All, IfOk, IfSome, OnOk, string_bytes};
 ghost use Rattle.pm_base.specs.Limits.{most_phases};
 ghost use Rattle.pm_report.specs.Words.{text_line};

@@ -1,3 +1,5 @@
+//! The name of a node as texts write it.
+
 ghost use Rattle.std.specs.Prelude.{◌≡◌, ◌≤◌, length};
 ghost use Rattle.pm_report.specs.Words.{name};
 

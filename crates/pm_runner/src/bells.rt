@@ -1,3 +1,5 @@
+//! The numbers of the bells at which the threads of a run sleep.
+
 use std::alloc::{AllocError, Global};
 use std::sync::Condvar;
 

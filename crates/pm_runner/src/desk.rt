@@ -1,3 +1,5 @@
+//! What lies behind the lock: the board with its pending work, and the next task of a node.
+
 ghost use Rattle.std.specs.Prelude.{◌≡◌, length, IfSome};
 ghost use Rattle.pm_cluster.specs.Next.{IsNext};
 ghost use Rattle.pm_board.specs.Boards.{board_state};

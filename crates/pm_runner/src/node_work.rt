@@ -1,3 +1,5 @@
+//! Whether a node has work, from what is known of its messages and changes.
+
 /// What is known of the work of one node. Its parts are told in [`crate::pending`].
 #[derive(Clone, Copy)]
 pub(crate) struct NodeWork {

@@ -1,3 +1,5 @@
+//! Serves in rotation the nodes whose threads could not be started.
+
 use crate::worker::{Shared, Turn, Worker, end_turn, give_up, let_go, take_turn};
 use pm_market::Line;
 use pm_nodes::Gate;

@@ -1,3 +1,5 @@
+//! Runs a plan with a thread for each node, and settles what the threads leave.
+
 ghost use Rattle.std.specs.Prelude.{◌≡◌, IfOk};
 ghost use Rattle.pm_turns.specs.Settled.{IsSettled};
 

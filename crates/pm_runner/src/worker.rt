@@ -1,3 +1,5 @@
+//! The thread of one node: it sleeps, takes its turn under the lock, and wakes the others.
+
 ghost use Rattle.std.specs.Prelude.{◌≡◌, None, IfSome};
 ghost use Rattle.pm_cluster.specs.Next.{IsNext};
 ghost use Rattle.pm_board.specs.Boards.{board_state};

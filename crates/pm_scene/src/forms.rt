@@ -1,3 +1,5 @@
+//! The forms that a file chooses among by its words and members, such as those of events and states.
+
 ghost use Rattle.std.specs.Prelude.{◌≡◌};
 ghost use Rattle.serde_json.specs.View.{view};
 ghost use Rattle.pm_scene.specs.Forms.{start_form, phase_form, event_form, value_form};

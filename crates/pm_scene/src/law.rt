@@ -1,3 +1,5 @@
+//! The law that the plan of a file keeps the limits of the market.
+
 ghost use Rattle.std.specs.Prelude.{◌≡◌, ℕ, List, Ok};
 ghost use Rattle.pm_plan.specs.Plans.{PlanData};
 ghost use Rattle.pm_plan.specs.Kept.{IsPlan};

@@ -1,3 +1,5 @@
+//! Tests that a JSON object has exactly the members of its table, each of its form.
+
 ghost use Rattle.std.specs.Prelude.{◌≡◌, map, string_bytes};
 ghost use Rattle.std.specs.List.{list_all, list_any};
 ghost use Rattle.std.specs.Str.{bytes_eq};

@@ -1,3 +1,5 @@
+//! The tables of members: what each object of a cluster file must have.
+
 ghost use Rattle.std.specs.Prelude.{◌≡◌, map};
 ghost use Rattle.serde_json.specs.View.{view};
 ghost use Rattle.pm_scene.specs.Members.{row_of};

@@ -1,3 +1,5 @@
+//! Reads a cluster file: the plan of its bytes, or the first refusal.
+
 ghost use Rattle.std.specs.Prelude.{map};
 ghost use Rattle.serde_json.specs.View.{view};
 ghost use Rattle.pm_plan.specs.Building.{checked_plan};

@@ -1,3 +1,5 @@
+//! Makes the tree of names from the nodes of a file.
+
 ghost use Rattle.std.specs.Prelude.{◌≡◌, map, IfOk};
 ghost use Rattle.pm_tree.specs.Entries.{entries_of};
 ghost use Rattle.pm_plan.specs.Parts.{is_device, node_part};

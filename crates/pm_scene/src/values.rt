@@ -1,3 +1,5 @@
+//! Reads numbers, texts and lists out of JSON values.
+
 ghost use Rattle.std.specs.Prelude.{◌≡◌, map, IfOk};
 ghost use Rattle.serde_json.specs.View.{view};
 ghost use Rattle.pm_scene.specs.Values.{whole, elements, has_member, whole_at, text_at, elements_at, whole_or_zero, wholes_of, pair_of, pairs_of};

@@ -1,3 +1,5 @@
+//! The link of a child to its parent, with at most one bid and one price waiting on it.
+
 ghost use Rattle.std.specs.Prelude.{◌≡◌, ◌<◌, length, None, IfOk, MatchOption, IsFalse, ◌↔◌};
 ghost use Rattle.std.specs.Option.{option_copied};
 ghost use Rattle.pm_base.specs.Limits.{AreSteps};

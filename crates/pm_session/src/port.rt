@@ -1,3 +1,5 @@
+//! The device's end of its link: whether the device is joined, and the price that it holds.
+
 ghost use Rattle.std.specs.Prelude.{◌≡◌, Some, None};
 ghost use Rattle.pm_session.specs.Ports.{held_by};
 

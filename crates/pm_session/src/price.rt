@@ -1,3 +1,5 @@
+//! A price on its way down, and the price that a device holds.
+
 /// A price on its way down to a child: one clearing of the market.
 #[derive(Clone, Copy, Debug, PartialEq, Eq)]
 pub struct PriceUpdate {

@@ -1,3 +1,5 @@
+//! The record of what went into one number of a concentrator, with the sum if it has limits.
+
 ghost use Rattle.std.specs.Prelude.{◌≡◌, length, replicate, Some, IfOk};
 ghost use Rattle.std.specs.Option.{option_copied};
 ghost use Rattle.pm_bid.specs.Heads.{nothing_sent};

@@ -1,3 +1,5 @@
+//! The records of a concentrator's newest numbers, of which at most 8 are unanswered.
+
 ghost use Rattle.std.specs.Prelude.{◌≡◌, ◌+◌, ◌-◌, ◌<◌, length, Some, None, IfOk, IsTrue, ◌↔◌};
 ghost use Rattle.pm_base.specs.Limits.{AreSteps, window_size};
 ghost use Rattle.pm_session.specs.Windows.{Keeps, unanswered_count, record_of, newest_record, RecordSent};

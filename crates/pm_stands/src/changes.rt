@@ -1,3 +1,5 @@
+//! Laws: opening a cluster, a device's change and a close keep the relation to the market of cuts.
+
 ghost use Rattle.std.specs.Prelude.{ℕ, ℤ, List};
 ghost use Rattle.pm_tree.specs.Entries.{place_of};
 ghost use Rattle.pm_market.specs.Lists.{parent};

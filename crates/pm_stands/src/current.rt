@@ -1,3 +1,5 @@
+//! Laws: ports name the held price, and a quiet cluster is over all current bids.
+
 ghost use Rattle.std.specs.Prelude.{◌≡◌, ℕ, ◌<◌, true, Some};
 ghost use Rattle.pm_session.specs.Ports.{held_by};
 ghost use Rattle.pm_session.specs.declared.price.Held.{Held};

@@ -1,3 +1,5 @@
+//! Laws: learning, publishing and clearing keep the relation, and nothing pending means idle.
+
 ghost use Rattle.std.specs.Prelude.{◌≡◌, ℕ, ◌↔◌, false, List, Option};
 ghost use Rattle.pm_tree.specs.Entries.{place_of};
 ghost use Rattle.pm_market.specs.Lists.{parent, IsNode, IsConcentrator};

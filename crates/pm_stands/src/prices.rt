@@ -1,3 +1,5 @@
+//! Laws: a concentrator's pass and a device's take keep the relation.
+
 ghost use Rattle.std.specs.Prelude.{ℕ, List, Option};
 ghost use Rattle.pm_tree.specs.Entries.{place_of};
 ghost use Rattle.pm_market.specs.Lists.{parent, IsNode, IsLeaf, IsConcentrator};

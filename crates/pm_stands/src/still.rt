@@ -1,3 +1,5 @@
+//! The law that a node is still exactly when no node move of it is legal.
+
 ghost use Rattle.std.specs.Prelude.{ℕ, ◌≤◌, ◌↔◌};
 ghost use Rattle.pm_market.specs.Lists.{nodes};
 ghost use Rattle.pm_market.specs.State.{State};

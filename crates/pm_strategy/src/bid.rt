@@ -1,3 +1,5 @@
+//! Fills the bid of a device of any kind, from its levels or from a manual device's array.
+
 ghost use Rattle.std.specs.Prelude.{◌≡◌, ◌≤ℤ◌, pos, length, All, IsTrue};
 ghost use Rattle.pm_bid.specs.Bids.{zeros, HaveSteps, AllWithinLimit, NeverRises};
 ghost use Rattle.pm_base.specs.Limits.{demand_limit};

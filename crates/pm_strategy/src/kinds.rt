@@ -1,3 +1,5 @@
+//! The bid of each kind in each state, as at most three levels of demand.
+
 ghost use Rattle.std.specs.Prelude.{◌≡◌, ℕ, ◌≤◌, ◌*◌, pos, ◌≤ℤ◌, ◌<ℤ◌, IsTrue, MatchOption};
 ghost use Rattle.pm_base.specs.Limits.{demand_limit};
 ghost use Rattle.pm_device.specs.Kinds.{is_temperature, is_band, is_power, is_battery, is_between, spread_limit, is_valid, state_fits};

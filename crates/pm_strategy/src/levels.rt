@@ -1,3 +1,5 @@
+//! A demand with at most three levels, and the bid that it fills.
+
 ghost use Rattle.std.specs.Prelude.{◌≡◌, ℕ, ◌<◌, length};
 ghost use Rattle.pm_base.specs.Limits.{demand_limit, IsWithin, most_steps};
 ghost use Rattle.pm_strategy.specs.Steps.{by_step};

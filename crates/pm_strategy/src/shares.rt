@@ -1,3 +1,5 @@
+//! The step that divides a basis as a part divides a whole, rounded down or up.
+
 ghost use Rattle.std.specs.Prelude.{◌≡◌, ◌≤◌, ◌*◌, pos, ◌≤ℤ◌, ◌<ℤ◌};
 ghost use Rattle.pm_base.specs.Limits.{demand_limit};
 ghost use Rattle.pm_strategy.specs.Steps.{share, share_up, last_limit};

@@ -1,3 +1,5 @@
+//! The law that each text due has its cause, by its status.
+
 ghost use Rattle.std.specs.Prelude.{◌≡◌, ◌≢◌, ℕ, true, List, Option, Some, None};
 ghost use Rattle.pm_gen.specs.Demo.{is_size};
 ghost use Rattle.pm_headline.specs.Promises.{TellsTheMarket, RefutesFile};

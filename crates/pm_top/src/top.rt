@@ -1,3 +1,5 @@
+//! The one call of the program: it reads the input, does the command and writes the answer.
+
 ghost use Rattle.std.specs.Prelude.{◌≡◌, ◌⊎◌, ◌<◌, ◌≤◌, ℕ, List, length, map, string_bytes, None, Some, IfSome, ◌≢◌, ◌++◌};
 ghost use Rattle.std.specs.Prelude.{[], true};
 ghost use Rattle.std.specs.Io.KnownBytes.{Appends};

@@ -1,3 +1,5 @@
+//! One entry of a tree as its maker lists it: a name, the parent's name, and whether it is a device.
+
 /// One entry of a tree: a device or a concentrator.
 #[derive(Debug, Drop)]
 pub struct TreeEntry {

@@ -1,3 +1,5 @@
+//! Why a list of entries is no tree, and which node is at fault.
+
 ghost use Rattle.std.specs.Prelude.{◌≡◌};
 ghost use Rattle.pm_tree.specs.declared.fault.TreeFault.TheVariants.{NoMemory};
 

@@ -1,3 +1,5 @@
+//! Checks the entries of a tree one after another, and gives each its row of the node table.
+
 ghost use Rattle.std.specs.Prelude.{◌≡◌, ◌+◌, ◌<◌, ◌≤◌, [], ◌∷◌, ◌++◌, length, map, take, slice_get, IfOk, IfErr, OnOk, Some};
 ghost use Rattle.std.specs.Prelude.{None, ◌⊎◌, string_bytes, option_map, position};
 ghost use Rattle.std.specs.Str.{bytes_eq};

@@ -1,3 +1,5 @@
+//! The law that a child and its place among its parent's children name each other.
+
 ghost use Rattle.std.specs.Prelude.{◌≡◌, ℕ, ◌≤◌, length, slice_get, List, Some};
 ghost use Rattle.pm_tree.specs.Entries.{Entry, parent_of, children_of, place_of};
 

@@ -1,3 +1,5 @@
+//! Derives the children, the places and the leaves below each node from the node table.
+
 ghost use Rattle.std.specs.Prelude.{◌≡◌, ℕ, ◌+◌, ◌<◌, ◌≤◌, [], ◌∷◌, ◌++◌, length, slice_index_or, slice_set, IfOk, OnOk};
 ghost use Rattle.pm_base.specs.Limits.{most_nodes};
 ghost use Rattle.pm_tree.specs.Shape.{children_at, leaves_below_at, place_at, IsTree};

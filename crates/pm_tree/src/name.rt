@@ -1,3 +1,5 @@
+//! The form of a name: 1 to 32 bytes, a letter first, then letters, digits, `_` and `-`.
+
 ghost use Rattle.std.specs.Prelude.{◌≡◌};
 ghost use Rattle.std.specs.List.{list_all};
 ghost use Rattle.pm_tree.specs.Names.{is_name, is_name_byte, is_rest_of_name, has_name_form};

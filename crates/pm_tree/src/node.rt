@@ -1,3 +1,5 @@
+//! The number of a node, and the row that the tree keeps of it.
+
 /// The number of a node: 0 is the auctioneer, and 1, 2, .. are the entries in list order.
 #[derive(Clone, Copy, Debug, PartialEq, Eq, PartialOrd, Ord, Hash)]
 pub struct NodeId(pub u32);

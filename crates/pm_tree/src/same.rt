@@ -1,3 +1,5 @@
+//! Compares two lists of entries.
+
 ghost use Rattle.std.specs.Prelude.{◌≡◌, ◌↔◌, IsTrue};
 ghost use Rattle.pm_tree.specs.Entries.{entry_of, entries_of};
 

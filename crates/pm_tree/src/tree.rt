@@ -1,3 +1,5 @@
+//! The tree of a cluster: parents, children, leaves and depths, as every higher crate reads them.
+
 ghost use Rattle.std.specs.Prelude.{◌≡◌, ◌<◌, ◌≤◌, ◌⊎◌, ◌==◌, ◌↔◌, IsTrue, length, false, Ok, Err, option_map};
 ghost use Rattle.pm_base.specs.Limits.{most_nodes, most_depth};
 ghost use Rattle.pm_tree.specs.Entries.{entries_of, checked_tree, node_named, name_of, parent_of, is_leaf_at, depth_of, children_of, leaves_below_of, place_of};

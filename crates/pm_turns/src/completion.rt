@@ -1,3 +1,5 @@
+//! Finishes on the caller's thread what other threads left of a run.
+
 ghost use Rattle.std.specs.Prelude.{◌≡◌, IfOk};
 ghost use Rattle.pm_turns.specs.Settled.{IsSettled};
 ghost use Rattle.pm_turns.specs.Turns.{Continues};

@@ -1,3 +1,5 @@
+//! The newest line of a board's journal.
+
 ghost use Rattle.std.specs.Prelude.{◌≡◌, ◌-◌, length, slice_get};
 
 use pm_board::Board;

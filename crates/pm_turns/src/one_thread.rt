@@ -1,3 +1,5 @@
+//! Makes all moves of a run on one thread, in a fixed order.
+
 ghost use Rattle.std.specs.Prelude.{◌≡◌, ◌≢◌, ◌<◌, ◌≤◌, ℕ, ◌+◌, length, true, false, Some, None, IfOk, IfErr, IfSome, MatchOption};
 ghost use Rattle.pm_market.specs.Lists.{nodes, IsLeaf};
 ghost use Rattle.pm_market.specs.Moves.{Idle};

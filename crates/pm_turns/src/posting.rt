@@ -1,3 +1,5 @@
+//! Posts a change that an agent made, and tells which refusal it met.
+
 ghost use Rattle.std.specs.Prelude.{◌≡◌, ◌⊎◌, length, Some, None};
 ghost use Rattle.pm_market.specs.Lists.{IsLeaf};
 ghost use Rattle.pm_market.specs.declared.moves.Move.{Move};

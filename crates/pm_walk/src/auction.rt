@@ -1,3 +1,5 @@
+//! The plain auction over rising cuts, by which `check` finds the step of each node at a clearing.
+
 ghost use Rattle.std.specs.Prelude.{◌≡◌, ℕ, ◌-◌, ◌≤◌, true, IfOk};
 ghost use Rattle.pm_base.specs.Cuts.{cut_of};
 ghost use Rattle.pm_plan.specs.Plans.{PlanData, is_leaf, phases, end_cut};

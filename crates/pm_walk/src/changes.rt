@@ -1,3 +1,5 @@
+//! Makes the next changes of a device, and its demand after them.
+
 ghost use Rattle.std.specs.Prelude.{◌≡◌, ◌+◌, ◌-◌, ◌<◌, ◌≤◌, IsTrue, true, length};
 ghost use Rattle.pm_base.specs.Limits.{demand_limit, IsWithin, most_changes};
 ghost use Rattle.pm_device.specs.Kinds.{is_valid, state_fits};

@@ -1,3 +1,5 @@
+//! Clears the plain auction of a standing: total, step, group steps and powers.
+
 ghost use Rattle.std.specs.Prelude.{◌≡◌, ◌+◌, ◌<◌, length, IfOk, replicate, pos};
 ghost use Rattle.pm_plan.specs.Auction.{plain_step};
 ghost use Rattle.pm_plan.specs.States.{state};

@@ -1,3 +1,5 @@
+//! The lines of a phase's end, read from a standing and its auction.
+
 ghost use Rattle.std.specs.Prelude.{◌≡◌, ◌≤◌, length, IfOk};
 ghost use Rattle.pm_plan.specs.Auction.{member_line, limited_line};
 ghost use Rattle.pm_plan.specs.States.{state, end_of};

@@ -1,3 +1,5 @@
+//! Advances a standing to a cut that is nowhere lower.
+
 ghost use Rattle.std.specs.Prelude.{◌≡◌, ◌≢◌, ℕ, ◌-◌, ◌≤◌, true, length, IfOk};
 ghost use Rattle.pm_base.specs.Cuts.{cut_of};
 ghost use Rattle.pm_plan.specs.Plans.{is_leaf, phases, end_cut};

@@ -1,3 +1,5 @@
+//! Walks a plan's phases without messages: the ends of all phases, or the end over a cut.
+
 ghost use Rattle.std.specs.Prelude.{◌≡◌, ℕ, ◌-◌, ◌≤◌, length, map, IfOk, OnOk};
 ghost use Rattle.pm_plan.specs.Plans.{phases, change_count};
 ghost use Rattle.pm_plan.specs.States.{end_of, all_ends};

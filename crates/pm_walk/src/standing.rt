@@ -1,3 +1,5 @@
+//! How far a run has come, with the demands of all nodes and the sum of each group.
+
 ghost use Rattle.std.specs.Prelude.{◌≡◌, ◌≢◌, ℕ, ◌-◌, ◌≤◌, length, replicate, slice_set, true, false, IfOk};
 ghost use Rattle.pm_base.specs.Limits.{AreSteps};
 ghost use Rattle.pm_bid.specs.Bids.{zeros};

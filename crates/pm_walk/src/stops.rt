@@ -1,3 +1,5 @@
+//! Makes the changes of a phase only as far as a cut goes.
+
 ghost use Rattle.std.specs.Prelude.{◌≡◌, ◌-◌, ◌≤◌, length, min, IfOk, true};
 ghost use Rattle.pm_plan.specs.Plans.{is_leaf, phases, end_cut};
 ghost use Rattle.pm_plan.specs.Auction.{power};

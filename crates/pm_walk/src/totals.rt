@@ -1,3 +1,5 @@
+//! Adds up what the groups announce, and finds the step and the power of each node.
+
 ghost use Rattle.std.specs.Prelude.{◌≡◌, ◌-◌, ◌<◌, ◌≤◌, length, Some};
 ghost use Rattle.pm_plan.specs.Plans.{node, limits_of};
 ghost use Rattle.pm_plan.specs.Auction.{announcement, total, local_step_of_group, power};

@@ -1,3 +1,5 @@
+//! The answers of the auctioneer, and the bytes of each.
+
 ghost use Rattle.std.specs.Prelude.{◌≡◌, ◌+◌, ◌<◌, ◌≤◌, ◌++◌, length, vec_len, vec_capacity, OnOk, OnErr};
 ghost use Rattle.pm_wire.specs.Answers.{answer_bytes};
 

@@ -1,3 +1,5 @@
+//! Takes a stream in pieces of any size, and gives its whole frames.
+
 ghost use Rattle.std.specs.Prelude.{◌≡◌, ◌+◌, ◌*◌, ◌<◌, ◌≤◌, ◌++◌, ◌⊎◌, ℕ, List, true, length, drop, vec_len};
 ghost use Rattle.std.specs.Prelude.{IfOk, IfErr, IfSome, IfNone, OnOk, OnErr};
 ghost use Rattle.pm_wire.specs.Frames.{frame_bytes, MayStand, IsUnfinished, BeginsBadly};

@@ -1,3 +1,5 @@
+//! Why a decoder gives no frame.
+
 ghost use Rattle.std.specs.Prelude.{◌≡◌};
 ghost use Rattle.pm_wire.specs.declared.fault.DecodeFault.TheVariants.{NoMemory};
 

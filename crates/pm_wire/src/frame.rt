@@ -1,3 +1,5 @@
+//! The frames that children send.
+
 use pm_basis::Basis;
 use pm_bid::ArrayBid;
 

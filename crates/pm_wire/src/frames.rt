@@ -1,3 +1,5 @@
+//! Takes each piece of the stream, and appends the answers to its whole frames.
+
 ghost use Rattle.std.specs.Prelude.{◌≡◌, ◌+◌, ◌*◌, ◌<◌, ◌≤◌, ◌++◌, ℕ, List, [], length, OnOk, IfErr};
 ghost use Rattle.pm_wire.specs.declared.frame.Frame.{Frame};
 ghost use Rattle.pm_wire.specs.Frames.{IsUnfinished, BeginsBadly};

@@ -1,3 +1,5 @@
+//! Laws: a stream has one reading, its answers follow from it, and an early end holds a beginning.
+
 ghost use Rattle.std.specs.Prelude.{◌≡◌, ℕ, ◌<◌, List, ◌++◌, length, Option, Some, None};
 ghost use Rattle.pm_wire.specs.declared.frame.Frame.{Frame};
 ghost use Rattle.pm_wire.specs.Streams.{IsDone, IsRefused, IsAnswered, FailsReading, IsLongStream, IsCutShort, IsBegun};

@@ -1,3 +1,5 @@
+//! Reads the frame at the front of some bytes, or tells why there is none.
+
 ghost use Rattle.std.specs.Prelude.{◌≡◌, ◌+◌, ◌∷◌, ◌≤◌, ◌*◌, length, IsTrue, ◌↔◌, IfOk, IfSome, Some, None};
 ghost use Rattle.pm_base.specs.Limits.{AreSteps};
 ghost use Rattle.pm_wire.specs.Frames.{size_at, hello_kind, bid_kind, gone_kind, IsSender};

@@ -1,3 +1,5 @@
+//! The auctioneer over a list of frames.
+
 ghost use Rattle.std.specs.Prelude.{◌≡◌, ◌+◌, ◌<◌, ◌≤◌, ◌++◌, ◌^◌, length, IfSome, OnOk, OnErr, None};
 ghost use Rattle.pm_base.specs.Limits.{most_nodes};
 ghost use Rattle.pm_wire.specs.Frames.{MayStand};

@@ -1,3 +1,5 @@
+//! Serves a stream from a source to a sink, and tells how it ended.
+
 ghost use Rattle.std.specs.Prelude.{◌≡◌, ◌⊎◌, None, Some, ◌<◌, ◌≤◌, ◌++◌, ℕ, List, [], length, take, OnOk, IfErr};
 ghost use Rattle.std.specs.Io.KnownBytes.{Appends};
 ghost use Rattle.pm_io.specs.Causes.{Rose};

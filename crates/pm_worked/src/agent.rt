@@ -1,3 +1,5 @@
+//! Tests of agents: bids after a change, worked by hand for three kinds.
+
 ghost use Rattle.std.specs.Prelude.{◌≡◌, length, IfOk};
 ghost use Rattle.pm_bid.specs.Bids.{HaveSteps};
 

@@ -1,3 +1,5 @@
+//! Tests of targets: breaks, answers, lists and texts worked by hand.
+
 ghost use Rattle.std.specs.Prelude.{◌≡◌, length, IfOk};
 ghost use Rattle.pm_base.specs.Limits.{AreSteps};
 

@@ -1,3 +1,5 @@
+//! The test that limits may be shared by threads.
+
 use crate::shared::may_be_shared;
 use pm_base::Limits;
 

@@ -1,3 +1,5 @@
+//! Tests of bases: faults in their order, and prices at equal distances.
+
 use crate::same::same;
 use crate::shared::may_be_shared;
 use pm_basis::{Basis, BasisFault};

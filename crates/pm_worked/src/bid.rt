@@ -1,3 +1,5 @@
+//! Tests of array bids: faults in their order, and a market without bids.
+
 use crate::same::same;
 use crate::shared::may_be_shared;
 use pm_bid::{ArrayBid, BidFault, BidHead, Steps};

@@ -1,3 +1,5 @@
+//! Tests of bills: two small clusters billed by hand, and accounts at their limits.
+
 ghost use Rattle.std.specs.Prelude.{◌≡◌, IfOk, true};
 ghost use Rattle.pm_tree.specs.Entries.{leaves_of};
 ghost use Rattle.pm_tree.specs.Shape.{leaf_at};

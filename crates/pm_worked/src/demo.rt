@@ -1,3 +1,5 @@
+//! Tests of demo clusters: their counts, and the devices that are drawn.
+
 use crate::kinds::cogeneration;
 use crate::same::same;
 use crate::shared::may_be_shared;

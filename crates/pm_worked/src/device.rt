@@ -1,3 +1,5 @@
+//! Tests of kinds: ticks worked by hand, and both sides of each limit of a parameter.
+
 use crate::kinds::{battery, cogeneration, freezer, heat_pump};
 use crate::same::same;
 use crate::shared::may_be_shared;

@@ -1,3 +1,5 @@
+//! Tests of envelopes: inputs that are one, and inputs that are none.
+
 use crate::same::same;
 use pm_envelope::{FILE_LIMIT, number_up_to, open_envelope, split_line};
 

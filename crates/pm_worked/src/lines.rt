@@ -1,3 +1,5 @@
+//! Tests of lines of a trace: lines that are read, and bytes that are no line.
+
 use crate::plans::{CHAIN, joined_plan};
 use crate::same::same;
 use pm_basis::Basis;

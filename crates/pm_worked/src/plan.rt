@@ -1,3 +1,5 @@
+//! The test that the types of plans may be shared by threads.
+
 use crate::shared::may_be_shared;
 use pm_plan::{
     EventSpec, LimitedLine, MemberLine, NodeSpec, PhaseEnd, PhaseSpec, Place, Plan, PlanFault,

@@ -1,3 +1,5 @@
+//! Tests of point bids: faults in their order, and demands on the lines between points.
+
 use crate::same::same;
 use crate::shared::may_be_shared;
 use pm_basis::Basis;

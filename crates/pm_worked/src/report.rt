@@ -1,3 +1,5 @@
+//! Tests of texts: reports, traces and refusals written out by hand.
+
 ghost use Rattle.std.specs.Prelude.{◌≡◌, All, IfOk, IsTrue};
 ghost use Rattle.pm_report.specs.Report.{IsEndOf};
 ghost use Rattle.pm_report.specs.Trace.{IsLineOf};

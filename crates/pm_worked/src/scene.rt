@@ -1,3 +1,5 @@
+//! Tests of reading: a file gives the plan of its parts, and a cut file is refused.
+
 use crate::plans::{LONE, joined_plan};
 use crate::same::same;
 use crate::shared::may_be_shared;

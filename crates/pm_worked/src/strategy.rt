@@ -1,3 +1,5 @@
+//! Tests of strategies: the bids of each kind over bases of ten and a hundred steps, by hand.
+
 ghost use Rattle.std.specs.Prelude.{◌≡◌, ◌<◌, length, IfOk};
 ghost use Rattle.pm_base.specs.Limits.{IsWithin, sum_limit};
 ghost use Rattle.pm_bid.specs.Bids.{HaveSteps};

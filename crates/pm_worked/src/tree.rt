@@ -1,3 +1,5 @@
+//! Tests of trees: lists that are refused, and parents, children and leaves of those that are not.
+
 use crate::same::same;
 use crate::shared::may_be_shared;
 use pm_tree::{NodeId, Tree, TreeEntry, TreeFault};

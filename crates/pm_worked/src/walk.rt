@@ -1,3 +1,5 @@
+//! Tests of the plain program: the ends of phases and of cuts, worked by hand.
+
 ghost use Rattle.std.specs.Prelude.{◌≡◌, ℕ, ◌≤◌, length, true};
 ghost use Rattle.pm_plan.specs.Plans.{change_count};
 ghost use Rattle.pm_walk.specs.Cuts.{file_cut};

@@ -1,3 +1,5 @@
+//! Reads what the arguments of `trials` ask for.
+
 use crate::every::{Every, every_of};
 
 /// What the program is asked to try.

@@ -1,3 +1,5 @@
+//! A source or a sink that counts its calls.
+
 use pm_io::{Failed, Sink, Source};
 
 /// A source or a sink whose calls are counted.

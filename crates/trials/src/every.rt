@@ -1,3 +1,5 @@
+//! Which calls and lengths a trial takes, if it does not take all.
+
 /// Of many numbers each one that this divides is tried, and those at both ends.
 #[derive(Clone, Copy)]
 pub(crate) struct Every(u64);

@@ -1,3 +1,5 @@
+//! Which answers a command may give to one input, with and without a fault.
+
 use crate::call::{Fault, Outcome};
 use crate::wrong::{Verdict, ends_at, has_status, has_text};
 use pm_top::Status;

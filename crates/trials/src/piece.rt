@@ -1,3 +1,5 @@
+//! The sizes of pieces in which bytes come and go.
+
 ghost use Rattle.std.specs.Prelude.{◌≤◌};
 
 use std::fmt;

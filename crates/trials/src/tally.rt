@@ -1,3 +1,5 @@
+//! Counts the trials that passed and failed, and prints the failures.
+
 use crate::wrong::Verdict;
 use std::{fmt, io};
 

@@ -1,3 +1,5 @@
+//! What can be wrong with an outcome, and the tests that find it.
+
 use crate::call::Outcome;
 use pm_top::Status;
 use thiserror::Error;

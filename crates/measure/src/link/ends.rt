@@ -1,3 +1,5 @@
+//! The trait of an end of a link, which both kinds of link under measurement have.
+
 /// An end of a link. No call waits for the other end to do its part.
 pub(crate) trait End {
     /// What it puts.

@@ -1,3 +1,5 @@
+//! Why not all messages of a measurement are passed.
+
 use std::alloc::AllocError;
 use thiserror::Error;
 

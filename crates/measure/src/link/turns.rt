@@ -1,3 +1,5 @@
+//! The threads of a measurement: bids go up a link, and a price comes down for each.
+
 use super::ends::End;
 use super::fault::LinkFault;
 use pm_bid::{ArrayBid, Steps};

@@ -1,3 +1,5 @@
+//! Reads one line of a trace, the inverse of what `pm_report` writes.
+
 ghost use Rattle.std.specs.Prelude.{◌≡◌, ◌∷◌, ◌++◌, codes, None};
 ghost use Rattle.pm_plan.specs.Kept.{IsPlan};
 ghost use Rattle.pm_report.specs.Trace.{IsLineOfRun, move_line};

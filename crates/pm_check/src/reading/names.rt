@@ -1,3 +1,5 @@
+//! The node of a plan that a word names.
+
 ghost use Rattle.std.specs.Prelude.{◌≤◌, length};
 ghost use Rattle.pm_plan.specs.Kept.{IsPlan};
 ghost use Rattle.pm_report.specs.Words.{name};

@@ -1,3 +1,5 @@
+//! Reads the numbers of a line.
+
 ghost use Rattle.std.specs.Prelude.{◌<◌, ◌^◌, ◌∷◌, [], decimal};
 ghost use Rattle.pm_report.specs.Words.{text_line};
 ghost use Rattle.pm_check.specs.MoveReading.{Reads};

@@ -1,3 +1,5 @@
+//! Reads the parts of a line: nodes, numbers, and the price that a device holds.
+
 ghost use Rattle.std.specs.Prelude.{◌≡◌, ◌<◌, ◌≤◌, ◌^◌, ◌∷◌, [], codes, decimal, length, Some};
 ghost use Rattle.std.specs.Fmt.{signed_decimal};
 ghost use Rattle.pm_basis.specs.Prices.{IsBasis, price_at};

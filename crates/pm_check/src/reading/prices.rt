@@ -1,3 +1,5 @@
+//! Reads a price, and finds its step in the basis.
+
 ghost use Rattle.std.specs.Prelude.{pos, neg_ℤ, ◌≤ℤ◌, ◌-ℤ◌, ◌≡◌, ◌<◌, ◌≤◌, ◌^◌, ◌*◌, ◌/◌, ◌%◌};
 ghost use Rattle.pm_base.specs.Limits.{most_steps, price_limit};
 ghost use Rattle.std.specs.Fmt.{signed_decimal};

@@ -1,3 +1,5 @@
+//! Splits a line into its words.
+
 ghost use Rattle.std.specs.Prelude.{◌≡◌, ◌≢◌, ◌<◌, ◌≤◌, ℕ, true, false, List, [], ◌∷◌, ◌++◌, length, take, slice_index_or};
 ghost use Rattle.std.specs.Prelude.{IfSome, IsNone};
 ghost use Rattle.std.specs.Str.{IsUtf8};

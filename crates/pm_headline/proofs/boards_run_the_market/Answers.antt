@@ -1,3 +1,4 @@
+-- Of `boards_run_the_market`: its clauses `journal`, `ends` and `forward`.
 use Rattle.pm_headline.proofs.Boards.{board_runs, board_ends}
 use Rattle.pm_headline.proofs.Journals.{forward_in_lines}
 use Rattle.pm_headline.proofs.boards_run_the_market.Goals as goal

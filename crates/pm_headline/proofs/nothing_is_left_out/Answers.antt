@@ -1,3 +1,4 @@
+-- Of `nothing_is_left_out`: its clauses `report` and `trace`.
 use Rattle.pm_headline.proofs.Reports.{report_only}
 use Rattle.pm_headline.proofs.Journals.{told_run}
 use Rattle.pm_headline.proofs.nothing_is_left_out.Goals as goal

@@ -1,3 +1,4 @@
+-- Of `texts_tell_the_market`: its clauses `file`, `invalid`, `demo` and `refused`.
 use Rattle.std.proofs.Common.{refl}
 use Rattle.pm_answer.specs.declared.status.Status.TheVariants.{Done, Invalid, Refused}
 use Rattle.pm_headline.proofs.Headline.{answer_tells, answer_refutes, answer_refuses, summary_tells}

@@ -1,3 +1,4 @@
+-- Of `complete_journals_end_quiet`: its clauses `idle` and `made`.
 use Rattle.pm_laws.proofs.Kept.{sound_after}
 use Rattle.pm_laws.proofs.complete_journals_end_quiet.Goals as goal
 

@@ -1,3 +1,4 @@
+-- Of `no_device_goes_back`: what it ensures.
 use Rattle.pm_laws.proofs.Order.{never_back}
 use Rattle.pm_laws.proofs.no_device_goes_back.Goals as goal
 

@@ -1,3 +1,4 @@
+-- Of `rest_is_current`: its clauses `idle`, `counts`, `passed` and `windows`.
 use Rattle.pm_laws.proofs.Quiet.{idle_rests, rest_counts, rest_passed, rest_window}
 use Rattle.pm_laws.proofs.rest_is_current.Goals as goal
 

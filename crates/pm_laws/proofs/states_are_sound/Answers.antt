@@ -1,3 +1,4 @@
+-- Of `states_are_sound`: its clauses `at_start`, `each_move` and `each_journal`.
 use Rattle.pm_laws.proofs.Kept.{sound_start, sound_step, sound_after}
 use Rattle.pm_laws.proofs.states_are_sound.Goals as goal
 

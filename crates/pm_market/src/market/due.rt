@@ -1,3 +1,5 @@
+//! Which clearings are due to a node, as lists that each move extends.
+
 use super::Market;
 use crate::rows::{item_at, mark, row_at};
 use std::alloc::AllocError;

@@ -1,3 +1,5 @@
+//! Which price a device holds, and whether every phase is closed.
+
 use super::Market;
 use crate::rows::item_at;
 

@@ -1,3 +1,5 @@
+//! The tests of which moves are legal in the market of cuts.
+
 use super::Market;
 use crate::moves::Move;
 use crate::rows::item_at;

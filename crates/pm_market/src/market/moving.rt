@@ -1,3 +1,5 @@
+//! Makes the moves of the market of cuts on its lists.
+
 use super::Market;
 use crate::moves::Move;
 use crate::rows::{empty_rows, item_at, marked_parents, push_at};

@@ -1,3 +1,4 @@
+-- Of `devices_go_by_held_prices`: its clauses `held`, `of_its_clearing` and `settled`.
 use Rattle.pm_net.proofs.HeldPrices.{same_held, of_its_clearing, settled_held}
 use Rattle.pm_net.proofs.devices_go_by_held_prices.Goals as goal
 

@@ -1,3 +1,4 @@
+-- Of `nobody_goes_back`: its clauses `held`, `forward`, `rises` and 3 more.
 use Rattle.pm_net.proofs.Runs.{goes_forward, taken_rises, taken_since, restart_within, place_rises}
 use Rattle.pm_net.proofs.nobody_goes_back.Goals as goal
 

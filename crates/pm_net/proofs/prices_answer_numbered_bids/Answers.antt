@@ -1,3 +1,4 @@
+-- Of `prices_answer_numbered_bids`: its clauses `named` and `back`.
 use Rattle.pm_net.proofs.Runs.{never_back}
 use Rattle.pm_net.proofs.prices_answer_numbered_bids.Goals as goal
 

@@ -1,3 +1,4 @@
+-- Of `settled_networks_are_current`: its clauses `counted`, `held` and `unbroken`.
 use Rattle.pm_net.proofs.Settled.{all_counted, all_held, taken_settles}
 use Rattle.pm_net.proofs.settled_networks_are_current.Goals as goal
 

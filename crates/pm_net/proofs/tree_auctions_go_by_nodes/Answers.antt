@@ -1,3 +1,4 @@
+-- Of `tree_auctions_go_by_nodes`: its clauses `goes` and `in_node_order`.
 use Rattle.pm_net.proofs.TreeAuctions.{goes_by_nodes, in_node_order}
 use Rattle.pm_net.proofs.tree_auctions_go_by_nodes.Goals as goal
 

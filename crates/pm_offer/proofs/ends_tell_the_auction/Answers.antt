@@ -1,3 +1,4 @@
+-- Of `ends_tell_the_auction`: its clauses `only` and `only_step`.
 use Rattle.pm_offer.proofs.EndLines.{step_only}
 use Rattle.pm_offer.proofs.OneEnd.{end_only}
 use Rattle.pm_offer.proofs.ends_tell_the_auction.Goals as goal

@@ -1,3 +1,5 @@
+//! Adds nodes, phases, changes and ticks to a draft of a plan.
+
 ghost use Rattle.std.specs.Prelude.{◌≡◌, ◌+◌, ◌==◌, nat_le, ◌<◌, ◌≤◌, ◌^◌, IfOk, OnOk, Ok, Some, true, length, map};
 ghost use Rattle.pm_basis.specs.Prices.{IsBasis};
 ghost use Rattle.pm_tree.specs.Entries.{checked_tree, parents_of, leaves_of};

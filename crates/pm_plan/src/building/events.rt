@@ -1,3 +1,5 @@
+//! Takes the joins, leaves and states of a phase, each checked against the plan so far.
+
 ghost use Rattle.std.specs.Prelude.{◌≡◌, ◌+◌, ◌<◌, ◌≤◌, ◌^◌, true, length, map, OnOk, IfOk, IfSome};
 ghost use Rattle.pm_plan.specs.Parts.{event_part, state_part, join, state, leave};
 ghost use Rattle.pm_plan.specs.Plans.{node as planned_node, is_device};

@@ -1,3 +1,5 @@
+//! Makes a plan of the parts of a file, or gives the first refusal.
+
 ghost use Rattle.std.specs.Prelude.{◌≡◌, ◌≤◌, Ok, map, length, OnOk, IfOk};
 ghost use Rattle.pm_plan.specs.Plans.{phases as phase_count};
 ghost use Rattle.pm_basis.specs.Prices.{IsBasis};

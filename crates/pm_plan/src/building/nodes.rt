@@ -1,3 +1,5 @@
+//! Takes the nodes of a file in order: devices, concentrators, and their limits.
+
 ghost use Rattle.std.specs.Prelude.{◌≡◌, ◌+◌, ◌<◌, ◌≤◌, ◌^◌, length, map, OnOk};
 ghost use Rattle.pm_tree.specs.Entries.{parents_of, leaves_of};
 ghost use Rattle.pm_tree.specs.Shape.{IsTree};

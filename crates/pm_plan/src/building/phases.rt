@@ -1,3 +1,5 @@
+//! Takes the phases of a file in order: lists of events and ticks.
+
 ghost use Rattle.std.specs.Prelude.{◌≡◌, ◌+◌, ◌*◌, ◌<◌, ◌≤◌, ◌^◌, length, map, OnOk};
 ghost use Rattle.pm_plan.specs.Parts.{phase_part};
 ghost use Rattle.pm_plan.specs.Kept.{are_minutes};

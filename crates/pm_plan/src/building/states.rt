@@ -1,3 +1,5 @@
+//! Takes a state that a file writes, and makes the bid that it gives a manual device.
+
 ghost use Rattle.std.specs.Prelude.{◌≡◌, ◌+◌, ◌<◌, ◌≤◌, ◌^◌, length, OnOk};
 ghost use Rattle.pm_bid.specs.Checks.{checked_bid};
 ghost use Rattle.pm_points.specs.Checks.{checked_points};

@@ -1,3 +1,5 @@
+//! The test of a link without a lock between two threads.
+
 ghost use Rattle.std.specs.Prelude.{◌≡◌, IfOk};
 ghost use Rattle.std.specs.Thread.{IsSync};
 

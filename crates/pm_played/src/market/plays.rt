@@ -1,3 +1,5 @@
+//! Small markets for tests, the moves that play them, and the moves that may be tried.
+
 use pm_market::{Market, Move};
 use std::alloc::{AllocError, Global};
 

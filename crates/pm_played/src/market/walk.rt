@@ -1,3 +1,5 @@
+//! Walks all journals of a small market, and checks the market's laws in each state.
+
 use super::plays::{CANDIDATES, Node, candidate, market_of, play};
 use pm_market::{Market, Move};
 use std::alloc::{AllocError, Global};

@@ -1,3 +1,5 @@
+//! Reads the market basis of a file.
+
 ghost use Rattle.serde_json.specs.View.{view};
 ghost use Rattle.pm_base.specs.Outcomes.{Gives};
 ghost use Rattle.pm_plan.specs.Refusals.{refusal_in};

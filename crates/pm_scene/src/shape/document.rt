@@ -1,3 +1,5 @@
+//! Reads the shape of the whole document: version, basis, nodes and phases.
+
 ghost use Rattle.std.specs.Prelude.{◌≡◌, MatchResult, Ok, Err};
 ghost use Rattle.serde_json.specs.View.{view};
 ghost use Rattle.serde_json.specs.Find.{get};

@@ -1,3 +1,5 @@
+//! Reads the nodes of a file: kinds, parameters, starts and parents.
+
 ghost use Rattle.std.specs.Prelude.{◌≡◌, map, IfOk};
 ghost use Rattle.serde_json.specs.View.{view};
 ghost use Rattle.pm_plan.specs.Parts.{state_part, node_part};

@@ -1,3 +1,5 @@
+//! Reads the phases of a file: their events and ticks.
+
 ghost use Rattle.std.specs.Prelude.{◌≡◌, map, IfOk};
 ghost use Rattle.serde_json.specs.View.{view};
 ghost use Rattle.pm_plan.specs.Parts.{state_part, event_part, phase_part};

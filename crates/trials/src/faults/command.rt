@@ -1,3 +1,5 @@
+//! Tries one command under each fault: pieces, failed calls and inputs cut short.
+
 use super::trial::Trial;
 use crate::call::{Calls, Fault, Outcome, Side, Surroundings, called, words_of};
 use crate::every::Every;

@@ -1,3 +1,5 @@
+//! What is tried with a command, as a failure line names it.
+
 use crate::call::Fault;
 use crate::piece::Piece;
 use std::fmt;

@@ -1,3 +1,5 @@
+//! A command under a gate, as a failure line names it.
+
 use pm_gates::Schedule;
 use std::fmt;
 

@@ -1,3 +1,4 @@
+-- Of `market_of`: what its loop over `before` keeps.
 use Rattle.std.proofs.Common.{◌≡◌, vec_len}
 use Rattle.measure.proofs.lists.market_of.Given as goal
 

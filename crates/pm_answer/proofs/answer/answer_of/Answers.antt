@@ -1,3 +1,4 @@
+-- Of `answer_of`: what it ensures.
 use Rattle.std.proofs.Common.{◌≡◌, subst, sym, IfOk}
 use Rattle.pm_base.specs.Outcomes.{Refuses}
 use Rattle.pm_plan.specs.Refusals.{refusal_in}

@@ -1,3 +1,4 @@
+-- Of `plan_answer`: what it ensures.
 use Rattle.std.proofs.Common.{◌∙◌, ap, subst, sym, Err}
 use Rattle.pm_plan.specs.Causes.{cause_code}
 use Rattle.pm_plan.specs.declared.refusal.Cause.TheVariants.{BadTarget}

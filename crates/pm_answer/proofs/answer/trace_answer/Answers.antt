@@ -1,3 +1,4 @@
+-- Of `trace_answer`: what it ensures; what the call of `check` requires.
 use Rattle.std.proofs.Common.{◌≡◌, ◌∙◌, sym, subst, ap, refl, ℕ, List, []}
 use Rattle.pm_plan.specs.Plans.{PlanData}
 use Rattle.pm_check.specs.Lines.{AreLinesOf}

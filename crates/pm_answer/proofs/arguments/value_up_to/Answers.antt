@@ -1,3 +1,4 @@
+-- Of `value_up_to`: what it ensures.
 use Rattle.std.proofs.Common.{sym, ◌+◌, arith}
 use Rattle.pm_answer.proofs.Digits.{front_is_least, one_digit_more, too_great}
 use Rattle.pm_answer.proofs.arguments.value_up_to.Goals as goal

@@ -1,3 +1,4 @@
+-- Of `value_up_to`: what its loop over `digit` keeps.
 use Rattle.std.proofs.Common.{◌≡◌, ◌≤◌, take}
 use Rattle.pm_answer.specs.Arguments.{value_of}
 use Rattle.pm_answer.proofs.arguments.value_up_to.Given as goal

@@ -1,3 +1,4 @@
+-- Of `answers`: what the call of `ask_text` requires.
 use Rattle.std.proofs.Common.{◌∙◌, ap, sym, length}
 use Rattle.pm_plan.specs.Plans.{phases, end_cut}
 use Rattle.pm_offer.proofs.Steps.{total_steps}

@@ -1,3 +1,4 @@
+-- Of `curve_of`: what the call of `unreachable` requires.
 use Rattle.pm_answer.proofs.Answering.{never_refused}
 use Rattle.pm_answer.proofs.texts.curve_of.Goals as goal
 

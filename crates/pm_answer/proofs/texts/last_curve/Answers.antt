@@ -1,3 +1,4 @@
+-- Of `last_curve`: what it ensures; what the call of `curve_of` requires.
 use Rattle.std.proofs.Common.{◌≡◌, sym, subst, List, ℤ, IfOk}
 use Rattle.pm_bid.specs.Bids.{NeverRises}
 use Rattle.pm_plan.specs.Plans.{phases, end_cut}

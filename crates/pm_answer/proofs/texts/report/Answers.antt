@@ -1,3 +1,4 @@
+-- Of `report`: what the call of `report_text` requires.
 use Rattle.std.proofs.Common.{List, subst, sym}
 use Rattle.std.specs.Prelude.{All}
 use Rattle.pm_plan.specs.Ends.{EndValue}

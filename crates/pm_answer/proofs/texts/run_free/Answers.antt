@@ -1,3 +1,4 @@
+-- Of `run_free`: its clause `of_plan`; what the call of `prove` requires.
 use Rattle.std.proofs.Common.{◌≡◌, ◌∙◌, sym, ap, List, length, subst, arith}
 use Rattle.std.specs.Prelude.{All}
 use Rattle.std.proofs.lemmas.List.{length-map}

@@ -1,3 +1,4 @@
+-- Of `text_of`: what it ensures.
 use Rattle.std.proofs.Common.{rules}
 use Rattle.pm_answer.proofs.texts.text_of.Goals as goal
 

@@ -1,3 +1,4 @@
+-- Of `find_breaks`: the turns of its loop over `step`.
 use Rattle.std.proofs.Common.{ap, ◌∙◌, sym}
 use Rattle.std.proofs.lemmas.List.{append-nil}
 use Rattle.pm_ask.proofs.BreakLists.{breaks_after}

@@ -1,3 +1,4 @@
+-- Of `find_breaks`: what its loop over `step` keeps.
 use Rattle.std.proofs.Common.{◌≡◌}
 use Rattle.pm_ask.proofs.BreakLists.{breaks_before}
 use Rattle.pm_ask.proofs.breaks.find_breaks.Given as goal

@@ -1,3 +1,4 @@
+-- Of `greatest_of`: what it ensures.
 use Rattle.std.proofs.Common.{rules}
 use Rattle.pm_ask.proofs.breaks.greatest_of.Goals as goal
 

@@ -1,3 +1,4 @@
+-- Of `targets_are_bids`: its clauses `auction`, `clears`, `only` and 3 more.
 use Rattle.std.proofs.Common.{ap, List, ℤ}
 use Rattle.pm_bid.specs.Bids.{demand_at}
 use Rattle.pm_bid.specs.Clearing.{clearing_step}

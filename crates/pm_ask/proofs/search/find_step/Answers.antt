@@ -1,3 +1,4 @@
+-- Of `find_step`: its clauses `step`, `cost` and `least`; the turns of its loop over `low`.
 use Rattle.std.proofs.Common.{◌≡◌, subst, arith, ◌∙◌, sym, ap, ◌+◌, ◌-◌, ◌/◌, ◌≤ℤ◌, length, w64, to_z, of_z}
 use Rattle.std.specs.Prelude.{◌<ℤ◌}
 use Rattle.std.proofs.lemmas.Int.{ints, to_z-of_z}

@@ -1,3 +1,4 @@
+-- Of `find_step`: what its loop over `low` keeps.
 use Rattle.std.proofs.Common.{◌-◌, ◌≤◌, length}
 use Rattle.pm_ask.proofs.Halving.{IsBetween, LooksLeft, LooksDue}
 use Rattle.pm_ask.proofs.search.find_step.Given as goal

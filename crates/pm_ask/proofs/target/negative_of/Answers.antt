@@ -1,3 +1,4 @@
+-- Of `negative_of`: its clauses `none`, `negative` and `text`.
 use Rattle.std.proofs.Common.{◌≡◌, arith, ap, sym, ◌∙◌}
 use Rattle.std.specs.Prelude.{decimal}
 use Rattle.std.proofs.lemmas.Fmt.{decimal_injective}

@@ -1,3 +1,4 @@
+-- Of `split_target`: its clauses `none` and `some`.
 use Rattle.std.proofs.Common.{arith}
 use Rattle.std.proofs.lemmas.Grind.{common_steps}
 use Rattle.pm_envelope.proofs.FirstLines.{same_first_line}

@@ -1,3 +1,4 @@
+-- Of `read_targets`: its clauses `accepted`, `refused` and `read`; what the call of `loop` requires; the turns of its loop over `rest`.
 use Rattle.std.proofs.Common.{rules, ◌∙◌, ap, ◌+◌, ◌<◌, length, ◌∷◌, ◌++◌, [], arith, FitsSigned, w64}
 use Rattle.std.proofs.lemmas.Bool.Decides.{nat_tests}
 use Rattle.std.proofs.lemmas.Int.{to_z-of_z}

@@ -1,3 +1,4 @@
+-- Of `read_targets`: what its loop over `rest` keeps.
 use Rattle.std.proofs.Common.{◌≡◌, ◌++◌, length}
 use Rattle.pm_ask.specs.TargetLists.{AreTargets, targets_text}
 use Rattle.pm_ask.proofs.target_list.read_targets.Given as goal

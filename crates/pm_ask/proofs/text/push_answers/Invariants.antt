@@ -1,3 +1,4 @@
+-- Of `push_answers`: what its loop over `target` keeps.
 use Rattle.std.proofs.Common.{◌≡◌, ◌++◌, string_bytes, take}
 use Rattle.std.specs.Prelude.{flat_map}
 use Rattle.pm_ask.specs.Texts.{answer_line}

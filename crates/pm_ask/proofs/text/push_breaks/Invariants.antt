@@ -1,3 +1,4 @@
+-- Of `push_breaks`: what its loop over `of_step` keeps.
 use Rattle.std.proofs.Common.{◌≡◌, ◌++◌, string_bytes, take}
 use Rattle.std.specs.Prelude.{flat_map}
 use Rattle.pm_ask.specs.Texts.{break_line}

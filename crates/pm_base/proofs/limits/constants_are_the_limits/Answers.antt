@@ -1,3 +1,4 @@
+-- Of `constants_are_the_limits`: its clauses `depth`, `window` and `sum`.
 use Rattle.std.proofs.Common.{refl}
 use Rattle.pm_base.proofs.limits.constants_are_the_limits.Goals as goal
 

@@ -1,3 +1,4 @@
+-- Of `rise`: what it ensures; what the call of `nonzero_div` requires; that its numbers fit.
 use Rattle.std.proofs.Common.{◌≡◌, ℤ, pos, ◌≤ℤ◌, ◌*ℤ◌, int_div, to_z, of_z, w64, FitsSigned, lit<, arith}
 use Rattle.std.proofs.lemmas.Int.{ints, fits_signed_mul, to_z-of_z}
 use Rattle.pm_base.specs.Limits.{most_steps}

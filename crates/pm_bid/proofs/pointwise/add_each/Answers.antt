@@ -1,3 +1,4 @@
+-- Of `add_each`: its clause `sum`; the turns of its loop over `step`; that its numbers fit.
 use Rattle.std.proofs.Common.{rules, arith, FitsSigned, ◌+ℤ◌, w64, to_z, of_z}
 use Rattle.pm_bid.specs.Bids.{demand_at, pairwise_sum}
 use Rattle.pm_bid.proofs.EachStep.{Computes, length-added, next_added, progress_more, progress_all}

@@ -1,3 +1,4 @@
+-- Of `add_each`: what its loop over `step` keeps.
 use Rattle.std.proofs.Common.{◌≡◌, ◌+◌}
 use Rattle.pm_bid.specs.Bids.{pairwise_sum}
 use Rattle.pm_bid.proofs.EachStep.{Progress}

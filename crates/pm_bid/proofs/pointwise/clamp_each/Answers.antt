@@ -1,3 +1,4 @@
+-- Of `clamp_each`: its clauses `clamped` and `within`; the turns of its loop over `step`.
 use Rattle.std.proofs.Common.{rules, arith, ◌≡◌, ◌∙◌, ap, sym, subst, List, ℤ, FitsSigned, w64, to_z, of_z}
 use Rattle.std.proofs.lemmas.Int.{to_z-of_z}
 use Rattle.pm_bid.specs.Bids.{demand_at, nearest_in_range, clamp, AllWithinLimit}

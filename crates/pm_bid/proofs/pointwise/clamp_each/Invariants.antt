@@ -1,3 +1,4 @@
+-- Of `clamp_each`: what its loop over `step` keeps.
 use Rattle.std.proofs.Common.{◌≡◌, ◌+◌}
 use Rattle.pm_bid.specs.Bids.{clamp}
 use Rattle.pm_bid.proofs.EachStep.{Progress}

@@ -1,3 +1,4 @@
+-- Of `exchange_each`: its clause `exchanged`; the turns of its loop over `step`; that its numbers fit.
 use Rattle.std.proofs.Common.{rules, arith, FitsSigned, w64}
 use Rattle.pm_bid.specs.Bids.{demand_at}
 use Rattle.pm_bid.proofs.EachStep.{length-exchanged, next_exchanged, progress_more, progress_all}

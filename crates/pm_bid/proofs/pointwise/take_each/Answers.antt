@@ -1,3 +1,4 @@
+-- Of `take_each`: its clause `rest`; the turns of its loop over `step`; that its numbers fit.
 use Rattle.std.proofs.Common.{rules, arith, FitsSigned, ◌-ℤ◌, w64, to_z, of_z}
 use Rattle.pm_bid.specs.Bids.{demand_at, pairwise_difference}
 use Rattle.pm_bid.proofs.EachStep.{Computes, length-taken_off, next_taken_off, progress_more, progress_all}

@@ -1,3 +1,4 @@
+-- Of `take_each`: what its loop over `step` keeps.
 use Rattle.std.proofs.Common.{◌≡◌, ◌+◌}
 use Rattle.pm_bid.specs.Bids.{pairwise_difference}
 use Rattle.pm_bid.proofs.EachStep.{Progress}

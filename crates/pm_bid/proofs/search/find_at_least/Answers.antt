@@ -1,3 +1,4 @@
+-- Of `find_at_least`: its clause `step`.
 use Rattle.std.proofs.Common.{rules, arith, ◌≡◌, ◌∙◌, ap, ◌-◌, false, FitsSigned, w64, to_z, of_z}
 use Rattle.std.specs.Prelude.{int_lt}
 use Rattle.std.proofs.lemmas.Int.{ints, to_z-of_z}

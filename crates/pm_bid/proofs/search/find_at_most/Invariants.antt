@@ -1,3 +1,4 @@
+-- Of `find_at_most`: what its loop over `step` keeps.
 use Rattle.std.proofs.Common.{◌≡◌, ℕ, ◌+◌, ◌<◌, true}
 use Rattle.std.specs.Prelude.{int_lt}
 use Rattle.pm_bid.specs.Bids.{demand_at}

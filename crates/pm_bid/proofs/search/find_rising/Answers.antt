@@ -1,3 +1,4 @@
+-- Of `find_rising`: what it ensures.
 use Rattle.std.proofs.Common.{rules, arith, ◌≡◌, ◌-◌, true, FitsSigned, w64}
 use Rattle.std.specs.Prelude.{int_lt}
 use Rattle.std.proofs.lemmas.Int.{ints}

@@ -1,3 +1,4 @@
+-- Of `find_rising`: what its loop over `step` keeps.
 use Rattle.std.proofs.Common.{◌≡◌, ℕ, ◌+◌, ◌<◌, false}
 use Rattle.std.specs.Prelude.{int_lt}
 use Rattle.pm_bid.specs.Bids.{demand_at}

@@ -1,3 +1,4 @@
+-- Of `find_too_large`: what its loop over `step` keeps.
 use Rattle.std.proofs.Common.{◌≡◌, ℕ, ◌<◌, false}
 use Rattle.pm_bid.specs.Bids.{demand_at}
 use Rattle.pm_bid.specs.Checks.{is_too_large}

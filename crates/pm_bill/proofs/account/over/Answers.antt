@@ -1,3 +1,4 @@
+-- Of `over`: its clauses `product` and `within`; that its numbers fit.
 use Rattle.std.proofs.Common.{◌≡◌, ◌∙◌, sym, ap, subst, ℤ, ◌*ℤ◌, FitsSigned, w64, to_z, of_z, arith}
 use Rattle.std.specs.Int.{w128}
 use Rattle.std.proofs.lemmas.Int.{ints, to_z-of_z}

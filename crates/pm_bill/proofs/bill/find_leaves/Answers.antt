@@ -1,3 +1,4 @@
+-- Of `find_leaves`: what it ensures; the turns of its loop over `before`.
 use Rattle.std.proofs.Common.{◌≡◌, ◌∙◌, sym, ap, ◌+◌, ◌<◌, ◌++◌, ◌∷◌, [], length, take, get_or, false, add-one, refl, arith}
 use Rattle.std.proofs.Math.Seq.{take-length}
 use Rattle.std.proofs.lemmas.List.{take_more}

@@ -1,3 +1,4 @@
+-- Of `find_leaves`: what its loop over `before` keeps.
 use Rattle.std.proofs.Common.{◌≡◌, take}
 use Rattle.pm_tree.specs.Entries.{leaves_of}
 use Rattle.pm_bill.proofs.bill.find_leaves.Given as goal

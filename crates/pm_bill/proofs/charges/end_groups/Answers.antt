@@ -1,3 +1,4 @@
+-- Of `end_groups`: what it ensures; the turns of its loop over `line`.
 use Rattle.std.proofs.Common.{arith}
 use Rattle.std.proofs.lemmas.Grind.{common_steps}
 use Rattle.std.proofs.lemmas.Result.{err_from_is_err_and}

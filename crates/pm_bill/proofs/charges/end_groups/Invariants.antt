@@ -1,3 +1,4 @@
+-- Of `end_groups`: what its loop over `line` keeps.
 use Rattle.std.proofs.Common.{◌≡◌, ◌∷◌, map, take}
 use Rattle.pm_bill.specs.Charges.{free_power, limited_group}
 use Rattle.pm_bill.proofs.charges.end_groups.Given as goal

@@ -1,3 +1,4 @@
+-- Of `free_power`: the turns of its loop over `member`.
 use Rattle.std.proofs.Common.{◌≡◌, ◌∙◌, sym, ap, subst, ℕ, ◌+◌, ◌<◌, pos, ◌+ℤ◌, Bool, true, false, cond, List, get_or, take, length}
 use Rattle.std.proofs.Common.{to_z, w64, arith}
 use Rattle.std.specs.Prelude.{◌==◌, All, filter}

@@ -1,3 +1,4 @@
+-- Of `free_power`: what its loop over `member` keeps.
 use Rattle.std.proofs.Common.{◌≡◌, ◌*◌, take}
 use Rattle.std.specs.Prelude.{◌==◌, filter}
 use Rattle.pm_base.specs.Limits.{IsWithin, demand_limit}

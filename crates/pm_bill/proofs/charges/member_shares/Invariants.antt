@@ -1,3 +1,4 @@
+-- Of `member_shares`: what its loop over `member` keeps.
 use Rattle.std.proofs.Common.{◌≡◌, map, take}
 use Rattle.pm_bill.specs.Charges.{member_share}
 use Rattle.pm_bill.proofs.charges.member_shares.Given as goal

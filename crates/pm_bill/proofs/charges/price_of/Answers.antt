@@ -1,3 +1,4 @@
+-- Of `price_of`: what it ensures; what the call of `price` requires.
 use Rattle.std.proofs.Common.{rules, ◌≡◌, ◌∙◌, sym, ap, subst, ℕ, ◌<◌, List, FitsSigned, w64, Some, Option}
 use Rattle.std.specs.Prelude.{◌==◌, find}
 use Rattle.std.specs.Option.{option_map_or}

@@ -1,3 +1,4 @@
+-- Of `bills_of_plans_add_up`: its clauses `adds_up` and `device`.
 use Rattle.pm_bill.specs.Runs.{tick_phases}
 use Rattle.pm_bill.proofs.AddingUp.{account-device, bills_add_up}
 use Rattle.pm_bill.proofs.law.bills_of_plans_add_up.Goals as goal

@@ -1,3 +1,4 @@
+-- Of `bill_of_run`: its clause `leaves`; what the call of `tick` requires; the turns of its loop over `phase`.
 use Rattle.std.proofs.Common.{rules, ◌≡◌, ◌∙◌, sym, ap, subst, ℕ, ◌+◌, ◌-◌, ◌≤◌, length, arith, ℤ, List, to_z, of_z, w64}
 use Rattle.std.proofs.Common.{FitsSigned, Some, Bool}
 use Rattle.std.specs.Prelude.{IsTrue, is_some, true, false}

@@ -1,3 +1,4 @@
+-- Of `bill_of_run`: what its loop over `phase` keeps.
 use Rattle.std.proofs.Common.{◌≡◌, ◌-◌}
 use Rattle.pm_bill.specs.Runs.{bill_over}
 use Rattle.pm_bill.proofs.RunBills.{ticks_to}

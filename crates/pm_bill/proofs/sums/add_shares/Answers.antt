@@ -1,3 +1,4 @@
+-- Of `add_shares`: what the calls of `add`, `cost_of` and `bounds` require; the turns of its loop over `share`.
 use Rattle.std.proofs.Common.{arith, ◌≡◌, ◌∙◌, sym, ap, subst, ℕ, ℤ, pos, ◌*◌, ◌++◌, ◌∷◌, [], List, length, ◌<◌, get_or, take}
 use Rattle.std.proofs.Common.{w64, to_z, of_z}
 use Rattle.std.specs.Prelude.{IsTrue}

@@ -1,3 +1,4 @@
+-- Of `add_shares`: what its loop over `share` keeps.
 use Rattle.std.proofs.Common.{take}
 use Rattle.pm_bill.specs.Shares.{AreAdded}
 use Rattle.pm_bill.proofs.sums.add_shares.Given as goal

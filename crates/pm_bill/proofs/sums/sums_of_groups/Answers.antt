@@ -1,3 +1,4 @@
+-- Of `sums_of_groups`: its clauses `cost` and `cost_within`; what the call of `cost_of` requires; the turns of its loop over `group`; that its numbers fit.
 use Rattle.std.proofs.Common.{arith, ◌≡◌, ◌∙◌, sym, ap, ℕ, ◌+◌, ◌*◌, ◌<◌, ◌≤◌, ℤ, pos, ◌+ℤ◌, ◌*ℤ◌}
 use Rattle.std.proofs.Common.{get_or, take_all, w64, to_z, of_z}
 use Rattle.std.specs.Int.{w128}

@@ -1,3 +1,4 @@
+-- Of `sums_of_groups`: what its loop over `group` keeps.
 use Rattle.std.proofs.Common.{◌≡◌, ◌*◌, take}
 use Rattle.pm_base.specs.Limits.{IsWithin, price_limit, sum_limit}
 use Rattle.pm_bill.specs.Shares.{sum_each, group_cost}

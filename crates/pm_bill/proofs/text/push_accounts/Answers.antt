@@ -1,3 +1,4 @@
+-- Of `push_accounts`: what the call of `bounds` requires; the turns of its loop over `before`.
 use Rattle.std.proofs.Common.{arith, ◌∙◌, sym, ap, ◌+◌, length, ◌++◌, string_bytes, append_assoc}
 use Rattle.std.proofs.lemmas.List.{append-nil}
 use Rattle.pm_tree.proofs.Named.{length-leaves_of}

@@ -1,3 +1,4 @@
+-- Of `push_accounts`: what its loop over `before` keeps.
 use Rattle.std.proofs.Common.{◌≡◌, ◌++◌, string_bytes}
 use Rattle.pm_bill.proofs.Texts.{lines_before}
 use Rattle.pm_bill.proofs.text.push_accounts.Given as goal

@@ -1,3 +1,4 @@
+-- Of `vacant_ends`: what lasts from turn to turn.
 use Rattle.std.proofs.Common.{◌≡◌, length}
 use Rattle.std.specs.Prelude.{All}
 use Rattle.pm_board.specs.Kept.{HasRoomForAll}

@@ -1,3 +1,4 @@
+-- Of `is_within`: its clauses `yes` and `no`.
 use Rattle.std.proofs.Common.{rules, ◌≡◌, ◌∙◌, sym, ap, subst, ℤ, ◌+ℤ◌, ◌-ℤ◌, w64, FitsSigned, to_z, of_z}
 use Rattle.std.specs.Option.{option_copied}
 use Rattle.std.proofs.lemmas.Int.{to_z-of_z}

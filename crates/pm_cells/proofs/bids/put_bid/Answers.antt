@@ -1,3 +1,4 @@
+-- Of `put_bid`: its clauses `back`, `put`, `puts_one` and `prices_stay`; what the calls of `fetch_or`, `store` and `exchange` require; what the type keeps.
 use Rattle.std.proofs.Common.{◌<◌, rules, refl, sym, ap, arith, subst}
 use Rattle.pm_cells.specs.Numbers.{newest_number}
 use Rattle.pm_cells.specs.Ends.{LinkEnd}

@@ -1,3 +1,4 @@
+-- Of `newest_of`: what it ensures.
 use Rattle.std.proofs.Common.{arith}
 use Rattle.pm_cells.proofs.Numbers.{newest_read}
 use Rattle.pm_cells.proofs.ends.newest_of.Goals as goal

@@ -1,3 +1,4 @@
+-- Of `close_link`: its clauses `bids_were_put`, `prices_were_put`, `bids_are_those_put` and `prices_are_those_put`; what the call of `join_seat` requires.
 use Rattle.std.proofs.Common.{rules, ap, subst}
 use Rattle.pm_cells.specs.Numbers.{AllAmong}
 use Rattle.pm_cells.specs.Ends.{LinkEnd}

@@ -1,3 +1,4 @@
+-- Of `open_link`: what the call of `split_seat` requires.
 use Rattle.std.proofs.Common.{rules}
 use Rattle.pm_cells.proofs.CutAndJoin.{may_cut}
 use Rattle.pm_cells.proofs.link.open_link.Goals as goal

@@ -1,3 +1,4 @@
+-- Of `put_price`: its clauses `put`, `puts_one` and `bids_stay`; what the calls of `fetch_or` and `store` require; what the type keeps.
 use Rattle.std.proofs.Common.{◌<◌, rules, refl, sym, ap, arith, subst}
 use Rattle.std.specs.Prelude.{Contains}
 use Rattle.pm_cells.specs.Numbers.{newest_number}

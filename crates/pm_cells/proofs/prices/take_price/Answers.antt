@@ -1,3 +1,4 @@
+-- Of `take_price`: its clause `above`; what the calls of `fetch_or` and `store` require.
 use Rattle.std.proofs.Common.{◌≡◌, ◌/◌, ◌<◌, rules, Some, ◌∙◌, arith, subst}
 use Rattle.std.specs.Prelude.{All}
 use Rattle.pm_cells.specs.Ends.{LinkEnd}

@@ -1,3 +1,4 @@
+-- Of `traces_have_one_judgement`: its clauses `moves`, `line` and `apart`.
 use Rattle.pm_check.proofs.Judgements.{one_count, one_bad_line, not_both}
 use Rattle.pm_check.proofs.law.traces_have_one_judgement.Goals as goal
 

@@ -1,3 +1,4 @@
+-- Of `split_whole_line`: its clause `whole`.
 use Rattle.std.proofs.Common.{◌≡◌, ◌∙◌, ap, refl, ℕ, suc, ◌+◌, List, [], ◌∷◌, ◌++◌, length, take, add-one}
 use Rattle.pm_check.proofs.lines.split_whole_line.Goals as goal
 

@@ -1,3 +1,4 @@
+-- Of `change_count`: what it ensures; the turns of its loop over `phase`; that its numbers fit.
 use Rattle.std.proofs.Common.{◌≡◌, ◌∙◌, ◌-◌, ◌+◌, sym, ap, ℕ, arith}
 use Rattle.pm_plan.specs.Plans.{end_cut, phases}
 use Rattle.pm_plan.proofs.Ends.{end-none, end-rises, end-within, end-last}

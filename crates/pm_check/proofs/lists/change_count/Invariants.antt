@@ -1,3 +1,4 @@
+-- Of `change_count`: what its loop over `phase` keeps.
 use Rattle.std.proofs.Common.{◌≡◌, ◌-◌}
 use Rattle.pm_plan.specs.Plans.{end_cut}
 use Rattle.pm_check.proofs.lists.change_count.Given as goal

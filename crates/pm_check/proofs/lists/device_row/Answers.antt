@@ -1,3 +1,4 @@
+-- Of `device_row`: what the call of `unwrap` requires; the turns of its loop over `at`.
 use Rattle.std.proofs.Common.{◌≡◌, ◌∙◌, sym, ap, refl, subst, ◌<◌, arith}
 use Rattle.std.specs.Prelude.{Option}
 use Rattle.std.specs.Option.{IsSome}

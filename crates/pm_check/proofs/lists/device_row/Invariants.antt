@@ -1,3 +1,4 @@
+-- Of `device_row`: what its loop over `at` keeps.
 use Rattle.std.proofs.Common.{◌≡◌, map}
 use Rattle.std.specs.List.{range_with_len}
 use Rattle.pm_plan.specs.Plans.{is_member}

@@ -1,3 +1,4 @@
+-- Of `ends_of`: what it ensures; the turns of its loop over `at`.
 use Rattle.std.proofs.Common.{◌≡◌, ◌∙◌, ap, ℕ, Vec, Global, length, map, arith}
 use Rattle.std.specs.Prelude.{replicate}
 use Rattle.std.proofs.lemmas.List.{map-append}

@@ -1,3 +1,4 @@
+-- Of `ends_row`: what it ensures; what the call of `bounds` requires; the turns of its loop over `at`; that its numbers fit.
 use Rattle.std.proofs.Common.{◌≡◌, ◌∙◌, ◌-◌, ◌+◌, ◌<◌, ap, List, ℕ, length, map, get_or, arith}
 use Rattle.std.specs.List.{range_with_len}
 use Rattle.std.proofs.lemmas.List.FromFn.{length-map-range_with_len, get_or-map-range_with_len}

@@ -1,3 +1,4 @@
+-- Of `leaves_of`: its clauses `leaves` and `one_each`; the turns of its loop over `at`.
 use Rattle.std.proofs.Common.{◌∙◌, ◌≤◌, ap, length, arith}
 use Rattle.std.proofs.lemmas.List.{take_all}
 use Rattle.pm_tree.specs.Entries.{leaves_of}

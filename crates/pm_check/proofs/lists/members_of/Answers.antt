@@ -1,3 +1,4 @@
+-- Of `members_of`: what it ensures; what the call of `members_row` requires; the turns of its loop over `at`.
 use Rattle.std.proofs.Common.{◌≡◌, ◌∙◌, ap, length, map, arith}
 use Rattle.std.proofs.lemmas.List.{map-append}
 use Rattle.std.specs.List.{range_with_len}

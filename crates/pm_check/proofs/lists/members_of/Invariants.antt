@@ -1,3 +1,4 @@
+-- Of `members_of`: what its loop over `at` keeps.
 use Rattle.std.proofs.Common.{◌≡◌, map}
 use Rattle.std.specs.List.{range_with_len}
 use Rattle.pm_base.specs.Rows.{rows_of}

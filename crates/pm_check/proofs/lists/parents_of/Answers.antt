@@ -1,3 +1,4 @@
+-- Of `parents_of`: its clauses `parents` and `one_each`; the turns of its loop over `at`.
 use Rattle.std.proofs.Common.{◌∙◌, ◌≤◌, ap, length, arith}
 use Rattle.std.proofs.lemmas.List.{take_all}
 use Rattle.pm_tree.specs.Entries.{parents_of}

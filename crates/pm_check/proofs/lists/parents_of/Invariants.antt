@@ -1,3 +1,4 @@
+-- Of `parents_of`: what its loop over `at` keeps.
 use Rattle.std.proofs.Common.{◌≡◌, take}
 use Rattle.pm_tree.specs.Entries.{parents_of}
 use Rattle.pm_check.proofs.lists.parents_of.Given as goal

@@ -1,3 +1,4 @@
+-- Of `phase_changes`: what it ensures.
 use Rattle.std.proofs.Common.{◌≡◌, ◌∙◌, ◌-◌, sym, ap, false, arith}
 use Rattle.pm_tree.specs.Entries.{is_leaf_at}
 use Rattle.pm_plan.specs.Plans.{is_leaf}

@@ -1,3 +1,4 @@
+-- Of `group_place`: its clause `inside`.
 use Rattle.std.proofs.Common.{◌≤◌, sym, subst, ℕ, length}
 use Rattle.pm_walk.proofs.Nodes.{group_found, group_inside}
 use Rattle.pm_check.proofs.steps.group_place.Goals as goal

@@ -1,3 +1,4 @@
+-- Of `check`: its clauses `valid`, `accepted` and `refused`.
 use Rattle.std.proofs.Common.{◌≡◌, refl, ℕ, List, rules}
 use Rattle.std.specs.Prelude.{Result, Ok, Err, IfOk, IfErr}
 use Rattle.pm_plan.specs.Plans.{PlanData}

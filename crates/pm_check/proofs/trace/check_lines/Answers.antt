@@ -1,3 +1,4 @@
+-- Of `check_lines`: its clauses `bad` and `valid`; what the call of `loop` requires; the turns of its loop over `line`; that its numbers fit.
 use Rattle.std.proofs.Common.{◌∙◌, sym, ap, length, arith}
 use Rattle.std.proofs.lemmas.Bool.{eqb-true, eqb-false}
 use Rattle.std.proofs.lemmas.List.{nil_from_length}

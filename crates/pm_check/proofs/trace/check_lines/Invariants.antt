@@ -1,3 +1,4 @@
+-- Of `check_lines`: what its loop over `line` keeps.
 use Rattle.std.proofs.Common.{length}
 use Rattle.pm_check.specs.Reading.{IsJudging}
 use Rattle.pm_check.proofs.trace.check_lines.Given as goal

@@ -1,3 +1,4 @@
+-- Of `read_report`: its clauses `bad` and `read`; what the call of `loop` requires; the turns of its loop over `expected`; that its numbers fit.
 use Rattle.std.proofs.Common.{◌≡◌, ◌≢◌, ◌∙◌, sym, ap, ℕ, ◌+◌, ◌≤◌, true, false, List, [], ◌∷◌, ◌++◌, length}
 use Rattle.std.proofs.Common.{append_assoc, arith}
 use Rattle.std.specs.Prelude.{not}

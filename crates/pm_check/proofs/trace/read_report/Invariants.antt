@@ -1,3 +1,4 @@
+-- Of `read_report`: what its loop over `expected` keeps.
 use Rattle.std.proofs.Common.{ℕ, List, length}
 use Rattle.pm_check.proofs.Judgements.{IsMatched}
 use Rattle.pm_check.proofs.trace.read_report.Given as goal

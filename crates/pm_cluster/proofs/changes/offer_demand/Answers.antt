@@ -1,3 +1,4 @@
+-- Of `offer_demand`: what it ensures; what the calls of `parent_of`, `place_in_row`, `offer_bid` and `fill_bid` require.
 use Rattle.std.proofs.Common.{◌≡◌, ◌∙◌, sym, ap, subst, ℕ, ℤ, true, List, length, rules}
 use Rattle.std.specs.Prelude.{IfSome}
 use Rattle.std.specs.Option.{option_copied}

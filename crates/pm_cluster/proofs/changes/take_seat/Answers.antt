@@ -1,3 +1,4 @@
+-- Of `take_seat`: what it ensures.
 use Rattle.std.proofs.Common.{rules}
 use Rattle.pm_cluster.proofs.changes.take_seat.Goals as goal
 

@@ -1,3 +1,4 @@
+-- Of `add_due`: its clause `after`; what the call of `changes_of` requires; the turns of its loop over `number`; that its numbers fit.
 use Rattle.std.proofs.Common.{◌∙◌, sym, ap, subst, ℕ, ◌+◌, ◌<◌, length, Vec, Global, arith, refl}
 use Rattle.std.proofs.lemmas.Bool.{both_ways}
 use Rattle.std.proofs.lemmas.List.{get_or_read}

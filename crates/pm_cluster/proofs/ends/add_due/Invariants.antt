@@ -1,3 +1,4 @@
+-- Of `add_due`: what its loop over `number` keeps.
 use Rattle.pm_cluster.proofs.DueMore.{IsDueTo}
 use Rattle.pm_cluster.proofs.ends.add_due.Given as goal
 

@@ -1,3 +1,4 @@
+-- Of `keep_powers`: its clause `kept`.
 use Rattle.std.proofs.Common.{ap, length, arith}
 use Rattle.pm_cluster.proofs.Parents.{nodes_are, leaf_inside}
 use Rattle.pm_cluster.proofs.ends.keep_powers.Goals as goal

@@ -1,3 +1,4 @@
+-- Of `keep_powers`: what its loop over `number` keeps.
 use Rattle.pm_cluster.specs.Ends.{power_by_entry}
 use Rattle.pm_cluster.proofs.ClosesLegally.{AreFoundTo}
 use Rattle.pm_cluster.proofs.ends.keep_powers.Given as goal

@@ -1,3 +1,4 @@
+-- Of `power_of`: what it ensures; what the calls of `parent_of`, `place_in_row`, `demand` and `unreachable` require; that its numbers fit.
 use Rattle.std.proofs.Common.{◌≡◌, ◌∙◌, sym, ap, ℕ, ◌<◌, length, Option, Some, None, is_some, slice_index_or, arith, rules, w64, FitsSigned}
 use Rattle.std.proofs.lemmas.Int.{to_z-of_z}
 use Rattle.std.proofs.lemmas.Bool.{false≢true}

@@ -1,3 +1,4 @@
+-- Of `offer_bid`: its clauses `one` and `offered`; what the call of `offer_bid` requires.
 use Rattle.std.proofs.Common.{arith, ◌≡◌, ap, subst, length, refl}
 use Rattle.std.specs.Vec.{with_item}
 use Rattle.std.specs.Option.{option_copied}

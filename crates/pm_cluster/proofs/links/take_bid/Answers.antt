@@ -1,3 +1,4 @@
+-- Of `take_bid`: its clauses `one`, `taken` and `none`; what the call of `take_bid` requires.
 use Rattle.std.proofs.Common.{refl, ap, ◌∙◌}
 use Rattle.std.proofs.lemmas.Option.{MatchOption-at_none}
 use Rattle.std.specs.Vec.{with_item}

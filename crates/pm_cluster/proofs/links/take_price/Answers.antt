@@ -1,3 +1,4 @@
+-- Of `take_price`: its clauses `one`, `taken` and `none`.
 use Rattle.std.proofs.Common.{refl}
 use Rattle.std.proofs.lemmas.Option.{MatchOption-at_none}
 use Rattle.std.specs.Vec.{with_item}

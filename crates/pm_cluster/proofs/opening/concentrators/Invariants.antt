@@ -1,3 +1,4 @@
+-- Of `concentrators`: what its loop over `number` keeps.
 use Rattle.std.proofs.Common.{◌≡◌, ℕ, ◌<◌, length, get_or, None}
 use Rattle.pm_cluster.specs.Opening.{IsNewAt}
 use Rattle.pm_cluster.proofs.opening.concentrators.Given as goal

@@ -1,3 +1,4 @@
+-- Of `first_due`: what its loop over `number` keeps.
 use Rattle.std.proofs.Common.{◌≡◌, ℕ, ◌<◌, length, get_or}
 use Rattle.pm_market.specs.Lists.{IsLeaf}
 use Rattle.pm_plan.specs.Plans.{phases, end_cut}

@@ -1,3 +1,4 @@
+-- Of `first_due_of`: what it ensures.
 use Rattle.std.proofs.Common.{◌∙◌}
 use Rattle.pm_cluster.proofs.Opened.{first_changes}
 use Rattle.pm_cluster.proofs.opening.first_due_of.Goals as goal

@@ -1,3 +1,4 @@
+-- Of `new_concentrator`: what it ensures; what the calls of `children`, `limits`, `new` and `limited` require.
 use Rattle.std.proofs.Common.{◌∙◌, ◌≡◌, ℕ, ℤ, sym, ap, subst, arith, rules, List, length, Some, Option, w64, FitsSigned, to_z, of_z}
 use Rattle.std.proofs.lemmas.Int.{to_z-of_z}
 use Rattle.std.proofs.lemmas.List.{length-map}

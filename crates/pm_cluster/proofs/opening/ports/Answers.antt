@@ -1,3 +1,4 @@
+-- Of `ports`: the turns of its loop over `node`.
 use Rattle.std.proofs.Common.{◌≡◌, ◌∙◌, ap, List, ◌∷◌, [], ◌++◌, replicate, None}
 use Rattle.std.proofs.lemmas.List.{replicate_more}
 use Rattle.pm_session.specs.declared.port.Port.{Port}

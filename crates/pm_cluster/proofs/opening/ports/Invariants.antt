@@ -1,3 +1,4 @@
+-- Of `ports`: what its loop over `node` keeps.
 use Rattle.std.proofs.Common.{◌≡◌, replicate, None}
 use Rattle.pm_cluster.proofs.opening.ports.Given as goal
 

@@ -1,3 +1,4 @@
+-- Of `row`: what its loop over `child` keeps.
 use Rattle.std.proofs.Common.{◌≡◌, replicate}
 use Rattle.pm_session.specs.Links.{new_session}
 use Rattle.pm_cluster.proofs.opening.row.Given as goal

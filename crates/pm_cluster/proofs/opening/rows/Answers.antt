@@ -1,3 +1,4 @@
+-- Of `rows`: what it ensures.
 use Rattle.std.proofs.Common.{◌≡◌, ◌+◌, ◌∙◌, ap, length, arith}
 use Rattle.pm_market.specs.Lists.{nodes}
 use Rattle.pm_plan.specs.Market.{plan_lists}

@@ -1,3 +1,4 @@
+-- Of `rows`: what its loop over `number` keeps.
 use Rattle.std.proofs.Common.{◌≡◌, ℕ, ◌<◌, length, replicate}
 use Rattle.pm_base.specs.Rows.{rows_of}
 use Rattle.pm_tree.specs.Entries.{children_of}

@@ -1,3 +1,4 @@
+-- Of `starts`: what it ensures.
 use Rattle.std.proofs.Common.{◌≡◌, ◌+◌, ◌∙◌, ap, sym, length, arith, ◌<◌}
 use Rattle.pm_market.specs.Lists.{nodes}
 use Rattle.pm_plan.specs.Market.{plan_lists}

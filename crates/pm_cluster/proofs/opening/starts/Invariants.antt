@@ -1,3 +1,4 @@
+-- Of `starts`: what its loop over `number` keeps.
 use Rattle.std.proofs.Common.{◌≡◌, ℕ, ◌<◌, length, get_or, Some, pos}
 use Rattle.pm_market.specs.Lists.{IsLeaf}
 use Rattle.pm_plan.specs.Plans.{node, start_of}

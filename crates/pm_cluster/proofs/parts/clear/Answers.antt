@@ -1,3 +1,4 @@
+-- Of `clear`: its clauses `row`, `cleared` and `none`; what the call of `clear` requires.
 use Rattle.std.proofs.Common.{ap, ◌∙◌, ◌≡◌, length, sym, subst, ◌+◌}
 use Rattle.std.proofs.lemmas.List.{with_items_is}
 use Rattle.std.specs.Vec.{with_items}

@@ -1,3 +1,4 @@
+-- Of `learn`: what it ensures; what the call of `learn` requires.
 use Rattle.std.proofs.Common.{ap, subst, ◌∙◌, ◌≡◌}
 use Rattle.std.specs.Option.{option_copied}
 use Rattle.std.proofs.Common.{get_or, None, Some}

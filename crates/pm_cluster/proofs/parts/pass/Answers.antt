@@ -1,3 +1,4 @@
+-- Of `pass`: its clauses `passed`, `alone`, `prices` and `row`; what the call of `pass` requires.
 use Rattle.std.proofs.Common.{arith, sym, ap, subst, ◌∙◌, ◌≡◌, length, ℕ, ◌<◌, get_or, Option, None, Some}
 use Rattle.std.proofs.Math.ListN.{set}
 use Rattle.std.proofs.lemmas.List.{with_items_is}

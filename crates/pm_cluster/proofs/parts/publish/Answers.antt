@@ -1,3 +1,4 @@
+-- Of `publish`: its clauses `published`, `one`, `alone` and `none`; what the call of `publish` requires; that its numbers fit.
 use Rattle.std.proofs.Common.{arith, sym, ap, ◌∙◌, ◌≡◌, get_or, refl, None, Some, length}
 use Rattle.std.proofs.Math.ListN.{set}
 use Rattle.std.proofs.lemmas.List.{set-get_or}

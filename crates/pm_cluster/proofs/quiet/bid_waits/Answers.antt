@@ -1,3 +1,4 @@
+-- Of `bid_waits`: what it ensures; the turns of its loop over `link`.
 use Rattle.std.proofs.Common.{◌≡◌, sym, subst, below_more}
 use Rattle.std.proofs.lemmas.List.{get_or_read}
 use Rattle.pm_session.specs.Links.{Session, new_session}

@@ -1,3 +1,4 @@
+-- Of `bid_waits`: what its loop over `link` keeps.
 use Rattle.std.proofs.Common.{◌≡◌, ℕ, ◌<◌}
 use Rattle.pm_session.specs.Prices.{session_at}
 use Rattle.pm_cluster.proofs.quiet.bid_waits.Given as goal

@@ -1,3 +1,4 @@
+-- Of `can_publish`: what it ensures.
 use Rattle.std.proofs.Common.{rules}
 use Rattle.pm_cluster.proofs.quiet.can_publish.Goals as goal
 

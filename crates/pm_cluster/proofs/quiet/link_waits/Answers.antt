@@ -1,3 +1,4 @@
+-- Of `link_waits`: what it ensures.
 use Rattle.std.proofs.Common.{rules}
 use Rattle.pm_cluster.proofs.quiet.link_waits.Goals as goal
 

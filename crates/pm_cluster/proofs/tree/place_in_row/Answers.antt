@@ -1,3 +1,4 @@
+-- Of `place_in_row`: its clause `inside`.
 use Rattle.std.proofs.Common.{ap, arith}
 use Rattle.pm_tree.specs.Entries.{place_of}
 use Rattle.pm_stands.proofs.Places.{placed}

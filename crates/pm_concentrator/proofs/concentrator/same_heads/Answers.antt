@@ -1,3 +1,4 @@
+-- Of `same_heads`: what it ensures.
 use Rattle.std.proofs.lemmas.Slice.Eq.{slice_eq-Decides}
 use Rattle.pm_concentrator.proofs.Heads.{same_head}
 use Rattle.pm_concentrator.proofs.concentrator.same_heads.Goals as goal

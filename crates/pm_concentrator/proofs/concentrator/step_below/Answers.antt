@@ -1,3 +1,4 @@
+-- Of `step_below`: what the call of `local_step` requires.
 use Rattle.std.proofs.Common.{◌≡◌, ◌∙◌, ap, sym, length, Some, arith}
 use Rattle.std.specs.Option.{option_copied}
 use Rattle.pm_session.specs.Windows.{steps_of}

@@ -1,3 +1,4 @@
+-- Of `is_band`: what it ensures.
 use Rattle.std.proofs.Common.{rules}
 use Rattle.pm_device.proofs.limits.is_band.Goals as goal
 

@@ -1,3 +1,4 @@
+-- Of `is_thermal`: what it ensures.
 use Rattle.std.proofs.lemmas.Int.{to_z-of_z}
 use Rattle.pm_device.specs.Kinds.{is_band, is_power, are_changes}
 use Rattle.pm_device.proofs.Between.{last_of_three}

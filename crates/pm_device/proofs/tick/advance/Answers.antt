@@ -1,3 +1,4 @@
+-- Of `advance`: its clause `fits`.
 use Rattle.std.proofs.Common.{rules, sym, subst, ℤ, IsTrue, w64, FitsSigned}
 use Rattle.std.proofs.lemmas.Int.{to_z-of_z}
 use Rattle.pm_device.specs.Kinds.{state_fits}

@@ -1,3 +1,4 @@
+-- Of `charge_after`: its clauses `after` and `fits`; what the call of `clamp` requires; that its numbers fit.
 use Rattle.std.proofs.Common.{◌≡◌, arith, ℤ, w64, FitsSigned, ◌*ℤ◌, ◌+ℤ◌, ◌≤ℤ◌, neg_ℤ, pos, lit<, rules}
 use Rattle.std.proofs.lemmas.Int.{ints, clamps, to_z-of_z, fits_signed_mul}
 use Rattle.std.proofs.lemmas.Grind.{common_steps}

@@ -1,3 +1,4 @@
+-- Of `freezer_after`: its clause `after`; that its numbers fit.
 use Rattle.std.proofs.Common.{arith}
 use Rattle.std.proofs.lemmas.Int.{ints, clamps, to_z-of_z}
 use Rattle.pm_device.proofs.Between.{is_temperature-tells, is_change-tells}

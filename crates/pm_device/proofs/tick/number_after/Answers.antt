@@ -1,3 +1,4 @@
+-- Of `number_after`: what it ensures; what the calls of `freezer_after`, `heated_after` and `charge_after` require.
 use Rattle.std.proofs.Common.{rules, ◌≡◌, ◌&&◌, subst, ℤ, pos, IsTrue, w64, FitsSigned, to_z, of_z, arith}
 use Rattle.std.proofs.lemmas.Int.{ints, to_z-of_z}
 use Rattle.pm_device.specs.Kinds.{is_valid, state_fits, is_between, is_change, is_band, is_power, are_changes, is_thermal}

@@ -1,3 +1,4 @@
+-- Of `envelopes_are_unique`: what it ensures.
 use Rattle.pm_envelope.proofs.Openings.{same_envelope}
 use Rattle.pm_envelope.proofs.envelope.envelopes_are_unique.Goals as goal
 

@@ -1,3 +1,4 @@
+-- Of `open_envelope`: its clauses `none` and `some`.
 use Rattle.std.proofs.Common.{arith, ◌∷◌, ◌++◌, length, ap, ◌∙◌, sym, take-append-drop}
 use Rattle.std.specs.Prelude.{decimal}
 use Rattle.std.proofs.lemmas.List.{length-append}

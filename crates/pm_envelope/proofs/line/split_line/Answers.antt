@@ -1,3 +1,4 @@
+-- Of `split_line`: its clause `some`.
 use Rattle.std.proofs.Common.{arith}
 use Rattle.std.proofs.lemmas.Grind.{elements}
 use Rattle.pm_envelope.proofs.line.split_line.Goals as goal

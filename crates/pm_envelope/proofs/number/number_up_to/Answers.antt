@@ -1,3 +1,4 @@
+-- Of `number_up_to`: its clause `none`.
 use Rattle.std.proofs.Common.{rules, ◌≡◌, ◌<◌, arith, length, get_or}
 use Rattle.std.proofs.lemmas.Bool.Decides.{nat_tests}
 use Rattle.pm_envelope.proofs.Numerals.{numeral_of, value_is_number}

@@ -1,3 +1,4 @@
+-- Of `value_of_digits`: what it ensures; the turns of its loop over `byte`.
 use Rattle.std.proofs.Common.{arith, ap, ◌+◌, get_or}
 use Rattle.std.specs.Char.{digit_value}
 use Rattle.std.proofs.lemmas.Int.Digits.{digits_more, digits_value_more}

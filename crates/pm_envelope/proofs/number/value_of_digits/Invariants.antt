@@ -1,3 +1,4 @@
+-- Of `value_of_digits`: what its loop over `byte` keeps.
 use Rattle.std.proofs.Common.{◌≡◌, ◌≤◌, take}
 use Rattle.std.specs.Str.Parse.{AllDigits, digits_value}
 use Rattle.pm_envelope.proofs.number.value_of_digits.Given as goal

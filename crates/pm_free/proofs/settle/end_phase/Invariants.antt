@@ -1,3 +1,4 @@
+-- Of `end_phase`: what lasts from turn to turn.
 use Rattle.std.proofs.Common.{◌≡◌}
 use Rattle.pm_free.proofs.settle.end_phase.Given as goal
 

@@ -1,3 +1,4 @@
+-- Of `make_changes`: what its loop over `made` keeps.
 use Rattle.std.proofs.Common.{◌≡◌, ◌≤◌}
 use Rattle.pm_free.proofs.settle.make_changes.Given as goal
 

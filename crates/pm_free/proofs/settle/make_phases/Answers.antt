@@ -1,3 +1,4 @@
+-- Of `make_phases`: its clause `settled`.
 use Rattle.std.proofs.Common.{rules}
 use Rattle.pm_free.proofs.settle.make_phases.Goals as goal
 

@@ -1,3 +1,4 @@
+-- Of `make_phases_by`: what lasts from turn to turn.
 use Rattle.std.proofs.Common.{◌≡◌}
 use Rattle.pm_nodes.specs.DeviceAgents.{AreAgents}
 use Rattle.pm_free.proofs.settle.make_phases_by.Given as goal

@@ -1,3 +1,4 @@
+-- Of `sweep`: what its loops over `before` and `node` keep.
 use Rattle.std.proofs.Common.{◌≡◌}
 use Rattle.pm_free.proofs.settle.sweep.Given as goal
 

@@ -1,3 +1,4 @@
+-- Of `take_turns`: what the call of `turn_of` requires.
 use Rattle.std.proofs.Common.{length, ap, arith}
 use Rattle.pm_plan.specs.Plans.{PlanData}
 use Rattle.pm_plan.proofs.MarketLists.{nodes_are}

@@ -1,3 +1,4 @@
+-- Of `take_turns`: what lasts from turn to turn.
 use Rattle.std.proofs.Common.{◌≡◌}
 use Rattle.pm_free.proofs.settle.take_turns.Given as goal
 

@@ -1,3 +1,4 @@
+-- Of `make_plan`: its clause `bad_size`.
 use Rattle.std.proofs.Common.{rules}
 use Rattle.pm_gen.proofs.demo.make_plan.Goals as goal
 

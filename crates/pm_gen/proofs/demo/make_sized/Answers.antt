@@ -1,3 +1,4 @@
+-- Of `make_sized`: its clauses `plan` and `phases`; what the calls of `new` and `allocation_failure` require.
 use Rattle.std.proofs.Common.{◌≡◌, ◌∙◌, ℕ, List, map, length, ap, sym, refl}
 use Rattle.std.proofs.lemmas.List.{length-map}
 use Rattle.pm_plan.specs.Parts.{PhasePart, node_part, phase_part}

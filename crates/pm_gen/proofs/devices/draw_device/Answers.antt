@@ -1,3 +1,4 @@
+-- Of `draw_device`: its clauses `device` and `seed`.
 use Rattle.std.proofs.Common.{rules}
 use Rattle.pm_gen.specs.Nodes.{drawn_device}
 use Rattle.pm_gen.proofs.devices.draw_device.Goals as goal

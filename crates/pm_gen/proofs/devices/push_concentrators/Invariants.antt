@@ -1,3 +1,4 @@
+-- Of `push_concentrators`: what lasts from turn to turn.
 use Rattle.std.proofs.Common.{◌≡◌, ◌++◌, map, replicate}
 use Rattle.pm_plan.specs.Parts.{node_part, concentrator}
 use Rattle.pm_gen.proofs.devices.push_concentrators.Given as goal

@@ -1,3 +1,4 @@
+-- Of `push_devices`: its clauses `devices` and `seed`; what the call of `loop` requires.
 use Rattle.std.proofs.Common.{ap, ◌∙◌, [], ◌∷◌, map}
 use Rattle.std.proofs.lemmas.List.{map-append}
 use Rattle.pm_plan.specs.Parts.{node_part}

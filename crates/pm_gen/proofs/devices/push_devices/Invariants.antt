@@ -1,3 +1,4 @@
+-- Of `push_devices`: what lasts from turn to turn.
 use Rattle.std.proofs.Common.{map}
 use Rattle.pm_plan.specs.Parts.{node_part}
 use Rattle.pm_gen.proofs.Drawing.{Drawn}

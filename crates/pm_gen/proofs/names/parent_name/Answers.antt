@@ -1,3 +1,4 @@
+-- Of `parent_name`: what it ensures.
 use Rattle.std.proofs.Common.{rules}
 use Rattle.pm_gen.proofs.names.parent_name.Goals as goal
 

@@ -1,3 +1,4 @@
+-- Of `join_all`: what it ensures; the turns of its loop over `place`.
 use Rattle.std.proofs.Common.{rules, []}
 use Rattle.pm_plan.specs.Parts.{event_part, join}
 use Rattle.pm_gen.specs.Nodes.{device_name}

@@ -1,3 +1,4 @@
+-- Of `join_all`: what its loop over `place` keeps.
 use Rattle.std.proofs.Common.{◌≡◌, map}
 use Rattle.std.specs.List.{range_with_len}
 use Rattle.pm_plan.specs.Parts.{event_part, join}

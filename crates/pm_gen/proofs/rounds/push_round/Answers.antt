@@ -1,3 +1,4 @@
+-- Of `push_round`: its clause `phases`.
 use Rattle.std.proofs.Common.{◌≡◌, ◌∙◌, ◌++◌, [], ◌∷◌, List, map, ap, pos, append_assoc}
 use Rattle.std.proofs.lemmas.List.{map-append}
 use Rattle.pm_plan.specs.declared.parts.PhaseSpec.{PhaseSpec}

@@ -1,3 +1,4 @@
+-- Of `push_rounds`: what it ensures; what the call of `loop` requires.
 use Rattle.std.proofs.Common.{◌∙◌, length, map}
 use Rattle.pm_plan.specs.Parts.{phase_part}
 use Rattle.pm_gen.proofs.Flags.{rounded-more, rounded-all}

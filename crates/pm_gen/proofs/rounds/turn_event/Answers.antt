@@ -1,3 +1,4 @@
+-- Of `turn_event`: its clause `members`.
 use Rattle.std.proofs.Common.{rules}
 use Rattle.pm_gen.proofs.rounds.turn_event.Goals as goal
 

@@ -1,3 +1,4 @@
+-- Of `turn_round`: what the call of `loop` requires.
 use Rattle.std.proofs.Common.{◌≡◌, ◌<◌, [], ◌∷◌, length, map, get_or, false, not, refl, sym, ap, ◌∙◌, arith}
 use Rattle.std.proofs.lemmas.List.{length-set, map-append}
 use Rattle.pm_plan.specs.Parts.{event_part}

@@ -1,3 +1,4 @@
+-- Of `turn_round`: what lasts from turn to turn.
 use Rattle.std.proofs.Common.{◌≡◌, ℕ, List, length, map}
 use Rattle.pm_plan.specs.Parts.{event_part}
 use Rattle.pm_gen.specs.Rounds.{joined_flags, seed_after}

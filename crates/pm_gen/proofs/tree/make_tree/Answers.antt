@@ -1,3 +1,4 @@
+-- Of `make_tree`: what the call of `allocation_failure` requires.
 use Rattle.pm_tree.specs.Entries.{entries_of}
 use Rattle.pm_gen.proofs.Trees.{fault_is_memory}
 use Rattle.pm_gen.proofs.tree.make_tree.Goals as goal

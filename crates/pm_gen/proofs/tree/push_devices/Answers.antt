@@ -1,3 +1,4 @@
+-- Of `push_devices`: the turns of its loop over `place`.
 use Rattle.pm_tree.specs.Entries.{entry_of, entries_of}
 use Rattle.pm_gen.specs.Nodes.{device_entry}
 use Rattle.pm_gen.proofs.Ranges.{map-pushed}

@@ -1,3 +1,4 @@
+-- Of `push_devices`: what its loop over `place` keeps.
 use Rattle.std.proofs.Common.{◌≡◌, ◌++◌}
 use Rattle.pm_tree.specs.Entries.{entries_of}
 use Rattle.pm_gen.specs.Nodes.{device_entries}

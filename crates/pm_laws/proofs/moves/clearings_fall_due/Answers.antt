@@ -1,3 +1,4 @@
+-- Of `clearings_fall_due`: its clauses `published` and `cleared`.
 use Rattle.pm_laws.proofs.MoveLaws.{due_published, due_cleared}
 use Rattle.pm_laws.proofs.moves.clearings_fall_due.Goals as goal
 

@@ -1,3 +1,4 @@
+-- Of `what_is_known_is_added`: its clauses `published` and `cleared`.
 use Rattle.pm_laws.proofs.MoveLaws.{publishing, clearing}
 use Rattle.pm_laws.proofs.moves.what_is_known_is_added.Goals as goal
 

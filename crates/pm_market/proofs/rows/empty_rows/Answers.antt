@@ -1,3 +1,4 @@
+-- Of `empty_rows`: what it ensures; the turns of its loop over `row`.
 use Rattle.std.proofs.Common.{◌≡◌, ◌∙◌, ap, map, replicate, [], arith}
 use Rattle.pm_market.proofs.Tables.{empty_more}
 use Rattle.pm_market.proofs.rows.empty_rows.Goals as goal

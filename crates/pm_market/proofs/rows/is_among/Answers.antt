@@ -1,3 +1,4 @@
+-- Of `is_among`: what it ensures; the turns of its loop over `back`.
 use Rattle.std.proofs.Common.{◌<◌, ◌-◌, ℕ, get_or, length, sym, ◌∙◌, ap, arith, inl, inr}
 use Rattle.std.proofs.lemmas.Bool.{cases_eq}
 use Rattle.std.proofs.lemmas.List.{get_or_default}

@@ -1,3 +1,4 @@
+-- Of `is_among`: what its loop over `back` keeps.
 use Rattle.std.proofs.Common.{◌≡◌, ◌≤◌, ◌<◌, ◌-◌, ℕ, get_or, length}
 use Rattle.pm_market.proofs.rows.is_among.Given as goal
 

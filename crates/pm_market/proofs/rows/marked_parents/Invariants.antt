@@ -1,3 +1,4 @@
+-- Of `marked_parents`: what its loop over `at` keeps.
 use Rattle.std.proofs.Common.{◌≡◌, ◌<◌, ℕ, get_or, true}
 use Rattle.pm_market.proofs.rows.marked_parents.Given as goal
 

@@ -1,3 +1,4 @@
+-- Of `push_at`: its clauses `err` and `ok`.
 use Rattle.std.proofs.Common.{ap, sym, ◌∙◌, [], set, ◌++◌, ◌∷◌}
 use Rattle.std.proofs.lemmas.List.{map-set, get_or-map}
 use Rattle.std.proofs.Math.Seq.{map-set_same}

@@ -1,3 +1,4 @@
+-- Of `setpoints_answer_offers`: its clauses `run`, `event`, `later` and 4 more.
 use Rattle.pm_net.proofs.Membership.{of_membership}
 use Rattle.pm_net.proofs.Offers.{few_kept, gives}
 use Rattle.pm_net.proofs.Steps.{run_from_start, step_goes_on, cuts_rise, rising_from_start}

@@ -1,3 +1,4 @@
+-- Of `settled_devices_were_told`: what it ensures.
 use Rattle.pm_net.proofs.Told.{told_now}
 use Rattle.pm_net.proofs.devices.settled_devices_were_told.Goals as goal
 

@@ -1,3 +1,4 @@
+-- Of `plans_price_networks`: its clauses `goes` and `prices`.
 use Rattle.std.proofs.Common.{ap}
 use Rattle.pm_net.specs.Messages.{PriceMessage}
 use Rattle.pm_net_plan.proofs.PlanPlaces.{goes}

@@ -1,3 +1,4 @@
+-- Of `trees_have_places`: its clauses `numbering`, `small` and `plans`.
 use Rattle.pm_net_plan.proofs.Children.{is_numbering, small}
 use Rattle.pm_net_plan.proofs.PlanPlaces.{numbering}
 use Rattle.pm_net_plan.proofs.places.trees_have_places.Goals as goal

@@ -1,3 +1,4 @@
+-- Of `make_agents`: the turns of its loop over `number`.
 use Rattle.pm_nodes.proofs.DeviceAgents.{one_more}
 use Rattle.pm_nodes.proofs.agents.make_agents.Goals as goal
 

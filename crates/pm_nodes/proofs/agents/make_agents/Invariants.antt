@@ -1,3 +1,4 @@
+-- Of `make_agents`: what its loop over `number` keeps.
 use Rattle.pm_nodes.proofs.DeviceAgents.{AreAgentsTo}
 use Rattle.pm_nodes.proofs.agents.make_agents.Given as goal
 

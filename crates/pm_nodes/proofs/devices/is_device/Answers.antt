@@ -1,3 +1,4 @@
+-- Of `is_device`: its clauses `no` and `yes`.
 use Rattle.std.proofs.Common.{◌∙◌, sym, ap, length, arith}
 use Rattle.std.proofs.lemmas.Bool.{both_ways}
 use Rattle.pm_nodes.proofs.DeviceAgents.{far, leaf_told}

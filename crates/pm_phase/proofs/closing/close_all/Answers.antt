@@ -1,3 +1,4 @@
+-- Of `close_all`: what the call of `close_one` requires; the turns of its loop over `link`.
 use Rattle.pm_phase.proofs.Placing.{popped}
 use Rattle.pm_phase.proofs.closing.close_all.Goals as goal
 

@@ -1,3 +1,4 @@
+-- Of `close_all`: what its loop over `link` keeps.
 use Rattle.std.proofs.Common.{length}
 use Rattle.pm_phase.specs.Ends.{ArePlaced}
 use Rattle.pm_phase.proofs.closing.close_all.Given as goal

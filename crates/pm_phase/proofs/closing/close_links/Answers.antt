@@ -1,3 +1,4 @@
+-- Of `close_links`: the turns of its loop over `node`.
 use Rattle.std.proofs.Common.{List, All, subst}
 use Rattle.std.proofs.lemmas.List.Elements.{All-tail}
 use Rattle.pm_cells.specs.Ends.{TableId}

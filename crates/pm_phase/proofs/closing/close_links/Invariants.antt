@@ -1,3 +1,4 @@
+-- Of `close_links`: what its loop over `node` keeps.
 use Rattle.std.proofs.Common.{All}
 use Rattle.pm_phase.specs.Ends.{AreOf, ArePlaced}
 use Rattle.pm_phase.proofs.closing.close_links.Given as goal

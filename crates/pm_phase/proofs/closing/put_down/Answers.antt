@@ -1,3 +1,4 @@
+-- Of `put_down`: what it ensures; that its numbers fit.
 use Rattle.std.proofs.Common.{arith}
 use Rattle.pm_phase.proofs.Placing.{same_length, in_range, puts_down}
 use Rattle.pm_phase.proofs.closing.put_down.Goals as goal

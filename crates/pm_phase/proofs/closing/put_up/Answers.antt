@@ -1,3 +1,4 @@
+-- Of `put_up`: what it ensures; that its numbers fit.
 use Rattle.std.proofs.Common.{arith}
 use Rattle.pm_phase.proofs.Placing.{same_length, in_range, puts_up}
 use Rattle.pm_phase.proofs.closing.put_up.Goals as goal

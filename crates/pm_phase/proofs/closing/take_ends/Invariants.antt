@@ -1,3 +1,4 @@
+-- Of `take_ends`: what its loop over `down` keeps.
 use Rattle.std.proofs.Common.{All}
 use Rattle.pm_phase.specs.Ends.{IsDownOf, ArePlaced}
 use Rattle.pm_phase.proofs.closing.take_ends.Given as goal

@@ -1,3 +1,4 @@
+-- Of `children_turn`: what its loop over `place` keeps.
 use Rattle.std.proofs.Common.{All, ◌-◌, length}
 use Rattle.pm_phase.specs.Ends.{IsDownOf}
 use Rattle.pm_phase.proofs.node.children_turn.Given as goal

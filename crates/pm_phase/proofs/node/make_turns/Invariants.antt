@@ -1,3 +1,4 @@
+-- Of `make_turns`: what lasts from turn to turn.
 use Rattle.pm_phase.specs.Ends.{AreOf}
 use Rattle.pm_phase.proofs.node.make_turns.Given as goal
 

@@ -1,3 +1,4 @@
+-- Of `add_link`: its clause `places`.
 use Rattle.std.proofs.Common.{List, sym, subst}
 use Rattle.pm_cells.specs.Ends.{TableId}
 use Rattle.pm_phase.specs.Ends.{ArePlaced}

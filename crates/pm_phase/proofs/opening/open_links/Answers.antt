@@ -1,3 +1,4 @@
+-- Of `open_links`: what the call of `hand_out` requires; the turns of its loop over `number`.
 use Rattle.std.proofs.Common.{List, All, sym, ◌∙◌, subst}
 use Rattle.pm_cells.specs.Ends.{TableId}
 use Rattle.pm_phase.specs.Ends.{AreOf}

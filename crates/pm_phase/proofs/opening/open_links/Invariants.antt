@@ -1,3 +1,4 @@
+-- Of `open_links`: what its loop over `number` keeps.
 use Rattle.std.proofs.Common.{All}
 use Rattle.pm_phase.specs.Ends.{AreOf, ArePlaced}
 use Rattle.pm_phase.proofs.opening.open_links.Given as goal

@@ -1,3 +1,4 @@
+-- Of `without_ends`: the turns of its loop over `work`.
 use Rattle.std.proofs.Common.{All, [], sym, subst, arith}
 use Rattle.std.proofs.lemmas.List.Elements.{All-push}
 use Rattle.pm_phase.specs.Ends.{AreOf, IsDownOf}

@@ -1,3 +1,4 @@
+-- Of `take_round`: what its loop over `at` keeps.
 use Rattle.std.proofs.Common.{All, ◌-◌, length}
 use Rattle.pm_phase.specs.Ends.{AreOf}
 use Rattle.pm_phase.proofs.phase.take_round.Given as goal

@@ -1,3 +1,4 @@
+-- Of `take_to_end`: what lasts from turn to turn.
 use Rattle.std.proofs.Common.{All}
 use Rattle.pm_phase.specs.Ends.{AreOf}
 use Rattle.pm_phase.proofs.phase.take_to_end.Given as goal

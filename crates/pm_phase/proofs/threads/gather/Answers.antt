@@ -1,3 +1,4 @@
+-- Of `gather`: the turns of its loop over `handle`.
 use Rattle.std.proofs.Common.{◌≡◌, List, All, sym, subst}
 use Rattle.std.proofs.lemmas.List.Elements.{All-push, All-head, All-tail}
 use Rattle.pm_cells.specs.Ends.{TableId}

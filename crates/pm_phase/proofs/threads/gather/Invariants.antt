@@ -1,3 +1,4 @@
+-- Of `gather`: what its loop over `handle` keeps.
 use Rattle.std.proofs.Common.{◌≡◌, All}
 use Rattle.pm_phase.specs.Ends.{AreOf}
 use Rattle.pm_phase.proofs.threads.gather.Given as goal

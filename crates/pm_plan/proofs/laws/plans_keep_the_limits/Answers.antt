@@ -1,3 +1,4 @@
+-- Of `plans_keep_the_limits`: what it ensures.
 use Rattle.pm_plan.proofs.PublicLaws.{plans}
 use Rattle.pm_plan.proofs.laws.plans_keep_the_limits.Goals as goal
 

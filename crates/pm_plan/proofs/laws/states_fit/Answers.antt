@@ -1,3 +1,4 @@
+-- Of `states_fit`: its clauses `within` and `powers`.
 use Rattle.pm_plan.proofs.PublicLaws.{within, powers}
 use Rattle.pm_plan.proofs.laws.states_fit.Goals as goal
 

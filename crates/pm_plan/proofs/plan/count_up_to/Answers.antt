@@ -1,3 +1,4 @@
+-- Of `count_up_to`: what it ensures.
 use Rattle.std.proofs.Common.{sym, rules, arith}
 use Rattle.std.proofs.lemmas.List.Sums.{prefix_len_is}
 use Rattle.std.proofs.lemmas.List.Sorted.{IsPartitionPoint-from_clause, IsPartitionedBy-leb, IsNonDecreasingBy-from_default}

@@ -1,3 +1,4 @@
+-- Of `same_array`: what its loop over `step` keeps.
 use Rattle.std.proofs.Common.{◌≡◌, length, take}
 use Rattle.pm_plan.proofs.same.same_array.Given as goal
 

@@ -1,3 +1,4 @@
+-- Of `same_changes`: what it ensures.
 use Rattle.std.proofs.lemmas.Slice.Eq.{slice_eq-Decides}
 use Rattle.pm_plan.proofs.Equals.{same_change}
 use Rattle.pm_plan.proofs.same.same_changes.Goals as goal

@@ -1,3 +1,4 @@
+-- Of `same_device`: what it ensures.
 use Rattle.std.proofs.Common.{rules}
 use Rattle.pm_plan.proofs.same.same_device.Goals as goal
 

@@ -1,3 +1,4 @@
+-- Of `same_minutes`: what it ensures.
 use Rattle.std.proofs.lemmas.Slice.Eq.{slice_eq-Decides}
 use Rattle.pm_plan.proofs.Equals.{same_minutes}
 use Rattle.pm_plan.proofs.same.same_minutes.Goals as goal

@@ -1,3 +1,4 @@
+-- Of `same_nodes`: what its loop over `place` keeps.
 use Rattle.std.proofs.Common.{◌≡◌, length, take}
 use Rattle.pm_plan.proofs.same.same_nodes.Given as goal
 

@@ -1,3 +1,4 @@
+-- Of `learn`: what the call of `learn` requires.
 use Rattle.std.specs.Option.{option_copied}
 use Rattle.pm_cache.specs.Learning.{demand_of_offer}
 use Rattle.pm_cache.proofs.SingleBids.{single_within}

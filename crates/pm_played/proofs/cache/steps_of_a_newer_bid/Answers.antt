@@ -1,3 +1,4 @@
+-- Of `steps_of_a_newer_bid`: what the call of `replace` requires.
 use Rattle.pm_bid.proofs.SumLaws.{sum_of_one}
 use Rattle.pm_played.proofs.cache.steps_of_a_newer_bid.Goals as goal
 

@@ -1,3 +1,4 @@
+-- Of `fills_the_window`: what its loop over `number` keeps.
 use Rattle.std.proofs.Common.{◌≡◌, ◌+◌, length}
 use Rattle.pm_cache.specs.Learning.{HasSingleBids}
 use Rattle.pm_played.proofs.concentrator.fills_the_window.Given as goal

@@ -1,3 +1,4 @@
+-- Of `learn`: what the call of `learn` requires.
 use Rattle.std.proofs.Common.{◌∙◌, sym, subst}
 use Rattle.pm_cache.specs.Cache.{Cache, IsCache}
 use Rattle.pm_cache.proofs.SingleBids.{single_within}

@@ -1,3 +1,4 @@
+-- Of `new_links`: what its loop over `link` keeps.
 use Rattle.std.proofs.Common.{◌≡◌, ℕ, ◌<◌, length}
 use Rattle.pm_session.specs.Prices.{session_at}
 use Rattle.pm_played.proofs.concentrator.new_links.Given as goal

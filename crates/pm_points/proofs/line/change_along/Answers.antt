@@ -1,3 +1,4 @@
+-- Of `change_along`: its clauses `change`, `falls` and `stays`; that its numbers fit.
 use Rattle.std.proofs.Common.{rules, ◌≡◌, ◌∙◌, ap, sym, subst, ℤ, pos, ◌≤◌, ◌≤ℤ◌, FitsSigned, w64, to_z, of_z, lit<, arith}
 use Rattle.std.specs.Prelude.{◌*ℤ◌, unsigned_abs}
 use Rattle.std.specs.Int.{int_div_euclid}

@@ -1,3 +1,4 @@
+-- Of `find_last_at_most`: its clauses `place`, `last` and `none`; the turns of its loop over `at`.
 use Rattle.std.proofs.Common.{rules, arith, ◌-◌, ◌<ℤ◌, pos, Some, None}
 use Rattle.std.proofs.lemmas.Int.{ints}
 use Rattle.std.proofs.lemmas.List.Elements.{All-from_get_or}

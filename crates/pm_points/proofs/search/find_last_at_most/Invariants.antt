@@ -1,3 +1,4 @@
+-- Of `find_last_at_most`: what its loop over `at` keeps.
 use Rattle.pm_points.proofs.LastPoint.{Above}
 use Rattle.pm_points.proofs.search.find_last_at_most.Given as goal
 

@@ -1,3 +1,4 @@
+-- Of `find_outside`: its clause `position`; the turns of its loop over `at`.
 use Rattle.std.proofs.Common.{rules, arith, ◌≡◌, ◌∙◌, true, false, pos, FitsSigned, w64, to_z, of_z, sym, below_more}
 use Rattle.std.proofs.lemmas.Int.{ints, to_z-of_z}
 use Rattle.std.proofs.lemmas.List.Sums.{position_or_len_is}

@@ -1,3 +1,4 @@
+-- Of `find_outside`: what its loop over `at` keeps.
 use Rattle.std.proofs.Common.{◌≡◌, ℕ, ◌<◌, false}
 use Rattle.pm_points.specs.Points.{point_at, price_of_point}
 use Rattle.pm_points.specs.Checks.{is_outside}

@@ -1,3 +1,4 @@
+-- Of `find_price_fall`: what it ensures.
 use Rattle.std.proofs.Common.{rules, arith, ◌≡◌, ◌-◌, true, FitsSigned, w64}
 use Rattle.std.proofs.lemmas.Int.{ints}
 use Rattle.pm_points.specs.Points.{point_at, price_of_point}

@@ -1,3 +1,4 @@
+-- Of `find_price_fall`: what its loop over `at` keeps.
 use Rattle.std.proofs.Common.{◌≡◌, ℕ, ◌+◌, ◌<◌, false}
 use Rattle.pm_points.specs.Points.{point_at}
 use Rattle.pm_points.specs.Checks.{price_falls}

@@ -1,3 +1,4 @@
+-- Of `find_too_large`: what it ensures.
 use Rattle.std.proofs.Common.{rules, arith, ◌≡◌, true, pos, FitsSigned, w64, sym}
 use Rattle.std.proofs.lemmas.Int.{ints}
 use Rattle.std.proofs.lemmas.List.Sums.{position_or_len_is}

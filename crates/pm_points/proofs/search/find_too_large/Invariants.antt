@@ -1,3 +1,4 @@
+-- Of `find_too_large`: what its loop over `at` keeps.
 use Rattle.std.proofs.Common.{◌≡◌, ℕ, ◌<◌, false}
 use Rattle.pm_bid.specs.Checks.{is_too_large}
 use Rattle.pm_points.specs.Points.{point_at, demand_of_point}

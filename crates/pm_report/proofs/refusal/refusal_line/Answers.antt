@@ -1,3 +1,4 @@
+-- Of `refusal_line`: what it ensures.
 use Rattle.std.proofs.Common.{rules}
 use Rattle.pm_report.proofs.refusal.refusal_line.Goals as goal
 

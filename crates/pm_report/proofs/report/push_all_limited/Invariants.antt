@@ -1,3 +1,4 @@
+-- Of `push_all_limited`: what its loop over `limited` keeps.
 use Rattle.std.proofs.Common.{◌≡◌, ◌++◌, string_bytes, take}
 use Rattle.std.specs.Prelude.{flat_map}
 use Rattle.pm_report.specs.Report.{limited_text}

@@ -1,3 +1,4 @@
+-- Of `push_members`: what its loop over `member` keeps.
 use Rattle.std.proofs.Common.{◌≡◌, ◌++◌, string_bytes, take}
 use Rattle.std.specs.Prelude.{flat_map}
 use Rattle.pm_report.specs.Report.{member_text}

@@ -1,3 +1,4 @@
+-- Of `push_phase`: what it ensures.
 use Rattle.std.proofs.Common.{arith}
 use Rattle.std.proofs.lemmas.Grind.{common_steps}
 use Rattle.pm_report.specs.Report.{phase_text}

@@ -1,3 +1,4 @@
+-- Of `push_phases`: what the call of `push_phase` requires; the turns of its loop over `before`.
 use Rattle.pm_report.specs.Report.{IsEndOf}
 use Rattle.pm_report.proofs.Reports.{next_phase, end_at}
 use Rattle.pm_report.proofs.report.push_phases.Goals as goal

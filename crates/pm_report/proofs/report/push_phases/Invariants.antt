@@ -1,3 +1,4 @@
+-- Of `push_phases`: what its loop over `before` keeps.
 use Rattle.std.proofs.Common.{◌≡◌, ◌++◌, string_bytes, take}
 use Rattle.pm_report.specs.Report.{phase_texts, ends_of}
 use Rattle.pm_report.proofs.report.push_phases.Given as goal

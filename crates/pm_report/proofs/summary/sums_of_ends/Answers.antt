@@ -1,3 +1,4 @@
+-- Of `sums_of_ends`: its clauses `prices` and `totals`; the turns of its loop over `end`.
 use Rattle.std.proofs.lemmas.Grind.{common_steps}
 use Rattle.std.proofs.Common.{arith}
 use Rattle.std.proofs.lemmas.Int.{ints}

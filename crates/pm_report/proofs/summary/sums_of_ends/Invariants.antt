@@ -1,3 +1,4 @@
+-- Of `sums_of_ends`: what its loop over `end` keeps.
 use Rattle.std.proofs.Common.{◌≡◌, ℕ, ◌*◌, ℤ, pos, neg_ℤ, ◌≤ℤ◌, take}
 use Rattle.pm_report.specs.Report.{ends_of}
 use Rattle.pm_report.specs.Summary.{sum_over}

@@ -1,3 +1,4 @@
+-- Of `push_lines`: the turns of its loop over `at`.
 use Rattle.std.proofs.Common.{◌≡◌, ◌∙◌, sym, ap, subst, ℕ, ◌+◌, List, [], ◌∷◌, ◌++◌, take, Some, arith, slice_get, string_bytes}
 use Rattle.std.proofs.Common.{refl}
 use Rattle.std.specs.Prelude.{flat_map, IsNone}

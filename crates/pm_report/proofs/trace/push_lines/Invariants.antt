@@ -1,3 +1,4 @@
+-- Of `push_lines`: what its loop over `at` keeps.
 use Rattle.std.proofs.Common.{◌≡◌, ◌++◌, string_bytes, take}
 use Rattle.std.specs.Prelude.{flat_map}
 use Rattle.pm_report.specs.Trace.{move_line}

@@ -1,3 +1,4 @@
+-- Of `push_pass`: what it ensures.
 use Rattle.std.proofs.Common.{rules}
 use Rattle.pm_report.proofs.trace.push_pass.Goals as goal
 

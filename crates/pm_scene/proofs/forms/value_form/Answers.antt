@@ -1,3 +1,4 @@
+-- Of `value_form`: what it ensures.
 use Rattle.std.proofs.Common.{rules}
 use Rattle.pm_scene.proofs.forms.value_form.Goals as goal
 

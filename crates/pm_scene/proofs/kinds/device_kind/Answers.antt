@@ -1,3 +1,4 @@
+-- Of `device_kind`: what it ensures.
 use Rattle.std.proofs.Common.{refl, inl, inr}
 use Rattle.pm_scene.proofs.kinds.device_kind.Goals as goal
 

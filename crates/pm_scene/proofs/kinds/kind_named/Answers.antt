@@ -1,3 +1,4 @@
+-- Of `kind_named`: what it ensures.
 use Rattle.std.proofs.Common.{rules}
 use Rattle.pm_scene.proofs.kinds.kind_named.Goals as goal
 

@@ -1,3 +1,4 @@
+-- Of `are_wholes`: what it ensures.
 use Rattle.std.proofs.Common.{◌∙◌}
 use Rattle.serde_json.specs.View.{view}
 use Rattle.pm_scene.specs.Members.{is_whole}

@@ -1,3 +1,4 @@
+-- Of `check_members`: what it ensures.
 use Rattle.std.proofs.Common.{rules}
 use Rattle.pm_scene.specs.Members.{members_check}
 use Rattle.pm_scene.proofs.members.check_members.Goals as goal

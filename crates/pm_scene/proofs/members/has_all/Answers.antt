@@ -1,3 +1,4 @@
+-- Of `has_all`: what it ensures.
 use Rattle.std.proofs.Common.{◌∙◌}
 use Rattle.serde_json.specs.View.{view}
 use Rattle.pm_scene.specs.Members.{Row, row_of, has_all}

@@ -1,3 +1,4 @@
+-- Of `has_only`: what it ensures.
 use Rattle.std.proofs.Common.{◌∙◌}
 use Rattle.pm_scene.proofs.Lists.{has_only_entries}
 use Rattle.pm_scene.proofs.members.has_only.Goals as goal

@@ -1,3 +1,4 @@
+-- Of `have_forms`: what it ensures.
 use Rattle.std.proofs.Common.{◌∙◌}
 use Rattle.serde_json.specs.View.{view}
 use Rattle.pm_scene.specs.Members.{Row, has_form_at, row_of, have_forms}

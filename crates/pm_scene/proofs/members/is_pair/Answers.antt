@@ -1,3 +1,4 @@
+-- Of `is_pair`: what it ensures.
 use Rattle.std.proofs.Common.{◌≡◌, ◌∙◌, ap, ◌<◌, ◌≤◌, false, List, [], ◌∷◌, map, length, get_or, arith}
 use Rattle.std.specs.Prelude.{◌&&◌}
 use Rattle.serde_json.specs.Data.{Data}

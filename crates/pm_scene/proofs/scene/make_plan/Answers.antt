@@ -1,3 +1,4 @@
+-- Of `make_plan`: what the call of `plan_of_parts` requires.
 use Rattle.std.proofs.Common.{◌∙◌, sym, ap, subst, map}
 use Rattle.pm_plan.specs.Parts.{AreNodesOf}
 use Rattle.pm_scene.specs.Nodes.{named_part}

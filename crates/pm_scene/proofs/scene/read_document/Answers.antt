@@ -1,3 +1,4 @@
+-- Of `read_document`: what it ensures.
 use Rattle.std.proofs.Common.{◌∙◌, sym, ap, Err}
 use Rattle.pm_scene.proofs.Documents.{document-read, document-unread}
 use Rattle.pm_scene.proofs.scene.read_document.Goals as goal

@@ -1,3 +1,4 @@
+-- Of `parts_of`: what its loop over `node` keeps.
 use Rattle.std.proofs.Common.{◌≡◌, ◌++◌, length, map}
 use Rattle.std.specs.Vec.Iter.{into_iter_items, into_iter_len}
 use Rattle.pm_tree.specs.Entries.{entries_of}

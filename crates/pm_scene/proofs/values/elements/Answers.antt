@@ -1,3 +1,4 @@
+-- Of `elements`: what it ensures.
 use Rattle.pm_scene.proofs.Lists.{data_list-items_view}
 use Rattle.pm_scene.proofs.values.elements.Goals as goal
 

@@ -1,3 +1,4 @@
+-- Of `pair_of`: what it ensures.
 use Rattle.std.proofs.Common.{rules, ◌≡◌, ◌∙◌, ◌<◌, ◌≤◌, sym, ap, List, [], ◌∷◌, length, map, get_or, arith}
 use Rattle.std.proofs.lemmas.Int.{to_z-of_z}
 use Rattle.serde_json.specs.Data.{Data}

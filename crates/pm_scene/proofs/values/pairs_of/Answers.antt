@@ -1,3 +1,4 @@
+-- Of `pairs_of`: what it ensures.
 use Rattle.std.proofs.Common.{◌≡◌, subst, List, ℤ, IfOk}
 use Rattle.serde_json.specs.View.{view}
 use Rattle.pm_scene.specs.Values.{pair_of}

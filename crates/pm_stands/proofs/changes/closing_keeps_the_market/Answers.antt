@@ -1,3 +1,4 @@
+-- Of `closing_keeps_the_market`: what it ensures.
 use Rattle.pm_stands.proofs.Closing.{close_made}
 use Rattle.pm_stands.proofs.changes.closing_keeps_the_market.Goals as goal
 

@@ -1,3 +1,4 @@
+-- Of `openings_stand`: what it ensures.
 use Rattle.pm_stands.proofs.Starting.{opened_stands}
 use Rattle.pm_stands.proofs.changes.openings_stand.Goals as goal
 

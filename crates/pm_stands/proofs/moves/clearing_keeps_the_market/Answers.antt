@@ -1,3 +1,4 @@
+-- Of `clearing_keeps_the_market`: its clauses `made`, `condition` and `nothing`.
 use Rattle.pm_stands.proofs.MoveLaws.{clearing_made, clearing_condition, clearing_nothing}
 use Rattle.pm_stands.proofs.moves.clearing_keeps_the_market.Goals as goal
 

@@ -1,3 +1,4 @@
+-- Of `learning_keeps_the_market`: its clauses `made`, `condition` and `nothing`.
 use Rattle.pm_stands.proofs.MoveLaws.{learning_made, learning_condition, learning_nothing}
 use Rattle.pm_stands.proofs.moves.learning_keeps_the_market.Goals as goal
 

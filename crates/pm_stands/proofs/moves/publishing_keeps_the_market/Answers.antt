@@ -1,3 +1,4 @@
+-- Of `publishing_keeps_the_market`: its clauses `made`, `condition` and `nothing`.
 use Rattle.pm_stands.proofs.MoveLaws.{publishing_made, publishing_condition, publishing_nothing}
 use Rattle.pm_stands.proofs.moves.publishing_keeps_the_market.Goals as goal
 

@@ -1,3 +1,4 @@
+-- Of `passing_keeps_the_market`: its clauses `condition` and `nothing`.
 use Rattle.pm_stands.proofs.MayPass.{pass_condition, pass_nothing}
 use Rattle.pm_stands.proofs.prices.passing_keeps_the_market.Goals as goal
 

@@ -1,3 +1,4 @@
+-- Of `a_node_is_still_where_it_has_no_move`: its clauses `node` and `all`.
 use Rattle.pm_stands.proofs.StillNodes.{still_is, all_still_is}
 use Rattle.pm_stands.proofs.still.a_node_is_still_where_it_has_no_move.Goals as goal
 

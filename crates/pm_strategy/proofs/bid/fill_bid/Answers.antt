@@ -1,3 +1,4 @@
+-- Of `fill_bid`: its clauses `bid`, `steps`, `falls` and `within`; what the call of `fill` requires.
 use Rattle.std.proofs.Common.{◌∙◌, ap, sym, subst, ℤ, List, length}
 use Rattle.pm_bid.specs.Bids.{AllWithinLimit, NeverRises}
 use Rattle.pm_base.specs.Limits.{demand_limit, IsWithin}

@@ -1,3 +1,4 @@
+-- Of `around`: what it ensures.
 use Rattle.std.proofs.Common.{arith, ◌≡◌, pos, neg_ℤ, ◌+ℤ◌, ◌-ℤ◌, w64, FitsSigned, to_z, of_z}
 use Rattle.std.proofs.lemmas.Int.{ints, to_z-of_z}
 use Rattle.pm_device.specs.Kinds.{spread_limit}

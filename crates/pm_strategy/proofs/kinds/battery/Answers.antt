@@ -1,3 +1,4 @@
+-- Of `battery`: what it ensures; what the calls of `around` and `share` require; that its numbers fit.
 use Rattle.std.proofs.Common.{arith, ap, ◌∙◌, pos, w64, FitsSigned, ◌-ℤ◌, to_z, of_z, rules}
 use Rattle.std.proofs.lemmas.Int.{ints, to_z-of_z}
 use Rattle.pm_device.specs.Kinds.{spread_limit, power_limit}

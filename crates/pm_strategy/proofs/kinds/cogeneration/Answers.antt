@@ -1,3 +1,4 @@
+-- Of `cogeneration`: what it ensures; what the call of `from_share` requires; that its numbers fit.
 use Rattle.std.proofs.Common.{arith, ap, ◌∙◌, ◌≡◌, pos, neg_ℤ, w64, FitsSigned, ◌-ℤ◌, to_z, of_z}
 use Rattle.std.proofs.lemmas.Int.{ints, to_z-of_z}
 use Rattle.pm_device.proofs.Between.{is_temperature-tells, is_band-tells, is_power-tells}

@@ -1,3 +1,4 @@
+-- Of `heat_pump`: what it ensures; what the call of `up_to_share` requires; that its numbers fit.
 use Rattle.std.proofs.Common.{arith, w64, FitsSigned, ◌-ℤ◌, to_z, of_z}
 use Rattle.std.proofs.lemmas.Int.{ints, to_z-of_z}
 use Rattle.pm_device.proofs.Between.{is_temperature-tells, is_band-tells}

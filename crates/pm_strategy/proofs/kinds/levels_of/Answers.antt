@@ -1,3 +1,4 @@
+-- Of `levels_of`: what it ensures; what the calls of `freezer`, `heat_pump`, `cogeneration` and `battery` require; that its numbers fit.
 use Rattle.std.proofs.Common.{arith, rules, ◌≡◌, ◌∙◌, sym, subst, IsTrue, pos, neg_ℤ, ◌-ℤ◌, w64, to_z, of_z}
 use Rattle.std.proofs.lemmas.Int.{ints}
 use Rattle.pm_device.specs.Kinds.{is_valid, is_battery, state_fits}

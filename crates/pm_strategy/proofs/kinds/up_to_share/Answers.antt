@@ -1,3 +1,4 @@
+-- Of `up_to_share`: what it ensures.
 use Rattle.std.proofs.Common.{arith, ap, ◌∙◌, pos, w64, FitsSigned, ◌+ℤ◌, rules}
 use Rattle.std.proofs.lemmas.Int.{ints, to_z-of_z}
 use Rattle.pm_strategy.specs.Steps.{up_to}

@@ -1,3 +1,4 @@
+-- Of `share`: its clauses `step`, `small` and `not_negative`; what the call of `div_euclid` requires; that its numbers fit.
 use Rattle.std.proofs.Common.{rules, ◌≡◌, ◌∙◌, ℕ, ℤ, pos, negsuc, ◌*ℤ◌, ◌≤ℤ◌, ◌<ℤ◌, ◌*◌}
 use Rattle.std.proofs.Common.{w64, FitsSigned, to_z, of_z, arith}
 use Rattle.std.proofs.lemmas.Int.{ints, to_z-of_z}

@@ -1,3 +1,4 @@
+-- Of `share_up`: what it ensures; that its numbers fit.
 use Rattle.std.proofs.Common.{arith, ap, ◌∙◌, ◌≡◌, pos, neg_ℤ, w64, FitsSigned, ◌-ℤ◌, ◌*ℤ◌, ◌*◌, to_z}
 use Rattle.std.proofs.lemmas.Int.{ints, to_z-of_z}
 use Rattle.pm_base.specs.Limits.{demand_limit, IsWithin}

@@ -1,3 +1,4 @@
+-- Of `texts_have_causes`: its clauses `done`, `invalid`, `usage` and 4 more.
 use Rattle.std.proofs.Common.{refl}
 use Rattle.std.specs.Prelude.{Some}
 use Rattle.pm_answer.specs.declared.arguments.Command.TheVariants.{Serve}

@@ -1,3 +1,4 @@
+-- Of `file`: its clauses `written`, `write_fault` and `answer`.
 use Rattle.std.proofs.Common.{◌∙◌, refl, Some, subst, sym, length, ap, arith}
 use Rattle.std.specs.Io.KnownBytes.{Consumes}
 use Rattle.pm_io.specs.Taken.{TookMore}

@@ -1,3 +1,4 @@
+-- Of `service`: its clauses `bad_frame`, `refusal` and `end`.
 use Rattle.std.proofs.Common.{rules, ◌≡◌, ◌⊎◌, inl, inr}
 use Rattle.pm_wire.specs.declared.stream.Served.{Served}
 use Rattle.pm_wire.specs.declared.stream.Served.TheVariants.{Done, Refused, TooLong, ReadFault, WriteFault, NoMemory}

@@ -1,3 +1,4 @@
+-- Of `find_node`: what it ensures.
 use Rattle.std.proofs.Common.{◌∙◌, string_bytes}
 use Rattle.std.specs.Str.{bytes_eq}
 use Rattle.pm_tree.proofs.Named.{position-map}

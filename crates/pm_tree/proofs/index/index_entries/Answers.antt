@@ -1,3 +1,4 @@
+-- Of `index_entries`: its clause `refused`; what the call of `push` requires; the turns of its loop over `place`.
 use Rattle.std.proofs.Common.{◌≡◌, ◌<◌, ◌∙◌, ap, sym, subst, refl, map, length, take, [], string_bytes, arith, List, ℕ, ◌++◌, ◌∷◌}
 use Rattle.std.proofs.Common.{inl, slice_get}
 use Rattle.std.proofs.lemmas.List.{take_all}

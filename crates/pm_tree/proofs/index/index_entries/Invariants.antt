@@ -1,3 +1,4 @@
+-- Of `index_entries`: what its loop over `place` keeps.
 use Rattle.std.proofs.Common.{◌≡◌, [], map, take, string_bytes}
 use Rattle.pm_tree.specs.Shape.{IsTree}
 use Rattle.pm_tree.specs.Entries.{entries_of, parents_of, leaves_of, refusals_after}

@@ -1,3 +1,4 @@
+-- Of `collect_children`: what it ensures; what the call of `push_to` requires; the turns of its loop over `number`; that its numbers fit.
 use Rattle.std.proofs.Common.{◌≡◌, ◌≤◌, ◌<◌, ◌∙◌, ap, sym, refl, arith, subst, length, get_or, set, ℕ, List, [], ◌∷◌, ◌++◌}
 use Rattle.std.proofs.Common.{◌+◌, ◌-◌, Vec}
 use Rattle.std.specs.declared.alloc.Global.{Global}

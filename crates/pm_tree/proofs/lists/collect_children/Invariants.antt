@@ -1,3 +1,4 @@
+-- Of `collect_children`: what its loop over `number` keeps.
 use Rattle.std.proofs.Common.{◌-◌, length}
 use Rattle.pm_tree.specs.Shape.{children_among, place_at}
 use Rattle.pm_tree.specs.Tables.{shape_parents, AreLists, AreNumbers, node_lists}

@@ -1,3 +1,4 @@
+-- Of `collect_leaves`: what it ensures; what the call of `push_on_path` requires; the turns of its loop over `number`.
 use Rattle.std.proofs.Common.{◌≡◌, ◌∙◌, ap, sym, arith, subst, length, get_or, refl, List, [], ◌++◌, ◌+◌, ◌-◌, Vec}
 use Rattle.std.specs.declared.alloc.Global.{Global}
 use Rattle.std.proofs.lemmas.List.{with_items_is}

@@ -1,3 +1,4 @@
+-- Of `collect_leaves`: what its loop over `number` keeps.
 use Rattle.std.proofs.Common.{◌-◌, length}
 use Rattle.pm_tree.specs.Shape.{leaves_among}
 use Rattle.pm_tree.specs.Tables.{shape_parents, shape_leaves, AreLists, node_lists}

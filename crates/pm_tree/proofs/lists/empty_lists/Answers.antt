@@ -1,3 +1,4 @@
+-- Of `empty_lists`: what it ensures; what the call of `loop` requires.
 use Rattle.std.proofs.Common.{◌≡◌, ◌∙◌, ap, [], replicate, arith}
 use Rattle.pm_tree.proofs.TableLists.{none_more, all_empty}
 use Rattle.pm_tree.proofs.lists.empty_lists.Goals as goal

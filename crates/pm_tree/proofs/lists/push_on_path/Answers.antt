@@ -1,3 +1,4 @@
+-- Of `push_on_path`: what it ensures; what the call of `loop` requires; the turns of its loop over `at`.
 use Rattle.std.proofs.Common.{rules, ◌≡◌, ◌<◌, arith, get_or}
 use Rattle.std.proofs.lemmas.Result.{on_ok_weaker}
 use Rattle.pm_tree.specs.Shape.{parent_at}

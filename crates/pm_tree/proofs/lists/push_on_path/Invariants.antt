@@ -1,3 +1,4 @@
+-- Of `push_on_path`: what its loop over `at` keeps.
 use Rattle.std.proofs.Common.{◌≡◌, ◌<◌, ℕ, [], ◌++◌, length, get_or}
 use Rattle.pm_tree.specs.Tables.{added_on_path, shape_parents, node_lists}
 use Rattle.pm_tree.proofs.lists.push_on_path.Given as goal

@@ -1,3 +1,4 @@
+-- Of `push_to`: what it ensures.
 use Rattle.pm_tree.proofs.TableLists.{lists_of-set}
 use Rattle.pm_tree.proofs.lists.push_to.Goals as goal
 

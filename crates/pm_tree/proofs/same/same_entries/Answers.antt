@@ -1,3 +1,4 @@
+-- Of `same_entries`: what it ensures; the turns of its loop over `place`.
 use Rattle.std.proofs.Common.{◌<◌, subst, sym, refl}
 use Rattle.std.proofs.lemmas.Bool.{false≢true}
 use Rattle.std.proofs.lemmas.List.{length-map}

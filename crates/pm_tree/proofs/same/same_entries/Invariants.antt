@@ -1,3 +1,4 @@
+-- Of `same_entries`: what its loop over `place` keeps.
 use Rattle.std.proofs.Common.{◌≡◌, length, take}
 use Rattle.pm_tree.specs.Entries.{entries_of}
 use Rattle.pm_tree.proofs.same.same_entries.Given as goal

@@ -1,3 +1,4 @@
+-- Of `same_entry`: what it ensures.
 use Rattle.std.proofs.Common.{rules}
 use Rattle.pm_tree.proofs.same.same_entry.Goals as goal
 

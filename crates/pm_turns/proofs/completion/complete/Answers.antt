@@ -1,3 +1,4 @@
+-- Of `complete`: its clauses `plan` and `settled`.
 use Rattle.std.proofs.Common.{rules}
 use Rattle.pm_turns.proofs.completion.complete.Goals as goal
 

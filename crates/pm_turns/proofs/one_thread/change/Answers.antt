@@ -1,3 +1,4 @@
+-- Of `change`: what the call of `make_change` requires.
 use Rattle.pm_nodes.proofs.DeviceAgents.{agent_here}
 use Rattle.pm_turns.proofs.one_thread.change.Goals as goal
 

@@ -1,3 +1,4 @@
+-- Of `close`: what the call of `unreachable` requires.
 use Rattle.std.proofs.Common.{◌≡◌, ◌+◌, subst, refl, false, rules}
 use Rattle.pm_board.specs.Boards.{board_state}
 use Rattle.pm_market.specs.declared.moves.Move.TheVariants.{Close}

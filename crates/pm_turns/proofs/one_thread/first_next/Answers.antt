@@ -1,3 +1,4 @@
+-- Of `first_next`: its clause `none`; the turns of its loop over `number`.
 use Rattle.std.proofs.Common.{◌∙◌, ap, subst, sym, ◌≡◌, ℕ, length, arith, inl, inr}
 use Rattle.std.proofs.lemmas.Bool.{cases_lt}
 use Rattle.pm_base.proofs.Options.{none_of}

@@ -1,3 +1,4 @@
+-- Of `first_next`: what its loop over `number` keeps.
 use Rattle.std.proofs.Common.{ℕ, ◌<◌}
 use Rattle.pm_market.specs.Lists.{IsLeaf}
 use Rattle.pm_plan.specs.Market.{plan_lists}

@@ -1,3 +1,4 @@
+-- Of `is_settled`: what it ensures.
 use Rattle.std.proofs.Common.{subst}
 use Rattle.pm_plan.specs.Kept.{IsPlan}
 use Rattle.pm_turns.proofs.Finishing.{settled}

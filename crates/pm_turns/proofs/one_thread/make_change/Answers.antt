@@ -1,3 +1,4 @@
+-- Of `make_change`: what the calls of `work`, `post` and `unreachable` require.
 use Rattle.std.proofs.Common.{◌≡◌, ◌∙◌, sym, ap, subst, ℕ, Some}
 use Rattle.pm_board.specs.Boards.{board_state}
 use Rattle.pm_cluster.specs.Next.{IsNext}

@@ -1,3 +1,4 @@
+-- Of `make_move`: what the call of `close` requires.
 use Rattle.std.proofs.Common.{◌≡◌, sym, subst, false, rules}
 use Rattle.pm_board.specs.Boards.{BoardValue, board_state}
 use Rattle.pm_market.specs.Moves.{Idle}

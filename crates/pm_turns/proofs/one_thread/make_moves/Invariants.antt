@@ -1,3 +1,4 @@
+-- Of `make_moves`: what its loop over `board` keeps.
 use Rattle.std.proofs.Common.{◌≡◌, ◌-◌, length}
 use Rattle.pm_plan.specs.Plans.{plan_bound}
 use Rattle.pm_turns.specs.Turns.{Continues}

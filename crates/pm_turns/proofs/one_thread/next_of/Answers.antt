@@ -1,3 +1,4 @@
+-- Of `next_of`: its clauses `next`, `its` and `none`; what the call of `next` requires.
 use Rattle.std.proofs.Common.{◌≡◌, subst, true, rules}
 use Rattle.std.proofs.lemmas.Option.{MatchOption-at_none}
 use Rattle.pm_board.specs.Boards.{board_state}

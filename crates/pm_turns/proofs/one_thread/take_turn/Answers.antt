@@ -1,3 +1,4 @@
+-- Of `take_turn`: its clause `idle`; what the call of `turn_of` requires; the turns of its loop over `number`.
 use Rattle.std.proofs.Common.{◌≡◌, ◌∙◌, sym, ap, subst, ℕ, length, arith, inl, inr}
 use Rattle.std.proofs.lemmas.Bool.{cases_lt}
 use Rattle.pm_board.specs.Boards.{BoardValue, board_state}

@@ -1,3 +1,4 @@
+-- Of `take_turn`: what its loop over `number` keeps.
 use Rattle.std.proofs.Common.{◌≡◌, ℕ, ◌<◌}
 use Rattle.pm_plan.specs.Market.{plan_lists}
 use Rattle.pm_stands.specs.Actors.{NoMoveOf}

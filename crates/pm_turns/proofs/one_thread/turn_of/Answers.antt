@@ -1,3 +1,4 @@
+-- Of `turn_of`: its clause `none`.
 use Rattle.std.proofs.Common.{◌∙◌, sym}
 use Rattle.std.proofs.lemmas.Option.{MatchOption-at_none}
 use Rattle.pm_base.proofs.Options.{none_of}

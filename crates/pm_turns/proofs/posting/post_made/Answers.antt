@@ -1,3 +1,4 @@
+-- Of `post_made`: its clause `unfit`.
 use Rattle.std.proofs.Common.{rules}
 use Rattle.pm_turns.proofs.posting.post_made.Goals as goal
 

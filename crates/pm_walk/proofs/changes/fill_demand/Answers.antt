@@ -1,3 +1,4 @@
+-- Of `fill_demand`: its clauses `demand` and `steps`; what the call of `fill_bid` requires.
 use Rattle.std.proofs.Common.{◌≡◌, ◌∙◌, ap, sym, subst, ℕ, ℤ, List, length, Some}
 use Rattle.pm_bid.specs.Bids.{HaveSteps, zeros}
 use Rattle.pm_bid.proofs.Sums.{length-zeros}

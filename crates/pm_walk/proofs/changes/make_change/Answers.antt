@@ -1,3 +1,4 @@
+-- Of `make_change`: its clauses `count` and `state`.
 use Rattle.std.proofs.Common.{rules}
 use Rattle.pm_walk.proofs.changes.make_change.Goals as goal
 

@@ -1,3 +1,4 @@
+-- Of `make_changes`: what the calls of `unwrap`, `make_change` and `loop` require; that its numbers fit.
 use Rattle.std.proofs.Common.{◌∙◌, ap, sym, subst, ◌-◌, ◌<◌, arith, rules}
 use Rattle.std.proofs.lemmas.Int.{to_z-of_z}
 use Rattle.std.specs.Prelude.{IsSome, Option}

@@ -1,3 +1,4 @@
+-- Of `make_changes`: what lasts from turn to turn.
 use Rattle.std.proofs.Common.{◌≡◌, ◌+◌}
 use Rattle.pm_walk.specs.Standing.{HasCome}
 use Rattle.pm_walk.proofs.changes.make_changes.Given as goal

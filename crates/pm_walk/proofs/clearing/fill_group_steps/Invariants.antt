@@ -1,3 +1,4 @@
+-- Of `fill_group_steps`: what its loop over `group` keeps.
 use Rattle.std.proofs.Common.{◌≡◌, ◌<◌, ℕ, get_or}
 use Rattle.pm_plan.specs.Auction.{plain_step, local_step_of_group}
 use Rattle.pm_plan.specs.States.{state}

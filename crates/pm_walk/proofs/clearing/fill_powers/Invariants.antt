@@ -1,3 +1,4 @@
+-- Of `fill_powers`: what its loop over `number` keeps.
 use Rattle.std.proofs.Common.{◌≡◌, ◌<◌, ℕ, get_or, pos}
 use Rattle.pm_plan.specs.Auction.{power}
 use Rattle.pm_plan.specs.States.{state}

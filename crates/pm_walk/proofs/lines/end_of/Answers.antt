@@ -1,3 +1,4 @@
+-- Of `end_of`: what it ensures.
 use Rattle.std.proofs.Common.{◌∙◌, ap, rules}
 use Rattle.std.proofs.lemmas.Int.{to_z-of_z}
 use Rattle.std.proofs.lemmas.Result.{IfOk-from_err}

@@ -1,3 +1,4 @@
+-- Of `limited_line`: what it ensures.
 use Rattle.std.proofs.Common.{◌∙◌, rules}
 use Rattle.std.proofs.lemmas.Int.{to_z-of_z}
 use mir.Syntax.{w64}

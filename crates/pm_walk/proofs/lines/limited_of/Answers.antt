@@ -1,3 +1,4 @@
+-- Of `limited_of`: what it ensures; what the call of `limited_line` requires; the turns of its loop over `number`.
 use Rattle.std.proofs.Common.{◌∙◌, ◌≡◌, ◌-◌, sym, ap, length, arith, Vec, Global}
 use Rattle.std.proofs.lemmas.Result.{IfOk-from_err}
 use Rattle.std.specs.Prelude.{is_some}

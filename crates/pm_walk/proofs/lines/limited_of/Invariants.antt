@@ -1,3 +1,4 @@
+-- Of `limited_of`: what its loop over `number` keeps.
 use Rattle.std.proofs.Common.{◌≡◌, ◌-◌}
 use Rattle.pm_walk.specs.Standing.{cut_made}
 use Rattle.pm_plan.specs.EndLines.{limited_to}

@@ -1,3 +1,4 @@
+-- Of `member_line`: what it ensures.
 use Rattle.std.proofs.Common.{◌∙◌, ap, rules, get_or, pos}
 use Rattle.std.proofs.lemmas.Int.{to_z-of_z}
 use mir.Syntax.{w64}

@@ -1,3 +1,4 @@
+-- Of `member_lines`: what it ensures; what the call of `member_line` requires; the turns of its loop over `number`.
 use Rattle.std.proofs.Common.{◌∙◌, ◌≡◌, ◌-◌, ◌≤◌, sym, ap, arith, length, Vec, Global}
 use Rattle.std.proofs.lemmas.Result.{IfOk-from_err}
 use Rattle.pm_plan.specs.Plans.{is_member}

@@ -1,3 +1,4 @@
+-- Of `member_lines`: what its loop over `number` keeps.
 use Rattle.std.proofs.Common.{◌≡◌, ◌-◌}
 use Rattle.pm_walk.specs.Standing.{cut_made}
 use Rattle.pm_plan.specs.EndLines.{members_to}

@@ -1,3 +1,4 @@
+-- Of `all_ends`: what it ensures; what the call of `add_end` requires; the turns of its loop over `phase`.
 use Rattle.std.proofs.Common.{◌≡◌, ◌+◌, ◌-◌, ℕ, refl, subst, arith}
 use Rattle.std.proofs.lemmas.Result.{IfOk-from_err}
 use Rattle.pm_plan.specs.Plans.{phases}

@@ -1,3 +1,4 @@
+-- Of `all_ends`: what its loop over `phase` keeps.
 use Rattle.std.proofs.Common.{◌-◌}
 use Rattle.pm_walk.specs.Runs.{IsAtEnd, AreEnds}
 use Rattle.pm_walk.proofs.run.all_ends.Given as goal

@@ -1,3 +1,4 @@
+-- Of `end_of_cut`: what it ensures.
 use Rattle.std.proofs.Common.{◌≡◌, ◌∙◌, ap, subst}
 use Rattle.std.specs.Prelude.{IfOk}
 use Rattle.pm_plan.specs.Ends.{EndValue}

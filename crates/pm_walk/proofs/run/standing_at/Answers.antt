@@ -1,3 +1,4 @@
+-- Of `standing_at`: its clauses `stands` and `cut`; what the calls of `stop_at` and `over` require.
 use Rattle.std.proofs.Common.{◌≡◌, ◌∙◌, ap, sym, subst, List, Vec, Global, arith}
 use Rattle.std.proofs.lemmas.List.{with_items_is}
 use Rattle.std.specs.Prelude.{IfOk}

@@ -1,3 +1,4 @@
+-- Of `blanks`: what lasts from turn to turn.
 use Rattle.std.proofs.Common.{◌≡◌, replicate}
 use Rattle.pm_bid.specs.Bids.{zeros}
 use Rattle.pm_walk.proofs.standing.blanks.Given as goal

@@ -1,3 +1,4 @@
+-- Of `start_of`: its clause `reached`.
 use Rattle.std.proofs.Common.{◌∙◌, sym, ap, refl}
 use Rattle.pm_tree.specs.Entries.{is_leaf_at}
 use Rattle.pm_walk.proofs.Standings.{reached-start}

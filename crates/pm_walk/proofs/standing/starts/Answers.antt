@@ -1,3 +1,4 @@
+-- Of `starts`: its clauses `reached` and `none`; the turns of its loop over `number`.
 use Rattle.std.proofs.Common.{◌≡◌, ◌∙◌, sym, ap, ℕ, zero, suc, ◌+◌, ◌<◌, ◌++◌}
 use Rattle.std.proofs.Common.{List, [], ◌∷◌, length, below_more, refl, arith, subst}
 use borrow.Author.Count.{below_none}

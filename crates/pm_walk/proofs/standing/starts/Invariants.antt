@@ -1,3 +1,4 @@
+-- Of `starts`: what its loop over `number` keeps.
 use Rattle.std.proofs.Common.{◌≡◌, ◌<◌, ℕ, length}
 use Rattle.pm_walk.specs.Standing.{progress_at, HasCome, cut_made}
 use Rattle.pm_walk.proofs.standing.starts.Given as goal

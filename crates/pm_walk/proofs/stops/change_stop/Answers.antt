@@ -1,3 +1,4 @@
+-- Of `change_stop`: its clause `count`.
 use Rattle.std.proofs.Common.{◌-◌, arith}
 use Rattle.pm_plan.proofs.Ends.{end-rises}
 use Rattle.pm_walk.proofs.stops.change_stop.Goals as goal

@@ -1,3 +1,4 @@
+-- Of `change_stops`: what it ensures; what the calls of `bounds` and `change_stop` require; the turns of its loop over `number`.
 use Rattle.std.proofs.Common.{◌≡◌, ◌∙◌, ◌-◌, ◌+◌, ◌<◌, ◌≤◌, ap, sym, subst, ℕ, zero, suc, false, List, length, arith, get_or}
 use Rattle.std.specs.Prelude.{min}
 use Rattle.pm_tree.specs.Entries.{is_leaf_at}

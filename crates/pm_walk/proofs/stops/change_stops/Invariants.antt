@@ -1,3 +1,4 @@
+-- Of `change_stops`: what its loop over `number` keeps.
 use Rattle.std.proofs.Common.{◌-◌}
 use Rattle.pm_plan.specs.Plans.{end_cut}
 use Rattle.pm_walk.specs.Cuts.{file_cut, earlier_cut}

@@ -1,3 +1,4 @@
+-- Of `add_group`: its clause `after`; what the calls of `add_into` and `announce` require.
 use Rattle.std.proofs.Common.{◌∙◌, ◌-◌, ap, sym, subst, length}
 use Rattle.pm_bid.specs.Bids.{AllWithinLimit}
 use Rattle.pm_base.specs.Limits.{sum_limit}

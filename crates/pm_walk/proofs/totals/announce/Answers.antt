@@ -1,3 +1,4 @@
+-- Of `announce`: its clauses `announced` and `steps`; what the call of `clamp_into` requires.
 use Rattle.std.proofs.Common.{◌∙◌, ap, length, arith, rules, to_z, of_z}
 use Rattle.std.proofs.lemmas.Int.{ints, to_z-of_z}
 use Rattle.std.proofs.lemmas.List.{length-map}

@@ -1,3 +1,4 @@
+-- Of `fill_total`: its clauses `total` and `steps`; the turns of its loop over `number`.
 use Rattle.std.proofs.Common.{◌∙◌, ◌≡◌, ◌-◌, ap, sym, arith, length}
 use Rattle.pm_plan.specs.States.{state}
 use Rattle.pm_walk.specs.Parts.{total_to}

@@ -1,3 +1,4 @@
+-- Of `fill_total`: what its loop over `number` keeps.
 use Rattle.std.proofs.Common.{◌≡◌, ◌-◌, length}
 use Rattle.pm_plan.specs.States.{state}
 use Rattle.pm_walk.specs.Standing.{cut_made}

@@ -1,3 +1,4 @@
+-- Of `group_step`: its clause `step`.
 use Rattle.std.proofs.Common.{sym}
 use Rattle.pm_plan.specs.States.{state}
 use Rattle.pm_walk.specs.Standing.{cut_made}

@@ -1,3 +1,4 @@
+-- Of `power_of`: what it ensures; what the call of `at` requires.
 use Rattle.std.proofs.Common.{◌∙◌, arith, rules}
 use Rattle.std.proofs.lemmas.Int.{to_z-of_z}
 use mir.Syntax.{w64}

@@ -1,3 +1,4 @@
+-- Of `drop_given`: its clause `half`.
 use Rattle.std.proofs.Common.{rules}
 use Rattle.pm_wire.proofs.decoder.drop_given.Goals as goal
 

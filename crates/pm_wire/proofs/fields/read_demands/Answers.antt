@@ -1,3 +1,4 @@
+-- Of `read_demands`: its clause `bytes`; the turns of its loop over `step`.
 use Rattle.std.proofs.Common.{◌≡◌, ◌∙◌, ap, sym, subst, length, ◌∷◌, ◌++◌, [], List, ℤ, FitsSigned, arith, length-append}
 use Rattle.std.specs.Int.{w32}
 use Rattle.std.specs.List.{AllByRecursion}

@@ -1,3 +1,4 @@
+-- Of `take_frames`: its clauses `bad` and `answers`; what the calls of `take` and `loop` require; the turns of its loop over `frame`.
 use Rattle.std.proofs.Common.{arith, ◌∙◌, sym, ap, subst, length, Option, ℕ}
 use Rattle.std.proofs.lemmas.Result.{err_from_is_err_and}
 use Rattle.std.proofs.lemmas.Grind.{common_steps}

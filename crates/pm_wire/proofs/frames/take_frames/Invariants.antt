@@ -1,3 +1,4 @@
+-- Of `take_frames`: what its loop over `frame` keeps.
 use Rattle.std.proofs.Common.{◌≡◌, ◌+◌, ◌*◌, ◌≤◌, ◌++◌, List, ℕ, length}
 use Rattle.pm_wire.specs.declared.frame.Frame.{Frame}
 use Rattle.pm_wire.specs.Memory.{reply_limit}

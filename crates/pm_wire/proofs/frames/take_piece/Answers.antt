@@ -1,3 +1,4 @@
+-- Of `take_piece`: its clauses `taken` and `bad`; what the call of `take_frames` requires.
 use Rattle.std.proofs.Common.{◌≡◌, ◌∙◌, sym, ap, subst, Result, Ok, Err, OnOk, IfErr, ℕ, List, ◌++◌, Option}
 use Rattle.pm_wire.specs.declared.frame.Frame.{Frame}
 use Rattle.pm_wire.specs.Answers.{OpenMarket}

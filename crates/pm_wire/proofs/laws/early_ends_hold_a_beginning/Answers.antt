@@ -1,3 +1,4 @@
+-- Of `early_ends_hold_a_beginning`: what it ensures.
 use Rattle.pm_wire.proofs.EarlyEnds as early
 use Rattle.pm_wire.proofs.laws.early_ends_hold_a_beginning.Goals as goal
 

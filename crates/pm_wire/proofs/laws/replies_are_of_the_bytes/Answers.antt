@@ -1,3 +1,4 @@
+-- Of `replies_are_of_the_bytes`: what it ensures.
 use Rattle.pm_wire.proofs.Outcomes as outcomes
 use Rattle.pm_wire.proofs.EarlyEnds as early
 use Rattle.pm_wire.proofs.laws.replies_are_of_the_bytes.Goals as goal

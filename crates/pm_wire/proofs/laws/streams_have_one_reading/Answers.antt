@@ -1,3 +1,4 @@
+-- Of `streams_have_one_reading`: what it ensures.
 use Rattle.pm_wire.proofs.OneReading as laws
 use Rattle.pm_wire.proofs.laws.streams_have_one_reading.Goals as goal
 

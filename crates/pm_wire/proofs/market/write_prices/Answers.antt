@@ -1,3 +1,4 @@
+-- Of `write_prices`: the turns of its loop over `place`.
 use Rattle.std.proofs.Common.{◌+◌, ap, arith, length, length-append}
 use Rattle.pm_bid.specs.Heads.{nothing_sent}
 use Rattle.pm_session.specs.Prices.{head_at}

@@ -1,3 +1,4 @@
+-- Of `write_prices`: what its loop over `place` keeps.
 use Rattle.std.proofs.Common.{◌≡◌, ◌+◌, ◌-◌, ◌*◌, ◌≤◌, ◌++◌, length, drop, vec_len}
 use Rattle.std.specs.Prelude.{vec_capacity}
 use Rattle.pm_wire.specs.Answers.{prices, reply_bytes}

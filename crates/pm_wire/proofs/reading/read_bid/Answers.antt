@@ -1,3 +1,4 @@
+-- Of `read_bid`: what it ensures.
 use Rattle.std.proofs.Common.{◌∙◌, sym, ap, arith}
 use Rattle.std.proofs.lemmas.Grind.{common_steps}
 use Rattle.pm_bid.specs.Checks.{checked_bid}

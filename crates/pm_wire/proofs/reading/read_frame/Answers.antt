@@ -1,3 +1,4 @@
+-- Of `read_frame`: what it ensures.
 use Rattle.std.proofs.Common.{subst, List, ℕ}
 use Rattle.pm_wire.specs.Readings.{IsFrameAt, IsRefused}
 use Rattle.pm_wire.proofs.ReadFrames.{front_is, whole_read, refused_read, not_empty}

@@ -1,3 +1,4 @@
+-- Of `read_gone`: what it ensures.
 use Rattle.std.proofs.Common.{arith}
 use Rattle.pm_wire.proofs.ReadFrames.{gone_refused, not_sender}
 use Rattle.pm_wire.proofs.reading.read_gone.Goals as goal

@@ -1,3 +1,4 @@
+-- Of `size_at`: its clause `size`.
 use Rattle.std.proofs.Common.{rules}
 use Rattle.pm_wire.proofs.reading.size_at.Goals as goal
 

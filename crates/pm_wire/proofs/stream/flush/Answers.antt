@@ -1,3 +1,4 @@
+-- Of `flush`: its clause `all`.
 use Rattle.std.proofs.Common.{rules}
 use Rattle.pm_wire.proofs.stream.flush.Goals as goal
 

@@ -1,3 +1,4 @@
+-- Of `run`: its clause `ends`; what the call of `take_piece` requires; the turns of its loop over `taken`; that its numbers fit.
 use Rattle.std.proofs.Common.{◌∙◌, sym, ap, refl, arith}
 use Rattle.std.proofs.lemmas.Grind.{common_steps}
 use Rattle.pm_wire.proofs.Ending.{bad_refused, bad_cut_short, begun_by, piece_cut_short, serving_more, end_refused, end_cut_short, none_read, rest_text}

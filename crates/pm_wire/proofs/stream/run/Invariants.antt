@@ -1,3 +1,4 @@
+-- Of `run`: what its loop over `taken` keeps.
 use Rattle.std.proofs.Common.{◌≡◌, ◌<◌, ◌≤◌, ◌-◌, ◌+◌, [], length}
 use Rattle.pm_wire.specs.Memory.{frame_limit, rest_limit}
 use Rattle.pm_wire.specs.Streams.{Serving}

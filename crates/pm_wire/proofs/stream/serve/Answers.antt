@@ -1,3 +1,4 @@
+-- Of `serve`: its clauses `done`, `refused`, `too_long` and 7 more.
 use Rattle.std.proofs.Common.{◌≡◌, ◌<◌, subst, ℕ, List, Option, Some, length}
 use Rattle.pm_io.specs.Taken.{taken_bytes}
 use Rattle.pm_wire.specs.Frames.{HasBadFrame}

@@ -1,3 +1,4 @@
+-- Of `total_of`: what its loop over `step` keeps.
 use Rattle.std.proofs.Common.{◌≡◌, length}
 use Rattle.pm_worked.proofs.ask.total_of.Given as goal
 

@@ -1,3 +1,4 @@
+-- Of `parts_of`: the turns of its loop over `line`.
 use Rattle.std.proofs.Common.{◌≡◌, ◌∙◌, sym, ap, List, [], ◌∷◌, ◌++◌, map}
 use Rattle.std.proofs.lemmas.List.{map-append}
 use Rattle.pm_tree.specs.declared.entry.TreeEntry.{TreeEntry}

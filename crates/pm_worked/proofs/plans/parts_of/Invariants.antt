@@ -1,3 +1,4 @@
+-- Of `parts_of`: what its loop over `line` keeps.
 use Rattle.std.proofs.Common.{◌≡◌, map}
 use Rattle.pm_tree.specs.Entries.{entries_of, leaves_of}
 use Rattle.pm_plan.specs.Parts.{is_device, node_part}

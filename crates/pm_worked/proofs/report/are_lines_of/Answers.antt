@@ -1,3 +1,4 @@
+-- Of `are_lines_of`: what it ensures; the turns of its loop over `line`.
 use Rattle.std.proofs.Common.{subst, List, refl, take_all}
 use Rattle.std.specs.Prelude.{All}
 use Rattle.std.proofs.lemmas.List.Elements.{All-more}

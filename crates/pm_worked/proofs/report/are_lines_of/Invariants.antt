@@ -1,3 +1,4 @@
+-- Of `are_lines_of`: what its loop over `line` keeps.
 use Rattle.std.proofs.Common.{take}
 use Rattle.std.specs.Prelude.{All}
 use Rattle.pm_report.specs.Trace.{IsLineOf}

@@ -1,3 +1,4 @@
+-- Of `journal_of`: what its loop over `line` keeps.
 use Rattle.std.proofs.Common.{◌≡◌, take}
 use Rattle.pm_worked.proofs.report.journal_of.Given as goal
 

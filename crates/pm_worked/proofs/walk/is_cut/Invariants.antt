@@ -1,3 +1,4 @@
+-- Of `is_cut`: what its loop over `number` keeps.
 use Rattle.std.proofs.Common.{◌≤◌, ◌<◌, ℕ}
 use Rattle.pm_plan.specs.Plans.{change_count}
 use Rattle.pm_walk.specs.Cuts.{file_cut}

@@ -1,3 +1,4 @@
+-- Of `DeviceAgent::new`: what it ensures.
 use Rattle.std.proofs.Common.{◌≡◌, ◌∙◌, ap, ℤ, List, length}
 use Rattle.pm_bid.proofs.Sums.{length-zeros}
 use Rattle.pm_agent.proofs.AgentLaws.{same_agent}

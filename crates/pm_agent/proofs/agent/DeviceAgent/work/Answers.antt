@@ -1,3 +1,4 @@
+-- Of `DeviceAgent::work`: what it ensures; what the type keeps.
 use Rattle.std.proofs.Common.{◌≡◌, ◌∙◌, ap, sym, subst, refl}
 use Rattle.pm_agent.specs.Agents.{Agent, IsAgent}
 use Rattle.pm_agent.specs.MadeBids.{demand_after_change}

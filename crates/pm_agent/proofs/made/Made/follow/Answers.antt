@@ -1,3 +1,4 @@
+-- Of `Made::follow`: its clauses `made` and `demand`; what the type keeps.
 use Rattle.std.proofs.Common.{◌≡◌, ◌∙◌, ap, subst, ℤ, List, length}
 use Rattle.pm_bid.proofs.Sums.{length-zeros}
 use Rattle.pm_agent.specs.MadeBids.{MadeBid, demand_after_change}

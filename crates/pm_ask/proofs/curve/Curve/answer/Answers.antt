@@ -1,3 +1,4 @@
+-- Of `Curve::answer`: its clause `total`.
 use Rattle.std.proofs.Common.{◌≡◌, ◌∙◌, sym, ap, ◌-ℤ◌, w64, to_z, of_z, arith}
 use Rattle.std.proofs.lemmas.Int.{ints, to_z-of_z}
 use Rattle.pm_bid.specs.Bids.{demand_at}

@@ -1,3 +1,4 @@
+-- Of `Curve::breaks`: what it ensures.
 use Rattle.std.proofs.Common.{arith}
 use Rattle.pm_ask.proofs.BreakLists.{kept_breaks_are, breaks_are_inside, steps_of_breaks}
 use Rattle.pm_ask.proofs.curve.Curve.breaks.Goals as goal

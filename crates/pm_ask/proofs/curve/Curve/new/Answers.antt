@@ -1,3 +1,4 @@
+-- Of `Curve::new`: its clause `falls`; what the type keeps.
 use Rattle.std.proofs.Common.{arith}
 use Rattle.pm_bid.proofs.FoundStep.{never_rises}
 use Rattle.pm_ask.proofs.curve.Curve.new.Goals as goal

@@ -1,3 +1,4 @@
+-- Of `Auctioneer::next_clearing`: its clauses `refused` and `cleared`.
 use Rattle.std.proofs.Common.{rules}
 use Rattle.pm_auctioneer.proofs.auctioneer.Auctioneer.next_clearing.Goals as goal
 

@@ -1,3 +1,4 @@
+-- Of `Basis::new`: what it ensures; what the type keeps.
 use Rattle.std.proofs.Common.{◌≡◌, ◌∙◌, sym, pos, to_z, of_z, w64, arith}
 use Rattle.std.specs.Prelude.{◌-ℤ◌, unsigned_abs}
 use Rattle.std.proofs.lemmas.Int.{ints}

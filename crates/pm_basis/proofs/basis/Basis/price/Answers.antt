@@ -1,3 +1,4 @@
+-- Of `Basis::price`: its clauses `price`, `from_min` and `to_max`; that its numbers fit.
 use Rattle.std.proofs.Common.{◌≡◌, ◌∙◌, sym, ap, subst, ◌<◌, ℤ, pos, ◌+ℤ◌, ◌≤ℤ◌, to_z, of_z, w64, arith}
 use Rattle.std.specs.Prelude.{◌-ℤ◌, ◌*ℤ◌, int_div}
 use Rattle.std.proofs.lemmas.Int.{ints}

@@ -1,3 +1,4 @@
+-- Of `ArrayBid::clamp_into`: its clauses `bid` and `cost`; what the call of `clamp_each` requires; what the type keeps.
 use Rattle.std.proofs.Common.{◌∙◌, sym, ap, subst, ◌+◌, length, w64, to_z, of_z, arith}
 use Rattle.std.proofs.lemmas.Int.{ints, to_z-of_z}
 use Rattle.pm_base.specs.Limits.{AreSteps}

@@ -1,3 +1,4 @@
+-- Of `ArrayBid::exchange`: its clauses `exchanged` and `cost`; what the call of `exchange_each` requires; what the type keeps.
 use Rattle.std.proofs.Common.{◌≡◌, ◌∙◌, sym, ap, subst, ◌+◌, ◌*◌, length}
 use Rattle.pm_base.specs.Limits.{AreSteps, sum_limit}
 use Rattle.pm_bid.specs.Bids.{pairwise_sum, pairwise_difference, AllWithinLimit}

@@ -1,3 +1,4 @@
+-- Of `ArrayBid::first_at_most`: its clauses `step`, `first`, `inside` and 3 more.
 use Rattle.std.proofs.Common.{◌∙◌, sym, ap, subst, ◌+◌, ◌<◌, ◌≤◌, length, w64, arith}
 use Rattle.std.proofs.lemmas.Int.{to_z-of_z}
 use Rattle.pm_bid.specs.Clearing.{first_at_most, IsFirstAtMost}

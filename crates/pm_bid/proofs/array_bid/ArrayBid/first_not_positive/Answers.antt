@@ -1,3 +1,4 @@
+-- Of `ArrayBid::first_not_positive`: its clauses `step` and `clears`.
 use Rattle.std.proofs.Common.{rules}
 use Rattle.pm_bid.proofs.array_bid.ArrayBid.first_not_positive.Goals as goal
 

@@ -1,3 +1,4 @@
+-- Of `ArrayBid::new`: its clauses `falls`, `small` and `bid`; what the type keeps.
 use Rattle.std.proofs.Common.{◌≡◌, ◌<◌, ◌≤◌, ◌∙◌, ap, ℕ, ℤ, List, length, Ok, Err, arith}
 use Rattle.std.proofs.lemmas.Bool.Decides.{nat_tests}
 use Rattle.pm_bid.specs.Checks.{first_rising, first_too_large, checked_bid}

@@ -1,3 +1,4 @@
+-- Of `ArrayBid::step_within`: its clause `step`.
 use Rattle.std.proofs.Common.{rules}
 use Rattle.pm_bid.proofs.array_bid.ArrayBid.step_within.Goals as goal
 

@@ -1,3 +1,4 @@
+-- Of `ArrayBid::take_from`: its clauses `rest` and `cost`; what the call of `take_each` requires; what the type keeps.
 use Rattle.std.proofs.Common.{◌∙◌, sym, ap, subst, ◌+◌, length}
 use Rattle.pm_base.specs.Limits.{AreSteps, sum_limit}
 use Rattle.pm_bid.specs.Bids.{pairwise_difference, AllWithinLimit}

@@ -1,3 +1,4 @@
+-- Of `Account::add`: what it ensures; what the calls of `positive_part` and `over` require; that its numbers fit.
 use Rattle.std.proofs.Common.{◌≡◌, ◌∙◌, ap, ◌*◌, ℤ, ◌+ℤ◌, arith, w64, to_z, of_z}
 use Rattle.std.specs.Int.{w128}
 use Rattle.std.proofs.lemmas.Int.{ints, to_z-of_z}

@@ -1,3 +1,4 @@
+-- Of `Bill::open`: what the type keeps.
 use Rattle.std.proofs.Common.{◌≡◌, ◌∙◌, ap, ◌+◌, length, replicate, arith}
 use Rattle.pm_bill.proofs.Ticks.{opens_bill}
 use Rattle.pm_bill.proofs.bill.Bill.open.Goals as goal

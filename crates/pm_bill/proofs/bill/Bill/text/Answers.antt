@@ -1,3 +1,4 @@
+-- Of `Bill::text`: what it ensures.
 use Rattle.std.proofs.Common.{rules, ◌≡◌, ◌∙◌, ap, ◌++◌, FitsSigned, w64, to_z, of_z, string_bytes}
 use Rattle.std.proofs.lemmas.Int.{to_z-of_z}
 use Rattle.pm_bill.specs.Bills.{BillData}

@@ -1,3 +1,4 @@
+-- Of `Bill::tick`: its clauses, that the sums of shares and groups fit, and what its calls require.
 use Rattle.std.proofs.Common.{arith, ◌≡◌, ◌∙◌, sym, ap, subst, ℕ, ◌+◌, ◌*◌, ◌<◌, ◌++◌, length, take, drop, w64, to_z, of_z, ℤ}
 use Rattle.std.proofs.Common.{neg_ℤ, ◌+ℤ◌, List}
 use Rattle.std.specs.Prelude.{IsTrue}

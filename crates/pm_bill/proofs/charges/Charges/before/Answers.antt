@@ -1,3 +1,4 @@
+-- Of `Charges::before`: what it ensures; what the calls of `bounds` and `at` require.
 use Rattle.std.proofs.Common.{◌≡◌, ◌∙◌, sym, ap, subst, ℕ, ◌-◌, ◌≤◌, List, [], length, get_or, arith, Result, Ok, Err, IfOk}
 use Rattle.std.proofs.lemmas.List.{length-map, get_or-map}
 use Rattle.std.proofs.lemmas.List.FromFn.{get_or-map-range_with_len, length-map-range_with_len}

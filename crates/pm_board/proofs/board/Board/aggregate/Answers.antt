@@ -1,3 +1,4 @@
+-- Of `Board::aggregate`: its clauses `sum` and `current`.
 use Rattle.std.proofs.Common.{◌≡◌, subst}
 use Rattle.pm_market.specs.State.{knowledge}
 use Rattle.pm_market.specs.Moves.{Idle}

@@ -1,3 +1,4 @@
+-- Of `Board::close`: its clause `closed`; what the call of `phase_end_into` requires; what the type keeps; that its numbers fit.
 use Rattle.std.proofs.Common.{◌≡◌, ◌∙◌, sym, ap, subst, ℕ, ◌+◌, ◌<◌, [], ◌∷◌, ◌++◌, take, length, arith}
 use Rattle.std.proofs.Math.ListN.{set}
 use Rattle.std.proofs.lemmas.List.{get_or_read}

@@ -1,3 +1,4 @@
+-- Of `Board::ends`: what the call of `slice_bounds` requires.
 use Rattle.std.proofs.Common.{ap, length, arith}
 use Rattle.std.proofs.lemmas.List.{length-take}
 use Rattle.pm_plan.proofs.MarketLists.{phases-is}

@@ -1,3 +1,4 @@
+-- Of `Board::journal`: its clauses `forward` and `bounded`.
 use Rattle.std.proofs.Common.{subst, ◌≤◌, length}
 use Rattle.pm_plan.specs.Plans.{plan_bound}
 use Rattle.pm_cluster.specs.Acts.{NeverGoesBack}

@@ -1,3 +1,4 @@
+-- Of `Board::post`: its clauses `adds` and `refused`; what the type keeps.
 use Rattle.std.proofs.Common.{◌≡◌, ◌∙◌, sym, ap, subst, refl, take, None, Err}
 use Rattle.std.specs.Prelude.{IfErr, ◌≤◌}
 use Rattle.std.proofs.lemmas.Result.{err_from_is_err_and}

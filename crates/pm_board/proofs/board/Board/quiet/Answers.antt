@@ -1,3 +1,4 @@
+-- Of `Board::quiet`: what it ensures.
 use Rattle.std.proofs.Common.{subst}
 use Rattle.std.specs.Prelude.{IsTrue, ◌↔◌}
 use Rattle.pm_market.specs.Moves.{Idle}

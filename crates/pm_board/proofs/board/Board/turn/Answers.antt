@@ -1,3 +1,4 @@
+-- Of `Board::turn`: its clause `adds`; what the type keeps.
 use Rattle.std.proofs.Common.{◌≡◌, subst, take}
 use Rattle.std.specs.Prelude.{Option, MatchOption, IfSome, ◌≤◌}
 use Rattle.pm_market.specs.Moves.{after}

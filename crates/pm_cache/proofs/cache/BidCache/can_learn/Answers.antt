@@ -1,3 +1,4 @@
+-- Of `BidCache::can_learn`: its clauses `no`, `cost`, `rises` and 2 more; the turns of its loop over `step`.
 use Rattle.std.proofs.Common.{◌≡◌, ◌∙◌, ap, subst, ℕ, ◌<◌, length, arith}
 use Rattle.std.specs.Prelude.{IfSome}
 use Rattle.std.specs.Option.{option_copied}

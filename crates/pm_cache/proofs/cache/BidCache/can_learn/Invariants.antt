@@ -1,3 +1,4 @@
+-- Of `BidCache::can_learn`: what its loop over `step` keeps.
 use Rattle.std.proofs.Common.{ℕ, ◌+◌, ◌*◌, ◌<◌, ◌≤◌}
 use Rattle.std.specs.Option.{option_copied}
 use Rattle.pm_cache.specs.Learning.{IsWithinAt}

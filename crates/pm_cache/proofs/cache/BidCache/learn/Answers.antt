@@ -1,3 +1,4 @@
+-- Of `BidCache::learn`: its clauses `answer` and `learnt`.
 use Rattle.std.proofs.Common.{rules}
 use Rattle.pm_cache.proofs.cache.BidCache.learn.Goals as goal
 

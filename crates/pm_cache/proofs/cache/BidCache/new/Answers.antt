@@ -1,3 +1,4 @@
+-- Of `BidCache::new`: its clauses `empty`, `cost` and `rises`; the turns of its loop over `child`; what the type keeps.
 use Rattle.std.proofs.Common.{rules, arith, ◌≡◌, ◌∙◌, ap, sym, subst, replicate, ℕ, ◌*◌, ℤ, List, [], ◌∷◌, ◌++◌}
 use Rattle.pm_bid.specs.Bids.{zeros}
 use Rattle.pm_cache.specs.Cache.{Cache, IsCache}

@@ -1,3 +1,4 @@
+-- Of `BidCache::new`: what its loop over `child` keeps.
 use Rattle.std.proofs.Common.{◌≡◌, ◌+◌, ◌*◌, replicate}
 use Rattle.pm_bid.specs.Bids.{zeros}
 use Rattle.pm_cache.proofs.cache.BidCache.new.Given as goal

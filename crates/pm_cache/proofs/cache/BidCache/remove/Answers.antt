@@ -1,3 +1,4 @@
+-- Of `BidCache::remove`: its clause `removed`; what the call of `take_from` requires; what the type keeps.
 use Rattle.pm_cache.specs.CacheFields.{cache_of}
 use Rattle.pm_cache.proofs.Entries.{remove_within, remove_enters, cleared, resized}
 use Rattle.pm_cache.proofs.cache.BidCache.remove.Goals as goal

@@ -1,3 +1,4 @@
+-- Of `BidCache::replace`: its clauses `replaced` and `cost`; what the call of `exchange` requires; what the type keeps.
 use Rattle.std.proofs.Common.{rules}
 use Rattle.pm_cache.specs.CacheFields.{cache_of}
 use Rattle.pm_cache.proofs.Entries.{replace_within, replace_enters, resized}

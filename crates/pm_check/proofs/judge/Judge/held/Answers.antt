@@ -1,3 +1,4 @@
+-- Of `Judge::held`: what it ensures; what the call of `step` requires.
 use Rattle.std.proofs.Common.{◌≡◌, ◌∙◌, sym, ap, false, arith}
 use Rattle.std.specs.Prelude.{None}
 use Rattle.std.proofs.lemmas.Bool.{cond-false}

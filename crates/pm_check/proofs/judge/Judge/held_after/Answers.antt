@@ -1,3 +1,4 @@
+-- Of `Judge::held_after`: what it ensures; what the call of `held` requires.
 use Rattle.std.proofs.Common.{◌≡◌, ◌∙◌, sym, ap, subst, refl, ℕ}
 use Rattle.std.specs.Prelude.{None}
 use Rattle.pm_market.specs.State.{State}

@@ -1,3 +1,4 @@
+-- Of `Judge::make`: what it ensures; what the calls of `clear` and `close` require.
 use Rattle.std.proofs.Common.{sym, ap, subst, map, Vec, Global, ℕ}
 use Rattle.pm_plan.specs.Plans.{PlanData}
 use Rattle.pm_walk.specs.Auctions.{IsAuction}

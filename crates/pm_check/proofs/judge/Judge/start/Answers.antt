@@ -1,3 +1,4 @@
+-- Of `Judge::start`: its clause `judge`.
 use Rattle.std.proofs.Common.{ap, map, Vec, Global, ℕ}
 use Rattle.pm_check.proofs.Making.{judge_start}
 use Rattle.pm_check.proofs.judge.Judge.start.Goals as goal

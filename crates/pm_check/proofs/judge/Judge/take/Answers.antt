@@ -1,3 +1,4 @@
+-- Of `Judge::take`: its clauses `none` and `taken`; what the call of `make` requires.
 use Rattle.std.proofs.Common.{◌∙◌, sym, true, false}
 use Rattle.pm_check.proofs.Making.{legal_is}
 use Rattle.pm_check.proofs.Judging.{reads_none, tells_illegal, tells_other, tells_legal}

@@ -1,3 +1,4 @@
+-- Of `read_change`: what it ensures.
 use Rattle.std.proofs.Common.{ap, Some, None}
 use Rattle.pm_check.proofs.MoveLines.{reads_change}
 use Rattle.pm_check.proofs.reading.line.read_change.Goals as goal

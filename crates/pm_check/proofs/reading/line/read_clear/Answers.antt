@@ -1,3 +1,4 @@
+-- Of `read_clear`: what it ensures.
 use Rattle.std.proofs.Common.{ap, Some, None}
 use Rattle.pm_check.proofs.MoveLines.{reads_clear}
 use Rattle.pm_check.proofs.reading.line.read_clear.Goals as goal

@@ -1,3 +1,4 @@
+-- Of `read_close`: what it ensures.
 use Rattle.std.proofs.Common.{ap, Some, None}
 use Rattle.pm_check.proofs.MoveLines.{reads_close}
 use Rattle.pm_check.proofs.reading.line.read_close.Goals as goal

@@ -1,3 +1,4 @@
+-- Of `read_learn`: what it ensures.
 use Rattle.std.proofs.Common.{ap, Some, None}
 use Rattle.pm_check.proofs.MoveLines.{reads_learn}
 use Rattle.pm_check.proofs.reading.line.read_learn.Goals as goal

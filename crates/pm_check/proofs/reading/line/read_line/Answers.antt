@@ -1,3 +1,4 @@
+-- Of `read_line`: what it ensures.
 use Rattle.std.proofs.Common.{◌∙◌, sym, refl, None}
 use Rattle.pm_check.proofs.MoveLines.{no_kind, no_first}
 use Rattle.pm_check.proofs.Readings.{reads_none}

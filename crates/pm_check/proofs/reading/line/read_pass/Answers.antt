@@ -1,3 +1,4 @@
+-- Of `read_pass`: what it ensures.
 use Rattle.std.proofs.Common.{refl, Some, None}
 use Rattle.pm_check.proofs.MoveLines.{reads_pass}
 use Rattle.pm_check.proofs.reading.line.read_pass.Goals as goal

@@ -1,3 +1,4 @@
+-- Of `read_publish`: what it ensures.
 use Rattle.std.proofs.Common.{ap, Some, None}
 use Rattle.pm_check.proofs.MoveLines.{reads_publish}
 use Rattle.pm_check.proofs.reading.line.read_publish.Goals as goal

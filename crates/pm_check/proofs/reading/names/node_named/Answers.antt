@@ -1,3 +1,4 @@
+-- Of `node_named`: what it ensures.
 use Rattle.std.proofs.Common.{◌∙◌, sym, ap, subst, refl}
 use Rattle.std.specs.Str.{IsUtf8}
 use Rattle.pm_tree.specs.Entries.{node_named}

@@ -1,3 +1,4 @@
+-- Of `read_last_number`: what it ensures.
 use Rattle.std.proofs.Common.{sym, refl}
 use Rattle.pm_check.proofs.Readings.{reads_none, reads_last, number_word}
 use Rattle.pm_check.proofs.reading.numbers.read_last_number.Goals as goal

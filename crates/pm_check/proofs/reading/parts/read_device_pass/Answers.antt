@@ -1,3 +1,4 @@
+-- Of `read_device_pass`: what it ensures.
 use Rattle.std.proofs.Common.{◌<◌, ◌^◌, refl, ◌∷◌, ℕ, Option}
 use Rattle.std.specs.Prelude.{decimal}
 use Rattle.pm_basis.specs.Prices.{BasisValue}

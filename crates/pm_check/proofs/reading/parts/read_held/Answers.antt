@@ -1,3 +1,4 @@
+-- Of `read_held`: what it ensures.
 use Rattle.std.proofs.Common.{◌≡◌, ◌∙◌, sym, refl, None, Some, ℕ, Option}
 use Rattle.pm_report.specs.Words.{text_line}
 use Rattle.pm_report.specs.Trace.{held_words}

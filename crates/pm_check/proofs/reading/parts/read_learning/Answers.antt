@@ -1,3 +1,4 @@
+-- Of `read_learning`: what it ensures.
 use Rattle.std.proofs.Common.{◌≡◌, ◌≤◌, ◌<◌, ◌^◌, ◌∙◌, sym, ap, length, refl, arith, None, ◌∷◌, [], List, ℕ}
 use Rattle.std.specs.Prelude.{decimal}
 use Rattle.pm_tree.specs.Entries.{Entry, name_of, parent_of}

@@ -1,3 +1,4 @@
+-- Of `read_node_number`: what it ensures.
 use Rattle.std.proofs.Common.{◌≤◌, ◌<◌, ◌^◌, length, refl, ◌∷◌, [], ℕ}
 use Rattle.std.specs.Prelude.{decimal}
 use Rattle.pm_plan.specs.Plans.{PlanData}

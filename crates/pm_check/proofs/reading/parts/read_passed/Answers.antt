@@ -1,3 +1,4 @@
+-- Of `read_passed`: what it ensures.
 use Rattle.std.proofs.Common.{◌≡◌, ◌∙◌, sym, ap, subst, refl, None, ◌∷◌, List}
 use Rattle.std.specs.Prelude.{decimal}
 use Rattle.std.proofs.lemmas.Bool.{both_ways}

@@ -1,3 +1,4 @@
+-- Of `read_passing`: what it ensures.
 use Rattle.std.proofs.Common.{◌∙◌, sym, ap, refl, arith, None, ◌∷◌, List, ℕ, Option}
 use Rattle.std.specs.Prelude.{decimal}
 use Rattle.pm_plan.specs.Plans.{PlanData, is_leaf}

@@ -1,3 +1,4 @@
+-- Of `read_price`: what it ensures.
 use Rattle.std.proofs.Common.{refl}
 use Rattle.std.specs.Prelude.{codes}
 use Rattle.pm_check.proofs.Readings.{none_behind, reads_behind}

@@ -1,3 +1,4 @@
+-- Of `read_priced`: what it ensures.
 use Rattle.std.proofs.Common.{◌<◌, ◌^◌, refl, ◌∷◌, [], ℕ}
 use Rattle.std.specs.Prelude.{codes, decimal}
 use Rattle.std.specs.Fmt.{signed_decimal}

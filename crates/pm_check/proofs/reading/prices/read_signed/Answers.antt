@@ -1,3 +1,4 @@
+-- Of `read_signed`: what it ensures.
 use Rattle.std.proofs.Common.{◌≡◌, ◌∙◌, sym, ap, refl, ℕ, ◌-◌, ◌<◌, ◌≤◌, ◌^◌, ℤ, pos, neg_ℤ, Bool, false, eqb}
 use Rattle.std.proofs.Common.{List, ◌∷◌, length, get_or, drop, take, None, w64, to_z, of_z, arith}
 use Rattle.std.specs.Prelude.{decimal, ◌-ℤ◌}

@@ -1,3 +1,4 @@
+-- Of `read_step`: what it ensures.
 use Rattle.std.proofs.Common.{rules, refl}
 use Rattle.pm_basis.specs.Prices.{price_at}
 use Rattle.pm_check.proofs.StepPrices.{price_size, reads_written}

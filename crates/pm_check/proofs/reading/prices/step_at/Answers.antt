@@ -1,3 +1,4 @@
+-- Of `step_at`: what it ensures; what the call of `nonzero_rem` requires.
 use Rattle.std.proofs.Common.{refl, None}
 use Rattle.pm_check.proofs.StepPrices.{some_spacing, step_at_rise, rise_is_divided}
 use Rattle.pm_check.proofs.Readings.{reads_none, reads_some}

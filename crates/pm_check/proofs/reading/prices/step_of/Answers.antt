@@ -1,3 +1,4 @@
+-- Of `step_of`: what it ensures; what the calls of `distance` and `step_at` require.
 use Rattle.std.proofs.Common.{◌≡◌, ◌∙◌, subst, refl, ℕ, ◌-◌, ◌≤◌, ℤ, pos, ◌≤ℤ◌, false, w64, to_z, of_z, None, arith}
 use Rattle.std.specs.Prelude.{◌-ℤ◌, int_lt}
 use Rattle.std.proofs.lemmas.Int.{ints, to_z-of_z}

@@ -1,3 +1,4 @@
+-- Of `after_word`: its clauses `none` and `told`.
 use Rattle.std.proofs.Common.{◌∙◌, sym, ap, refl, ◌++◌, ◌∷◌, List, ℕ}
 use Rattle.pm_check.proofs.Readings.{first_same}
 use Rattle.pm_check.proofs.reading.words.after_word.Goals as goal

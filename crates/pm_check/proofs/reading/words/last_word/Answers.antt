@@ -1,3 +1,4 @@
+-- Of `last_word`: its clause `told`.
 use Rattle.std.proofs.Common.{◌∙◌, ap, ◌+◌, ◌++◌, ◌∷◌, List, ℕ, take, arith}
 use Rattle.std.proofs.lemmas.List.{drop_all}
 use Rattle.pm_check.proofs.Splitting.{parted_by}

@@ -1,3 +1,4 @@
+-- Of `split_word`: its clauses `told` and `none`.
 use Rattle.std.proofs.Common.{◌≡◌, ◌∙◌, sym, ap, ℕ, ◌+◌, ◌-◌, List, ◌∷◌, ◌++◌, length, take, drop, arith}
 use Rattle.std.proofs.lemmas.List.{length-drop}
 use Rattle.pm_check.proofs.Splitting.{EndsAt, no_blank, parted_by, take_all}

@@ -1,3 +1,4 @@
+-- Of `word_len`: the turns of its loop over `at`.
 use Rattle.std.proofs.Common.{arith}
 use Rattle.pm_check.proofs.Splitting.{word_more}
 use Rattle.pm_check.proofs.reading.words.word_len.Goals as goal

@@ -1,3 +1,4 @@
+-- Of `ClearedSteps::clear`: its clauses `cut`, `row` and `auction`; what the call of `raise` requires.
 use Rattle.std.proofs.Common.{◌∙◌, ◌+◌, ◌-◌, ap, sym, subst, ℕ, Vec, Global, map, arith}
 use Rattle.std.proofs.lemmas.List.{map-append}
 use Rattle.pm_base.specs.Cuts.{Cut, cut_of}

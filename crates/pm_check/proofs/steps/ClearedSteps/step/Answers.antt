@@ -1,3 +1,4 @@
+-- Of `ClearedSteps::step`: that its numbers fit.
 use Rattle.std.proofs.Common.{◌≡◌, ◌∙◌, ◌-◌, ap, sym, List, ℕ, Vec, Global, length, map, get_or, arith}
 use Rattle.std.proofs.lemmas.List.{get_or-map, length-map}
 use Rattle.pm_check.proofs.steps.ClearedSteps.step.Goals as goal

@@ -1,3 +1,4 @@
+-- Of `Cluster::act`: its clause `made`.
 use Rattle.std.proofs.Common.{subst}
 use Rattle.std.proofs.lemmas.Option.{MatchOption-at_some}
 use Rattle.pm_plan.specs.Plans.{PlanData}

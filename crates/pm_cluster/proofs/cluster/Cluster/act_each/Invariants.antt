@@ -1,3 +1,4 @@
+-- Of `Cluster::act_each`: what its loop over `at` keeps.
 use Rattle.std.proofs.Common.{◌≡◌, take}
 use Rattle.pm_cluster.specs.Acts.{IsRunOf}
 use Rattle.pm_cluster.proofs.cluster.Cluster.act_each.Given as goal

@@ -1,3 +1,4 @@
+-- Of `Cluster::aggregate`: its clauses `known` and `current`.
 use Rattle.std.proofs.Common.{◌≡◌, ◌∙◌, ap, subst}
 use Rattle.pm_cache.specs.Cache.{aggregate_of}
 use Rattle.pm_market.specs.State.{State, knowledge}

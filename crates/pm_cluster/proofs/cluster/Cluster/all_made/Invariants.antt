@@ -1,3 +1,4 @@
+-- Of `Cluster::all_made`: what its loop over `number` keeps.
 use Rattle.std.proofs.Common.{◌≡◌, ℕ, ◌+◌, ◌<◌, slice_index_or}
 use Rattle.pm_market.specs.Lists.{IsLeaf}
 use Rattle.pm_plan.specs.Plans.{end_cut}

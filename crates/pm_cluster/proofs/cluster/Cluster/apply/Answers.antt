@@ -1,3 +1,4 @@
+-- Of `Cluster::apply`: its clauses `illegal`, `made`, `forward` and `bounded`; what the call of `act_each` requires.
 use Rattle.std.proofs.Common.{◌≡◌, sym, subst, Result, Ok, Err, IfErr}
 use Rattle.std.specs.Prelude.{IsErrAnd}
 use Rattle.pm_market.specs.State.{start}

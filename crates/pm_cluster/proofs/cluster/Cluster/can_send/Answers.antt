@@ -1,3 +1,4 @@
+-- Of `Cluster::can_send`: what it ensures.
 use Rattle.std.proofs.Common.{◌≡◌, ◌∙◌, sym, subst, ℕ, ◌<◌, ◌≤◌, false, ◌↔◌, length, None, arith}
 use Rattle.std.proofs.lemmas.List.{get_or_read}
 use Rattle.pm_market.specs.Lists.{nodes}

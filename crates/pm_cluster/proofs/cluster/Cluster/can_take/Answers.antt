@@ -1,3 +1,4 @@
+-- Of `Cluster::can_take`: what it ensures.
 use Rattle.std.proofs.Common.{◌≡◌, sym, ap, subst, ℕ, ◌<◌, ◌≤◌, false, ◌↔◌, length, arith}
 use Rattle.std.proofs.lemmas.List.{length-map}
 use Rattle.pm_market.specs.Lists.{nodes, IsNode}

@@ -1,3 +1,4 @@
+-- Of `Cluster::change`: its clauses `refused` and `follows`; what the calls of `kind` and `make` require.
 use Rattle.std.proofs.Common.{◌≡◌, ◌∙◌, sym, ap, subst, ℕ, ℤ, true, false, List, length, rules, refl, inl, inr}
 use Rattle.std.specs.Prelude.{Some}
 use Rattle.std.proofs.lemmas.Option.{MatchOption-at_some, IfSome_then}

@@ -1,3 +1,4 @@
+-- Of `Cluster::change_by_plan`: what it ensures; what the call of `kind` requires.
 use Rattle.std.proofs.Common.{◌≡◌, ◌∙◌, sym, subst, refl, true, false, rules}
 use Rattle.pm_market.specs.Lists.{IsLeaf}
 use Rattle.pm_cluster.specs.ClusterFields.{core_of}

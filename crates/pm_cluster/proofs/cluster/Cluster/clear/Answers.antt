@@ -1,3 +1,4 @@
+-- Of `Cluster::clear`: what it ensures; what the call of `clear` requires; what the type keeps.
 use Rattle.std.proofs.Common.{rules, arith, refl}
 use Rattle.pm_market.specs.State.{State}
 use Rattle.pm_market.specs.declared.moves.Move.TheVariants.{Clear}

@@ -1,3 +1,4 @@
+-- Of `Cluster::close`: its clauses `refused`, `made` and `quiet`; what the call of `keep_powers` requires; what the type keeps.
 use Rattle.std.proofs.Common.{subst, ℕ, ◌+◌, sym, ◌∙◌}
 use Rattle.std.proofs.Math.Logic.{∥∥₁_map}
 use Rattle.pm_market.specs.State.{State}

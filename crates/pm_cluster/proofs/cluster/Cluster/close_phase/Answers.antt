@@ -1,3 +1,4 @@
+-- Of `Cluster::close_phase`: what it ensures; that its numbers fit.
 use Rattle.std.proofs.Common.{◌≡◌, ◌∙◌, sym, ap, subst, ℕ, ◌+◌, true, false, arith, refl, rules}
 use Rattle.pm_market.specs.declared.moves.Move.TheVariants.{Close}
 use Rattle.pm_plan.specs.Market.{plan_lists}

@@ -1,3 +1,4 @@
+-- Of `Cluster::count`: what it ensures; that its numbers fit.
 use Rattle.std.proofs.Common.{ap, ◌∙◌, arith, get_or}
 use Rattle.std.proofs.lemmas.List.{get_or_read}
 use Rattle.pm_cluster.proofs.Kept.{leaf_in, leaf_has_place}

@@ -1,3 +1,4 @@
+-- Of `Cluster::due_change`: what it ensures; what the call of `planned` requires; that its numbers fit.
 use Rattle.std.proofs.Common.{◌∙◌, sym, ap, subst, ℕ, ◌+◌, ◌<◌, arith, inl}
 use Rattle.std.specs.Prelude.{Option, MatchOption}
 use Rattle.pm_plan.specs.declared.planned.Planned.{Planned}

@@ -1,3 +1,4 @@
+-- Of `Cluster::held_by`: what it ensures.
 use Rattle.std.proofs.Common.{◌≡◌, ◌∙◌, sym, ap, subst, true, false, rules}
 use Rattle.std.specs.Prelude.{None}
 use Rattle.std.proofs.lemmas.Bool.{cond-true, cond-false}

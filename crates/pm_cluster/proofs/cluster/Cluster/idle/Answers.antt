@@ -1,3 +1,4 @@
+-- Of `Cluster::idle`: its clauses `quiet`, `idle` and `current`; what the call of `is_busy` requires; the turns of its loop over `number`.
 use Rattle.std.proofs.Common.{◌≡◌, ap, subst, ◌≤◌, length, refl, arith, below_more}
 use Rattle.pm_market.specs.Lists.{nodes}
 use Rattle.pm_plan.specs.Kept.{IsPlan}

@@ -1,3 +1,4 @@
+-- Of `Cluster::idle`: what its loop over `number` keeps.
 use Rattle.std.proofs.Common.{ℕ, ◌<◌}
 use Rattle.pm_cluster.specs.Waiting.{IsAtRest}
 use Rattle.pm_cluster.proofs.cluster.Cluster.idle.Given as goal

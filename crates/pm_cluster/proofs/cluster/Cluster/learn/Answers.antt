@@ -1,3 +1,4 @@
+-- Of `Cluster::learn`: what it ensures; what the calls of `learn` and `take_bid` require; what the type keeps.
 use Rattle.std.proofs.Common.{refl, rules, sym, subst, arith}
 use Rattle.pm_market.specs.State.{State}
 use Rattle.pm_market.specs.Lists.{IsNode}

@@ -1,3 +1,4 @@
+-- Of `Cluster::learn_any`: its clauses `mine` and `made`; what the calls of `children` and `learn` require; the turns of its loop over `child`.
 use Rattle.std.proofs.Common.{arith, refl, sym, ap, subst, ◌∙◌, ◌≡◌, ℕ, length, Option, MatchOption, inl, inr}
 use Rattle.std.proofs.lemmas.Bool.{cases_lt}
 use Rattle.std.proofs.lemmas.Option.{MatchOption-at_none}

@@ -1,3 +1,4 @@
+-- Of `Cluster::learn_any`: what its loop over `child` keeps.
 use Rattle.std.proofs.Common.{◌≡◌, ℕ, ◌<◌}
 use Rattle.pm_market.specs.State.{State}
 use Rattle.pm_market.specs.Moves.{Legal}

@@ -1,3 +1,4 @@
+-- Of `Cluster::learn_from`: what it ensures; what the call of `learn` requires.
 use Rattle.std.proofs.Common.{◌≡◌, subst, true, false, refl, rules}
 use Rattle.std.proofs.lemmas.Bool.{both_ways}
 use Rattle.pm_market.specs.Lists.{IsNode}

@@ -1,3 +1,4 @@
+-- Of `Cluster::limited_line`: what it ensures; what the calls of `step_within` and `unreachable` require.
 use Rattle.std.specs.Option.{option_map}
 use Rattle.std.proofs.Common.{◌≡◌, ◌∙◌, sym, ap, subst, ℕ, ℤ, true, Option, None, Some, is_some, arith, rules, w64, FitsSigned, to_z, of_z}
 use Rattle.std.proofs.lemmas.Bool.{false≢true}

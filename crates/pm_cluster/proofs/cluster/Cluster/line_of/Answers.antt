@@ -1,3 +1,4 @@
+-- Of `Cluster::line_of`: its clause `line`.
 use Rattle.std.proofs.Common.{ap, subst, ℕ}
 use Rattle.std.specs.Prelude.{Option}
 use Rattle.pm_market.specs.Moves.{step}

@@ -1,3 +1,4 @@
+-- Of `Cluster::make`: its clause `made`; what the call of `offer_demand` requires; what the type keeps; that its numbers fit.
 use Rattle.std.specs.Prelude.{IfSome}
 use Rattle.std.specs.Option.{option_copied}
 use Rattle.pm_offer.specs.Offers.{device_demand}

@@ -1,3 +1,4 @@
+-- Of `Cluster::member_after`: what it ensures; that its numbers fit.
 use Rattle.std.proofs.Common.{◌≡◌, ◌∙◌, sym, ap, true, false, inl, inr, arith}
 use Rattle.pm_plan.specs.Devices.{member_after}
 use Rattle.pm_plan.specs.Plans.{is_member}

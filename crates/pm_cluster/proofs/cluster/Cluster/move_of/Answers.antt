@@ -1,3 +1,4 @@
+-- Of `Cluster::move_of`: what it ensures.
 use Rattle.std.proofs.Common.{arith, sym, ap, subst, ◌∙◌, refl, ℕ}
 use Rattle.pm_market.specs.Lists.{Lawful, IsLeaf, is_leaf}
 use Rattle.pm_market.specs.declared.moves.Act.TheVariants as act

@@ -1,3 +1,4 @@
+-- Of `Cluster::move_of_auctioneer`: what it ensures.
 use Rattle.std.proofs.Common.{sym, subst, ◌∙◌, ap, refl}
 use Rattle.std.proofs.lemmas.Option.{MatchOption-at_none}
 use Rattle.pm_market.specs.declared.moves.Act.TheVariants as act

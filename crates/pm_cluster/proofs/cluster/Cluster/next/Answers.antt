@@ -1,3 +1,4 @@
+-- Of `Cluster::next`: that its numbers fit.
 use Rattle.std.proofs.Common.{◌+◌, arith}
 use Rattle.pm_cluster.proofs.DeviceFields.{count_read, due_in}
 use Rattle.pm_cluster.proofs.DueMore.{few_due}

@@ -1,3 +1,4 @@
+-- Of `Cluster::next_node`: its clauses `inside`, `moved` and `still`; what the call of `has_move` requires; the turns of its loop over `number`.
 use Rattle.std.proofs.Common.{rules, ◌≡◌, ap, subst, ℕ, ◌≤◌, length, arith, below_more}
 use Rattle.pm_market.specs.Lists.{nodes}
 use Rattle.pm_plan.specs.Kept.{IsPlan}

@@ -1,3 +1,4 @@
+-- Of `Cluster::open`: its clause `start`; what the call of `new` requires; what the type keeps.
 use Rattle.std.proofs.Common.{◌∙◌, ◌≡◌, ℕ, ◌+◌, ℤ, Bool, List, sym, ap, arith, length, get_or, replicate, None, false}
 use Rattle.std.proofs.lemmas.Grind.{merely}
 use Rattle.std.proofs.lemmas.List.{length-map, length-replicate, get_or-replicate}

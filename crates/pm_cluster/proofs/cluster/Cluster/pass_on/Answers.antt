@@ -1,3 +1,4 @@
+-- Of `Cluster::pass_on`: what it ensures; what the calls of `pass` and `take_price` require; what the type keeps.
 use Rattle.std.proofs.Common.{rules, refl, arith}
 use Rattle.pm_market.specs.State.{State}
 use Rattle.pm_market.specs.Lists.{IsConcentrator}

@@ -1,3 +1,4 @@
+-- Of `Cluster::pass_to`: what it ensures; what the calls of `take` and `pass_on` require.
 use Rattle.std.proofs.Common.{◌≡◌, ◌∙◌, sym, subst, true, false, refl, rules}
 use Rattle.std.proofs.lemmas.Bool.{both_ways}
 use Rattle.pm_market.specs.Lists.{IsLeaf, IsConcentrator, is_leaf}

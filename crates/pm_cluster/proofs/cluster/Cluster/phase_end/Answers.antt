@@ -1,3 +1,4 @@
+-- Of `Cluster::phase_end`: what the call of `phase_end_into` requires.
 use Rattle.std.proofs.Common.{◌+◌, ◌≤◌, length, subst, arith}
 use Rattle.pm_market.specs.Lists.{nodes}
 use Rattle.pm_plan.specs.Market.{plan_lists}

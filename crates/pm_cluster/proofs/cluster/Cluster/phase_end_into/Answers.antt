@@ -1,3 +1,4 @@
+-- Of `Cluster::phase_end_into`: what it ensures; what the calls of `begin`, `tell_member` and `tell_limited` require; the turns of its loop over `number`.
 use Rattle.std.proofs.Common.{◌≡◌, ◌∙◌, sym, ap, subst, ℕ, ◌-◌, ◌≤◌, length, arith, rules, w64, FitsSigned}
 use Rattle.std.proofs.lemmas.Int.{to_z-of_z}
 use Rattle.pm_base.specs.Cuts.{Cut}

@@ -1,3 +1,4 @@
+-- Of `Cluster::phase_end_into`: what its loop over `number` keeps.
 use Rattle.pm_cluster.proofs.LinesTold.{IsEndTo}
 use Rattle.pm_cluster.proofs.cluster.Cluster.phase_end_into.Given as goal
 

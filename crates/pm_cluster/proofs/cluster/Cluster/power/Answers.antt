@@ -1,3 +1,4 @@
+-- Of `Cluster::power`: what it ensures; what the call of `power_of` requires.
 use Rattle.std.proofs.Common.{◌≡◌, ◌∙◌, subst, rules, w64, FitsSigned}
 use Rattle.std.proofs.lemmas.Int.{to_z-of_z}
 use Rattle.pm_stands.specs.Current.{kept_power}

@@ -1,3 +1,4 @@
+-- Of `Cluster::price`: its clause `current`; what the call of `price` requires.
 use Rattle.std.proofs.Common.{◌≡◌, ◌∙◌, ap, subst, arith}
 use Rattle.pm_basis.specs.Prices.{BasisValue, price_at}
 use Rattle.pm_market.specs.State.{State}

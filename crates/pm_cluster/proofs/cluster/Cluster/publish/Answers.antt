@@ -1,3 +1,4 @@
+-- Of `Cluster::publish`: what it ensures; what the call of `publish` requires; what the type keeps.
 use Rattle.std.proofs.Common.{rules, ◌≡◌, ◌≤◌, refl, arith}
 use Rattle.pm_market.specs.State.{State}
 use Rattle.pm_market.specs.Lists.{IsConcentrator}

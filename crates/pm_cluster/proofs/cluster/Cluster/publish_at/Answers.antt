@@ -1,3 +1,4 @@
+-- Of `Cluster::publish_at`: what it ensures; what the call of `publish` requires.
 use Rattle.std.proofs.Common.{◌≡◌, subst, true, false, refl, rules}
 use Rattle.std.proofs.lemmas.Bool.{both_ways}
 use Rattle.pm_market.specs.Lists.{IsConcentrator}

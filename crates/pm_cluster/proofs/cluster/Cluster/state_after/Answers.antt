@@ -1,3 +1,4 @@
+-- Of `Cluster::state_after`: what it ensures; that its numbers fit.
 use Rattle.std.proofs.Common.{◌≡◌, ◌∙◌, sym, ap, pos, inl, inr, arith}
 use Rattle.std.proofs.lemmas.List.{length-map}
 use Rattle.std.specs.Prelude.{slice_index_or}

@@ -1,3 +1,4 @@
+-- Of `Cluster::state_after_tick`: what it ensures; what the call of `advance` requires.
 use Rattle.std.proofs.Common.{◌≡◌, ◌∙◌, sym, ap, subst, ℤ, pos, to_z, of_z, arith}
 use Rattle.std.proofs.lemmas.Int.{ints, to_z-of_z}
 use Rattle.std.specs.Prelude.{FitsSigned, Some, slice_index_or}

@@ -1,3 +1,4 @@
+-- Of `Cluster::step`: its clause `made`.
 use Rattle.std.proofs.Common.{subst}
 use Rattle.pm_plan.specs.Plans.{PlanData}
 use Rattle.pm_stands.specs.Stands.{MakesMove}

@@ -1,3 +1,4 @@
+-- Of `Cluster::take`: what it ensures; what the calls of `parent_of`, `place_in_row` and `take_price` require; what the type keeps; that its numbers fit.
 use Rattle.std.proofs.Common.{rules, refl, arith, sym, ap, ◌∙◌, ◌<◌, length, Some}
 use Rattle.std.proofs.Math.ListN.{length-set}
 use Rattle.std.specs.Vec.{with_item}

@@ -1,3 +1,4 @@
+-- Of `Cluster::tell_limited`: its clause `end`; what the call of `limits` requires.
 use Rattle.std.proofs.Common.{◌≡◌, ◌∙◌, sym, ap, subst, ℕ, ◌≤◌, true, List, ◌++◌, is_some, arith, false, cond, ◌∷◌, []}
 use Rattle.pm_base.proofs.Options.{is_some-option_map}
 use Rattle.pm_market.specs.Lists.{nodes}

@@ -1,3 +1,4 @@
+-- Of `Cluster::tell_member`: its clause `end`.
 use Rattle.std.proofs.Common.{◌≡◌, ◌∙◌, sym, ap, subst, ℕ, false, [], ◌++◌, List, arith, rules, w64, FitsSigned}
 use Rattle.std.proofs.lemmas.Int.{to_z-of_z}
 use Rattle.std.proofs.lemmas.List.{get_or_read, append-nil}

@@ -1,3 +1,4 @@
+-- Of `Concentrator::limited`: what the type keeps.
 use Rattle.std.proofs.Common.{rules, ◌≡◌, sym, ap, ◌∙◌, length, Some}
 use Rattle.std.proofs.lemmas.List.{length-replicate}
 use Rattle.pm_cache.specs.Cache.{Cache}

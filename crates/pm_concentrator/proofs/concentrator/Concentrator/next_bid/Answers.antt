@@ -1,3 +1,4 @@
+-- Of `Concentrator::next_bid`: its clause `made`; what the call of `record_bid` requires.
 use Rattle.std.proofs.Common.{rules}
 use Rattle.pm_concentrator.proofs.concentrator.Concentrator.next_bid.Goals as goal
 

@@ -1,3 +1,4 @@
+-- Of `Concentrator::pass`: its clause `prices`.
 use Rattle.std.proofs.Common.{rules}
 use Rattle.pm_concentrator.proofs.concentrator.Concentrator.pass.Goals as goal
 

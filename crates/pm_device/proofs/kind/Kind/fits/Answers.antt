@@ -1,3 +1,4 @@
+-- Of `Kind::fits`: what it ensures.
 use Rattle.std.proofs.Common.{rules}
 use Rattle.pm_device.proofs.kind.Kind.fits.Goals as goal
 

@@ -1,3 +1,4 @@
+-- Of `Kind::key`: what it ensures.
 use Rattle.std.proofs.Common.{rules}
 use Rattle.pm_device.proofs.kind.Kind.key.Goals as goal
 

@@ -1,3 +1,4 @@
+-- Of `KindPartialEq::eq`: its clauses `test` and `same`.
 use Rattle.std.proofs.Common.{◌∙◌, ap}
 use Rattle.std.proofs.lemmas.Bool.Decides.{Decides-at}
 use Rattle.pm_device.specs.Keys.{key_of, are_same_keys}

@@ -1,3 +1,4 @@
+-- Of `MemSinkSink::write`: its clauses `bound`, `fails` and `refused`.
 use Rattle.std.proofs.Common.{rules}
 use Rattle.pm_io.proofs.memory.MemSinkSink.write.Goals as goal
 

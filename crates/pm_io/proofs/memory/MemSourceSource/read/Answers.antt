@@ -1,3 +1,4 @@
+-- Of `MemSourceSource::read`: its clause `bytes`.
 use Rattle.std.proofs.Common.{arith}
 use Rattle.std.proofs.lemmas.Grind.{elements}
 use Rattle.pm_io.proofs.memory.MemSourceSource.read.Goals as goal

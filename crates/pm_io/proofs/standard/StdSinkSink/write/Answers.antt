@@ -1,3 +1,4 @@
+-- Of `StdSinkSink::write`: its clause `bound`.
 use Rattle.std.proofs.Common.{rules}
 use Rattle.pm_io.proofs.standard.StdSinkSink.write.Goals as goal
 

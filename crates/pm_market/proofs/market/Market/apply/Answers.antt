@@ -1,3 +1,4 @@
+-- Of `Market::apply`: what the calls of `count`, `learn`, `publish` and `pass` require.
 use Rattle.std.proofs.Common.{arith}
 use Rattle.pm_market.specs.Lists.{parent}
 use Rattle.pm_market.specs.Market.{market_lists, market_state, market_due}

@@ -1,3 +1,4 @@
+-- Of `Market::are_made`: what it ensures.
 use Rattle.std.proofs.Common.{sym, ◌∙◌, arith}
 use Rattle.pm_market.specs.Legality.{are_made}
 use Rattle.pm_market.proofs.Loops.{all_to_stops}

@@ -1,3 +1,4 @@
+-- Of `Market::are_made`: what its loop over `before` keeps.
 use Rattle.std.proofs.Common.{◌≡◌, true, cond, eqb}
 use Rattle.pm_market.specs.Lists.{is_leaf, end_count}
 use Rattle.pm_market.specs.State.{all_to}

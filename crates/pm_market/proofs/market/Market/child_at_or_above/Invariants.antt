@@ -1,3 +1,4 @@
+-- Of `Market::child_at_or_above`: what its loop over `step` keeps.
 use Rattle.std.proofs.Common.{◌≡◌, ◌-◌}
 use Rattle.pm_market.proofs.Tree.{toward}
 use Rattle.pm_market.specs.Lists.{child_at_or_above}

@@ -1,3 +1,4 @@
+-- Of `Market::clear`: its clauses `ok` and `err`; what the type keeps.
 use Rattle.std.proofs.Common.{ap, sym, subst, arith, ◌∙◌, get_or, ℕ, List, [], map, Vec, Global}
 use Rattle.pm_base.specs.Cuts.{Cut, cut_of}
 use Rattle.pm_base.specs.Rows.{rows_of}

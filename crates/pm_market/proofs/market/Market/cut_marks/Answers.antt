@@ -1,3 +1,4 @@
+-- Of `Market::cut_marks`: what it ensures; the turns of its loop over `before`.
 use Rattle.std.proofs.Common.{rules, ◌≡◌, false, refl, ◌∙◌, arith}
 use Rattle.std.proofs.lemmas.List.{with_items_is}
 use Rattle.pm_market.specs.Lists.{nodes}

@@ -1,3 +1,4 @@
+-- Of `Market::cut_marks`: what its loop over `before` keeps.
 use Rattle.std.proofs.Common.{◌≡◌, ◌≤◌, ◌+◌, ℕ, not, true, false, cond, eqb, get_or, vec_len}
 use Rattle.pm_base.specs.Cuts.{cut_of}
 use Rattle.pm_market.specs.Lists.{nodes, is_leaf_of}

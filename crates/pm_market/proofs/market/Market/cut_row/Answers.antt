@@ -1,3 +1,4 @@
+-- Of `Market::cut_row`: what it ensures.
 use Rattle.std.proofs.Common.{[], get_or, map, ap, ◌∙◌}
 use Rattle.pm_market.specs.State.{cut_at}
 use Rattle.pm_base.specs.Cuts.{cut_of}

@@ -1,3 +1,4 @@
+-- Of `Market::due_row`: its clause `due`; the turns of its loop over `node`.
 use Rattle.std.proofs.Common.{◌≡◌, ◌∙◌, ap, ℕ, List, [], ◌∷◌, ◌++◌, length, get_or, below_more, arith}
 use Rattle.std.proofs.lemmas.List.{get_or_append_left, get_or_push}
 use Rattle.pm_market.proofs.market.Market.due_row.Goals as goal

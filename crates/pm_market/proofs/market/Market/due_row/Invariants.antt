@@ -1,3 +1,4 @@
+-- Of `Market::due_row`: what its loop over `node` keeps.
 use Rattle.std.proofs.Common.{◌≡◌, ◌<◌, ℕ, get_or, vec_len}
 use Rattle.pm_base.specs.Cuts.{cut_of}
 use Rattle.pm_market.specs.Due.{due_after}

@@ -1,3 +1,4 @@
+-- Of `Market::greatest_number`: what it ensures; the turns of its loop over `back`.
 use Rattle.std.proofs.Common.{rules, arith}
 use Rattle.pm_market.proofs.Loops.{greatest_turns}
 use Rattle.pm_market.specs.State.{greatest_number}

@@ -1,3 +1,4 @@
+-- Of `Market::greatest_number`: what its loop over `back` keeps.
 use Rattle.std.proofs.Common.{◌≡◌, ◌-◌}
 use Rattle.pm_market.specs.State.{greatest_number}
 use Rattle.pm_market.specs.Market.{market_lists, market_state}

@@ -1,3 +1,4 @@
+-- Of `Market::holds_price`: what it ensures.
 use Rattle.std.proofs.Common.{arith}
 use Rattle.std.proofs.lemmas.Bool.Decides.{nat_tests}
 use Rattle.pm_market.specs.Held.{holds_price}

@@ -1,3 +1,4 @@
+-- Of `Market::is_below`: what its loop over `step` keeps.
 use Rattle.std.proofs.Common.{◌≡◌, ◌-◌}
 use Rattle.pm_market.specs.Lists.{is_below_in}
 use Rattle.pm_market.specs.Market.{market_lists}

@@ -1,3 +1,4 @@
+-- Of `Market::is_idle`: what it ensures.
 use Rattle.std.proofs.Common.{sym, ◌∙◌, arith}
 use Rattle.pm_market.specs.Legality.{is_idle}
 use Rattle.pm_market.proofs.Loops.{all_to_stops, fails_beside}

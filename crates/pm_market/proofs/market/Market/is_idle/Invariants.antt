@@ -1,3 +1,4 @@
+-- Of `Market::is_idle`: what its loop over `before` keeps.
 use Rattle.std.proofs.Common.{◌≡◌, true}
 use Rattle.pm_market.specs.State.{all_to}
 use Rattle.pm_market.specs.Legality.{is_idle_at}

@@ -1,3 +1,4 @@
+-- Of `Market::is_same_on`: what it ensures.
 use Rattle.std.proofs.Common.{sym, ◌∙◌, arith}
 use Rattle.pm_market.specs.State.{is_same_on}
 use Rattle.pm_market.proofs.Loops.{all_to_stops}

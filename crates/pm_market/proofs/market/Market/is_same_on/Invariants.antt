@@ -1,3 +1,4 @@
+-- Of `Market::is_same_on`: what its loop over `before` keeps.
 use Rattle.std.proofs.Common.{◌≡◌, true, cond, eqb}
 use Rattle.pm_market.specs.State.{all_to}
 use Rattle.pm_market.specs.Lists.{is_leaf_of}

@@ -1,3 +1,4 @@
+-- Of `Market::known_row`: what its loop over `device` keeps.
 use Rattle.std.proofs.Common.{◌≡◌, ◌<◌, ℕ, get_or, vec_len}
 use Rattle.pm_market.specs.State.{knowledge}
 use Rattle.pm_market.specs.Market.{market_lists, market_state}

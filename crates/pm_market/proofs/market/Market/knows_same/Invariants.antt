@@ -1,3 +1,4 @@
+-- Of `Market::knows_same`: what its loop over `before` keeps.
 use Rattle.std.proofs.Common.{◌≡◌, true, cond, eqb, length}
 use Rattle.pm_market.specs.State.{all_to, knowledge, cut_at}
 use Rattle.pm_market.specs.Lists.{is_leaf_of}

@@ -1,3 +1,4 @@
+-- Of `Market::last_join`: what its loop over `back` keeps.
 use Rattle.std.proofs.Common.{◌≡◌, ◌-◌}
 use Rattle.pm_market.specs.Held.{last_join}
 use Rattle.pm_market.specs.Market.{market_lists}

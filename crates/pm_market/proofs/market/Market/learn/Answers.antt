@@ -1,3 +1,4 @@
+-- Of `Market::learn`: its clause `state`.
 use Rattle.std.proofs.Common.{ap, arith, ℕ}
 use Rattle.pm_market.specs.Market.{market_state}
 use Rattle.pm_market.proofs.Tables.{number_set}

@@ -1,3 +1,4 @@
+-- Of `Market::mark_above`: its clause `marks`; the turns of its loop over `step`.
 use Rattle.std.proofs.Common.{◌≡◌, ◌+◌, ◌-◌, ◌||◌, ℕ, Bool, false, get_or, refl, sym, ◌∙◌, ap, arith}
 use Rattle.pm_market.specs.Lists.{is_below, is_below_in}
 use Rattle.pm_market.specs.Market.{market_lists}

@@ -1,3 +1,4 @@
+-- Of `Market::mark_above`: what its loop over `step` keeps.
 use Rattle.std.proofs.Common.{◌≡◌, ◌<◌, ◌-◌, ◌||◌, ℕ, false, get_or, length}
 use Rattle.pm_market.specs.Lists.{is_below, is_below_in}
 use Rattle.pm_market.specs.Market.{market_lists}

@@ -1,3 +1,4 @@
+-- Of `Market::mark_leaf`: its clause `marks`.
 use Rattle.std.proofs.Common.{◌||◌, Bool, false, get_or, sym, ◌∙◌, ap, arith}
 use Rattle.pm_base.specs.Cuts.{Cut, cut_of}
 use Rattle.pm_market.specs.Market.{market_lists}

@@ -1,3 +1,4 @@
+-- Of `Market::may_close`: what it ensures.
 use Rattle.std.proofs.Common.{arith}
 use Rattle.std.proofs.lemmas.Grind.{common_steps}
 use Rattle.pm_market.specs.Legality.{close_is_legal}

@@ -1,3 +1,4 @@
+-- Of `Market::may_learn`: what it ensures.
 use Rattle.std.proofs.Common.{arith}
 use Rattle.std.proofs.lemmas.Bool.Decides.{nat_tests}
 use Rattle.pm_market.specs.Legality.{learn_is_legal}

@@ -1,3 +1,4 @@
+-- Of `Market::may_pass`: what it ensures.
 use Rattle.std.proofs.Common.{arith}
 use Rattle.std.proofs.lemmas.Bool.Decides.{nat_tests}
 use Rattle.pm_market.specs.Legality.{pass_is_legal}

@@ -1,3 +1,4 @@
+-- Of `Market::may_pass_none`: what it ensures.
 use Rattle.std.proofs.Common.{ℕ, leb, not, sym, ◌∙◌, ap}
 use Rattle.pm_market.specs.Market.{market_lists, market_state, market_due}
 use Rattle.pm_market.proofs.Due.{no_pass_outside, no_pass_is}

@@ -1,3 +1,4 @@
+-- Of `Market::may_publish`: what it ensures.
 use Rattle.std.proofs.Common.{arith}
 use Rattle.pm_market.specs.Legality.{publish_is_legal}
 use Rattle.pm_market.specs.Market.{market_lists, market_state}

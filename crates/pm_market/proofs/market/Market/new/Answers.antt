@@ -1,3 +1,4 @@
+-- Of `Market::new`: its clause `start`; what the type keeps.
 use Rattle.std.proofs.Common.{◌∙◌, ◌+◌, ap, subst, [], map}
 use Rattle.std.proofs.Math.Path.{fun_ext}
 use Rattle.pm_base.specs.Cuts.{cut_of}

@@ -1,3 +1,4 @@
+-- Of `Market::pass`: its clauses `ok` and `err`; what the call of `pass_to_last` requires; what the type keeps.
 use Rattle.std.proofs.Common.{ap, sym, subst, arith, true, ◌∙◌, get_or, ℕ, List, []}
 use Rattle.pm_market.specs.Due.{KnowsDue}
 use Rattle.pm_market.specs.Market.{market_lists, market_state, market_due}

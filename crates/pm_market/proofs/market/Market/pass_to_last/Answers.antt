@@ -1,3 +1,4 @@
+-- Of `Market::pass_to_last`: its clause `ok`; what the type keeps.
 use Rattle.std.proofs.Common.{ap, sym, subst, arith, ◌∙◌, [], get_or, ℕ, List}
 use Rattle.pm_market.specs.Due.{KnowsDue}
 use Rattle.pm_market.specs.Market.{market_lists, market_state, market_due}

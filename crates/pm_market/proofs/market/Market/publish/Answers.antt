@@ -1,3 +1,4 @@
+-- Of `Market::publish`: its clauses `ok` and `err`; what the type keeps.
 use Rattle.std.proofs.Common.{◌<◌, ap, arith, ◌∙◌, ℕ, List, length, sym, subst, map, get_or, [], Vec, Global}
 use Rattle.pm_base.specs.Cuts.{Cut, cut_of}
 use Rattle.pm_base.specs.Rows.{rows_of}

@@ -1,3 +1,4 @@
+-- Of `Market::was_passed`: what it ensures.
 use Rattle.std.proofs.Common.{List, [], get_or, ℕ, ap, ◌∙◌}
 use Rattle.pm_base.specs.Rows.{rows_of}
 use Rattle.pm_market.specs.Legality.{is_one_of}

@@ -1,3 +1,4 @@
+-- Of `are_few`: what its loop over `node` keeps.
 use Rattle.std.proofs.Common.{◌≡◌, ◌+◌, take}
 use Rattle.pm_base.specs.Limits.{most_changes}
 use Rattle.pm_plan.specs.Plans.{all_changes}

@@ -1,3 +1,4 @@
+-- Of `tick_each`: the turns of its loop over `node`.
 use Rattle.std.proofs.Common.{arith, to_z, of_z}
 use Rattle.pm_plan.specs.Building.{map_device, device_after_tick}
 use Rattle.pm_plan.proofs.Drafts.{map_more}

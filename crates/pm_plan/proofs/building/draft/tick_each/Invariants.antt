@@ -1,3 +1,4 @@
+-- Of `tick_each`: what its loop over `node` keeps.
 use Rattle.std.proofs.Common.{◌≡◌, ◌++◌, take, drop, map}
 use Rattle.pm_plan.specs.Building.{map_device, device_after_tick}
 use Rattle.pm_plan.proofs.building.draft.tick_each.Given as goal

@@ -1,3 +1,4 @@
+-- Of `add_events`: its clause `made`; the turns of its loop over `spec`.
 use Rattle.std.proofs.Common.{◌∙◌, ◌+◌, arith}
 use Rattle.pm_plan.specs.Building.{add_event}
 use Rattle.pm_plan.specs.Parts.{event_part}

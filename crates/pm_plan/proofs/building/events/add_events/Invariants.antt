@@ -1,3 +1,4 @@
+-- Of `add_events`: what its loop over `spec` keeps.
 use Rattle.std.proofs.Common.{◌≡◌, ◌≤◌, ◌+◌, Ok, length}
 use Rattle.pm_plan.specs.Building.{add_event}
 use Rattle.pm_plan.specs.Parts.{event_part}

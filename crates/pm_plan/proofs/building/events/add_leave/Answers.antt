@@ -1,3 +1,4 @@
+-- Of `add_leave`: its clause `made`.
 use Rattle.std.proofs.Common.{sym, refl, Some}
 use Rattle.pm_base.proofs.Outcomes.{Refuses-first}
 use Rattle.pm_plan.specs.declared.refusal.PlanFault.TheVariants.{NoMemory}

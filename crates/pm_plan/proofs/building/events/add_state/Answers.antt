@@ -1,3 +1,4 @@
+-- Of `add_state`: what it ensures; what the call of `plan` requires.
 use Rattle.std.proofs.Common.{◌∙◌, sym, ap, ℤ, List, length, Some, arith, rules}
 use Rattle.pm_base.proofs.Outcomes.{Refuses-first}
 use Rattle.pm_plan.specs.declared.refusal.PlanFault.TheVariants.{NoMemory}

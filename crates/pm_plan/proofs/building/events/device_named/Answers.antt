@@ -1,3 +1,4 @@
+-- Of `device_named`: its clause `inside`; what the call of `is_leaf` requires.
 use Rattle.std.proofs.Common.{◌∙◌, sym}
 use Rattle.pm_plan.proofs.Drafts.{device_is_no_root}
 use Rattle.pm_tree.proofs.Named.{node_named-inside}

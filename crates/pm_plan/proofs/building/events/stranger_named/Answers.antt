@@ -1,3 +1,4 @@
+-- Of `stranger_named`: its clause `device`.
 use Rattle.std.proofs.Common.{rules}
 use Rattle.pm_plan.specs.Building.{stranger_named}
 use Rattle.pm_plan.proofs.building.events.stranger_named.Goals as goal

@@ -1,3 +1,4 @@
+-- Of `add_parts`: what it ensures.
 use Rattle.std.proofs.Common.{sym, subst, map, List, Result}
 use Rattle.pm_plan.specs.declared.refusal.Refusal.{Refusal}
 use Rattle.pm_plan.specs.Plans.{PlanData}

@@ -1,3 +1,4 @@
+-- Of `build`: its clause `draft`; what the call of `add_parts` requires.
 use Rattle.std.proofs.Common.{◌≡◌, ◌∙◌, ◌≤◌, sym, ap, arith, subst, length, map, List}
 use Rattle.std.proofs.lemmas.List.{length-map}
 use Rattle.pm_base.specs.Limits.{most_phases}

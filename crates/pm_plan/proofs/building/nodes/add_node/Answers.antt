@@ -1,3 +1,4 @@
+-- Of `add_node`: its clause `made`.
 use Rattle.std.proofs.Common.{◌≡◌, ◌∙◌, sym, refl, arith, rules, true}
 use Rattle.std.proofs.lemmas.Grind.{common_steps}
 use Rattle.pm_base.proofs.Outcomes.{Refuses-first}

@@ -1,3 +1,4 @@
+-- Of `add_nodes`: its clause `made`; the turns of its loop over `spec`.
 use Rattle.std.proofs.Common.{◌∙◌, ◌+◌, arith}
 use Rattle.pm_plan.specs.Building.{add_node}
 use Rattle.pm_plan.specs.Parts.{node_part}

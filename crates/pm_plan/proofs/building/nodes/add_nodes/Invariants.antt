@@ -1,3 +1,4 @@
+-- Of `add_nodes`: what its loop over `spec` keeps.
 use Rattle.std.proofs.Common.{◌≡◌, ◌≤◌, Ok, length}
 use Rattle.pm_plan.specs.Building.{add_node}
 use Rattle.pm_plan.specs.Parts.{node_part}

@@ -1,3 +1,4 @@
+-- Of `add_phase`: what it ensures.
 use Rattle.pm_base.proofs.Outcomes.{Refuses-first}
 use Rattle.pm_plan.specs.Building.{add_phase}
 use Rattle.pm_plan.proofs.Folds.{step-err}

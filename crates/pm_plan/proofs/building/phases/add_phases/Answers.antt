@@ -1,3 +1,4 @@
+-- Of `add_phases`: what it ensures; the turns of its loop over `spec`.
 use Rattle.std.proofs.Common.{◌∙◌, ◌+◌, arith}
 use Rattle.pm_plan.specs.Building.{add_phase}
 use Rattle.pm_plan.specs.Parts.{phase_part}

@@ -1,3 +1,4 @@
+-- Of `add_phases`: what its loop over `spec` keeps.
 use Rattle.std.proofs.Common.{◌≡◌, ◌≤◌, ◌+◌, ◌*◌, Ok, length}
 use Rattle.pm_base.specs.Limits.{most_events}
 use Rattle.pm_plan.specs.Building.{add_phase}

@@ -1,3 +1,4 @@
+-- Of `take_phase`: its clauses `made`, `nodes` and `arrays`.
 use Rattle.std.proofs.Common.{◌≡◌, ◌∙◌, ap, ◌≤◌, refl, arith, true, List, length, map}
 use Rattle.std.specs.Prelude.{nat_le}
 use Rattle.std.proofs.lemmas.Bool.Decides.{nat_tests}

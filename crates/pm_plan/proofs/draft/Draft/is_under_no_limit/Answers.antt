@@ -1,3 +1,4 @@
+-- Of `Draft::is_under_no_limit`: what it ensures; the turns of its loop over `above`.
 use Rattle.std.proofs.Common.{◌≡◌, ◌∙◌, ◌≤◌, ◌==◌, sym, ap, arith, true, false, ℕ}
 use Rattle.std.proofs.lemmas.Bool.Decides.{nat_tests}
 use Rattle.pm_plan.specs.Plans.{parent, group, is_limited}

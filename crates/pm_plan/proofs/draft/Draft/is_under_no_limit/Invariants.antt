@@ -1,3 +1,4 @@
+-- Of `Draft::is_under_no_limit`: what its loop over `above` keeps.
 use Rattle.std.proofs.Common.{◌≡◌, ◌+◌, ◌≤◌, length}
 use Rattle.pm_plan.specs.Plans.{group}
 use Rattle.pm_plan.proofs.draft.Draft.is_under_no_limit.Given as goal

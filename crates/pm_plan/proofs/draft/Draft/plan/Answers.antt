@@ -1,3 +1,4 @@
+-- Of `Draft::plan`: its clause `planned`.
 use Rattle.std.proofs.Common.{◌∙◌, ap, arith, length}
 use Rattle.std.proofs.lemmas.Result.{on_ok_weaker}
 use Rattle.pm_plan.specs.Plans.{PlanData}

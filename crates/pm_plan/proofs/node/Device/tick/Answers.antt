@@ -1,3 +1,4 @@
+-- Of `Device::tick`: what it ensures.
 use Rattle.std.proofs.Common.{rules}
 use Rattle.pm_plan.proofs.node.Device.tick.Goals as goal
 

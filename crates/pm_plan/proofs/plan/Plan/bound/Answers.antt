@@ -1,3 +1,4 @@
+-- Of `Plan::bound`: what it ensures; that its numbers fit.
 use Rattle.std.proofs.Common.{◌∙◌, ap, ◌+◌, arith, length, mul-le-mul, rules, subst}
 use Rattle.pm_base.specs.Limits.{most_changes}
 use Rattle.pm_plan.specs.Plans.{PlanData, phases}

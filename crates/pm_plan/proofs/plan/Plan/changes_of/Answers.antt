@@ -1,3 +1,4 @@
+-- Of `Plan::changes_of`: what it ensures; what the call of `count_up_to` requires; that its numbers fit.
 use Rattle.std.proofs.Common.{◌∙◌, sym, ap, subst, ℕ, ◌-◌, ◌<◌, ◌≤◌, List, length, arith}
 use Rattle.std.specs.Prelude.{slice_index_or}
 use Rattle.std.specs.List.{prefix_len}

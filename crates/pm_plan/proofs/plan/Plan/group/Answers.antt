@@ -1,3 +1,4 @@
+-- Of `Plan::group`: its clause `group`; the turns of its loop over `here`.
 use Rattle.std.proofs.Common.{◌≡◌, ◌∙◌, sym, ap, arith, refl, subst, true, false}
 use Rattle.std.specs.Prelude.{is_some}
 use Rattle.pm_plan.specs.Kept.{IsPlan}

@@ -1,3 +1,4 @@
+-- Of `Plan::group`: what its loop over `here` keeps.
 use Rattle.std.proofs.Common.{◌≡◌, ◌≤◌, length}
 use Rattle.pm_plan.specs.Plans.{group}
 use Rattle.pm_plan.proofs.plan.Plan.group.Given as goal

@@ -1,3 +1,4 @@
+-- Of `Plan::new`: its clause `phases`; what the type keeps.
 use Rattle.std.proofs.Common.{◌∙◌, sym, ap, map, List}
 use Rattle.std.proofs.lemmas.List.{length-map}
 use Rattle.pm_plan.specs.declared.parts.NodeSpec.{NodeSpec}

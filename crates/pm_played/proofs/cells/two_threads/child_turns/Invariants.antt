@@ -1,3 +1,4 @@
+-- Of `child_turns`: what lasts from turn to turn.
 use Rattle.std.proofs.Common.{◌≡◌}
 use Rattle.pm_played.proofs.cells.two_threads.child_turns.Given as goal
 

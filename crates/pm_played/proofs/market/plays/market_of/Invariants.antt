@@ -1,3 +1,4 @@
+-- Of `market_of`: what its loop over `parent` keeps.
 use Rattle.std.proofs.Common.{◌≡◌, vec_len}
 use Rattle.pm_played.proofs.market.plays.market_of.Given as goal
 

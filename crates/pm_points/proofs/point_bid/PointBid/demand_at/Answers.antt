@@ -1,3 +1,4 @@
+-- Of `PointBid::demand_at`: its clauses `demand` and `within`; what the call of `demand_between` requires.
 use Rattle.std.proofs.Common.{rules, ◌≡◌, ◌∙◌, ap, sym, subst, refl, ℕ, ℤ, ◌+◌, ◌<◌, pos, List, length, get_or, Option, Some, None}
 use Rattle.std.proofs.Common.{FitsSigned, w64, to_z, of_z, arith}
 use Rattle.std.proofs.lemmas.Int.{ints, to_z-of_z}

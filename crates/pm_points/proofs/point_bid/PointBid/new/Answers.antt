@@ -1,3 +1,4 @@
+-- Of `PointBid::new`: what it ensures; what the type keeps.
 use Rattle.std.proofs.Common.{rules, subst, ◌≤◌, List, length, arith}
 use Rattle.pm_points.specs.Points.{Point, max_points}
 use Rattle.pm_points.specs.Checks.{first_price_fall, first_rise, first_outside, first_large_demand}

@@ -1,3 +1,4 @@
+-- Of `PointBid::to_array`: its clauses `array`, `falls` and `within`; the turns of its loop over `step`.
 use Rattle.std.proofs.Common.{rules, ◌≡◌, ◌∙◌, sym, ap, subst, ◌+◌, ℤ, List, FitsSigned, w64, to_z, of_z, arith}
 use Rattle.std.proofs.lemmas.Int.{to_z-of_z}
 use Rattle.pm_basis.specs.Prices.{price_at}

@@ -1,3 +1,4 @@
+-- Of `PointBid::to_array`: what its loop over `step` keeps.
 use Rattle.std.proofs.Common.{◌≡◌}
 use Rattle.pm_points.proofs.Falls.{Filled}
 use Rattle.pm_points.proofs.point_bid.PointBid.to_array.Given as goal

@@ -1,3 +1,4 @@
+-- Of `Desk::move_node`: what the call of `turn` requires.
 use Rattle.std.proofs.Common.{◌∙◌, ap, length, arith}
 use Rattle.pm_plan.proofs.MarketLists.{nodes_are}
 use Rattle.pm_runner.proofs.desk.Desk.move_node.Goals as goal

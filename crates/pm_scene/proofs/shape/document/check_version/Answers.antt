@@ -1,3 +1,4 @@
+-- Of `check_version`: what it ensures.
 use Rattle.std.proofs.Common.{rules}
 use Rattle.pm_scene.proofs.shape.document.check_version.Goals as goal
 

@@ -1,3 +1,4 @@
+-- Of `read_shape`: what it ensures.
 use Rattle.std.proofs.Common.{◌≡◌, ◌∙◌, ap, sym, subst, ◌<◌, ◌^◌, ℤ, eqb, of_z, w64, Bool, List, Ok, rules}
 use Rattle.std.specs.Prelude.{codes}
 use lib.Signed.{mag}

@@ -1,3 +1,4 @@
+-- Of `read_nodes`: what it ensures; the turns of its loop over `value`.
 use Rattle.std.proofs.Common.{arith}
 use Rattle.serde_json.specs.View.{view}
 use Rattle.pm_base.proofs.Outcomes.{Gives-err}

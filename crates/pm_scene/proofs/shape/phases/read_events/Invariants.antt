@@ -1,3 +1,4 @@
+-- Of `read_events`: what its loop over `value` keeps.
 use Rattle.std.proofs.Common.{◌≡◌}
 use Rattle.serde_json.specs.View.{view}
 use Rattle.pm_plan.specs.Parts.{event_part}

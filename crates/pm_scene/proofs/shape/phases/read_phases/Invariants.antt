@@ -1,3 +1,4 @@
+-- Of `read_phases`: what its loop over `value` keeps.
 use Rattle.std.proofs.Common.{◌≡◌}
 use Rattle.serde_json.specs.View.{view}
 use Rattle.pm_plan.specs.Parts.{phase_part}

@@ -1,3 +1,4 @@
+-- Of `Link::offer_bid`: its clause `offered`; what the type keeps.
 use Rattle.std.proofs.Common.{rules}
 use Rattle.pm_session.proofs.link.Link.offer_bid.Goals as goal
 

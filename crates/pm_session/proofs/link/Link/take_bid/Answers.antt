@@ -1,3 +1,4 @@
+-- Of `Link::take_bid`: its clause `taken`; what the type keeps.
 use Rattle.std.proofs.Common.{ap}
 use Rattle.pm_session.specs.LinkFields.{session_of, bid_in}
 use Rattle.pm_session.proofs.Taking.{session_taken, bid_taken, the_bid}

@@ -1,3 +1,4 @@
+-- Of `Port::held`: what it ensures.
 use Rattle.std.proofs.Common.{rules}
 use Rattle.pm_session.proofs.port.Port.held.Goals as goal
 

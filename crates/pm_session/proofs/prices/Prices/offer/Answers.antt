@@ -1,3 +1,4 @@
+-- Of `Prices::offer`: the turns of its loop over `child`.
 use Rattle.std.proofs.Common.{arith}
 use Rattle.std.proofs.lemmas.Grind.{elements}
 use Rattle.pm_session.proofs.prices.Prices.offer.Goals as goal

@@ -1,3 +1,4 @@
+-- Of `Prices::offer`: what its loop over `child` keeps.
 use Rattle.std.proofs.Common.{◌≡◌, ℕ, ◌<◌, ◌≤◌, true, false, length}
 use Rattle.pm_session.specs.Links.{PriceOffered}
 use Rattle.pm_session.specs.Prices.{session_at, head_at}

@@ -1,3 +1,4 @@
+-- Of `Window::answered`: what it ensures; what the type keeps.
 use Rattle.std.proofs.Common.{sym, subst, refl}
 use Rattle.pm_session.specs.Windows.{Keeps, WindowValue}
 use Rattle.pm_session.specs.WindowFields.{window_of}

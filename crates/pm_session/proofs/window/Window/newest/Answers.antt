@@ -1,3 +1,4 @@
+-- Of `Window::newest`: its clause `record`.
 use Rattle.std.proofs.Common.{◌≡◌, ◌∙◌}
 use Rattle.pm_session.specs.WindowFields.{record_in}
 use Rattle.pm_session.proofs.Ring.{read_in, ring_of, newest_kept}

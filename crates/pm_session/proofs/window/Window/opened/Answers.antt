@@ -1,3 +1,4 @@
+-- Of `Window::opened`: what the type keeps.
 use Rattle.std.proofs.Common.{arith}
 use Rattle.std.proofs.lemmas.Grind.{common_steps}
 use Rattle.pm_session.proofs.window.Window.opened.Goals as goal

@@ -1,3 +1,4 @@
+-- Of `Window::opened`: what its loop over `place` keeps.
 use Rattle.std.proofs.Common.{◌≡◌, ℕ, ◌<◌, length, get_or, replicate}
 use Rattle.pm_bid.specs.Heads.{nothing_sent}
 use Rattle.pm_session.specs.Windows.{steps_of, no_record}

@@ -1,3 +1,4 @@
+-- Of `Window::record`: what it ensures.
 use Rattle.pm_session.proofs.Ring.{is_kept}
 use Rattle.pm_session.proofs.window.Window.record.Goals as goal
 

@@ -1,3 +1,4 @@
+-- Of `Window::room`: its clause `room`.
 use Rattle.std.proofs.Common.{rules}
 use Rattle.pm_session.proofs.window.Window.room.Goals as goal
 

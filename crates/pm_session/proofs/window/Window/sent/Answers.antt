@@ -1,3 +1,4 @@
+-- Of `Window::sent`: its clause `sent`; what the type keeps.
 use Rattle.std.proofs.Common.{rules, ◌≡◌, ◌∙◌, ap, ◌+◌, ◌-◌, ◌<◌, Option, None, List, ℤ}
 use Rattle.pm_base.specs.Limits.{window_size}
 use Rattle.pm_session.specs.Windows.{Sent, Fits}

@@ -1,3 +1,4 @@
+-- Of `Window::sent_limited`: what it ensures; what the type keeps.
 use Rattle.std.proofs.Common.{rules, ◌≡◌, ◌+◌, ◌-◌, ◌<◌, Some}
 use Rattle.pm_base.specs.Limits.{window_size}
 use Rattle.pm_session.specs.Windows.{Sent, Fits}

@@ -1,3 +1,4 @@
+-- Of `Levels::fill`: what it ensures; the turns of its loop over `step`.
 use Rattle.std.proofs.Common.{arith, rules, ◌∙◌, sym, w64, FitsSigned, length-set}
 use Rattle.std.proofs.lemmas.Int.{to_z-of_z}
 use Rattle.pm_bid.proofs.EachStep.{progress_more, progress_all}

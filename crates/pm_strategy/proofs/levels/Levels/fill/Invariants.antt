@@ -1,3 +1,4 @@
+-- Of `Levels::fill`: what its loop over `step` keeps.
 use Rattle.std.proofs.Common.{◌≡◌, length}
 use Rattle.pm_bid.proofs.EachStep.{Progress}
 use Rattle.pm_strategy.specs.Levels.{level_at}

@@ -1,3 +1,4 @@
+-- Of `Index::check`: its clause `refused`; what the call of `find_parent` requires.
 use Rattle.std.proofs.Common.{Some, None, arith, string_bytes}
 use Rattle.std.proofs.lemmas.List.{length-map}
 use Rattle.std.proofs.lemmas.Result.{err_from_is_err_and, IfOk-weaker, IfErr-weaker, on_ok_weaker}

@@ -1,3 +1,4 @@
+-- Of `Index::check_name`: its clause `refused`.
 use Rattle.std.proofs.Common.{rules}
 use Rattle.pm_tree.proofs.index.Index.check_name.Goals as goal
 

@@ -1,3 +1,4 @@
+-- Of `Index::make_row`: its clause `row`.
 use Rattle.std.proofs.Common.{arith}
 use Rattle.std.proofs.lemmas.Grind.{common_steps}
 use Rattle.pm_tree.proofs.index.Index.make_row.Goals as goal

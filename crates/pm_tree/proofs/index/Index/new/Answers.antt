@@ -1,3 +1,4 @@
+-- Of `Index::new`: what it ensures; what the call of `push` requires.
 use Rattle.std.proofs.Common.{◌∙◌, ap, ◌++◌, ◌∷◌, [], map, string_bytes}
 use Rattle.std.specs.List.{position}
 use Rattle.std.specs.Str.{bytes_eq}

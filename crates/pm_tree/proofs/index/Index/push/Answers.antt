@@ -1,3 +1,4 @@
+-- Of `Index::push`: its clause `names`.
 use Rattle.std.proofs.Common.{◌≡◌, ◌∙◌, ap, ◌++◌, ◌∷◌, [], List, ℕ, map, string_bytes, if◌then◌else◌, None}
 use Rattle.std.specs.List.{position}
 use Rattle.std.specs.Str.{bytes_eq}

@@ -1,3 +1,4 @@
+-- Of `Tree::depth`: what it ensures; that its numbers fit.
 use Rattle.std.proofs.Common.{arith}
 use Rattle.pm_tree.proofs.Named.{length-parents_of}
 use Rattle.pm_tree.proofs.Whole.{row_inside, row_tells_depth}

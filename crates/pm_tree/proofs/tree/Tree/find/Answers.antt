@@ -1,3 +1,4 @@
+-- Of `Tree::find`: what it ensures.
 use Rattle.std.proofs.Common.{◌∙◌, ap}
 use Rattle.std.specs.List.{position}
 use Rattle.std.specs.Str.{bytes_eq}

@@ -1,3 +1,4 @@
+-- Of `Tree::is_leaf`: what it ensures; that its numbers fit.
 use Rattle.std.proofs.Common.{arith}
 use Rattle.pm_tree.proofs.Whole.{row_inside, row_tells_leaf}
 use Rattle.pm_tree.proofs.tree.Tree.is_leaf.Goals as goal

@@ -1,3 +1,4 @@
+-- Of `Tree::name`: what it ensures.
 use Rattle.std.proofs.Common.{◌∙◌, ap, sym, string_bytes, slice_get, List, ℕ, []}
 use Rattle.std.specs.Option.{option_map}
 use Rattle.std.proofs.lemmas.Option.{get_or_from_slice_get, slice_get-map}

@@ -1,3 +1,4 @@
+-- Of `Tree::new`: what it ensures; what the calls of `collect_children` and `collect_leaves` require; what the type keeps.
 use Rattle.std.proofs.Common.{◌≡◌, ◌≤◌, ◌∙◌, ap, subst, inl, length, arith, List, [], map, slice_get, string_bytes, Err, None, Some}
 use Rattle.std.proofs.Common.{◌⊎◌}
 use Rattle.std.proofs.lemmas.Result.{err_from_is_err_and}

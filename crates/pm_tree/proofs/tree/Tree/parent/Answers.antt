@@ -1,3 +1,4 @@
+-- Of `Tree::parent`: what it ensures; that its numbers fit.
 use Rattle.std.proofs.Common.{◌≤◌, length, arith}
 use Rattle.pm_tree.specs.Entries.{parents_of}
 use Rattle.pm_tree.proofs.Named.{length-parents_of}

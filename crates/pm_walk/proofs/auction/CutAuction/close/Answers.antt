@@ -1,3 +1,4 @@
+-- Of `CutAuction::close`: its clause `auction`.
 use Rattle.std.proofs.Common.{◌∙◌, sym, subst, arith, List, ℤ}
 use Rattle.pm_base.specs.Cuts.{Cut}
 use Rattle.pm_plan.specs.Plans.{end_cut}

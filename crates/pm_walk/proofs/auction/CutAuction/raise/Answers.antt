@@ -1,3 +1,4 @@
+-- Of `CutAuction::raise`: its clause `auction`; what the call of `raise_devices` requires.
 use Rattle.std.proofs.Common.{◌∙◌, ◌-◌, ap, sym, subst, arith}
 use Rattle.pm_base.specs.Cuts.{Cut, cut_of}
 use Rattle.pm_plan.specs.Plans.{end_cut}

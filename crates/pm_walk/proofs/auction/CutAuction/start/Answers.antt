@@ -1,3 +1,4 @@
+-- Of `CutAuction::start`: its clauses `none` and `auction`.
 use Rattle.std.proofs.Common.{◌≡◌, ◌∙◌, ap, sym, subst, arith}
 use Rattle.std.proofs.lemmas.Slice.Zip.{AllZip-map}
 use Rattle.std.proofs.lemmas.List.{map-id}

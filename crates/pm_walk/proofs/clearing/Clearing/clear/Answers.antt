@@ -1,3 +1,4 @@
+-- Of `Clearing::clear`: its clause `clearing`; what the calls of `fill_group_steps` and `fill_powers` require.
 use Rattle.std.proofs.Common.{◌≡◌, ◌∙◌, ap, sym, subst, arith, length}
 use Rattle.std.proofs.lemmas.List.{with_items_is}
 use Rattle.pm_bid.specs.Clearing.{clearing_step}

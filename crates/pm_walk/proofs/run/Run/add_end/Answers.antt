@@ -1,3 +1,4 @@
+-- Of `Run::add_end`: its clause `ends`.
 use Rattle.std.proofs.Common.{◌∙◌, ap, sym, subst, List}
 use Rattle.pm_plan.specs.Ends.{EndValue}
 use Rattle.pm_plan.specs.States.{end_of}

@@ -1,3 +1,4 @@
+-- Of `Run::over`: what it ensures; what the call of `clear` requires.
 use Rattle.std.proofs.Common.{◌∙◌, ap, refl, length}
 use Rattle.std.proofs.lemmas.Result.{IfOk-from_err}
 use Rattle.pm_bid.proofs.Sums.{length-zeros}

@@ -1,3 +1,4 @@
+-- Of `Run::pass`: what it ensures.
 use Rattle.std.proofs.Common.{sym, subst}
 use Rattle.pm_walk.specs.Clearing.{IsClearing}
 use Rattle.pm_walk.specs.Standing.{StandingValue, cut_made}

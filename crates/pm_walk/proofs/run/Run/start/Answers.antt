@@ -1,3 +1,4 @@
+-- Of `Run::start`: what it ensures.
 use Rattle.std.proofs.Common.{◌≡◌}
 use Rattle.pm_plan.specs.Plans.{end_cut}
 use Rattle.pm_walk.specs.declared.run.Run.{Run}

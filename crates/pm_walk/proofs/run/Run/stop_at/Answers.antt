@@ -1,3 +1,4 @@
+-- Of `Run::stop_at`: the turns of its loop over `phase`.
 use Rattle.std.proofs.Common.{◌≡◌, ◌+◌, ◌-◌, subst, ℕ, arith}
 use Rattle.pm_walk.specs.Cuts.{AreStops}
 use Rattle.pm_walk.specs.Runs.{IsAtEnd}

@@ -1,3 +1,4 @@
+-- Of `Run::stop_at`: what its loop over `phase` keeps.
 use Rattle.std.proofs.Common.{◌-◌}
 use Rattle.pm_walk.specs.Cuts.{AreStops}
 use Rattle.pm_walk.specs.Runs.{IsAtEnd}

@@ -1,3 +1,4 @@
+-- Of `Standing::change_device`: its clause `done`; what the calls of `make_changes` and `reach` require.
 use Rattle.std.proofs.Common.{◌∙◌, ◌-◌, arith}
 use Rattle.std.proofs.lemmas.Int.{to_z-of_z}
 use mir.Syntax.{w64}

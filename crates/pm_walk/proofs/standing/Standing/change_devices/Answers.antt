@@ -1,3 +1,4 @@
+-- Of `Standing::change_devices`: its clause `done`; what the calls of `bounds` and `change_device` require; the turns of its loop over `number`.
 use Rattle.std.proofs.Common.{◌≡◌, ◌∙◌, ◌-◌, ◌<◌, ap, sym, refl, Bool, true, false, length, arith}
 use Rattle.std.specs.Prelude.{◌||◌}
 use Rattle.pm_tree.specs.Entries.{is_leaf_at}

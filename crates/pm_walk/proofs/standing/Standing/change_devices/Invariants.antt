@@ -1,3 +1,4 @@
+-- Of `Standing::change_devices`: what its loop over `number` keeps.
 use Rattle.std.proofs.Common.{◌≡◌, ◌-◌, false}
 use Rattle.pm_plan.specs.Plans.{end_cut}
 use Rattle.pm_walk.proofs.Standings.{IsAlong}

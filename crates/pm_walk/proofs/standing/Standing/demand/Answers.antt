@@ -1,3 +1,4 @@
+-- Of `Standing::demand`: its clause `steps`.
 use Rattle.pm_walk.proofs.Standings.{kept_demand}
 use Rattle.pm_walk.proofs.standing.Standing.demand.Goals as goal
 

@@ -1,3 +1,4 @@
+-- Of `Standing::over`: its clauses `cut` and `stands`; what the calls of `bounds` and `reach` require; the turns of its loop over `number`.
 use Rattle.std.proofs.Common.{◌≡◌, ◌∙◌, ◌<◌, ◌≤◌, ap, sym, false, length, arith}
 use Rattle.std.proofs.lemmas.Result.{IfOk-from_err}
 use Rattle.pm_bid.proofs.Sums.{length-zeros}

@@ -1,3 +1,4 @@
+-- Of `Standing::over`: what its loop over `number` keeps.
 use Rattle.pm_walk.specs.Standing.{cut_made}
 use Rattle.pm_walk.proofs.Standings.{IsAlong}
 use Rattle.pm_walk.proofs.standing.Standing.over.Given as goal

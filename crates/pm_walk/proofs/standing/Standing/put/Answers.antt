@@ -1,3 +1,4 @@
+-- Of `Standing::put`: its clause `stands`; what the calls of `exchange` and `copy_into` require; that its numbers fit.
 use Rattle.std.proofs.Common.{◌≡◌, ◌∙◌, sym, subst, length, arith}
 use Rattle.pm_walk.specs.Standing.{StandingValue, IsStanding}
 use Rattle.pm_walk.specs.declared.standing.Standing.TheInside.{Inside}

@@ -1,3 +1,4 @@
+-- Of `Standing::raise_device`: what it ensures; what the calls of `make_changes` and `reach` require.
 use Rattle.std.proofs.Common.{◌∙◌, ◌-◌, ap, sym, refl, arith}
 use Rattle.pm_walk.specs.declared.changes.Progress.{Progress}
 use Rattle.pm_walk.proofs.Standings.{reached-read, further-set}

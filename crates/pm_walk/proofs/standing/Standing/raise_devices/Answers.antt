@@ -1,3 +1,4 @@
+-- Of `Standing::raise_devices`: its clause `done`; what the calls of `bounds` and `raise_device` require; the turns of its loop over `number`.
 use Rattle.std.proofs.Common.{◌≡◌, ◌∙◌, ◌<◌, ap, sym, refl, true, false, length, arith, rules}
 use Rattle.pm_tree.specs.Entries.{is_leaf_at}
 use Rattle.pm_base.specs.Cuts.{cut_of}

@@ -1,3 +1,4 @@
+-- Of `Standing::raise_devices`: what its loop over `number` keeps.
 use Rattle.pm_base.specs.Cuts.{cut_of}
 use Rattle.pm_walk.specs.Cuts.{device_cut}
 use Rattle.pm_walk.specs.Standing.{cut_made}

@@ -1,3 +1,4 @@
+-- Of `Standing::start`: its clause `stands`.
 use Rattle.std.proofs.Common.{◌∙◌, ◌+◌, ap, sym, length, replicate}
 use Rattle.pm_bid.specs.Bids.{zeros}
 use Rattle.pm_walk.proofs.Standings.{start_stands}

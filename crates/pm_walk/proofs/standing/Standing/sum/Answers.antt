@@ -1,3 +1,4 @@
+-- Of `Standing::sum`: its clause `steps`.
 use Rattle.pm_walk.proofs.Standings.{kept_sum}
 use Rattle.pm_walk.proofs.standing.Standing.sum.Goals as goal
 

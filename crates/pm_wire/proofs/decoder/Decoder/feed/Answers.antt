@@ -1,3 +1,4 @@
+-- Of `Decoder::feed`: what the type keeps.
 use Rattle.std.proofs.Common.{arith, is_ok}
 use Rattle.pm_wire.proofs.Fed.{fed_bad, fed_longer}
 use Rattle.pm_wire.proofs.decoder.Decoder.feed.Goals as goal

@@ -1,3 +1,4 @@
+-- Of `Decoder::next`: its clauses `gives`, `waits`, `refuses` and 3 more; what the type keeps.
 use Rattle.std.proofs.Common.{◌≡◌, ◌∙◌, ◌-◌, ap, sym, subst, List, ℕ, inl, Ok, Some, length, take, drop, refl, arith}
 use Rattle.std.proofs.lemmas.List.{take_rest}
 use Rattle.std.proofs.lemmas.Grind.{common_steps}

@@ -1,3 +1,4 @@
+-- Of `OpenMarket::count`: what the call of `learn` requires.
 use Rattle.std.proofs.Common.{ℕ, ◌≡◌, ◌-◌, ap, sym, subst, rules, arith}
 use Rattle.std.specs.Option.{option_copied}
 use Rattle.pm_cache.specs.Cache.{Cache}

@@ -1,3 +1,4 @@
+-- Of `OpenMarket::new`: its clauses `new` and `sound`.
 use Rattle.std.proofs.Common.{ap, refl}
 use Rattle.pm_auctioneer.specs.Auctions.{Auction}
 use Rattle.pm_wire.proofs.Markets.{open_market_is, opened_sound}

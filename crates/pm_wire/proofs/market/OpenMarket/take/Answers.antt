@@ -1,3 +1,4 @@
+-- Of `OpenMarket::take`: its clause `few`; what the call of `count` requires.
 use Rattle.std.proofs.Common.{subst, arith}
 use Rattle.std.proofs.lemmas.Grind.{common_steps}
 use Rattle.pm_wire.specs.declared.frame.Frame.{Frame}

@@ -1,3 +1,4 @@
+-- Of `run_nodes`, its closure handed to `scope`: the turns of its loop over `node`.
 use Rattle.std.proofs.Common.{◌≡◌, List, All, sym, ap, subst}
 use Rattle.std.proofs.lemmas.List.Elements.{All-push, All-tail}
 use Rattle.pm_cells.specs.Ends.{TableId}

@@ -1,3 +1,4 @@
+-- Of `run_nodes`, its closure handed to `scope`: what its loop over `node` keeps.
 use Rattle.std.proofs.Common.{◌≡◌, All}
 use Rattle.pm_phase.specs.Ends.{AreOf}
 use Rattle.pm_phase.proofs.threads.fn.run_nodes.scope.Given as goal
