@@ -5,6 +5,8 @@ from itertools import zip_longest
 
 CONCENTRATORS = ("concentrator", "limited")
 TICKING = ("freezer", "heat_pump", "cogeneration", "battery")
+# The largest absolute value of a temperature.
+TEMPERATURE = 1_000_000
 
 
 class Misfit(Exception):
@@ -93,7 +95,7 @@ def after_tick(node, state, power, minutes):
         state += node["warm"] - node["cool"] * (power > 0)
     else:
         state += node["gain"] * (power > 0 if kind == "heat_pump" else power < 0) - node["loss"]
-    return min(max(state, -1_000_000), 1_000_000)
+    return min(max(state, -TEMPERATURE), TEMPERATURE)
 
 
 def clearing_step(sums):

@@ -2,7 +2,7 @@
 
     python3 -m checks.lint.edits [CRATE ..]   tries the edits of these crates, of all where none is named
     python3 -m checks.lint.edits --log FILE   reads what `rt must-fail` or `rt ci` wrote
-    python3 -m checks.lint.edits --self-test  reads fixed lines, and compares docs/EDITS.md with the edits that there are
+    python3 -m checks.lint.edits --self-test  reads fixed lines, and compares docs/EDITS.md with the edits and functions that there are
 
 It prints a row of a table for each edit and ends with 'N passed, M failed'. An edit fails where it was not refused, where
 it is a bad edit, where no more is told than that a proof names what it took away or hangs on one that was rejected, and
@@ -233,10 +233,25 @@ def unlisted() -> Iterator[str]:
         yield "the rows of docs/EDITS.md are not in the order of crates.txt and of the names"
 
 
+def unknown() -> Iterator[str]:
+    """Where a row names a clause of a function that its crate has not."""
+    known = {it: set(re.findall(r"\bfn (\w+)", "".join(sources(it)))) for it in crates()}
+    for crate, name, clause, _ in listed():
+        for function in re.findall(r"(?:of|by|in|from) `(?:\w+::)?(\w+)`", clause):
+            if function not in known[crate]:
+                yield f"docs/EDITS.md names {function}, which {crate} has not, for {crate}/{name}.edit"
+
+
+def sources(crate: str) -> Iterator[str]:
+    """The text of each file of a crate's code."""
+    for path in sorted((TOP / "crates" / crate / "src").rglob("*.rt")):
+        yield path.read_text()
+
+
 def test_self() -> int:
-    """Runs both comparisons, and returns the status."""
+    """Runs all comparisons, and returns the status."""
     passed, failed = 0, 0
-    for check in (misreadings, unlisted):
+    for check in (misreadings, unlisted, unknown):
         findings = list(check())
         for it in findings:
             print(it)

@@ -9,6 +9,7 @@ from dataclasses import dataclass
 
 from checks import CASES, TOP
 from checks.make import members, streams
+from checks.make.limits import CHANGES, EVENTS, NODES, PHASES
 from checks.oracle.accounts import bill_of
 from checks.oracle.targets import answers_of, envelope
 
@@ -18,6 +19,7 @@ TEXTS = {"run": ".txt", "free": ".txt"}
 LIMIT = 4_194_304
 ASK_LIMIT = 8_388_608
 CHECK_LIMIT = 536_870_912
+MOST_TARGETS = 100_000
 # Targets that each file is asked for, in watts.
 TARGETS = [0, 1, -1, 100, -60, 2500, -2500, 1_000_000_000, -1_000_000_000]
 
@@ -98,33 +100,35 @@ def large_files():
     """Both sides of the limits on nodes, events, changes, phases and bytes."""
     file, text = file_of("lone_load")
     load = '{"name":"load1","kind":"load","parent":"auctioneer","start":100}'
-    loads = [load.replace("load1", f"load{number}") for number in range(1, 258)]
-    yield run_of("256 nodes", changed(file, load, ",".join(loads[:256])), text)
-    yield refused("257 nodes", changed(file, load, ",".join(loads)), "11 document")
+    loads = [load.replace("load1", f"load{number}") for number in range(1, NODES + 2)]
+    yield run_of(f"{NODES} nodes", changed(file, load, ",".join(loads[:NODES])), text)
+    yield refused(f"{NODES + 1} nodes", changed(file, load, ",".join(loads)), "11 document")
 
     join = '{"join":"load1"}'
     turn = f'{join},{{"leave":"load1"}}'
     nobody = "phase {} price 0 step 0 total 0 members 0\n"
-    events = ",".join([turn] * 2_048)
-    yield run_of("4,096 events", changed(file, join, events), f"{nobody.format(1)}end phases 1 changes 4096\n")
-    yield refused("4,097 events", changed(file, join, f"{events},{join}"), "20 phase 1")
+    events = ",".join([turn] * (EVENTS // 2))
+    yield run_of(f"{EVENTS:,} events", changed(file, join, events), f"{nobody.format(1)}end phases 1 changes {EVENTS}\n")
+    yield refused(f"{EVENTS + 1:,} events", changed(file, join, f"{events},{join}"), "20 phase 1")
 
     phase = f'{{"events":[{join}]}}'
-    five = ",".join(['{"events":[' + ",".join([turn] * 2_000) + "]}"] * 5)
+    five = ",".join(['{"events":[' + ",".join([turn] * (CHANGES // 10)) + "]}"] * 5)
     ends = "".join(nobody.format(number) for number in range(1, 6))
-    yield run_of("20,000 changes", changed(file, phase, five), f"{ends}end phases 5 changes 20000\n")
-    yield refused("20,001 changes", changed(file, phase, f"{five},{phase}"), "20 phase 6")
+    yield run_of(f"{CHANGES:,} changes", changed(file, phase, five), f"{ends}end phases 5 changes {CHANGES}\n")
+    yield refused(f"{CHANGES + 1:,} changes", changed(file, phase, f"{five},{phase}"), "20 phase 6")
 
     empty = '{"events":[]}'
-    ends = "".join(nobody.format(number) for number in range(1, 1_001))
-    yield run_of("1,000 phases", changed(file, phase, ",".join([empty] * 1_000)), f"{ends}end phases 1000 changes 0\n")
-    many = changed(file, phase, ",".join([empty] * 1_001))
-    yield refused("1,001 phases", many, "20 document")
-    yield refused("1,001 phases before a start that does not fit", changed(many, '"start":100', '"start":-1'), "20 document")
+    ends = "".join(nobody.format(number) for number in range(1, PHASES + 1))
+    most = changed(file, phase, ",".join([empty] * PHASES))
+    yield run_of(f"{PHASES:,} phases", most, f"{ends}end phases {PHASES} changes 0\n")
+    many = changed(file, phase, ",".join([empty] * (PHASES + 1)))
+    yield refused(f"{PHASES + 1:,} phases", many, "20 document")
+    before = changed(many, '"start":100', '"start":-1')
+    yield refused(f"{PHASES + 1:,} phases before a start that does not fit", before, "20 document")
 
     file, text = file_of("two_bids")
-    yield run_of("4,194,304 bytes", file.ljust(LIMIT), text)
-    yield run_of("4,194,305 bytes", file.ljust(LIMIT + 1), f"too long, more than {LIMIT} bytes\n", TOO_LONG)
+    yield run_of(f"{LIMIT:,} bytes", file.ljust(LIMIT), text)
+    yield run_of(f"{LIMIT + 1:,} bytes", file.ljust(LIMIT + 1), f"too long, more than {LIMIT} bytes\n", TOO_LONG)
 
 
 def edited_members():
@@ -172,12 +176,12 @@ def asked():
     lines = {"5\n05\n": 2, "-0\n": 1, "5": 1, "5\n\n": 2, "+5\n": 1, "5 \n": 1, "1000000001\n": 1, "0\n-1000000001\n": 2, "1\r\n": 1}
     for rest, line in lines.items():
         yield ask(f"targets {rest!r}", envelope(file, rest), f"refused 25 line {line}\n", REFUSED)
-    many = "7\n" * 100_000
-    yield ask("100,000 targets", envelope(file, many), curve + "target 7 price 4 step 4 total -57\n" * 100_000, DONE)
-    yield ask("100,001 targets", envelope(file, many + "7\n"), "refused 25 line 100001\n", REFUSED)
+    many = "7\n" * MOST_TARGETS
+    yield ask(f"{MOST_TARGETS:,} targets", envelope(file, many), curve + "target 7 price 4 step 4 total -57\n" * MOST_TARGETS, DONE)
+    yield ask(f"{MOST_TARGETS + 1:,} targets", envelope(file, many + "7\n"), f"refused 25 line {MOST_TARGETS + 1}\n", REFUSED)
 
     size, body = len(file.encode()), file.encode()
-    headers = [b"", b"%d" % size, b"0%d\n" % size, b"+%d\n" % size, b"%d\n" % (size + 1), b"%d\r\n" % size, b"4194305\n", b"\n"]
+    headers = [b"", b"%d" % size, b"0%d\n" % size, b"+%d\n" % size, b"%d\n" % (size + 1), b"%d\r\n" % size, b"%d\n" % (LIMIT + 1), b"\n"]
     for header in headers:
         yield ask(f"a first line {header!r}", header + body, "refused 23 document\n", REFUSED)
     yield ask("an empty file", b"0\n", "refused 1 document\n", REFUSED)
@@ -185,8 +189,8 @@ def asked():
     padded = file.ljust(LIMIT)
     yield ask("a file of 4,194,304 bytes", envelope(padded, "0\n"), curve + answers.splitlines(True)[0], DONE)
     longest = envelope(file, "").ljust(ASK_LIMIT, b"0")
-    yield ask("8,388,608 bytes", longest, "refused 25 line 1\n", REFUSED)
-    yield ask("8,388,609 bytes", longest + b"0", f"too long, more than {ASK_LIMIT} bytes\n", TOO_LONG)
+    yield ask(f"{ASK_LIMIT:,} bytes", longest, "refused 25 line 1\n", REFUSED)
+    yield ask(f"{ASK_LIMIT + 1:,} bytes", longest + b"0", f"too long, more than {ASK_LIMIT} bytes\n", TOO_LONG)
 
 
 def longest_trace():

@@ -4,6 +4,9 @@ are legal, the line behind them that is missing."""
 import json
 from dataclasses import dataclass
 
+# How many numbers of a concentrator may be unanswered.
+WINDOW = 8
+
 
 @dataclass
 class Worked:
@@ -62,10 +65,10 @@ def former_session():
 
 def full_window():
     """Eight numbers of a concentrator may be unanswered, and no ninth."""
-    events = [join("d"), *({"state": "d", "value": 100 + it} for it in range(1, 9))]
+    events = [join("d"), *({"state": "d", "value": 100 + it} for it in range(1, WINDOW + 1))]
     file = file_of([concentrator("c1"), load("d", "c1", 100)], events)
     report = ["phase 1 price 9 step 9 total 108 members 1", "member d power 108 bid 9", "end phases 1 changes 9"]
-    moves = [line.format(it) for it in range(1, 9) for line in ("change d {}", "learn c1 d {}", "publish c1 {}")]
+    moves = [line.format(it) for it in range(1, WINDOW + 1) for line in ("change d {}", "learn c1 d {}", "publish c1 {}")]
     ninth = [*moves, "change d 9", "learn c1 d 9"]
     yield Worked("eight unanswered numbers", file, report, ninth, True)
     yield Worked("a ninth unanswered number", file, report, [*ninth, "publish c1 9"], False)
@@ -114,7 +117,7 @@ def two_full_windows():
     report = ["phase 1 price 9 step 9 total 10 members 10", *(f"member d{it} power 1 bid 1" for it in range(1, 10)),
               "member e power 1 bid 1", "end phases 1 changes 10"]
     lines = ("change d{0} 1", "learn c2 d{0} 1", "publish c2 {0}", "learn c1 c2 {0}", "publish c1 {0}")
-    moves = [line.format(it) for it in range(1, 9) for line in lines]
+    moves = [line.format(it) for it in range(1, WINDOW + 1) for line in lines]
     moves += ["change d9 1", "learn c2 d9 1", "change e 1", "learn c1 e 1"]
     yield Worked("two full windows", file, report, moves, True)
     yield Worked("the lower of two full windows", file, report, [*moves, "publish c2 9"], False)

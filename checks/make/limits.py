@@ -2,7 +2,8 @@
 
 import json
 
-NODES, DEPTH, STEPS, PHASES, EVENTS, CHANGES, MOST = 256, 6, 1_000, 1_000, 4_096, 20_000, 1_000_000_000
+NODES, DEPTH, STEPS, PHASES, EVENTS, CHANGES, MINUTES, MOST = 256, 6, 1_000, 1_000, 4_096, 20_000, 1_440, 1_000_000_000
+SUM = NODES * MOST
 
 
 def chain():
@@ -28,7 +29,7 @@ def widest():
         kind = {"kind": "load", "start": it} if it % 2 else {"kind": "manual", "points": [[0, it], [STEPS - 1, -3 * it]]}
         nodes.append({"name": f"d{it}", "parent": f"c{DEPTH}"} | kind)
     names = [it["name"] for it in nodes[DEPTH:]]
-    return document((0, STEPS - 1, STEPS), nodes, [joins(names), {"tick": 1440}, {"events": [{"leave": it} for it in names[::2]]}])
+    return document((0, STEPS - 1, STEPS), nodes, [joins(names), {"tick": MINUTES}, {"events": [{"leave": it} for it in names[::2]]}])
 
 
 def most_events(phases, events):
@@ -42,18 +43,18 @@ def most_ticks():
     """As many phases as there may be, all but the first the longest ticks, and of devices that tick nearly as many changes."""
     nodes = [*chain(), *({"name": f"b{it}", "kind": "battery", "parent": f"c{1 + it % DEPTH}", "capacity": MOST, "charge": MOST,
                           "discharge": MOST, "spread": it, "start": it * 50_000_000} for it in range(20))]
-    return document((0, 99, 100), nodes, [joins(it["name"] for it in nodes[DEPTH:]), *([{"tick": 1440}] * (PHASES - 1))])
+    return document((0, 99, 100), nodes, [joins(it["name"] for it in nodes[DEPTH:]), *([{"tick": MINUTES}] * (PHASES - 1))])
 
 
 def greatest_sums(kind, basis):
     """As many devices as there may be, each with the greatest power, over the greatest prices and the longest time."""
     nodes = [{"name": f"d{it}", "kind": kind, "parent": "auctioneer", "start": MOST} for it in range(NODES)]
-    return document(basis, nodes, [joins(it["name"] for it in nodes), *([{"tick": 1440}] * (PHASES - 1))])
+    return document(basis, nodes, [joins(it["name"] for it in nodes), *([{"tick": MINUTES}] * (PHASES - 1))])
 
 
 def greatest_limits():
     """Limited concentrators whose limits are those of a sum, and which they do not touch."""
-    nodes = [{"name": "c1", "kind": "limited", "parent": "auctioneer", "floor": -256 * MOST, "ceiling": 256 * MOST}]
+    nodes = [{"name": "c1", "kind": "limited", "parent": "auctioneer", "floor": -SUM, "ceiling": SUM}]
     nodes += [{"name": f"d{it}", "kind": "manual", "parent": "c1", "demand": [MOST, -MOST]} for it in range(NODES - 1)]
     return document((-MOST, MOST, 2), nodes, [joins(it["name"] for it in nodes[1:])])
 
@@ -61,11 +62,11 @@ def greatest_limits():
 def files(everything):
     """Files with the commands that are tried on them."""
     all_commands = ("run", "trace", "bill", "ask", "free")
-    yield "256 nodes below 6 concentrators", widest(), all_commands
-    yield "4,096 events below 6 concentrators", most_events(1, EVENTS), all_commands
+    yield f"{NODES} nodes below {DEPTH} concentrators", widest(), all_commands
+    yield f"{EVENTS:,} events below {DEPTH} concentrators", most_events(1, EVENTS), all_commands
     yield "1,000 phases of ticks", most_ticks(), all_commands if everything else ("run", "bill")
     yield "the greatest sum", greatest_sums("load", (MOST - 1, MOST, 2)), ("run", "bill", "ask")
     yield "the least sum", greatest_sums("solar", (-MOST, -MOST + 1, 2)), ("run", "bill", "ask")
     yield "the widest limits", greatest_limits(), all_commands
     if everything:
-        yield "20,000 changes below 6 concentrators", most_events(5, CHANGES // 5), all_commands
+        yield f"{CHANGES:,} changes below {DEPTH} concentrators", most_events(5, CHANGES // 5), all_commands

@@ -4,7 +4,7 @@ a member is there that is not known. The table of limits is written from docs/CL
 import json
 
 SMALL, LARGE = 1_000_000, 1_000_000_000
-SUM = 256 * LARGE
+SUM, SPREAD, STEPS = 256 * LARGE, 1_000, (2, 1_000)
 
 # For each member of a kind a value that is right, values at its limits, and values past them.
 CHANGE = (10, [0, SMALL], [-1, SMALL + 1])
@@ -24,7 +24,7 @@ KINDS = {
         "capacity": (10, [5, LARGE], [0, LARGE + 1]),
         "charge": POWER,
         "discharge": POWER,
-        "spread": (1, [0, 1000], [-1, 1001]),
+        "spread": (1, [0, SPREAD], [-1, SPREAD + 1]),
         "start": (5, [0, 10], [-1, LARGE + 1]),
     },
     "solar": {"start": POWER},
@@ -35,7 +35,7 @@ BIDS = [{"demand": [1, 0]}, {"points": [[0, 1], [9, 0]]}]
 BASIS = {
     "min": (0, [-LARGE], [-LARGE - 1, LARGE + 1]),
     "max": (9, [LARGE], [-LARGE - 1, LARGE + 1]),
-    "steps": (2, [10], [1, 1001]),
+    "steps": (2, [10], [STEPS[0] - 1, STEPS[1] + 1]),
 }
 # Values of a wrong type, by the right one. Events have places of their own, and so are no wrong part of their phase.
 LISTS = [["a", "a"], [[], []], [1.5, 0], [[0, 1.5]], [[1.5, 0]]]

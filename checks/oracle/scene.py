@@ -10,7 +10,8 @@ NESTING = 127
 MOST = 1_000_000_000
 SUM = 256 * MOST
 NODES, DEPTH, PHASES, EVENTS, CHANGES, POINTS = 256, 6, 1_000, 4_096, 20_000, 64
-NAME = re.compile(r"[A-Za-z][A-Za-z0-9_-]{0,31}")
+STEPS, MINUTES, NAME_BYTES = (2, 1_000), (1, 1_440), 32
+NAME = re.compile(r"[A-Za-z][A-Za-z0-9_-]{0,%d}" % (NAME_BYTES - 1))
 STRING = re.compile(r'"(?:[^"\\]|\\.)*"', re.DOTALL)
 
 DOCUMENT = {"version": int, "basis": dict, "nodes": list, "phases": list}
@@ -157,7 +158,7 @@ def require_shape(file):
     require(file["version"] in (1, 2), 5, "document")
     basis = file["basis"]
     require_members(basis, BASIS, "basis")
-    fits = 2 <= basis["steps"] <= 1_000 and -MOST <= basis["min"] < basis["max"] <= MOST
+    fits = STEPS[0] <= basis["steps"] <= STEPS[1] and -MOST <= basis["min"] < basis["max"] <= MOST
     require(fits and (basis["max"] - basis["min"]) % (basis["steps"] - 1) == 0, 6, "basis")
     for at, node in enumerate(file["nodes"], 1):
         require_node(node, file["version"], f"node {at}")
@@ -241,7 +242,7 @@ def require_script(file):
     joined, changes = set(), 0
     for at, phase in enumerate(file["phases"], 1):
         if "tick" in phase:
-            require(1 <= phase["tick"] <= 1_440, 13, f"phase {at}")
+            require(MINUTES[0] <= phase["tick"] <= MINUTES[1], 13, f"phase {at}")
             changes += sum(devices[it]["kind"] in TICKING for it in joined)
         events = phase.get("events", [])
         require(len(events) <= EVENTS, 20, f"phase {at}")

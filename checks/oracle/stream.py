@@ -10,7 +10,7 @@ import sys
 from dataclasses import dataclass
 
 HELLO, BID, GONE, CLEAR, PRICE, NOT_CHANGED, OLD, FAULT = range(1, 9)
-CHILDREN, STEPS, MOST = 256, 1_000, 1_000_000_000
+CHILDREN, STEPS, MOST = 256, (2, 1_000), 1_000_000_000
 LIMIT, PIECE = 1_073_741_824, 65_536
 DONE, READ_FAULT, TOO_LONG, REFUSED, WRITE_FAULT = 0, 3, 4, 5, 6
 
@@ -22,7 +22,7 @@ class Hello:
     steps: int
 
     def is_right(self, _):
-        fits = 2 <= self.steps <= STEPS and -MOST <= self.least < self.greatest <= MOST
+        fits = STEPS[0] <= self.steps <= STEPS[1] and -MOST <= self.least < self.greatest <= MOST
         return fits and (self.greatest - self.least) % (self.steps - 1) == 0
 
 

@@ -1,0 +1,463 @@
+"""Whether every place that repeats a limit of the market, or a kind of node, has it as the code has it.
+
+The limits are the constants of the sources, and the kinds are those that the reader of cluster files names, with the members
+that it asks for. The places are those of the checklists of CONTRIBUTING.md: the schema, the manual page, the oracle, what makes
+inputs, the pictures, the pages. Prints a line for each place that lacks a limit or a kind, or has another number or another
+member, and ends with 'N passed, M failed'.
+"""
+
+import json
+import re
+import sys
+from collections.abc import Callable, Iterator
+from dataclasses import dataclass
+from functools import cache
+from importlib import import_module
+from types import ModuleType
+from typing import Any
+
+from checks import TOP
+
+CRATES = TOP / "crates"
+# Crates in which a constant is no limit of the market: tests, and programs and gates that measure and try.
+OTHERS = {"measure", "pm_gates", "pm_played", "pm_threaded", "pm_whole", "pm_worked", "trials"}
+CONSTANT = re.compile(r"^(?:pub(?:\(crate\))? )?const (\w+): [iu]\w+ = ([\d_]+);", re.M)
+IS_LIMIT = re.compile(r"(?:LEAST|MOST|MAX)_|.*_LIMIT$|WINDOW_SIZE$")
+# The most bytes of the input of a command, in the function that tells it.
+INPUT_LIMIT = re.compile(r"FileCommand::(Run|Ask|Check)\b[^=\n]*=> ([\d_]+),")
+
+SCHEMA = "cluster.schema.json"
+MANUAL = "market.1"
+PAGE = "docs/CLUSTER_FILE.md"
+TERMS = "docs/DEFINITIONS.md"
+SCENE = "checks/oracle/scene.py"
+ORACLE = "checks/oracle/oracle.py"
+JUDGE = "checks/oracle/judge.py"
+STREAM = "checks/oracle/stream.py"
+MEMBERS = "checks/make/members.py"
+CASES = "checks/make/cases.py"
+LARGE = "checks/make/limits.py"
+JOURNALS = "checks/make/journals.py"
+AUCTION = "pictures/auction.py"
+VILLAGE = "examples/village.json"
+GUIDE = "CONTRIBUTING.md"
+
+HEATED = ("freezer", "heat_pump", "cogeneration")
+
+
+@cache
+def text_of(path: str) -> str:
+    return (TOP / path).read_text()
+
+
+@cache
+def schema() -> dict[str, Any]:
+    return json.loads(text_of(SCHEMA))
+
+
+@cache
+def module(path: str) -> ModuleType:
+    """A module of ours, by its file."""
+    return import_module("auction" if path == AUCTION else path.removesuffix(".py").replace("/", "."))
+
+
+# Places of a limit.
+
+
+@dataclass(frozen=True)
+class Constant:
+    """A number of a module: a constant, or what stands in it under these keys and places."""
+
+    path: str
+    name: str
+    keys: tuple[str | int, ...] = ()
+
+    def findings(self, limit: str, number: int) -> Iterator[str]:
+        where = self.name + "".join(f"[{it!r}]" for it in self.keys)
+        try:
+            found = getattr(module(self.path), self.name)
+            for it in self.keys:
+                found = found[it]
+        except (AttributeError, IndexError, KeyError):
+            yield f"{self.path} has no {where}, which repeats {limit}"
+            return
+        if found != number:
+            yield f"{self.path} has {found} as {where}, and {limit} is {number}"
+
+
+@dataclass(frozen=True)
+class Bound:
+    """A number of the schema at a path of members. `node KIND` stands for each form of that kind, `node` for that of every kind
+    that has the member behind it."""
+
+    path: str
+    of: Callable[[int], int] = lambda it: it
+
+    def findings(self, limit: str, number: int) -> Iterator[str]:
+        found = list(self.numbers())
+        if not found:
+            yield f"{SCHEMA} has no {self.path}, which repeats {limit}"
+        for it in found:
+            if it != self.of(number):
+                yield f"{SCHEMA} has {it} at {self.path}, and by {limit} it is {self.of(number)}"
+
+    def numbers(self) -> Iterator[Any]:
+        first, *rest = self.path.split("/")
+        if not first.startswith("node"):
+            yield from below(schema(), [first, *rest])
+            return
+        for kind, form in forms():
+            if first in ("node", f"node {kind}") and rest[0] in form["properties"]:
+                yield from below(form["properties"], rest)
+
+
+def below(value: Any, path: list[str]) -> Iterator[Any]:
+    """What stands at a path of members and places, if it is there."""
+    for it in path:
+        if isinstance(value, list):
+            it = int(it)
+        elif it not in value:
+            return
+        value = value[it]
+    yield value
+
+
+def forms() -> Iterator[tuple[str, dict[str, Any]]]:
+    """Each form of a node in the schema, with its kind."""
+    for form in schema()["$defs"]["node"]["oneOf"]:
+        yield form["properties"]["kind"]["const"], form
+
+
+@dataclass(frozen=True)
+class Said:
+    """A sentence or a row of a page that has the number and matches these words."""
+
+    path: str
+    words: str
+
+    def findings(self, limit: str, number: int) -> Iterator[str]:
+        written = re.compile(rf"(?<![\d,.]){number:,}(?![\d]|,\d)|(?<![\d,.]){number}(?![\d]|,\d)")
+        said = [it for it in sentences(self.path) if re.search(self.words, it)]
+        if not any(written.search(it) for it in said):
+            yield f"{self.path} does not say {number:,} where it speaks of /{self.words}/, and {limit} is {number:,}"
+
+
+@cache
+def sentences(path: str) -> list[str]:
+    """The sentences and the rows of tables of a page, each in one line."""
+    text = re.sub(r"(?m)^\.[A-Z]{1,2} ?", "", text_of(path)).replace("`", "")
+    blocks = re.split(r"\n\s*\n|\n(?=\||- |\d+\. )", text)
+    return [re.sub(r"\s+", " ", it) for block in blocks for it in re.split(r"(?<=[.;:])\s", block)]
+
+
+Place = Constant | Bound | Said
+BASIS = "$defs/basis/properties"
+DEMAND = "$defs/demand/items"
+POINT = "$defs/points/items/prefixItems"
+
+
+def negative(number: int) -> int:
+    return -number
+
+
+def both(path: str) -> list[Place]:
+    """A number of the schema that lies between the limit's negative and the limit."""
+    return [Bound(f"{path}/minimum", negative), Bound(f"{path}/maximum")]
+
+
+# The places of each limit, besides the specs/ of its crate, which contracts compare.
+LIMITS: dict[str, list[Place]] = {
+    "LEAST_STEPS": [
+        Bound(f"{BASIS}/steps/minimum"), Bound("$defs/demand/minItems"), Constant(SCENE, "STEPS", (0,)),
+        Constant(STREAM, "STEPS", (0,)), Constant(MEMBERS, "STEPS", (0,)), Said(PAGE, "steps"),
+        Said(TERMS, "steps of a market basis"),
+    ],
+    "MOST_STEPS": [
+        Bound(f"{BASIS}/steps/maximum"), Bound("$defs/demand/maxItems"), Constant(SCENE, "STEPS", (1,)),
+        Constant(STREAM, "STEPS", (1,)), Constant(MEMBERS, "STEPS", (1,)), Constant(LARGE, "STEPS"), Said(PAGE, "steps"),
+        Said(TERMS, "steps of a market basis"),
+    ],
+    "MOST_NODES": [
+        Bound("properties/nodes/maxItems"), Constant(SCENE, "NODES"), Constant(STREAM, "CHILDREN"), Constant(LARGE, "NODES"),
+        Said(PAGE, "nodes"), Said("docs/SERVE.md", "child"), Said(TERMS, "nodes of a cluster"),
+    ],
+    "MOST_DEPTH": [
+        Constant(SCENE, "DEPTH"), Constant(LARGE, "DEPTH"), Said(PAGE, "concentrators"), Said(TERMS, "on a path to"),
+    ],
+    "WINDOW_SIZE": [
+        Constant(JUDGE, "WINDOW"), Constant(JOURNALS, "WINDOW"), Said("docs/PROTOCOL.md", "numbers"), Said(TERMS, "unanswered"),
+    ],
+    "PRICE_LIMIT": [
+        *both(f"{BASIS}/min"), *both(f"{BASIS}/max"), *both(f"{POINT}/0"), Constant(SCENE, "MOST"), Constant(STREAM, "MOST"),
+        Constant(MEMBERS, "BASIS", ("max", 1, 0)), Constant(LARGE, "MOST"), Said(PAGE, "min below max"),
+        Said(TERMS, "a price, and a single demand"),
+    ],
+    "DEMAND_LIMIT": [
+        *both(DEMAND), *both(f"{POINT}/1"), Constant(SCENE, "MOST"), Constant(STREAM, "MOST"), Constant(ORACLE, "MOST_WATTS"),
+        Constant(MEMBERS, "LARGE"), Constant(LARGE, "MOST"), Said(PAGE, "demand"), Said("docs/SERVE.md", "demand"),
+        Said(TERMS, "a price, and a single demand"),
+    ],
+    "SUM_LIMIT": [
+        Bound("node limited/floor/minimum", negative), Bound("node limited/ceiling/maximum"), Constant(SCENE, "SUM"),
+        Constant(MEMBERS, "SUM"), Constant(LARGE, "SUM"), Said(PAGE, "floor.*ceiling"), Said(TERMS, "a sum"),
+    ],
+    "MOST_PHASES": [
+        Bound("properties/phases/maxItems"), Constant(SCENE, "PHASES"), Constant(LARGE, "PHASES"), Said(PAGE, "phases"),
+        Said(TERMS, "phases of a run"),
+    ],
+    "MOST_EVENTS": [
+        Bound("$defs/phase/oneOf/0/properties/events/maxItems"), Constant(SCENE, "EVENTS"), Constant(LARGE, "EVENTS"),
+        Said(PAGE, "events"), Said(TERMS, "events of a phase"),
+    ],
+    "MOST_CHANGES": [
+        Constant(SCENE, "CHANGES"), Constant(LARGE, "CHANGES"), Said(PAGE, "changes"), Said(TERMS, "changes of a run"),
+    ],
+    "TEMPERATURE_LIMIT": [
+        *(it for member in ("low", "high") for it in both(f"node/{member}")),
+        *(it for kind in HEATED for it in both(f"node {kind}/start")), Constant(SCENE, "TEMPERATURE", (1,)),
+        Constant(MEMBERS, "WARMTH", (1, 1)), Constant(AUCTION, "TEMPERATURE"), Said(PAGE, "low, high"),
+    ],
+    "CHANGE_LIMIT": [
+        *(Bound(f"node/{member}/maximum") for member in ("warm", "cool", "loss", "gain")), Constant(SCENE, "RATE", (1,)),
+        Constant(MEMBERS, "CHANGE", (1, 1)), Said(PAGE, "warm, cool, loss"),
+    ],
+    "POWER_LIMIT": [
+        *(Bound(f"node/{member}/maximum") for member in ("power", "charge", "discharge")),
+        *(Bound(f"node {kind}/start/maximum") for kind in ("solar", "load")), *both("node objective/start"),
+        Constant(SCENE, "POWER", (1,)), Constant(MEMBERS, "POWER", (1, 1)), Constant(MEMBERS, "TARGET", (1, 1)),
+        Said(PAGE, "power, charge, discharge"), Said(PAGE, "start of an objective"),
+    ],
+    "CAPACITY_LIMIT": [
+        Bound("node battery/capacity/maximum"), Bound("node battery/start/maximum"), Constant(SCENE, "LIMITS", ("capacity", 1)),
+        Constant(MEMBERS, "KINDS", ("battery", "capacity", 1, 1)), Said(PAGE, "capacity"),
+    ],
+    "SPREAD_LIMIT": [
+        Bound("node battery/spread/maximum"), Constant(SCENE, "LIMITS", ("spread", 1)), Constant(MEMBERS, "SPREAD"),
+        Said(PAGE, r"spread \| 0 to"),
+    ],
+    "MINUTES_LIMIT": [
+        Bound("$defs/phase/oneOf/1/properties/tick/maximum"), Constant(SCENE, "MINUTES", (1,)), Constant(LARGE, "MINUTES"),
+        Said(PAGE, "minutes"),
+    ],
+    "MAX_POINTS": [Bound("$defs/points/maxItems"), Constant(SCENE, "POINTS"), Said(PAGE, "points")],
+    "MAX_NAME_BYTES": [Constant(SCENE, "NAME_BYTES"), Said(PAGE, "[Nn]ame.*bytes")],
+    "FILE_LIMIT": [
+        Constant(ORACLE, "FILE_LIMIT"), Constant(JUDGE, "FILE_LIMIT"), Constant(CASES, "LIMIT"), Said(MANUAL, "bytes"),
+        Said(PAGE, "bytes"),
+    ],
+    "the input limit of Run": [Constant(CASES, "LIMIT"), Said(MANUAL, "bytes"), Said(PAGE, "too long")],
+    "the input limit of Ask": [
+        Constant(ORACLE, "ASK_LIMIT"), Constant(CASES, "ASK_LIMIT"), Said(MANUAL, r"ask|8,388|bytes"), Said(PAGE, "ask.*bytes"),
+        Said(PAGE, "too long"),
+    ],
+    "the input limit of Check": [
+        Constant(JUDGE, "INPUT_LIMIT"), Constant(CASES, "CHECK_LIMIT"), Said(MANUAL, "check|bytes"), Said(PAGE, "check.*bytes"),
+        Said(PAGE, "too long"),
+    ],
+    "MOST_TARGETS": [
+        Constant(ORACLE, "TARGETS"), Constant(CASES, "MOST_TARGETS"), Said(MANUAL, "target"), Said(PAGE, "target"),
+    ],
+    "STREAM_LIMIT": [Constant(STREAM, "LIMIT"), Said(MANUAL, "serve|bytes"), Said("docs/SERVE.md", "bytes")],
+    "MAX_SIZE": [Said(MANUAL, "devices"), Said(PAGE, "devices|SIZE")],
+}
+
+
+def limits() -> dict[str, tuple[int, str]]:
+    """Each limit of the sources, with its number and its file."""
+    found: dict[str, tuple[int, str]] = {}
+    for file in sorted(CRATES.glob("*/src/**/*.rt")):
+        path = str(file.relative_to(TOP))
+        if file.relative_to(CRATES).parts[0] not in OTHERS:
+            text = text_of(path)
+            for name, number in CONSTANT.findall(text):
+                if IS_LIMIT.match(name):
+                    found[name] = int(number), path
+            if "fn input_limit" in text:
+                for name, number in INPUT_LIMIT.findall(text):
+                    found[f"the input limit of {name}"] = int(number), path
+    return found
+
+
+def wrong_limits() -> Iterator[tuple[str, list[str]]]:
+    """What is wrong with each limit."""
+    known = limits()
+    for name in sorted(known.keys() - LIMITS.keys()):
+        yield name, [f"{known[name][1]} has the limit {name}, of which checks/lint/places.py knows no place"]
+    for name, places in LIMITS.items():
+        if name not in known:
+            yield name, [f"no source has the limit {name}, of which checks/lint/places.py knows places"]
+            continue
+        number, path = known[name]
+        yield name, [it for place in places for it in place.findings(f"{name} of {path}", number)]
+
+
+# Kinds of node.
+
+
+@dataclass(frozen=True)
+class Kind:
+    """A kind of node: its word, its variant in the code, its forms with their further members, and whether it is a device."""
+
+    word: str
+    variant: str
+    forms: tuple[frozenset[str], ...]
+    is_device: bool
+
+
+class Unreadable(Exception):
+    """What the sources no longer have in the form that is read here."""
+
+
+@cache
+def code_of(crate: str) -> str:
+    """The code of a crate, one file behind the other."""
+    return "\n".join(it.read_text() for it in sorted((CRATES / crate / "src").rglob("*.rt")))
+
+
+def part_of(crate: str, begin: str) -> str:
+    """The part of a crate's code from these words to the next brace in the first column."""
+    _, found, rest = code_of(crate).partition(begin)
+    if not found:
+        raise Unreadable(f"no code of {crate} has `{begin}`, which checks/lint/places.py reads")
+    return rest.partition("\n}")[0]
+
+
+@cache
+def kinds() -> list[Kind]:
+    """The kinds that the reader of cluster files names, with the members of their rows."""
+    scene = code_of("pm_scene")
+    words = dict(re.findall(r'const (\w+): Member = Member\("(\w+)"', scene))
+    table = {
+        name: frozenset(words[it] for it in re.findall(r"\w+", members))
+        for name, members in re.findall(r"static (\w+): \[Member; \d+\] = \[([^\]]*)\];", scene)
+    }
+    row_of = dict(re.findall(r"KindName::(\w+) => &(\w+)", part_of("pm_scene", "fn node_row(")))
+    manual = re.findall(r"=> &(\w+)", part_of("pm_scene", "fn manual_row("))
+    devices = set(re.findall(r"^    ([A-Z]\w+)(?: \{|,)", part_of("pm_device", "pub enum Kind "), re.M))
+    found = []
+    for word, variant in re.findall(r'"(\w+)" => Some\(KindName::(\w+)\)', part_of("pm_scene", "fn kind_named(")):
+        rows = [row_of[variant]] if variant in row_of else manual
+        found.append(Kind(word, variant, tuple(table[it] - {"name", "kind", "parent"} for it in rows), variant in devices))
+    lost = devices - {it.variant for it in found}
+    if lost:
+        raise Unreadable(f"pm_device has kinds that pm_scene does not name: {', '.join(sorted(lost))}")
+    return found
+
+
+def ticking() -> set[str]:
+    """The variants of the kinds that change at a tick."""
+    return set(re.findall(r"Kind::(\w+)", part_of("pm_device", "pub fn ticks(").partition("=> true")[0]))
+
+
+def listed(it: frozenset[str]) -> str:
+    return ", ".join(sorted(it)) or "none"
+
+
+def differ(path: str, kind: Kind, found: list[frozenset[str]]) -> Iterator[str]:
+    """Whether a place has the forms of a kind with other members."""
+    if not found:
+        yield f"{path} has no kind {kind.word}"
+    elif set(found) != set(kind.forms):
+        have, due = (" or ".join(sorted(map(listed, it))) for it in (found, kind.forms))
+        yield f"{path} has the members {have} of the kind {kind.word}, and the code has {due}"
+
+
+def kind_places(kind: Kind, ticks: bool) -> Iterator[str]:
+    """What is wrong with a kind."""
+    common = {"name", "kind", "parent"}
+    yield from differ(SCHEMA, kind, [frozenset(form["properties"]) - common for word, form in forms() if word == kind.word])
+
+    scene, made = module(SCENE).KINDS, module(MEMBERS)
+    # A manual device is the only kind with several forms: of its members one is chosen.
+    chosen = kind.forms if len(kind.forms) > 1 else (frozenset(),)
+    yield from differ(SCENE, kind, [it | frozenset(scene[kind.word]) for it in chosen if kind.word in scene])
+    known = made.BIDS if len(kind.forms) > 1 else [made.KINDS[kind.word]] if kind.word in made.KINDS else []
+    yield from differ(MEMBERS, kind, [frozenset(it) for it in known])
+
+    if not re.search(rf"\b{kind.word}\b", text_of(MANUAL)):
+        yield f"{MANUAL} has no kind {kind.word}"
+    if not re.search(rf'"{kind.word}"', text_of(AUCTION)):
+        yield f"{AUCTION} has no kind {kind.word}"
+    if kind.is_device == (kind.word in module(AUCTION).CONCENTRATORS):
+        yield f"{AUCTION} has {kind.word} {'among' if kind.is_device else 'not among'} its CONCENTRATORS"
+    if ticks != (kind.word in module(AUCTION).TICKING):
+        yield f"{AUCTION} has {kind.word} {'not among' if ticks else 'among'} the kinds that are TICKING"
+    if kind.is_device and not re.search(rf"(?m)^\|.*\b{kind.word.replace('_', ' ')}\b", text_of(TERMS)):
+        yield f"{TERMS} has no row of the kind {kind.word.replace('_', ' ')}"
+    if kind.is_device and f'"{kind.word}"' not in text_of(VILLAGE):
+        yield f"{VILLAGE} has no device of the kind {kind.word}"
+    yield from page_places(kind, ticks)
+
+
+def page_places(kind: Kind, ticks: bool) -> Iterator[str]:
+    """What the page of the cluster file lacks of a kind: a row with its members, its bid, its tick."""
+    rows = [re.split(r" ?(?<!\\)\| ?", it)[1:-1] for it in text_of(PAGE).splitlines() if it.startswith(f"| `{kind.word}`")]
+    titles = {title for title in ("Nodes", "Bids by formula", "Ticks by formula") if f"| `{kind.word}`" in section(PAGE, title)}
+    due = {"Nodes"} | ({"Bids by formula"} if kind.is_device else set()) | ({"Ticks by formula"} if ticks else set())
+    for title in sorted(due - titles):
+        yield f"{PAGE} has no row of the kind {kind.word} under {title}"
+    if "Nodes" in titles:
+        said = set(re.findall(r"`(\w+)`", rows[0][1]))
+        others = {it for it in said if it in {other.word for other in kinds()}}
+        for other in kinds():
+            if other.word in others:
+                said |= set().union(*other.forms)
+        if said - others - {"parent"} != set().union(*kind.forms):
+            have, due = listed(frozenset(said - others)), listed(frozenset().union(*kind.forms))
+            yield f"{PAGE} has the members {have} of the kind {kind.word}, and the code has {due}"
+
+
+def section(path: str, title: str) -> str:
+    """The text below a heading of a page."""
+    parts = re.split(r"(?m)^#+ (.*)$", text_of(path))
+    return dict(zip(parts[1::2], parts[2::2])).get(title, "")
+
+
+def wrong_kinds() -> Iterator[tuple[str, list[str]]]:
+    """What is wrong with each kind, and kinds that a place has and the code has not."""
+    known, tick = kinds(), ticking()
+    for kind in known:
+        yield kind.word, list(kind_places(kind, kind.variant in tick))
+    words = {it.word for it in known}
+    for path, others in (
+        (SCHEMA, {word for word, _ in forms()}),
+        (SCENE, set(module(SCENE).KINDS)),
+        (MEMBERS, set(module(MEMBERS).KINDS)),
+    ):
+        yield path, [f"{path} has the kind {it}, which the code has not" for it in sorted(others - words)]
+
+
+# The checklists.
+
+CHECKLISTS = {
+    "To add a kind of device": [SCHEMA, MANUAL, PAGE, TERMS, SCENE, MEMBERS, AUCTION, VILLAGE],
+    "To change a limit": sorted(
+        {SCHEMA if isinstance(it, Bound) else it.path for places in LIMITS.values() for it in places}
+    ),
+}
+
+
+def wrong_checklists() -> Iterator[tuple[str, list[str]]]:
+    """Places that are read here and that a checklist does not name."""
+    for title, paths in CHECKLISTS.items():
+        text = section(GUIDE, title)
+        yield title, [f"{GUIDE} does not name {it} under {title}" for it in paths if it not in text]
+
+
+def main() -> int:
+    passed, failed = 0, 0
+    try:
+        for _, findings in [*wrong_limits(), *wrong_kinds(), *wrong_checklists()]:
+            for it in findings:
+                print(it)
+            failed += len(findings)
+            passed += not findings
+    except Unreadable as error:
+        print(error)
+        failed += 1
+    print(f"{passed} passed, {failed} failed")
+    return 1 if failed else 0
+
+
+if __name__ == "__main__":
+    sys.exit(main())
