@@ -32,7 +32,7 @@ MEAN_LIMIT = 17.0
 OTHERS = {"out", "build", "__pycache__"}
 
 # Words of the field and of the tools that codespell may take for slips.
-IGNORED_WORDS = "antt,kok,omega,setpoint,setpoints"
+IGNORED_WORDS = "antt,crate,crates,kok,omega,setpoint,setpoints"
 
 LINK = re.compile(r"!?\[((?:[^\[\]]|\[[^\]]*\])*)\]\(([^()\s]+)\)")
 CODE = re.compile(r"`([^`\n]+)`")
