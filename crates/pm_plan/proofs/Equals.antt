@@ -1,5 +1,5 @@
 -- When changes and minutes are the same.
-use Rattle.std.proofs.Common.{◌≡◌, ◌∙◌, sym, ap, ℕ, zero, suc, ℤ, true, false, ◌&&◌, refl, eqb, IsTrue, ◌↔◌, Option, Some, None}
+use Rattle.std.proofs.Common.{◌≡◌, ap, ℤ, true, false, ◌&&◌, refl, eqb, IsTrue, ◌↔◌, Option, Some, None}
 use Rattle.std.specs.Option.{option_eq}
 use Rattle.std.specs.Ordering.{int_eq}
 use Rattle.std.proofs.lemmas.Bool.{false≢true}

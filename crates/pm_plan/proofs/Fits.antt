@@ -1,15 +1,14 @@
 -- The state of each device fits its kind, and so its bid lies within the limits.
-use Rattle.std.proofs.Common.{◌≡◌, ◌∙◌, sym, ap, ℕ, zero, suc, ◌-◌, ◌<◌, ◌≤◌, ℤ, pos, ◌≤ℤ◌, ◌+ℤ◌, ◌-ℤ◌}
-use Rattle.std.proofs.Common.{◌*ℤ◌, neg_ℤ, List, length, get_or, refl, arith, subst, add-one, IsTrue, Some, inl, inr}
+use Rattle.std.proofs.Common.{◌≡◌, ◌∙◌, sym, ap, ℕ, zero, suc, ◌-◌, ◌<◌, ◌≤◌, ℤ, pos}
+use Rattle.std.proofs.Common.{List, length, get_or, refl, arith, subst, add-one, IsTrue, Some, inl, inr}
 use Rattle.std.proofs.Math.ListN.{get_or-eq_default}
 use Rattle.std.proofs.lemmas.Bool.{cases_lt}
-use Rattle.std.proofs.lemmas.Int.{ints, clamps}
 use Rattle.pm_base.proofs.Bools.{chosen}
 use Rattle.pm_base.proofs.Ints.{none-within}
 use Rattle.pm_bid.proofs.Sums.{length-zeros, zeros-within}
 use Rattle.pm_bid.specs.Bids.{AllWithinLimit, NeverRises, demand_at}
 use Rattle.pm_base.specs.Limits.{demand_limit, IsWithin}
-use Rattle.pm_device.specs.Kinds.{is_valid, state_fits, temperature_limit, is_temperature, is_between}
+use Rattle.pm_device.specs.Kinds.{is_valid, state_fits}
 use Rattle.pm_device.specs.declared.kind.Kind.{Kind}
 use Rattle.pm_device.proofs.TicksFit.{tick-fits}
 use Rattle.pm_strategy.specs.Strategies.{bid_of}
