@@ -77,6 +77,43 @@ fn the_market_clears_where_something_was_learnt(rt: HostRuntime) -> Result<(), F
     Ok(())
 }
 
+/// The answer of a clearing, and the price of the only child, as values.
+fn clear_as_values(
+    auctioneer: &mut Auctioneer,
+) -> (Result<Cleared, ClearFault>, Option<PriceUpdate>)
+    requires child { length auctioneer.old.cache.heads ≡ 1 }
+    requires index { auctioneer.old.index ≤ 2 }
+    ensures cache { auctioneer.new.cache ≡ auctioneer.old.cache }
+    ensures index { auctioneer.new.index ≤ auctioneer.old.index + 1 }
+{
+    let answer = auctioneer.next_clearing();
+    (answer, auctioneer.prices().for_child(0))
+}
+
+/// A clearing as values is what goes over a link. Until the next one its price is told again.
+#[test]
+fn prices_as_values_are_those_on_links(rt: HostRuntime) -> Result<(), Fail> {
+    let alloc = rt.alloc();
+    let load = load(alloc)?;
+    let mut valued = Auctioneer::new(alloc, 1, 10)?;
+    let mut linked = Auctioneer::new(alloc, 1, 10)?;
+    let not_changed = (Err(ClearFault::NotChanged), None);
+    same(&rt, "no bid", clear_as_values(&mut valued), not_changed);
+    same(&rt, "learnt", learn(&mut valued, &load), Ok(()));
+    same(&rt, "learnt", learn(&mut linked, &load), Ok(()));
+    let price = Some(PriceUpdate {
+        step: 9,
+        number: 1,
+        index: 1,
+    });
+    let cleared = (Ok(Cleared { index: 1, step: 9 }), price);
+    same(&rt, "value", clear_as_values(&mut valued), cleared);
+    same(&rt, "link", clear(alloc, &mut linked)?, cleared);
+    let no_more = (Err(ClearFault::NotChanged), price);
+    same(&rt, "again", clear_as_values(&mut valued), no_more);
+    Ok(())
+}
+
 /// Auctioneers, clearings and faults may be sent to threads and shared by them: it is proved here.
 #[test]
 fn auctioneers_may_be_shared() {

@@ -235,6 +235,146 @@ fn the_local_step_is_within_the_limits(rt: HostRuntime) -> Result<(), Fail> {
     steps_are_within(&rt, alloc, &mut c)
 }
 
+/// What goes up for a first bid: its number, and its demand at each of ten steps, in watts.
+type FirstBid = (Result<u32, PublishFault>, [i64; 10]);
+
+/// The demand at each of ten steps.
+fn demands_of(bid: &ArrayBid) -> [i64; 10]
+    requires { length bid.now ≡ 10 }
+{
+    let mut demands = [0; 10];
+    for step in 0..10 {
+        demands[step] = bid.at(step, &mut Steps::<Brand>::start());
+    }
+    demands
+}
+
+/// The first bid as a value.
+fn bid_as_value(c: &mut Concentrator) -> FirstBid
+    requires last { c.old.window.last ≡ 0 }
+    requires steps { c.old.cache.steps ≡ 10 }
+    ensures cache { c.new.cache ≡ c.old.cache }
+    ensures limits { c.new.limits ≡ c.old.limits }
+{
+    let number = c.next_bid();
+    (number, demands_of(c.demand()))
+}
+
+/// The first bid as it goes over a link.
+fn bid_on_link(alloc: Global, c: &mut Concentrator) -> Result<FirstBid, Fail>
+    requires last { c.old.window.last ≡ 0 }
+    requires steps { c.old.cache.steps ≡ 10 }
+    ensures cache { c.new.cache ≡ c.old.cache }
+    ensures limits { c.new.limits ≡ c.old.limits }
+{
+    let mut counter = Steps::<Brand>::start();
+    let mut up = Link::new(alloc, 10)?;
+    let number = c.publish(&mut up);
+    let mut demand = ArrayBid::zero(alloc, 10, &mut counter)?;
+    up.take_bid(&mut demand).ok_or("no bid")?;
+    Ok((number, demands_of(&demand)))
+}
+
+/// The prices of two children for a price that answers number 1, as values.
+fn prices_as_values(
+    rt: &impl Abort,
+    c: &mut Concentrator,
+    price: PriceUpdate,
+) -> [Option<PriceUpdate>; 2]
+    requires children { length c.old.cache.heads ≡ 2 }
+    requires step { IsStepOf c.old.limits c.old.cache.steps price.step }
+{
+    assert!(rt; c.keeps(price.number));
+    let prices = c.prices(price);
+    let each = [prices.for_child(0), prices.for_child(1)];
+    c.answer(price.number);
+    each
+}
+
+/// The prices of two children for a price of index 1, as they go over links.
+fn prices_on_links(
+    rt: &impl Abort,
+    alloc: Global,
+    c: &mut Concentrator,
+    price: PriceUpdate,
+) -> Result<[Option<PriceUpdate>; 2], Fail>
+    requires children { length c.old.cache.heads ≡ 2 }
+    requires index { price.index ≡ 1 }
+    requires step { IsStepOf c.old.limits c.old.cache.steps price.step }
+{
+    assert!(rt; c.keeps(price.number));
+    let mut downs = new_links(alloc, 2)?;
+    assert_eq!(rt; c.pass(price, &mut downs), Ok(()));
+    Ok([downs[0].take_price(), downs[1].take_price()])
+}
+
+/// The same concentrator sends as values what it sends over links: this bid first, and these prices
+/// for the price of step 0 that answers it.
+fn sends(
+    rt: &impl Abort,
+    alloc: Global,
+    valued: &mut Concentrator,
+    linked: &mut Concentrator,
+    demands: [i64; 10],
+    step: u32,
+) -> Result<(), Fail>
+    requires valued_last { valued.old.window.last ≡ 0 }
+    requires valued_steps { valued.old.cache.steps ≡ 10 }
+    requires valued_children { length valued.old.cache.heads ≡ 2 }
+    requires linked_last { linked.old.window.last ≡ 0 }
+    requires linked_steps { linked.old.cache.steps ≡ 10 }
+    requires linked_children { length linked.old.cache.heads ≡ 2 }
+    requires valued_price { IsStepOf valued.old.limits valued.old.cache.steps 0 }
+    requires linked_price { IsStepOf linked.old.limits linked.old.cache.steps 0 }
+{
+    let bid = (Ok(1), demands);
+    same(rt, "bid as a value", bid_as_value(valued), bid);
+    same(rt, "bid on a link", bid_on_link(alloc, linked)?, bid);
+    let price = PriceUpdate {
+        step: 0,
+        number: 1,
+        index: 1,
+    };
+    let below = [Some(PriceUpdate { step, ..price }), None];
+    let values = prices_as_values(rt, valued, price);
+    same(rt, "prices as values", values, below);
+    let links = prices_on_links(rt, alloc, linked, price)?;
+    same(rt, "prices on links", links, below);
+    Ok(())
+}
+
+/// The first of two children bids; the second sends nothing. At step 0 the sum is 300 watts, and step 3 is the first at
+/// which it is at most 150.
+#[test]
+fn messages_as_values_are_those_on_links(rt: HostRuntime) -> Result<(), Fail> {
+    let alloc = rt.alloc();
+    let demands = [300, 250, 200, 150, 100, 50, 0, -50, -100, -150];
+    let bid = bid_of(alloc, &demands)?;
+    let mut valued = Concentrator::new(alloc, 2, 10)?;
+    let mut linked = Concentrator::new(alloc, 2, 10)?;
+    same(&rt, "learnt", learn(&mut valued, 0, 1, &bid), Ok(()));
+    same(&rt, "learnt", learn(&mut linked, 0, 1, &bid), Ok(()));
+    sends(&rt, alloc, &mut valued, &mut linked, demands, 0)?;
+    limited_messages_are_those_on_links(&rt, alloc, &bid)
+}
+
+/// The same within a floor of -100 watts and a ceiling of 150.
+fn limited_messages_are_those_on_links(
+    rt: &impl Abort,
+    alloc: Global,
+    bid: &ArrayBid,
+) -> Result<(), Fail>
+    requires steps { length bid.now ≡ 10 }
+    requires small { AllWithinLimit demand_limit bid.now }
+{
+    let mut valued = Concentrator::limited(alloc, 2, 10, -100, 150)?;
+    let mut linked = Concentrator::limited(alloc, 2, 10, -100, 150)?;
+    same(rt, "learnt", learn(&mut valued, 0, 1, bid), Ok(()));
+    same(rt, "learnt", learn(&mut linked, 0, 1, bid), Ok(()));
+    let demands = [150, 150, 150, 150, 100, 50, 0, -50, -100, -100];
+    sends(rt, alloc, &mut valued, &mut linked, demands, 3)
+}
+
 /// Concentrators and faults may be sent to threads and shared by them: it is proved here.
 #[test]
 fn concentrators_may_be_shared() {

@@ -6,7 +6,7 @@ ghost use Rattle.pm_session.specs.Windows.{Keeps};
 use crate::same::same;
 use crate::shared::may_be_shared;
 use pm_bid::{ArrayBid, Steps};
-use pm_session::{BidHead, Held, Link, Port, PriceUpdate, Record, Window};
+use pm_session::{BidHead, Held, Link, Port, PriceUpdate, Prices, Record, Window};
 use std::alloc::Global;
 use std::marker::Brand;
 use std::process::Abort;
@@ -109,7 +109,7 @@ fn a_port_drops_the_price_of_a_former_session(rt: HostRuntime) -> Result<(), Fai
 /// proved here.
 #[test]
 fn sessions_may_be_shared() {
-    may_be_shared::<(Link, PriceUpdate)>();
+    may_be_shared::<(Link, PriceUpdate, Prices)>();
     may_be_shared::<(Window, Record)>();
     may_be_shared::<(Port, Held)>();
 }

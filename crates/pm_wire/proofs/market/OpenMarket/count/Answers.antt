@@ -1,5 +1,5 @@
 -- Of `OpenMarket::count`: what the call of `learn` requires.
-use Rattle.std.proofs.Common.{ℕ, ◌≡◌, ◌-◌, ap, sym, subst, rules, arith}
+use Rattle.std.proofs.Common.{◌≡◌, ◌-◌, ap, sym, subst, arith}
 use Rattle.std.specs.Option.{option_copied}
 use Rattle.pm_cache.specs.Cache.{Cache}
 use Rattle.pm_cache.specs.Learning.{CanLearn, demand_of_offer}
