@@ -31,7 +31,6 @@ SAME_IN_CODE = {
     "find_rise": "the first place of a list that rises",
     "find_too_large": "the first place of a list whose number is too large",
     "group_of": "the group of a node",
-    "is_device": "whether a node of a plan is a device",
     "limits_of": "the limits of a node",
     "make_change": "makes a change of a device",
     "make_changes": "makes the changes of a phase",

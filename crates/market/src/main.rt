@@ -5,7 +5,7 @@
 #![tactic(auto)]
 
 use pm_io::{StdSink, StdSource};
-use pm_runner::OpenGate;
+use pm_nodes::OpenGate;
 use pm_top::{Status, market};
 use std::alloc::Global;
 use std::env;

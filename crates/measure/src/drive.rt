@@ -4,8 +4,8 @@
 use pm_base::MOST_CHANGES;
 use pm_cluster::{ActFault, Cluster};
 use pm_market::Act;
-use pm_plan::{PhaseEnd, Plan};
-use pm_tree::{NodeId, Tree};
+use pm_plan::{PhaseEnd, Plan, is_device};
+use pm_tree::NodeId;
 use std::alloc::{AllocError, Global};
 use thiserror::Error;
 
@@ -87,7 +87,7 @@ fn send_bids(cluster: &mut Cluster<'_>) -> Result<(), DriveFault> {
 
 /// A node sends its bid, if it has a new one, and its parent learns it.
 fn send_bid(cluster: &mut Cluster<'_>, node: u32) -> Result<(), DriveFault> {
-    let sent = if is_device(cluster.plan().tree(), node) {
+    let sent = if is_device(cluster.plan(), NodeId(node)) {
         change_device(cluster, node)?
     } else {
         try_act(cluster, Act::Publish { node })?
@@ -96,11 +96,6 @@ fn send_bid(cluster: &mut Cluster<'_>, node: u32) -> Result<(), DriveFault> {
         try_act(cluster, Act::Learn { child: node })?;
     }
     Ok(())
-}
-
-/// Whether a number is that of a device.
-fn is_device(tree: &Tree, node: u32) -> bool {
-    node <= tree.len() && tree.is_leaf(NodeId(node))
 }
 
 /// Makes the changes of a device until it has no more in the open phase, and tells whether it made any.

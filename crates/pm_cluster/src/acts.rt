@@ -17,9 +17,9 @@ ghost use Rattle.pm_cluster.specs.Acts.{IsMadeBy, NotActed, IsRunOf, NeverGoesBa
 
 use crate::cluster::Cluster;
 use crate::fault::{ActFault, ApplyFault};
-use crate::tree::{is_concentrator, is_device, is_node};
+use crate::tree::{is_concentrator, is_node};
 use pm_market::{Act, Journal, Line, Move};
-use pm_plan::Plan;
+use pm_plan::{Plan, is_device};
 use pm_tree::NodeId;
 use std::alloc::{AllocError, Global};
 

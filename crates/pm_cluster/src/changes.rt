@@ -26,12 +26,12 @@ ghost use Rattle.pm_cluster.specs.Offering.{IsPlannedChange, HasLink, IsOffered}
 use crate::cluster::Cluster;
 use crate::fault::ChangeFault;
 use crate::links::offer_bid;
-use crate::tree::{is_device, parent_of, place_in_row};
+use crate::tree::{parent_of, place_in_row};
 use pm_agent::Made;
 use pm_bid::ArrayBid;
 use pm_device::{Kind, Next};
 use pm_market::Move;
-use pm_plan::Plan;
+use pm_plan::{Plan, is_device};
 use pm_session::{Link, Port};
 use pm_strategy::fill_bid;
 use pm_tree::NodeId;

@@ -18,12 +18,12 @@ ghost use Rattle.pm_cluster.specs.Next.{count_of};
 ghost use Rattle.pm_cluster.specs.Ends.{member_at, limited_at, AreMade, MayClose, EntryTold, power_by_entry};
 
 use crate::cluster::Cluster;
-use crate::tree::{is_device, parent_of, place_in_row};
+use crate::tree::{parent_of, place_in_row};
 use pm_auctioneer::Auctioneer;
 use pm_base::Limits;
 use pm_bid::Steps;
 use pm_concentrator::Concentrator;
-use pm_plan::{LimitedLine, MemberLine, PhaseEnd, Plan};
+use pm_plan::{LimitedLine, MemberLine, PhaseEnd, Plan, is_device};
 use pm_session::Port;
 use pm_tree::NodeId;
 use std::alloc::{AllocError, Global};

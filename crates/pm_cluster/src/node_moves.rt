@@ -14,8 +14,9 @@ ghost use Rattle.pm_cluster.specs.Acts.{IsMadeBy, IsMadeOf};
 use crate::cluster::Cluster;
 use crate::links::{take_bid, take_price, unless_gone};
 use crate::parts;
-use crate::tree::{is_device, parent_of, place_in_row};
+use crate::tree::{parent_of, place_in_row};
 use pm_market::Move;
+use pm_plan::is_device;
 use pm_tree::NodeId;
 
 impl<'p> Cluster<'p> {

@@ -16,12 +16,12 @@ ghost use Rattle.pm_stands.specs.Stands.{StandsFor};
 ghost use Rattle.pm_cluster.specs.Opening.{AreNewRows, IsNewAt, AreNewConcentrators, AreStarts, AreFirstDue};
 
 use crate::cluster::Cluster;
-use crate::tree::{is_concentrator, is_device};
+use crate::tree::is_concentrator;
 use pm_auctioneer::Auctioneer;
 use pm_bid::{ArrayBid, Steps};
 use pm_concentrator::Concentrator;
 use pm_device::DeviceState;
-use pm_plan::Plan;
+use pm_plan::{Plan, is_device};
 use pm_session::{Link, Port};
 use pm_tree::NodeId;
 use std::alloc::{AllocError, Global};

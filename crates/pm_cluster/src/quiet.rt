@@ -21,9 +21,10 @@ ghost use Rattle.pm_stands.specs.Current.{held_price, IsCurrent};
 ghost use Rattle.pm_cluster.specs.Waiting.{NoBids, NothingToSend, NoPrice, IsTaken, NothingBelow, IsAtRest};
 
 use crate::cluster::Cluster;
-use crate::tree::{is_device, parent_of, place_in_row};
+use crate::tree::{parent_of, place_in_row};
 use pm_bid::ArrayBid;
 use pm_concentrator::Concentrator;
+use pm_plan::is_device;
 use pm_session::{Held, Link};
 use pm_tree::NodeId;
 

@@ -2,10 +2,10 @@
 
 ghost use Rattle.std.specs.Prelude.{◌≡◌, ◌≤◌, ◌<◌, ◌↔◌, length, IsTrue};
 ghost use Rattle.pm_tree.specs.Entries.{children_of, place_of};
-ghost use Rattle.pm_market.specs.Lists.{nodes, parent, IsNode, IsConcentrator, is_leaf};
+ghost use Rattle.pm_market.specs.Lists.{nodes, parent, IsNode, IsConcentrator};
 ghost use Rattle.pm_plan.specs.Market.{plan_lists};
 
-use pm_plan::Plan;
+use pm_plan::{Plan, is_device};
 use pm_tree::NodeId;
 
 /// The parent of a node.
@@ -35,14 +35,6 @@ pub(crate) fn is_node(plan: &Plan, node: NodeId) -> bool
     ensures { IsTrue result ↔ IsNode (plan_lists plan.now) node.0 }
 {
     node.0 != 0 && node.0 <= plan.tree().len()
-}
-
-/// Whether this number is that of a device.
-#[tactic(auto, using(crate::proofs::Parents::leaf_is, crate::proofs::Parents::far_leaf))]
-pub(crate) fn is_device(plan: &Plan, node: NodeId) -> bool
-    ensures { result ≡ is_leaf (plan_lists plan.now) node.0 }
-{
-    node.0 <= plan.tree().len() && plan.tree().is_leaf(node)
 }
 
 /// Whether this number is that of a concentrator.

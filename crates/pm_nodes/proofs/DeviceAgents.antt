@@ -2,7 +2,7 @@
 use Rattle.std.proofs.Common.{◌≡◌, ◌∙◌, sym, ap, subst, ℕ, ℤ, ◌+◌, ◌<◌, List, [], ◌∷◌, ◌++◌}
 use Rattle.std.proofs.Common.{length, get_or, arith, refl, inl, inr, length-append}
 use Rattle.std.specs.Prelude.{Option, Some, None, IfSome, slice_get}
-use Rattle.std.proofs.lemmas.Bool.{both_ways, cases_lt}
+use Rattle.std.proofs.lemmas.Bool.{cases_lt}
 use Rattle.std.proofs.lemmas.Option.{slice_get-get_or, slice_get_within}
 use Rattle.std.proofs.Math.ListN.{get_or-append}
 use Rattle.std.proofs.Math.Seq.{get_or-append_seam}
@@ -10,23 +10,13 @@ use Rattle.pm_agent.specs.Agents.{Agent}
 use Rattle.pm_basis.specs.Prices.{BasisValue}
 use Rattle.pm_bid.specs.Bids.{HaveSteps}
 use Rattle.pm_device.specs.declared.kind.Kind.{Kind}
-use Rattle.pm_market.specs.Lists.{IsLeaf, is_leaf}
-use Rattle.pm_market.proofs.Tree.{leaf_past, leaf_node}
-use Rattle.pm_tree.specs.Entries.{Entry, is_leaf_at}
+use Rattle.pm_market.specs.Lists.{IsLeaf}
+use Rattle.pm_market.proofs.Tree.{leaf_node}
 use Rattle.pm_plan.specs.Kept.{IsPlan}
 use Rattle.pm_plan.specs.Plans.{PlanData, node, kind_of}
 use Rattle.pm_plan.specs.Market.{plan_lists}
-use Rattle.pm_plan.proofs.MarketLists.{lawful, is_leaf-is, nodes_are}
+use Rattle.pm_plan.proofs.MarketLists.{lawful, nodes_are}
 use Rattle.pm_nodes.specs.DeviceAgents.{IsAgentOf, HasAgent, AreAgents, AreOnlyAgents}
-
--- a number behind the last node is no device
-pub far : (plan : PlanData) → IsPlan plan → (x : ℕ) → length plan.entries < x → IsLeaf (plan_lists plan) x → ⊥
-far plan is_plan x past leaf =
-    both_ways (is_leaf (plan_lists plan) x) (leaf_past (plan_lists plan) x (omega (arith, past, (lawful plan is_plan).leaves, nodes_are plan))) leaf
-
--- the leaves of a plan's tree are its devices
-pub leaf_told : (plan : PlanData) (entries : List Entry) (x : ℕ) → entries ≡ plan.entries → is_leaf (plan_lists plan) x ≡ is_leaf_at entries x
-leaf_told plan entries x e = is_leaf-is plan x ∙ ap (λ (l : List Entry). is_leaf_at l x) (sym e)
 
 -- the arrays of a plan have its steps
 pub arrays_fit : (plan : PlanData) → IsPlan plan → (p : PlanData) (arrays : List (List ℤ)) (steps : ℕ) → arrays ≡ p.arrays →

@@ -7,10 +7,9 @@ ghost use Rattle.pm_market.specs.Lists.{nodes, IsLeaf};
 ghost use Rattle.pm_plan.specs.Market.{plan_lists};
 ghost use Rattle.pm_nodes.specs.DeviceAgents.{AreAgents, AreOnlyAgents, IsAgentOf};
 
-use crate::devices::is_device;
 use pm_agent::DeviceAgent;
 use pm_device::Next;
-use pm_plan::Plan;
+use pm_plan::{Plan, is_device};
 use pm_tree::NodeId;
 use std::alloc::{AllocError, Global};
 
@@ -35,10 +34,11 @@ pub fn agent_of(alloc: Global, plan: &Plan, number: u32) -> Result<Option<Device
     ensures agent { IfOk result (λ agent. IfSome agent (IsAgentOf plan.now number)) }
     ensures none { IfOk result (λ agent. agent ≡ None → IsLeaf (plan_lists plan.now) number → ⊥) }
 {
-    if !is_device(plan, number) {
+    let node = NodeId(number);
+    if !is_device(plan, node) {
         return Ok(None);
     }
-    let kind = plan.kind(NodeId(number));
+    let kind = plan.kind(node);
     let agent = DeviceAgent::new(alloc, kind, number, plan.basis().steps())?;
     Ok(Some(agent))
 }

@@ -5,9 +5,7 @@
 #![tactic(auto)]
 
 mod agents;
-mod devices;
 mod gate;
 
 pub use agents::{agent_of, can_work, make_agents};
-pub use devices::is_device;
 pub use gate::{Gate, OpenGate};

@@ -20,3 +20,4 @@ pub mod PublicLaws
 pub mod Equals
 pub mod EndLines
 pub mod PlannedChanges
+pub mod LeafTests

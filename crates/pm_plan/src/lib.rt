@@ -21,6 +21,7 @@
 #![tactic(auto)]
 
 mod building;
+mod devices;
 mod draft;
 mod end;
 mod laws;
@@ -31,6 +32,7 @@ mod planned;
 mod refusal;
 mod same;
 
+pub use devices::is_device;
 pub use end::{LimitedLine, MemberLine, PhaseEnd};
 pub use laws::{lists_are_lawful, plans_keep_the_limits, states_fit, states_follow_the_changes};
 pub use parts::{EventSpec, NodeSpec, PhaseSpec, StateSpec};

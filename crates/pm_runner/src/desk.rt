@@ -5,6 +5,7 @@ ghost use Rattle.pm_cluster.specs.Next.{IsNext};
 ghost use Rattle.pm_board.specs.Boards.{board_state};
 
 use crate::pending::Pending;
+use crate::sleeping::Berth;
 use pm_agent::Made;
 use pm_board::Board;
 use pm_device::Next;
@@ -192,10 +193,25 @@ impl<'p> Desk<'p> {
 
     /// Notes that a node sleeps, and gives the bell at which it does.
     pub(crate) fn lay(&mut self, node: u32) -> u32 {
+        let berth = self.berth_of(node);
+        self.pending.sleep(node, berth.bell);
+        berth.bell
+    }
+
+    /// The same for a node that is near its next work; any other node stays awake.
+    pub(crate) fn lay_near(&mut self, node: u32) -> Option<u32> {
+        let berth = self.berth_of(node);
+        if !berth.near {
+            return None;
+        }
+        self.pending.sleep(node, berth.bell);
+        Some(berth.bell)
+    }
+
+    /// Where a node without work goes to sleep.
+    fn berth_of(&self, node: u32) -> Berth {
         let closed = self.board.ends().len();
-        let bell = self.pending.bell_of(self.board.plan(), closed, node);
-        self.pending.sleep(node, bell);
-        bell
+        self.pending.berth_of(self.board.plan(), closed, node)
     }
 
     /// Notes that nodes sleep at the caller's bell, and gives it.

@@ -4,22 +4,18 @@
 //! moves, one call of the board a turn. What comes out of a lock is known by its type alone, and the type of a board keeps
 //! that its journal is legal and that its ends are those of its closed phases. So once the threads are joined the caller
 //! compares the board's plan with its own, and makes itself whatever moves the board does not show: that all phases are
-//! closed rests on no thread, no wake-up and no fairness. These are its two stages: [`run_threads`], and [`complete`] of
-//! `pm_turns`.
+//! closed rests on no thread, no wake-up and no fairness. These are its two stages: [`run_threads`], and `complete` of
+//! `pm_turns`. A gate of `pm_nodes` is told of each turn.
 //!
-//! [`Gate`] is told of each turn.
+//! Who has work is told by one file, `pending`; at which bell a node sleeps, by `sleeping` and `bells`.
 #![tactic(auto)]
 
 mod bells;
 mod desk;
-mod following;
-mod node_work;
 mod pending;
 mod rotation;
 mod sleeping;
 mod threads;
 mod worker;
 
-pub use pm_nodes::{Gate, OpenGate};
-pub use pm_turns::complete;
 pub use threads::{run_threads, settle};

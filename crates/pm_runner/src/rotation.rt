@@ -1,6 +1,6 @@
 //! Serves in rotation the nodes whose threads could not be started.
 
-use crate::worker::{Shared, Turn, Worker, end_turn, give_up, let_go, take_turn};
+use crate::worker::{Shared, Turn, end_turn, give_up, let_go, turn_at_desk};
 use pm_market::Line;
 use pm_nodes::Gate;
 use std::sync::Wait;
@@ -34,7 +34,7 @@ fn serve_each<R: Wait, G: Gate>(rt: &R, shared: Shared, gate: &G, nodes: &[u32])
 /// Makes a turn of a node; whether it takes no more.
 fn serve_once<R: Wait, G: Gate>(rt: &R, shared: Shared, gate: &G, node: u32) -> bool {
     gate.before(node);
-    let turn = turn_of(rt, shared, node);
+    let turn = turn_at_once(rt, shared, node);
     gate.after(node, turn.line);
     turn.over
 }
@@ -52,38 +52,27 @@ fn close_by<R: Wait>(rt: &R, shared: Shared, served: u32) -> Option<Line> {
         give_up(rt, shared);
         return None;
     };
-    close_by_worker(rt, shared, &mut own.lock(rt))
-}
-
-fn close_by_worker<R: Wait>(rt: &R, shared: Shared, worker: &mut Worker) -> Option<Line> {
+    let mut own = own.lock(rt);
     let mut desk = shared.desk.lock(rt);
     let line = desk.close_if_quiet();
-    let_go(shared, &mut worker.rings, desk);
+    let_go(shared, &mut own.rings, desk);
     line
 }
 
-/// A turn of a node, without waiting for work.
-fn turn_of<'p, R: Wait>(rt: &R, shared: Shared<'_, 'p>, node: u32) -> Turn<'p> {
+/// A turn of a node, without waiting for work. It closes no phase.
+fn turn_at_once<'p, R: Wait>(rt: &R, shared: Shared<'_, 'p>, node: u32) -> Turn<'p> {
     let Some(own) = shared.workers.get(node as usize) else {
         give_up(rt, shared);
         return Turn::last();
     };
-    turn_at_once(rt, shared, &mut own.lock(rt), node)
-}
-
-/// A turn of a node by its worker, without waiting for work. It closes no phase.
-fn turn_at_once<'p, R: Wait>(
-    rt: &R,
-    shared: Shared<'_, 'p>,
-    worker: &mut Worker,
-    node: u32,
-) -> Turn<'p> {
+    let mut own = own.lock(rt);
+    let worker = &mut *own;
     let mut desk = shared.desk.lock(rt);
     desk.pending.rise(node);
     if desk.pending.is_quiet() {
         return end_turn(shared, &mut worker.rings, node, desk, None);
     }
-    take_turn(rt, shared, worker, node, desk)
+    turn_at_desk(rt, shared, worker, node, desk)
 }
 
 /// Sleeps until one of the nodes has something to do, or the phase can be closed; whether it can be.

@@ -1,10 +1,18 @@
 //! Where nodes sleep, and which bells are to be rung.
 
 use crate::pending::Pending;
-use pm_nodes::is_device;
-use pm_plan::Plan;
+use pm_plan::{Plan, is_device};
 use pm_tree::NodeId;
 use std::mem;
+
+/// Where a node sleeps.
+#[derive(Clone, Copy)]
+pub(crate) struct Berth {
+    /// The bell at which it is woken.
+    pub(crate) bell: u32,
+    /// Whether what wakes the node is near, so that its thread yields for a while before it sleeps.
+    pub(crate) near: bool,
+}
 
 impl Pending {
     /// Wakes a node, if it sleeps.
@@ -46,23 +54,32 @@ impl Pending {
         mem::swap(&mut self.rings, rings);
     }
 
-    /// The bell at which a node without work goes to sleep: a device with those that wait for the same thing.
-    pub(crate) fn bell_of(&self, plan: &Plan, closed: usize, node: u32) -> u32 {
-        let own = self.bells.own(node);
+    /// Where a node without work goes to sleep: a device with those that wait for the same thing.
+    ///
+    /// A device is near its next work if it awaits the price of a phase in which it changes itself, or the opening of such a phase.
+    /// One that only awaits the price of the changes of others has a whole phase to wait. Its yields would keep the processors
+    /// from those that move, so it sleeps at once, and so does a parent, which waits for all its children. Before the first phase
+    /// is closed nobody is near: the caller's thread still starts the others.
+    pub(crate) fn berth_of(&self, plan: &Plan, closed: usize, node: u32) -> Berth {
+        let bell = self.bells.own(node);
+        let near = false;
         let Some(work) = self.nodes.get(node as usize) else {
-            return own;
+            return Berth { bell, near };
         };
         if !work.device {
-            return own;
+            return Berth { bell, near };
         }
         let prices = self.bells.prices(work.parent);
         if work.member && self.active && !work.passed {
-            return prices;
+            let (bell, near) = (prices, work.active && closed > 0);
+            return Berth { bell, near };
         }
         if changes_after(plan, closed, node) {
-            return self.bells.opening();
+            let (bell, near) = (self.bells.opening(), closed > 0);
+            return Berth { bell, near };
         }
-        if work.member { prices } else { own }
+        let bell = if work.member { prices } else { bell };
+        Berth { bell, near }
     }
 
     /// The bell of the caller's thread.
@@ -74,12 +91,13 @@ impl Pending {
 /// Whether a device changes in the phase after the open one, where so many are closed.
 #[tactic(auto, using(pm_plan::proofs::MarketLists::leaf_of_plan))]
 fn changes_after(plan: &Plan, closed: usize, node: u32) -> bool {
-    if !is_device(plan, node) {
+    let device = NodeId(node);
+    if !is_device(plan, device) {
         return false;
     }
     let phases = plan.phases() as usize;
     if closed >= phases || closed + 1 >= phases {
         return false;
     }
-    plan.changes_of(closed as u32 + 2, NodeId(node)) > 0
+    plan.changes_of(closed as u32 + 2, device) > 0
 }

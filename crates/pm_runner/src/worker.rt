@@ -48,7 +48,8 @@ struct Rest {
     rung: u64,
 }
 
-/// How often a device yields the processor before it sleeps: the next move that concerns it is often near.
+/// How often a device that is near its next work yields the processor before it sleeps. A sleep and its wake-up cost as much as
+/// some ten yields, and the moves of the other nodes that it waits for take about as long.
 const YIELDS: u32 = 50;
 
 impl<'p> Turn<'p> {
@@ -128,11 +129,11 @@ fn await_turn<'p, R: Wait>(
         desk = bell.wait(rt, desk);
     }
     desk.pending.rise(node);
-    take_turn(rt, shared, worker, node, desk)
+    turn_at_desk(rt, shared, worker, node, desk)
 }
 
-/// Makes the turn of a node, which is awake. The lock is free afterwards.
-pub(crate) fn take_turn<'a, 'p, R: Wait>(
+/// Makes the turn of a node that is awake, with the lock held. The lock is free afterwards.
+pub(crate) fn turn_at_desk<'a, 'p, R: Wait>(
     rt: &R,
     shared: Shared<'a, 'p>,
     worker: &mut Worker,
@@ -225,13 +226,12 @@ fn turn_with<'p>(
     turn
 }
 
-/// Notes that a node rests, where it is a device that has nothing to do and may be given work soon.
+/// Notes that a node rests, if it is a device that has nothing to do and is near its next work.
 fn rest_at(shared: Shared, desk: &mut Desk, node: u32) -> Option<Rest> {
-    let pending = &desk.pending;
-    if !pending.is_device(node) || pending.is_finished(node) || desk.has_task(node) {
+    if desk.has_task(node) || !desk.pending.is_resting(node) {
         return None;
     }
-    let bell = desk.lay(node);
+    let bell = desk.lay_near(node)?;
     let rung = shared.bells.get(bell as usize)?.notifications();
     Some(Rest { bell, rung })
 }

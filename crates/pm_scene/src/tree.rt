@@ -20,7 +20,8 @@ pub(crate) struct Parts {
     pub(crate) specs: Vec<NodeSpec>,
 }
 
-fn is_device(spec: &NodeSpec) -> bool
+/// Whether a node of the file declares a device.
+fn declares_device(spec: &NodeSpec) -> bool
     ensures { result ≡ is_device (node_part spec.now) }
 {
     match spec {
@@ -41,7 +42,7 @@ pub(crate) fn parts_of(alloc: Global, nodes: Vec<NamedNode>) -> Result<Parts, Al
     let mut specs = Vec::new(alloc);
     for node in nodes {
         let NamedNode { name, parent, spec } = node;
-        let leaf = is_device(&spec);
+        let leaf = declares_device(&spec);
         entries.push(TreeEntry { name, parent, leaf })?;
         specs.push(spec)?;
     }

@@ -5,9 +5,8 @@ use pm_board::Board;
 use pm_free::{FreeRun, run_free, settle_free};
 use pm_gates::{DrawingGate, Moment};
 use pm_gen::make_plan;
-use pm_nodes::is_device;
-use pm_plan::{PhaseEnd, Plan};
-use pm_runner::{Gate, OpenGate};
+use pm_nodes::{Gate, OpenGate};
+use pm_plan::{PhaseEnd, Plan, is_device};
 use pm_scene::read_scene;
 use pm_tree::NodeId;
 use std::alloc::Global;
@@ -59,10 +58,11 @@ fn hold_the_same(held: &[Option<(u32, u32)>], board: &Board) -> bool {
 
 /// What a device holds on the board; none where the number is that of another node.
 fn held_by(board: &Board, number: u32) -> Option<(u32, u32)> {
-    if !is_device(board.plan(), number) {
+    let node = NodeId(number);
+    if !is_device(board.plan(), node) {
         return None;
     }
-    let held = board.held(NodeId(number))?;
+    let held = board.held(node)?;
     Some((held.step, held.number))
 }
 

@@ -22,7 +22,7 @@ ghost use Rattle.pm_wire.specs.Streams.{stream_limit};
 
 use pm_answer::{Command, FileCommand, Status, answer_of, command_of, demo_of};
 use pm_io::{ReadAllFault, Sink, Source, read_all, write_all};
-use pm_runner::Gate;
+use pm_nodes::Gate;
 use pm_wire::{Served, serve};
 use std::alloc::Global;
 use std::sync::Wait;

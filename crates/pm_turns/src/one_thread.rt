@@ -20,8 +20,8 @@ use pm_agent::DeviceAgent;
 use pm_board::Board;
 use pm_device::Next;
 use pm_market::Line;
-use pm_nodes::{Gate, is_device, make_agents};
-use pm_plan::Plan;
+use pm_nodes::{Gate, make_agents};
+use pm_plan::{Plan, is_device};
 use pm_tree::NodeId;
 use std::alloc::{AllocError, Global};
 
@@ -84,7 +84,7 @@ pub fn make_move<G: Gate>(board: &mut Board, agents: &mut [Option<DeviceAgent>],
     ensures longer { length board.new.lines ≡ length board.old.lines + 1 }
     ensures bounded { length board.new.lines ≤ plan_bound board.new.plan }
 {
-    if !take_turn(board, gate) {
+    if !make_first_move(board, gate) {
         match first_next(board) {
             Some(next) => change(board, agents, next, gate),
             None => close(board, gate),
@@ -94,9 +94,9 @@ pub fn make_move<G: Gate>(board: &mut Board, agents: &mut [Option<DeviceAgent>],
     let _journal = board.journal();
 }
 
-/// A turn of each node, until one makes a move; whether one did.
+/// Makes the move of the first node that has one, by a turn of each node up to it; whether there was one.
 #[tactic(auto, using(pm_plan::proofs::MarketLists::nodes_are))]
-fn take_turn<G: Gate>(board: &mut Board, gate: &G) -> bool
+fn make_first_move<G: Gate>(board: &mut Board, gate: &G) -> bool
     ensures plan { board.new.plan ≡ board.old.plan }
     ensures made { result ≡ true → Grows board.old board.new }
     ensures same { result ≡ false → board.new ≡ board.old }
@@ -161,10 +161,11 @@ pub fn next_of(board: &Board, number: u32) -> Option<Next>
         result ≡ None → IsLeaf (plan_lists board.now.plan) number →
         HasNoNext board.now.plan s.closed s.counts number }
 {
-    if !is_device(board.plan(), number) {
+    let node = NodeId(number);
+    if !is_device(board.plan(), node) {
         return None;
     }
-    board.next(NodeId(number))
+    board.next(node)
 }
 
 /// Makes the next change of a device, by its agent.

@@ -1,7 +1,7 @@
 //! Tests of the whole program: each command, and a fault at each read and write.
 
 use pm_io::{MemSink, MemSource};
-use pm_runner::{Gate, OpenGate};
+use pm_nodes::{Gate, OpenGate};
 use pm_top::{Status, market};
 use std::alloc::{AllocError, Global};
 use std::process::Abort;

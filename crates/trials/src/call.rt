@@ -3,7 +3,7 @@
 use crate::counted::Counted;
 use crate::piece::Piece;
 use pm_io::{MemSink, MemSource};
-use pm_runner::Gate;
+use pm_nodes::Gate;
 use pm_top::{Status, market};
 use std::alloc::{AllocError, Global};
 use std::sync::Wait;

@@ -9,7 +9,7 @@ use crate::piece::Piece;
 use crate::tally::Tally;
 use crate::wrong::{Verdict, is_answer};
 use pm_gates::{SCHEDULES, Schedule};
-use pm_runner::{Gate, OpenGate};
+use pm_nodes::{Gate, OpenGate};
 use pm_scene::read_scene;
 use pm_tree::Tree;
 use std::alloc::{AllocError, Global};

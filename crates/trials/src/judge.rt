@@ -4,7 +4,7 @@ use crate::call::{Outcome, Surroundings, called, words_of};
 use crate::form::Form;
 use crate::piece::Piece;
 use crate::wrong::{Verdict, Wrong, is_answer};
-use pm_runner::OpenGate;
+use pm_nodes::OpenGate;
 use pm_top::Status;
 use std::alloc::{AllocError, Global};
 use std::sync::Wait;

@@ -3,7 +3,7 @@
 use super::meeting::LOOKS;
 use super::ran;
 use pm_gates::{HoldingGate, MeetingGate, Moment};
-use pm_runner::{Gate, OpenGate};
+use pm_nodes::{Gate, OpenGate};
 use pm_top::Status;
 use std::alloc::Global;
 use std::process::Abort;

@@ -8,7 +8,7 @@ use crate::judge::judged;
 use crate::piece::{PIECES, Piece};
 use crate::tally::Tally;
 use crate::wrong::{Verdict, is_answer};
-use pm_runner::OpenGate;
+use pm_nodes::OpenGate;
 use std::alloc::{AllocError, Global};
 use std::sync::Wait;
 use std::thread::Threads;

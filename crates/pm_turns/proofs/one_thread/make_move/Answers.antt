@@ -7,5 +7,5 @@ use Rattle.pm_turns.proofs.one_thread.make_move.Goals as goal
 
 pub close-requires-clause-idle : goal.close-requires-clause-idle
 close-requires-clause-idle g c κs within =
-    let off : c.take_turn.result ≡ false = search rules in
-    subst (λ (b : BoardValue). Idle (plan_lists b.plan) (board_state b)) (sym (c.take_turn.ensures.same off)) (c.take_turn.ensures.idle off)
+    let off : c.make_first_move.result ≡ false = search rules in
+    subst (λ (b : BoardValue). Idle (plan_lists b.plan) (board_state b)) (sym (c.make_first_move.ensures.same off)) (c.make_first_move.ensures.idle off)

@@ -1,5 +1,5 @@
 -- Of `next_of`: its clauses `next`, `its` and `none`; what the call of `next` requires.
-use Rattle.std.proofs.Common.{◌≡◌, subst, true, rules}
+use Rattle.std.proofs.Common.{◌≡◌, ◌∙◌, sym, subst, true, rules}
 use Rattle.std.proofs.lemmas.Option.{MatchOption-at_none}
 use Rattle.pm_board.specs.Boards.{board_state}
 use Rattle.pm_market.specs.Lists.{IsLeaf}
@@ -10,7 +10,7 @@ use Rattle.pm_turns.proofs.one_thread.next_of.Goals as goal
 use Rattle.pm_turns.proofs.one_thread.next_of.Goals.{After-is_device}
 
 leaf : (c : After-is_device) → c.is_device.result ≡ true → IsLeaf (plan_lists c.args.board.now.plan) c.args.number
-leaf c on = subst (λ (p : PlanData). IsLeaf (plan_lists p) c.args.number) c.plan.ensures.plan (c.is_device.ensures.yes on)
+leaf c on = subst (λ (p : PlanData). IsLeaf (plan_lists p) c.args.number) c.plan.ensures.plan (sym c.is_device.ensures ∙ on)
 
 pub next-requires : goal.next-requires
 next-requires c = record {

@@ -1,4 +1,4 @@
--- Of `take_turn`: its clause `idle`; what the call of `turn_of` requires; the turns of its loop over `number`.
+-- Of `make_first_move`: its clause `idle`; what the call of `turn_of` requires; the turns of its loop over `number`.
 use Rattle.std.proofs.Common.{◌≡◌, ◌∙◌, sym, ap, subst, ℕ, length, arith, inl, inr}
 use Rattle.std.proofs.lemmas.Bool.{cases_lt}
 use Rattle.pm_board.specs.Boards.{BoardValue, board_state}
@@ -9,7 +9,7 @@ use Rattle.pm_plan.proofs.MarketLists.{lawful}
 use Rattle.pm_stands.specs.Actors.{NoMoveOf}
 use Rattle.pm_plan.proofs.MarketLists.{nodes_are}
 use Rattle.pm_turns.proofs.Finishing.{idle}
-use Rattle.pm_turns.proofs.one_thread.take_turn.Goals as goal
+use Rattle.pm_turns.proofs.one_thread.make_first_move.Goals as goal
 
 pub turn_of-requires-clause-inside : goal.turn_of-requires-clause-inside
 turn_of-requires-clause-inside g c κs within =
