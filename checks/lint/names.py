@@ -40,7 +40,6 @@ SAME_IN_CODE = {
     "pass": "a concentrator passes a price on",
     "power_of": "the power of a device",
     "run": "runs what the crate is for to its end",
-    "run_free": "a run over links without a lock",
     "start_of": "a device before its first change",
     "starts": "the devices before their first change",
     "take_bid": "takes the bid that waits on a link",

@@ -1,15 +1,13 @@
 //! What is due for an input: its status, and the text that comes with it.
 
-ghost use Rattle.std.specs.Prelude.{◌≡◌, ◌≢◌, ℕ, List, All, IfOk, IfSome, IfNone};
-ghost use Rattle.pm_base.specs.Limits.{IsWithin, demand_limit};
+ghost use Rattle.std.specs.Prelude.{◌≡◌, ℕ, List, IfOk, IfSome, IfNone};
 ghost use Rattle.pm_report.specs.Refusal.{refusal_line};
-ghost use Rattle.pm_ask.specs.TargetLists.{IsFirstBadLine};
-ghost use Rattle.pm_answer.specs.Inputs.{HasFile, HasPlan, AreAsked};
+ghost use Rattle.pm_answer.specs.Inputs.{HasFile, HasPlan};
 ghost use Rattle.pm_answer.specs.Answers.{IsAnswer, valid_line, invalid_line};
 
 use crate::arguments::FileCommand;
 use crate::status::Status;
-use crate::texts::text_of;
+use crate::texts::{answers, bill, free_report, report, trace};
 use pm_ask::{TargetsFault, read_targets};
 use pm_check::{CheckFault, check};
 use pm_envelope::{Envelope, open_envelope};
@@ -23,7 +21,7 @@ use std::thread::Threads;
 
 /// What is due for an input: a status, and the text that comes with it.
 #[derive(Drop)]
-pub struct Answer {
+pub struct Outcome {
     /// Done, Invalid or Refused.
     pub status: Status,
     /// All of the text, in bytes.
@@ -41,17 +39,14 @@ pub fn answer_of<R: Threads + Wait + Sync, G: Gate>(
     asked: FileCommand,
     input: &[u8],
     gate: &G,
-) -> Result<Answer, AllocError>
+) -> Result<Outcome, AllocError>
     ensures { IfOk result (λ answer. IsAnswer asked input.now answer.status answer.text.items) }
 {
     let Some(envelope) = open_input(asked, input) else {
         return refused(alloc, Refusal::at(Cause::BadEnvelope, Place::Document));
     };
     match read_scene(alloc, envelope.file) {
-        Ok(plan) => match asked {
-            FileCommand::Check => trace_answer(rt, alloc, &plan, input, envelope.rest, gate),
-            _ => plan_answer(rt, alloc, asked, &plan, input, envelope.rest, gate),
-        },
+        Ok(plan) => plan_answer(rt, alloc, asked, &plan, input, envelope.rest, gate),
         Err(SceneFault::Refused(refusal)) => refused(alloc, refusal),
         Err(SceneFault::NoMemory) => Err(AllocError),
     }
@@ -73,16 +68,17 @@ fn open_input(asked: FileCommand, input: &[u8]) -> Option<Envelope<'_>>
 }
 
 /// The answer of a refusal: its line.
-fn refused(alloc: Global, refusal: Refusal) -> Result<Answer, AllocError>
+fn refused(alloc: Global, refusal: Refusal) -> Result<Outcome, AllocError>
     ensures status { IfOk result (λ answer. answer.status ≡ Status.Refused) }
     ensures text { IfOk result (λ answer. answer.text.items ≡ refusal_line refusal) }
 {
     let text = refusal_line(alloc, &refusal)?;
     let status = Status::Refused;
-    Ok(Answer { status, text })
+    Ok(Outcome { status, text })
 }
 
-/// The answer to an input with a plan, behind whose file this stands: the text that is asked for, or the line of a refusal.
+/// The answer to an input with a plan, behind whose file this stands: Done with the text that is asked for of the plan, or what
+/// the rest of the input makes of it.
 fn plan_answer<R: Threads + Wait + Sync, G: Gate>(
     rt: &R,
     alloc: Global,
@@ -91,16 +87,59 @@ fn plan_answer<R: Threads + Wait + Sync, G: Gate>(
     input: &[u8],
     rest: &[u8],
     gate: &G,
-) -> Result<Answer, AllocError>
+) -> Result<Outcome, AllocError>
     requires plan { HasPlan asked input.now plan.now rest.now }
-    requires text { asked ≢ FileCommand.Check }
     ensures { IfOk result (λ answer. IsAnswer asked input.now answer.status answer.text.items) }
 {
-    match targets_of(alloc, asked, rest) {
-        Ok(targets) => {
-            let text = text_of(rt, alloc, asked, plan, &targets, gate)?;
-            let status = Status::Done;
-            Ok(Answer { status, text })
+    match asked {
+        FileCommand::Run => {
+            let text = report(rt, alloc, plan, gate)?;
+            Ok(done(text))
+        }
+        FileCommand::Trace => {
+            let text = trace(rt, alloc, plan, gate)?;
+            Ok(done(text))
+        }
+        FileCommand::Bill => {
+            let text = bill(rt, alloc, plan, gate)?;
+            Ok(done(text))
+        }
+        FileCommand::Free => {
+            let text = free_report(rt, alloc, plan, gate)?;
+            Ok(done(text))
+        }
+        FileCommand::Ask => targets_answer(rt, alloc, plan, input, rest, gate),
+        FileCommand::Check => trace_answer(rt, alloc, plan, input, rest, gate),
+    }
+}
+
+/// The answer of a text that is due with Done.
+fn done(text: Vec<u8>) -> Outcome
+    ensures status { result.status ≡ Status.Done }
+    ensures text { result.text.items ≡ text.items }
+{
+    let status = Status::Done;
+    Outcome { status, text }
+}
+
+/// What the total at the end of a run answers to the targets that stand behind a cluster file with a plan, or the line of the
+/// first that is none.
+fn targets_answer<R: Threads + Wait + Sync, G: Gate>(
+    rt: &R,
+    alloc: Global,
+    plan: &Plan,
+    input: &[u8],
+    targets: &[u8],
+    gate: &G,
+) -> Result<Outcome, AllocError>
+    requires { HasPlan FileCommand.Ask input.now plan.now targets.now }
+    ensures { IfOk result (λ answer.
+        IsAnswer FileCommand.Ask input.now answer.status answer.text.items) }
+{
+    match read_targets(alloc, targets) {
+        Ok(watts) => {
+            let text = answers(rt, alloc, plan, &watts, gate)?;
+            Ok(done(text))
         }
         Err(TargetsFault::Bad { line }) => {
             let place = Place::Line { number: line };
@@ -119,22 +158,22 @@ fn trace_answer<R: Threads + Wait + Sync, G: Gate>(
     input: &[u8],
     trace: &[u8],
     gate: &G,
-) -> Result<Answer, AllocError>
+) -> Result<Outcome, AllocError>
     requires { HasPlan FileCommand.Check input.now plan.now trace.now }
     ensures { IfOk result (λ answer. IsAnswer FileCommand.Check input.now answer.status
         answer.text.items) }
 {
-    let report = text_of(rt, alloc, FileCommand::Run, plan, &[], gate)?;
+    let report = report(rt, alloc, plan, gate)?;
     match check(alloc, plan, &report, trace) {
         Ok(moves) => {
             let text = valid_line(alloc, moves)?;
             let status = Status::Done;
-            Ok(Answer { status, text })
+            Ok(Outcome { status, text })
         }
         Err(CheckFault::Invalid { line }) => {
             let text = invalid_line(alloc, line)?;
             let status = Status::Invalid;
-            Ok(Answer { status, text })
+            Ok(Outcome { status, text })
         }
         Err(CheckFault::NoMemory) => Err(AllocError),
     }
@@ -154,21 +193,4 @@ fn invalid_line(alloc: Global, line: u64) -> Result<Vec<u8>, AllocError>
 {
     let text = format!(in alloc; "invalid line {line}\n")?;
     Ok(text.into_bytes())
-}
-
-/// The targets that stand behind a cluster file, in watts; none where the command takes none.
-fn targets_of(alloc: Global, asked: FileCommand, rest: &[u8]) -> Result<Vec<i64>, TargetsFault>
-    requires { asked ≢ FileCommand.Check }
-    ensures asked { IfOk result (λ targets. AreAsked asked rest.now targets.items) }
-    ensures within { IfOk result (λ targets. All (IsWithin demand_limit) targets.items) }
-    ensures bad { (line : ℕ) → result ≡ Err (TargetsFault.Bad line) → (asked ≡ FileCommand.Ask)
-        × IsFirstBadLine line rest.now }
-{
-    match asked {
-        FileCommand::Ask => read_targets(alloc, rest),
-        FileCommand::Check => unreachable!(),
-        FileCommand::Run | FileCommand::Trace | FileCommand::Bill | FileCommand::Free => {
-            Ok(Vec::new(alloc))
-        }
-    }
 }

@@ -12,7 +12,7 @@ mod law;
 mod status;
 mod texts;
 
-pub use answer::{Answer, answer_of};
+pub use answer::{Outcome, answer_of};
 pub use arguments::{Command, FileCommand, command_of};
 pub use law::traces_tell_their_runs;
 pub use status::Status;

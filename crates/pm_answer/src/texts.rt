@@ -1,6 +1,6 @@
 //! Runs a plan, and writes the text that a command asks for.
 
-ghost use Rattle.std.specs.Prelude.{◌≡◌, ◌≢◌, ◌≤◌, [], All, IfOk, Err, false, length};
+ghost use Rattle.std.specs.Prelude.{◌≡◌, ◌≤◌, [], All, IfOk, Err, false, length};
 ghost use Rattle.pm_base.specs.Limits.{most_phases, IsWithin, demand_limit};
 ghost use Rattle.pm_bid.specs.Bids.{NeverRises};
 ghost use Rattle.pm_plan.specs.Plans.{phases};
@@ -11,9 +11,9 @@ ghost use Rattle.pm_bill.specs.Runs.{plan_bill};
 ghost use Rattle.pm_report.specs.Report.{IsEndOf, ends_of};
 ghost use Rattle.pm_report.specs.Trace.{IsLineOf};
 ghost use Rattle.pm_report.specs.Summary.{summary_text};
+ghost use Rattle.pm_answer.specs.declared.arguments.FileCommand.{FileCommand};
 ghost use Rattle.pm_answer.specs.Answers.{last_total, IsTextOf, IsCompleteJournal, IsSummary};
 
-use crate::arguments::FileCommand;
 use pm_ask::{Curve, CurveFault, ask_text};
 use pm_bid::ArrayBid;
 use pm_bill::bill_of_run;
@@ -48,22 +48,6 @@ fn run<R: Threads + Wait + Sync, G: Gate>(
     Ok((journal, ends))
 }
 
-/// Runs a plan to its end over links without a lock: the end of each phase.
-fn run_free<R: Threads + Wait + Sync, G: Gate>(
-    rt: &R,
-    alloc: Global,
-    plan: &Plan,
-    gate: &G,
-) -> Result<Vec<PhaseEnd>, AllocError>
-    ensures are { IfOk result (λ ends. ends_of ends.items ≡ all_ends plan.now) }
-    ensures few { IfOk result (λ ends. length ends.items ≤ most_phases) }
-    ensures of_plan { IfOk result (λ ends. All (IsEndOf plan.now) (ends_of ends.items)) }
-{
-    let ends = settle_free(rt, alloc, plan, gate)?;
-    prove!(ends.len() == plan.phases() as usize);
-    Ok(ends)
-}
-
 /// The total at the end of a run of a plan, to be asked for targets.
 fn last_curve<R: Threads + Wait + Sync, G: Gate>(
     rt: &R,
@@ -93,7 +77,7 @@ fn curve_of(alloc: Global, total: &ArrayBid) -> Result<Curve, AllocError>
 
 /// The report of the ends of a run.
 #[tactic(auto, unfolding(crate::specs::Inputs::report_of))]
-fn report<R: Threads + Wait + Sync, G: Gate>(
+pub(crate) fn report<R: Threads + Wait + Sync, G: Gate>(
     rt: &R,
     alloc: Global,
     plan: &Plan,
@@ -107,7 +91,7 @@ fn report<R: Threads + Wait + Sync, G: Gate>(
 
 /// The report of the ends of a run, and behind it the lines of its journal.
 #[tactic(auto, unfolding(crate::specs::Inputs::report_of))]
-fn trace<R: Threads + Wait + Sync, G: Gate>(
+pub(crate) fn trace<R: Threads + Wait + Sync, G: Gate>(
     rt: &R,
     alloc: Global,
     plan: &Plan,
@@ -120,7 +104,7 @@ fn trace<R: Threads + Wait + Sync, G: Gate>(
 }
 
 /// The bill of a run.
-fn bill<R: Threads + Wait + Sync, G: Gate>(
+pub(crate) fn bill<R: Threads + Wait + Sync, G: Gate>(
     rt: &R,
     alloc: Global,
     plan: &Plan,
@@ -141,7 +125,7 @@ fn bill_of_ends(alloc: Global, plan: &Plan, ends: &[PhaseEnd]) -> Result<Vec<u8>
 }
 
 /// What the total at the end of a run answers to targets in watts.
-fn answers<R: Threads + Wait + Sync, G: Gate>(
+pub(crate) fn answers<R: Threads + Wait + Sync, G: Gate>(
     rt: &R,
     alloc: Global,
     plan: &Plan,
@@ -157,7 +141,7 @@ fn answers<R: Threads + Wait + Sync, G: Gate>(
 
 /// The report of the ends of a run over links without a lock.
 #[tactic(auto, unfolding(crate::specs::Inputs::report_of))]
-fn free_report<R: Threads + Wait + Sync, G: Gate>(
+pub(crate) fn free_report<R: Threads + Wait + Sync, G: Gate>(
     rt: &R,
     alloc: Global,
     plan: &Plan,
@@ -165,33 +149,9 @@ fn free_report<R: Threads + Wait + Sync, G: Gate>(
 ) -> Result<Vec<u8>, AllocError>
     ensures { IfOk result (λ text. IsTextOf FileCommand.Free plan.now [] text.items) }
 {
-    let ends = run_free(rt, alloc, plan, gate)?;
+    let ends = settle_free(rt, alloc, plan, gate)?;
+    prove!(ends.len() == plan.phases() as usize);
     report_text(alloc, plan, &ends)
-}
-
-/// The text that is asked for of a plan: the report of its phases' ends; behind it, for a trace, the lines of the run's
-/// journal; the bill of the run; what its last total answers to targets in watts; or the same report by a run over links
-/// without a lock. Check asks for no text.
-pub(crate) fn text_of<R: Threads + Wait + Sync, G: Gate>(
-    rt: &R,
-    alloc: Global,
-    asked: FileCommand,
-    plan: &Plan,
-    targets: &[i64],
-    gate: &G,
-) -> Result<Vec<u8>, AllocError>
-    requires within { All (IsWithin demand_limit) targets.now }
-    requires text { asked ≢ FileCommand.Check }
-    ensures { IfOk result (λ text. IsTextOf asked plan.now targets.now text.items) }
-{
-    match asked {
-        FileCommand::Run => report(rt, alloc, plan, gate),
-        FileCommand::Trace => trace(rt, alloc, plan, gate),
-        FileCommand::Check => unreachable!(),
-        FileCommand::Bill => bill(rt, alloc, plan, gate),
-        FileCommand::Ask => answers(rt, alloc, plan, targets, gate),
-        FileCommand::Free => free_report(rt, alloc, plan, gate),
-    }
 }
 
 /// The summary of a plan's phases' ends, for the demo cluster of this size and number.

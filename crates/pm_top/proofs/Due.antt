@@ -1,5 +1,5 @@
 -- What is given for an input is due, with the status for it.
-use Rattle.std.proofs.Common.{◌≡◌, ◌≢◌, ◌∙◌, ◌⊎◌, ℕ, ◌-◌, ◌<◌, ◌≤◌, List, ◌++◌, length, Option, Some, None, IfSome}
+use Rattle.std.proofs.Common.{◌≡◌, ◌≢◌, ◌∙◌, ℕ, ◌-◌, ◌<◌, ◌≤◌, List, ◌++◌, length, Option, Some, None, IfSome}
 use Rattle.std.proofs.Common.{sym, ap, subst, refl, inl, inr, arith, append-nil}
 use Rattle.std.proofs.lemmas.List.{length-take}
 use Rattle.std.specs.Io.KnownBytes.{Appends, Consumes, IsAtEnd}
@@ -8,6 +8,7 @@ use Rattle.pm_answer.specs.Inputs.{input_limit, HasStatus}
 use Rattle.pm_wire.specs.Streams.{replies, replies_and_fault}
 use Rattle.pm_answer.specs.Answers.{IsAnswer, IsSummary}
 use Rattle.pm_top.specs.Top.{IsDue, summary, served, served_fault, served_long, IsServiceEnd, WrotePrefix}
+use Rattle.pm_top.specs.Endings.{EndsUnlessUnwritten, EndsUnlessCutShort, EndsUnlessFailed, EndsUnlessNoMemory, WroteItsText, WrotePartOfDue}
 use Rattle.pm_answer.specs.declared.arguments.Command.{Command}
 use Rattle.pm_answer.specs.declared.arguments.Command.TheVariants.{Demo, Serve}
 use Rattle.pm_answer.specs.declared.arguments.FileCommand.{FileCommand}
@@ -23,7 +24,7 @@ summary_is_due old new command size number status text asks done is = subst (λ 
     (summary size number text asks is)
 
 -- a status that is Done, WriteFault or NoMemory, and neither of the last two, is Done
-pub left_done : (status : Status) → (status ≡ Done) ⊎ (status ≡ WriteFault) ⊎ (status ≡ NoMemory) → status ≢ WriteFault →
+pub left_done : (status : Status) → EndsUnlessCutShort Done status → status ≢ WriteFault →
     status ≢ NoMemory → status ≡ Done
 left_done status (inl done) no_fault no_failure = done
 left_done status (inr (inl fault)) no_fault no_failure = absurd (no_fault fault)
@@ -39,14 +40,12 @@ given_is_due command old new before after due status text given is same (told, a
 -- where the sink failed, a prefix of what is due was written
 pub prefix_is_due : (command : Option Command) (old new before after : Option (List ℕ)) (due : Status) (text given : List ℕ) →
     IsDue command old new due text →
-    given ≡ text → WrotePrefix before after given → (due' : Status)
-    × ((text' : List ℕ) × IsDue command old new due' text' × WrotePrefix before after text')
+    given ≡ text → WrotePrefix before after given → WrotePartOfDue command old new before after
 prefix_is_due command old new before after due text given is same wrote = (due, (text, is, subst (WrotePrefix before after) same wrote))
 
 -- what a service appended is due, unless it failed
 pub service_is_due : (command : Option Command) (old new held holds : Option (List ℕ)) (status : Status) → command ≡ Some Serve →
-    IsServiceEnd status old new held holds →
-    status ≢ ReadFault → status ≢ WriteFault → status ≢ NoMemory → (text : List ℕ) × IsDue command old new status text × Appends held holds text
+    IsServiceEnd status old new held holds → WroteItsText command old new held holds status
 service_is_due command old new held holds Done asks end no_read no_write no_failure =
     (replies end.frames, served end.frames end.input asks end.consumes end.at_end end.are_frames, end.appends)
 service_is_due command old new held holds Invalid asks end no_read no_write no_failure = absurd end
@@ -65,7 +64,7 @@ service_is_due command old new held holds NoMemory asks end no_read no_write no_
 -- the status is the one for the input, or tells of a fault or an allocation failure
 abbrev pub Answers : FileCommand → Status → List ℕ → Type 0
 Answers asked result input =
-    (status : Status) → HasStatus asked input status → (result ≡ status) ⊎ (result ≡ ReadFault) ⊎ (result ≡ WriteFault) ⊎ (result ≡ NoMemory)
+    (status : Status) → HasStatus asked input status → EndsUnlessFailed status result
 
 -- bytes that were read to the end are what the source had
 whole : (old new : Option (List ℕ)) (bytes : List ℕ) → Consumes old new bytes → IsAtEnd new → IfSome old (λ input. bytes ≡ input)
@@ -73,7 +72,7 @@ whole None new bytes all end = tt
 whole (Some input) None bytes all end = absurd all
 whole (Some input) (Some left) bytes all end = sym (all ∙ ap (λ l. bytes ++ l) end ∙ append-nil bytes)
 
-answers_by : (asked : FileCommand) (result due : Status) (old : Option (List ℕ)) → (result ≡ due) ⊎ (result ≡ WriteFault) →
+answers_by : (asked : FileCommand) (result due : Status) (old : Option (List ℕ)) → EndsUnlessUnwritten due result →
     IfSome old (λ input. (status : Status) → HasStatus asked input status → due ≡ status) → IfSome old (Answers asked result)
 answers_by asked result due None given same = tt
 answers_by asked result due (Some input) (inl told) same = λ status has. inl (told ∙ same status has)
@@ -89,7 +88,7 @@ read_status asked (Some input) bytes due text same short answer = λ status has.
 -- the answer to an input that was read to its end
 pub read_answers : (asked : FileCommand) (old new : Option (List ℕ)) (bytes : List ℕ) (result due : Status) (text : List ℕ) → Consumes old new bytes →
     IsAtEnd new →
-    length bytes ≤ input_limit asked → IsAnswer asked bytes due text → (result ≡ due) ⊎ (result ≡ WriteFault) → IfSome old (Answers asked result)
+    length bytes ≤ input_limit asked → IsAnswer asked bytes due text → EndsUnlessUnwritten due result → IfSome old (Answers asked result)
 read_answers asked old new bytes result due text all end short answer given =
     answers_by asked result due old given (read_status asked old bytes due text (whole old new bytes all end) short answer)
 
@@ -105,7 +104,7 @@ too_long_status asked (Some input) new more = λ status has. long_status asked i
 
 -- the answer to an input of which more than the limit was taken
 pub long_answers : (asked : FileCommand) (old new : Option (List ℕ)) (result : Status) → TookMore old new (input_limit asked) →
-    (result ≡ TooLong) ⊎ (result ≡ WriteFault) →
+    EndsUnlessUnwritten TooLong result →
     IfSome old (Answers asked result)
 long_answers asked old new result more given = answers_by asked result TooLong old given (too_long_status asked old new more)
 
@@ -113,8 +112,8 @@ long_answers asked old new result more given = answers_by asked result TooLong o
 pub completes : (asked : FileCommand) (old : Option (List ℕ)) (result : Status) (read write : Type 0) → IfSome old (Answers asked result) →
     (result ≡ ReadFault → read) →
     (result ≡ WriteFault → write) →
-    IfSome old (λ input. (status : Status) → HasStatus asked input status → (read → ⊥) → (write → ⊥) → (result ≡ NoMemory)
-    ⊎ (result ≡ status))
+    IfSome old (λ input. (status : Status) → HasStatus asked input status → (read → ⊥) → (write → ⊥) →
+    EndsUnlessNoMemory status result)
 completes asked None result read write answers at_read at_write = tt
 completes asked (Some input) result read write answers at_read at_write = λ status has no_read no_write. elim (answers status has) [
   | inl told ↦ inr told

@@ -13,6 +13,7 @@ use Rattle.pm_answer.specs.Inputs.{input_limit, HasPlan, IsRefusalOf, HasStatus,
 use Rattle.pm_answer.specs.Answers.{IsAnswer, refused, planned, valid, invalid, invalid_line}
 use Rattle.pm_top.specs.Top.{WrotePrefix, IsDue, usage, too_long, answered, summary, served, served_fault}
 use Rattle.pm_top.specs.Top.{served_long}
+use Rattle.pm_top.specs.Endings.{WrotePartOfDue}
 use Rattle.pm_answer.specs.declared.arguments.Command.TheVariants.{File}
 use Rattle.pm_answer.specs.declared.arguments.FileCommand.{FileCommand}
 use Rattle.pm_answer.specs.declared.arguments.FileCommand.TheVariants.{Check}
@@ -92,7 +93,7 @@ pub exact : {K : Type 0} (asked : FileCommand) (held : K → Option (List ℕ)) 
     → Answers asked status input
     → (status ≡ ReadFault → new ≡ old) → (status ≡ NoMemory → new ≡ old)
     → (status ≡ WriteFault →
-    (due : Status) × ((text : List ℕ) × IsDue (Some (File asked)) (Some input) (Some []) due text × WrotePrefix (held old) (held new) text))
+    WrotePartOfDue (Some (File asked)) (Some input) (Some []) (held old) (held new))
     → status ≡ due
 exact asked held old new status due input before line short has_status some only had has answers at_read at_memory
     at_write = elim (answers due has_status) [
@@ -116,7 +117,7 @@ exact_at : {K : Type 0} (asked : FileCommand) (held : K → Option (List ℕ)) (
     → IfSome left_old (Answers asked status)
     → (status ≡ ReadFault → new ≡ old) → (status ≡ NoMemory → new ≡ old)
     → (status ≡ WriteFault →
-    (due : Status) × ((text : List ℕ) × IsDue (Some (File asked)) left_old left_new due text × WrotePrefix (held old) (held new) text))
+    WrotePartOfDue (Some (File asked)) left_old left_new (held old) (held new))
     → status ≡ due
 exact_at asked held old new left_old left_new status due input before line short has_status some only was is had has answer at_read at_memory at_write =
     let told : Answers asked status input = subst (λ (o : Option (List ℕ)). IfSome o (Answers asked status)) was answer in
@@ -134,7 +135,7 @@ pub exact_refused_at : {K : Type 0} (asked : FileCommand) (held : K → Option (
     → IfSome left_old (Answers asked status)
     → (status ≡ ReadFault → new ≡ old) → (status ≡ NoMemory → new ≡ old)
     → (status ≡ WriteFault →
-    (due : Status) × ((text : List ℕ) × IsDue (Some (File asked)) left_old left_new due text × WrotePrefix (held old) (held new) text))
+    WrotePartOfDue (Some (File asked)) left_old left_new (held old) (held new))
     → status ≡ Refused
 exact_refused_at asked held old new left_old left_new status input before r short is_r was is had has answer at_read at_memory at_write =
     exact_at asked held old new left_old left_new status Refused input before (refusal_line r) short (is_refused short r is_r) (not_empty r)
@@ -148,7 +149,7 @@ pub exact_invalid_at : {K : Type 0} (held : K → Option (List ℕ)) (old new : 
     → IfSome left_old (Answers Check status)
     → (status ≡ ReadFault → new ≡ old) → (status ≡ NoMemory → new ≡ old)
     → (status ≡ WriteFault →
-    (due : Status) × ((text : List ℕ) × IsDue (Some (File Check)) left_old left_new due text × WrotePrefix (held old) (held new) text))
+    WrotePartOfDue (Some (File Check)) left_old left_new (held old) (held new))
     → status ≡ Invalid
 exact_invalid_at held old new left_old left_new status plan input trace before line short has_plan bad was is had has answer at_read at_memory at_write =
     exact_at Check held old new left_old left_new status Invalid input before (invalid_line line) short

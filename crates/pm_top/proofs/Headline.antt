@@ -10,7 +10,8 @@ use Rattle.pm_answer.specs.declared.status.Status.TheVariants.{Done, Invalid, Re
 use Rattle.pm_headline.specs.Promises.{TellsTheMarket, RefutesFile, ReadFile}
 use Rattle.pm_headline.proofs.Headline.{answer_tells, answer_refutes, summary_tells}
 use Rattle.pm_answer.specs.Answers.{IsSummary}
-use Rattle.pm_top.specs.Top.{WrotePrefix, IsDue, usage, too_long, answered, summary, served, served_fault, served_long}
+use Rattle.pm_top.specs.Top.{IsDue, usage, too_long, answered, summary, served, served_fault, served_long}
+use Rattle.pm_top.specs.Endings.{WroteItsText, WrotePartOfDue}
 
 -- of a service nothing is said
 serves : (old new : Option (List ℕ)) (text : List ℕ) (command : Option Command) → command ≡ Some Serve → TellsTheMarket command old new text
@@ -51,20 +52,16 @@ due_refutes command old new status text bad (served frames input asks all end ar
 due_refutes command old new status text bad (served_fault frames input asks all fault) = absurd (cc bad)
 due_refutes command old new status text bad (served_long frames input asks all has long) = absurd (cc bad)
 
--- a text that is due was written, unless something failed
-abbrev pub Writes : Option Command → Option (List ℕ) → Option (List ℕ) → Option (List ℕ) → Option (List ℕ) → Status → Type 0
-Writes command old new held holds status = status ≢ ReadFault → status ≢ WriteFault → status ≢ NoMemory →
-    (text : List ℕ) × IsDue command old new status text × Appends held holds text
-
 unfailed : (command : Option Command) (old new held holds : Option (List ℕ)) (status due : Status) → status ≡ due → due ≢ ReadFault →
-    due ≢ WriteFault → due ≢ NoMemory → Writes command old new held holds status →
+    due ≢ WriteFault → due ≢ NoMemory → WroteItsText command old new held holds status →
     (text : List ℕ) × IsDue command old new status text × Appends held holds text
 unfailed command old new held holds status due is no_read no_write no_failure written =
     written (λ e. no_read (sym is ∙ e)) (λ e. no_write (sym is ∙ e)) (λ e. no_failure (sym is ∙ e))
 
 -- a text that was written with Done tells the market
 pub headline_of : (command : Option Command) (old new held holds : Option (List ℕ)) (status : Status) →
-    ((size number : ℕ) → command ≡ Some (Demo size number) → is_size size ≡ true) → Writes command old new held holds status → status ≡ Done →
+    ((size number : ℕ) → command ≡ Some (Demo size number) → is_size size ≡ true) → WroteItsText command old new held holds status →
+    status ≡ Done →
     (text : List ℕ) × TellsTheMarket command old new text × Appends held holds text
 headline_of command old new held holds status sized written done =
     let w = unfailed command old new held holds status Done done (λ e. cc e) (λ e. cc e) (λ e. cc e) written in
@@ -72,7 +69,7 @@ headline_of command old new held holds status sized written done =
 
 -- a text that was written with Invalid refutes a trace
 pub refutation_of : (command : Option Command) (old new held holds : Option (List ℕ)) (status : Status) →
-    Writes command old new held holds status → status ≡ Invalid →
+    WroteItsText command old new held holds status → status ≡ Invalid →
     (text : List ℕ) × RefutesFile command old new text × Appends held holds text
 refutation_of command old new held holds status written bad =
     let w = unfailed command old new held holds status Invalid bad (λ e. cc e) (λ e. cc e) (λ e. cc e) written in
@@ -87,7 +84,6 @@ demo_tells command old new held holds size number asks within w =
 
 -- a part of a text that is due of one command is so of the same one
 pub cut_short_of : (asked other : FileCommand) (old new held holds : Option (List ℕ)) → asked ≡ other →
-    (due : Status) × ((text : List ℕ) × IsDue (Some (File asked)) old new due text × WrotePrefix held holds text) →
-    (due : Status) × ((text : List ℕ) × IsDue (Some (File other)) old new due text × WrotePrefix held holds text)
+    WrotePartOfDue (Some (File asked)) old new held holds → WrotePartOfDue (Some (File other)) old new held holds
 cut_short_of asked other old new held holds same d =
     (d.0, (d.1.0, subst (λ (a : FileCommand). IsDue (Some (File a)) old new d.0 d.1.0) same d.1.1, d.1.2))

@@ -15,7 +15,9 @@ ghost use Rattle.pm_check.specs.Traces.{IsBadLine};
 ghost use Rattle.pm_answer.specs.Inputs.{input_limit, HasPlan, IsRefusalOf, HasStatus, report_of};
 ghost use Rattle.pm_answer.specs.Answers.{IsSummary, invalid_line};
 ghost use Rattle.pm_headline.specs.Promises.{TellsTheMarket, RefutesFile};
-ghost use Rattle.pm_top.specs.Top.{too_long_line, WrotePrefix, IsDue, IsServiceEnd};
+ghost use Rattle.pm_top.specs.Top.{too_long_line, WrotePrefix, IsServiceEnd};
+ghost use Rattle.pm_top.specs.Endings.{EndsUnlessUnwritten, EndsUnlessCutShort, EndsUnlessFailed, EndsUnlessNoMemory, ServesOrRefuses};
+ghost use Rattle.pm_top.specs.Endings.{WroteItsText, WrotePartOfDue};
 ghost use Rattle.pm_wire.specs.declared.frame.Frame.{Frame};
 ghost use Rattle.pm_wire.specs.Frames.{AreFrames, HasBadFrame, EndsWithin};
 ghost use Rattle.pm_wire.specs.Streams.{stream_limit};
@@ -58,7 +60,7 @@ fn too_long_line(asked: FileCommand) -> &'static str
 /// Writes what is due, and answers its status, or that the sink failed.
 fn give<K: Sink>(sink: &mut K, status: Status, text: &[u8]) -> Status
     requires { status ≢ Status.WriteFault }
-    ensures either { (result ≡ status) ⊎ (result ≡ Status.WriteFault) }
+    ensures either { EndsUnlessUnwritten status result }
     ensures given { result ≢ Status.WriteFault → (result ≡ status)
         × Appends (K.held sink.old) (K.held sink.new) text.now }
     ensures fault { result ≡ Status.WriteFault → Rose (K.faults sink.old) (K.faults sink.new)
@@ -80,8 +82,7 @@ fn demo<R: Threads + Wait + Sync, K: Sink, G: Gate>(
     sink: &mut K,
     gate: &G,
 ) -> Status
-    ensures status { (result ≡ Status.Done) ⊎ (result ≡ Status.WriteFault)
-        ⊎ (result ≡ Status.NoMemory) }
+    ensures status { EndsUnlessCutShort Status.Done result }
     ensures size { result ≡ Status.Done → is_size size ≡ true }
     ensures written { result ≡ Status.Done → (text : List ℕ) × IsSummary size number text
         × Appends (K.held sink.old) (K.held sink.new) text }
@@ -107,14 +108,11 @@ fn file<R: Threads + Wait + Sync, S: Source, K: Sink, G: Gate>(
     sink: &mut K,
     gate: &G,
 ) -> Status
-    ensures written { result ≢ Status.ReadFault → result ≢ Status.WriteFault →
-        result ≢ Status.NoMemory → (text : List ℕ)
-        × IsDue (Some (Command.File asked)) (S.left source.old) (S.left source.new) result text
-        × Appends (K.held sink.old) (K.held sink.new) text }
+    ensures written { WroteItsText (Some (Command.File asked)) (S.left source.old)
+        (S.left source.new) (K.held sink.old) (K.held sink.new) result }
     ensures write_fault { result ≡ Status.WriteFault → Rose (K.faults sink.old) (K.faults sink.new)
-        × ((due : Status) × ((text : List ℕ)
-        × IsDue (Some (Command.File asked)) (S.left source.old) (S.left source.new) due text
-        × WrotePrefix (K.held sink.old) (K.held sink.new) text)) }
+        × WrotePartOfDue (Some (Command.File asked)) (S.left source.old) (S.left source.new)
+        (K.held sink.old) (K.held sink.new) }
     ensures read_fault { result ≡ Status.ReadFault
         → Rose (S.faults source.old) (S.faults source.new) × (sink.new ≡ sink.old) }
     ensures no_memory { result ≡ Status.NoMemory → sink.new ≡ sink.old }
@@ -122,10 +120,10 @@ fn file<R: Threads + Wait + Sync, S: Source, K: Sink, G: Gate>(
     // An input that is read to its end or past the limit has the answer that it should.
     ensures took_more { input_limit asked < length
         (taken_bytes (S.left source.old) (S.left source.new))
-        → (result ≡ Status.TooLong) ⊎ (result ≡ Status.WriteFault) ⊎ (result ≡ Status.NoMemory) }
+        → EndsUnlessCutShort Status.TooLong result }
     ensures answer { IfSome (S.left source.old)
-        (λ input. (status : Status) → HasStatus asked input status → (result ≡ status)
-        ⊎ (result ≡ Status.ReadFault) ⊎ (result ≡ Status.WriteFault) ⊎ (result ≡ Status.NoMemory)) }
+        (λ input. (status : Status) → HasStatus asked input status →
+        EndsUnlessFailed status result) }
     ensures source_count { S.faults source.old ≤ S.faults source.new }
     ensures sink_count { K.faults sink.old ≤ K.faults sink.new }
 {
@@ -152,24 +150,22 @@ fn service<S: Source, K: Sink>(alloc: Global, source: &mut S, sink: &mut K) -> S
         Rose (K.faults sink.old) (K.faults sink.new) }
     ensures bad_frame { (all : List ℕ) (offset : ℕ) → S.left source.old ≡ Some all
         → HasBadFrame (taken_bytes (S.left source.old) (S.left source.new)) offset
-        → (result ≡ Status.Refused) ⊎ (result ≡ Status.WriteFault) ⊎ (result ≡ Status.NoMemory) }
+        → EndsUnlessCutShort Status.Refused result }
     ensures took_more { (all : List ℕ) → S.left source.old ≡ Some all
         → stream_limit < length (taken_bytes (S.left source.old) (S.left source.new))
         → ((offset : ℕ) → ¬ HasBadFrame (taken_bytes (S.left source.old) (S.left source.new))
         offset)
-        → (result ≡ Status.TooLong) ⊎ (result ≡ Status.WriteFault) ⊎ (result ≡ Status.NoMemory) }
+        → EndsUnlessCutShort Status.TooLong result }
     ensures frames { (all : List ℕ) (frames : List Frame) → S.left source.old ≡ Some all →
         length all ≤ stream_limit
-        → AreFrames all frames → (result ≡ Status.Done)
-        ⊎ (result ≡ Status.ReadFault) ⊎ (result ≡ Status.WriteFault) ⊎ (result ≡ Status.NoMemory) }
+        → AreFrames all frames → EndsUnlessFailed Status.Done result }
     ensures refusal { (all : List ℕ) (offset : ℕ) → S.left source.old ≡ Some all →
         length all ≤ stream_limit
-        → HasBadFrame all offset ⊎ EndsWithin all offset → (result ≡ Status.Refused)
-        ⊎ (result ≡ Status.ReadFault) ⊎ (result ≡ Status.WriteFault) ⊎ (result ≡ Status.NoMemory) }
+        → HasBadFrame all offset ⊎ EndsWithin all offset → EndsUnlessFailed Status.Refused result }
     ensures complete { (all : List ℕ) → S.left source.old ≡ Some all → length all ≤ stream_limit
         → ¬ Rose (S.faults source.old) (S.faults source.new) →
         ¬ Rose (K.faults sink.old) (K.faults sink.new)
-        → (result ≡ Status.Done) ⊎ (result ≡ Status.Refused) ⊎ (result ≡ Status.NoMemory) }
+        → ServesOrRefuses result }
     ensures source_count { S.faults source.old ≤ S.faults source.new }
     ensures sink_count { K.faults sink.old ≤ K.faults sink.new }
 {
@@ -207,11 +203,8 @@ pub fn market<R: Threads + Wait + Sync, S: Source, K: Sink, G: Gate>(
     gate: &G,
 ) -> Status
     // Done, Invalid, Usage, TooLong and Refused come only where their causes stand, and their texts are appended, whole.
-    ensures written { result ≢ Status.ReadFault → result ≢ Status.WriteFault →
-        result ≢ Status.NoMemory → (text : List ℕ)
-        × IsDue (command (map string_bytes arguments.now)) (S.left source.old)
-        (S.left source.new) result text
-        × Appends (K.held sink.old) (K.held sink.new) text }
+    ensures written { WroteItsText (command (map string_bytes arguments.now))
+        (S.left source.old) (S.left source.new) (K.held sink.old) (K.held sink.new) result }
 
     // The headline: a text that is written with Done tells the market, by what the arguments ask, and one that is written
     // with Invalid refutes the trace. It does not say that a run ends, how long it takes, or how much memory.
@@ -237,10 +230,8 @@ pub fn market<R: Threads + Wait + Sync, S: Source, K: Sink, G: Gate>(
         → sink.new ≡ sink.old }
     ensures cut_short { command (map string_bytes arguments.now) ≢ Some Command.Serve →
         result ≡ Status.WriteFault
-        → (due : Status) × ((text : List ℕ)
-        × IsDue (command (map string_bytes arguments.now)) (S.left source.old)
-        (S.left source.new) due text
-        × WrotePrefix (K.held sink.old) (K.held sink.new) text) }
+        → WrotePartOfDue (command (map string_bytes arguments.now)) (S.left source.old)
+        (S.left source.new) (K.held sink.old) (K.held sink.new) }
     ensures no_memory { command (map string_bytes arguments.now) ≢ Some Command.Serve →
         result ≡ Status.NoMemory
         → sink.new ≡ sink.old }
@@ -253,16 +244,15 @@ pub fn market<R: Threads + Wait + Sync, S: Source, K: Sink, G: Gate>(
     // Where the cause of Usage, TooLong, Refused or Invalid stands, and the source tells what it has, this is the answer, or a
     // fault or an allocation failure.
     ensures only_usage { command (map string_bytes arguments.now) ≡ None
-        → (result ≡ Status.Usage) ⊎ (result ≡ Status.WriteFault) }
+        → EndsUnlessUnwritten Status.Usage result }
     ensures took_more { (asked : FileCommand) → command (map string_bytes arguments.now)
         ≡ Some (Command.File asked)
         → input_limit asked < length (taken_bytes (S.left source.old) (S.left source.new))
-        → (result ≡ Status.TooLong) ⊎ (result ≡ Status.WriteFault) ⊎ (result ≡ Status.NoMemory) }
+        → EndsUnlessCutShort Status.TooLong result }
     ensures answer { (asked : FileCommand) → command (map string_bytes arguments.now)
         ≡ Some (Command.File asked)
         → IfSome (S.left source.old) (λ input. (status : Status) → HasStatus asked input status →
-        (result ≡ status)
-        ⊎ (result ≡ Status.ReadFault) ⊎ (result ≡ Status.WriteFault) ⊎ (result ≡ Status.NoMemory)) }
+        EndsUnlessFailed status result) }
     ensures exact_refused { (asked : FileCommand) (input before : List ℕ) (r : Refusal)
         → command (map string_bytes arguments.now) ≡ Some (Command.File asked)
         → length input ≤ input_limit asked → IsRefusalOf asked input r
@@ -285,11 +275,11 @@ pub fn market<R: Threads + Wait + Sync, S: Source, K: Sink, G: Gate>(
         → IfSome (S.left source.old) (λ input. (status : Status) → HasStatus asked input status
         → ¬ Rose (S.faults source.old) (S.faults source.new)
         → ¬ Rose (K.faults sink.old) (K.faults sink.new)
-        → (result ≡ Status.NoMemory) ⊎ (result ≡ status)) }
+        → EndsUnlessNoMemory status result) }
     ensures complete_demo { (size number : ℕ)
         → command (map string_bytes arguments.now) ≡ Some (Command.Demo size number)
         → ¬ Rose (K.faults sink.old) (K.faults sink.new)
-        → (result ≡ Status.NoMemory) ⊎ (result ≡ Status.Done) }
+        → EndsUnlessNoMemory Status.Done result }
 
     // A service ends as its status says; which status that is follows from what the source has, but for a failure.
     ensures served { command (map string_bytes arguments.now) ≡ Some Command.Serve
@@ -298,27 +288,25 @@ pub fn market<R: Threads + Wait + Sync, S: Source, K: Sink, G: Gate>(
     ensures serve_bad_frame { command (map string_bytes arguments.now) ≡ Some Command.Serve
         → (all : List ℕ) (offset : ℕ) → S.left source.old ≡ Some all
         → HasBadFrame (taken_bytes (S.left source.old) (S.left source.new)) offset
-        → (result ≡ Status.Refused) ⊎ (result ≡ Status.WriteFault) ⊎ (result ≡ Status.NoMemory) }
+        → EndsUnlessCutShort Status.Refused result }
     ensures serve_took_more { command (map string_bytes arguments.now) ≡ Some Command.Serve
         → (all : List ℕ) → S.left source.old ≡ Some all
         → stream_limit < length (taken_bytes (S.left source.old) (S.left source.new))
         → ((offset : ℕ) → ¬ HasBadFrame (taken_bytes (S.left source.old) (S.left source.new))
         offset)
-        → (result ≡ Status.TooLong) ⊎ (result ≡ Status.WriteFault) ⊎ (result ≡ Status.NoMemory) }
+        → EndsUnlessCutShort Status.TooLong result }
     ensures serve_frames { command (map string_bytes arguments.now) ≡ Some Command.Serve
         → (all : List ℕ) (frames : List Frame) → S.left source.old ≡ Some all →
         length all ≤ stream_limit
-        → AreFrames all frames → (result ≡ Status.Done)
-        ⊎ (result ≡ Status.ReadFault) ⊎ (result ≡ Status.WriteFault) ⊎ (result ≡ Status.NoMemory) }
+        → AreFrames all frames → EndsUnlessFailed Status.Done result }
     ensures serve_refusal { command (map string_bytes arguments.now) ≡ Some Command.Serve
         → (all : List ℕ) (offset : ℕ) → S.left source.old ≡ Some all → length all ≤ stream_limit
-        → HasBadFrame all offset ⊎ EndsWithin all offset → (result ≡ Status.Refused)
-        ⊎ (result ≡ Status.ReadFault) ⊎ (result ≡ Status.WriteFault) ⊎ (result ≡ Status.NoMemory) }
+        → HasBadFrame all offset ⊎ EndsWithin all offset → EndsUnlessFailed Status.Refused result }
     ensures serve_complete { command (map string_bytes arguments.now) ≡ Some Command.Serve
         → (all : List ℕ) → S.left source.old ≡ Some all → length all ≤ stream_limit
         → ¬ Rose (S.faults source.old) (S.faults source.new) →
         ¬ Rose (K.faults sink.old) (K.faults sink.new)
-        → (result ≡ Status.Done) ⊎ (result ≡ Status.Refused) ⊎ (result ≡ Status.NoMemory) }
+        → ServesOrRefuses result }
     ensures source_count { S.faults source.old ≤ S.faults source.new }
     ensures sink_count { K.faults sink.old ≤ K.faults sink.new }
 {

@@ -1,24 +1,29 @@
 -- Of `plan_answer`: what it ensures.
-use Rattle.std.proofs.Common.{◌∙◌, ap, subst, sym, Err}
-use Rattle.pm_plan.specs.Causes.{cause_code}
-use Rattle.pm_plan.specs.declared.refusal.Cause.TheVariants.{BadTarget}
-use Rattle.pm_plan.specs.declared.refusal.Place.TheVariants.{Line}
-use Rattle.pm_answer.specs.Inputs.{IsRefusalOf, bad_target, refusal_at}
-use Rattle.pm_answer.specs.Answers.{IsTextOf, planned}
-use Rattle.pm_answer.proofs.Answering.{refusal_answers}
+use Rattle.std.proofs.Common.{[], refl}
+use Rattle.pm_answer.specs.declared.arguments.FileCommand.TheVariants.{Run, Trace, Bill, Free}
+use Rattle.pm_answer.proofs.Answering.{text_answers}
 use Rattle.pm_answer.proofs.answer.plan_answer.Goals as goal
 
-pub returns-in_ok-text-in-Ok : goal.returns-in_ok-text-in-Ok
-returns-in_ok-text-in-Ok g c =
-    let told = c.in_ok-text-in-Ok in
-    planned c.args.plan.now c.args.rest.now c.in-Ok.targets.items told.text.items c.requires.plan c.in-Ok.ensures.asked
-    (subst (λ targets. IsTextOf c.args.asked c.args.plan.now targets told.text.items) c.deref.ensures.value told.ensures)
+pub returns-in_ok-text-in-Run : goal.returns-in_ok-text-in-Run
+returns-in_ok-text-in-Run g c =
+    let told = c.in_ok-text-in-Run in
+    text_answers c.args.asked Run c.args.input.now c.args.rest.now c.args.plan.now [] c.done.result.status c.done.result.text.items
+    told.text.items c.in-Run.is c.requires.plan refl told.ensures c.done.ensures.status c.done.ensures.text
 
-pub returns-in-Err-Bad : goal.returns-in-Err-Bad
-returns-in-Err-Bad g c =
-    let arm = c.in-Err-Bad in
-    let bad = arm.ensures.bad arm.line (ap (λ fault. Err fault) arm.field-0-is) in
-    refusal_answers c.args.asked c.args.input.now c.at.result c.refused.result c.refused.ensures.status c.refused.ensures.text
-    (subst (IsRefusalOf c.args.asked c.args.input.now)
-    (sym (c.at.ensures ∙ ap (λ line. refusal_at (cause_code BadTarget) (Line line)) arm.line-is))
-    (bad_target c.args.plan.now c.args.rest.now arm.line bad.0 c.requires.plan bad.1))
+pub returns-in_ok-text-in-Trace : goal.returns-in_ok-text-in-Trace
+returns-in_ok-text-in-Trace g c =
+    let told = c.in_ok-text-in-Trace in
+    text_answers c.args.asked Trace c.args.input.now c.args.rest.now c.args.plan.now [] c.done-in-Trace.result.status c.done-in-Trace.result.text.items
+    told.text.items c.in-Trace.is c.requires.plan refl told.ensures c.done-in-Trace.ensures.status c.done-in-Trace.ensures.text
+
+pub returns-in_ok-text-in-Bill : goal.returns-in_ok-text-in-Bill
+returns-in_ok-text-in-Bill g c =
+    let told = c.in_ok-text-in-Bill in
+    text_answers c.args.asked Bill c.args.input.now c.args.rest.now c.args.plan.now [] c.done-in-Bill.result.status c.done-in-Bill.result.text.items
+    told.text.items c.in-Bill.is c.requires.plan refl told.ensures c.done-in-Bill.ensures.status c.done-in-Bill.ensures.text
+
+pub returns-in_ok-text-in-Free : goal.returns-in_ok-text-in-Free
+returns-in_ok-text-in-Free g c =
+    let told = c.in_ok-text-in-Free in
+    text_answers c.args.asked Free c.args.input.now c.args.rest.now c.args.plan.now [] c.done-in-Free.result.status c.done-in-Free.result.text.items
+    told.text.items c.in-Free.is c.requires.plan refl told.ensures c.done-in-Free.ensures.status c.done-in-Free.ensures.text
