@@ -175,7 +175,10 @@ def words() -> str:
     parts = []
     for path in QUOTED:
         lines = (CRATES / path).read_text().split("\n")
-        body = "\n".join(line for line in lines[1:] if not line.startswith("use ")).strip()
+        # The first lines say what the file is for.
+        while lines[0].startswith("--"):
+            del lines[0]
+        body = "\n".join(line for line in lines if not line.startswith("use ")).strip()
         indented = "\n".join(f"    {line}".rstrip() for line in body.split("\n"))
         parts.append(f"[`crates/{path}`](../crates/{path})\n\n{indented}\n")
     return "\n".join(parts)
