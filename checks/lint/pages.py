@@ -62,7 +62,7 @@ def prose_of(text: str) -> str:
     fenced, code, blank, item = False, False, True, False
     for line in re.sub(r"<!--.*?-->", lambda it: blanked(it.group()), text, flags=re.S).split("\n"):
         if FENCE.match(line):
-            fenced, line = not fenced, ""
+            fenced, line = not fenced, blanked(line)
         elif fenced or line.startswith("#"):
             line, item = blanked(line), False
         elif line.startswith("    ") and not item and (blank or code):
@@ -126,7 +126,9 @@ def path_named(page: Path, words: str) -> Path | None:
         return None
     for folder in (page.parent, TOP):
         found = (folder / words).resolve()
-        if found.exists() and found.is_relative_to(TOP) and found not in (TOP, page):
+        # What is built is there on some machines alone, so no page can link it.
+        is_built = "out" in found.parts[len(TOP.parts):]
+        if found.exists() and found.is_relative_to(TOP) and found not in (TOP, page) and not is_built:
             return found
     return None
 
