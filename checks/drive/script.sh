@@ -161,8 +161,8 @@ export -f nproc
 none="no program is proved here; ./market prove makes one in about 13 minutes"
 stale="the sources changed since they were proved; ./market prove takes at most about 13 minutes"
 other="the program is not the one that was proved; ./market prove takes at most about 13 minutes"
-first="market: this run is unproved and takes about half a minute:"
-asked="market: nothing is proved of this run; it takes about half a minute"
+first="market: this run is unproved and takes half a minute to a minute:"
+asked="market: nothing is proved of this run; it takes half a minute to a minute"
 made="proves
 market: proved: ./market now runs the proved program"
 read_fault="market: standard input could not be read: give it a file, as in ./market run < examples/village.json"
