@@ -1,11 +1,12 @@
 """Whether pictures/auction.py gives the text of each cluster file that runs, and refuses texts with a line changed, taken out
 or added, and whether pictures/draw_answers.py reads each account and each answer. They know nothing of the program, so the texts
-due are worked out a second time. Nothing is drawn."""
+due are worked out a second time. The pictures of runs are not drawn. The diagrams of the pages are drawn again (diagrams.py)."""
 
 import json
 import sys
 
 from auction import Misfit, fitting_ends
+from checks.lint import diagrams
 from checks.make.cases import DONE, bills_and_answers, examples, stored_cases
 from draw_answers import accounts_of, answers_of, curve_of
 
@@ -57,6 +58,10 @@ def main():
         passed, failed = passed + right, failed + (not right)
         if not right:
             print(f"{case.name}: the text does not fit, or a wrong one does")
+    for found in diagrams.findings():
+        for line in found:
+            print(line)
+        passed, failed = passed + (not found), failed + len(found)
     print(f"{passed} passed, {failed} failed")
     return 1 if failed else 0
 
