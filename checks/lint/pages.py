@@ -1,15 +1,16 @@
 """Whether the pages can be read: links that lead somewhere, a first page of 8 KB, short sentences, words spelt right.
 
     python3 -m checks.lint.pages                checks all pages
-    python3 -m checks.lint.pages words          prints the mean sentence of each page, the longest first
-    python3 -m checks.lint.pages long N         prints each sentence above N words, with its page
+    python3 -m checks.lint.pages words          prints the mean sentence of each page and crate, the longest first
+    python3 -m checks.lint.pages long N         prints each sentence above N words, with its page or source file
     python3 -m checks.lint.pages link PAGE ..   makes a link of each path that these pages name without one the first time
 
-A page is a file in Markdown. The check prints a line for each finding and ends with 'N passed, M failed'. It refuses
+A page is a file in Markdown. The doc comments of crates/ are read for their sentences alone. The check prints a line for each
+finding and ends with 'N passed, M failed'. It refuses
 
 - a link inside the repository to a file that is not there, or to a heading that its page has not;
 - a README above 8 KB;
-- a mean above 17 words a sentence, over the README and the pages of docs/;
+- a mean above 17 words a sentence, over the README and the pages of docs/, and over the doc comments of all crates;
 - a path of the repository that a page names and does not link the first time. Headings, code blocks and what a command is
   given are left out;
 - a report that a page quotes and that is no part of the text of an example;
@@ -24,6 +25,7 @@ from collections.abc import Callable, Iterator
 from pathlib import Path
 
 from checks import TOP
+from checks.lint.prose import CODE, FENCE, LINK, blanked, comments_of, length_of, lengths_of, prose_of, sentences_of
 
 README_LIMIT = 8192
 MEAN_LIMIT = 17.0
@@ -34,10 +36,7 @@ OTHERS = {"out", "build", "__pycache__"}
 # Words of the field and of the tools that codespell may take for slips.
 IGNORED_WORDS = "antt,crate,crates,kok,omega,setpoint,setpoints"
 
-LINK = re.compile(r"!?\[((?:[^\[\]]|\[[^\]]*\])*)\]\(([^()\s]+)\)")
-CODE = re.compile(r"`([^`\n]+)`")
 PATH = re.compile(r"(?<![\w/.@:-])(?:\.{0,2}/)?[\w.@-]+(?:/[\w.@-]+)*/?(?![\w@-])")
-FENCE = re.compile(r"^ *(```|~~~)")
 REPORT = re.compile(r" {4,}((?:phase \d|member [\w-]+ power -?\d|limited [\w-]+ price -?\d|end phases \d).*)")
 
 
@@ -54,32 +53,6 @@ def pages() -> list[Path]:
 def name_of(page: Path) -> str:
     """A page as it is named from the top."""
     return str(page.relative_to(TOP))
-
-
-def prose_of(text: str) -> str:
-    """The text with code blocks, comments and headings blanked out, so that all places stay where they are."""
-    kept: list[str] = []
-    fenced, code, blank, item = False, False, True, False
-    for line in re.sub(r"<!--.*?-->", lambda it: blanked(it.group()), text, flags=re.S).split("\n"):
-        if FENCE.match(line):
-            fenced, line = not fenced, blanked(line)
-        elif fenced or line.startswith("#"):
-            line, item = blanked(line), False
-        elif line.startswith("    ") and not item and (blank or code):
-            code = True
-            kept.append(blanked(line))
-            continue
-        code = code and not line.strip()
-        # What is indented below an item of a list belongs to it.
-        item = bool(re.match(r" *([-*]|\d+\.) ", line)) or (item and (line.startswith("  ") or not line.strip()))
-        blank = not line.strip()
-        kept.append(line)
-    return "\n".join(kept)
-
-
-def blanked(text: str) -> str:
-    """As many blanks, and the same lines."""
-    return re.sub(r"[^\n]", " ", text)
 
 
 def anchors_of(page: Path) -> set[str]:
@@ -113,11 +86,11 @@ def dead_links(page: Path) -> Iterator[str]:
             continue
         target, anchor = target_of(page, link), link.partition("#")[2]
         if not target.exists():
-            yield f"{name_of(page)}: the link {link} leads to no file"
+            yield f"{name_of(page)}: the link {link} leads to no file: correct it"
         elif not target.is_relative_to(TOP):
-            yield f"{name_of(page)}: the link {link} leads out of the repository"
+            yield f"{name_of(page)}: the link {link} leads out of the repository: name what is in it"
         elif anchor and (target.suffix != ".md" or anchor not in anchors_of(target)):
-            yield f"{name_of(page)}: the link {link} leads to no heading of {name_of(target)}"
+            yield f"{name_of(page)}: the link {link} leads to no heading of {name_of(target)}: correct it"
 
 
 def path_named(page: Path, words: str) -> Path | None:
@@ -171,7 +144,8 @@ def paths_without_a_link(page: Path) -> Iterator[str]:
     """A line for each path that a page names for the first time without a link."""
     text = page.read_text()
     for start, end, _ in unlinked(page):
-        yield f"{name_of(page)}:{text.count(chr(10), 0, start) + 1}: {text[start:end]} is no link the first time"
+        place = f"{name_of(page)}:{text.count(chr(10), 0, start) + 1}"
+        yield f"{place}: {text[start:end]} is no link the first time: checks/run pages link {name_of(page)} makes it one"
 
 
 def reports_of_no_example(page: Path) -> Iterator[str]:
@@ -208,52 +182,40 @@ def make_links(chosen: list[Path]) -> int:
     return 0
 
 
-def blocks_of(page: Path) -> Iterator[str]:
-    """The paragraphs and items of a page, without tables, pictures and code blocks."""
-    block: list[str] = []
-    for line in [*prose_of(page.read_text()).split("\n"), ""]:
-        line = line.lstrip("> ") if line.startswith(">") else line
-        begins = re.match(r" *([-*]|\d+\.) (?:\[[ x]\] )?", line)
-        if (not line.strip() or begins or line.startswith("|")) and block:
-            yield " ".join(block)
-            block = []
-        if line.strip() and not line.startswith("|") and not line.startswith("!["):
-            block.append(line[begins.end() :] if begins else line.strip())
-
-
-def sentences_of(page: Path) -> Iterator[str]:
-    """The sentences of a page. A piece of code is one word, and the full stop behind an initial ends none."""
-    for block in blocks_of(page):
-        words = CODE.sub("code", LINK.sub(r"\1", block))
-        words = re.sub(r"\*\*?|\.{2,}", "", words)
-        for sentence in re.split(r"(?:(?<![A-Z])|(?<=\d [A-Z]))[.?!][)\"*]*(?=\s|$)", words):
-            if re.search(r"\w", sentence):
-                yield sentence.strip()
-
-
-def lengths_of(page: Path) -> list[int]:
-    """The words of each sentence of a page."""
-    return [len(re.findall(r"[^\s]*\w[^\s]*", it)) for it in sentences_of(page)]
-
-
 def read_first() -> list[Path]:
     """The pages whose sentences are measured: the README and those of docs/."""
     return [it for it in pages() if it == TOP / "README.md" or it.is_relative_to(TOP / "docs")]
 
 
+def sources() -> list[Path]:
+    """The source files of all crates, whose doc comments are measured."""
+    return sorted((TOP / "crates").glob("*/src/**/*.rt"))
+
+
+def text_of(path: Path) -> str:
+    """The prose of a page, or of the doc comments of a source file."""
+    return comments_of(path.read_text()) if path.suffix == ".rt" else path.read_text()
+
+
+def mean_of(paths: list[Path]) -> tuple[float, int]:
+    """The mean sentence of these pages or sources in words, and how many sentences they have."""
+    lengths = [it for path in paths for it in lengths_of(text_of(path))]
+    return sum(lengths) / len(lengths), len(lengths)
+
+
 def long_sentences() -> Iterator[str]:
-    """A line if the mean sentence is too long."""
-    lengths = [it for page in read_first() for it in lengths_of(page)]
-    mean = sum(lengths) / len(lengths)
-    if mean > MEAN_LIMIT:
-        yield f"the mean sentence of the README and docs/ has {mean:.1f} words, above {MEAN_LIMIT:.0f}: words lists the pages"
+    """A line if the mean sentence of the pages is too long, and one if that of the doc comments is."""
+    for what, paths in (("the README and docs/", read_first()), ("the doc comments of crates/", sources())):
+        mean, _ = mean_of(paths)
+        if mean > MEAN_LIMIT:
+            yield f"the mean sentence of {what} has {mean:.1f} words, above {MEAN_LIMIT:.0f}: checks/run pages long 25 lists what to split"
 
 
 def long_readme() -> Iterator[str]:
     """A line if the README is too long."""
     size = (TOP / "README.md").stat().st_size
     if size > README_LIMIT:
-        yield f"README.md has {size:,} bytes, above {README_LIMIT:,}"
+        yield f"README.md has {size:,} bytes, above {README_LIMIT:,}: move a part to docs/"
 
 
 def misspellings() -> Iterator[str]:
@@ -265,22 +227,34 @@ def misspellings() -> Iterator[str]:
         yield f"codespell ended with status {told.returncode}: {told.stderr.strip()}"
 
 
+def rows_of_means() -> Iterator[tuple[float, int, str]]:
+    """The mean sentence of each page and of each crate's doc comments, with the number of sentences and the name."""
+    for page in pages():
+        if lengths_of(text_of(page)):
+            yield *mean_of([page]), name_of(page)
+    crates = sorted({it.relative_to(TOP).parts[1] for it in sources()})
+    for crate in crates:
+        paths = [it for it in sources() if it.relative_to(TOP).parts[1] == crate]
+        if any(lengths_of(text_of(it)) for it in paths):
+            yield *mean_of(paths), f"crates/{crate}/src"
+
+
 def print_means() -> int:
-    """Prints the mean sentence of each page, and of those that are measured."""
-    rows = [(sum(it) / len(it), len(it), name_of(page)) for page in pages() if (it := lengths_of(page))]
-    for mean, count, name in sorted(rows, reverse=True):
+    """Prints the mean sentence of each page and of each crate's doc comments, and of those that are measured together."""
+    for mean, count, name in sorted(rows_of_means(), reverse=True):
         print(f"{mean:6.1f} words in {count:4} sentences  {name}")
-    lengths = [it for page in read_first() for it in lengths_of(page)]
-    print(f"{sum(lengths) / len(lengths):6.1f} words in {len(lengths):4} sentences  README.md and docs/")
+    for what, paths in (("README.md and docs/", read_first()), ("doc comments", sources())):
+        mean, count = mean_of(paths)
+        print(f"{mean:6.1f} words in {count:4} sentences  {what}")
     return 0
 
 
 def print_long(limit: int) -> int:
-    """Prints each sentence above so many words."""
-    for page in pages():
-        for sentence, length in zip(sentences_of(page), lengths_of(page)):
-            if length > limit:
-                print(f"{name_of(page)}: {length}: {sentence}")
+    """Prints each sentence above so many words, of the pages and then of the doc comments."""
+    for path in [*pages(), *sources()]:
+        for sentence in sentences_of(text_of(path)):
+            if length_of(sentence) > limit:
+                print(f"{name_of(path)}: {length_of(sentence)}: {sentence}")
     return 0
 
 
@@ -294,6 +268,9 @@ def check() -> int:
         checks.append(misspellings)
     else:
         print("skipped: the spelling of the pages: there is no codespell (Debian: codespell)")
+    for what, paths in (("README.md and docs/", read_first()), ("doc comments", sources())):
+        mean, count = mean_of(paths)
+        print(f"mean sentence of {what}: {mean:.1f} words in {count} sentences")
     passed, failed = 0, 0
     for it in checks:
         findings = list(it())
