@@ -13,7 +13,7 @@ text, and one after them the counts. On the largest files only the times of `mar
 and of the demo cluster also that of `market ask` with many targets; further that of `market check` on a trace of one of the
 largest files and, beside the plain judge, on the long trace, of `market serve` beside its plain program on the stream, and of
 messages over one link without a lock and with locks.
-The status is 1 where a text differs or a run fails or hangs, else 2 where a goal is missed, else 0.
+The status is 1 if a text differs or a run fails or hangs, else 2 if a goal is missed, else 0.
 """
 
 import glob
@@ -113,7 +113,7 @@ def peak(command, path):
 
 
 def compare_texts(texts):
-    """Fails where a text is not the one due: the report is the same, and the other ways tell the lines of its phases."""
+    """Fails if a text is not the one due: the report is the same, and the other ways tell the lines of its phases."""
     if PLAIN in texts and texts[PLAIN] != texts[MARKET]:
         raise Failed(f"the texts of {MARKET} and {PLAIN} differ")
     phases = b"".join(line for line in texts[MARKET].splitlines(True) if line.startswith(b"phase "))
@@ -133,14 +133,14 @@ def runs_of(ways, runs, path):
 
 
 def quotient(over, under):
-    """A ratio of seconds or of megabytes; None where less than a millisecond, or its like, would divide."""
+    """A ratio of seconds or of megabytes; None if less than a millisecond, or its like, would divide."""
     return over / under if under >= 0.001 else None
 
 
 def beside(ratio, goal):
     """A ratio beside its goal, and whether the goal is missed; there may be no goal, and no ratio, which misses none."""
     if ratio is None:
-        return "none, as too little would divide", False
+        return "no ratio, since the divisor is too small", False
     if goal is None:
         return f"{ratio:.2f}", False
     missed = ratio > goal
@@ -175,7 +175,7 @@ def moves_of(trace):
     """How many moves a run made, which the last line of its trace tells."""
     last = trace.rstrip(b"\n").rpartition(b"\n")[2].split()
     if len(last) != 2 or last[0] != b"moves":
-        raise Failed("the trace does not end with the number of moves")
+        raise Failed("the trace does not end with a line of the number of its moves")
     return int(last[1])
 
 
@@ -183,10 +183,10 @@ def counted(command, counter, path, due):
     """What the counter counts in a run, which must write the text due."""
     with tempfile.NamedTemporaryFile("r") as told:
         if text_of(command, path, {"LD_PRELOAD": counter, "COUNTS": told.name}) != due:
-            raise Failed("the text differs where a run is counted")
+            raise Failed("the text of a counted run differs from that of run")
         lines = [line.rsplit(" ", 1) for line in told.read().splitlines()]
     if not lines:
-        raise Failed("the counter tells nothing")
+        raise Failed("bench/count.c told no counts")
     return ", ".join(f"{what} {int(number):,}" for what, number in lines)
 
 
@@ -277,7 +277,7 @@ def measured_trace(market, runs, folder, path):
         file = source.read()
         envelope.write(b"%d\n" % len(file) + file + trace)
     if text_of([market, "check"], judged) != b"valid moves %d\n" % moves:
-        raise Failed("its trace is not found valid")
+        raise Failed("market check does not find its trace valid")
     seconds = least_seconds([market, "check"], judged, runs)
     line = f"{name_of(path)}: a trace of {moves:,} moves and {len(trace):,} bytes judged in {seconds:.3f} s, "
     return [line + f"{moves / seconds:,.0f} moves a second"], False
@@ -291,7 +291,7 @@ def measured_judge(market, measure, path):
     megabytes, verdict = peak(ways[check], path)
     counted_moves = text_of(ways[judge], path)
     if verdict != b"valid " + counted_moves:
-        raise Failed("the judges do not count the same moves")
+        raise Failed("market check and measure judge do not count the same moves")
     moves, size = moves_of(counted_moves), os.path.getsize(path)
     taken = runs_of(ways, LONG_RUNS, path)
     least = {way: min(it.seconds for it in taken[way]) for way in ways}
@@ -319,7 +319,7 @@ def measured_stream(market, plain, runs, path):
     ways = {"market serve": [market, "serve"]} | ({"plain serve": [plain]} if plain else {})
     texts = {way: text_of(command, path) for way, command in ways.items()}
     if len(set(texts.values())) > 1:
-        raise Failed("the answers differ")
+        raise Failed("the answers of market serve and of the plain program differ")
     times = ", ".join(f"{way} {least_seconds(command, path, runs):.3f} s" for way, command in ways.items())
     return [f"{name_of(path)}: {times}, {os.path.getsize(path):,} bytes read, {len(texts['market serve']):,} bytes written"], False
 

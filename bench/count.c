@@ -52,7 +52,7 @@ static long (*real_syscall)(long, ...);
 static int (*real_yield)(void);
 static int (*real_create)(pthread_t *, const pthread_attr_t *, void *(*)(void *), void *);
 
-// The place of a word; none where there is no more room.
+// The place of a word; no place if there is no more room.
 static Place *place_of(uint64_t *word) {
     uintptr_t first = ((uintptr_t)word >> 3) % PLACES;
     for (uintptr_t step = 0; step < PLACES; step++) {
@@ -146,7 +146,7 @@ static uint8_t *copies;
 static size_t copied, room;
 
 // The length of `lock cmpxchg %register, memory` with 64 bits, whose first five bytes are the two prefixes, the two of the
-// operation and the one that names the operands; 0 where this is no such instruction, or its place is told from its end.
+// operation and the one that names the operands; 0 if this is no such instruction, or its place is told from its end.
 static size_t length_of(const uint8_t *code) {
     if (code[0] != 0xf0 || (code[1] & 0xf8) != 0x48 || code[2] != 0x0f || code[3] != 0xb1) {
         return 0;
@@ -167,7 +167,7 @@ static void put_jump(uint8_t *from, const uint8_t *to) {
 }
 
 // Replaces an instruction by a jump to a copy: where it would move a word from 0 to 1 the first word of the copies rises.
-// The instruction sets all flags anew, so the tests before it lose none.
+// The instruction sets all flags anew, so the tests before it lose nothing.
 static void replace(uint8_t *code, size_t length) {
     uint8_t *copy = copies + 64 + COPY_BYTES * copied++;
     int new_value = (code[4] >> 3 & 7) + (code[1] & 4 ? 8 : 0);

@@ -47,7 +47,7 @@ def descendants(found, root):
 
 
 def work_of(number):
-    """The crate and the kind that a process of the prover works at; none of another process."""
+    """The crate and the kind that a process of the prover works at; nothing for another process."""
     try:
         words = Path(f"/proc/{number}/cmdline").read_bytes().split(b"\0")
         folder = os.readlink(f"/proc/{number}/cwd")

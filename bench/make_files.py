@@ -11,7 +11,7 @@ LIMIT = 4_194_304
 
 
 def concentrators(count, limited):
-    """Concentrators c1, c2, .. under the auctioneer; where asked for, all of them limited."""
+    """Concentrators c1, c2, .. under the auctioneer; if asked for, all of them limited."""
     for i in range(1, count + 1):
         node = {"name": f"c{i}", "kind": "concentrator", "parent": "auctioneer"}
         if limited:
@@ -26,7 +26,7 @@ def chain(count):
 
 
 def devices(count, parents):
-    """Devices of all kinds that tick, dealt out to the concentrators; with none, all under the auctioneer."""
+    """Devices of all kinds that tick, dealt out to the concentrators; without any, all under the auctioneer."""
     for i in range(1, count + 1):
         node = {"name": f"d{i}", "parent": f"c{1 + i % parents}" if parents else "auctioneer"}
         if i % 4 == 0:

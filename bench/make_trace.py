@@ -68,7 +68,7 @@ class Star:
         return -value if device % 2 else value
 
     def step(self, fixed):
-        """The step that clears, where the devices that do not bend take so much."""
+        """The step that clears if the devices that do not bend take so much."""
         return min(bisect_left(self.given, fixed), STEPS - 1)
 
 

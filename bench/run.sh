@@ -1,18 +1,22 @@
 #!/usr/bin/env bash
-# Makes cluster files and measures on them the ways to run a cluster (compare.py): `market run`, the ways of `measure`,
-# where there is `rustc` the plain program of `bench/plain`, and where there is `gcc` counts of what `market run` does; and
-# further `market ask` on many targets, `market check` on a trace and on one of 4,000,000 moves (make_trace.py), there beside
-# `measure judge`, messages over one link by `measure link`, and `market serve` on a stream of bids of 407 MB, where there is
-# `rustc` beside the plain program of `bench/plain_serve`.
+# Makes cluster files and measures on them the ways to run a cluster (compare.py): `market run`, the ways of `measure`, and the
+# plain program of `bench/plain`. It also counts what `market run` does. Further it measures
+#
+#   - `market ask` on many targets;
+#   - `market check` on a trace and on one of 4,000,000 moves (make_trace.py), the latter beside `measure judge`;
+#   - messages over one link by `measure link`;
+#   - `market serve` on a stream of bids of 407 MB, beside the plain program of `bench/plain_serve`.
+#
+# Without `rustc` the plain programs are left out, and without `gcc` the counts.
 #
 #     bench/run.sh [RUNS]
 #
-# Each figure is the least of RUNS runs, 7 where none is named. The status is 1 where a run fails or hangs or a text
-# differs, 2 where a goal is missed.
+# Each figure is the least of RUNS runs, 7 if no number is given. The status is 1 if a run fails or hangs or a text
+# differs, 2 if a goal is missed.
 here="$(cd "$(dirname "$0")" && pwd)" || exit 1
 cd "$here/.." || exit 1
 
-# Proves and builds a program where it is not built yet, or a source file is newer.
+# Proves and builds a program if it is not built yet, or a source file is newer.
 build() {
     program="crates/$1/out/$1"
     if [ -x "$program" ] && [ -z "$(find crates.txt crates/*/src crates/*/specs crates/*/proofs -newer "$program" -print -quit 2> /dev/null)" ]; then
@@ -23,12 +27,12 @@ build() {
     [ -x "$program" ] || { cat "$folder/log" >&2; return 1; }
 }
 
-# Builds a file with a compiler, and prints the file's path; where there is no such compiler, `-`.
+# Builds a file with a compiler, and prints the file's path; if there is no such compiler, `-`.
 build_with() {
     compiler="$1" target="$2"
     shift 2
     if ! command -v "$compiler" > /dev/null; then
-        echo "there is no $compiler: what it builds is left out" >&2
+        echo "there is no $compiler: what it builds is left out; install it to measure that too" >&2
         echo -
     elif "$compiler" "$@" -o "$target" >&2; then
         echo "$target"

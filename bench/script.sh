@@ -3,7 +3,7 @@
 #
 #     bench/script.sh [ARGUMENTS]
 #
-# The arguments are those of the program, `demo 1 1` where none are named. It needs the proved program (./market prove).
+# The arguments are those of the program, `demo 1 1` if there are none. It needs the proved program (./market prove).
 cd "$(dirname "$0")/.." || exit 1
 top="$PWD"
 . script/program.sh

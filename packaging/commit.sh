@@ -1,9 +1,9 @@
 #!/usr/bin/env bash
-# Prints the commit of these sources: of a clone by git, with `-modified` behind it where files were changed; of a release by the
+# Prints the commit of these sources: of a clone by git, with `-modified` behind it if files were changed; of a release by the
 # file COMMIT, which git archive filled in.
 cd "$(dirname "$0")/.." || exit 1
 
-# Also where another user than the owner of the clone installs, as root does.
+# Also if another user than the owner of the clone installs, as root does.
 ask_git() {
     git -c safe.directory="$PWD" "$@" 2>/dev/null
 }

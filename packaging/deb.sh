@@ -7,7 +7,7 @@ cd "$(dirname "$0")/.."
 umask 022
 for tool in dpkg-deb dpkg-shlibdeps strip; do
     if ! command -v "$tool" >/dev/null; then
-        echo "make: $tool is missing: kit.txt names the packages" >&2
+        echo "make: there is no $tool: install the packages that kit.txt names" >&2
         exit 1
     fi
 done
@@ -20,7 +20,7 @@ docs="$root/usr/share/doc/market"
 # The day of the release stands in the changelog's heading.
 day="$(awk -v head="## [$version] - " 'index($0, head) == 1 { print substr($0, length(head) + 1) }' CHANGELOG.md)"
 if [ -z "$day" ]; then
-    echo "make: CHANGELOG.md has no heading for $version with its day" >&2
+    echo "make: CHANGELOG.md has no heading '## [$version] - YEAR-MONTH-DAY': add it, as CITATION.cff has the day" >&2
     exit 1
 fi
 SOURCE_DATE_EPOCH="$(date -u -d "$day" +%s)"

@@ -5,14 +5,14 @@
 set -euo pipefail
 cd "$(dirname "$0")/.."
 if ! git rev-parse --verify --quiet HEAD >/dev/null 2>&1 || ! [ -e .git ]; then
-    echo "make: a release is packed from a clone, and these sources are none" >&2
+    echo "make: a release is packed from a clone by git, and there is no commit here: clone the repository first" >&2
     exit 1
 fi
 if [ -n "$(git status --porcelain)" ]; then
-    echo "make: what is not committed is left out: see git status" >&2
+    echo "make: what is not committed is left out: git status lists it" >&2
 fi
 if [ "$(git show HEAD:VERSION)" != "$(cat VERSION)" ]; then
-    echo "make: VERSION is not committed as it is" >&2
+    echo "make: VERSION was changed and not committed: commit it first" >&2
     exit 1
 fi
 mkdir -p "$(dirname "$1")"

@@ -19,7 +19,7 @@ require_places() {
     local place
     for place in "${places[@]}"; do
         if ! [[ "${!place-}" =~ ^/[A-Za-z0-9_./+,~-]*$ ]]; then
-            say "$place is '${!place-}': it has to be a whole path of letters, digits and _ . / + , ~ -"
+            say "$place is '${!place-}': give a whole path of letters, digits and _ . / + , ~ -"
             exit 1
         fi
     done
@@ -67,7 +67,7 @@ install_file() {
             awk -f packaging/page.awk "$source" >"$text"
             ;;
         *)
-            say "packaging/files.txt: no way to install is called $how"
+            say "packaging/files.txt has '$how' as a way to install: write copy, fill or page"
             exit 1
             ;;
     esac
@@ -103,7 +103,7 @@ remove_files() {
     done <"$work/remove"
 }
 
-# Leaves the list of what was made, also where an install ended half-way.
+# Leaves the list of what was made, also if an install ended half-way.
 finish() {
     if [ -s "$made" ] && [ -d "$DESTDIR${list%/*}" ]; then
         install -m 644 "$made" "$DESTDIR$list"
@@ -131,13 +131,13 @@ case "${1-}" in
         ;;
     uninstall)
         if ! [ -f "$DESTDIR$list" ]; then
-            say "nothing is installed there: $DESTDIR$list is missing"
+            say "nothing is installed there: $DESTDIR$list is missing; give the PREFIX and the DESTDIR of the install"
             exit 1
         fi
         remove_files
         ;;
     *)
-        say "packaging/install.sh is called with install or uninstall"
+        say "packaging/install.sh takes one argument: install or uninstall"
         exit 2
         ;;
 esac

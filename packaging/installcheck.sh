@@ -4,11 +4,11 @@
 cd "$(dirname "$0")/.." || exit 1
 program="$DESTDIR$bindir/market"
 if ! [ -x "$program" ]; then
-    echo "make: nothing is installed there: $program is missing" >&2
+    echo "make: nothing is installed there: $program is missing; give the PREFIX and the DESTDIR of the install" >&2
     exit 1
 fi
 if ! "$program" run <examples/village.json | cmp - examples/village.txt; then
-    echo "make: $program does not give the text of the village" >&2
+    echo "make: $program does not give the text of examples/village.txt: install it again" >&2
     exit 1
 fi
 echo "$program gives the text of the village"

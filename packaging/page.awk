@@ -93,7 +93,7 @@ function relinked(line,    done, before, target, at) {
         for (at = length(before); at > 0 && substr(before, at, 1) != "["; at--)
             ;
         if (at == 0)
-            fail("a link that does not begin on its line")
+            fail("a link goes over the end of a line: put it on one line")
         done = done substr(before, 1, at - 1) substr(before, at + 1)
     }
     return done line
@@ -108,7 +108,7 @@ BEGIN {
 
 /^(\.\\"|<!--) (repository|installed|end)( -->)?$/ {
     if (($2 == "end") == (part == "both"))
-        fail("a mark " $2 " that cannot stand here")
+        fail("the mark " $2 " is out of place: each repository and each installed needs an end behind it")
     part = $2 == "end" ? "both" : $2
     next
 }
@@ -135,4 +135,4 @@ part == "installed" { sub(/^\.\\"\+ ?/, "") }
         line = swap(line, " market ", " \"market " ENVIRON["version"] "\" ")
     print line
 }
-END { if (!failed && part != "both") { print FILENAME ": a mark has no end" > "/dev/stderr"; exit 1 } }
+END { if (!failed && part != "both") { print FILENAME ": the last mark has no end: add one" > "/dev/stderr"; exit 1 } }

@@ -67,7 +67,7 @@ def say(text: str) -> None:
 
 
 def load_kit() -> Any | None:
-    """The kit's `rt` as a module; none if it lacks a call that this script makes."""
+    """The kit's `rt` as a module; nothing if it lacks a call that this script makes."""
     found = shutil.which("rt")
     if found is None:
         return None

@@ -53,7 +53,7 @@ struct Link {
     price: Option<Price>,
 }
 
-/// What a concentrator sent under a number: the heads of its children, and where it is limited the sum of their bids.
+/// What a concentrator sent under a number: the heads of its children, and if it is limited the sum of their bids.
 struct Record {
     heads: Vec<Head>,
     sum: Vec<i64>,
@@ -130,7 +130,7 @@ impl Parent {
 }
 
 impl Device {
-    /// The price that it holds: none of a former membership.
+    /// The price that it holds: no price of a former membership.
     fn held(&self) -> Option<Price> {
         self.given
             .filter(|price| self.member && price.number >= self.joined)
@@ -285,7 +285,7 @@ impl<'p> Cluster<'p> {
         }
     }
 
-    /// A concentrator publishes, where it has something to send and room for its record.
+    /// A concentrator publishes if it has something to send and room for its record.
     fn publish(&mut self, node: usize) {
         let Some(parent) = &mut self.parents[node] else {
             return;
@@ -322,7 +322,7 @@ impl<'p> Cluster<'p> {
         );
     }
 
-    /// A parent learns the bid of a child, where one waits.
+    /// A parent learns the bid of a child if one waits.
     fn learn(&mut self, child: usize) {
         let node = &self.plan.nodes[child];
         let link = &mut self.links[child];
@@ -338,7 +338,7 @@ impl<'p> Cluster<'p> {
         );
     }
 
-    /// The auctioneer clears, where it has something to clear: at the first step where the sum is not positive.
+    /// The auctioneer clears if it has something to clear: at the first step at which the sum is not positive.
     fn clear(&mut self) {
         let parent = self.parents[0].as_mut().unwrap();
         if !parent.changed {

@@ -83,7 +83,7 @@ impl Reader<'_> {
         self.bytes.get(self.at).copied()
     }
 
-    /// Takes the byte where it is the next one.
+    /// Takes the byte if it is the next one.
     fn take(&mut self, byte: u8) -> bool {
         let is_next = self.peek() == Some(byte);
         self.at += is_next as usize;

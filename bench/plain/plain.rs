@@ -2,8 +2,8 @@
 //!
 //! It reads a cluster file from standard input, runs its market by messages up and down the tree, keeps the journal of the
 //! moves in memory, and prints the report, all as `market run` does. With the word `read` it stops once the plan is made.
-//! It is written as one writes such a program at once: running sums, and no allocation in a move. The status is 0 where the
-//! text was written, and 1 where the file is refused; of refusals it tells no more.
+//! It is written as one writes such a program at once: running sums, and no allocation in a move. The status is 0 if the
+//! text was written, and 1 if the file is refused; of refusals it tells no more.
 //!
 //!     rustc -O --edition 2021 bench/plain/plain.rs
 
@@ -18,7 +18,7 @@ use std::process::ExitCode;
 
 const LIMIT: u64 = 4_194_304;
 
-/// The text of a cluster file; none where the file is refused.
+/// The text of a cluster file; no text if the file is refused.
 fn text_of(bytes: Vec<u8>, only_read: bool) -> Option<String> {
     let text = String::from_utf8(bytes)
         .ok()

@@ -28,7 +28,7 @@ pub struct Node {
 }
 
 pub enum Part {
-    /// The auctioneer or a concentrator, with the floor and the ceiling where there are some.
+    /// The auctioneer or a concentrator, with its floor and ceiling if it has them.
     Parent {
         limits: Option<(i64, i64)>,
     },
@@ -76,7 +76,7 @@ impl Plan {
     }
 }
 
-/// The plan of a cluster file; none where the file is refused.
+/// The plan of a cluster file; no plan if the file is refused.
 pub fn read(text: &str) -> Option<Plan> {
     let file = parse(text)?;
     require(file.has_exactly(&["version", "basis", "nodes", "phases"]))?;

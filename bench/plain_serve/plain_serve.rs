@@ -26,7 +26,7 @@ enum Frame {
     Clear,
 }
 
-/// A frame that is none: the stream has no answers from here on.
+/// Bytes that are no frame: the stream has no answers from here on.
 struct Bad;
 
 fn u16_at(data: &[u8], at: usize) -> u16 {
@@ -41,7 +41,7 @@ fn i32_at(data: &[u8], at: usize) -> i32 {
     u32_at(data, at) as i32
 }
 
-/// The frame at the front of the data and its length; none where more bytes are needed. Steps are 0 before a hello.
+/// The frame at the front of the data and its length; no frame if more bytes are needed. Steps are 0 before a hello.
 fn frame(data: &[u8], steps: usize) -> Result<Option<(Frame, usize)>, Bad> {
     let Some(kind) = data.first() else {
         return Ok(None);
@@ -97,7 +97,7 @@ fn bid(data: &[u8], steps: usize) -> Result<Frame, Bad> {
 
 #[derive(Default)]
 struct Market {
-    /// The newest number of each child, with its bid where it has not gone.
+    /// The newest number of each child, with its bid if it has not gone.
     children: BTreeMap<u16, (u32, Option<Vec<i32>>)>,
     total: Vec<i64>,
     changed: bool,

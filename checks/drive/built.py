@@ -19,7 +19,7 @@ def ended(program, arguments, text, seconds=SECONDS):
 
 
 def sampled(things, most):
-    """So many of a list, evenly over it; all where there are no more."""
+    """So many of a list, evenly over it; all if there are no more."""
     things = list(things)
     if len(things) <= most:
         return things

@@ -1,6 +1,6 @@
 """Standard streams that fail: input that ends or fails at each byte, or comes in small pieces, and output that takes no more.
 
-Everything goes through the system's own edges. A read fails where the other end of a socket was closed with bytes unread; pieces
+Everything goes through the system's own edges. A read fails if the other end of a socket was closed with bytes unread; pieces
 of a known size come through a socket that keeps packets apart; a file takes no more at a limit of the process on its files.
 """
 

@@ -4,7 +4,7 @@ as it has to.
     python3 -m checks.drive.fuzz PROGRAM MINUTES [SEED]
 
 What is due is worked out by checks/oracle/oracle.py, so each refusal, report, bill, answer and judgement is compared byte by byte; a
-trace is judged. Of an input that is accepted the text is compared with that of a second run too. A failing input is kept in a
+trace is judged. Of an input that is accepted the text is also compared with that of a second run. A failing input is kept in a
 file that is named. The inputs follow from the seed and from the traces that the program makes, whose moves come in another
 order each time: two runs of one seed begin alike, and may part later.
 """

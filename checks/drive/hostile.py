@@ -4,7 +4,7 @@ refused, and mutated inputs.
     python3 -m checks.drive.hostile PROGRAM [all [MINUTES]]
 
 Each run has to end with the status and the text that docs/CLUSTER_FILE.md gives. Without `all` a sample is tried; with it all
-lengths, limits and schedules, and mutated inputs for so many minutes, 10 where none are named.
+lengths, limits and schedules, and mutated inputs for so many minutes, 10 if no number is given.
 """
 
 import sys

@@ -1,7 +1,7 @@
 #!/usr/bin/env bash
 # Installs the proved program into folders of its own, and looks whether what is there works without the sources, names nothing of
 # them, and is wholly removed; then the same of a release and of the Debian package. A trial whose tool is missing is skipped, and
-# the check says so. The last line is 'N passed, M failed'; the status is 1 where any failed.
+# the check says so. The last line is 'N passed, M failed'; the status is 1 if any failed.
 # shellcheck disable=SC2317 # `passes` calls the functions
 cd "$(dirname "$0")/../.." || exit 1
 top="$PWD"
@@ -9,7 +9,7 @@ passed=0
 failed=0
 version="$(cat VERSION)"
 
-# passes NAME COMMAND..: whether the command ends with status 0. What it says is shown where it does not.
+# passes NAME COMMAND..: whether the command ends with status 0. What it says is shown if it does not.
 passes() {
     local name="$1"
     shift
@@ -128,7 +128,7 @@ runs_village() {
 }
 
 # No installed file names the folder of the sources, the script, or a place that was not filled in. The words of the script are
-# those of the command too, and what they say is looked at below.
+# also those of the command, and what they say is looked at below.
 names_no_sources() {
     local found
     found="$(grep -rnIE --exclude=words.sh --exclude='*.py' '(^|[^.])\./market|crates/|@[a-z]+@' "$1")"
@@ -344,7 +344,7 @@ passes "uninstall" make_it -s uninstall PREFIX="$at"
 passes "others' files are left, and nothing else" diff <(echo "$at/share/man/man1/other.1") <(find "$at" ! -type d)
 rm -rf "$at"
 # shellcheck disable=SC2016 # the inner bash fills them in
-passes "install where new files are secret" bash -c 'umask 077 && exec make -s install DESTDIR="$1" PREFIX=/usr' - "$work/stage of it"
+passes "install with secret new files" bash -c 'umask 077 && exec make -s install DESTDIR="$1" PREFIX=/usr' - "$work/stage of it"
 passes "installed files below DESTDIR" same_files "$work/stage of it/usr"
 passes "rights" rights_are_due "$work/stage of it/usr"
 if has man; then
@@ -357,7 +357,7 @@ fails "DESTDIR is named nowhere" "" grep -rF "$work" "$work/stage of it"
 passes "uninstall below DESTDIR" make_it -s uninstall DESTDIR="$work/stage of it" PREFIX=/usr
 passes "nothing is left" diff /dev/null <(find "$work/stage of it" -mindepth 1)
 fails "nothing to uninstall" "nothing is installed there" make_it -s uninstall PREFIX="$at"
-fails "a place that is no whole path" "has to be a whole path" make_it -s install PREFIX="relative/prefix"
+fails "a place that is no whole path" "give a whole path" make_it -s install PREFIX="relative/prefix"
 
 # A release: the committed sources, and their commit.
 if [ -e .git ] && has git; then

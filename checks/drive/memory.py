@@ -2,8 +2,8 @@
 status of an allocation failure and no text. A trace is tried on files of which only one journal is legal.
 
 Each allocation of a run is refused in turn, alone and with all that come after it; and the address space is limited, so
-that some threads cannot be started, or none. A service may have written a part of the answers before. Without an argument a
-sample is tried, with `all` each number. checks/drive/refuse.c refuses the allocations; where there is no C compiler only the limits
+that some threads, or all, cannot be started. A service may have written a part of the answers before. Without an argument a
+sample is tried, with `all` each number. checks/drive/refuse.c refuses the allocations; without a C compiler only the limits
 are tried.
 """
 
@@ -29,7 +29,7 @@ THREAD = 270_336
 
 
 def run(program, arguments, text, settings=None, limit=None):
-    """The exit status and what was written; a status of None where the run did not end in time."""
+    """The exit status and what was written; a status of None if the run did not end in time."""
     def prepare():
         if limit is not None:
             resource.setrlimit(resource.RLIMIT_AS, (limit, limit))
@@ -58,7 +58,7 @@ def sampled(count, everything):
 
 
 def built_shim(folder):
-    """The library that refuses allocations, or None where there is no compiler."""
+    """The library that refuses allocations, or None if there is no compiler."""
     compiler = shutil.which("cc") or shutil.which("gcc") or shutil.which("clang")
     if compiler is None:
         return None
@@ -73,7 +73,7 @@ def count_of(program, arguments, text, library, folder):
     told.write_bytes(bytes(8))
     ended = run(program, arguments, text, {"LD_PRELOAD": str(library), "REFUSE_COUNT": str(told)})
     if ended[0] != DONE:
-        raise SystemExit(f"{' '.join(arguments)} ends with status {ended[0]} where nothing is refused")
+        raise SystemExit(f"{' '.join(arguments)} ends with status {ended[0]} though nothing is refused: the other trials need a whole run")
     return int.from_bytes(told.read_bytes(), sys.byteorder), ended[1]
 
 

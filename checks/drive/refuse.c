@@ -1,5 +1,5 @@
 // Refuses allocations of the program that it is loaded into before the C library (LD_PRELOAD): the one whose number stands
-// in REFUSE_AT, or all from that number on where REFUSE_FROM has it. Calls of malloc and realloc count from 1. Where
+// in REFUSE_AT, or all from that number on if REFUSE_FROM has it. Calls of malloc and realloc count from 1. Where
 // REFUSE_COUNT names a file of eight bytes, the number of calls stands in it, also while the program runs.
 #include <errno.h>
 #include <fcntl.h>

@@ -85,12 +85,12 @@ def on_processors(count):
 
 
 def when_idle():
-    """Runs only where nothing else wants the processor."""
+    """Runs only when nothing else wants the processor."""
     os.sched_setscheduler(0, os.SCHED_IDLE, os.sched_param(0))
 
 
 def busy(count):
-    """Busy loops, which end by themselves where nobody ends them."""
+    """Busy loops, which end by themselves if nobody ends them."""
     loop = f"exec timeout {LOAD_SECONDS} sh -c 'while :; do :; done'"
     return [subprocess.Popen(["nice", "-n", "10", "sh", "-c", loop], stdout=subprocess.DEVNULL, start_new_session=True) for _ in range(count)]
 
@@ -113,7 +113,7 @@ def beside_each_other(program, times, journals):
 
 
 def few_threads(limit):
-    """A limit on the threads of the user, which is one of its own where the caller may choose."""
+    """A limit on the threads of the user, which is one of its own if the caller may choose."""
     def prepare():
         if os.geteuid() == 0:
             os.setgroups([])

@@ -22,7 +22,7 @@ printf '%s\n' '# The kit.' 'kit: kit-1' 'debian: bash' >"$top/kit.txt"
 echo 1.2.3 >"$top/VERSION"
 echo input >"$folder/input"
 
-# The program. Its input names what it does; it writes `proved` before its text, or `tried` where rt tries it.
+# The program. Its input names what it does; it writes `proved` before its text, or `tried` if rt tries it.
 cat >"$top/program" <<'END_OF_PROGRAM'
 #!/usr/bin/env bash
 case "$*" in
@@ -189,7 +189,7 @@ is "a demo" 0 "tried demo 1 2: no input" "$first $none" './market demo 1 2'
 is "a demo on a terminal" 0 "$first $none
 tried demo 1 2: no input" "" 'screen "./market demo 1 2"'
 is "an input from a terminal" 0 "tried run: typed" "" 'printf "typed\n\004" >&9; screen "./market run" | tail -n 1'
-is "serve" 1 "" "market: serve needs a stream, and so the proved program: $none" './market serve'
+is "serve" 1 "" "market: serve needs the proved program, since it reads a stream: $none" './market serve'
 is "a file as argument" 2 "" "market: run reads standard input: ./market run < ../input" './market run ../input'
 is "a file with a blank" 2 "" "market: run reads standard input: ./market run < $absolute/VERSION" \
     './market run "$top/VERSION"'
@@ -220,13 +220,13 @@ market: an input of more than 67108864 bytes needs the proved program: ./market 
     'head -c 67108865 /dev/zero | ./market run'
 is "sources that do not compile" 1 "" "$first $none
 error: src/lib.rt
-market: the sources gave no answer: what rt said is above" 'echo broken | ./market run'
+market: the sources gave no answer: mend what rt names above, and try again" 'echo broken | ./market run'
 is "another kit" 0 "tried run: input" "$first $none
 market: the kit at hand is kit-1, and kit.txt names kit-2: what follows holds by the kit at hand" \
     'sed -i s/kit-1/kit-2/ kit.txt; ./market run; sed -i s/kit-2/kit-1/ kit.txt'
-is "no rt" 1 "" "market: there is no proved program to run, and no rt to try the sources: README.md names its kit" \
+is "no rt" 1 "" "market: there is no proved program to run, and no rt to try the sources: install the kit that kit.txt names" \
     'PATH="$folder/tools" ./market run'
-is "no folder for notes" 1 "" "market: no folder can be made in /none: look whether the disk is full" \
+is "no folder for notes" 1 "" "market: no folder can be made in /none: look whether it is there and has room" \
     'TMPDIR=/none ./market run'
 is "--unproved" 0 "tried run: input" "$asked" './market --unproved run'
 is "--unproved with no arguments" 2 "usage: ..." "$asked" './market --unproved'
@@ -234,20 +234,20 @@ is "--unproved with a file as argument" 2 "" "market: run reads standard input: 
     './market --unproved run ../input'
 is "--unproved serve of a file" 0 "tried serve: input" "$asked" './market --unproved serve'
 is "--unproved serve of a stream" 1 "" \
-    "market: serve needs a stream, which an unproved run has not: give it a file, or run ./market prove" \
+    "market: serve without a proof reads no stream: give it a file, or run ./market prove first" \
     'cat | ./market --unproved serve'
 is "--proved" 1 "" "market: $none" './market --proved run'
 is "the notes are gone" 0 "" "" 'find "$folder" -mindepth 1 -maxdepth 1 -name "tmp.*"'
 
 # The proof.
-is "no rt to prove" 1 "" "market: there is no rt to prove the program: README.md names its kit" \
+is "no rt to prove" 1 "" "market: there is no rt to prove the program: install the kit that kit.txt names" \
     'PATH="$folder/tools" ./market prove'
 is "a proof that fails" 1 "" "proves
 low is not proved
-market: the program is not proved: what is wrong is above" \
+market: the program is not proved: mend what is named above, and run ./market prove again; it keeps what still holds" \
     'echo bad >crates/low/src/lib.rt; ./market prove; s=$?; echo "a source" >crates/low/src/lib.rt; (exit $s)'
 is "nothing is built" 1 "" "proves
-market: the program is not built: script/prove.py left no $top/crates/market/out/market" \
+market: the program is not built: script/prove.py left no $top/crates/market/out/market; rt run in crates/market says more" \
     'touch no-build; ./market prove; s=$?; rm no-build; (exit $s)'
 is "sources edited meanwhile" 1 "" "proves
 market: the sources changed while they were proved: run ./market prove again; it keeps what still holds" \
@@ -305,8 +305,8 @@ $unknown" "" 'echo refused 77 document >worse; screen "./market run <worse"'
 is "an edit of another crate" 0 "proved run: input" "" 'echo more >>crates/other/src/lib.rt; ./market run'
 is "an edit" 0 "tried run: input" "$first $stale" 'echo more >>crates/low/src/lib.rt; ./market run'
 is "an edit, --proved" 1 "" "market: $stale" './market --proved run'
-is "an edit, serve" 1 "" "market: serve needs a stream, and so the proved program: $stale" './market serve'
-is "an edit, no rt" 1 "" "market: there is no proved program to run, and no rt to try the sources: README.md names its kit" \
+is "an edit, serve" 1 "" "market: serve needs the proved program, since it reads a stream: $stale" './market serve'
+is "an edit, no rt" 1 "" "market: there is no proved program to run, and no rt to try the sources: install the kit that kit.txt names" \
     'PATH="$folder/tools" ./market run'
 is "put back" 0 "proved run: input" "" 'echo "a source" >crates/low/src/lib.rt; ./market run'
 is "an older file in its place" 0 "tried run: input" "$first $stale" \
@@ -382,7 +382,7 @@ crates/market/out/market" "$made" 'forget; checks/run program | sed "s|$top/||g"
 is "the program's checks without a proof" 1 "no program is proved from the sources of today: ./market prove makes it first
 0 passed, 1 failed" "proves
 low is not proved
-market: the program is not proved: what is wrong is above" \
+market: the program is not proved: mend what is named above, and run ./market prove again; it keeps what still holds" \
     'echo bad >crates/low/src/lib.rt; checks/run program; s=$?; echo "a source" >crates/low/src/lib.rt; (exit $s)'
 
 is "another check without a proof" 1 "no program is proved from the sources of today: checks/run program proves it first

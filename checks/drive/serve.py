@@ -27,7 +27,7 @@ ROUNDS = 100
 
 
 def in_pieces(words, pieces):
-    """The status and the answers where each read gives one piece."""
+    """The status and the answers if each read gives one piece."""
     ours, its = faults.socket.socketpair(faults.socket.AF_UNIX, faults.socket.SOCK_SEQPACKET)
     child = faults.start(words[0], words[1:], stdin=its)
     its.close()
@@ -140,7 +140,7 @@ def try_open_ends(words):
 
 
 def peak_after(words, number):
-    """The peak of the resident memory in kilobytes once so many frames were answered, or None where not all answers came."""
+    """The peak of the resident memory in kilobytes once so many frames were answered, or None if not all answers came."""
     child = start(words)
     due = 256 * 13 * (number // 256)
     read = []

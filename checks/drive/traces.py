@@ -3,8 +3,8 @@
 For each example and each small file of checks/cases/run there are the trace that `market trace` makes and some that are made
 here, whose moves come in any order that is legal; and of each of them a variant for each line dropped, doubled, exchanged with
 the next, or behind which the trace ends, for each number changed, and for bytes added or taken off. What each has to come to is
-reasoned where that can be told from the change alone, and compared with the judge; then the program is compared with the judge.
-Where there are more variants than MOST, so many of them are tried, evenly; with `all` after the program each of them.
+reasoned if that can be told from the change alone, and compared with the judge; then the program is compared with the judge.
+If there are more variants than MOST, so many of them are tried, evenly; with `all` after the program each of them.
 """
 
 import random
@@ -143,12 +143,12 @@ def byte_variants(lines):
 
 
 def lines_of(text):
-    """The lines of a text, each with its end where it has one."""
+    """The lines of a text, each with its end if it has one."""
     return re.findall(rb"[^\n]*\n|[^\n]+", text)
 
 
 def names_another_number(line, right):
-    """Whether a line says the same as the right one but for a number that is determined there: all but the number of a `learn` and
+    """Whether a line says the same as the right one except for a number that is determined there: all except the number of a `learn` and
     the index of a `pass`, of which several may be legal."""
     without = [re.sub(rb"(?<= )-?[0-9]+(?= |$)", b"", it) for it in (line, right)]
     if without[0] != without[1] or line.startswith(b"learn "):
@@ -157,8 +157,8 @@ def names_another_number(line, right):
 
 
 def reasoned(right, report, text):
-    """What is known of a text beside a right trace: the least number that its bad line can have, and the greatest, or None where
-    it may be right too."""
+    """What is known of a text beside a right trace: the least number that its bad line can have, and the greatest, or None if
+    it may also be right."""
     right, other = lines_of(text_of(right)), lines_of(text)
     least = next(at for at in range(max(len(right), len(other))) if right[at : at + 1] != other[at : at + 1]) + 1
     # A report has one text, and so has the end; what ends early lacks the line that was due there.
@@ -240,7 +240,7 @@ def beginnings():
 
 
 def headers():
-    """First lines that are none."""
+    """First lines that are no number of bytes."""
     file, trace = ((CASES / "trace" / f"only_trace.{it}").read_bytes() for it in ("json", "stdout"))
     size = len(file)
     body = file + trace

@@ -196,7 +196,7 @@ def main() -> int:
     page = PAGE.read_text()
     wrong = [what for what, text in (("table", table()), ("words", words())) if text not in page]
     for what in wrong:
-        print(f"docs/PROOF.md does not have what `checks/run definitions {what}` prints")
+        print(f"docs/PROOF.md does not have what `checks/run definitions {what}` prints: paste that in place of the old text")
     print(f"{2 - len(wrong)} passed, {len(wrong)} failed")
     return int(bool(wrong))
 

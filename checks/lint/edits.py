@@ -1,13 +1,13 @@
 """Which goal each must-fail edit leaves open, and where its refusal comes from.
 
-    python3 -m checks.lint.edits [CRATE ..]   tries the edits of these crates, of all where none is named
+    python3 -m checks.lint.edits [CRATE ..]   tries the edits of these crates, of all if no crate is named
     python3 -m checks.lint.edits --log FILE   reads what `rt must-fail` or `rt ci` wrote
     python3 -m checks.lint.edits --self-test  reads fixed lines, and compares docs/EDITS.md with the edits and functions that there are
 
-It prints a row of a table for each edit and ends with 'N passed, M failed'. An edit fails where it was not refused, where
-it is a bad edit, where no more is told than that a proof names what it took away or hangs on one that was rejected, and
-where docs/EDITS.md names a clause of another function. An answer that does not fit is no proof that a goal is false: a right
-rewriting can leave one too. So that page says for each edit which clause is false, and where.
+It prints a row of a table for each edit and ends with 'N passed, M failed'. An edit fails if it was not refused, if
+it is a bad edit, if no more is told than that a proof names what it took away or hangs on one that was rejected, and
+if docs/EDITS.md names a clause of another function. An answer that does not fit is no proof that a goal is false: a right
+rewriting can also leave one. So that page says for each edit which clause is false, and where.
 """
 
 import re
@@ -108,7 +108,7 @@ def listed() -> list[tuple[str, str, str, str]]:
 
 def is_of_another(goal: str, clause: str) -> bool:
     """Whether a goal is of no function that the clause of a row names. The owner of a method is left out, since the proof of a
-    trait's method stands under a name that has the trait's too."""
+    trait's method has a name that also has the trait's."""
     of_goal = re.search(r" of `(?:\w+::)?(\w+)`", goal)
     return bool(of_goal and clause) and of_goal[1] not in re.findall(r"`(?:\w+::)?(\w+)`", clause)
 
@@ -220,26 +220,26 @@ def misreadings() -> Iterator[str]:
 
 
 def unlisted() -> Iterator[str]:
-    """Where docs/EDITS.md has not just the edits that there are, in the order of crates.txt and of their names."""
+    """What docs/EDITS.md has that is not just the edits that there are, in the order of crates.txt and of their names."""
     files = [(it, path.stem) for it in crates() for path in sorted((TOP / "crates" / it / "must-fail").glob("*.edit"))]
     rows = [(crate, name) for crate, name, _, _ in listed()]
     for crate, name in files:
         if (crate, name) not in rows:
-            yield f"docs/EDITS.md has no row of {crate}/{name}.edit"
+            yield f"docs/EDITS.md has no row of {crate}/{name}.edit: add one"
     for crate, name in rows:
         if (crate, name) not in files:
-            yield f"docs/EDITS.md has a row of {crate}/{name}.edit, which is none"
+            yield f"docs/EDITS.md has a row of {crate}/{name}.edit, which is not there: take the row out"
     if sorted(files) == sorted(rows) and files != rows:
-        yield "the rows of docs/EDITS.md are not in the order of crates.txt and of the names"
+        yield "the rows of docs/EDITS.md are not in the order of crates.txt and of the names: sort them"
 
 
 def unknown() -> Iterator[str]:
-    """Where a row names a clause of a function that its crate has not."""
+    """The rows that name a clause of a function which their crate does not have."""
     known = {it: set(re.findall(r"\bfn (\w+)", "".join(sources(it)))) for it in crates()}
     for crate, name, clause, _ in listed():
         for function in re.findall(r"(?:of|by|in|from) `(?:\w+::)?(\w+)`", clause):
             if function not in known[crate]:
-                yield f"docs/EDITS.md names {function}, which {crate} has not, for {crate}/{name}.edit"
+                yield f"docs/EDITS.md: the row of {crate}/{name}.edit names {function}, which is no function of {crate}: correct it"
 
 
 def sources(crate: str) -> Iterator[str]:

@@ -110,7 +110,7 @@ def names_with_two_homes():
             homes[name.rstrip(":")].add(crate)
     for name, crates in sorted(homes.items()):
         if len(crates) > 1 and name not in OF_PLAN_AND_LISTS:
-            yield f"the definition {name} stands in {', '.join(sorted(crates))}"
+            yield f"the definition {name} is in {', '.join(sorted(crates))}: keep one, and let the other crates use it"
 
 
 def names_of_code_with_two_homes():
@@ -121,10 +121,10 @@ def names_of_code_with_two_homes():
                 homes["function" if sort == "fn" else "type", name].add(crate)
     for (sort, name), crates in sorted(homes.items()):
         if len(crates) > 1 and name not in SAME_IN_CODE and name != "main":
-            yield f"the {sort} {name} stands in {', '.join(sorted(crates))}"
+            yield f"the {sort} {name} is in {', '.join(sorted(crates))}: rename all except one, or list it in SAME_IN_CODE"
     for name in SAME_IN_CODE:
         if len(homes["function", name]) < 2:
-            yield f"the function {name} has one home, and needs no place in SAME_IN_CODE"
+            yield f"the function {name} is in one crate alone: take it out of SAME_IN_CODE"
 
 
 def definitions_named_by_participles():
@@ -132,7 +132,7 @@ def definitions_named_by_participles():
         for name in DEFINITION.findall(text):
             is_participle = name in IRREGULAR or re.fullmatch(r"[a-z]+(ed|ing)", name)
             if is_participle and name not in NOUNS:
-                yield f"the definition {name} in {path} is named by a bare participle, and does not say what it gives"
+                yield f"{path}: the definition {name} is named by a bare participle: name what it gives"
 
 
 def long_clauses():
@@ -142,7 +142,7 @@ def long_clauses():
             if depth or CLAUSE.match(line):
                 depth += line.count("{") - line.count("}")
                 if len(line) > CLAUSE_LIMIT:
-                    yield f"a clause above {CLAUSE_LIMIT} columns in {path}: {number}"
+                    yield f"{path}:{number}: a clause above {CLAUSE_LIMIT} columns: break it"
 
 
 def said_alike(statement):
@@ -162,7 +162,7 @@ def lemmas_with_two_homes():
                 homes[said_alike(statement)].add((crate, f"{path}: {name}"))
     for lemmas in homes.values():
         if len({crate for crate, _ in lemmas}) > 1:
-            yield "one lemma stands twice, " + " and ".join(sorted(where for _, where in lemmas))
+            yield " and ".join(sorted(where for _, where in lemmas)) + " state one lemma: keep it in the lower crate alone"
 
 
 def bare_limits():
@@ -172,14 +172,14 @@ def bare_limits():
             continue
         for line in without_comments(text).split("\n"):
             if any(it.replace("_", "") in LIMITS for it in NUMBER.findall(line)):
-                yield f"a limit without its name in {path}: {line.strip()[:100]}"
+                yield f"{path}: a limit without its name: write the name, or list the file in OTHER_MEANINGS: {line.strip()[:100]}"
 
 
 def long_lines():
     for _, path, text in files("src", "specs", "proofs"):
         for number, line in enumerate(text.split("\n"), 1):
             if len(line.encode()) > LINE_LIMIT:
-                yield f"a line above {LINE_LIMIT} bytes in {path}: {number}"
+                yield f"{path}:{number}: a line above {LINE_LIMIT} bytes: break it"
 
 
 def lemmas_without_words():
@@ -187,7 +187,7 @@ def lemmas_without_words():
         if path.count("/") == 2:
             for before, name in re.findall(r"(?m)^(.*)\n\s*pub ([^\s:({]+) : ", text):
                 if not before.lstrip().startswith("--"):
-                    yield f"a public lemma without a comment in {path}: {name}"
+                    yield f"{path}: the public lemma {name} has no comment: say above it what it states"
 
 
 def main():

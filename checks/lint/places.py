@@ -354,7 +354,7 @@ def listed(it: frozenset[str]) -> str:
 
 
 def differ(path: str, kind: Kind, found: list[frozenset[str]]) -> Iterator[str]:
-    """Whether a place has the forms of a kind with other members."""
+    """What is wrong if a place does not have a kind, or has it with other members."""
     if not found:
         yield f"{path} has no kind {kind.word}"
     elif set(found) != set(kind.forms):

@@ -1,5 +1,5 @@
 """Whether cluster.schema.json agrees with the program: each file that has a plan passes it, and each file that is refused
-for its shape or for a number in it fails it, but for those of BEYOND. The files are those of examples/ and checks/cases, and
+for its shape or for a number in it fails it, except those of BEYOND. The files are those of examples/ and checks/cases, and
 those of checks/make/members.py."""
 
 import json
@@ -36,7 +36,7 @@ BEYOND = {
 
 
 def validator():
-    """The schema's validator, or None where jsonschema is not installed. A number with a point or an exponent is no whole
+    """The schema's validator, or None if jsonschema is not installed. A number with a point or an exponent is no whole
     number here, as the program and most editors have it; by the standard 10.0 is one."""
     try:
         from jsonschema import Draft202012Validator
@@ -77,7 +77,7 @@ def why_wrong(check, name, file, code):
 def main():
     check = validator()
     if check is None:
-        print("skipped: Python's jsonschema is not installed; on Debian: apt-get install python3-jsonschema")
+        print("skipped: Python's jsonschema is not installed (Debian: python3-jsonschema)")
         print("0 passed, 0 failed")
         return 0
     passed, failed = 0, 0

@@ -33,7 +33,7 @@ class Case:
     # Bytes, a file's path, a folder's path (each read of it fails, so the status tells whether one was tried), or
     # None: closed.
     stdin: object
-    # The text due, a function that tells whether a text is right, or None where standard output takes nothing.
+    # The text due, a function that tells whether a text is right, or None if standard output takes nothing.
     stdout: object
     status: int
     # "pipe", "full" or "closed".

@@ -1,4 +1,4 @@
-"""Beginnings of journals worked by hand, each with the report of its file and the line that is bad: the last, or, where all moves
+"""Beginnings of journals worked by hand, each with the report of its file and the line that is bad: the last, or, if all moves
 are legal, the line behind them that is missing."""
 
 import json

@@ -82,7 +82,7 @@ def edits_of(name, edits, document, place):
 
 
 def documents():
-    """The name of each edit, the document, and the line of its refusal, or None where it is right."""
+    """The name of each edit, the document, and the line of its refusal, or None if it is right."""
     right = with_node(node_of("load", {"start": 10}))
     for name in right:
         yield f"document: no {name}", {it: right[it] for it in right if it != name}, "refused 3 document"

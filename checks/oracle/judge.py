@@ -91,7 +91,7 @@ class Plan:
                     device.change(after_tick(device.node, device.states[-1], powers[name], phase["tick"]), True)
 
     def step_of(self, cut, name):
-        """The step that a device takes where the market clears a cut: that of its part of the cluster."""
+        """The step that a device takes if the market clears a cut: that of its part of the cluster."""
         numbers = tuple(cut.values())
         if numbers not in self.found:
             members = {it: device for it, device in self.devices.items() if device.member[cut[it]]}
@@ -137,7 +137,7 @@ class Market:
         return next((it for it in range(self.newest(name), 0, -1) if self.published[name][it] == here), 0)
 
     def last(self, name):
-        """The index of the clearing that was passed to a node last, 0 where none was."""
+        """The index of the clearing that was passed to a node last, 0 if there was none."""
         return self.passed[name][-1] if self.passed[name] else 0
 
     def addresses(self, index, name):
@@ -271,7 +271,7 @@ def opened(text):
 
 
 def plan_of(text):
-    """The plan of a cluster file, where it is not refused."""
+    """The plan of a cluster file that is not refused."""
     return Plan(scene_of(text))
 
 

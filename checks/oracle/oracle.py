@@ -41,7 +41,7 @@ def due_of_bill(text):
 
 
 def targets_of(text):
-    """The targets of a list, or the number of the first line that is none."""
+    """The targets of a list, or the number of the first line that is no target."""
     *lines, rest = text.split(b"\n")
     for number, line in enumerate(lines, 1):
         if number > TARGETS or not TARGET.fullmatch(line) or abs(int(line)) > MOST_WATTS:

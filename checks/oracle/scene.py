@@ -16,7 +16,7 @@ STRING = re.compile(r'"(?:[^"\\]|\\.)*"', re.DOTALL)
 
 DOCUMENT = {"version": int, "basis": dict, "nodes": list, "phases": list}
 BASIS = {"min": int, "max": int, "steps": int}
-# The members of a node behind its name, kind and parent; those of a heat pump are those of cogeneration too.
+# The members of a node behind its name, kind and parent; a heat pump and cogeneration have the same.
 HEATED = ("low", "high", "power", "loss", "gain", "start")
 KINDS = {
     "concentrator": (),
@@ -260,7 +260,7 @@ def require_script(file):
 
 
 def scene_of(text):
-    """The cluster file of these bytes, where it has a plan."""
+    """The cluster file of these bytes, if it has a plan."""
     file = value_of(text)
     require_shape(file)
     require_tree(file["nodes"])
@@ -271,7 +271,7 @@ def scene_of(text):
 
 
 def refusal_of(text):
-    """The line of the refusal of a file, or None where it has a plan."""
+    """The line of the refusal of a file, or None if it has a plan."""
     try:
         scene_of(text)
     except Refused as line:

@@ -1,6 +1,6 @@
 """Answers a stream of bid frames by the definitions of frames and answers in docs/SERVE.md, and from nothing of the program.
 
-As a program it stands where `market serve` would: it reads standard input in pieces and answers as frames come, with the same
+As a program it takes the place of `market serve`: it reads standard input in pieces and answers as frames come, with the same
 exit status.
 """
 
@@ -58,7 +58,7 @@ class Bad(Exception):
 
 
 def form_of(kind, basis):
-    """What stands behind a kind of frame, and what is made of it; none where no such frame may stand there."""
+    """What stands behind a kind of frame, and what is made of it; nothing if no such frame may come then."""
     if basis is None:
         return {HELLO: (">iiH", Hello)}.get(kind)
     forms = {
@@ -70,7 +70,7 @@ def form_of(kind, basis):
 
 
 def frame_at(data, at, basis):
-    """The frame at a place and the place behind it, or None where more bytes are needed to tell."""
+    """The frame at a place and the place behind it, or None if more bytes are needed to tell."""
     if at == len(data):
         return None
     form = form_of(data[at], basis)
@@ -147,7 +147,7 @@ def fault_at(offset):
 
 
 def answers_to(data, ended=True):
-    """The status and the answers that the bytes of a stream have, where they are all that comes, or a read fails after them."""
+    """The status and the answers that the bytes of a stream have, if they are all that comes, or a read fails after them."""
     stream, answers = Stream(), Answers()
     frames, bad = stream.feed(data)
     written = b"".join(map(answers.to, frames))

@@ -6,7 +6,7 @@ from auction import clearing_step, ends_of, prices_of
 
 
 def last_total(file):
-    """The total at each step at the end of the last phase, with which nobody is a member where there is no phase."""
+    """The total at each step at the end of the last phase, with which nobody is a member if there is no phase."""
     ends = ends_of(file)
     return ends[-1].parts[None].sums if ends else [0] * file["basis"]["steps"]
 

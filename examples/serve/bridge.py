@@ -7,7 +7,7 @@
 
 A device of number CHILD, 1 to 256, publishes its bid under `market/bid/CHILD`: its demands in watts, one for each step, as a JSON
 list. It publishes them retained, so that the broker hands them on again when the bridge starts anew; an empty message says that
-the device bids no more. Every SECONDS the bridge asks for a clearing where a bid came, and publishes under `market/price/CHILD` an
+the device bids no more. Every SECONDS the bridge asks for a clearing if a bid came, and publishes under `market/price/CHILD` an
 object with the members `price`, `step`, `bid` (the number of the device's bid that the price answers) and `clearing`.
 
 All devices share one session, which a bad frame would end. So a message that is no bid is dropped and told on standard error, and
@@ -43,7 +43,7 @@ def child_of(topic):
 
 
 def demands_of(payload, steps):
-    """The demands of a message, or None where it is empty."""
+    """The demands of a message, or None if it is empty."""
     if not payload:
         return None
     if len(payload) > LONGEST * (steps + 1):

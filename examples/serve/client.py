@@ -70,7 +70,7 @@ class Ended(Exception):
 
 
 def read_exactly(reader, size):
-    """So many bytes; fewer where the stream ends before."""
+    """So many bytes; fewer if the stream ends before."""
     data = b""
     while len(data) < size:
         piece = reader.read(size - len(data))
@@ -81,16 +81,16 @@ def read_exactly(reader, size):
 
 
 def read_answer(reader):
-    """The next answer, or None where the stream ends before one."""
+    """The next answer, or None if the stream ends before one."""
     kind = read_exactly(reader, 1)
     if not kind:
         return None
     if kind[0] not in ANSWERS:
-        raise Ended(f"byte {kind[0]} begins no answer")
+        raise Ended(f"the answers have a byte {kind[0]}, which begins no answer")
     form, make = ANSWERS[kind[0]]
     fields = read_exactly(reader, struct.calcsize(form))
     if len(fields) < struct.calcsize(form):
-        raise Ended("the answers end within one")
+        raise Ended("the stream of answers ended within an answer")
     return make(*struct.unpack(form, fields))
 
 
@@ -98,7 +98,7 @@ class Market:
     """A session with a market over two streams of bytes, with `read` and `write` as of files, sockets' files or pipes.
 
     Answers are read on a thread of their own as they come, so that bids may go out meanwhile without end. The session numbers
-    each child's bids 1, 2, 3, .. where it is not told a number.
+    each child's bids 1, 2, 3, .. if it is not told a number.
     """
 
     def __init__(self, reader, writer, least, greatest, steps):
@@ -134,7 +134,7 @@ class Market:
         return self.numbers.get(child, 0) + 1 if number is None else number
 
     def note(self, child, number, is_bid):
-        """Notes what the market will make of a number: it counts where it is above the child's last."""
+        """Notes what the market will make of a number: it counts if it is above the child's last."""
         if number > self.numbers.get(child, 0):
             self.numbers[child], self.changed = number, True
             (self.bidding.add if is_bid else self.bidding.discard)(child)
@@ -164,7 +164,7 @@ class Market:
         return answers
 
     def clear(self):
-        """Clears the market and waits: the prices, in the order of the children; none where no bid has changed."""
+        """Clears the market and waits: the prices, in the order of the children; no price if no bid has changed."""
         prices, left = [], self.ask_to_clear()
         while left:
             answer = self.answer()
@@ -176,11 +176,11 @@ class Market:
         return prices
 
     def answer(self, timeout=None):
-        """The next answer. It waits until one has come, and raises `queue.Empty` where none came in so many seconds."""
+        """The next answer. It waits until one has come, and raises `queue.Empty` if none came in so many seconds."""
         answer = self.came.get(timeout=timeout)
         if answer is None:
             self.came.put(None)
-            raise Ended("the market has ended")
+            raise Ended("no more answers come: start the market again, and send all bids anew")
         if isinstance(answer, Ended):
             raise answer
         if isinstance(answer, Fault):
@@ -259,7 +259,7 @@ def send_lines(market, lines):
         elif word == "clear":
             market.ask_to_clear()
         elif word:
-            raise ValueError(f"no line of this kind: {line.strip()}")
+            raise ValueError(f"a line begins with bid, gone or clear, and not as this one: {line.strip()}")
 
 
 def main(words):
