@@ -12,11 +12,11 @@ use std::env;
 use std::io::ErrorKind;
 use std::process::ExitCode;
 
-/// The exit code where the system refuses the arguments of the command line.
+/// The exit code if the system refuses the arguments of the command line.
 const ARGUMENTS_REFUSED: u8 = 8;
 
-/// The arguments after the program's name, or the exit code where they cannot be had: an allocation failure,
-/// or an argument that the system does not give as text.
+/// The arguments after the program's name, or the exit code if they cannot be had. An allocation may fail,
+/// or the system may not give an argument as text.
 fn arguments_of(rt: &HostRuntime) -> Result<Vec<String>, u8> {
     let arguments = match env::args(rt) {
         Ok(arguments) => arguments,

@@ -1,4 +1,4 @@
-//! A cluster that one thread drives through all phases: the devices make their changes, the bids go up the tree, the
+//! A cluster that one thread drives through all phases. The devices make their changes, the bids go up the tree, the
 //! auctioneer clears, and the prices go down.
 
 use pm_base::MOST_CHANGES;
@@ -75,8 +75,8 @@ fn make_round(cluster: &mut Cluster<'_>) -> Result<(), DriveFault> {
     Ok(())
 }
 
-/// Each node that has a new bid sends it, and its parent learns it. A parent stands before its children, so the last node
-/// comes first.
+/// Each node that has a new bid sends it, and its parent learns it. A parent comes before its children, so the last node
+/// is first.
 fn send_bids(cluster: &mut Cluster<'_>) -> Result<(), DriveFault> {
     let nodes = cluster.plan().tree().len();
     for after in 0..nodes {

@@ -17,7 +17,7 @@ const REPORT_END: &[u8] = b"end ";
 /// Why the moves of a trace are not made to their end.
 #[derive(Clone, Copy, Debug, Error)]
 pub(crate) enum JudgeFault {
-    /// This move, counted from 1, has a line that tells none.
+    /// The line of this move, counted from 1, tells no move.
     #[error("the line of move {number} is unreadable")]
     Unreadable { number: u64 },
     /// This move, counted from 1, is not legal.
@@ -37,7 +37,7 @@ impl From<AllocError> for JudgeFault {
     }
 }
 
-/// How many moves it takes to close every phase, by the trace that stands behind a cluster file.
+/// How many moves it takes to close every phase, by the trace that follows a cluster file.
 pub(crate) fn judged_moves(alloc: Global, input: &[u8]) -> anyhow::Result<u64> {
     let envelope = open_envelope(input).context("the input is no envelope")?;
     let plan = read_scene(alloc, envelope.file)?;

@@ -1,9 +1,9 @@
 //! Messages over one link between two threads: bids go up, and a price comes down for each.
 //!
-//! The threads go in step: the child puts a bid and waits for the price that answers it, and the parent waits for a bid and
+//! The threads go in step. The child puts a bid and waits for the price that answers it. The parent waits for a bid and
 //! answers it. So each message is taken, and how many pass is certain. A link has a slot for the bid that waits and one for
-//! the price that waits, in cells without a lock (`cells`) or behind locks (`locks`); `turns` has what the threads do over
-//! either.
+//! the price that waits. The slots are cells without a lock (`cells`) or are behind locks (`locks`). `turns` has what the
+//! threads do over either.
 
 mod cells;
 mod ends;
@@ -30,8 +30,8 @@ pub(crate) enum LinkKind {
     Mutex,
 }
 
-/// Passes so many bids up a link of this kind, and a price down for each: how many messages were taken, twice as many as
-/// bids.
+/// Passes so many bids up a link of this kind, and a price down for each. The answer is how many messages were taken,
+/// twice as many as bids.
 pub(crate) fn passed_messages<R: Threads + Wait + Sync>(
     rt: &R,
     alloc: Global,

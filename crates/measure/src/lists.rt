@@ -54,7 +54,7 @@ fn push_memberships(row: &mut Vec<bool>, plan: &Plan, device: NodeId) -> Result<
     Ok(())
 }
 
-/// Whether a device is a member after a change, where it was one before it or not.
+/// Whether a device is a member after a change, by whether it was one before.
 fn is_member_after(what: Planned, before: bool) -> bool {
     match what {
         Planned::Join => true,

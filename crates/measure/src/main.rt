@@ -1,13 +1,13 @@
-//! The program `measure`: does work of the market in one of several ways, so that a script can compare their times, their
+//! The program `measure` does work of the market in one of several ways. A script can so compare their times, their
 //! memory and their texts. Its arguments name the way.
 //!
-//! `read`, `walk` and `drive` read a cluster file on standard input, and `walk` and `drive` find the ends of its phases;
-//! they print the same text, and `read` stops once the plan is made. `judge` reads an envelope of a cluster file and of a
-//! trace, makes the moves of the trace on a market of cuts, and prints their number. `link cells COUNT` and `link mutex
-//! COUNT` read nothing: two threads pass COUNT bids, up to 120,000, and as many prices over one link, of cells without a
-//! lock or of slots behind locks, and the number of messages taken is printed.
+//! `read`, `walk` and `drive` read a cluster file on standard input. `read` stops once the plan is made. `walk` and
+//! `drive` find the ends of the phases, and print the same text. `judge` reads an envelope of a cluster file and of a
+//! trace. It makes the moves of the trace on a market of cuts, and prints their number. `link cells COUNT` and `link
+//! mutex COUNT` read nothing. Two threads pass COUNT bids, up to 120,000, and as many prices over one link. The link
+//! is of cells without a lock, or of slots behind locks. The number of messages taken is printed.
 //!
-//! The status is 0 where the text was written, and else 1.
+//! The status is 0 if the text was written, and otherwise 1.
 #![tactic(auto)]
 
 ghost use Rattle.std.specs.Prelude.{◌≤◌};

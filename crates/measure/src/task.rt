@@ -15,7 +15,7 @@ pub(crate) enum Task {
     Pass { kind: LinkKind, bids: u32 },
 }
 
-/// The task that the arguments name, where they name one.
+/// The task that the arguments name, if they name one.
 pub(crate) fn task_of(arguments: &[String]) -> Option<Task> {
     match arguments {
         [word] => single_task(word.as_str()),

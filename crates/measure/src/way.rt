@@ -9,7 +9,7 @@ use std::alloc::Global;
 /// A way to find the ends of the phases.
 #[derive(Clone, Copy)]
 pub(crate) enum Way {
-    /// Find none: the file is only read.
+    /// Find no end: the file is only read.
     Read,
     /// By the plain program.
     Walk,

@@ -89,10 +89,10 @@ impl DeviceAgent {
         self.made.demand().steps()
     }
 
-    /// What the next change makes of the device: its demand is 0 at every step where it is no member afterwards, and
-    /// else its bid, for a manual device the array whose number is the state, and 0 where there is no such array. The
-    /// change is one of the agent's device, its state fits the device's kind, and the arrays have the agent's steps. The
-    /// agent stays the same.
+    /// What the next change makes of the device. If it is no member afterwards, its demand is 0 at every step. Otherwise
+    /// the demand is its bid. For a manual device this is the array whose number is the state, and 0 if there is no such
+    /// array. The change is one of the agent's device, its state fits the device's kind, and the arrays have the agent's
+    /// steps. The agent stays the same.
     pub fn work(&mut self, next: Next, arrays: &[ArrayBid]) -> &Made
         requires device { next.device ≡ self.old.device }
         requires fits { IsTrue (state_fits self.old.kind next.state.0) }

@@ -12,8 +12,8 @@ use std::marker::{Brand, Model};
 
 /// What a device's next change makes of it: the change, the device's kind, and its demand afterwards.
 ///
-/// Contracts see it as these three. Its type keeps that the demand is 0 at every step where the device is no member
-/// afterwards, and that it is else the bid of the kind in the state, for every kind but manual.
+/// Contracts see it as these three. Its type keeps two facts. If the device is no member afterwards, the demand is
+/// 0 at every step. Otherwise it is the bid of the kind in the state, for every kind except manual.
 #[derive(Drop)]
 pub struct Made {
     next: Next,
@@ -67,8 +67,8 @@ impl Made {
         self.kind
     }
 
-    /// The device's demand after the change, in watts at each step: 0 where it is no member, else its kind's bid in its
-    /// state. Of a manual device that is a member the type keeps nothing of the demand: it is what
+    /// The device's demand after the change, in watts at each step: 0 if it is no member, otherwise its kind's bid in
+    /// its state. Of a manual device that is a member the type keeps nothing of the demand. It is what
     /// [`crate::DeviceAgent::work`] made of the arrays that it was handed.
     pub fn demand(&self) -> &ArrayBid
         ensures demand { result.now ≡ self.now.demand }

@@ -28,7 +28,7 @@ pub struct Outcome {
     pub text: Vec<u8>,
 }
 
-/// The answer to an input of these bytes, which is an error only for want of memory.
+/// The answer to an input of these bytes, which is an error only if an allocation fails.
 ///
 /// It is Done with the text that is asked for of the input's plan, or Refused with the line of its refusal. For a trace it is
 /// Done with the number of its moves, or Invalid with its bad line. A cluster runs with a thread for each of its nodes, and
@@ -52,7 +52,7 @@ pub fn answer_of<R: Threads + Wait + Sync, G: Gate>(
     }
 }
 
-/// The cluster file of an input, and what stands behind it.
+/// The cluster file of an input, and what follows it.
 fn open_input(asked: FileCommand, input: &[u8]) -> Option<Envelope<'_>>
     ensures some { IfSome result
         (λ envelope. HasFile asked input.now envelope.file.now envelope.rest.now) }
@@ -77,7 +77,7 @@ fn refused(alloc: Global, refusal: Refusal) -> Result<Outcome, AllocError>
     Ok(Outcome { status, text })
 }
 
-/// The answer to an input with a plan, behind whose file this stands: Done with the text that is asked for of the plan, or what
+/// The answer to an input with a plan, whose file this follows. It is Done with the text that is asked for of the plan, or what
 /// the rest of the input makes of it.
 fn plan_answer<R: Threads + Wait + Sync, G: Gate>(
     rt: &R,
@@ -122,8 +122,8 @@ fn done(text: Vec<u8>) -> Outcome
     Outcome { status, text }
 }
 
-/// What the total at the end of a run answers to the targets that stand behind a cluster file with a plan, or the line of the
-/// first that is none.
+/// What the total at the end of a run answers to the targets that follow a cluster file with a plan. If a line is no target,
+/// the answer is the first such line.
 fn targets_answer<R: Threads + Wait + Sync, G: Gate>(
     rt: &R,
     alloc: Global,
@@ -149,8 +149,8 @@ fn targets_answer<R: Threads + Wait + Sync, G: Gate>(
     }
 }
 
-/// The judgement of a trace that stands behind a cluster file with a plan: how many moves it has where it is valid, and else
-/// its bad line.
+/// The judgement of a trace that follows a cluster file with a plan. If the trace is valid, it is how many moves there are;
+/// otherwise it is the bad line.
 fn trace_answer<R: Threads + Wait + Sync, G: Gate>(
     rt: &R,
     alloc: Global,

@@ -5,8 +5,8 @@ ghost use Rattle.std.specs.List.{list_all};
 ghost use Rattle.std.specs.Char.{is_ascii_digit};
 ghost use Rattle.pm_answer.specs.Arguments.{command, single_of, demo_of, is_number, number_within, value_up_to};
 
-/// The text that is asked for of an input, which is a cluster file, for `Ask` an envelope of one with targets behind it, and
-/// for `Check` one with a trace behind it.
+/// The text that is asked for of an input. The input is a cluster file. For `Ask` it is an envelope of one with targets
+/// behind it, and for `Check` one with a trace behind it.
 #[derive(Clone, Copy)]
 pub enum FileCommand {
     /// The report of its phases.
@@ -34,9 +34,9 @@ pub enum Command {
     Serve,
 }
 
-/// The command that the arguments are, where they are one: `run`, `trace`, `check`, `bill`, `serve`, `ask` or `free` alone,
-/// or `demo SIZE NUMBER`, SIZE in 1..=200 and NUMBER in 0..=4294967295, both in ASCII digits without sign and without a
-/// leading zero.
+/// The command that the arguments are, if they are one. It is `run`, `trace`, `check`, `bill`, `serve`, `ask` or `free`
+/// alone, or `demo SIZE NUMBER`. SIZE is in 1..=200 and NUMBER in 0..=4294967295, both in ASCII digits without sign and
+/// without a leading zero.
 pub fn command_of(arguments: &[String]) -> Option<Command>
     ensures { result ≡ command (map string_bytes arguments.now) }
 {
@@ -50,7 +50,7 @@ pub fn command_of(arguments: &[String]) -> Option<Command>
     }
 }
 
-/// The command of this argument alone, where it is one.
+/// The command of this argument alone, if it is one.
 fn single_of(argument: &str) -> Option<Command>
     ensures { result ≡ single_of argument.now }
 {
@@ -67,7 +67,7 @@ fn single_of(argument: &str) -> Option<Command>
     Some(command)
 }
 
-/// The demo of these two arguments, where they are numbers within its limits.
+/// The demo of these two arguments, if they are numbers within its limits.
 fn demo_of(size: &str, number: &str) -> Option<Command>
     ensures { result ≡ demo_of size.now number.now }
 {
@@ -76,7 +76,7 @@ fn demo_of(size: &str, number: &str) -> Option<Command>
     Some(Command::Demo { size, number })
 }
 
-/// The number that an argument writes, where it is one within these limits.
+/// The number that an argument writes, if it is one within these limits.
 fn number_within(low: u32, high: u32, argument: &[u8]) -> Option<u32>
     ensures { result ≡ number_within low high argument.now }
 {
@@ -104,7 +104,7 @@ fn are_digits(bytes: &[u8]) -> bool
     bytes.iter().all(|byte| byte.is_ascii_digit())
 }
 
-/// The number that decimal digits write, where it is at most this one.
+/// The number that decimal digits write, if it is at most this one.
 fn value_up_to(high: u32, digits: &[u8]) -> Option<u32>
     ensures { result ≡ value_up_to high digits.now }
 {

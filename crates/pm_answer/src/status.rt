@@ -6,19 +6,19 @@ ghost use Rattle.pm_answer.specs.Codes.{status_code};
 /// How the work of the program ended.
 #[derive(Clone, Copy, Debug, PartialEq, Eq)]
 pub enum Status {
-    /// The command was done, and its text stands in the sink.
+    /// The command was done, and its text is in the sink.
     Done,
-    /// A trace is not valid, and the line that names its bad line stands in the sink.
+    /// A trace is not valid, and the line that names its bad line is in the sink.
     Invalid,
-    /// The arguments are no command, and the usage line stands in the sink.
+    /// The arguments are no command, and the usage line is in the sink.
     Usage,
     /// The source failed.
     ReadFault,
-    /// The input has too many bytes. The line that says so stands in the sink, or for a service the answers so far.
+    /// The input has too many bytes. The line that says so is in the sink, or for a service the answers so far.
     TooLong,
-    /// The input is refused, and the line of the refusal stands in the sink, or for a service the frame of the fault.
+    /// The input is refused, and the line of the refusal is in the sink, or for a service the frame of the fault.
     Refused,
-    /// The sink failed; a part of the text due stands in it.
+    /// The sink failed; a part of the text due is in it.
     WriteFault,
     /// An allocation failed.
     NoMemory,

@@ -13,9 +13,9 @@ use std::marker::Brand;
 pub struct Break {
     /// The step.
     pub step: u32,
-    /// Its least target; none where it has no least one.
+    /// Its least target, if it has a least one.
     pub from: Option<i64>,
-    /// Its greatest target; none where it has no greatest one.
+    /// Its greatest target, if it has a greatest one.
     pub to: Option<i64>,
 }
 
@@ -32,7 +32,7 @@ pub(crate) fn find_breaks(alloc: Global, total: &ArrayBid) -> Result<Vec<Break>,
     Ok(breaks)
 }
 
-/// The break of a step, where it has targets.
+/// The break of a step, if it has targets.
 fn break_at(total: &ArrayBid, step: usize) -> Option<Break>
     requires inside { step < length total.now }
     requires small { step < most_steps }
@@ -50,7 +50,7 @@ fn break_at(total: &ArrayBid, step: usize) -> Option<Break>
     })
 }
 
-/// The least target that a step can have: the total there. The last step has none.
+/// The least target of a step: the total there. The last step has no least one.
 fn least_of(total: &ArrayBid, step: usize) -> Option<i64>
     requires { step < length total.now }
     ensures { result ≡ least_of total.now step }
@@ -62,7 +62,7 @@ fn least_of(total: &ArrayBid, step: usize) -> Option<i64>
     }
 }
 
-/// The greatest target that a step can have: the greatest number below the total at the step before. Step 0 has none.
+/// The greatest target of a step: the greatest number below the total at the step before. Step 0 has no greatest one.
 fn greatest_of(total: &ArrayBid, step: usize) -> Option<i64>
     requires { step < length total.now }
     ensures { result ≡ greatest_of total.now step }

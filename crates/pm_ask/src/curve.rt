@@ -87,8 +87,8 @@ impl Curve {
         &self.breaks
     }
 
-    /// What becomes of a target, in watts: the step at which the market clears once it is taken off the total at every
-    /// step, and the rest there.
+    /// What becomes of a target, in watts. It is taken off the total at every step. The answer is the step at which
+    /// the market then clears, and the rest there.
     ///
     /// The counter rises by at most n + 1, where n is the least number with 2^n at least the number of steps.
     pub fn answer<L: Ledger>(&self, target: i64, counter: &mut Steps<L>) -> Answer

@@ -5,9 +5,9 @@ ghost use Rattle.pm_bid.specs.Bids.{demand_at, pairwise_sum, sum_of, HaveSteps};
 ghost use Rattle.pm_bid.specs.Clearing.{Clears, IsFirstAtMost, clearing_step};
 ghost use Rattle.pm_ask.specs.Asked.{asked_step, asked_total, target_bid};
 
-/// A law: a target is one more bid. Whoever asks a cluster to take so many watts gets the answer of the market in which a
-/// participant offers these watts at every price, and whoever asks it to deliver them that of the market in which a
-/// participant takes them. So a dispatcher reads in the answer the price that the market would have with such a participant.
+/// A law: a target is one more bid. To ask a cluster to take so many watts gives the answer of the market in which a
+/// participant offers these watts at every price. To ask it to deliver them gives that of the market in which a participant
+/// takes them. So a dispatcher reads in the answer the price that the market would have with such a participant.
 pub fn targets_are_bids()
     // The answer is the step of the plain auction of all bids and the bid of the target.
     ensures auction { (target : ℤ) (steps : ℕ) (bids : List (List ℤ)) → HaveSteps steps bids

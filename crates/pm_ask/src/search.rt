@@ -8,8 +8,8 @@ ghost use Rattle.pm_ask.specs.Asked.{asked_step};
 use pm_bid::{ArrayBid, Steps};
 use std::sync::ledger::Ledger;
 
-/// The first step at which the total is at most the target, and the last step where there is none, found by halving
-/// the steps that are left.
+/// The first step at which the total is at most the target, and the last step if there is no such one. It is found
+/// by halving the steps that are left.
 pub(crate) fn find_step<L: Ledger>(total: &ArrayBid, target: i64, counter: &mut Steps<L>) -> usize
     requires { NeverRises total.now }
     ensures step { result ≡ asked_step target total.now }

@@ -8,7 +8,7 @@ ghost use Rattle.pm_ask.specs.TargetLists.{target_line, BeginsWithTarget};
 use pm_base::DEMAND_LIMIT;
 use pm_envelope::{number_up_to, split_line};
 
-/// The target whose line begins a text, and what follows it; none where the text begins with the line of no target.
+/// The target whose line begins a text, and what follows it, if the text begins with the line of a target.
 pub(crate) fn split_target(text: &[u8]) -> Option<(i64, &[u8])>
     ensures within { IfSome result (λ parts. IsWithin demand_limit parts.0) }
     ensures some { IfSome result (λ parts. text.now ≡ target_line parts.0 ++ parts.1.now) }
@@ -19,8 +19,8 @@ pub(crate) fn split_target(text: &[u8]) -> Option<(i64, &[u8])>
     Some((target, rest))
 }
 
-/// The target that a line writes: a whole number within the limit of a demand, in decimal digits without a leading zero,
-/// with `-` in front where it is negative.
+/// The target that a line writes: a whole number within the limit of a demand. It is in decimal digits without a leading
+/// zero, with `-` in front if it is negative.
 fn read_target(line: &[u8]) -> Option<i64>
     ensures within { IfSome result (IsWithin demand_limit) }
     ensures text { IfSome result (λ target. line.now ≡ signed_decimal target) }
@@ -33,7 +33,7 @@ fn read_target(line: &[u8]) -> Option<i64>
     }
 }
 
-/// The negative number whose digits these are, down to the limit of a demand. Zero is none.
+/// The negative number whose digits these are, down to the limit of a demand. Zero is not negative.
 fn negative_of(digits: &[u8]) -> Option<i64>
     ensures within { IfSome result (IsWithin demand_limit) }
     ensures negative { IfSome result (λ target. target <ℤ pos 0) }

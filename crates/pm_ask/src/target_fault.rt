@@ -9,7 +9,7 @@ use thiserror::Error;
 /// Why a text is no list of targets.
 #[derive(Clone, Copy, Debug, PartialEq, Eq, Error)]
 pub enum TargetsFault {
-    /// The line, counted from 1, is no target, has no end or is one too many: the first such line.
+    /// The first line, counted from 1, that is no target, has no end or is one too many.
     #[error("line {line} is no target")]
     Bad { line: u32 },
     /// An allocation failed.

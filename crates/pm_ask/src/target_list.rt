@@ -11,8 +11,8 @@ use std::alloc::Global;
 pub const MOST_TARGETS: usize = 100_000;
 
 /// The targets of a text, in watts: a line for each, at most [`MOST_TARGETS`]. A target is a whole number within
-/// ±1,000,000,000, in decimal digits without a leading zero, with `-` in front where it is negative, and its line has an
-/// end. The text is refused at its first bad line. An allocation failure may be answered at any text.
+/// ±1,000,000,000, in decimal digits without a leading zero, with `-` in front if it is negative. Its line has an end.
+/// The text is refused at its first bad line. An allocation failure may be answered at any text.
 pub fn read_targets(alloc: Global, text: &[u8]) -> Result<Vec<i64>, TargetsFault>
     ensures read { IfOk result (λ targets. IsListText targets.items text.now) }
     ensures bad { IfErr result (IsFaultOfText text.now) }

@@ -13,8 +13,8 @@ use std::alloc::{AllocError, Global};
 use std::marker::Brand;
 use std::sync::ledger::Ledger;
 
-/// The text of what is asked of a total: a line for each step that has targets, rising, with the least and the greatest of
-/// them, then a line for each target in order. Prices are in price units, all else is in watts.
+/// The text of what is asked of a total. It has a line for each step that has targets, rising, with the least and the
+/// greatest of them. Then it has a line for each target in order. Prices are in price units, all else is in watts.
 ///
 /// ```text
 /// curve step K price X from A to B
@@ -73,7 +73,7 @@ fn push_ends(text: &mut String, of_step: &Break) -> Result<(), AllocError>
     text.push_str("\n")
 }
 
-/// Writes the number, or this word where there is none.
+/// Writes the number, or this word if there is no number.
 fn push_number_or(text: &mut String, number: Option<i64>, word: &str) -> Result<(), AllocError>
     ensures { OnOk result (string_bytes text.new ≡ string_bytes text.old
         ++ number_or word.now number) }

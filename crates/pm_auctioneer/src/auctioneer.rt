@@ -65,7 +65,7 @@ impl Auctioneer {
         })
     }
 
-    /// Learns a child's bid with its number; None is a bid that is gone. `Old` comes exactly where
+    /// Learns a child's bid with its number; None is a bid that is gone. `Old` comes exactly if
     /// the number is at most the kept one; nothing changes then.
     pub fn learn(
         &mut self,
@@ -90,7 +90,7 @@ impl Auctioneer {
     }
 
     /// Clears the market: the step is the clearing step of the children's sum, the index the next
-    /// one. `NotChanged` comes exactly where nothing was learnt since the last clearing; nothing
+    /// one. `NotChanged` comes exactly if nothing was learnt since the last clearing; nothing
     /// changes then.
     pub fn next_clearing(&mut self) -> Result<Cleared, ClearFault>
         requires last { self.old.index + 1 < 2 ^ 32 }
@@ -113,8 +113,8 @@ impl Auctioneer {
         Ok(Cleared { index, step })
     }
 
-    /// The prices of the last clearing, by the heads that the children have now: for each child
-    /// that is not gone the step and the index, with the number of its head.
+    /// The prices of the last clearing, by the heads that the children have now. Each child that
+    /// is not gone has the step and the index, with the number of its head.
     pub fn prices(&self) -> Prices<'_>
         ensures heads { result.heads.now ≡ self.now.cache.heads }
         ensures step { result.step ≡ self.now.step }
@@ -129,7 +129,7 @@ impl Auctioneer {
 
     /// Clears the market, and offers the price to each child that is not gone:
     /// [`Auctioneer::next_clearing`], with its faults, and [`Auctioneer::prices`] on links. Nothing
-    /// changes where a fault comes.
+    /// changes if a fault comes.
     pub fn clear(&mut self, downs: &mut [Link]) -> Result<Cleared, ClearFault>
         requires same_length { length downs.old ≡ length self.old.cache.heads }
         requires last { self.old.index + 1 < 2 ^ 32 }
@@ -154,7 +154,7 @@ impl Auctioneer {
         &self.cache
     }
 
-    /// The step of the last clearing, 0 where there is none.
+    /// The step of the last clearing, 0 if there is no clearing.
     pub fn step(&self) -> u32
         ensures step { result ≡ self.now.step }
         ensures inside { result < self.now.cache.steps }
@@ -162,7 +162,7 @@ impl Auctioneer {
         self.step
     }
 
-    /// The index of the last clearing, 0 where there is none.
+    /// The index of the last clearing, 0 if there is no clearing.
     pub fn index(&self) -> u32
         ensures index { result ≡ self.now.index }
     {

@@ -5,7 +5,7 @@ use thiserror::Error;
 /// Why the market is not cleared.
 #[derive(Clone, Copy, Debug, PartialEq, Eq, Error)]
 pub enum ClearFault {
-    /// Nothing was learnt since the last clearing, or since the opening where there is none.
+    /// Nothing was learnt since the last clearing, or, before the first, since the opening.
     #[error("nothing was learnt since the last clearing")]
     NotChanged,
     /// An allocation failed. It never comes: clearing takes no memory.

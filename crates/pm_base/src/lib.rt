@@ -1,8 +1,8 @@
 //! What several crates of the market share: the limits of its profile, and the definitions that their contracts share.
 //!
-//! The numbers are this project's own profile; that a part of the cluster may have its power bounded is peak shaving.
-//! `specs/` has the same limits as definitions (`Limits`), the cut that gives each device a number of its changes
-//! (`Cuts`), and stages that give a value or the first refusal (`Outcomes`). `proofs/` has the lemmas that several crates
+//! The numbers are this project's own profile. To bound the power of a part of the cluster is peak shaving. `specs/` has
+//! the same limits as definitions (`Limits`). It also has the cut that gives each device a number of its changes
+//! (`Cuts`). `Outcomes` has stages that give a value or the first refusal. `proofs/` has the lemmas that several crates
 //! cite, by subject.
 #![tactic(auto)]
 

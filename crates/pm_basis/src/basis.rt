@@ -39,9 +39,9 @@ impl Model for Basis {
 }
 
 impl Basis {
-    /// The basis of these numbers: 2 to 1000 steps, `min` below `max`, both within
-    /// ±1,000,000,000 price units, and a distance of steps that is whole; else the answer is the
-    /// first fault, in the order of [`BasisFault`].
+    /// The basis of these numbers. There are 2 to 1000 steps, `min` is below `max`, both are
+    /// within ±1,000,000,000 price units, and the distance of steps is whole. Otherwise the
+    /// answer is the first fault, in the order of [`BasisFault`].
     pub fn new(min: i64, max: i64, steps: i64) -> Result<Basis, BasisFault>
         ensures { result ≡ checked_basis min max steps }
     {

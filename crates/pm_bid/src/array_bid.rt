@@ -16,8 +16,8 @@ use std::alloc::{AllocError, Global};
 use std::marker::Model;
 use std::sync::ledger::Ledger;
 
-/// A list of 2 to 1000 whole numbers in watts, one for each step of a market basis, each within
-/// ±256,000,000,000: a bid, or a sum of up to 256 bids.
+/// A bid, or a sum of up to 256 bids: a list of 2 to 1000 whole numbers in watts. There is one
+/// for each step of a market basis, each within ±256,000,000,000.
 ///
 /// Contracts see it as the list. The last parameter of each call that touches elements is the
 /// counter of touched elements.
@@ -38,9 +38,9 @@ impl Model for ArrayBid {
 }
 
 impl ArrayBid {
-    /// The bid of these demands. They are as many as the steps, none is above the one before, and
-    /// each lies within ±1,000,000,000 watts; else the answer is the first fault, in the order of
-    /// [`BidFault`]. The counter rises by the length of the list in each case.
+    /// The bid of these demands. They are as many as the steps, no demand is above the one before,
+    /// and each lies within ±1,000,000,000 watts. Otherwise the answer is the first fault, in the
+    /// order of [`BidFault`]. The counter rises by the length of the list in each case.
     pub fn new<L: Ledger>(
         demands: Vec<i64>,
         steps: usize,
@@ -159,8 +159,8 @@ impl ArrayBid {
     }
 
     /// The step at which a market with this total demand clears: the first step whose demand is
-    /// not positive, and the last step where all are positive. That the total demand balances is
-    /// Kok's rule; taking the first such step of a list is this project's profile.
+    /// not positive. If all are positive, it is the last step. To balance the total demand is
+    /// Kok's rule; to take the first such step of a list is this project's profile.
     pub fn first_not_positive<L: Ledger>(&self, counter: &mut Steps<L>) -> usize
         ensures step { result ≡ clearing_step self.now }
         ensures clears { Clears self.now result }
@@ -172,7 +172,7 @@ impl ArrayBid {
         self.first_at_most(0, counter)
     }
 
-    /// The first step whose demand is at most the limit, and the last step where there is none.
+    /// The first step whose demand is at most the limit, and the last step if there is no such one.
     #[tactic(auto, using(crate::proofs::FoundStep::first_at_most_is_first))]
     pub fn first_at_most<L: Ledger>(&self, limit: i64, counter: &mut Steps<L>) -> usize
         ensures step { result ≡ first_at_most limit self.now }
@@ -186,7 +186,7 @@ impl ArrayBid {
         find_at_most(&self.demands, limit, counter)
     }
 
-    /// The last step whose demand is at least the limit, and step 0 where there is none.
+    /// The last step whose demand is at least the limit, and step 0 if there is no such one.
     #[tactic(auto, using(crate::proofs::FoundStep::last_at_least_is_last))]
     pub fn last_at_least<L: Ledger>(&self, limit: i64, counter: &mut Steps<L>) -> usize
         ensures step { result ≡ last_at_least limit self.now }
@@ -200,9 +200,9 @@ impl ArrayBid {
         find_at_least(&self.demands, limit, counter)
     }
 
-    /// The step of the nodes below a part of the cluster whose power is limited, where this is the sum of their bids and
-    /// the whole clears at `step`: that step where the sum there lies within the limits; where it is above the ceiling,
-    /// the first step at which it is at most the ceiling; where it is below the floor, the last step at which it is at
+    /// The step of the nodes of a part with limited power, if this is the sum of their bids and the whole clears at
+    /// `step`. If the sum there lies within the limits, it is that step. If the sum is above the ceiling, it is the
+    /// first step at which it is at most the ceiling. If it is below the floor, it is the last step at which it is at
     /// least the floor. Bounding a part's power in this way is this project's own profile.
     pub fn step_within<L: Ledger>(
         &self,
@@ -238,9 +238,9 @@ impl ArrayBid {
         target.demands.copy_from_slice(&self.demands);
     }
 
-    /// Makes the target, which has as many steps, this bid with each demand moved to the nearest
-    /// number between floor and ceiling, in watts: what a part of the cluster with limited power
-    /// announces.
+    /// Makes the target, which has as many steps, what a part of the cluster with limited power
+    /// announces. This is the bid with each demand moved to the nearest number between floor and
+    /// ceiling, in watts.
     pub fn clamp_into<L: Ledger>(
         &self,
         floor: i64,

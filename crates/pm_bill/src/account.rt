@@ -8,7 +8,7 @@ ghost use Rattle.pm_bill.specs.Accounts.{account_sum, account_of, positive_part,
 /// What power came to over some ticks.
 #[derive(Clone, Copy, Debug, PartialEq, Eq)]
 pub struct Account {
-    /// What was paid for it, in price units times watts times minutes: negative where more was earned than paid.
+    /// What was paid for it, in price units times watts times minutes: negative if more was earned than paid.
     pub amount: i128,
     /// The power taken, in watts times minutes.
     pub taken: i128,
@@ -61,7 +61,7 @@ fn over(rate: i128, minutes: i64) -> i128
     rate * i128::from(minutes)
 }
 
-/// A power where it is positive, else 0.
+/// A power if it is positive, otherwise 0.
 fn positive_part(power: i128) -> i128
     requires { IsWithin cost_limit power }
     ensures part { result ≡ positive_part power }

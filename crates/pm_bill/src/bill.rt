@@ -70,8 +70,8 @@ impl Bill {
         })
     }
 
-    /// Adds a tick of so many minutes: each share to the account of its device, and to the grid's account what the groups'
-    /// power costs and what the devices leave over. It takes no memory.
+    /// Adds a tick of so many minutes. Each share goes to the account of its device. What the groups' power costs and what
+    /// the devices leave over goes to the grid's account. It takes no memory.
     ///
     /// A bill takes up to 1,000 ticks, each of one minute to one day. The shares are of different devices, and shares and
     /// groups come to the same power and cost the same.
@@ -118,8 +118,8 @@ impl Bill {
         self.grid
     }
 
-    /// The text of the bill of its plan: a line for each device in file order, one for the grid, and the ticks with
-    /// their minutes.
+    /// The text of the bill of its plan. It has a line for each device in file order, one for the grid, and one of
+    /// the ticks with their minutes.
     ///
     /// ```text
     /// account NAME amount A taken T given G

@@ -21,7 +21,7 @@ pub(crate) struct Charges {
 }
 
 impl Charges {
-    /// The charges where no device is a member.
+    /// The charges if no device is a member.
     fn none(alloc: Global) -> Charges
         ensures shares { result.shares.items ≡ [] }
         ensures groups { result.groups.items ≡ [] }
@@ -46,7 +46,7 @@ impl Charges {
         })
     }
 
-    /// The charges of a tick phase: those at the end of the phase before, and none in the first phase.
+    /// The charges of a tick phase: those at the end of the phase before. The first phase has no charges.
     pub(crate) fn before(
         alloc: Global,
         plan: &Plan,
@@ -67,7 +67,7 @@ impl Charges {
     }
 }
 
-/// The group of a node: the limited concentrator above it, 0 where there is none.
+/// The group of a node: the limited concentrator above it, 0 if there is no such one.
 fn group_of(plan: &Plan, node: u32) -> u32
     requires { node ≤ length plan.now.nodes }
     ensures { result ≡ group plan.now node }
@@ -78,7 +78,7 @@ fn group_of(plan: &Plan, node: u32) -> u32
     }
 }
 
-/// The line of a limited concentrator, none where it has none.
+/// The line of a limited concentrator, if it has one.
 fn line_of(lines: &[LimitedLine], node: u32) -> Option<LimitedLine>
     ensures { result ≡ find (λ line. line.node == node) lines.now }
 {

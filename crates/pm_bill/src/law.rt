@@ -9,9 +9,9 @@ ghost use Rattle.pm_bill.specs.Bills.{BillData, AddsUp};
 ghost use Rattle.pm_bill.specs.Runs.{tick_phases, device_gain, plan_bill};
 ghost use Rattle.pm_bill.specs.Ticks.{TickData, IsAfterTicks};
 
-/// A law: after any list of ticks, each of which does to the bill what [`crate::Bill::tick`] does, the account of each node
-/// is the sum of its shares, that of the grid the sum of what it is due, and the bill tells how many ticks and how many
-/// minutes there were.
+/// A law about any list of ticks, each of which does to the bill what [`crate::Bill::tick`] does. The account of each node
+/// is then the sum of its shares, and that of the grid the sum of what it is due. The bill tells how many ticks and how
+/// many minutes there were.
 #[tactic(auto, using(crate::proofs::TickSums::tick_sums))]
 pub fn accounts_are_sums()
     ensures account { (leaves : List Bool) (ticks : List TickData) (bill : BillData) (node : ℕ) →
@@ -31,7 +31,7 @@ pub fn accounts_are_sums()
 {}
 
 /// A law: the bill of the run of a plan adds up. What all devices and the grid pay comes to 0, and so does what they take less
-/// what they give; no node but a device has an account. The account of a device is the sum of what it gains in the ticks.
+/// what they give. No node except a device has an account. The account of a device is the sum of what it gains in the ticks.
 pub fn bills_of_plans_add_up()
     ensures adds_up { (plan : PlanData) → IsPlan plan → AddsUp (plan_bill plan) }
     ensures device { (plan : PlanData) (d : ℕ) → IsPlan plan → is_leaf plan d ≡ true →

@@ -1,14 +1,14 @@
 //! The bill of a run: what each device and the grid pay for their power, and how much they take and give, over ticks.
 //!
 //! In a tick each device pays the price of its group for its power over the minutes of the tick; who delivers power is
-//! paid. The devices of a group need not balance at its step, and below a limited concentrator the price is another one:
-//! the grid takes and gives what is left over, and is the other side of every payment. So the amounts of all devices and
-//! of the grid add up to 0, and so does all power taken less all power given, which the type of a [`Bill`] keeps. Amounts
+//! paid. The devices of a group need not balance at its step, and below a limited concentrator the price is another one.
+//! The grid takes and gives what is left over, and is the other side of every payment. So the amounts of all devices and
+//! of the grid add up to 0, and so does all power taken less all power given. The type of a [`Bill`] keeps this. Amounts
 //! are in price units times watts times minutes, in 128 bits.
 //!
-//! The definitions stand in `specs/`: `Accounts` (what a power comes to), `Shares` (a tick's shares and groups), `Bills`
-//! (the accounts of all), `Ticks` (the ticks that a bill took), `Text`, `Runs` (the bill of a run, from its plan alone),
-//! `Charges` (what a phase's end says of the tick after it). Bills are this project's own profile.
+//! The definitions are in `specs/`. `Accounts` has what a power comes to, `Shares` a tick's shares and groups, and `Bills`
+//! the accounts of all. `Ticks` has the ticks that a bill took, and `Text` its text. `Runs` has the bill of a run, from
+//! its plan alone, and `Charges` what a phase's end says of the tick after it. Bills are this project's own profile.
 #![tactic(auto)]
 
 mod account;

@@ -11,8 +11,8 @@ use crate::charges::Charges;
 use pm_plan::{PhaseEnd, Plan};
 use std::alloc::{AllocError, Global};
 
-/// The bill of the run of a plan, from the ends of all its phases: over the minutes of each tick phase the devices take
-/// and give what they do at the end of the phase before. The answer is an error only for want of memory.
+/// The bill of the run of a plan, from the ends of all its phases. Over the minutes of each tick phase the devices take
+/// and give what they do at the end of the phase before. The answer is an error only if an allocation fails.
 pub fn bill_of_run(alloc: Global, plan: &Plan, ends: &[PhaseEnd]) -> Result<Bill, AllocError>
     requires { ends_of ends.now ≡ all_ends plan.now }
     ensures bill { IfOk result (λ bill. bill ≡ plan_bill plan.now) }

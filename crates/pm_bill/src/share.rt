@@ -7,11 +7,11 @@ pub struct Share {
     pub node: u32,
     /// The price of its group's step, in price units.
     pub price: i64,
-    /// Its power in watts, positive where it takes power.
+    /// Its power in watts, positive if it takes power.
     pub power: i64,
 }
 
-/// What a group of devices comes to in a tick: those below one limited concentrator, or those below none.
+/// What a group of devices comes to in a tick: those below one limited concentrator, or those below no limited one.
 #[derive(Clone, Copy, Debug, PartialEq, Eq)]
 pub struct GroupSum {
     /// The price of the group's step, in price units.

@@ -51,7 +51,7 @@ impl<'p> Model for Board<'p> {
     ghost invariant = { λ b. IsBoard b.cluster.plan b.cluster.core b.journal b.ends.items };
 }
 
-/// Its owner lets go of it in one step, where a derived drop would be one for each part.
+/// Its owner lets go of it in one step; a derived drop would be one for each part.
 impl Drop for Board<'_> {
     fn drop(self) {
         let Board {
@@ -63,8 +63,8 @@ impl Drop for Board<'_> {
 }
 
 impl<'p> Board<'p> {
-    /// Opens a board on a plan, before the first move. It takes all memory of the run: that of the cluster, of as many
-    /// lines as a run has at most, and of an end for each phase. The answer is an error only for want of memory.
+    /// Opens a board on a plan, before the first move. It takes all memory of the run. This is that of the cluster, of as
+    /// many lines as a run has at most, and of an end for each phase. The answer is an error only if an allocation fails.
     pub fn open(alloc: Global, plan: &'p Plan) -> Result<Board<'p>, AllocError>
         ensures plan { IfOk result (λ b. b.plan ≡ plan.now) }
         ensures lines { IfOk result (λ b. b.lines ≡ []) }
@@ -88,8 +88,8 @@ impl<'p> Board<'p> {
         self.cluster.plan()
     }
 
-    /// What the next change of a device makes of it; none exactly where no phase is open, or the device made all its
-    /// changes of the open phase.
+    /// What the next change of a device makes of it. The answer is None exactly if no phase is open, or the device
+    /// made all its changes of the open phase.
     pub fn next(&self, device: NodeId) -> Option<Next>
         requires leaf { IsLeaf (plan_lists self.now.plan) device.0 }
         ensures next { let s = board_state self.now in
@@ -99,11 +99,11 @@ impl<'p> Board<'p> {
         self.cluster.next(device)
     }
 
-    /// The price that a device holds: that of the clearing passed to it last, unless that is of a former membership. Where
-    /// nothing is pending each member holds the step of its part of the cluster over all current bids.
+    /// The price that a device holds: that of the clearing passed to it last, unless that is of a former membership. If
+    /// nothing is pending, each member holds the step of its part of the cluster over all current bids.
     ///
-    /// Whoever holds a price has its own bid in it: the price names the device's number in the cut of its clearing, at which the
-    /// device is a member, and its step is the device's local step over that cut.
+    /// Whoever holds a price has its own bid in it. The price names the device's number in the cut of its clearing, at which
+    /// the device is a member. Its step is the device's local step over that cut.
     pub fn held(&self, device: NodeId) -> Option<Held>
         requires leaf { IsLeaf (plan_lists self.now.plan) device.0 }
         ensures held { result ≡ held_price self.now.plan (board_state self.now) device.0 }
@@ -145,8 +145,8 @@ impl<'p> Board<'p> {
         self.cluster.closed() == self.cluster.plan().phases()
     }
 
-    /// The journal: its moves are legal, its lines tell what devices held, no device goes back to older bids of anyone, and
-    /// it is no longer than the bound of the plan.
+    /// The journal. Its moves are legal, its lines tell what devices held, and no device goes back to older bids of anyone.
+    /// It is no longer than the bound of the plan.
     pub fn journal(&self) -> &Journal
         ensures lines { result.now.lines ≡ self.now.lines }
         ensures journal { IsJournal self.now.plan self.now.lines }
@@ -165,8 +165,8 @@ impl<'p> Board<'p> {
         &self.ends[..self.cluster.closed() as usize]
     }
 
-    /// The auctioneer's sum of the bids that it learnt last, in watts at each step; where nothing is pending the total over
-    /// all current bids.
+    /// The auctioneer's sum of the bids that it learnt last, in watts at each step. If nothing is pending, it is the total
+    /// over all current bids.
     pub fn aggregate(&self) -> &ArrayBid
         ensures sum { result.now ≡ children_sum self.now.plan 0
             (knowledge (plan_lists self.now.plan) (board_state self.now) 0) }

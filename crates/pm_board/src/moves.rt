@@ -19,8 +19,8 @@ use std::alloc::AllocError;
 impl<'p> Board<'p> {
     /// Makes the next change of a device, and its line joins the journal.
     ///
-    /// `NotNext` comes exactly where what was made is of no device of the plan, is not the device's next change, or is not
-    /// of its kind; it has the next change. For a manual device the bid is the plan's array.
+    /// `NotNext` comes exactly if what was made is of no device of the plan, not the device's next change, or not of its
+    /// kind. It has the next change. For a manual device the bid is the plan's array.
     pub fn post(&mut self, made: &Made) -> Result<Move, ChangeFault>
         requires steps { length made.now.demand ≡ self.old.plan.basis.steps }
         ensures follows { IfOk result (λ what. Follows self.old.plan (board_state self.old).closed
@@ -40,9 +40,9 @@ impl<'p> Board<'p> {
         Ok(what)
     }
 
-    /// Makes one move of a node, where one is legal, and its line joins the journal: a node learns from its children, a
-    /// concentrator publishes and passes a price on, the auctioneer clears, a device takes a price. None comes exactly where
-    /// no such move is legal, and never an error.
+    /// Makes one move of a node, if one is legal, and its line joins the journal. A node learns from its children, a
+    /// concentrator publishes and passes a price on, the auctioneer clears, a device takes a price. None comes exactly if no
+    /// such move is legal, and never an error.
     pub fn turn(&mut self, node: NodeId) -> Result<Option<Line>, AllocError>
         requires inside { node.0 ≤ nodes (plan_lists self.old.plan) }
         ensures ok { IfErr result (λ e. ⊥) }
@@ -61,7 +61,7 @@ impl<'p> Board<'p> {
         Ok(Some(line))
     }
 
-    /// Closes the open phase, where that is legal: all its changes are made, and nothing is pending. Its line joins the
+    /// Closes the open phase, if that is legal: all its changes are made, and nothing is pending. Its line joins the
     /// journal, and its end the ends. The answer is whether the phase was closed, and never an error.
     pub fn close(&mut self) -> Result<bool, AllocError>
         ensures ok { IfErr result (λ e. ⊥) }

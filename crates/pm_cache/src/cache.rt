@@ -15,8 +15,8 @@ use std::sync::ledger::Ledger;
 
 /// The newest bid of each of up to 256 children, and the sum of these bids.
 ///
-/// Contracts see it as its entries: for each child the head of its newest bid and the demand in
-/// watts at each step, all zeros where the child is gone. Children count from 0. The last
+/// Contracts see it as its entries. Each child has the head of its newest bid and the demand in
+/// watts at each step, all zeros if the child is gone. Children count from 0. The last
 /// parameter of each call that touches demands is the counter of touched elements.
 pub struct BidCache {
     heads: Vec<BidHead>,
@@ -38,7 +38,7 @@ impl Model for BidCache {
     ghost invariant = { KeepsSum };
 }
 
-/// Its owner lets go of it in one step, where a derived drop would be one for each part.
+/// Its owner lets go of it in one step; a derived drop would be one for each part.
 impl Drop for BidCache {
     fn drop(self) {
         let BidCache {
@@ -83,7 +83,7 @@ impl BidCache {
 
     /// Takes a child's newer bid in the place of the one before. The bid has as many steps as the
     /// cache, and all entries with it in the child's place sum within ±256,000,000,000 watts. `Old`
-    /// comes exactly where the number is at most the kept one; nothing changes then.
+    /// comes exactly if the number is at most the kept one; nothing changes then.
     pub fn replace<L: Ledger>(
         &mut self,
         child: usize,
@@ -138,9 +138,9 @@ impl BidCache {
         Ok(())
     }
 
-    /// Learns a child's bid under this number: [`BidCache::replace`] where there is a demand, else
-    /// [`BidCache::remove`]. `Old` comes exactly where the number is at most the kept one; nothing
-    /// changes then.
+    /// Learns a child's bid under this number: by [`BidCache::replace`] if there is a demand,
+    /// otherwise by [`BidCache::remove`]. `Old` comes exactly if the number is at most the kept
+    /// one; nothing changes then.
     pub fn learn<L: Ledger>(
         &mut self,
         child: usize,

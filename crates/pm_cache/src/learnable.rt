@@ -12,7 +12,7 @@ use pm_bid::{ArrayBid, Steps};
 use std::sync::ledger::Ledger;
 
 impl BidCache {
-    /// Whether a child's bid may be learnt: it is a child's, it has the cache's steps, and all entries with it in the child's
+    /// Whether a child's bid may be learnt. It is a child's, it has the cache's steps, and all entries with it in the child's
     /// place sum within ±256,000,000,000 watts at every step. [`BidCache::learn`] asks for exactly this.
     pub fn can_learn<L: Ledger>(
         &self,
@@ -39,7 +39,7 @@ impl BidCache {
     }
 }
 
-/// Whether a demand has so many steps; none has every number of them.
+/// Whether a demand has so many steps; None fits every number of them.
 fn has_steps(demand: Option<&ArrayBid>, steps: usize) -> bool
     ensures yes { result ≡ true → IfSome (option_copied demand.entry) (λ bid. length bid ≡ steps) }
     ensures no { result ≡ false → IfSome (option_copied demand.entry) (λ bid. length bid ≡ steps) →

@@ -9,7 +9,7 @@ use thiserror::Error;
 /// Why a trace is not valid.
 #[derive(Clone, Copy, Debug, PartialEq, Eq, Error)]
 pub enum CheckFault {
-    /// The first line of the trace, counted from 1, that is not due where it stands, has no end, or is due and missing.
+    /// The first line of the trace, counted from 1, that is not due there, has no end, or is due and missing.
     #[error("line {line} is not due")]
     Invalid { line: u64 },
     /// An allocation failed.

@@ -23,7 +23,7 @@ pub(crate) struct Judge {
     steps: ClearedSteps,
 }
 
-/// Its owner lets go of it in one step, where a derived drop would be one for each part.
+/// Its owner lets go of it in one step; a derived drop would be one for each part.
 impl Drop for Judge {
     fn drop(self) {
         let Judge {
@@ -54,8 +54,8 @@ impl Judge {
         self.market.is_complete()
     }
 
-    /// Takes a line of the trace, its line feed included. Where it tells a legal move, with what a device then holds, the
-    /// move is made and the answer is true. Else the answer is false, and the judge has come to its end.
+    /// Takes a line of the trace, its line feed included. If it tells a legal move, with what a device then holds, the
+    /// move is made and the answer is true. Otherwise the answer is false, and the judge has come to its end.
     pub(crate) fn take(&mut self, plan: &Plan, line: &[u8]) -> Result<bool, AllocError>
         requires { IsJudge plan.now self.old }
         ensures taken { IfOk result (λ taken. taken ≡ true →
@@ -102,7 +102,7 @@ impl Judge {
         }
     }
 
-    /// The step and the number of the price that a device holds; none where it holds none, or the node is no device.
+    /// The step and the number of the price that a device holds, if the node is a device and holds one.
     fn held(&self, plan: &Plan, node: u32) -> Option<(u32, u32)>
         requires judge { IsJudge plan.now self.now }
         requires node { node ≤ length plan.now.nodes }

@@ -6,7 +6,7 @@ ghost use Rattle.pm_check.specs.Lines.{IsWholeLine};
 
 use pm_envelope::split_line;
 
-/// The first whole line of a text, its line feed included, and what follows it; none where there is no line feed.
+/// The first whole line of a text, its line feed included, and what follows it, if there is a line feed.
 pub(crate) fn split_whole_line(text: &[u8]) -> Option<(&[u8], &[u8])>
     ensures whole { IfSome result (λ parts. IsWholeLine parts.0.now) }
     ensures parts { IfSome result (λ parts. text.now ≡ parts.0.now ++ parts.1.now) }

@@ -137,7 +137,7 @@ fn no_changes(alloc: Global, many: usize) -> Result<Vec<u32>, AllocError>
     vec![in alloc; 0; many]
 }
 
-/// The number of changes of each node at the end of a phase, where `before` has those at the end of the phase before.
+/// The number of changes of each node at the end of a phase, if `before` has those at the end of the phase before.
 fn ends_row(alloc: Global, plan: &Plan, phase: u32, before: &[u32]) -> Result<Vec<u32>, AllocError>
     requires first { 1 ≤ phase }
     requires last { phase ≤ phases plan.now }

@@ -89,7 +89,7 @@ impl ClearedSteps {
     }
 }
 
-/// The place of the steps of a node's group: that of the limited concentrator above it, and 0 where there is none.
+/// The place of the steps of a node's group: that of the limited concentrator above it, and 0 if there is no such one.
 fn group_place(plan: &Plan, node: NodeId) -> usize
     requires { node.0 ≤ length plan.now.nodes }
     ensures group { result ≡ group plan.now node.0 }

@@ -17,14 +17,14 @@ use crate::lines::split_whole_line;
 use pm_plan::Plan;
 use std::alloc::{AllocError, Global};
 
-/// Judges a trace of a plan, against the report that is due. The answer is the number of its moves where it is the report,
-/// the lines of a legal journal that closes every phase, and the line with their number. Else it is refused at its bad
-/// line: the first, counted from 1, that is not due where it stands or has no end, or the first that is due and missing.
-/// An allocation failure may be answered at any trace.
+/// Judges a trace of a plan, against the report that is due. A valid trace is the report, the lines of a legal journal
+/// that closes every phase, and the line with their number. The answer is then the number of its moves. Otherwise it is
+/// refused at its bad line. This is the first, counted from 1, that is not due there, has no end, or is due and
+/// missing. An allocation failure may be answered at any trace.
 ///
 /// The report is a list of lines, each with a line feed at its end. A line of the trace costs its length, and the test and
-/// the making of its move, as `Market` of `pm_market` has them; a clearing also costs the steps of the basis, once for each
-/// limited concentrator and once more, and once for each change since the clearing before it. No line is kept.
+/// the making of its move, as `Market` of `pm_market` has them. A clearing also costs the steps of the basis: once, once
+/// for each limited concentrator, and once for each change since the clearing before it. No line is kept.
 pub fn check(alloc: Global, plan: &Plan, report: &[u8], trace: &[u8]) -> Result<u64, CheckFault>
     requires { (lines : List (List ℕ)) × AreLinesOf report.now lines [] }
     ensures sound { IsPlan plan.now }
@@ -44,7 +44,7 @@ pub fn check(alloc: Global, plan: &Plan, report: &[u8], trace: &[u8]) -> Result<
     }
 }
 
-/// What stands behind the report in a trace.
+/// What is behind the report in a trace.
 #[derive(Clone, Copy)]
 struct Reported<'a> {
     /// How many lines the report has.
@@ -78,7 +78,7 @@ fn read_report<'a>(report: &[u8], trace: &'a [u8]) -> Result<Reported<'a>, u64>
     Ok(Reported { lines, rest })
 }
 
-/// Judges what stands behind the report.
+/// Judges what is behind the report.
 fn check_moves(
     alloc: Global,
     plan: &Plan,

@@ -24,8 +24,8 @@ use pm_tree::NodeId;
 use std::alloc::{AllocError, Global};
 
 impl<'p> Cluster<'p> {
-    /// Makes one node move of a node, where one is legal: a node learns from its children, a concentrator publishes and
-    /// passes a price on, the auctioneer clears, a device takes a price. None comes exactly where no such move is legal,
+    /// Makes one node move of a node, if one is legal. A node learns from its children, a concentrator publishes and
+    /// passes a price on, the auctioneer clears, a device takes a price. None comes exactly if no such move is legal,
     /// and never an error.
     pub fn step(&mut self, node: NodeId) -> Result<Option<Line>, AllocError>
         requires inside { node.0 ≤ nodes (plan_lists self.old.plan) }
@@ -45,8 +45,8 @@ impl<'p> Cluster<'p> {
         }
     }
 
-    /// The line of a move that was just made: after a price was passed to a device it has the step and the number that
-    /// the device then holds.
+    /// The line of a move that was just made. After a price was passed to a device, it has the step and the number
+    /// that the device then holds.
     fn line_of(&self, what: Move) -> Line
         ensures line { (s : State) → MakesMove self.now.plan self.now.core s what →
             IsMadeLine self.now.plan self.now.core s result }
@@ -59,7 +59,7 @@ impl<'p> Cluster<'p> {
         Line { what, held }
     }
 
-    /// The step and the number that a device holds; none for any other node.
+    /// The step and the number that a device holds; None for any other node.
     fn held_by(&self, node: NodeId) -> Option<(u32, u32)>
         ensures held { (s : State) → StandsFor self.now.plan self.now.core s →
             result ≡ (if is_leaf (plan_lists self.now.plan) node.0
@@ -77,8 +77,8 @@ impl<'p> Cluster<'p> {
 
     /// Makes the legal move of an act's form; for a change it computes the device's bid.
     ///
-    /// `Illegal` comes exactly where no move of that form is legal; a node that does not exist or is of the wrong sort has
-    /// none. No memory is taken, so `NoMemory` never comes.
+    /// `Illegal` comes exactly if no move of that form is legal. A node that does not exist or is of the wrong sort has no
+    /// legal move. No memory is taken, so `NoMemory` never comes.
     pub fn act(&mut self, act: Act) -> Result<Line, ActFault>
         ensures plan { self.new.plan ≡ self.old.plan }
         ensures form { IfOk result (λ line. act_of line.what ≡ act) }
@@ -95,7 +95,7 @@ impl<'p> Cluster<'p> {
         }
     }
 
-    /// Makes the legal move of an act's form, where there is one.
+    /// Makes the legal move of an act's form, if there is one.
     fn move_by(&mut self, act: Act) -> Option<Move>
         ensures { IsMadeBy act self.old self.new result }
     {
@@ -109,7 +109,7 @@ impl<'p> Cluster<'p> {
         }
     }
 
-    /// Makes the next change of a device, where it has one.
+    /// Makes the next change of a device, if it has one.
     fn change_by_plan(&mut self, device: NodeId) -> Option<Move>
         ensures { IsMadeBy (Act.Change device.0) self.old self.new result }
     {
@@ -123,7 +123,7 @@ impl<'p> Cluster<'p> {
         Some(self.make(next, plan.kind(device), None))
     }
 
-    /// The parent of a node learns the node's newest bid, where that is legal.
+    /// The parent of a node learns the node's newest bid, if that is legal.
     fn learn_from(&mut self, child: NodeId) -> Option<Move>
         ensures { IsMadeBy (Act.Learn child.0) self.old self.new result }
     {
@@ -133,7 +133,7 @@ impl<'p> Cluster<'p> {
         self.learn(child)
     }
 
-    /// A concentrator publishes, where that is legal.
+    /// A concentrator publishes, if that is legal.
     fn publish_at(&mut self, node: NodeId) -> Option<Move>
         ensures { IsMadeBy (Act.Publish node.0) self.old self.new result }
     {
@@ -143,7 +143,7 @@ impl<'p> Cluster<'p> {
         self.publish(node)
     }
 
-    /// The newest price that waits for a node is passed to it, where there is one.
+    /// The newest price that waits for a node is passed to it, if there is one.
     fn pass_to(&mut self, node: NodeId) -> Option<Move>
         ensures { IsMadeBy (Act.Pass node.0) self.old self.new result }
     {
@@ -156,7 +156,7 @@ impl<'p> Cluster<'p> {
         self.pass_on(node)
     }
 
-    /// Closes the open phase, where that is legal.
+    /// Closes the open phase, if that is legal.
     fn close_phase(&mut self) -> Option<Move>
         ensures { IsMadeBy Act.Close self.old self.new result }
     {

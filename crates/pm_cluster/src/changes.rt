@@ -39,8 +39,8 @@ use pm_tree::NodeId;
 impl<'p> Cluster<'p> {
     /// Makes the next change of a device and offers its bid to the device's parent.
     ///
-    /// `NotNext` comes exactly where what was made is of no device of the plan, is not the device's next change, or is
-    /// not of its kind; it has the next change. For a manual device the bid is the plan's array.
+    /// `NotNext` comes exactly if what was made is of no device of the plan, not the device's next change, or not
+    /// of its kind. It has the next change. For a manual device the bid is the plan's array.
     pub fn change(&mut self, made: &Made) -> Result<Move, ChangeFault>
         requires steps { length made.now.demand ≡ self.old.plan.basis.steps }
         ensures plan { self.new.plan ≡ self.old.plan }
@@ -102,7 +102,7 @@ impl<'p> Cluster<'p> {
     }
 }
 
-/// Tells a port what a change makes of its device, which was a member before or was none.
+/// Tells a port what a change makes of its device, which was a member before or was not.
 fn take_seat(port: &mut Port, before: bool, next: Next)
     ensures { port.new ≡ seat_after port.old before next.member next.number }
 {
@@ -113,7 +113,7 @@ fn take_seat(port: &mut Port, before: bool, next: Next)
     }
 }
 
-/// The demand that was made for a change; none for a manual device, whose bids are the plan's arrays.
+/// The demand that was made for a change; None for a manual device, whose bids are the plan's arrays.
 fn own_demand(made: &Made) -> Option<&ArrayBid>
     ensures demand { made.now.next.member ≡ true →
         IfSome (option_copied result) (λ demand. (arrays : List (List ℤ)) →
@@ -125,8 +125,8 @@ fn own_demand(made: &Made) -> Option<&ArrayBid>
     Some(made.demand())
 }
 
-/// Offers the demand of a device after its next change on the device's link: of a member what is given, and else its bid
-/// by the plan, which is written into the spare bid. Of a device that is no member the bid is gone.
+/// Offers the demand of a device after its next change on the device's link. Of a member this is the given demand, or
+/// else its bid by the plan, which is written into the spare bid. Of a device that is no member the bid is gone.
 fn offer_demand(
     plan: &Plan,
     next: Next,

@@ -49,7 +49,7 @@ impl<'p> Model for Cluster<'p> {
     ghost invariant = { AreClusterFields };
 }
 
-/// Its owner lets go of it in one step, where a derived drop would be one for each part.
+/// Its owner lets go of it in one step; a derived drop would be one for each part.
 impl Drop for Cluster<'_> {
     fn drop(self) {
         let Cluster {

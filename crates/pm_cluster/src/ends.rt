@@ -30,10 +30,10 @@ use std::alloc::{AllocError, Global};
 use std::marker::Brand;
 
 impl<'p> Cluster<'p> {
-    /// The end over all changes made so far, which is that of the plain auction: where these are the changes of the phases up
-    /// to one, it is the end of that phase. Its lines tell that auction: the clearing step and its price, the power of each member,
-    /// and the step and the sum of each limited concentrator. The cluster must be idle. The answer is an error only for want of
-    /// memory.
+    /// The end over all changes made so far, which is that of the plain auction. If these are the changes of the phases up to
+    /// one, it is the end of that phase. Its lines tell the clearing step and its price, the power of each member, and the
+    /// step and the sum of each limited concentrator. The cluster must be idle. The answer is an error only if an allocation
+    /// fails.
     pub fn phase_end(&self, alloc: Global) -> Result<PhaseEnd, AllocError>
         requires quiet { IsQuiet self.now.plan self.now.core }
         ensures end { (s : State) → StandsFor self.now.plan self.now.core s →
@@ -181,7 +181,7 @@ impl<'p> Cluster<'p> {
         true
     }
 
-    /// Closes the open phase, where that is legal: all its changes are made, and the cluster is idle. Each device's power
+    /// Closes the open phase, if that is legal: all its changes are made, and the cluster is idle. Each device's power
     /// then is kept for a tick that follows. The answer is whether the phase was closed.
     #[tactic(auto, using(crate::proofs::Parents::nodes_are, crate::proofs::Parents::leaf_is))]
     pub fn close(&mut self) -> bool
@@ -209,8 +209,8 @@ impl<'p> Cluster<'p> {
     }
 }
 
-/// The power of a device in watts, by the price that it holds and the entry that its parent has of it; 0 where it holds
-/// none.
+/// The power of a device in watts, by the price that it holds and the entry that its parent has of it. If it holds no
+/// price, the power is 0.
 fn power_of(
     plan: &Plan,
     auctioneer: &Auctioneer,
@@ -264,7 +264,7 @@ fn keep_powers(
     }
 }
 
-/// Adds to what is due of each device its changes of the phase after the closed ones, where there is one.
+/// Adds to what is due of each device its changes of the phase after the closed ones, if there is one.
 #[tactic(auto, using(crate::proofs::Parents::nodes_are, crate::proofs::Parents::leaf_is))]
 fn add_due(plan: &Plan, closed: u32, due: &mut Vec<u32>)
     requires closed { closed ≤ phases plan.now }

@@ -14,7 +14,7 @@ pub enum ChangeFault {
     /// What was made is not the next change of its device, or not of its kind, or of no device.
     #[error("the change is not the device's next one")]
     NotNext {
-        /// The next change of the device, where it has one.
+        /// The next change of the device, if it has one.
         next: Option<Next>,
     },
     /// An allocation failed; this never comes.

@@ -11,7 +11,7 @@ ghost use Rattle.pm_stands.specs.Made.{bid_demand};
 use pm_bid::{ArrayBid, BidHead};
 use pm_session::{Link, PriceUpdate};
 
-/// Offers a bid on the link of a child; none is a bid that is gone.
+/// Offers a bid on the link of a child; None is a bid that is gone.
 pub(crate) fn offer_bid(
     links: &mut Vec<Vec<Link>>,
     parent: usize,
@@ -34,7 +34,7 @@ pub(crate) fn offer_bid(
     let _ = up.offer_bid(number, demand);
 }
 
-/// Takes the bid that waits on the link of a child, where one does.
+/// Takes the bid that waits on the link of a child, if one does.
 pub(crate) fn take_bid(
     links: &mut Vec<Vec<Link>>,
     parent: usize,
@@ -57,7 +57,7 @@ pub(crate) fn take_bid(
     up.take_bid(into)
 }
 
-/// Takes the price that waits on the link of a node, where one does.
+/// Takes the price that waits on the link of a node, if one does.
 pub(crate) fn take_price(
     links: &mut Vec<Vec<Link>>,
     parent: usize,
@@ -76,7 +76,7 @@ pub(crate) fn take_price(
     down.take_price()
 }
 
-/// The demand of a bid, none where it is gone.
+/// The demand of a bid, None if it is gone.
 pub(crate) fn unless_gone(gone: bool, demand: &ArrayBid) -> Option<&ArrayBid>
     ensures { option_copied result ≡ bid_demand gone demand.now }
 {

@@ -15,8 +15,8 @@ use pm_plan::Planned;
 use pm_tree::NodeId;
 
 impl<'p> Cluster<'p> {
-    /// What the next change of a device makes of it; none exactly where no phase is open, or the device made all its
-    /// changes of the open phase.
+    /// What the next change of a device makes of it. The answer is None exactly if no phase is open, or the device
+    /// made all its changes of the open phase.
     pub fn next(&self, device: NodeId) -> Option<Next>
         requires leaf { IsLeaf (plan_lists self.now.plan) device.0 }
         ensures next { MatchOption result
@@ -34,7 +34,7 @@ impl<'p> Cluster<'p> {
         })
     }
 
-    /// The change that a device makes next; none exactly where it has no next one.
+    /// The change that a device makes next; None exactly if it has no next one.
     fn due_change(&self, device: NodeId) -> Option<Planned>
         requires leaf { IsLeaf (plan_lists self.now.plan) device.0 }
         ensures due { MatchOption result
@@ -92,8 +92,8 @@ impl<'p> Cluster<'p> {
         advance(&kind, before, self.power_before(device), minutes)
     }
 
-    /// The power of a device in watts before the changes of the open phase: at the end of the phase before, and none before
-    /// the first.
+    /// The power of a device in watts before the changes of the open phase: at the end of the phase before. Before the
+    /// first phase it is 0.
     fn power_before(&self, device: NodeId) -> i64
         requires leaf { IsLeaf (plan_lists self.now.plan) device.0 }
         ensures power { result ≡ power self.now.plan (state self.now.plan)

@@ -140,7 +140,7 @@ impl<'p> Cluster<'p> {
         None
     }
 
-    /// A node makes one of its moves, where one is legal.
+    /// A node makes one of its moves, if one is legal.
     pub(crate) fn move_of(&mut self, node: NodeId) -> Option<Move>
         requires inside { node.0 ≤ nodes (plan_lists self.old.plan) }
         ensures { IsMadeOf node.0 self.old self.new result }

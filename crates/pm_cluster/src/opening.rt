@@ -29,7 +29,7 @@ use std::marker::Brand;
 
 impl<'p> Cluster<'p> {
     /// Opens a cluster on a plan, before the first phase: no device made a change, and nobody sent anything. It takes the
-    /// memory of all moves. The answer is an error only for want of memory.
+    /// memory of all moves. The answer is an error only if an allocation fails.
     pub fn open(alloc: Global, plan: &'p Plan) -> Result<Cluster<'p>, AllocError>
         ensures plan { IfOk result (λ c. c.plan ≡ plan.now) }
         ensures sound { IsPlan plan.now }
@@ -77,7 +77,7 @@ fn start_of(plan: &Plan, node: NodeId) -> DeviceState
     plan.start(node)
 }
 
-/// How many changes of each device belong to the first phase, where there is one.
+/// How many changes of each device belong to the first phase, if there is one.
 fn first_due(alloc: Global, plan: &Plan) -> Result<Vec<u32>, AllocError>
     ensures due { IfOk result (λ v. AreFirstDue plan.now v.items) }
 {
@@ -88,7 +88,7 @@ fn first_due(alloc: Global, plan: &Plan) -> Result<Vec<u32>, AllocError>
     Ok(due)
 }
 
-/// How many changes of a device belong to the first phase, where there is one; 0 for any other node.
+/// How many changes of a device belong to the first phase, if there is one; 0 for any other node.
 #[tactic(auto, using(crate::proofs::Parents::leaf_is, crate::proofs::Parents::nodes_are))]
 fn first_due_of(plan: &Plan, node: NodeId) -> u32
     ensures due { 0 < phases plan.now → IsLeaf (plan_lists plan.now) node.0 →
@@ -147,7 +147,7 @@ fn concentrators(alloc: Global, plan: &Plan) -> Result<Vec<Option<Concentrator>>
     Ok(concentrators)
 }
 
-/// The concentrator of a node; none where the node is a device or the auctioneer.
+/// The concentrator of a node; None if the node is a device or the auctioneer.
 fn concentrator(
     alloc: Global,
     plan: &Plan,

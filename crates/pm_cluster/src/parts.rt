@@ -19,7 +19,7 @@ use pm_bid::ArrayBid;
 use pm_concentrator::Concentrator;
 use pm_session::{Link, PriceUpdate};
 
-/// The parent learns a newer bid of the child in a place; none is a bid that is gone.
+/// The parent learns a newer bid of the child in a place; None is a bid that is gone.
 pub(crate) fn learn(
     auctioneer: &mut Auctioneer,
     concentrators: &mut Vec<Option<Concentrator>>,
@@ -50,7 +50,7 @@ pub(crate) fn learn(
     }
 }
 
-/// A concentrator publishes on its link to its parent, where it has something to publish and room for it.
+/// A concentrator publishes on its link to its parent, if it has something to publish and room for it.
 pub(crate) fn publish(
     concentrators: &mut Vec<Option<Concentrator>>,
     links: &mut Vec<Vec<Link>>,
@@ -122,7 +122,7 @@ pub(crate) fn pass(
     }
 }
 
-/// The auctioneer clears, where it learnt something since its last clearing.
+/// The auctioneer clears, if it learnt something since its last clearing.
 pub(crate) fn clear(auctioneer: &mut Auctioneer, links: &mut Vec<Vec<Link>>) -> Option<Cleared>
     requires row { 0 < length links.old.items }
     requires same_length { length (row_at (rows_of links.old.items) 0)

@@ -1,4 +1,4 @@
-//! Which node has a move to make, and what the cluster holds once none has.
+//! Which node has a move to make, and what the cluster holds once no node has one.
 
 ghost use Rattle.std.specs.Prelude.{◌≡◌, ℕ, ◌<◌, ◌≤◌, ◌↔◌, length, true, Some, None, IsTrue, IsFalse, IfSome, MatchOption};
 ghost use Rattle.pm_basis.specs.Prices.{price_at};
@@ -63,7 +63,7 @@ impl<'p> Cluster<'p> {
         message_waits(&self.links[node.0 as usize])
     }
 
-    /// The lowest node that [`Cluster::step`] would move; none exactly where the cluster is idle.
+    /// The lowest node that [`Cluster::step`] would move; None exactly if the cluster is idle.
     pub fn next_node(&self) -> Option<NodeId>
         ensures sound { IsPlan self.now.plan }
         ensures inside { IfSome result (λ node. node.0 ≤ nodes (plan_lists self.now.plan)) }
@@ -133,8 +133,8 @@ impl<'p> Cluster<'p> {
 
     /// The price that a device holds: that of the clearing passed to it last, unless that is of a former membership.
     ///
-    /// Whoever holds a price has its own bid in it: the price names the device's number in the cut of its clearing, at which the
-    /// device is a member, and its step is the device's local step over that cut.
+    /// Whoever holds a price has its own bid in it. The price names the device's number in the cut of its clearing, at which
+    /// the device is a member. Its step is the device's local step over that cut.
     pub fn held(&self, device: NodeId) -> Option<Held>
         requires leaf { IsLeaf (plan_lists self.now.plan) device.0 }
         ensures held { (s : State) → StandsFor self.now.plan self.now.core s →
@@ -176,8 +176,8 @@ impl<'p> Cluster<'p> {
         self.plan.basis().price(self.auctioneer.step() as usize)
     }
 
-    /// The auctioneer's sum of the bids that it learnt last, in watts at each step: of what its children offer over the changes
-    /// that it knows. Where the cluster is idle it is the total over all current bids.
+    /// The auctioneer's sum of the bids that it learnt last, in watts at each step. It is the sum of what its children offer
+    /// over the changes that it knows. If the cluster is idle, it is the total over all current bids.
     pub fn aggregate(&self) -> &ArrayBid
         ensures sum { result.now ≡ aggregate_of self.now.core.auctioneer.cache }
         ensures known { (s : State) → StandsFor self.now.plan self.now.core s →

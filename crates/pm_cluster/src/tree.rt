@@ -1,4 +1,4 @@
-//! Where a node stands in the tree, as indices.
+//! Where a node is in the tree, as indices.
 
 ghost use Rattle.std.specs.Prelude.{◌≡◌, ◌≤◌, ◌<◌, ◌↔◌, length, IsTrue};
 ghost use Rattle.pm_tree.specs.Entries.{children_of, place_of};

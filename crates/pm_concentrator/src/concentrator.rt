@@ -25,8 +25,8 @@ use std::marker::{Brand, Model};
 
 /// A node between the devices and the auctioneer, with up to 256 children, which count from 0.
 ///
-/// Contracts see the entries of its children (see [`BidCache`]), the records of what it published
-/// (see [`Window`]), and its limits where it has some, with the demand of its newest bid then.
+/// Contracts see the entries of its children (see [`BidCache`]), and the records of what it published
+/// (see [`Window`]). If it has limits, they also see these and the demand of its newest bid.
 pub struct Concentrator {
     cache: BidCache,
     window: Window,
@@ -45,7 +45,7 @@ impl Model for Concentrator {
     ghost invariant = { AreConcentratorFields };
 }
 
-/// Its owner lets go of it in one step, where a derived drop would be one for each part.
+/// Its owner lets go of it in one step; a derived drop would be one for each part.
 impl Drop for Concentrator {
     fn drop(self) {
         let Concentrator {
@@ -97,7 +97,7 @@ impl Concentrator {
         })
     }
 
-    /// Learns a child's bid with its number; None is a bid that is gone. `Old` comes exactly where
+    /// Learns a child's bid with its number; None is a bid that is gone. `Old` comes exactly if
     /// the number is at most the kept one; nothing changes then.
     pub fn learn(
         &mut self,
@@ -114,11 +114,11 @@ impl Concentrator {
             .learn(child, number, demand, &mut Steps::<Brand>::start())
     }
 
-    /// Makes the bid of the next number, which is the answer: its demand is the sum of the
-    /// children's bids, within the limits where there are some (see [`Concentrator::demand`]). The
-    /// heads of the children are its record, with the sum as it was before the limits. `NotChanged`
-    /// comes exactly where the heads equal those of the last record, or of the opening where there
-    /// is none; else `WindowFull` exactly where eight numbers are unanswered. Nothing changes then.
+    /// Makes the bid of the next number, which is the answer. Its demand is the sum of the children's
+    /// bids, within the limits if there are some (see [`Concentrator::demand`]). The heads of the
+    /// children are its record, with the sum as it was before the limits. `NotChanged` comes exactly
+    /// if the heads equal those of the last record, or before the first those of the opening.
+    /// Otherwise `WindowFull` comes exactly if eight numbers are unanswered. Nothing changes then.
     pub fn next_bid(&mut self) -> Result<u32, PublishFault>
         requires last { self.old.window.last + 1 < 2 ^ 32 }
         ensures made { IfOk result (λ number. BidMade self.old self.new number) }
@@ -139,8 +139,8 @@ impl Concentrator {
     }
 
     /// The demand of the concentrator, in watts at each step. With limits it is that of its newest
-    /// bid, zeros before the first. Without limits it is the sum of the children's bids, and so that
-    /// of its newest bid until the next bid of a child is learnt.
+    /// bid, zeros before the first. Without limits it is the sum of the children's bids. So it is
+    /// that of its newest bid until the next bid of a child is learnt.
     pub fn demand(&self) -> &ArrayBid
         ensures demand { result.now ≡ own_demand self.now }
         ensures steps { length result.now ≡ self.now.cache.steps }
@@ -151,9 +151,9 @@ impl Concentrator {
         }
     }
 
-    /// Offers the sum of the children's bids, within the limits where there are some, to the parent
-    /// under the next number, which is the answer: [`Concentrator::next_bid`], with its faults, on a
-    /// link. Nothing changes where a fault comes.
+    /// Offers the sum of the children's bids, within the limits if there are some, to the parent.
+    /// The answer is the next number, under which it is offered. It is [`Concentrator::next_bid`],
+    /// with its faults, on a link. Nothing changes if a fault comes.
     pub fn publish(&mut self, up: &mut Link) -> Result<u32, PublishFault>
         requires steps { up.old.steps ≡ self.old.cache.steps }
         requires last { self.old.window.last + 1 < 2 ^ 32 }
@@ -168,9 +168,9 @@ impl Concentrator {
         Ok(number)
     }
 
-    /// What a price is for each child that is not gone in the record of the number that the price
-    /// names: the price with the child's number in that record. Of a limited concentrator the step
-    /// is the local step of the record's sum in place of the price's step, which is one of its steps.
+    /// What a price is for each child that is not gone in the record of the number that the price names.
+    /// It is the price with the child's number in that record. Of a limited concentrator the step is the
+    /// local step of the record's sum. It takes the place of the price's step, which is one of its steps.
     pub fn prices(&self, price: PriceUpdate) -> Prices<'_>
         requires kept { Keeps self.now.window price.number }
         requires step { IsStepOf self.now.limits self.now.cache.steps price.step }
@@ -199,7 +199,7 @@ impl Concentrator {
     }
 
     /// Passes a price on to each child that is not gone in the record of the number that the price
-    /// names: [`Concentrator::prices`] on links, and [`Concentrator::answer`].
+    /// names. It is [`Concentrator::prices`] on links, and [`Concentrator::answer`].
     pub fn pass(&mut self, price: PriceUpdate, downs: &mut [Link]) -> Result<(), AllocError>
         requires kept { Keeps self.old.window price.number }
         requires same_length { length downs.old ≡ length self.old.cache.heads }
@@ -235,7 +235,7 @@ impl Concentrator {
         self.window.room()
     }
 
-    /// The number published last, 0 where there is none.
+    /// The number published last, 0 if there is no such one.
     pub fn last(&self) -> u32
         ensures last { result ≡ self.now.window.last }
     {
@@ -249,8 +249,8 @@ impl Concentrator {
         self.window.keeps(number)
     }
 
-    /// Whether something was learnt since the last publish: false exactly where the heads equal
-    /// those of the last record, or of the opening where there is none.
+    /// Whether something was learnt since the last publish. It is false exactly if the heads
+    /// equal those of the last record, or before the first those of the opening.
     pub fn changed(&self) -> bool
         ensures changed { IsFalse result ↔ (self.now.cache.heads ≡ published_heads self.now) }
     {
@@ -258,7 +258,7 @@ impl Concentrator {
     }
 }
 
-/// Keeps the record of the bid of this number, and makes its demand where there are limits.
+/// Keeps the record of the bid of this number, and makes its demand if there are limits.
 fn record_bid(cache: &BidCache, limited: &mut Option<Limited>, window: &mut Window, number: u32)
     requires limits { (limits : LimitedValue) → limited.old ≡ Some limits →
         length limits.announced ≡ cache.now.steps }

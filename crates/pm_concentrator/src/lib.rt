@@ -8,11 +8,11 @@
 //! eight published numbers are unanswered.
 //!
 //! A limited concentrator bounds the power of its part of the cluster, in the manner of peak
-//! shaving: it announces its children's sum within a floor and a ceiling, and passes down a local
+//! shaving. It announces its children's sum within a floor and a ceiling. It passes down a local
 //! step, at which the sum of the record that the price answers lies within them.
 //!
-//! All memory of a concentrator is taken when it is made. Where a later call has an
-//! allocation failure in its result, it is proved never to come.
+//! All memory of a concentrator is taken when it is made. If a later call has an allocation
+//! failure in its result, it is proved never to come.
 #![tactic(auto)]
 
 mod concentrator;

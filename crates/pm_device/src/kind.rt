@@ -4,10 +4,10 @@ use crate::limits::{POWER_LIMIT, is_battery, is_between, is_power, is_temperatur
 use crate::state::DeviceState;
 
 /// A kind of device with its parameters. Powers are in watts, `capacity` is in watt-hours, `spread` in steps of the
-/// market basis; `warm`, `cool`, `loss` and `gain` are amounts of temperature for one tick.
+/// market basis. `warm`, `cool`, `loss` and `gain` are amounts of temperature for one tick.
 #[derive(Clone, Copy, Debug)]
 pub enum Kind {
-    /// Keeps its temperature between `low` and `high`. It warms up by `warm`, and cools down by `cool` where it runs.
+    /// Keeps its temperature between `low` and `high`. It warms up by `warm`, and cools down by `cool` if it runs.
     Freezer {
         low: i64,
         high: i64,
@@ -15,7 +15,7 @@ pub enum Kind {
         warm: i64,
         cool: i64,
     },
-    /// Keeps a room's temperature between `low` and `high`. The room loses `loss`, and gains `gain` where it runs.
+    /// Keeps a room's temperature between `low` and `high`. The room loses `loss`, and gains `gain` if it runs.
     HeatPump {
         low: i64,
         high: i64,
@@ -23,7 +23,7 @@ pub enum Kind {
         loss: i64,
         gain: i64,
     },
-    /// Delivers power and heats a buffer. The buffer loses `loss`, and gains `gain` where the unit runs.
+    /// Delivers power and heats a buffer. The buffer loses `loss`, and gains `gain` if the unit runs.
     Cogeneration {
         low: i64,
         high: i64,
@@ -42,7 +42,7 @@ pub enum Kind {
     Solar,
     /// Takes its state at every price.
     Load,
-    /// Asks the cluster for the power of its state: to take it where positive, to deliver where negative.
+    /// Asks the cluster for the power of its state: to take it if positive, to deliver it if negative.
     Objective,
     /// Bids the array whose number is its state.
     Manual,
@@ -53,9 +53,9 @@ impl Kind {
     ghost use Rattle.pm_device.specs.Kinds.{is_valid, state_fits, has_ticks};
     ghost use Rattle.pm_device.specs.Keys.{key_of};
 
-    /// True exactly where every parameter lies within its limits and `low` is below `high`: temperatures within
-    /// ±1,000,000, their changes in 0..=1,000,000, powers in 0..=1,000,000,000, a capacity in 1..=1,000,000,000, a
-    /// spread in 0..=1000.
+    /// True exactly if every parameter lies within its limits and `low` is below `high`. Temperatures are within
+    /// ±1,000,000, their changes in 0..=1,000,000, powers in 0..=1,000,000,000. A capacity is in
+    /// 1..=1,000,000,000, a spread in 0..=1000.
     pub fn valid(&self) -> bool
         ensures valid { result ≡ is_valid self.now }
     {
@@ -91,9 +91,9 @@ impl Kind {
         }
     }
 
-    /// True exactly where a device of this kind may have the state: a temperature within ±1,000,000, a charge in
-    /// 0..=capacity, an output or a load in 0..=1,000,000,000, a target within ±1,000,000,000, a number of an array
-    /// that is not negative.
+    /// True exactly if a device of this kind may have the state. A temperature is within ±1,000,000, a charge in
+    /// 0..=capacity, an output or a load in 0..=1,000,000,000. A target is within ±1,000,000,000, and a number of
+    /// an array is not negative.
     pub fn fits(&self, state: DeviceState) -> bool
         ensures fits { result ≡ state_fits self.now state.0 }
     {
@@ -173,7 +173,7 @@ impl PartialEq for Kind {
 
     ghost laws = { Prim.search (comparing, rules) depth 10 };
 
-    /// True exactly where both are the same kind with the same parameters.
+    /// True exactly if both are the same kind with the same parameters.
     fn eq(&self, other: &Kind) -> bool
         ensures test { result ≡ are_same_kinds self.now other.now }
         ensures same { IsTrue result ↔ (self.now ≡ other.now) }

@@ -15,7 +15,7 @@ pub(crate) const POWER_LIMIT: i64 = 1_000_000_000;
 /// The most charge of a battery, in watt-hours.
 pub(crate) const CAPACITY_LIMIT: i64 = 1_000_000_000;
 
-/// The most steps between a battery's middle step and the step where it begins to charge or to discharge.
+/// The most steps between a battery's middle step and the step at which it begins to charge or to discharge.
 pub(crate) const SPREAD_LIMIT: i64 = 1000;
 
 /// Whether a number lies between two others or is one of them.

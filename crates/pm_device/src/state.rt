@@ -1,8 +1,8 @@
 //! The state of a device, and what its next change makes of it.
 
-/// The state of a device: a temperature in the units of the cluster file (freezer, heat pump, cogeneration unit),
-/// a charge in watt-hours (battery), a power in watts (solar panel: its output; load: what it takes; objective: its
-/// target), or the number of an array bid, from 0 (manual device).
+/// The state of a device. It is a temperature in the units of the cluster file (freezer, heat pump, cogeneration
+/// unit) or a charge in watt-hours (battery). It is a power in watts: the output of a solar panel, what a load
+/// takes, the target of an objective. Of a manual device it is the number of an array bid, from 0.
 #[derive(Clone, Copy, Debug, PartialEq, Eq)]
 pub struct DeviceState(pub i64);
 

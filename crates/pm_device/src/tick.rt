@@ -8,14 +8,14 @@ use crate::kind::Kind;
 use crate::limits::TEMPERATURE_LIMIT;
 use crate::state::DeviceState;
 
-/// The state after a tick of so many minutes, in which the device had this power: in watts, positive where it took
-/// power from the cluster, negative where it delivered.
+/// The state after a tick of so many minutes, in which the device had this power. The power is in watts, positive
+/// if it took power from the cluster, negative if it delivered.
 ///
-/// A freezer warms up by `warm` and cools down by `cool` where the power is positive. A heat pump's room loses
-/// `loss` and gains `gain` where the power is positive, a cogeneration unit's buffer where it is negative. These are
-/// amounts per tick, whatever its minutes, and the temperature is then moved into ±1,000,000. A battery's charge
-/// changes by `power * minutes / 60` watt-hours, rounded down, and is then moved into 0..=capacity. Every other kind
-/// keeps its state.
+/// A freezer warms up by `warm` and cools down by `cool` if the power is positive. A heat pump's room loses `loss`
+/// and gains `gain` if the power is positive, a cogeneration unit's buffer if it is negative. These are amounts per
+/// tick, whatever its minutes, and the temperature is then moved into ±1,000,000. A battery's charge changes by
+/// `power * minutes / 60` watt-hours, rounded down, and is then moved into 0..=capacity. Every other kind keeps its
+/// state.
 pub fn advance(kind: &Kind, state: DeviceState, power: i64, minutes: i64) -> DeviceState
     requires valid { IsTrue (is_valid kind.now) }
     requires fits { IsTrue (state_fits kind.now state.0) }
@@ -71,7 +71,7 @@ fn heated_after(temperature: i64, loss: i64, gain: i64, ran: bool) -> i64
     nearest_temperature(temperature - loss + change_if(ran, gain))
 }
 
-/// A change of the temperature where it is so, else none.
+/// A change of the temperature if it is so, otherwise 0.
 fn change_if(so: bool, change: i64) -> i64
     requires { IsTrue (is_change change) }
     ensures change { result ≡ change_if so change }

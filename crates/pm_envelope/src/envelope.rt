@@ -19,7 +19,7 @@ pub struct Envelope<'a> {
 }
 
 /// The cluster file that an input begins with, and the rest. The first line has the number of the file's bytes, at most
-/// [`FILE_LIMIT`], in decimal digits without sign or leading zero. None is answered exactly where the input does not begin
+/// [`FILE_LIMIT`], in decimal digits without sign or leading zero. None is answered exactly if the input does not begin
 /// so.
 pub fn open_envelope(input: &[u8]) -> Option<Envelope<'_>>
     ensures some { IfSome result

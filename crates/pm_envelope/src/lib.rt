@@ -4,7 +4,7 @@
 //! or leading zero, and at most that of the bytes of a cluster file. [`open_envelope`] takes the input apart; it needs
 //! [`split_line`] and [`number_up_to`], which serve any text of lines and numbers. Nothing here takes memory.
 //!
-//! The definitions stand in `specs/`: `Lines` (the first line of a text), `Envelopes`. The form of an envelope is this
+//! The definitions are in `specs/`: `Lines` (the first line of a text), `Envelopes`. The form of an envelope is this
 //! project's own profile.
 #![tactic(auto)]
 

@@ -4,7 +4,7 @@ ghost use Rattle.std.specs.Prelude.{◌≡◌, ◌≢◌, ℕ, ◌≤◌, ◌==�
 ghost use Rattle.std.specs.Option.{SomeIff};
 ghost use Rattle.std.specs.Str.Parse.{AllDigits, digits_value};
 
-/// The number that a text writes in decimal digits, without sign or leading zero, where it is at most `most`.
+/// The number that a text writes in decimal digits, without sign or leading zero, if it is at most `most`.
 pub fn number_up_to(most: u32, text: &[u8]) -> Option<u32>
     ensures most { IfSome result (λ number. number ≤ most) }
     ensures text { IfSome result (λ number. text.now ≡ decimal number) }
@@ -16,14 +16,14 @@ pub fn number_up_to(most: u32, text: &[u8]) -> Option<u32>
     value_of_digits(most, text)
 }
 
-/// Whether a zero stands before other bytes.
+/// Whether a zero comes before other bytes.
 fn has_leading_zero(text: &[u8]) -> bool
     ensures { result ≡ (nat_lt 1 (length text.now) && (slice_index text.now 0 == 48)) }
 {
     text.len() > 1 && text[0] == b'0'
 }
 
-/// The value of decimal digits, where all bytes are digits and it is at most `most`.
+/// The value of decimal digits, if all bytes are digits and it is at most `most`.
 fn value_of_digits(most: u32, digits: &[u8]) -> Option<u32>
     ensures { SomeIff result (AllDigits 10 digits.now × (digits_value 10 digits.now ≤ most))
         (digits_value 10 digits.now) }

@@ -5,7 +5,7 @@ use pm_nodes::Gate;
 use std::sync::atomic::{AtomicU64, Ordering};
 use std::thread;
 
-/// Each turn waits before and behind it for a drawn time, of which half are none.
+/// Each turn waits before and behind it for a drawn time; half of these times are 0.
 #[derive(Drop)]
 pub struct DrawingGate {
     most: u64,

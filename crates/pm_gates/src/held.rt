@@ -8,7 +8,7 @@ use std::fmt;
 /// How often a node that is held yields the processor before each turn.
 const YIELDS: u32 = 100;
 
-/// The same for each level of the tree above a node, where the deeper ones wait longer.
+/// The same for each level of the tree above a node, if the deeper ones wait longer.
 const YIELDS_OF_A_LEVEL: u32 = 30;
 
 /// Which nodes of a tree wait before each of their turns.
@@ -20,7 +20,7 @@ pub enum HeldNodes {
     Last,
     /// Node 0.
     Auctioneer,
-    /// The first concentrator and all nodes below it; where there is no concentrator the first node.
+    /// The first concentrator and all nodes below it; if there is no concentrator, the first node.
     Subtree,
     /// All but the auctioneer, the deeper ones longer.
     Depth,
@@ -80,7 +80,7 @@ fn yields_of_node(alloc: Global, tree: &Tree, held: u32) -> Result<Vec<u32>, All
     Ok(yields)
 }
 
-/// A node is held, and those below it. A parent stands before its children.
+/// A node is held, and those below it. A parent comes before its children.
 fn yields_below(alloc: Global, tree: &Tree, top: u32) -> Result<Vec<u32>, AllocError> {
     let mut yields: Vec<u32> = Vec::new(alloc);
     yields.push(0)?;

@@ -8,7 +8,7 @@ use pm_tree::{NodeId, Tree};
 use std::alloc::{AllocError, Global};
 use std::fmt;
 
-/// How often a device looks for the other at most. Where they are in no phase together, both give up.
+/// How often a device looks for the other at most. If they are in no phase together, both give up.
 const LOOKS: u32 = 5_000;
 
 /// A drawn turn yields the processor less often than this.
@@ -43,7 +43,7 @@ pub const SCHEDULES: [Schedule; 11] = [
 ];
 
 impl Schedule {
-    /// A new gate that holds the threads of this tree's nodes back, or an error for want of memory.
+    /// A new gate that holds the threads of this tree's nodes back, or an error if an allocation fails.
     pub fn gate(self, alloc: Global, tree: &Tree) -> Result<ScheduledGate, AllocError> {
         let gate = match self {
             Schedule::Open => ScheduledGate::Open,

@@ -1,5 +1,5 @@
-//! The demo cluster: a plan of so many devices whose kinds, powers and starts come from a generator of numbers, and
-//! whose phases let drawn devices leave and join again.
+//! The demo cluster: a plan of so many devices. Their kinds, powers and starts come from a generator of numbers,
+//! and its phases let drawn devices leave and join again.
 //!
 //! It is made for trying the market out: a size and a number fix the plan, so two runs on them give the same text. The
 //! definitions in `specs/` say which plan it is: `Draws` the numbers, `Nodes` the tree and the devices, `Rounds` the

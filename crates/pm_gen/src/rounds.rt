@@ -48,7 +48,7 @@ fn join_all(alloc: Global, size: u32) -> Result<Vec<EventSpec>, AllocError>
     Ok(events)
 }
 
-/// The event that turns a device round, which is at this place from 0: it leaves where it is joined, else it joins.
+/// The event that turns a device round, which is at this place from 0: it leaves if it is joined, otherwise it joins.
 fn turn_event(alloc: Global, members: &mut [bool], place: usize) -> Result<EventSpec, AllocError>
     requires inside { place < length members.old }
     requires few { length members.old ≤ 200 }
@@ -121,7 +121,7 @@ fn push_round(
     Ok(())
 }
 
-/// Adds all rounds, where all devices are joined.
+/// Adds all rounds, if all devices are joined.
 fn push_rounds(
     alloc: Global,
     draws: &mut Draws,

@@ -1,11 +1,11 @@
 //! The headline as one theorem: what the texts that `market` writes say of the bytes that it reads.
 //!
-//! The definitions in `specs/` say it in the words of the market, the whole in `Promises` (`TellsTheMarket`): a report tells
-//! the plain auction at the end of each phase, line by line; a trace tells one legal and complete run, in which each price
-//! that is held is over the holder's own numbered bid, and nobody goes back to older bids; a bill, the answers to targets and
-//! the summary of a demo tell what they add up; and a trace that is judged tells a run exactly when it is called valid.
+//! The definitions in `specs/` say it in the words of the market, the whole in `Promises` (`TellsTheMarket`). A report tells
+//! the plain auction at the end of each phase, line by line. A trace tells one legal and complete run. In it each price that
+//! is held is over the holder's own numbered bid, and nobody goes back to older bids. A bill, the answers to targets and the
+//! summary of a demo tell what they add up. A trace that is judged tells a run exactly when it is called valid.
 //!
-//! Nothing in it speaks of time, of memory, or of whether a call returns: it speaks of texts that were written with the
+//! Nothing in it speaks of time, of memory, or of whether a call returns. It speaks of texts that were written with the
 //! status Done, or Invalid. `docs/PROOF.md` has it whole, with the definitions that a reader has to believe.
 //!
 //! The laws are contracts of functions with empty bodies. `pm_top` makes them a clause of `market` itself.
@@ -32,9 +32,9 @@ ghost use Rattle.pm_headline.specs.Promises.{ReadFile, TellsFile, RefutesTrace, 
 
 use pm_answer::{FileCommand, Status};
 
-/// A law: the text that is due with the status Done for an input that was read to its end tells the market, by what is asked;
-/// the text with the status Invalid refutes the trace behind the file; that with the status Refused tells why, and nothing
-/// that is asked for stands in the input; and the summary of a demo tells its run.
+/// A law about the texts that are due for an input that was read to its end. The text with the status Done tells the market,
+/// by what is asked. The text with the status Invalid refutes the trace behind the file. That with the status Refused tells
+/// why, and nothing that is asked for is in the input. The summary of a demo tells its run.
 pub fn texts_tell_the_market()
     ensures file { (asked : FileCommand) (old new : Option (List ℕ)) (input text : List ℕ) →
         Consumes old new input → IsAtEnd new →
@@ -65,7 +65,7 @@ pub fn nothing_is_left_out()
 {}
 
 /// A law: what the calls promise of a board and of a journal is what the texts tell. The journal of a settled board is a run of
-/// its plan, and its ends tell the plain auction; a journal whose moves never go back has lines that do not.
+/// its plan, and its ends tell the plain auction. A journal whose moves never go back has lines that do not.
 pub fn boards_run_the_market()
     ensures journal { (b : BoardValue) → IsPlan b.plan → IsSettled b → IsMarketRun b.plan b.lines }
     ensures ends { (b : BoardValue) → IsPlan b.plan → IsSettled b →

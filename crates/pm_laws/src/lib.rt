@@ -1,8 +1,8 @@
 //! Laws of the market of cuts, over every lawful list and every legal journal.
 //!
-//! Each law is the contract of a function with an empty body: a crate above calls it, or cites the lemmas of `proofs/`,
-//! and has the clauses as facts. The definitions are those of `pm_market`. That each device takes its power at the price
-//! of a clearing that contains its bid, and that no node goes back to an older one, rests on these laws.
+//! Each law is the contract of a function with an empty body. A crate above calls it, or cites the lemmas of `proofs/`,
+//! and has the clauses as facts. The definitions are those of `pm_market`. Two claims rest on these laws. Each device
+//! takes its power at the price of a clearing that contains its bid, and no node goes back to an older one.
 #![tactic(auto)]
 
 ghost use Rattle.std.specs.Prelude.{◌≡◌, ℕ, ◌+◌, ◌-◌, ◌<◌, ◌≤◌, ◌↔◌, ℤ, true, false, List, ◌∷◌, ◌++◌, [], length};
@@ -33,8 +33,8 @@ pub fn states_are_sound()
         LegalJournal lists journal → Sound lists (after lists journal) }
 {}
 
-/// Of two passes to one node the later names the greater index, and its cut is nowhere lower: over all its memberships
-/// no device goes back to older bids of anyone.
+/// Of two passes to one node the later names the greater index, and its cut is nowhere lower. So over all its
+/// memberships no device goes back to older bids of anyone.
 pub fn no_device_goes_back()
     ensures { (lists : Lists) (front mid rest : List Move) (x i j : ℕ) →
         let journal = front ++ Move.Pass x i ∷ (mid ++ Move.Pass x j ∷ rest) in
@@ -43,9 +43,9 @@ pub fn no_device_goes_back()
         ≤ cleared_cut (after lists journal) j d) }
 {}
 
-/// Rest is current. At rest the last cleared cut is that of all changes made (all zeros where none was cleared), each device
-/// that is a member was passed that clearing last, at its newest number, and nothing of a concentrator is unanswered. A state
-/// may be at rest and not idle: a clearing before the last one may still be legal to pass.
+/// Rest is current. At rest the last cleared cut is that of all changes made (all zeros if no cut was cleared). Each device
+/// that is a member was passed that clearing last, at its newest number. Nothing of a concentrator is unanswered. A state may
+/// be at rest and not idle: a clearing before the last one may still be legal to pass.
 pub fn rest_is_current()
     ensures idle { (lists : Lists) (s : State) → Idle lists s → Rests lists s }
     ensures counts { (lists : Lists) (s : State) → Lawful lists → Sound lists s → Rests lists s →
@@ -58,9 +58,9 @@ pub fn rest_is_current()
         (cleared_cut s (last_index s c)) ≡ 0 }
 {}
 
-/// Quiet is current. Where a sound state is idle, the last cleared cut is that of all changes made (all zeros where none
-/// was cleared), each device that is a member was passed that clearing last, at its newest number, and nothing of a
-/// concentrator is unanswered, so that no window is full. Every state after a legal journal is sound.
+/// Quiet is current. If a sound state is idle, the last cleared cut is that of all changes made (all zeros if no cut was
+/// cleared). Each device that is a member was passed that clearing last, at its newest number. Nothing of a concentrator
+/// is unanswered, so no window is full. Every state after a legal journal is sound.
 #[tactic(auto, using(crate::proofs::Quiet::quiet_counts, crate::proofs::Quiet::quiet_passed, crate::proofs::Quiet::quiet_window))]
 pub fn quiet_is_current()
     ensures counts { (lists : Lists) (s : State) → Lawful lists → Sound lists s → Idle lists s →
@@ -84,12 +84,12 @@ pub fn complete_journals_end_quiet()
 {}
 
 /// A legal journal has at most `bound` moves. The potential `counted` is, over all nodes, the newest number, the number
-/// learnt and the clearings passed, with the clearings and the closed phases. Each legal move raises it: `Change` and
-/// `Publish` raise a newest number by one, `Learn` the number learnt, `Pass` the clearings passed, `Clear` the clearings,
-/// and `Close` the closed phases; no move lowers a part. In a sound state it is at most the bound: the newest number of a
-/// node is at most the changes of the devices at or below it, since its cuts rise strictly, and each device stands at or
-/// below itself and at most 6 concentrators; so newest numbers add up to at most 7 times the changes, and numbers learnt
-/// to no more; there are at most as many clearings as changes, each passed to a node at most once.
+/// learnt and the clearings passed, with the clearings and the closed phases. Each legal move raises it, and no move
+/// lowers a part. `Change` and `Publish` raise a newest number by one, `Learn` the number learnt, `Pass` the clearings
+/// passed, `Clear` the clearings, and `Close` the closed phases. In a sound state it is at most the bound. The newest
+/// number of a node is at most the changes of the devices at or below it, since its cuts rise strictly. Each device is at
+/// or below itself and at most 6 concentrators. So newest numbers add up to at most 7 times the changes, and numbers
+/// learnt to no more. There are at most as many clearings as changes, each passed to a node at most once.
 #[tactic(auto, using(crate::proofs::Bound::bound_laws))]
 pub fn journals_are_bounded()
     ensures rises { (lists : Lists) (s : State) (m : Move) → Lawful lists → Legal lists s m →
@@ -102,7 +102,7 @@ pub fn journals_are_bounded()
         LegalJournal lists journal → length journal ≤ bound lists }
 {}
 
-/// Legality and idleness are decided by tests, and where a state is not idle some node's move is legal.
+/// Tests decide legality and idleness, and if a state is not idle, some node's move is legal.
 #[tactic(auto, using(crate::proofs::Legality::legality_tests))]
 pub fn legality_is_decided()
     ensures legal { (lists : Lists) (s : State) (m : Move) → Lawful lists → Sound lists s →

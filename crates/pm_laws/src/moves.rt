@@ -20,8 +20,8 @@ pub fn what_is_known_is_added()
         HasAdded lists s (step lists s (Move.Clear j)) 0 }
 {}
 
-/// A learning changes what the parent knows of that child's devices, and nothing else that anybody knows; it then knows
-/// something other than it published or cleared last.
+/// A learning changes what the parent knows of that child's devices, and nothing else that anybody knows. The parent
+/// then knows something other than it published or cleared last.
 #[tactic(auto, using(crate::proofs::MoveLaws::learning_laws))]
 pub fn one_part_is_learnt()
     ensures here { (lists : Lists) (s : State) (x n d : ℕ) → Lawful lists → IsNode lists x →
@@ -41,8 +41,8 @@ pub fn one_part_is_learnt()
         (cut_at (s.published (parent lists x)) (length (s.published (parent lists x)))) }
 {}
 
-/// Which clearings are due to a node, after each move that changes it: a clearing to the auctioneer's children that it
-/// addresses, and a pass to the children of the node that it addresses. A publishing changes none.
+/// Which clearings are due to a node, after each move that changes it. A clearing falls due to the auctioneer's children
+/// that it addresses. A pass falls due to the children of the node that it addresses. A publishing changes nothing here.
 #[tactic(auto, using(crate::proofs::MoveLaws::due_within, crate::proofs::MoveLaws::due_passed))]
 pub fn clearings_fall_due()
     ensures within { (lists : Lists) (s : State) (x j : ℕ) → Sound lists s →

@@ -7,7 +7,7 @@ use crate::moves::Move;
 use std::alloc::{AllocError, Global};
 use std::marker::Model;
 
-/// A move and, after a pass to a device, the step and the number that the device then holds; none elsewhere.
+/// A move and, after a pass to a device, the step and the number that the device then holds; None elsewhere.
 #[derive(Clone, Copy, Debug, PartialEq, Eq)]
 pub struct Line {
     pub what: Move,
@@ -59,7 +59,7 @@ impl Journal {
         Ok(())
     }
 
-    /// Adds a line at the end. Where there is spare room it takes no memory and always succeeds.
+    /// Adds a line at the end. If there is spare room, it takes no memory and always succeeds.
     pub fn push(&mut self, line: Line) -> Result<(), AllocError>
         ensures within { 1 ≤ self.old.spare → IsOk result }
         ensures lines { OnOk result (self.new.lines ≡ self.old.lines ++ line ∷ []) }
@@ -85,7 +85,7 @@ impl Journal {
         self.lines.is_empty()
     }
 
-    /// The line at a place, counted from 0; none exactly where there is no such place.
+    /// The line at a place, counted from 0; None exactly if there is no such place.
     pub fn get(&self, at: usize) -> Option<Line>
         ensures line { result ≡ slice_get self.now.lines at }
         ensures none { IsNone result ↔ (length self.now.lines ≤ at) }

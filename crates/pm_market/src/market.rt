@@ -13,17 +13,17 @@ mod moving;
 use crate::rows::{is_among, item_at, item_from_one, row_at, row_from_one};
 use std::alloc::Global;
 
-/// A market: the lists that it stands on and its state, with every cut kept whole. It computes the tests of
-/// `specs/Legality.antt`, which for lawful lists and a sound state agree with the legal moves of `specs/Moves.antt` (a law
-/// of `pm_laws`), and what a legal move changes. It keeps neither sums nor records nor a window.
+/// A market: the lists that it is made of and its state, with every cut kept whole. It computes the tests of
+/// `specs/Legality.antt`, and what a legal move changes. For lawful lists and a sound state the tests agree with the legal
+/// moves of `specs/Moves.antt` (a law of `pm_laws`). It keeps neither sums nor records nor a window.
 ///
-/// With `n` nodes, `is_legal` takes a few look-ups for a change, a learning or a pass to a device; a pass also seeks the
+/// With `n` nodes, `is_legal` takes a few look-ups for a change, a learning or a pass to a device. A pass also seeks the
 /// index among those passed to the parent, from the newest on. A publishing takes a walk up the tree, 7 levels at most,
-/// for each node, and in a legal run at most 9 comparisons of two cuts, which are `n` numbers each; a clearing takes one
-/// such walk for each node, and a pass to a concentrator one comparison. A closing tests once whether each node may learn,
-/// publish or be passed a clearing; the last is one comparison of two indices, however many clearings there were.
-/// `apply` writes the `n` numbers of a cut for a publishing or a clearing, and one number otherwise. A clearing and a pass
-/// to a node with children also take a walk for each device and write for each node the greatest index due to it.
+/// for each node. In a legal run it also takes at most 9 comparisons of two cuts, which are `n` numbers each. A clearing
+/// takes one such walk for each node, and a pass to a concentrator one comparison. A closing tests once whether each node
+/// may learn, publish or be passed a clearing. The last is one comparison of two indices, however many clearings there
+/// were. `apply` writes the `n` numbers of a cut for a publishing or a clearing, and one number otherwise. A clearing and
+/// a pass to a node with children also take a walk for each device. They write for each node the greatest index due to it.
 pub struct Market {
     alloc: Global,
     parents: Vec<u32>,
@@ -59,7 +59,7 @@ pub struct Market {
         (λ x. slice_index_or due.items x 0) },
 }
 
-/// Its owner lets go of it in one step, where a derived drop would be one for each part.
+/// Its owner lets go of it in one step; a derived drop would be one for each part.
 impl Drop for Market {
     fn drop(self) {
         let Market {
@@ -119,7 +119,7 @@ impl Market {
         item_from_one(row_from_one(&self.ends, phase), device, 0)
     }
 
-    /// Whether a node is this one or stands below it.
+    /// Whether a node is this one or is below it.
     #[tactic(auto, using(crate::proofs::Loops::below_turns), unfolding(crate::specs::Lists::is_below))]
     fn is_below(&self, node: usize, below: usize) -> bool
         ensures { result ≡ is_below (market_lists self.now) node below }
@@ -145,8 +145,8 @@ impl Market {
         self.is_leaf(device) && self.is_below(node, device)
     }
 
-    /// The child of a node at or above another: of the nodes from that one up the first whose parent is the node, and 0
-    /// where there is none.
+    /// The child of a node at or above another: of the nodes from that one up the first whose parent is the node. If
+    /// there is no such one, it is 0.
     #[tactic(auto, using(crate::proofs::Loops::toward_turns))]
     fn child_at_or_above(&self, node: usize, below: usize) -> usize
         ensures { result ≡ child_at_or_above (market_lists self.now) node below }
@@ -205,7 +205,7 @@ impl Market {
         row_at(&self.published, node).len()
     }
 
-    /// The cut of a number of a node, counted from 1; nothing, which is all zeros, where there is none.
+    /// The cut of a number of a node, counted from 1. If there is no such number, it is empty, which is all zeros.
     fn cut_row(&self, node: usize, number: usize) -> &[u32]
         ensures { cut_of result.now ≡ cut_at ((market_state self.now).published node) number }
     {
@@ -231,7 +231,7 @@ impl Market {
         item_at(&self.learnt, node, 0)
     }
 
-    /// The index of the clearing passed to a node last, 0 where there was none.
+    /// The index of the clearing passed to a node last, 0 if there was no clearing.
     #[tactic(auto, unfolding(crate::specs::State::last_of))]
     fn last(&self, node: usize) -> usize
         ensures { result ≡ last_index (market_state self.now) node }
@@ -297,7 +297,7 @@ impl Market {
         self.is_same_on(node, self.cut_row(node, number), cut)
     }
 
-    /// The greatest number under which a node published a cut, 0 where there is none.
+    /// The greatest number under which a node published a cut, 0 if there is no such number.
     #[tactic(auto, using(crate::proofs::Loops::greatest_turns), unfolding(crate::specs::State::greatest_number))]
     fn greatest_number(&self, node: usize, cut: &[u32]) -> usize
         ensures { result ≡ greatest_number (market_lists self.now)

@@ -8,7 +8,7 @@ ghost use Rattle.pm_market.specs.Legality.{is_one_of};
 
 use std::alloc::{AllocError, Global};
 
-/// The item at a place of a list that is counted from 1, else none.
+/// The item at a place of a list that is counted from 1, otherwise `none`.
 pub(crate) fn item_from_one<T: Copy>(list: &[T], place: usize, none: T) -> T
     ensures { result ≡ slice_index_or (none ∷ list.now) place none }
 {
@@ -18,7 +18,7 @@ pub(crate) fn item_from_one<T: Copy>(list: &[T], place: usize, none: T) -> T
     }
 }
 
-/// The item at a place that is counted from 0, else none.
+/// The item at a place that is counted from 0, otherwise `none`.
 pub(crate) fn item_at<T: Copy>(list: &[T], place: usize, none: T) -> T
     ensures { result ≡ slice_index_or list.now place none }
 {
@@ -94,7 +94,7 @@ pub(crate) fn marked_parents(
     Ok(marks)
 }
 
-/// Sets the mark at a place, where there is one.
+/// Sets the mark at a place, if there is one.
 pub(crate) fn mark(marks: &mut [bool], place: usize)
     ensures length { length marks.new ≡ length marks.old }
     ensures marks { (x : ℕ) → x < length marks.old →

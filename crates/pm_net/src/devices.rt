@@ -1,5 +1,5 @@
-//! Devices whose agents number the offers of their own control and give it setpoints, in a network that may lose, repeat
-//! and reorder messages and whose nodes may restart.
+//! Devices whose agents number the offers of their own control and give it setpoints. The network may lose, repeat and
+//! reorder messages, and its nodes may restart.
 ghost use Rattle.std.specs.Prelude.{◌≡◌, ℕ, ◌+◌, ◌<◌, ◌≤◌, true, List, [], ◌∷◌, length};
 ghost use Rattle.pm_base.specs.Limits.{window_size};
 ghost use Rattle.std.specs.List.{All};
@@ -16,12 +16,12 @@ ghost use Rattle.pm_net.specs.Devices.{AgentIs, IsOfThisMembership, Devices, sta
 ghost use Rattle.pm_net.specs.Devices.{DevicesAgree, DevicesGoOn};
 ghost use Rattle.pm_net.specs.Devices.{SetpointsRise, IsToldNow};
 
-/// Every setpoint that a device was ever given is right: its power is what the device's own bid of the setpoint's number
-/// asks for at the device's local step of the clearing that the setpoint's index names, in whose cut the device has this
-/// number. Of two setpoints the one of the greater index is over bids none of which is older; while a device does not
-/// restart, each setpoint has a greater index than those before it. At most 9 offers are kept, and an unanswered one is
-/// kept until a price names it, or a later one, or the device leaves. Offers of a former membership are not kept, so that no
-/// price for one gives a setpoint.
+/// Every setpoint that a device was ever given is right. Its index names a clearing, in whose cut the device has the
+/// setpoint's number. Its power is what the device's own bid of this number asks for at the device's local step of this
+/// clearing. Of two setpoints the one of the greater index is over no older bid. While a device does not restart, each
+/// setpoint has a greater index than those before it. At most 9 offers are kept. An unanswered one is kept until a price
+/// names it, or a later one, or the device leaves. Offers of a former membership are not kept, so no price for one gives a
+/// setpoint.
 pub fn setpoints_answer_offers()
     ensures run { (lists : Lists) (p : Pricing) (events : List Event) → Lawful lists →
         phases lists ≡ 1 → GoesByNodes lists p →
@@ -47,8 +47,8 @@ pub fn setpoints_answer_offers()
         price.number ≤ agent.number → length (setpoints_for agent price) ≡ 1 }
 {}
 
-/// In a settled network the control of each member that did not restart was told what its newest bid asks for at its local
-/// step over all bids ever made.
+/// In a settled network the control of each member that did not restart was told a power. It is what the member's newest
+/// bid asks for at its local step over all bids ever made.
 pub fn settled_devices_were_told()
     ensures { (lists : Lists) (p : Pricing) (events : List Event) (d : ℕ) → Lawful lists →
         phases lists ≡ 1 → GoesByNodes lists p →

@@ -1,7 +1,7 @@
-//! The law of the network: devices, relays and an auctioneer on machines of their own, whose channels lose, repeat and reorder
-//! messages and which restart, run the market of cuts.
+//! The law of the network: devices, relays and an auctioneer on machines of their own run the market of cuts. Their channels
+//! lose, repeat and reorder messages, and they restart.
 //!
-//! A channel is the list of all messages that were ever sent on it; a node takes any of them, at any time and as often as it
+//! A channel is the list of all messages that were ever sent on it. A node takes any of them, at any time and as often as it
 //! likes. Each law is the contract of a function with an empty body. Those of devices with setpoints are in `devices`.
 #![tactic(auto)]
 
@@ -32,7 +32,7 @@ pub use devices::{
     setpoints_answer_offers, settled_devices_were_told, small_devices_are_as_worked_out,
 };
 
-/// Each run of a network, with whatever losses, repetitions and restarts, is a legal journal of the market of cuts: some
+/// Each run of a network, with whatever losses, repetitions and restarts, is a legal journal of the market of cuts. Some
 /// legal moves lead from the start to a state that the network then stands for. An event goes on from whatever state the
 /// network stood for, so the journal of a longer run continues that of a shorter.
 pub fn networks_run_the_market()
@@ -44,8 +44,8 @@ pub fn networks_run_the_market()
         NetworkAgrees lists p net s → GoesOn lists p s (network_step lists p net e) }
 {}
 
-/// Every price that was ever sent to a node names the node's own number in the cut of its clearing, and the node's local
-/// step there; of two of them the one of the greater index is over bids none of which is older.
+/// Every price that was ever sent to a node names the node's own number in the cut of its clearing. It also names the
+/// node's local step there. Of two of them the one of the greater index is over no older bid.
 pub fn prices_answer_numbered_bids()
     ensures named { (lists : Lists) (p : Pricing) (net : Network) (s : State) (x k : ℕ) →
         NetworkAgrees lists p net s → IsNode lists x →
@@ -60,9 +60,9 @@ pub fn prices_answer_numbered_bids()
 {}
 
 /// Nobody's place in the journal ever falls. What a node holds is nothing, or a price that is due to it, of no later clearing
-/// than the last one passed to it. A price that it is given makes no move where its clearing is not later than that one; else
-/// it is the last one then. What a node holds is replaced by prices of greater indices alone, except where the node itself
-/// restarts: it may then come back with an older one, and be given those after that one again, or for the first time.
+/// than the last one passed to it. A price that it is given makes no move if its clearing is not later than that one;
+/// otherwise it is the last one then. Only prices of greater indices replace what a node holds, except when the node itself
+/// restarts. It may then come back with an older one, and be given those after that one again, or for the first time.
 pub fn nobody_goes_back()
     ensures place { (lists : Lists) (p : Pricing) (net : Network) (s : State)
         (goes : GoesOn lists p s net) (old : Network) (x : ℕ) → Lawful lists →
@@ -87,9 +87,9 @@ pub fn nobody_goes_back()
 {}
 
 /// A device drops the price of a former membership. What a device goes by that never restarted is what the market says that
-/// it holds. Whatever price a device came back with, what it goes by is of that price's clearing: its own number there and
-/// its local step, and no older than its last join. In a settled network each member goes by its newest bid at its local
-/// step over all bids ever made.
+/// it holds. Whatever price a device came back with, what it goes by is of that price's clearing. It is its own number
+/// there and its local step, and is no older than its last join. In a settled network each member goes by its newest bid at
+/// its local step over all bids ever made.
 pub fn devices_go_by_held_prices()
     ensures held { (lists : Lists) (p : Pricing) (net : Network) (s : State) (d : ℕ) →
         Lawful lists → NetworkAgrees lists p net s → IsLeaf lists d →
@@ -106,8 +106,8 @@ pub fn devices_go_by_held_prices()
         goes_by lists net d ≡ Some (p.local net.counts d, net.counts d) }
 {}
 
-/// A relay, restarted or not, takes each newer price that was ever sent to it, once it holds of each child a number that is
-/// not below the one in its newest record, and has that record again if it can.
+/// A relay, restarted or not, takes each newer price that was ever sent to it. For this it holds of each child a number
+/// that is not below the one in its newest record. It also has that record again if it can.
 pub fn relays_take_newer_prices()
     ensures { (lists : Lists) (p : Pricing) (net : Network) (s : State) (c k : ℕ) → Lawful lists →
         NetworkAgrees lists p net s →
@@ -118,10 +118,10 @@ pub fn relays_take_newer_prices()
         ≡ sent_price net c k }
 {}
 
-/// Settled is current, over restarts too. Where each parent holds the newest bid of each child, each node the newest price
-/// sent to it, and nothing new can be sent, the last clearing is over all bids ever made, and each member holds its local step
-/// over them, at its own newest number. While nothing restarted, a network is settled where no message is left that anybody
-/// would take, and nothing new can be sent.
+/// Settled is current, also over restarts. A network is settled if each parent holds the newest bid of each child, each node
+/// holds the newest price sent to it, and nobody can send anything new. Then the last clearing is over all bids ever made,
+/// and each member holds its local step over them, at its own newest number. While nothing restarted, a network is settled
+/// if no message is left that anybody would take, and nothing new can be sent.
 pub fn settled_networks_are_current()
     ensures counted { (lists : Lists) (p : Pricing) (net : Network) (s : State) (d : ℕ) →
         Lawful lists → GoesByNodes lists p →
@@ -147,7 +147,7 @@ pub fn tree_auctions_go_by_nodes()
         ((x : ℕ) (l : Limits) → a.limits x ≡ Some l → AreLimits l) → IsTreeDemand lists a }
 {}
 
-/// A relay whose limits never bind is a concentrator without limits: such limits may be taken out and put in, and the same
+/// A relay whose limits never bind is a concentrator without limits. Such limits may be taken out and put in: the same
 /// offers go up and the same steps come down.
 pub fn limits_that_never_bind_change_nothing()
     ensures { (lists : Lists) (p : Pricing) (limits : ℕ → Option Limits) → GoesByNodes lists p →

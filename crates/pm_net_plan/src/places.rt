@@ -1,4 +1,4 @@
-//! Every tree with at most 256 children a node has places for them; and a network over a plan's tree that adds bids up by
+//! Every tree with at most 256 children a node has places for them. A network over a plan's tree that adds bids up by
 //! these places finds the plan's plain auction.
 ghost use Rattle.std.specs.Prelude.{◌≡◌, ℕ, ◌<◌, ◌≤◌, length, Option};
 ghost use Rattle.pm_base.specs.Limits.{most_nodes};
@@ -17,8 +17,8 @@ ghost use Rattle.pm_net.specs.TreeAuction.{AreAsGood, with_limits};
 ghost use Rattle.pm_net_plan.specs.PlanPricing.{plan_pricing};
 ghost use Rattle.pm_net_plan.specs.Places.{IsNumbering, places_in, HasFewChildren, added_by_places};
 
-/// The places in the order of the nodes are a numbering in each tree in which no node has more than 256 children: so in each
-/// tree of at most 256 nodes, and in that of each plan.
+/// The places in the order of the nodes are a numbering in each tree in which no node has more than 256 children. So they
+/// are in each tree of at most 256 nodes, and in that of each plan.
 pub fn trees_have_places()
     ensures numbering { (lists : Lists) → HasFewChildren lists →
         IsNumbering lists (places_in lists) }
@@ -27,9 +27,9 @@ pub fn trees_have_places()
         IsNumbering (plan_lists plan) (places_in (plan_lists plan)) }
 {}
 
-/// A network over the tree of a plan finds the plan's plain auction, also where it adds bids up by places, and where its
-/// relays have limits other than the plan's that never bind. So each price that was ever sent in it has the step that the
-/// plain auction over the cut of its clearing gives the node, which is the one that `run` writes.
+/// A network over the tree of a plan finds the plan's plain auction. It also does so if it adds bids up by places, and if
+/// its relays have limits other than the plan's that never bind. So each price that was ever sent in it has the step of
+/// the node in the plain auction over the cut of its clearing. This is the step that `run` writes.
 pub fn plans_price_networks()
     ensures goes { (plan : PlanData) (limits : ℕ → Option Limits) → IsPlan plan →
         AreAsGood (plan_lists plan) (plan_pricing plan) limits →

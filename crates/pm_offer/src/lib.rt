@@ -1,11 +1,11 @@
-//! Laws of what each node of the tree offers to its parent, and of the steps that go down it, over any cut of a plan.
+//! Laws of what each node offers to its parent, and of the steps that go down the tree. They hold over any cut of a plan.
 //!
-//! The plain auction of a plan adds up all devices at once. Here it goes from node to node: a device offers its demand, a
-//! concentrator the sum of its children's offers within its limits; the auctioneer clears the sum of its children's offers,
-//! and each concentrator hands on the step, moved where its limits ask for it. That a tree of nodes which know only their
-//! children finds the plain auction rests on these laws.
+//! The plain auction of a plan adds up all devices at once. Here it goes from node to node. A device offers its demand, a
+//! concentrator the sum of its children's offers within its limits. The auctioneer clears the sum of its children's offers.
+//! Each concentrator hands on the step, moved if its limits ask for it. By these laws a tree of nodes which know only their
+//! children finds the plain auction.
 //!
-//! Each law is the contract of a function with an empty body: a crate above cites the lemmas of `proofs/Laws.antt`.
+//! Each law is the contract of a function with an empty body. A crate above cites the lemmas of `proofs/Laws.antt`.
 #![tactic(auto)]
 
 ghost use Rattle.std.specs.Prelude.{◌≡◌, ℕ, ◌+◌, ◌<◌, ◌≤◌, ◌+ℤ◌, length, Some};
@@ -27,8 +27,8 @@ ghost use Rattle.pm_offer.specs.Powers.{group_power, announced_power, KeepsLimit
 ghost use Rattle.pm_offer.specs.LocalSteps.{IsAuctionStep};
 ghost use Rattle.pm_offer.specs.EndLines.{TellsEnd};
 
-/// A law: the offer of a device is its demand; that of a concentrator is the sum of its children's offers, within its
-/// limits where it has some; the total of the plain auction is the sum of the offers of the auctioneer's children. An offer
+/// A law: the offer of a device is its demand. That of a concentrator is the sum of its children's offers, within its
+/// limits if it has some. The total of the plain auction is the sum of the offers of the auctioneer's children. An offer
 /// depends on the changes of the node's own leaves alone.
 #[tactic(auto, using(crate::proofs::Laws::offer_device, crate::proofs::Laws::offer_alike, crate::proofs::Laws::offer_inner, crate::proofs::Laws::offer_total))]
 pub fn offers_go_up()
@@ -44,8 +44,8 @@ pub fn offers_go_up()
         total plan (state plan) cut ≡ children_sum plan 0 cut }
 {}
 
-/// A law: a child of the auctioneer takes the step at which the sum of the auctioneer's children clears; a child of a
-/// concentrator takes the step of the concentrator, moved where the sum of its children there breaks its limits. Each such
+/// A law: a child of the auctioneer takes the step at which the sum of the auctioneer's children clears. A child of a
+/// concentrator takes the step of the concentrator, moved if the sum of its children there breaks its limits. Each such
 /// step is a step of the basis.
 #[tactic(auto, using(crate::proofs::Laws::local_root, crate::proofs::Laws::local_below, crate::proofs::Laws::local_inside))]
 pub fn steps_go_down()
@@ -63,8 +63,8 @@ pub fn steps_go_down()
         local_step_at plan cut x < plan.basis.steps }
 {}
 
-/// A law: an offer has a number for each step of the basis, and the offers of a node's children add up to no more than the
-/// limit of a sum: there are at most 256 nodes, none demands more than 1,000,000,000 watts, and limits only bring a sum
+/// A law: an offer has a number for each step of the basis. The offers of a node's children add up to no more than the
+/// limit of a sum. There are at most 256 nodes, no node demands more than 1,000,000,000 watts, and limits only bring a sum
 /// nearer to 0. This holds in every cut, also in one with more changes than a device makes.
 #[tactic(auto, using(crate::proofs::Laws::offer_steps, crate::proofs::Laws::children_within))]
 pub fn offers_are_bounded()
@@ -75,7 +75,7 @@ pub fn offers_are_bounded()
         AllWithinLimit sum_limit (children_sum plan y cut) }
 {}
 
-/// A law: the total of the plain auction never rises with the step, since no bid does and limits keep that; it depends on
+/// A law: the total of the plain auction never rises with the step, since no bid does and limits keep that. It depends on
 /// the changes of the devices alone.
 #[tactic(auto, using(crate::proofs::Laws::total_falls, crate::proofs::Laws::total_alike))]
 pub fn totals_are_curves()
@@ -86,9 +86,9 @@ pub fn totals_are_curves()
         total plan (state plan) a ≡ total plan (state plan) b }
 {}
 
-/// A law: the powers that the members of a group take add up to the demand of the group at its step, and the total of the
+/// A law: the powers that the members of a group take add up to the demand of the group at its step. The total of the
 /// plain auction at a step is what the devices below no limited concentrator demand there and what each limited one
-/// announces. Where some step of the basis keeps the limits of a group, the group's members keep them together.
+/// announces. If some step of the basis keeps the limits of a group, the group's members keep them together.
 #[tactic(auto, using(crate::proofs::Laws::powers_group, crate::proofs::Laws::powers_total, crate::proofs::Laws::powers_within))]
 pub fn powers_add_up()
     // Group g: the devices below the limited concentrator g, and for 0 those below none. For any other node both are 0.
@@ -115,8 +115,8 @@ pub fn changes_are_of_their_phase()
 {}
 
 /// A law: the end over a cut tells the plain auction over it, line by line, and no other end does. The local step of a node
-/// is the step that the node goes by there, the clearing step or the nearest one at which the sum of the node's group keeps
-/// its limits, and no other step is.
+/// is the step that the node goes by there, and no other step is. It is the clearing step or the nearest one at which the
+/// sum of the node's group keeps its limits.
 #[tactic(auto, using(crate::proofs::EndLines::tells_end, crate::proofs::EndLines::step_is))]
 pub fn ends_tell_the_auction()
     ensures end { (plan : PlanData) (cut : Cut) → IsPlan plan →

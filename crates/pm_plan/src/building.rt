@@ -1,5 +1,5 @@
-//! Builds a plan from the parts of a file: first the nodes in order, then the phases in order, each by the plan as far
-//! as it goes before.
+//! Builds a plan from the parts of a file. First come the nodes in order, then the phases in order, each by the plan
+//! as far as it goes before.
 
 mod draft;
 mod events;

@@ -32,7 +32,7 @@ impl Model for Draft {
     } };
 }
 
-/// Its owner lets go of it in one step, where a derived drop would be one for each part.
+/// Its owner lets go of it in one step; a derived drop would be one for each part.
 impl Drop for Draft {
     fn drop(self) {
         let Draft {

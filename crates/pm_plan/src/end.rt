@@ -14,7 +14,7 @@ use std::marker::Model;
 pub struct MemberLine {
     /// The device's node.
     pub node: u32,
-    /// Its power in watts, positive where it takes power: its bid at the step of its group.
+    /// Its power in watts, positive if it takes power: its bid at the step of its group.
     pub power: i64,
     /// The number of its bid, which is that of its last change.
     pub number: u32,
@@ -31,8 +31,8 @@ pub struct LimitedLine {
     pub total: i64,
 }
 
-/// A phase's end: the step at which the cluster balances with its price and the total there, the members and the
-/// limited concentrators, both in file order.
+/// A phase's end: the step at which the cluster balances, with its price and the total there. It has the members
+/// and the limited concentrators, both in file order.
 ///
 /// Contracts see it as these, and for how many more members and limited concentrators it has room.
 #[derive(Debug, Drop)]
@@ -102,8 +102,8 @@ impl PhaseEnd {
         })
     }
 
-    /// Makes it the end at a step of a market basis, whose price it has, with the total there in watts and without
-    /// lines; the room of its former lines is room for new ones.
+    /// Makes it the end at a step of a market basis, whose price it has, with the total there in watts. It has no
+    /// lines then; the room of its former lines is room for new ones.
     pub fn begin(&mut self, basis: &Basis, step: u32, total: i64)
         requires { step < basis.now.steps }
         ensures end { self.new.end

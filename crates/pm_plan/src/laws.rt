@@ -22,7 +22,7 @@ ghost use Rattle.pm_plan.specs.States.{FollowChanges, state};
 ghost use Rattle.pm_plan.specs.Kept.{IsPlan, InPhases};
 ghost use Rattle.pm_plan.specs.Market.{plan_lists};
 
-/// A law: the states of a plan follow its changes, and any states that follow them give each device the same after each
+/// A law: the states of a plan follow its changes. Any states that follow them give each device the same after each
 /// number of its changes.
 #[tactic(auto, using(crate::proofs::PublicLaws::follows, crate::proofs::PublicLaws::only))]
 pub fn states_follow_the_changes()
@@ -32,8 +32,8 @@ pub fn states_follow_the_changes()
         node plan d ≡ Device planned → n ≤ change_count plan d → states d n ≡ state plan d n }
 {}
 
-/// A law: each state that a device comes to fits its kind, its bid has a demand for each step, which lies within
-/// ±1,000,000,000 watts and never rises, and so does its power in each cut.
+/// A law: each state that a device comes to fits its kind. Its bid has a demand for each step, which lies within
+/// ±1,000,000,000 watts and never rises. Its power in each cut lies within the same.
 #[tactic(auto, using(crate::proofs::PublicLaws::fits, crate::proofs::PublicLaws::steps, crate::proofs::PublicLaws::falls))]
 pub fn states_fit()
     ensures fits { (plan : PlanData) (d n : ℕ) (planned : DeviceData) → IsPlan plan →
@@ -55,8 +55,8 @@ pub fn states_fit()
         IsWithin demand_limit (power plan (state plan) cut d) }
 {}
 
-/// A law: the lists that a plan stands for are lawful in the market of cuts, say what the plan does of parents, leaves,
-/// members, changes, phases and their ends, and have the plan's bound of moves.
+/// A law: the lists that a plan stands for are lawful in the market of cuts, and have the plan's bound of moves. They
+/// say what the plan does of parents, leaves, members, changes, phases and their ends.
 #[tactic(auto, using(crate::proofs::PublicLaws::list_laws))]
 pub fn lists_are_lawful()
     ensures lawful { (plan : PlanData) → IsPlan plan → Lawful (plan_lists plan) }

@@ -70,7 +70,7 @@ impl Device {
         Ok(())
     }
 
-    /// Plans a tick of so many minutes, where the device is a member whose state changes by itself.
+    /// Plans a tick of so many minutes, if the device is a member whose state changes by itself.
     fn tick(&mut self, phase: u32, minutes: i64) -> Result<(), AllocError>
         ensures { OnOk result (self.new ≡ device_after_tick phase minutes self.old) }
     {
@@ -121,7 +121,7 @@ impl Node {
         }
     }
 
-    /// Plans one more change of this phase, where the node is a device.
+    /// Plans one more change of this phase, if the node is a device.
     pub(crate) fn plan(&mut self, phase: u32, what: Planned) -> Result<(), AllocError>
         ensures ok { OnOk result (self.new ≡ map_device (with_change phase what) self.old) }
         ensures err { OnErr result (self.new ≡ self.old) }
@@ -132,7 +132,7 @@ impl Node {
         }
     }
 
-    /// Plans a tick of so many minutes, where the node is a device that is a member and whose state changes by itself.
+    /// Plans a tick of so many minutes, if the node is a device that is a member and whose state changes by itself.
     pub(crate) fn tick(&mut self, phase: u32, minutes: i64) -> Result<(), AllocError>
         ensures { OnOk result (self.new ≡ map_device (device_after_tick phase minutes) self.old) }
     {
@@ -152,7 +152,7 @@ impl Node {
         }
     }
 
-    /// The limits of a limited concentrator; none exactly where the node is no such.
+    /// The limits of a limited concentrator; None exactly if the node is no limited one.
     pub(crate) fn limits(&self) -> Option<Limits>
         ensures { result ≡ limits_of self.now }
     {
@@ -162,7 +162,7 @@ impl Node {
         }
     }
 
-    /// The changes of a device in their order; none where the node is no device.
+    /// The changes of a device in their order; no changes if the node is no device.
     pub(crate) fn changes(&self) -> &[Change]
         ensures { result.now ≡ changes_of self.now }
     {

@@ -19,8 +19,8 @@ use std::marker::Model;
 
 /// A plan: the market basis, the tree, what is planned for each node, the bids of the manual devices, and the phases.
 ///
-/// Its type keeps that every number lies within the limits of the market, that the tree is lawful, that the
-/// devices are its leaves, that each change belongs to a phase, and that no limited concentrator stands above a limited one.
+/// Its type keeps that every number lies within the limits of the market, that the tree is lawful, and that the devices are
+/// its leaves. It also keeps that each change belongs to a phase, and that no limited concentrator is above a limited one.
 #[derive(Drop)]
 pub struct Plan {
     pub(crate) draft: Draft,
@@ -97,7 +97,7 @@ impl Plan {
         self.device(device).start()
     }
 
-    /// Floor and ceiling of a node in watts; none exactly where it is no limited concentrator.
+    /// Floor and ceiling of a node in watts; None exactly if it is no limited concentrator.
     pub fn limits(&self, node: NodeId) -> Option<(i64, i64)>
         requires { node.0 ≤ length self.now.nodes }
         ensures { result ≡ option_map (λ limits. (limits.floor, limits.ceiling))
@@ -110,7 +110,7 @@ impl Plan {
         Some((limits.floor, limits.ceiling))
     }
 
-    /// The minutes of a phase that is a tick; none exactly where it has events. Phases count from 1.
+    /// The minutes of a phase that is a tick; None exactly if it has events. Phases count from 1.
     pub fn minutes(&self, phase: u32) -> Option<i64>
         requires first { 1 ≤ phase }
         requires last { phase ≤ phases self.now }
@@ -119,7 +119,7 @@ impl Plan {
         self.draft.minutes[phase as usize - 1]
     }
 
-    /// A change of a device by its number, counted from 1; none exactly where the number is 0 or above the device's
+    /// A change of a device by its number, counted from 1; None exactly if the number is 0 or above the device's
     /// changes.
     pub fn planned(&self, device: NodeId, number: u32) -> Option<Planned>
         requires { is_leaf self.now device.0 ≡ true }
@@ -142,7 +142,7 @@ impl Plan {
         count_up_to(changes, phase) - count_up_to(changes, phase - 1)
     }
 
-    /// The limited concentrator above a node; none exactly where there is none.
+    /// The limited concentrator above a node; None exactly if there is no such one.
     pub fn group(&self, node: NodeId) -> Option<NodeId>
         requires { node.0 ≤ length self.now.nodes }
         ensures group { option_map (λ g. g.0) result ≡ group_above self.now node.0 }

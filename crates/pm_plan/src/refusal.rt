@@ -67,9 +67,9 @@ pub enum Cause {
     UnfitState,
     /// There are too many phases, events of a phase, or changes.
     RunTooLarge,
-    /// A limited concentrator stands above a limited one.
+    /// A limited concentrator is above a limited one.
     LimitedTwice,
-    /// An input does not begin with a cluster file whose length stands before it.
+    /// An input does not begin with a cluster file that its length precedes.
     BadEnvelope,
     /// A line is no target, or there are too many.
     BadTarget,

@@ -11,7 +11,7 @@ use pm_bid::{ArrayBid, Steps};
 use std::marker::Brand;
 
 impl Plan {
-    /// True exactly where both plans have the same basis, tree, nodes, arrays and phases, each in the same order.
+    /// True exactly if both plans have the same basis, tree, nodes, arrays and phases, each in the same order.
     pub fn same(&self, other: &Plan) -> bool
         ensures { IsTrue result ↔ (self.now ≡ other.now) }
     {

@@ -1,5 +1,5 @@
-//! A board that is driven call by call. Each call stands in a function that promises nothing, so that no fact of a call
-//! follows a test around.
+//! A board that is driven call by call. Each call is in a function that promises nothing, so no fact of a call follows
+//! a test around.
 
 use crate::same::same;
 use crate::shared::may_be_shared;

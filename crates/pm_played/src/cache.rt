@@ -24,7 +24,7 @@ fn bid_of(rt: &impl Abort, alloc: Global, demands: [i64; 2]) -> ArrayBid
     ArrayBid::new(demands, 2, &mut Steps::<Brand>::start()).expect(rt, "a bid")
 }
 
-/// Hands a child's bid to the cache, or removes the child where there is none.
+/// Hands a child's bid to the cache, or removes the child if there is no bid.
 fn learn(
     cache: &mut BidCache,
     child: usize,
@@ -45,7 +45,7 @@ fn learn(
     cache.learn(child, number, bid, &mut counter)
 }
 
-/// What the newer bid of a child counts on a counter at 0, where there are 256 children and 1000
+/// What the newer bid of a child counts on a counter at 0, if there are 256 children and 1000
 /// steps.
 fn steps_of_a_newer_bid(alloc: Global, bid: &ArrayBid) -> Result<Steps<Brand>, AllocError>
     requires thousand { length bid.now ≡ 1000 }

@@ -144,7 +144,7 @@ fn fills_the_window(rt: &impl Abort, c: &mut Concentrator, up: &mut Link, bid: &
     }
 }
 
-/// With eight numbers published, the ninth follows where a price answers one of them.
+/// With eight numbers published, the ninth follows if a price answers one of them.
 fn publishes_the_ninth(
     rt: &impl Abort,
     alloc: Global,
@@ -308,8 +308,8 @@ fn prices_on_links(
     Ok([downs[0].take_price(), downs[1].take_price()])
 }
 
-/// The same concentrator sends as values what it sends over links: this bid first, and these prices
-/// for the price of step 0 that answers it.
+/// The same concentrator sends as values what it sends over links. It sends this bid first, and
+/// these prices for the price of step 0 that answers it.
 fn sends(
     rt: &impl Abort,
     alloc: Global,

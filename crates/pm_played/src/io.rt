@@ -9,7 +9,7 @@ use std::io;
 use std::io::{ErrorKind, Read, Write};
 use std::test::Fail;
 
-/// What a source hands on of `balance` where three bytes are asked for at a time.
+/// What a source hands on of `balance` if three bytes are asked for at a time.
 const PIECES: &[&[u8]] = &[b"bal", b"anc", b"e", b""];
 
 /// The first bytes that a source hands on are those of the reader, and so are the next.
@@ -44,7 +44,7 @@ struct Frail {
 }
 
 impl Frail {
-    /// What the next call answers: 1 where nothing is wrong.
+    /// What the next call answers: 1 if nothing is wrong.
     fn answer(&mut self) -> io::Result<usize> {
         self.calls = self.calls.saturating_add(1);
         match self.calls {
@@ -87,7 +87,7 @@ fn an_error_of_the_reader_is_a_fault(rt: HostRuntime) {
     assert!(rt; read.is_ok());
 }
 
-/// What a frail writer answers call by call: an error is a fault, and so is a write that takes nothing of a piece that is
+/// What a frail writer answers call by call. An error is a fault, and so is a write that takes nothing of a piece that is
 /// not empty.
 const WRITES: &[Result<usize, Failed>] = &[Ok(1), Err(Failed), Ok(1), Err(Failed), Ok(1)];
 

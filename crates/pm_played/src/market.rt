@@ -170,8 +170,8 @@ fn last_price_is_held(rt: &impl Abort, market: &mut Market) -> Result<(), Fail> 
     Ok(())
 }
 
-/// Eight rounds of three moves are legal, then a change and a learning, and the ninth publishing is not: place 26, with
-/// one device of nine changes and with nine devices of one. A price of number 8 opens the window.
+/// Eight rounds of three moves are legal, then a change and a learning. The ninth publishing is not: place 26, with one
+/// device of nine changes and with nine devices of one. A price of number 8 opens the window.
 #[test]
 fn a_window_holds_eight_numbers(rt: HostRuntime) -> Result<(), Fail> {
     window_holds_eight(&rt, rt.alloc(), 1, ONE_DEVICE)?;
@@ -222,15 +222,15 @@ const TWO_CHANGES: &[Node] = &[
     (1, true, &[true, false]),
 ];
 
-/// Every journal of two devices with one change each ends complete and within the bound, by a walk over all of them.
+/// Every journal of two devices with one change each ends complete and within the bound. A walk meets all of them.
 ///
 /// Directly under the auctioneer there are 88. With one clearing, after both learnings: the two devices' changes and
-/// learnings in 6 orders, the two passes in 2: 12. With two clearings, device a learnt first (b likewise): the order
+/// learnings in 6 orders, the two passes in 2: 12. With two clearings, device a is learnt first (b likewise). The order
 /// is change a, learn a, clear 1, learn b, clear 2, the passes of 2. The change of b has 4 places before learn b. With
-/// no pass of 1 that is 4 * 2 = 8. Where 1 is passed to a, too: if a is passed 2 first, the pass of 1 has 3 places,
-/// and the change of b 5 orders with the first of them and 4 with the others, 13; if b is passed 2 first, the pass of 1
-/// has 4 places, 5 + 3 * 4 = 17. So 8 + 13 + 17 = 38 for a, 38 for b, and 12: 88.
-/// The bound is changes * (nodes + 15) + phases: 2 * 17 + 1 = 35, and 2 * 18 + 1 = 37 with a concentrator.
+/// no pass of 1 this is 4 * 2 = 8. Now let 1 also be passed to a. If a is passed 2 first, the pass of 1 has 3 places.
+/// The change of b has 5 orders with the first of them and 4 with the others: 13. If b is passed 2 first, the pass of 1
+/// has 4 places: 5 + 3 * 4 = 17. So 8 + 13 + 17 = 38 for a, 38 for b, and 12: 88. The bound is changes * (nodes + 15) +
+/// phases: 2 * 17 + 1 = 35, and 2 * 18 + 1 = 37 with a concentrator.
 #[test]
 fn every_journal_ends_complete_within_the_bound(rt: HostRuntime) -> Result<(), Fail> {
     let flat = count_journals(rt.alloc(), FLAT, 35)?;
@@ -240,14 +240,14 @@ fn every_journal_ends_complete_within_the_bound(rt: HostRuntime) -> Result<(), F
     Ok(())
 }
 
-/// Every journal of two devices under a concentrator with two changes each ends complete and within the bound,
-/// 4 * (3 + 15) + 1 = 73: a walk over all the states that they reach. Both devices join, the first stays a member and
-/// the second leaves.
+/// Every journal of two devices under a concentrator with two changes each ends complete and within the bound, 4 * (3
+/// + 15) + 1 = 73. A walk meets all the states that they reach. Both devices join, the first stays a member and the
+/// second leaves.
 ///
 /// The longest has 31 moves: the 4 changes are one by one learnt, published, learnt, cleared and passed to the
-/// concentrator, 24. The device that stays is passed all 4 clearings where its join is the first change, else 3. The
-/// other is passed those from its join to before its leaving: 2 at most, and 3 where its join is the first change. That
-/// is 6 either way, and fewer clearings bring no more. The closing is the last.
+/// concentrator, 24. The device that stays is passed all 4 clearings if its join is the first change, otherwise 3. The
+/// other is passed those from its join to before its leaving: 2 at most, and 3 if its join is the first change. This is
+/// 6 either way, and fewer clearings bring no more. The closing is the last.
 #[test]
 fn every_journal_of_four_changes_ends_complete_within_the_bound(
     rt: HostRuntime,

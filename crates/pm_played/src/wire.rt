@@ -116,7 +116,7 @@ fn streams_have_their_answers(rt: HostRuntime) -> Result<(), Fail> {
     Ok(())
 }
 
-/// Serves four clearings of one bid, where the reads and the writes of these numbers fail.
+/// Serves four clearings of one bid, while the reads and the writes of these numbers fail.
 fn serves_with_faults(
     rt: &impl Abort,
     alloc: Global,

@@ -39,9 +39,9 @@ impl Model for PointBid {
 
 impl PointBid {
     /// The bid of these points, pairs of a price and a demand. There are 1 to 64 of them, no price is
-    /// below the one before, no demand is above the one before, each demand lies within
-    /// ±1,000,000,000 watts and each price within those of the basis; else the answer is the first
-    /// fault, in the order of [`PointFault`].
+    /// below the one before, and no demand is above the one before. Each demand lies within
+    /// ±1,000,000,000 watts and each price within those of the basis. Otherwise the answer is the
+    /// first fault, in the order of [`PointFault`].
     pub fn new(points: Vec<(i64, i64)>, basis: &Basis) -> Result<PointBid, PointFault>
         ensures { result ≡ checked_points basis.now points.items }
     {
@@ -88,8 +88,8 @@ impl PointBid {
         Ok(array)
     }
 
-    /// The demand at a price, in watts: on the straight line between the two points around the
-    /// price, rounded down; the first demand before all points, and the last one after them.
+    /// The demand at a price, in watts. It is on the straight line between the two points around the
+    /// price, rounded down. Before all points it is the first demand, and after them the last one.
     pub fn demand_at(&self, price: i64) -> i64
         requires { IsWithin price_limit price }
         ensures demand { result ≡ demand_at_price self.now price }

@@ -20,7 +20,7 @@ fn place_text(alloc: Global, place: Place) -> Result<String, AllocError>
     }
 }
 
-/// The line of a refusal: `refused CODE PLACE`, and `item I` after it where there is an item. The place is `document`,
+/// The line of a refusal: `refused CODE PLACE`, and `item I` after it if there is an item. The place is `document`,
 /// `basis`, `node N`, `phase P`, `event P E` or `line N`.
 pub fn refusal_line(alloc: Global, refusal: &Refusal) -> Result<Vec<u8>, AllocError>
     ensures { IfOk result (λ text. text.items ≡ refusal_line refusal.now) }

@@ -127,8 +127,8 @@ pub(crate) fn push_report(
     push_end_line(text, plan)
 }
 
-/// The text of the end of a phase, whose number counts from 1: the line of the phase, one line for each member and one
-/// for each limited concentrator, both in the order of the end.
+/// The text of the end of a phase, whose number counts from 1. It has the line of the phase, one for each member and
+/// one for each limited concentrator, both in the order of the end.
 ///
 /// ```text
 /// phase P price X step K total T members M
@@ -150,8 +150,8 @@ pub fn phase_text(
     Ok(text.into_bytes())
 }
 
-/// The report of ends, which are those of phase 1, 2, ..: the text of each, then `end phases P changes C` with the
-/// phases and the changes of the plan.
+/// The report of ends, which are those of the phases in their order. It has the text of each, then `end phases P
+/// changes C` with the phases and the changes of the plan.
 pub fn report_text(alloc: Global, plan: &Plan, ends: &[PhaseEnd]) -> Result<Vec<u8>, AllocError>
     requires of_plan { All (IsEndOf plan.now) (ends_of ends.now) }
     requires few { length ends.now ≤ most_phases }

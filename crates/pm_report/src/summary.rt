@@ -66,8 +66,8 @@ fn push_last_line(text: &mut String, last: &PhaseEnd) -> Result<(), AllocError>
     writeln!(text, "last price {price} total {total} members {members}")
 }
 
-/// The summary of the demo of this size and number: its plan with the number of its nodes, phases and changes, the sum of
-/// the prices and of the totals over all ends, and the last end.
+/// The summary of the demo of this size and number. It tells the number of nodes, phases and changes of its plan. It also
+/// tells the sum of the prices and of the totals over all ends, and the last end.
 ///
 /// ```text
 /// demo size S number R nodes N phases P changes C

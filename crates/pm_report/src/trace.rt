@@ -110,8 +110,8 @@ fn push_moves_line(text: &mut String, journal: &Journal) -> Result<(), AllocErro
 /// close P
 /// ```
 ///
-/// A pass to a concentrator has the first form of a pass, one to a device that then holds a price the second, and one
-/// to a device that then holds none the third.
+/// A pass to a concentrator has the first form of a pass. One to a device that then holds a price has the second, and
+/// one to a device that then holds no price the third.
 #[tactic(auto, unfolding(crate::specs::Trace::trace_text))]
 pub fn trace_text(
     alloc: Global,

@@ -9,9 +9,9 @@
 //! 2. the tree (`tree`): names and parents;
 //! 3. the plan (`pm_plan`): limits, starts and events.
 //!
-//! The definitions in `specs/` stand in the same layers, the whole in `Scene`. The members of each object stand in one table
-//! of the code (`kinds` for the nodes, `rows` for the others) and one of the definitions (`Kinds`, `Rows`), and the same
-//! check goes by both. `kinds` and `Kinds` have all that tells one kind of node from another.
+//! The definitions in `specs/` are in the same layers, the whole in `Scene`. The members of each object are in one table of
+//! the code (`kinds` for the nodes, `rows` for the others). They are also in one of the definitions (`Kinds`, `Rows`). The
+//! same check goes by both. `kinds` and `Kinds` have all that tells one kind of node from another.
 #![tactic(auto)]
 
 mod forms;

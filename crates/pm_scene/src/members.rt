@@ -120,7 +120,7 @@ fn has_only(object: &Map<String, Value>, members: &[Member]) -> bool
     each_listed(object, members)
 }
 
-/// Whether the member of a name has its form; yes where it is not there.
+/// Whether the member of a name has its form; yes if it is not there.
 fn has_form_at(value: &Value, member: &Member) -> bool
     ensures { result ≡ has_form_at (row_of member.now) (view value.now) }
 {

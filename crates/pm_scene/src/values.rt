@@ -14,7 +14,7 @@ pub(crate) fn whole(value: &Value) -> Option<i64>
     value.as_i64()
 }
 
-/// The elements of an array, none where it is no array.
+/// The elements of an array, no elements if it is no array.
 pub(crate) fn elements(value: &Value) -> &[Value]
     ensures { map view result.now ≡ elements (view value.now) }
 {
@@ -31,7 +31,7 @@ pub(crate) fn has_member(value: &Value, name: &str) -> bool
     value.get(name).is_some()
 }
 
-/// A member that is a whole number, 0 where there is none.
+/// A member that is a whole number, 0 if there is no such member.
 pub(crate) fn whole_at(value: &Value, name: &str) -> i64
     ensures { result ≡ whole_at name.now (view value.now) }
 {
@@ -41,7 +41,7 @@ pub(crate) fn whole_at(value: &Value, name: &str) -> i64
     }
 }
 
-/// A member that is a text, empty where there is none.
+/// A member that is a text, empty if there is no such member.
 pub(crate) fn text_at<'a>(value: &'a Value, name: &str) -> &'a str
     ensures { result.now ≡ text_at name.now (view value.now) }
 {
@@ -51,7 +51,7 @@ pub(crate) fn text_at<'a>(value: &'a Value, name: &str) -> &'a str
     }
 }
 
-/// The elements of a member that is an array, none where there is none.
+/// The elements of a member that is an array, no elements if there is no such member.
 pub(crate) fn elements_at<'a>(value: &'a Value, name: &str) -> &'a [Value]
     ensures { map view result.now ≡ elements_at name.now (view value.now) }
 {

@@ -85,8 +85,8 @@ impl Link {
         Ok(())
     }
 
-    /// Takes the bid that waits: its head is the answer, and `into` becomes its demand, zeros where
-    /// it is gone. None comes exactly where nothing waits; `into` stays as it was then.
+    /// Takes the bid that waits: its head is the answer, and `into` becomes its demand, zeros if it
+    /// is gone. None comes exactly if nothing waits; `into` stays as it was then.
     pub fn take_bid(&mut self, into: &mut ArrayBid) -> Option<BidHead>
         requires steps { length into.old ≡ self.old.steps }
         ensures taken { MatchOption result
@@ -118,7 +118,7 @@ impl Link {
         Ok(())
     }
 
-    /// Takes the price that waits. None comes exactly where nothing waits.
+    /// Takes the price that waits. None comes exactly if nothing waits.
     pub fn take_price(&mut self) -> Option<PriceUpdate>
         ensures taken { MatchOption result (NothingWaited self.old.down self.old self.new)
             (λ price. PriceTaken self.old self.new price) }
@@ -129,7 +129,7 @@ impl Link {
         Some(price)
     }
 
-    /// Whether a bid waits: false exactly where [`Link::take_bid`] would answer None.
+    /// Whether a bid waits: false exactly if [`Link::take_bid`] would answer None.
     pub fn bids_waiting(&self) -> bool
         ensures waiting { IsFalse result ↔ (self.now.up.waiting ≡ None) }
         ensures sound { IsSession self.now }
@@ -137,7 +137,7 @@ impl Link {
         self.bid.is_some()
     }
 
-    /// Whether a price waits: false exactly where [`Link::take_price`] would answer None.
+    /// Whether a price waits: false exactly if [`Link::take_price`] would answer None.
     pub fn prices_waiting(&self) -> bool
         ensures waiting { IsFalse result ↔ (self.now.down.waiting ≡ None) }
         ensures sound { IsSession self.now }

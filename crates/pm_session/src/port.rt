@@ -56,7 +56,7 @@ impl Port {
         self.given = Some(update);
     }
 
-    /// The price that the device holds: the one given last. None comes exactly where the device is
+    /// The price that the device holds: the one given last. None comes exactly if the device is
     /// not joined, was given no price, or the price names a number below that of its last join.
     pub fn held(&self) -> Option<Held>
         ensures held { result ≡ held_by self.now }

@@ -27,7 +27,7 @@ impl Prices<'_> {
         self.heads.len()
     }
 
-    /// The price for a child, which is one of the children. None comes exactly where its head is
+    /// The price for a child, which is one of the children. None comes exactly if its head is
     /// gone.
     pub fn for_child(&self, child: usize) -> Option<PriceUpdate>
         requires child { child < length self.now.heads.now }

@@ -10,7 +10,7 @@ use std::alloc::{AllocError, Global};
 use std::marker::{Brand, Model};
 
 /// What went into one number of a concentrator: the heads of its children, and the children's sum
-/// where the concentrator is limited.
+/// if the concentrator is limited.
 #[derive(Drop)]
 pub struct Record {
     number: u32,
@@ -27,7 +27,7 @@ impl Model for Record {
 }
 
 impl Record {
-    /// A record of children that sent nothing, with a sum of so many steps where there is one.
+    /// A record of children that sent nothing, with a sum of so many steps if there is one.
     pub(crate) fn new(
         alloc: Global,
         children: usize,
@@ -67,7 +67,7 @@ impl Record {
         &self.heads
     }
 
-    /// The children's sum, before any clamping. None comes exactly where the record has none: it
+    /// The children's sum, before any clamping. None comes exactly if the record has no sum: it
     /// was made by [`Window::sent`](crate::Window::sent).
     pub fn sum(&self) -> Option<&ArrayBid>
         ensures sum { option_copied result ≡ self.now.sum }

@@ -88,7 +88,7 @@ impl Window {
         (WINDOW_SIZE - (self.last - self.answered)) as usize
     }
 
-    /// The newest number, 0 where nothing was sent.
+    /// The newest number, 0 if nothing was sent.
     pub fn last(&self) -> u32
         ensures last { result ≡ self.now.last }
     {
@@ -102,7 +102,7 @@ impl Window {
         1 <= number && self.answered <= number && number <= self.last
     }
 
-    /// The newest record. Where nothing was sent it is that of the opening: all children are gone,
+    /// The newest record. If nothing was sent, it is that of the opening: all children are gone,
     /// with number 0.
     pub fn newest(&self) -> &Record
         ensures record { result.now ≡ newest_record self.now }

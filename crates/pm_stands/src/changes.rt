@@ -29,7 +29,7 @@ pub fn changing_keeps_the_market()
         MakesMove plan (changed_core c links counts states ports) s (Move.Change x n) }
 {}
 
-/// Where the close of the open phase is legal, keeping the powers at its end makes the move.
+/// If the close of the open phase is legal, keeping the powers at its end makes the move.
 pub fn closing_keeps_the_market()
     ensures made { (plan : PlanData) (c : Core) (s : State) (p : ℕ) (powers : List ℤ) →
         IsPlan plan → StandsFor plan c s → Legal (plan_lists plan) s (Move.Close p) →

@@ -15,8 +15,8 @@ ghost use Rattle.pm_stands.specs.Core.{Core, seat_of};
 ghost use Rattle.pm_stands.specs.Stands.{StandsFor};
 ghost use Rattle.pm_stands.specs.Current.{held_price, IsCurrent, kept_power, kept_line};
 
-/// The port of a device answers the price that the market's definition names: that of the clearing passed to the device
-/// last, unless it is of a former membership. Its step is a step of the basis.
+/// The port of a device answers the price that the market's definition names. It is that of the clearing passed to the
+/// device last, unless it is of a former membership. Its step is a step of the basis.
 #[tactic(auto, using(crate::proofs::Holding::held_agrees, crate::proofs::Holding::held_inside))]
 pub fn ports_answer_the_held_price()
     ensures held { (plan : PlanData) (c : Core) (s : State) (d : ℕ) → IsPlan plan →
@@ -27,8 +27,8 @@ pub fn ports_answer_the_held_price()
         held_by (seat_of c d) ≡ Some price → price.step < plan.basis.steps }
 {}
 
-/// Where nothing is pending everyone is over all current bids: the last clearing, each member's price, the auctioneer's sum
-/// and step; nothing of a concentrator is unanswered. The powers that devices take by their prices, and the lines of
+/// If nothing is pending, everyone is over all current bids: the last clearing, each member's price, the auctioneer's sum
+/// and step. Nothing of a concentrator is unanswered. The powers that devices take by their prices, and the lines of
 /// limited concentrators, are those of the plain auction over the changes made.
 #[tactic(auto, using(crate::proofs::AllCurrent::quiet_current, crate::proofs::QuietPowers::power_current, crate::proofs::QuietPowers::line_current))]
 pub fn quiet_clusters_are_current()

@@ -1,10 +1,10 @@
 //! The relation by which a cluster stands for a state of the market of cuts, and the laws that each move keeps it.
 //!
-//! A cluster keeps numbers, running sums and the records of a window; a state of the market keeps whole cuts for good. The
+//! A cluster keeps numbers, running sums and the records of a window. A state of the market keeps whole cuts for good. The
 //! relation `StandsFor` (`specs/Stands.antt`) has one clause for each part that is kept. Each law is the contract of a
-//! function with an empty body: where the calls on a cluster's parts did what they say, the move that was made is legal in
-//! every state that the cluster stood for, and the cluster stands for the state after it. A crate above calls a law or
-//! cites the lemmas of `proofs/`. There is no code here, so that an edit of code never proves the laws again.
+//! function with an empty body. Suppose that the calls on a cluster's parts did what they say. Then the move that was made
+//! is legal in every state that the cluster stood for, and the cluster stands for the state after it. A crate above calls
+//! a law or cites the lemmas of `proofs/`. There is no code here, so an edit of code never proves the laws again.
 #![tactic(auto)]
 
 mod changes;

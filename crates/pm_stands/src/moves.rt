@@ -20,9 +20,9 @@ ghost use Rattle.pm_stands.specs.Stands.{StandsFor, Stands, MakesMove};
 
 use pm_market::Move;
 
-/// A parent learns what it took from a child's link: the cluster that stood for a state stands for the state after the
+/// A parent learns what it took from a child's link. The cluster that stood for a state stands for the state after the
 /// legal `Learn` of that child and number. A bid that was taken from the link may be learnt, and is newer than the one
-/// learnt last; where nothing waited on the link, no `Learn` of the child is legal.
+/// learnt last. If nothing waited on the link, no `Learn` of the child is legal.
 pub fn learning_keeps_the_market()
     ensures made { (plan : PlanData) (c : Core) (s : State) (x : ℕ) (links : List (List Session))
         (auctioneer : Auction)
@@ -40,8 +40,8 @@ pub fn learning_keeps_the_market()
         Legal (plan_lists plan) s (Move.Learn x n) → ⊥ }
 {}
 
-/// A concentrator publishes the sum of its children's bids on the link to its parent: the cluster that stood for a state
-/// stands for the state after the legal `Publish`. What the code needs always holds; where the concentrator has nothing
+/// A concentrator publishes the sum of its children's bids on the link to its parent. The cluster that stood for a state
+/// stands for the state after the legal `Publish`. What the code needs always holds. If the concentrator has nothing
 /// new, or its window is full, no `Publish` of it is legal.
 pub fn publishing_keeps_the_market()
     ensures made { (plan : PlanData) (c : Core) (s : State) (x : ℕ) (links : List (List Session))
@@ -58,9 +58,9 @@ pub fn publishing_keeps_the_market()
         Legal (plan_lists plan) s (Move.Publish x n) → ⊥ }
 {}
 
-/// The auctioneer clears, and offers the price to its children: the cluster that stood for a state stands for the state
-/// after the legal `Clear`. What the code needs always holds; where the auctioneer learnt nothing since its last
-/// clearing, no `Clear` is legal.
+/// The auctioneer clears, and offers the price to its children. The cluster that stood for a state stands for the state
+/// after the legal `Clear`. What the code needs always holds. If the auctioneer learnt nothing since its last clearing,
+/// no `Clear` is legal.
 pub fn clearing_keeps_the_market()
     ensures made { (plan : PlanData) (c : Core) (s : State) (links : List (List Session))
         (auctioneer : Auction) (index step : ℕ) →
@@ -73,7 +73,7 @@ pub fn clearing_keeps_the_market()
         Legal (plan_lists plan) s (Move.Clear index) → ⊥ }
 {}
 
-/// A cluster in which nothing is pending stands for idle states alone, and one that stands for an idle state has nothing
+/// A cluster in which nothing is pending stands for idle states alone. One that stands for an idle state has nothing
 /// pending: what is pending is seen in what is kept.
 #[tactic(auto, using(crate::proofs::MoveLaws::quiet_is_idle))]
 pub fn nothing_pending_is_idle()

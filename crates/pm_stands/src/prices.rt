@@ -20,7 +20,7 @@ ghost use Rattle.pm_stands.specs.Made.{DidPass, DidTake, MayPass, passed_core, t
 use pm_market::Move;
 
 /// A concentrator that takes the price that waits on its link may pass it to its children, and makes a legal pass by it.
-/// Where no price waits no pass to the node is legal, a device or a concentrator.
+/// If no price waits, no pass to the node is legal, a device or a concentrator.
 #[tactic(auto, using(crate::proofs::MayPass::pass_made))]
 pub fn passing_keeps_the_market()
     ensures made { (plan : PlanData) (c : Core) (s : State) (x : ℕ)

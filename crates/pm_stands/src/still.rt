@@ -12,8 +12,8 @@ ghost use Rattle.pm_stands.specs.Actors.{NoMoveOf};
 ghost use Rattle.pm_stands.specs.Quiet.{IsQuiet};
 ghost use Rattle.pm_stands.specs.Still.{IsStill};
 
-/// A node is still exactly where no node move of it is legal in the state that the cluster stands for, and all nodes are
-/// still exactly where nothing is pending.
+/// A node is still exactly if no node move of it is legal in the state that the cluster stands for. All nodes are still
+/// exactly if nothing is pending.
 pub fn a_node_is_still_where_it_has_no_move()
     ensures node { (plan : PlanData) (c : Core) (s : State) (x : ℕ) → IsPlan plan →
         StandsFor plan c s → x ≤ nodes (plan_lists plan) →

@@ -14,19 +14,19 @@ use std::marker::Brand;
 /// Makes `out` the bid of a device of this kind in this state, with as many steps as `out` has. With `k` the step,
 /// `m` the last one, `/` rounding down and `ceil` rounding up, the demand in watts at `k` is:
 ///
-/// - freezer at temperature `t`: `power` where `t >= high`; else 0 where `t <= low`; else `power` where
-///   `k <= (t-low)*m/(high-low)`, and 0 above;
-/// - heat pump at `t`: `power` where `t <= low`; else 0 where `t >= high`; else `power` where
-///   `k <= (high-t)*m/(high-low)`, and 0 above;
-/// - cogeneration unit at buffer temperature `t`: `-power` where `t <= low`; else 0 where `t >= high`; else `-power`
-///   where `k >= ceil((t-low)*m/(high-low))`, and 0 below;
-/// - battery with charge `s` and `mid = (capacity-s)*m/capacity`: `charge` where `k + spread < mid`, `-discharge`
-///   where `k > mid + spread`, else 0;
+/// - freezer at temperature `t`: `power` if `t >= high`; else 0 if `t <= low`; else `power` if `k <=
+///   (t-low)*m/(high-low)`, and 0 above;
+/// - heat pump at `t`: `power` if `t <= low`; else 0 if `t >= high`; else `power` if `k <=
+///   (high-t)*m/(high-low)`, and 0 above;
+/// - cogeneration unit at buffer temperature `t`: `-power` if `t <= low`; else 0 if `t >= high`; else `-power` if `k
+///   >= ceil((t-low)*m/(high-low))`, and 0 below;
+/// - battery with charge `s` and `mid = (capacity-s)*m/capacity`: `charge` if `k + spread < mid`, `-discharge` if
+///   `k > mid + spread`, else 0;
 /// - solar panel: its output, negative; load: its power; objective: its target, negative;
-/// - manual device: the demand of the array whose number, from 0, is the state, and 0 where there is no such array.
+/// - manual device: the demand of the array whose number, from 0, is the state, and 0 if there is no such array.
 ///
 /// The arrays have as many steps as `out`. The bid never rises and lies within ±1,000,000,000 watts; for a manual
-/// device that holds where it holds of the arrays.
+/// device both hold if they hold of the arrays.
 pub fn fill_bid(kind: &Kind, state: DeviceState, arrays: &[ArrayBid], out: &mut ArrayBid)
     requires valid { IsTrue (is_valid kind.now) }
     requires fits { IsTrue (state_fits kind.now state.0) }
@@ -45,7 +45,7 @@ pub fn fill_bid(kind: &Kind, state: DeviceState, arrays: &[ArrayBid], out: &mut 
     }
 }
 
-/// Makes `out` the array whose number is the state, and zeros where there is none.
+/// Makes `out` the array whose number is the state, and zeros if there is no such array.
 #[tactic(auto, using(crate::proofs::BidLaws::array_of_number))]
 fn fill_from_array(state: DeviceState, arrays: &[ArrayBid], out: &mut ArrayBid)
     requires number { pos 0 ≤ℤ state.0 }

@@ -11,7 +11,7 @@ use crate::levels::Levels;
 use crate::shares::{share, share_up};
 use pm_device::{DeviceState, Kind};
 
-/// The demand of a device at each step up to the last one; none for a manual device.
+/// The demand of a device at each step up to the last one; None for a manual device.
 pub(crate) fn levels_of(kind: &Kind, state: DeviceState, last: usize) -> Option<Levels>
     requires valid { IsTrue (is_valid kind.now) }
     requires fits { IsTrue (state_fits kind.now state.0) }
@@ -51,8 +51,8 @@ pub(crate) fn levels_of(kind: &Kind, state: DeviceState, last: usize) -> Option<
     }
 }
 
-/// A freezer takes power at every price where it is too warm, at none where it is cold enough, and between these at
-/// more prices the warmer it is.
+/// A freezer takes power at every price if it is too warm, and at no price if it is cold enough. Between these it
+/// takes power at more prices the warmer it is.
 fn freezer(low: i64, high: i64, power: i64, temperature: i64, last: usize) -> Levels
     requires band { IsTrue (is_band low high) }
     requires temperature { IsTrue (is_temperature temperature) }
@@ -69,8 +69,8 @@ fn freezer(low: i64, high: i64, power: i64, temperature: i64, last: usize) -> Le
     up_to_share(power, temperature - low, high - low, last)
 }
 
-/// A heat pump takes power at every price where its room is too cold, at none where it is warm enough, and between
-/// these at more prices the colder it is.
+/// A heat pump takes power at every price if its room is too cold, and at no price if it is warm enough. Between
+/// these it takes power at more prices the colder it is.
 fn heat_pump(low: i64, high: i64, power: i64, room: i64, last: usize) -> Levels
     requires band { IsTrue (is_band low high) }
     requires room { IsTrue (is_temperature room) }
@@ -86,8 +86,8 @@ fn heat_pump(low: i64, high: i64, power: i64, room: i64, last: usize) -> Levels
     up_to_share(power, high - room, high - low, last)
 }
 
-/// A cogeneration unit delivers power at every price where its buffer is too cold, at none where it is hot enough, and
-/// between these from a lower price on the colder it is.
+/// A cogeneration unit delivers power at every price if its buffer is too cold, and at no price if it is hot enough.
+/// Between these it delivers from a lower price on the colder it is.
 fn cogeneration(low: i64, high: i64, power: i64, buffer: i64, last: usize) -> Levels
     requires band { IsTrue (is_band low high) }
     requires power { IsTrue (is_power power) }
@@ -105,7 +105,7 @@ fn cogeneration(low: i64, high: i64, power: i64, buffer: i64, last: usize) -> Le
     from_share(-power, buffer - low, high - low, last)
 }
 
-/// A power up to the share of the part, rounded down, and none above.
+/// A power up to the share of the part, rounded down, and 0 above.
 fn up_to_share(power: i64, part: i64, whole: i64, last: usize) -> Levels
     requires part_not_negative { pos 0 ≤ℤ part }
     requires part_small { part ≤ℤ pos demand_limit }
@@ -116,7 +116,7 @@ fn up_to_share(power: i64, part: i64, whole: i64, last: usize) -> Levels
     Levels::split(power, share(part, whole, last) + 1, 0)
 }
 
-/// A power from the share of the part on, rounded up, and none below.
+/// A power from the share of the part on, rounded up, and 0 below.
 fn from_share(power: i64, part: i64, whole: i64, last: usize) -> Levels
     requires part_not_negative { pos 0 ≤ℤ part }
     requires part_small { part ≤ℤ pos demand_limit }
@@ -127,7 +127,7 @@ fn from_share(power: i64, part: i64, whole: i64, last: usize) -> Levels
     Levels::split(0, share_up(part, whole, last), power)
 }
 
-/// A battery charges below a middle price and discharges above it, at a distance of more than its spread; the middle
+/// A battery charges below a middle price and discharges above it, at a distance of more than its spread. The middle
 /// is lower the fuller it is.
 fn battery(
     capacity: i64,

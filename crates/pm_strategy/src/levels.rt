@@ -7,8 +7,8 @@ ghost use Rattle.pm_strategy.specs.Steps.{by_step};
 use pm_bid::{ArrayBid, Steps};
 use std::marker::Brand;
 
-/// A demand in watts with at most three levels: one at the steps before `first_end`, the next at those before
-/// `second_end`, and the last at the others.
+/// A demand in watts with at most three levels. One is at the steps before `first_end`, the next at those
+/// before `second_end`, and the last at the others.
 #[derive(Clone, Copy)]
 pub(crate) struct Levels {
     pub(crate) first: i64,

@@ -4,7 +4,7 @@ ghost use Rattle.std.specs.Prelude.{◌≡◌, ◌≤◌, ◌*◌, pos, ◌≤�
 ghost use Rattle.pm_base.specs.Limits.{demand_limit};
 ghost use Rattle.pm_strategy.specs.Steps.{share, share_up, last_limit};
 
-/// The step that stands as far between 0 and the last one as the part stands between 0 and the whole, rounded down.
+/// The step that is as far between 0 and the last one as the part is between 0 and the whole, rounded down.
 pub(crate) fn share(part: i64, whole: i64, last: usize) -> i64
     requires part_not_negative { pos 0 ≤ℤ part }
     requires part_small { part ≤ℤ pos demand_limit }

@@ -56,7 +56,7 @@ fn hold_the_same(held: &[Option<(u32, u32)>], board: &Board) -> bool {
     same && number == board.plan().tree().len().saturating_add(1)
 }
 
-/// What a device holds on the board; none where the number is that of another node.
+/// What a device holds on the board; None if the number is that of another node.
 fn held_by(board: &Board, number: u32) -> Option<(u32, u32)> {
     let node = NodeId(number);
     if !is_device(board.plan(), node) {

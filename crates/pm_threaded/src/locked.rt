@@ -25,7 +25,7 @@ fn is_right(alloc: Global, plan: &Plan, board: &Board) -> Result<bool, Fail> {
     Ok(bounded && are_right(alloc, plan, board.ends())?)
 }
 
-/// How often a line stands in a list.
+/// How often a line is in a list.
 fn times(lines: &[Line], line: Line) -> usize {
     let mut times = 0usize;
     for other in lines {
@@ -105,7 +105,7 @@ fn nobody_meets<R: Threads + Wait + Sync + Abort>(
     Ok(one_begins(rt, alloc, plan, false)? && one_begins(rt, alloc, plan, true)?)
 }
 
-/// Whether a board that one thread makes is right, where the second node finds that the first has begun.
+/// Whether a board that one thread makes is right, if the second node finds that the first has begun.
 fn one_begins<R: Threads + Wait + Sync + Abort>(
     rt: &R,
     alloc: Global,
@@ -134,7 +134,7 @@ fn made_alone<'p, R: Threads + Wait + Sync, G: Gate>(
     }
 }
 
-/// A closing by the caller's thread is told for node 0: where the caller serves all nodes, and where it makes all moves.
+/// A closing by the caller's thread is told for node 0, if the caller serves all nodes, and if it makes all moves.
 #[test]
 fn the_caller_closes_for_the_auctioneer(rt: HostRuntime) -> Result<(), Fail> {
     let plan = read_scene(rt.alloc(), REJOINS)?;
@@ -156,7 +156,7 @@ fn must_close_for_the_auctioneer<R: Threads + Wait + Sync + Abort>(
     Ok(())
 }
 
-/// What the threads leave is completed where it runs an equal plan; where the plan differs a new board is.
+/// What the threads leave is completed if it runs an equal plan; if the plan differs, a new board is.
 #[test]
 fn boards_of_both_plans_are_completed(rt: HostRuntime) -> Result<(), Fail> {
     let plan = make_plan(rt.alloc(), 3, 7)?;
@@ -251,7 +251,7 @@ fn must_stay_right<R: Threads + Wait + Sync + Abort>(
     must_be_done_drawn(rt, alloc, plan, 2, 300)
 }
 
-/// They are done where the gate holds some of the nodes back.
+/// They are done if the gate holds some of the nodes back.
 fn must_be_done_held<R: Threads + Wait + Sync + Abort>(
     rt: &R,
     alloc: Global,
@@ -265,7 +265,7 @@ fn must_be_done_held<R: Threads + Wait + Sync + Abort>(
     Ok(())
 }
 
-/// They are done where the gate draws how long it holds a thread back.
+/// They are done if the gate draws how long it holds a thread back.
 fn must_be_done_drawn<R: Threads + Wait + Sync + Abort>(
     rt: &R,
     alloc: Global,

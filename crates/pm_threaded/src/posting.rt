@@ -1,4 +1,4 @@
-//! What a device's thread does on the board, where its change is refused.
+//! What a device's thread does on the board if its change is refused.
 
 use crate::runs::REJOINS;
 use pm_agent::DeviceAgent;
@@ -57,8 +57,8 @@ fn in_second_phase<'p>(alloc: Global, plan: &'p Plan) -> Result<Board<'p>, Fail>
     Ok(board)
 }
 
-/// The numbers of the changes that are made where each is posted twice, and after each the board is asked for the next one;
-/// 0 where a second post is not refused so.
+/// The numbers of the changes that are made if each is posted twice, and after each the board is asked for the next one. A
+/// number is 0 if a second post is not refused so.
 fn all_posted(board: &mut Board, agent: &mut DeviceAgent) -> [u32; 3] {
     let mut numbers = [0, 0, 0];
     for number in &mut numbers {

@@ -8,9 +8,9 @@ ghost use Rattle.pm_top.specs.Causes.{WasTooLong, WasRefused, WasServed};
 
 use pm_answer::{Command, Status};
 
-/// A law: a text that is due has its cause, by its status. With Done it tells the market, where a demo has a size that it may
-/// have; with Invalid it refutes a trace; with Usage the arguments are no command; with TooLong there were too many bytes; with
-/// Refused the input has nothing that is asked for, or the stream a fault. No other status has a text.
+/// A law: a text that is due has its cause, by its status. With Done it tells the market, if a demo has a size that it may
+/// have. With Invalid it refutes a trace. With Usage the arguments are no command. With TooLong there were too many bytes. With
+/// Refused the input has nothing that is asked for, or the stream has a fault. No other status has a text.
 pub fn texts_have_causes()
     ensures done { (command : Option Command) (old new : Option (List ℕ)) (text : List ℕ) →
         ((size number : ℕ) → command ≡ Some (Command.Demo size number) → is_size size ≡ true) →

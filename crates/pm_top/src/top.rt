@@ -181,19 +181,19 @@ fn service<S: Source, K: Sink>(alloc: Global, source: &mut S, sink: &mut K) -> S
 
 /// Does what the arguments ask, and tells how it ended.
 ///
-/// `run` reads a cluster file to its end and appends the report of its plan, or the line of its refusal; `trace` appends
-/// the lines of the run's journal behind the report, and `bill` the accounts of the devices and of the grid in place of it.
-/// `free` appends the same report by a run whose threads share links without a lock.
-/// `ask` reads an envelope of a cluster file and of targets in watts, and appends what the total at the end of the run
-/// answers to them. `check` reads an envelope of a cluster file and of a trace, and appends whether that is one of a legal run
-/// of the file, or its bad line. `serve` reads a stream of bids, frame by frame, and appends what the auctioneer answers as
-/// they come. `demo SIZE NUMBER` reads nothing and appends the summary of the demo cluster; SIZE is in 1..=200, NUMBER
-/// in 0..=4294967295, both in ASCII digits without sign and without a leading zero. All other arguments are no command, and
-/// the usage line is appended. The definition `IsDue` has for each status that writes a text the cause of the status and
-/// the text.
+/// `run` reads a cluster file to its end and appends the report of its plan, or the line of its refusal. `trace`
+/// appends the lines of the run's journal behind the report. `bill` appends the accounts of the devices and of the grid
+/// in place of it. `free` appends the same report by a run whose threads share links without a lock. `ask` reads an
+/// envelope of a cluster file and of targets in watts. It appends what the total at the end of the run answers to them.
+/// `check` reads an envelope of a cluster file and of a trace. It appends whether the trace is one of a legal run of
+/// the file, or its bad line. `serve` reads a stream of bids, frame by frame, and appends what the auctioneer answers
+/// as they come. `demo SIZE NUMBER` reads nothing and appends the summary of the demo cluster. SIZE is in 1..=200,
+/// NUMBER in 0..=4294967295, both in ASCII digits without sign and without a leading zero. All other arguments are no
+/// command, and the usage line is appended. The definition `IsDue` has for each status that writes a text the cause of
+/// the status and the text.
 ///
-/// A cluster runs with a thread for each of its nodes, and the gate is told of each turn that a node takes; under `free`
-/// with one for each node and phase.
+/// A cluster runs with a thread for each of its nodes; under `free` with one for each node and phase. The gate is told
+/// of each turn that a node takes.
 pub fn market<R: Threads + Wait + Sync, S: Source, K: Sink, G: Gate>(
     rt: &R,
     alloc: Global,

@@ -23,7 +23,7 @@ pub(crate) struct Index {
     pub(crate) nodes: Vec<TreeNode>,
 }
 
-/// Its owner lets go of it in one step, where a derived drop would be one for each part.
+/// Its owner lets go of it in one step; a derived drop would be one for each part.
 impl Drop for Index {
     fn drop(self) {
         let Index { names: _, nodes: _ } = self;

@@ -3,8 +3,8 @@
 ghost use Rattle.std.specs.Prelude.{◌≡◌, ℕ, ◌≤◌, length, slice_get, List, Some};
 ghost use Rattle.pm_tree.specs.Entries.{Entry, parent_of, children_of, place_of};
 
-/// A law: a place and the child at it tell each other. Among the children of its parent each node stands at its own
-/// place, and what stands at a place among the children of a node has that place and that parent.
+/// A law: a place and the child at it tell each other. Among the children of its parent each node is at its own
+/// place. What is at a place among the children of a node has that place and that parent.
 #[tactic(auto, using(crate::proofs::Places::child_at_place, crate::proofs::Places::parent_of_child, crate::proofs::Places::place_of_child))]
 pub fn places_tell_the_children()
     ensures child { (entries : List Entry) (node : ℕ) → 1 ≤ node → node ≤ length entries →

@@ -10,8 +10,8 @@ pub(crate) const AUCTIONEER: &str = "auctioneer";
 /// The most bytes that a name may have.
 const MAX_NAME_BYTES: usize = 32;
 
-/// Whether an entry may have the name: 1 to 32 bytes, an ASCII letter first, then ASCII letters,
-/// digits, `_` and `-`, and not the auctioneer's name.
+/// Whether an entry may have the name. It has 1 to 32 bytes, an ASCII letter first, then ASCII
+/// letters, digits, `_` and `-`. It is not the auctioneer's name.
 #[tactic(auto, unfolding(crate::specs::Names::is_name))]
 pub(crate) fn is_name(name: &str) -> bool
     ensures { result ≡ is_name name.now }

@@ -11,6 +11,6 @@ pub(crate) struct TreeNode {
     pub(crate) parent: NodeId,
     /// Whether the node is a device.
     pub(crate) leaf: bool,
-    /// How many concentrators stand on the path to the auctioneer, the node included.
+    /// How many concentrators are on the path to the auctioneer, the node included.
     pub(crate) depth: u32,
 }

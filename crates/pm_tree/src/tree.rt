@@ -42,7 +42,7 @@ impl Model for Tree {
         (node_lists t.children.items) t.places.items (node_lists t.leaves_below.items) };
 }
 
-/// Its owner lets go of it in one step, where a derived drop would be one for each part.
+/// Its owner lets go of it in one step; a derived drop would be one for each part.
 impl Drop for Tree {
     fn drop(self) {
         let Tree {
@@ -61,10 +61,10 @@ impl Tree {
     /// of the list.
     ///
     /// A list of more than 256 entries is refused first. Then the first entry that fails a check is
-    /// refused, by the first check that it fails: its name has the form of a name and is not
-    /// `auctioneer`, no earlier entry has the name, its parent is `auctioneer` or an earlier
-    /// concentrator, and a concentrator has at most 5 concentrators above it. An allocation failure may be
-    /// answered at any list.
+    /// refused, by the first check that it fails. Its name has the form of a name and is not `auctioneer`,
+    /// and no earlier entry has the name. Its parent is `auctioneer` or an earlier concentrator. A
+    /// concentrator has at most 5 concentrators above it. An allocation failure may be answered at any
+    /// list.
     pub fn new(alloc: Global, entries: Vec<TreeEntry>) -> Result<Tree, TreeFault>
         ensures tree { (result ≡ checked_tree (entries_of entries.items))
             ⊎ (result ≡ Err TreeFault.NoMemory) }
@@ -120,7 +120,7 @@ impl Tree {
         self.names[node.0 as usize].as_str()
     }
 
-    /// Whether a node is a leaf, which is a device. The auctioneer is none.
+    /// Whether a node is a leaf, which is a device. The auctioneer is no leaf.
     pub fn is_leaf(&self, node: NodeId) -> bool
         requires { node.0 ≤ length self.now }
         ensures { result ≡ is_leaf_at self.now node.0 }
@@ -144,7 +144,7 @@ impl Tree {
         self.leaves_below[node.0 as usize].as_slice()
     }
 
-    /// How many concentrators stand on a node's path to the auctioneer, the node included; of node 0 none.
+    /// How many concentrators are on a node's path to the auctioneer, the node included; of node 0 it is 0.
     pub fn depth(&self, node: NodeId) -> u32
         requires { node.0 ≤ length self.now }
         ensures depth { result ≡ depth_of self.now node.0 }
@@ -173,7 +173,7 @@ impl Tree {
         self.places[node.0 as usize]
     }
 
-    /// True exactly where both trees have the same entries in the same order.
+    /// True exactly if both trees have the same entries in the same order.
     pub fn same(&self, other: &Tree) -> bool
         ensures { IsTrue result ↔ (self.now ≡ other.now) }
     {

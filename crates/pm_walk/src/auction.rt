@@ -12,10 +12,10 @@ use std::alloc::{AllocError, Global};
 
 /// The plain auction over one cut after another, each nowhere lower than the one before it, through the phases of a plan.
 ///
-/// A device makes its changes of a phase with the power that it had at the end of the phase before, so the cuts of a phase
+/// A device makes its changes of a phase with the power that it had at the end of the phase before. So the cuts of a phase
 /// lie between the end of the phase before and its own. From cut to cut the demand of a device that made changes is taken
-/// off its group's sum, and the new one is added: all cuts together cost the changes times the steps. Each cut also costs
-/// the steps, once for each limited concentrator and once more, and the nodes.
+/// off its group's sum, and the new one is added. So all cuts together cost the changes times the steps. Each cut also
+/// costs the nodes, and the steps once and once more for each limited concentrator.
 #[derive(Drop)]
 pub struct CutAuction {
     run: Run,
@@ -55,7 +55,7 @@ impl CutAuction {
         run.clearing.clear(plan, &run.standing, &mut run.spare);
     }
 
-    /// Closes the open phase, at whose end the auction stands: the ticks of the next one are made with the powers here.
+    /// Closes the open phase, at whose end the auction is: the ticks of the next one are made with the powers here.
     pub fn close(&mut self, plan: &Plan, phase: u32)
         requires first { 1 ≤ phase }
         requires auction { IsAuction plan.now (phase - 1) self.old }
@@ -67,8 +67,8 @@ impl CutAuction {
         self.powers.copy_from_slice(&self.run.clearing.powers);
     }
 
-    /// The step of the nodes below each limited concentrator, at the concentrator's place; at every other place, the
-    /// auctioneer's 0 among them, the step of the plain auction. So the step of a node stands at the place of its group.
+    /// The step of the nodes below each limited concentrator, at the concentrator's place. At every other place, the
+    /// auctioneer's 0 among them, it is the step of the plain auction. So the step of a node is at the place of its group.
     pub fn group_steps(&self) -> &[u32]
         ensures { (plan : PlanData) (p : ℕ) → IsAuction plan p self.now →
             AreGroupSteps plan (auction_cut self.now) result.now }

@@ -52,8 +52,8 @@ fn make_change(kind: Kind, what: Planned, used: i64, before: Progress) -> Progre
     }
 }
 
-/// Makes the next changes of a device, which all belong to this phase, where `used` is its power at the end of the
-/// phase before.
+/// Makes the next changes of a device, which all belong to this phase. `used` is its power at the end of the phase
+/// before.
 pub(crate) fn make_changes(
     plan: &Plan,
     device: NodeId,
@@ -80,7 +80,7 @@ pub(crate) fn make_changes(
     here
 }
 
-/// Makes `out` the demand of a device that has come so far: its bid where it is a member, else zeros.
+/// Makes `out` the demand of a device that has come so far: its bid if it is a member, otherwise zeros.
 pub(crate) fn fill_demand(plan: &Plan, device: NodeId, here: Progress, out: &mut ArrayBid)
     requires leaf { is_leaf plan.now device.0 ≡ true }
     requires reached { HasCome plan.now device.0 here }

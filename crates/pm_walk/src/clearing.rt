@@ -22,11 +22,11 @@ pub(crate) struct Clearing {
     pub(crate) step: u32,
     /// The step of the nodes below each limited concentrator; of any other node the step of the whole.
     pub(crate) group_steps: Vec<u32>,
-    /// The power of each node in watts, 0 where it is no member.
+    /// The power of each node in watts, 0 if it is no member.
     pub(crate) powers: Vec<i64>,
 }
 
-/// Its owner lets go of it in one step, where a derived drop would be one for each part.
+/// Its owner lets go of it in one step; a derived drop would be one for each part.
 impl Drop for Clearing {
     fn drop(self) {
         let Clearing {
@@ -80,7 +80,7 @@ fn no_powers(alloc: Global, many: usize) -> Result<Vec<i64>, AllocError>
     vec![in alloc; 0; many]
 }
 
-/// Finds the step of each group, where `step` is the step of the whole.
+/// Finds the step of each group, by `step`, the step of the whole.
 fn fill_group_steps(plan: &Plan, standing: &Standing, step: usize, group_steps: &mut [u32])
     requires stands { IsStanding plan.now standing.now }
     requires step { step ≡ plain_step plan.now (state plan.now) (cut_made standing.now.progress) }

@@ -1,9 +1,9 @@
 //! The phase ends of a plan, by one plain program that has the whole plan before it.
 //!
-//! No message is sent here: the program makes the changes of each phase, adds up the demands, and finds the step at
+//! No message is sent here. The program makes the changes of each phase, adds up the demands, and finds the step at
 //! which they balance. What a cluster of many processes comes to is compared with it.
 //!
-//! Its time grows with changes times steps: demands and sums of groups are kept from phase to phase, and a change
+//! Its time grows with changes times steps. Demands and sums of groups are kept from phase to phase, and a change
 //! takes its device's old demand off and adds the new one. The total, the steps of the groups and the powers are found
 //! anew in the phases in which some device makes a change.
 //!

@@ -18,7 +18,7 @@ use pm_tree::NodeId;
 
 /// Going on to a cut that is nowhere lower.
 impl Standing {
-    /// Makes the changes of a device up to a number, all of this phase, where `used` is its power at the end of the phase
+    /// Makes the changes of a device up to a number, all of this phase. `used` is its power at the end of the phase
     /// before.
     fn raise_device(
         &mut self,
@@ -54,9 +54,9 @@ impl Standing {
         self.reach(plan, device, here, spare);
     }
 
-    /// Makes the changes of all devices up to those of a cut, which lies in this phase and is nowhere lower, where `powers`
-    /// are those at the end of the phase before. The cut has a number for each node from the auctioneer's on, of which
-    /// those of devices count; what is missing is 0.
+    /// Makes the changes of all devices up to those of a cut, which lies in this phase and is nowhere lower. `powers` are
+    /// those at the end of the phase before. The cut has a number for each node from the auctioneer's on, of which those of
+    /// devices count; what is missing is 0.
     pub(crate) fn raise_devices(
         &mut self,
         plan: &Plan,

@@ -25,7 +25,7 @@ pub(crate) struct Run {
     pub(crate) spare: ArrayBid,
 }
 
-/// Its owner lets go of it in one step, where a derived drop would be one for each part.
+/// Its owner lets go of it in one step; a derived drop would be one for each part.
 impl Drop for Run {
     fn drop(self) {
         let Run {
@@ -61,7 +61,7 @@ impl Run {
         Run::over(alloc, plan, standing)
     }
 
-    /// Makes the changes of the next phase, and finds the auction over them; where no device has any, the auction of
+    /// Makes the changes of the next phase, and finds the auction over them. If no device has any, the auction of
     /// the phase before holds.
     fn pass(&mut self, plan: &Plan, phase: u32)
         requires first { 1 ≤ phase }
@@ -119,8 +119,8 @@ impl Run {
     }
 }
 
-/// The ends of all phases of a plan, from the first to the last, each by the plain auction over the changes of the
-/// phases up to it. The answer is an error only where an allocation failed.
+/// The ends of all phases of a plan, from the first to the last. Each is by the plain auction over the changes of
+/// the phases up to it. The answer is an error only if an allocation failed.
 pub fn all_ends(alloc: Global, plan: &Plan) -> Result<Vec<PhaseEnd>, AllocError>
     ensures { IfOk result (λ v. map (λ e. e.end) v.items ≡ all_ends plan.now) }
 {
@@ -132,11 +132,11 @@ pub fn all_ends(alloc: Global, plan: &Plan) -> Result<Vec<PhaseEnd>, AllocError>
     Ok(ends)
 }
 
-/// The end over a cut, by the plain auction there. The cut has one number for each node of the file, in file order: how
-/// many changes the node has made, at most as many as the plan has for it. The answer is an error only for want of
-/// memory.
+/// The end over a cut, by the plain auction there. The cut has one number for each node of the file, in file order. It
+/// is how many changes the node has made, at most as many as the plan has for it. The answer is an error only if an
+/// allocation failed.
 ///
-/// A device that stops early has the state after its changes made, where its ticks use the powers of the whole run.
+/// A device that stops early has the state after its changes made. Its ticks use the powers of the whole run.
 pub fn end_of_cut(alloc: Global, plan: &Plan, cut: &[u32]) -> Result<PhaseEnd, AllocError>
     requires one_each { length cut.now ≡ length plan.now.nodes }
     requires planned { (x : ℕ) → 1 ≤ x → x ≤ length plan.now.nodes →

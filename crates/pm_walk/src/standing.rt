@@ -36,7 +36,7 @@ impl Model for Standing {
     ghost view = { λ s. record { progress = s.progress.items; demands = s.demands.items; sums = s.sums.items } };
 }
 
-/// Its owner lets go of it in one step, where a derived drop would be one for each part.
+/// Its owner lets go of it in one step; a derived drop would be one for each part.
 impl Drop for Standing {
     fn drop(self) {
         let Standing {
@@ -48,7 +48,7 @@ impl Drop for Standing {
 }
 
 impl Standing {
-    /// Before the first change: each device in its start, none a member.
+    /// Before the first change: each device in its start, and no device a member.
     pub(crate) fn start(alloc: Global, plan: &Plan) -> Result<Standing, AllocError>
         ensures stands { IfOk result (λ s. IsStanding plan.now s) }
         ensures none { IfOk result (λ s. (x : ℕ) → cut_made s.progress x ≡ 0) }
@@ -132,8 +132,8 @@ impl Standing {
         demand.copy_into(&mut self.demands[at], &mut Steps::<Brand>::start());
     }
 
-    /// Makes the changes of a device in a phase, where `used` is its power at the end of the phase before. Tells
-    /// whether there were any.
+    /// Makes the changes of a device in a phase, and tells whether there were any. `used` is its power at the
+    /// end of the phase before.
     fn change_device(
         &mut self,
         plan: &Plan,
@@ -169,8 +169,8 @@ impl Standing {
         true
     }
 
-    /// Makes the changes of all devices in a phase, where `powers` are those at the end of the phase before. Tells
-    /// whether there were any.
+    /// Makes the changes of all devices in a phase, and tells whether there were any. `powers` are those at the
+    /// end of the phase before.
     pub(crate) fn change_devices(
         &mut self,
         plan: &Plan,
@@ -243,7 +243,7 @@ fn blanks(alloc: Global, many: usize, steps: usize) -> Result<Vec<ArrayBid>, All
     Ok(bids)
 }
 
-/// The place of the group of a node: that of the limited concentrator above it, 0 where there is none.
+/// The place of the group of a node: that of the limited concentrator above it, 0 if there is no such one.
 pub(crate) fn group_of(plan: &Plan, at: NodeId) -> usize
     requires { at.0 ≤ length plan.now.nodes }
     ensures group { result ≡ group plan.now at.0 }

@@ -16,8 +16,8 @@ use pm_tree::NodeId;
 use std::alloc::{AllocError, Global};
 use std::marker::Brand;
 
-/// Makes the changes of all devices in a phase, each device's as far as the cut goes, where `powers` are those at the
-/// end of the phase before.
+/// Makes the changes of all devices in a phase, each device's as far as the cut goes. `powers` are those at the end
+/// of the phase before.
 pub(crate) fn change_stops(
     plan: &Plan,
     phase: u32,
@@ -42,7 +42,7 @@ pub(crate) fn change_stops(
     }
 }
 
-/// Makes the changes of a device in a phase up to the number `last`, where `used` is its power at the end of the phase
+/// Makes the changes of a device in a phase up to the number `last`. `used` is its power at the end of the phase
 /// before.
 fn change_stop(
     plan: &Plan,

@@ -33,7 +33,7 @@ pub(crate) fn fill_total(plan: &Plan, standing: &Standing, spare: &mut ArrayBid,
     }
 }
 
-/// Adds what a node announces, where it is a limited concentrator, to what the groups before it do.
+/// Adds what a node announces, if it is a limited concentrator, to what the groups before it do.
 fn add_group(plan: &Plan, standing: &Standing, at: NodeId, spare: &mut ArrayBid, out: &mut ArrayBid)
     requires stands { IsStanding plan.now standing.now }
     requires first { 1 ≤ at.0 }
@@ -51,7 +51,7 @@ fn add_group(plan: &Plan, standing: &Standing, at: NodeId, spare: &mut ArrayBid,
     }
 }
 
-/// The limits of a limited concentrator; none exactly where the node is no such.
+/// The limits of a limited concentrator; None exactly if the node is no limited one.
 fn limits_of(plan: &Plan, at: NodeId) -> Option<Limits>
     requires { at.0 ≤ length plan.now.nodes }
     ensures { result ≡ limits_of (node plan.now at.0) }
@@ -78,7 +78,7 @@ fn announce(plan: &Plan, standing: &Standing, at: NodeId, limits: Limits, out: &
     );
 }
 
-/// The step of the nodes below a limited concentrator, where `step` is the step of the whole; of any other node `step`.
+/// The step of the nodes below a limited concentrator, by `step`, the step of the whole; of any other node `step`.
 pub(crate) fn group_step(plan: &Plan, standing: &Standing, step: usize, group: NodeId) -> usize
     requires stands { IsStanding plan.now standing.now }
     requires group { group.0 ≤ length plan.now.nodes }
@@ -95,7 +95,7 @@ pub(crate) fn group_step(plan: &Plan, standing: &Standing, step: usize, group: N
     }
 }
 
-/// The power of a node, where `group_steps` has the step of each group.
+/// The power of a node, by `group_steps`, which has the step of each group.
 pub(crate) fn power_of(plan: &Plan, standing: &Standing, group_steps: &[u32], at: NodeId) -> i64
     requires stands { IsStanding plan.now standing.now }
     requires inside { at.0 ≤ length plan.now.nodes }

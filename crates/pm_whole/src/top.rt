@@ -27,7 +27,7 @@ const REFUSED: &str = "refused 1 document\n";
 
 const NO_ENVELOPE: &str = "refused 23 document\n";
 
-/// The frames of a basis of the prices 0 and 1, of bid 1 of child 1, which takes 1 watt at price 0, and of a clearing.
+/// The frames of a basis of the prices 0 and 1, of bid 1 of child 1, and of a clearing. The bid takes 1 watt at price 0.
 const STREAM: &str = "\x01\0\0\0\0\0\0\0\x01\0\x02\x02\0\x01\0\0\0\x01\0\0\0\x01\0\0\0\0\x04";
 
 /// The price for the child: its bid 1, clearing 1, step 1.
@@ -57,8 +57,8 @@ fn sink_of(alloc: Global, bad_write: u64) -> Result<MemSink, AllocError> {
     MemSink::new(alloc, 1_048_576, 50, Vec::from_array(alloc, [bad_write])?)
 }
 
-/// What a call answers under a gate, and what the sink holds afterwards. The read and the write of the numbers in `bad` fail,
-/// where 0 stands for none.
+/// What a call answers under a gate, and what the sink holds afterwards. The read and the write of the numbers in `bad` fail;
+/// 0 means that no call fails.
 fn ran<R: Threads + Wait + Sync, G: Gate>(
     rt: &R,
     alloc: Global,
@@ -74,7 +74,7 @@ fn ran<R: Threads + Wait + Sync, G: Gate>(
     Ok((status, sink.bytes().to_vec(alloc)?))
 }
 
-/// A call: its arguments, its input, the read and the write that fail, where 0 stands for none; and what it answers and writes.
+/// A call: its arguments, its input, the read and the write that fail, or 0 if none does, and what it answers and writes.
 type Row = (&'static str, &'static str, u64, u64, Status, &'static str);
 
 /// A fault of the source or the sink at each of their calls. The file has 326 bytes, so a run without faults reads five times;
@@ -105,7 +105,7 @@ const ROWS: &[Row] = &[
     ("run now", TWO_BIDS, 1, 1, Status::WriteFault, USAGE),
 ];
 
-/// A call answers as its row says, and has written the text, or a part of it where a write failed.
+/// A call answers as its row says, and has written the text, or a part of it if a write failed.
 fn must_answer<R: Threads + Wait + Sync + Abort>(
     rt: &R,
     alloc: Global,

@@ -13,8 +13,8 @@ use std::marker::Brand;
 use std::process::Abort;
 use std::test::Fail;
 
-/// The answer to a change of device 1 has the change, the agent's kind, and one demand at the steps before the end and
-/// another from there on.
+/// The answer to a change of device 1 has the change and the agent's kind. It has one demand at the steps before the
+/// end and another from there on.
 fn answer_is<R: Abort>(
     rt: &R,
     agent: &mut DeviceAgent,

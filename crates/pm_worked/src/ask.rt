@@ -142,7 +142,7 @@ fn lists_of_targets_are_read(rt: HostRuntime) -> Result<(), Fail> {
     targets_are(&rt, rt.alloc(), "", &[])
 }
 
-/// Lists of targets, and the first line of each that is none.
+/// Lists of targets, and the first line of each that is no target.
 const BAD_LISTS: &[(&str, u32)] = &[
     ("5\n05\n", 2),
     ("-0\n", 1),

@@ -1,4 +1,4 @@
-//! Tests of envelopes: inputs that are one, and inputs that are none.
+//! Tests of envelopes: inputs that are one, and inputs that are not.
 
 use crate::same::same;
 use pm_envelope::{FILE_LIMIT, number_up_to, open_envelope, split_line};
@@ -11,7 +11,7 @@ fn opens_as(input: &str, file: &str, rest: &str) -> bool {
     }
 }
 
-/// An input, the file in it, and what stands behind the file.
+/// An input, the file in it, and what follows the file.
 const ENVELOPES: &[(&str, &str, &str)] = &[
     ("3\nabcde", "abc", "de"),
     ("0\nab\n", "", "ab\n"),

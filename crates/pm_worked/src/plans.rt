@@ -58,7 +58,7 @@ fn is_leaf(spec: &NodeSpec) -> bool
     matches!(spec, NodeSpec::Device { .. })
 }
 
-/// What a tree takes of a node, which is a device or none.
+/// What a tree takes of a node, which is a device or not.
 fn entry_of(alloc: Global, line: &NodeLine, leaf: bool) -> Result<TreeEntry, AllocError>
     ensures { IfOk result (λ entry. entry.leaf ≡ leaf) }
 {

@@ -3,7 +3,7 @@
 use std::fmt::Debug;
 use std::process::Abort;
 
-/// Ends the test where a value of a case is not the one that is due.
+/// Ends the test if a value of a case is not the one that is due.
 pub(crate) fn same<R: Abort, C: Debug + Drop, T: PartialEq + Debug + Drop>(
     rt: &R,
     case: C,

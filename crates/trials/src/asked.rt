@@ -11,7 +11,7 @@ pub(crate) enum Asked<'a> {
     Gates,
 }
 
-/// What the arguments ask for, where they ask for something.
+/// What the arguments ask for, if they ask for something.
 pub(crate) fn asked_of(arguments: &[String]) -> Option<Asked<'_>> {
     match arguments {
         [word] if word.as_str() == "gates" => Some(Asked::Gates),

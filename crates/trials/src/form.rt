@@ -53,8 +53,8 @@ impl Form {
         }
     }
 
-    /// Whether an outcome is right where the read of this number fails: no more is read, and no text is written, or of a
-    /// stream a part of it. Where it is not read so often it is the outcome due.
+    /// Whether an outcome is right if the read of this number fails. No more is read, and no text is written, or of a
+    /// stream a part of it. If it is not read so often, it is the outcome due.
     fn is_due_after_read(self, outcome: &Outcome, due: &Outcome, number: u64) -> Verdict {
         if outcome.calls.reads < number {
             return self.is_due(outcome, due);
@@ -67,8 +67,8 @@ impl Form {
         has_text(outcome, is_right)
     }
 
-    /// Whether an outcome is right where the write of this number fails: no more is written, and a proper part of the text
-    /// stands there. Where it is not written so often it is the outcome due.
+    /// Whether an outcome is right if the write of this number fails. No more is written, and a proper part of the text is
+    /// there. If it is not written so often, it is the outcome due.
     fn is_due_after_write(self, outcome: &Outcome, due: &Outcome, number: u64) -> Verdict {
         if outcome.calls.writes < number {
             return self.is_due(outcome, due);
@@ -87,7 +87,7 @@ impl Form {
         }
     }
 
-    /// Whether moves stand behind the text due.
+    /// Whether moves follow the text due.
     pub(crate) fn has_moves(self, due: &Outcome) -> bool {
         self == Form::Trace && due.status == Status::Done
     }

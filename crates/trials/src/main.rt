@@ -1,11 +1,11 @@
-//! The program `trials`: tries the top call of `market` in hostile surroundings. All of it happens in the memory of one
-//! process, so that it is tried by the thousand.
+//! The program `trials` tries the top call of `market` in hostile surroundings. All of it happens in the memory of one
+//! process, so it is tried by the thousand.
 //!
-//! `trials faults EVERY COMMAND ..` tries the command of these words on standard input: in pieces of several sizes, with a read
-//! or a write that fails, each in turn, and with the input cut at each length. Of the calls and lengths it tries each one that
-//! EVERY divides, and those at both ends. `trials gates` runs the cluster file on standard input under gates that hold threads
-//! back. A line tells of each trial that failed, and the last line is `N passed, M failed`. The status is 0 where none failed,
-//! and else 1.
+//! `trials faults EVERY COMMAND ..` tries the command of these words on standard input. It gives the input in pieces of several
+//! sizes, with a read or a write that fails, each in turn, and cut at each length. Of the calls and lengths it tries each one
+//! that EVERY divides, and those at both ends. `trials gates` runs the cluster file on standard input under gates that hold
+//! threads back. A line tells of each trial that failed, and the last line is `N passed, M failed`. The status is 0 if no trial
+//! failed, and otherwise 1.
 #![tactic(auto)]
 
 mod asked;

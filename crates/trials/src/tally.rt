@@ -19,7 +19,7 @@ impl Tally {
         }
     }
 
-    /// Counts a trial, and prints a line where it failed.
+    /// Counts a trial, and prints a line if it failed.
     pub(crate) fn count<P: Print, T: fmt::Display>(
         &mut self,
         rt: &P,
@@ -38,7 +38,7 @@ impl Tally {
         }
     }
 
-    /// The exit code: 1 where a trial failed.
+    /// The exit code: 1 if a trial failed.
     pub(crate) fn code(self) -> u8 {
         if self.failed == 0 { 0 } else { 1 }
     }

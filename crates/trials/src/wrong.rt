@@ -32,7 +32,7 @@ pub(crate) fn has_status(outcome: &Outcome, due: Status) -> Verdict {
     }
 }
 
-/// Whether the status is none of a fault.
+/// Whether the status is not that of a fault.
 pub(crate) fn is_answer(outcome: &Outcome) -> Verdict {
     let came = outcome.status;
     match came {
@@ -41,7 +41,7 @@ pub(crate) fn is_answer(outcome: &Outcome) -> Verdict {
     }
 }
 
-/// What is wrong where the text is not right.
+/// What is wrong if the text is not right.
 pub(crate) fn has_text(outcome: &Outcome, is_right: bool) -> Verdict {
     if is_right {
         Ok(())

@@ -8,9 +8,9 @@ pub(crate) trait End {
     /// What it takes.
     type Taken: Drop;
 
-    /// Puts a message, in place of one that was not taken; where the slot cannot be had now it is handed back.
+    /// Puts a message, in place of one that was not taken. If the slot cannot be had now, the message is handed back.
     fn put(&mut self, message: Self::Put) -> Result<(), Self::Put>;
 
-    /// Takes the message that waits, where there is one and the slot can be had now.
+    /// Takes the message that waits, if there is one and the slot can be had now.
     fn take(&mut self) -> Option<Self::Taken>;
 }

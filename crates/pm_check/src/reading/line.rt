@@ -81,14 +81,14 @@ fn read_close(plan: &Plan, rest: &[u8]) -> Option<Line>
     Some(unheld(Move::Close { phase }))
 }
 
-/// The line of a run of the plan that a trace tells by these bytes, the line feed at the end included; none exactly where
-/// no line of a run is told so. Lines that are told by the same bytes are the same (a law of `pm_report`), so there is no
-/// other answer.
+/// The line of a run of the plan that a trace tells by these bytes, the line feed at the end included. The answer is None
+/// exactly if no line of a run is told so. Lines that are told by the same bytes are the same (a law of `pm_report`), so
+/// there is no other answer.
 ///
-/// A number is decimal, without a sign and without zeros in front, and has at most 32 bits; a price is that of a step of
-/// the basis; a name is that of a node of the plan; a child stands behind its parent; and one blank parts two words. Only
+/// A number is decimal, without a sign and without zeros in front, and has at most 32 bits. A price is that of a step of
+/// the basis. A name is that of a node of the plan. A child comes behind its parent, and one blank parts two words. Only
 /// a pass to a device tells what is then held, and each does. The auctioneer's name is read as node 0 wherever a line may
-/// name it, as in a change, so whether the node may make the move is left to the caller. Reading takes no memory.
+/// name it, as in a change. So whether the node may make the move is left to the caller. Reading takes no memory.
 pub fn read_line(plan: &Plan, line: &[u8]) -> Option<Line>
     ensures { Reads (IsLineOfRun plan.now) (move_line plan.now) line.now result }
 {

@@ -5,7 +5,7 @@ ghost use Rattle.std.specs.Prelude.{IfSome, IsNone};
 ghost use Rattle.std.specs.Str.{IsUtf8};
 ghost use Rattle.pm_check.specs.MoveReading.{is_word};
 
-/// How many bytes stand before the first that is no byte of a word.
+/// How many bytes are before the first that is no byte of a word.
 fn word_len(bytes: &[u8]) -> usize
     ensures within { result ≤ length bytes.now }
     ensures word { is_word (take result bytes.now) ≡ true }
@@ -19,7 +19,7 @@ fn word_len(bytes: &[u8]) -> usize
     bytes.len()
 }
 
-/// The first word, and what follows the blank behind it; none exactly where no word with a blank behind it comes first.
+/// The first word, and what follows the blank behind it. It is None exactly if no word with a blank behind it comes first.
 pub(crate) fn split_word(bytes: &[u8]) -> Option<(&[u8], &[u8])>
     ensures told { IfSome result (λ split. (is_word split.0.now ≡ true)
         × (bytes.now ≡ split.0.now ++ 32 ∷ split.1.now)) }
@@ -34,7 +34,7 @@ pub(crate) fn split_word(bytes: &[u8]) -> Option<(&[u8], &[u8])>
     }
 }
 
-/// What follows this word and the blank behind it; none exactly where the bytes do not begin with the word and a blank.
+/// What follows this word and the blank behind it. It is None exactly if the bytes do not begin with the word and a blank.
 pub(crate) fn after_word<'a>(bytes: &'a [u8], word: &[u8]) -> Option<&'a [u8]>
     ensures told { IfSome result (λ rest. bytes.now ≡ word.now ++ 32 ∷ rest.now) }
     ensures none { IsNone result → is_word word.now ≡ true → (rest : List ℕ) →
@@ -48,7 +48,7 @@ pub(crate) fn after_word<'a>(bytes: &'a [u8], word: &[u8]) -> Option<&'a [u8]>
     }
 }
 
-/// The word that a line feed ends; none exactly where the bytes are not one word and a line feed.
+/// The word that a line feed ends. It is None exactly if the bytes are not one word and a line feed.
 pub(crate) fn last_word(bytes: &[u8]) -> Option<&[u8]>
     ensures told { IfSome result (λ word. (is_word word.now ≡ true)
         × (bytes.now ≡ word.now ++ 10 ∷ [])) }
@@ -63,7 +63,7 @@ pub(crate) fn last_word(bytes: &[u8]) -> Option<&[u8]>
     }
 }
 
-/// A word as text; none exactly where it is none.
+/// A word as text. It is None exactly if the word is not UTF-8.
 pub(crate) fn word_text(word: &[u8]) -> Option<&str>
     ensures text { IfSome result (λ text. text.now ≡ word.now) }
     ensures none { IsNone result → ¬ (IsUtf8 word.now) }

@@ -14,7 +14,7 @@ impl Market {
     ghost use Rattle.pm_market.specs.Market.{market_lists, market_state, market_due};
     ghost use Rattle.pm_base.specs.Cuts.{cut_of};
 
-    /// The greatest index of a clearing that is due to a node, 0 where there is none.
+    /// The greatest index of a clearing that is due to a node, 0 if there is no such clearing.
     pub(super) fn due(&self, node: usize) -> usize
         ensures { result ≡ market_due self.now node }
     {
@@ -28,7 +28,7 @@ impl Market {
         row_at(&self.published, 0).len() + 1
     }
 
-    /// Marks each node that a node is or stands below.
+    /// Marks each node that a node is or is below.
     fn mark_above(&self, marks: &mut [bool], below: usize)
         ensures length { length marks.new ≡ length marks.old }
         ensures marks { (x : ℕ) → x < length marks.old →
@@ -46,7 +46,7 @@ impl Market {
         mark(marks, at);
     }
 
-    /// Marks each node that a device is or stands below, where a cut has a number above 0 of the device.
+    /// Marks each node that a device is or is below, if a cut has a number above 0 of the device.
     fn mark_leaf(&self, marks: &mut [bool], cut: &[u32], device: usize)
         ensures length { length marks.new ≡ length marks.old }
         ensures marks { (x : ℕ) → x < length marks.old →
@@ -72,7 +72,7 @@ impl Market {
         Ok(marks)
     }
 
-    /// The greatest index of a clearing that is due to a node once a clearing of this cut reached another; `marks` are
+    /// The greatest index of a clearing that is due to a node once a clearing of this cut reached another. `marks` are
     /// those of the cut.
     #[tactic(auto, unfolding(crate::specs::State::addresses_of))]
     fn due_once(

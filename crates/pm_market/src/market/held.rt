@@ -20,7 +20,7 @@ impl Market {
         self.closed as usize == self.ends.len()
     }
 
-    /// The index of the clearing passed to a node last, 0 where there was none.
+    /// The index of the clearing passed to a node last, 0 if there was no clearing.
     pub fn last_passed(&self, node: usize) -> usize
         ensures { result ≡ last_index (market_state self.now) node }
     {
@@ -34,7 +34,7 @@ impl Market {
         self.cut_row(0, index)
     }
 
-    /// Whether a change of a device is a join: it is a member after the change, and was none before it.
+    /// Whether a change of a device is a join: it is a member after the change, and was not before it.
     fn is_join(&self, device: usize, number: usize) -> bool
         requires { 1 ≤ number }
         ensures { result ≡ (is_member (market_lists self.now) device number && not
@@ -43,7 +43,7 @@ impl Market {
         self.is_member(device, number) && !self.is_member(device, number - 1)
     }
 
-    /// The number of the last join of a device among so many changes, 0 where there is none.
+    /// The number of the last join of a device among so many changes, 0 if there is no join.
     #[tactic(auto, using(crate::proofs::Loops::join_turns), unfolding(crate::specs::Held::last_join))]
     fn last_join(&self, device: usize, changes: usize) -> usize
         ensures { result ≡ last_join (market_lists self.now) device changes }

@@ -16,8 +16,8 @@ impl Market {
     ghost use Rattle.pm_base.specs.Cuts.{cut_of};
     ghost use Rattle.pm_base.specs.Rows.{rows_of};
 
-    /// A market at its start, over these lists: the parent of each node, which nodes are devices, for each node whether it
-    /// is a member after each of its changes, and for each phase the number of changes of each node at its end.
+    /// A market at its start, over these lists: the parent of each node, and which nodes are devices. For each node they
+    /// say whether it is a member after each change, and for each phase how many changes each node has made at its end.
     pub fn new(
         alloc: Global,
         parents: Vec<u32>,

@@ -66,7 +66,7 @@ impl Draft {
         Ok(())
     }
 
-    /// Plans one more change of a node, where it is a device.
+    /// Plans one more change of a node, if it is a device.
     pub(crate) fn plan(&mut self, device: u32, phase: u32, what: Planned) -> Result<(), AllocError>
         requires first { 1 ≤ device }
         requires last { device ≤ length self.old.nodes }
@@ -97,7 +97,7 @@ impl Draft {
         self.node(NodeId(device)).is_member()
     }
 
-    /// Whether no limited concentrator stands above a node, by the nodes so far.
+    /// Whether no limited concentrator is above a node, by the nodes so far.
     pub(crate) fn is_under_no_limit(&self, node: NodeId) -> bool
         requires lawful { IsTree (parents_of self.now.entries) (leaves_of self.now.entries) }
         requires inside { node.0 ≤ length self.now.entries }

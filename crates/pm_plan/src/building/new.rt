@@ -23,23 +23,23 @@ use pm_tree::Tree;
 use std::alloc::Global;
 
 impl Plan {
-    /// The plan of a market basis, a tree, what a file says of the tree's nodes in their order, and its phases; or the
-    /// first refusal.
+    /// The plan of a market basis, a tree, what a file says of the tree's nodes in their order, and its phases.
+    /// Otherwise the first refusal.
     ///
     /// More than 1000 phases are refused first, with code 20 at the document. Then come the nodes in order:
     ///
-    /// - 13 where the floor of a limited concentrator lies outside -256,000,000,000..=0, its ceiling outside
+    /// - 13 if the floor of a limited concentrator lies outside -256,000,000,000..=0, or its ceiling outside
     ///   0..=256,000,000,000, or a parameter of a device's kind outside its limits;
-    /// - 22 where a limited concentrator stands above a limited one;
-    /// - 17 and 18 where a manual device's demands or points are no bid, with the item at fault, and 19 where a start
-    ///   does not fit its kind.
+    /// - 22 if a limited concentrator is above a limited one;
+    /// - 17 and 18 if a manual device's demands or points are no bid, with the item at fault, and 19 if a start does
+    ///   not fit its kind.
     ///
     /// Then the phases in order:
     ///
-    /// - 13 where a tick's minutes lie outside 1..=1440, and 20 where a phase has more than 4096 events;
-    /// - of each event 14 where no device has its name, 15 where a member joins, 16 where a device that is no member
-    ///   leaves or is set, and 17, 18 and 19 for its state as above;
-    /// - 20 where all changes up to the phase's end are more than 20,000.
+    /// - 13 if a tick's minutes lie outside 1..=1440, and 20 if a phase has more than 4096 events;
+    /// - of each event 14 if no device has its name, 15 if a member joins, and 16 if a device that is no member
+    ///   leaves or is set. For its state 17, 18 and 19 come as above;
+    /// - 20 if all changes up to the phase's end are more than 20,000.
     ///
     /// An allocation failure may be answered at any parts.
     pub fn new(

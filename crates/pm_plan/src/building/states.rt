@@ -142,8 +142,8 @@ fn refused_bid(place: Place, fault: BidFault) -> Refusal
     Refusal::of_item(Cause::BadArray, place, item as u64)
 }
 
-/// The refusal of points: the item is 0 where there are none, their number where there are too many, else the first
-/// point at fault.
+/// The refusal of points. The item is 0 if there are no points, their number if there are too many, otherwise the
+/// first point at fault.
 fn refused_points(place: Place, fault: PointFault) -> Refusal
     ensures { result ≡ record { code = 18; place = place; item = Some (item_of_points fault) } }
 {

@@ -16,7 +16,7 @@ use std::thread::{Threads, join};
 
 const TURNS: u32 = 2000;
 
-/// Takes a price, where one waits.
+/// Takes a price, if one waits.
 fn take_waiting(link: &FreeLink, end: &mut ChildEnd)
     requires { end.old.link ≡ link.now }
     ensures { end.new.link ≡ end.old.link }
@@ -112,8 +112,8 @@ fn newest_is_taken(rt: &impl Abort, log: &LinkLog) {
     same(rt, "price", log.price_takes.last(), log.price_puts.last());
 }
 
-/// Whatever the two threads did, what is left on the link is the newest bid and the newest price, and both are taken then. A
-/// thread that was put aside within a call kept the other from the slot, so each end has one more turn when both are back.
+/// Whatever the two threads did, the newest bid and the newest price are left on the link, and both are taken then. A thread
+/// that was put aside within a call kept the other from the slot. So each end has one more turn when both are back.
 #[test]
 fn a_link_between_two_threads(rt: HostRuntime) -> Result<(), Fail> {
     let (link, child, parent) = open_link(rt.alloc(), TURNS as usize + 1)?;

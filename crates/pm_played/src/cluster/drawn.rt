@@ -16,7 +16,7 @@ struct Draws {
 }
 
 impl Draws {
-    /// A number below the limit, which is no more than 65536; 0 where the limit is 0.
+    /// A number below the limit, which is no more than 65536; 0 if the limit is 0.
     fn below(&mut self, limit: u32) -> u32 {
         self.state = self
             .state
@@ -47,7 +47,7 @@ fn make_any(cluster: &mut Cluster) -> Result<bool, Fail> {
     Ok(false)
 }
 
-/// Makes acts until none is legal.
+/// Makes acts until no act is legal.
 fn settle(cluster: &mut Cluster, draws: &mut Draws) -> Result<(), Fail> {
     for _act in 0..1_000_000u32 {
         if !make_drawn(cluster, draws)? && !make_any(cluster)? {

@@ -48,7 +48,7 @@ pub const NINE: &str = r#"{"version":1,"basis":{"min":0,"max":9,"steps":10},"nod
 {"name":"d10","kind":"manual","parent":"c1","demand":[1,1,1,1,1,1,1,1,1,1]}],"phases":[{"events":[
 {"join":"d2"},{"join":"d3"},{"join":"d4"},{"join":"d5"},{"join":"d6"},{"join":"d7"},{"join":"d8"},{"join":"d9"},{"join":"d10"}]}]}"#;
 
-/// Devices 3 to 11 stand under concentrator 2, which stands under concentrator 1 as device 12 does.
+/// Devices 3 to 11 are under concentrator 2, which is under concentrator 1 as device 12 is.
 pub const TWO_LEVELS: &str = r#"{"version":1,"basis":{"min":0,"max":9,"steps":10},"nodes":[
 {"name":"c1","kind":"concentrator","parent":"auctioneer"},
 {"name":"c2","kind":"concentrator","parent":"c1"},
@@ -68,8 +68,8 @@ pub const TWO_LEVELS: &str = r#"{"version":1,"basis":{"min":0,"max":9,"steps":10
 pub const CEILING: &str =
     r#"{"version":2,"basis":{"min":0,"max":9,"steps":10},"nodes":[{"name":"c1","kind":"limited","parent":"auctioneer","floor":0,"ceiling":150},{"name":"a","kind":"manual","parent":"c1","demand":[100,100,100,100,100,100,0,0,0,0]},{"name":"b","kind":"manual","parent":"c1","demand":[100,100,100,100,100,100,0,0,0,0]},{"name":"gen","kind":"manual","parent":"auctioneer","demand":[-150,-150,-150,-150,-150,-150,-150,-150,-150,-150]}],"phases":[{"events":[{"join":"a"},{"join":"b"},{"join":"gen"}]}]}"#;
 
-/// A part that may deliver 100 watts and take 150, with a device that takes 300 at step 0 and 50 less at each further one; the
-/// generator beside it.
+/// A part that may deliver 100 watts and take 150, and the generator beside it. Its device takes 300 at step 0 and 50 less at
+/// each further one.
 pub const FLOOR: &str =
     r#"{"version":2,"basis":{"min":0,"max":9,"steps":10},"nodes":[{"name":"c1","kind":"limited","parent":"auctioneer","floor":-100,"ceiling":150},{"name":"flex1","kind":"manual","parent":"c1","points":[[0,300],[9,-150]]},{"name":"gen","kind":"manual","parent":"auctioneer","demand":[-150,-150,-150,-150,-150,-150,-150,-150,-150,-150]}],"phases":[{"events":[{"join":"flex1"},{"join":"gen"}]}]}"#;
 

@@ -1,5 +1,5 @@
-//! A cluster in the hand of a test: each call once, in a function that promises nothing, so that no fact of a call follows
-//! a test around.
+//! A cluster in the hand of a test. Each call is there once, in a function that promises nothing, so no fact of a call
+//! follows a test around.
 
 ghost use Rattle.std.specs.Prelude.{◌≡◌, true};
 ghost use Rattle.pm_market.specs.Lists.{IsLeaf};
@@ -26,7 +26,7 @@ pub fn open(alloc: Global, plan: &Plan) -> Result<Cluster<'_>, Fail> {
     Ok(Cluster::open(alloc, plan)?)
 }
 
-/// Makes an act, where it is legal.
+/// Makes an act, if it is legal.
 pub fn make(cluster: &mut Cluster, act: Act) -> Result<Option<Line>, Fail> {
     match cluster.act(act) {
         Ok(line) => Ok(Some(line)),
@@ -57,7 +57,7 @@ pub fn act_count(cluster: &Cluster) -> u32 {
     nodes.saturating_mul(5)
 }
 
-/// The act in a place, counted from 0, but for the closing of a phase.
+/// The act in a place, counted from 0, except the closing of a phase.
 pub fn act_at(place: u32) -> Act {
     let node = place / 5;
     match place % 5 {
@@ -73,7 +73,7 @@ pub fn next_node(cluster: &Cluster) -> Option<u32> {
     Some(cluster.next_node()?.0)
 }
 
-/// One node move of a node, where it has one.
+/// One node move of a node, if it has one.
 #[tactic(auto, using(pm_cluster::proofs::Parents::nodes_are))]
 pub fn step(cluster: &mut Cluster, node: u32) -> Result<Option<Line>, Fail> {
     if cluster.plan().tree().len() < node {
@@ -82,7 +82,7 @@ pub fn step(cluster: &mut Cluster, node: u32) -> Result<Option<Line>, Fail> {
     Ok(cluster.step(NodeId(node))?)
 }
 
-/// Steps of the lowest node that has one, until none has. False where that node has no move, or some node always has one.
+/// Steps of the lowest node that has one, until no node has one. False if that node has no move, or some node always has one.
 pub fn rest(cluster: &mut Cluster) -> Result<bool, Fail> {
     for _move in 0..1000u32 {
         let Some(node) = next_node(cluster) else {

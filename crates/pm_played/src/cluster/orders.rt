@@ -18,7 +18,7 @@ enum Order {
     RoundRobin,
 }
 
-/// Tries each act once, but for the turns of all nodes only up to the first that is legal; whether one was.
+/// Tries each act once, but of the turns of all nodes only up to the first that is legal; whether one was.
 fn try_acts(cluster: &mut Cluster, order: Order) -> Result<bool, Fail> {
     let many = act_count(cluster);
     let mut moved = false;
@@ -38,7 +38,7 @@ fn try_acts(cluster: &mut Cluster, order: Order) -> Result<bool, Fail> {
     Ok(moved)
 }
 
-/// Makes acts until none is legal.
+/// Makes acts until no act is legal.
 fn settle(cluster: &mut Cluster, order: Order) -> Result<(), Fail> {
     for _turn in 0..10_000u32 {
         if !try_acts(cluster, order)? {
@@ -116,7 +116,7 @@ const PARTS: [(&str, End); 3] = [
     ),
 ];
 
-/// The phases of a plan have these ends in each order; the part is named where one has not.
+/// The phases of a plan have these ends in each order; the part is named if one has not.
 fn ends_are<R: Abort>(
     rt: &R,
     alloc: Global,

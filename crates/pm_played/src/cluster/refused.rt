@@ -15,8 +15,8 @@ use pm_session::Held;
 use std::alloc::Global;
 use std::test::Fail;
 
-/// What is seen of a cluster and one of its devices: the price that it holds, how many changes it made and the next, and the
-/// node that moves next.
+/// What is seen of a cluster and one of its devices. It is the price that the device holds, how many changes it made and the
+/// next, and the node that moves next.
 type View = (Option<Held>, (u32, Option<Next>), Option<u32>);
 
 fn view(cluster: &Cluster, device: u32) -> Result<View, Fail> {
@@ -55,8 +55,8 @@ fn next_of(post: Post) -> Next {
     }
 }
 
-/// The place of the first change that is not refused with the next change of device 1, or with none where it is of another
-/// device; or after which device 1 is seen otherwise.
+/// The place of the first change that is not refused as due, or after which device 1 is seen otherwise. The refusal has
+/// the next change of device 1, or no change if it is of another device.
 fn first_taken(
     alloc: Global,
     cluster: &mut Cluster,
@@ -157,7 +157,7 @@ const ONLY_JOURNAL: [(Act, u32, Option<(u32, u32)>); 8] = [
     (Act::Close, 1, None),
 ];
 
-/// Whether each act in each form is illegal but for this one, also those of a node that the plan has not.
+/// Whether each act in each form is illegal except this one, also those of a node that the plan has not.
 fn others_are_illegal(cluster: &mut Cluster, but: Act) -> Result<bool, Fail> {
     if but != Act::Close && make(cluster, Act::Close)?.is_some() {
         return Ok(false);

@@ -1,4 +1,4 @@
-//! Scripts of acts, with what each answers and what stands between them.
+//! Scripts of acts, with what each answers and what is between them.
 
 use super::files::{BESIDE, LONE, NINE, NINE_CHANGES, REJOINS, TWO_BIDS, TWO_LEVELS, plan_of};
 use super::hand::{End, close, ends_so, held, line_of, make, next_node, rest, step};
@@ -15,8 +15,8 @@ use std::test::Fail;
 /// A row of a script.
 #[derive(Clone, Copy)]
 enum Row {
-    /// An act makes the move of this number, which is an index where it clears or passes a price on; the step and the number
-    /// that a device then holds.
+    /// An act makes the move of this number, which is an index if it clears or passes a price on. With it are the step and
+    /// the number that a device then holds.
     Makes(Act, u32, Option<(u32, u32)>),
     /// The lowest node that has a move is this one, and its step makes the move, told in the same way.
     Steps(u32, Act, u32, Option<(u32, u32)>),
@@ -61,7 +61,7 @@ fn standing(cluster: &Cluster) -> (i64, usize) {
     (cluster.price(), step)
 }
 
-/// Whether an act makes the move of this line, or none where it is illegal.
+/// Whether an act makes the move of this line, or no move if it is illegal.
 fn makes(cluster: &mut Cluster, act: Act, due: Option<Line>) -> Result<bool, Fail> {
     Ok(make(cluster, act)? == due)
 }
@@ -304,7 +304,7 @@ fn nine_devices_share_one_window(rt: HostRuntime) -> Result<(), Fail> {
     Ok(())
 }
 
-/// The place of the first act that is illegal, where each of nine devices is heard of in turn.
+/// The place of the first act that is illegal, if each of nine devices is heard of in turn.
 fn refused_of_nine(alloc: Global, plan: &Plan) -> Result<Option<usize>, Fail> {
     let acts = rounds(alloc, &[2, 3, 4, 5, 6, 7, 8, 9, 10])?;
     refused_at(alloc, plan, &acts)

@@ -23,7 +23,7 @@ pub fn market_of(alloc: Global, nodes: &[Node<'_>]) -> Result<Market, AllocError
     Market::new(alloc, parents, leaves, members, ends)
 }
 
-/// Makes the moves up to the first that is not legal, and says its place; their number where all are.
+/// Makes the moves up to the first that is not legal, and says its place; their number if all are legal.
 pub fn play(market: &mut Market, moves: &[Move]) -> Result<usize, AllocError> {
     for (place, what) in moves.iter().enumerate() {
         if !market.is_legal(*what) {
@@ -150,7 +150,7 @@ fn leave_one(path: &mut Vec<Move>) -> Option<usize> {
     None
 }
 
-/// How many journals to which no legal move can be added there are, by a walk over all of them; none where one of
+/// How many journals to which no legal move can be added there are, by a walk over all of them. None if one of
 /// them is not complete, or is longer than the bound.
 pub fn count_journals(
     alloc: Global,

@@ -5,7 +5,7 @@ use pm_market::{Market, Move};
 use std::alloc::{AllocError, Global};
 use std::collections::BTreeMap;
 
-/// The greatest number that four changes can bring about of a node: a cut that is published or cleared contains at
+/// The greatest number that four changes can bring about of a node. A cut that is published or cleared contains at
 /// least one change more than the one before it. The candidates go up to the number above it.
 const GREATEST: u32 = 4;
 
@@ -28,7 +28,7 @@ const CLEARED: u32 = 4;
 /// The row of the phase closed.
 const CLOSED: u32 = 5;
 
-/// The rows of the clearings that were passed to nodes 1 to 3, in rising order; the auctioneer is passed none.
+/// The rows of the clearings that were passed to nodes 1 to 3, in rising order; the auctioneer is passed no clearing.
 const PASSED: [u32; 4] = [5, 6, 7, 8];
 
 /// How many rows there are.
@@ -109,7 +109,7 @@ fn number_of(what: Move) -> u32 {
     }
 }
 
-/// Whether none of these moves is under a number above the greatest, and a closing is among them only alone.
+/// Whether no one of these moves is under a number above the greatest, and a closing is among them only alone.
 fn are_sound(legal: &[Move]) -> bool {
     for what in legal {
         let is_beside = matches!(what, Move::Close { .. }) && legal.len() > 1;
@@ -120,8 +120,8 @@ fn are_sound(legal: &[Move]) -> bool {
     true
 }
 
-/// The candidates that are legal after the moves of a path. None where a move of the path is not legal, they
-/// are not as `are_sound` says, no move is legal in a state that is not complete, or some move is in a complete one.
+/// The candidates that are legal after the moves of a path. None if a move of the path is not legal, or if they are not
+/// as `are_sound` says. None also if no move is legal in a state that is not complete, or some move is in a complete one.
 fn moves_after(
     alloc: Global,
     nodes: &[Node<'_>],
@@ -151,7 +151,7 @@ fn add_next(
     Ok(())
 }
 
-/// The states to which one more move leads; none where `moves_after` has none of a state of this level.
+/// The states to which one more move leads; None if `moves_after` gives None for a state of this level.
 fn next_level(
     alloc: Global,
     nodes: &[Node<'_>],
@@ -185,12 +185,12 @@ fn count_met(
 }
 
 /// The number of moves of the longest journal of concentrator 1 over the devices 2 and 3, with two changes each in one
-/// phase, and how many of the paths lead to a state that the walk meets.
+/// phase. With it is how many of the paths lead to a state that the walk meets.
 ///
 /// The journals are too many to be walked one by one, the states that they reach are not. The walk goes from the states
 /// after so many moves to those after one more, by every legal move of each. So it meets every state that a journal
-/// reaches, once for each number of moves that leads to it, and every journal ends in the level of its length. None
-/// where `moves_after` has none of a state, or a journal has more moves than the bound.
+/// reaches, once for each number of moves that leads to it. Every journal ends in the level of its length. None if
+/// `moves_after` gives None for a state, or a journal has more moves than the bound.
 pub fn longest_journal(
     alloc: Global,
     nodes: &[Node<'_>],

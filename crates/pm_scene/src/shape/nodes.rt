@@ -61,7 +61,7 @@ fn read_spec(alloc: Global, kind: KindName, value: &Value) -> Result<NodeSpec, A
     }
 }
 
-/// The kind that a node names, where limited concentrators are known or not.
+/// The kind that a node names, by whether limited concentrators are known.
 #[tactic(auto, unfolding(crate::specs::Nodes::kind_at))]
 fn read_kind(knows_limited: bool, place: Place, value: &Value) -> Result<KindName, Refusal>
     ensures { result ≡ kind_at knows_limited place (view value.now) }

@@ -73,7 +73,7 @@ fn input_of(alloc: Global, line: &str) -> Result<String, Fail> {
     }
 }
 
-/// The status of a command on its input: a trace without lines is none.
+/// The status of a command on its input; a trace without lines is no trace.
 fn status_of(line: &str) -> Status {
     match line {
         "check" => Status::Invalid,

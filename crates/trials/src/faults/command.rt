@@ -24,7 +24,7 @@ pub(crate) struct Command<'a> {
     due: Outcome,
 }
 
-/// What is due for an input of the command of these words: what comes where nothing disturbs it. Of a trace that is the
+/// What is due for an input of the command of these words: what comes if nothing disturbs it. Of a trace it is the
 /// outcome of `run`.
 fn due_of<R: Threads + Wait + Sync>(
     rt: &R,
@@ -77,7 +77,7 @@ impl<'a> Command<'a> {
         called(rt, self.alloc, self.words, input, around, &OpenGate)
     }
 
-    /// Whether what an input in pieces comes to is the outcome due, where no call fails, and the calls that were made.
+    /// Whether what an input in pieces comes to is the outcome due, if no call fails, and the calls that were made.
     fn judge_pieces<R: Threads + Wait + Sync>(
         &self,
         rt: &R,

@@ -7,7 +7,7 @@ use std::fmt;
 /// Something that is tried with a command.
 #[derive(Clone, Copy)]
 pub(crate) enum Trial {
-    /// All of the input, with one call that fails or none.
+    /// All of the input, with one call that fails or with no such call.
     Whole { piece: Piece, fault: Fault },
     /// The first so many bytes of the input.
     Cut { piece: Piece, length: usize },
