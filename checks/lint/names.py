@@ -190,6 +190,15 @@ def lemmas_without_words():
                     yield f"{path}: the public lemma {name} has no comment: say above it what it states"
 
 
+def files_without_a_first_line():
+    """A list of modules, Lib.antt, needs none."""
+    for path in sorted(CRATES.rglob("*")):
+        parts = path.relative_to(CRATES).parts
+        mark = {".rt": "//! ", ".antt": "-- "}.get(path.suffix)
+        if mark and parts[1] in ("src", "specs", "proofs") and path.name != "Lib.antt" and not path.read_text().startswith(mark):
+            yield f"{'/'.join(parts)}: the first line does not say what the file is for: begin it with {mark.strip()}"
+
+
 def main():
     passed, failed = 0, 0
     checks = (
@@ -201,6 +210,7 @@ def main():
         long_lines,
         long_clauses,
         lemmas_without_words,
+        files_without_a_first_line,
     )
     for check in checks:
         findings = list(check())
