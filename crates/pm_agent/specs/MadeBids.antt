@@ -12,7 +12,7 @@ pub record MadeBid : Type 0 where
   pub kind : Kind
   pub demand : List ℤ
 
--- the demand of a device after a change: none where it is no member then, else its bid in its state then
+-- the demand of a device after a change: none if it is no member then, else its bid in its state then
 abbrev pub demand_after_change : Kind → Next → List (List ℤ) → ℕ → List ℤ
 demand_after_change kind next arrays steps = if next.member then bid_of kind next.state.0 arrays steps else zeros steps
 

@@ -29,11 +29,11 @@ with_digit value digit = value * 10 + (digit - 48)
 abbrev pub value_of : List ℕ → ℕ
 value_of digits = fold with_digit 0 digits
 
--- the number that decimal digits write, where it is at most this one
+-- the number that decimal digits write, if it is at most this one
 abbrev pub value_up_to : ℕ → List ℕ → Option ℕ
 value_up_to high digits = if nat_le (value_of digits) high then Some (value_of digits) else None
 
--- the number of an argument, where the argument is one within these limits
+-- the number of an argument, if the argument is one within these limits
 abbrev pub number_within : ℕ → ℕ → List ℕ → Option ℕ
 number_within low high argument =
     if is_number argument && nat_le low (value_of argument) && nat_le (value_of argument) high then Some (value_of argument) else None

@@ -1,4 +1,4 @@
--- A target asked of a total: what comes of the market where so much power is to be taken off the total.
+-- A target asked of a total: what comes of the market if so much power is to be taken off the total.
 use Rattle.std.specs.Prelude.{ℕ, ℤ, ◌-ℤ◌, neg_ℤ, List, map, replicate}
 use Rattle.pm_bid.specs.Bids.{demand_at}
 use Rattle.pm_bid.specs.Clearing.{clearing_step}

@@ -12,14 +12,14 @@ IsTargetOf total step target = asked_step target total ≡ step
 abbrev pub HasTargets : List ℤ → ℕ → Type 0
 HasTargets total step = (target : ℤ) × IsTargetOf total step target
 
--- the least target of a step; there is none where below each of its targets it has another
+-- the least target of a step; there is none if below each of its targets it has another
 abbrev pub IsLeastTarget : List ℤ → ℕ → Option ℤ → Type 0
 IsLeastTarget total step (Some least) =
     IsTargetOf total step least × ((target : ℤ) → IsTargetOf total step target → least ≤ℤ target)
 IsLeastTarget total step None =
     (target : ℤ) → IsTargetOf total step target → (lower : ℤ) × (IsTargetOf total step lower × (lower <ℤ target))
 
--- the greatest target of a step; there is none where above each of its targets it has another
+-- the greatest target of a step; there is none if above each of its targets it has another
 abbrev pub IsGreatestTarget : List ℤ → ℕ → Option ℤ → Type 0
 IsGreatestTarget total step (Some greatest) =
     IsTargetOf total step greatest × ((target : ℤ) → IsTargetOf total step target → target ≤ℤ greatest)

@@ -20,7 +20,7 @@ are_crossed (Some least) (Some greatest) = int_lt greatest least
 are_crossed (Some least) None = false
 are_crossed None greatest = false
 
--- the break of a step, where it has targets
+-- the break of a step, if it has targets
 abbrev pub break_at : List ℤ → ℕ → Option Break
 break_at total step =
     if are_crossed (least_of total step) (greatest_of total step)

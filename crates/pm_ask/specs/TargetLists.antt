@@ -14,7 +14,7 @@ pub record AreTargets (targets : List ℤ) : Type 0 where
   pub few : length targets ≤ most_targets
   pub within : All (IsWithin demand_limit) targets
 
--- the line of a target: the number in decimal digits, with `-` in front where it is negative, and a line feed
+-- the line of a target: the number in decimal digits, with `-` in front if it is negative, and a line feed
 abbrev pub target_line : ℤ → List ℕ
 target_line target = signed_decimal target ++ (10 ∷ [])
 

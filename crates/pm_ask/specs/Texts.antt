@@ -6,13 +6,13 @@ use Rattle.pm_ask.specs.Asked.{asked_step, asked_total}
 use Rattle.pm_ask.specs.Curves.{breaks_of}
 use Rattle.pm_ask.specs.declared.breaks.Break.{Break}
 
--- the number, and this word where there is none
+-- the number, and this word if there is none
 abbrev pub number_or : List ℕ → Option ℤ → List ℕ
 number_or word (Some number) = signed_decimal number
 number_or word None = word
 
--- from A to B, and a line feed: the least and the greatest target of a break, `low` where it has no least one and `high`
--- where it has no greatest one
+-- from A to B, and a line feed: the least and the greatest target of a break, `low` if it has no least one and `high`
+-- if it has no greatest one
 abbrev pub ends_text : Break → List ℕ
 ends_text break = codes "from " ++ (number_or (codes "low") break.from ++ (codes " to " ++ (number_or (codes "high") break.to ++ codes "\n")))
 

@@ -5,7 +5,7 @@ use Rattle.pm_cache.specs.Cache.{Cache, aggregate_of, empty_cache}
 use Rattle.pm_session.specs.Links.{Session}
 use Rattle.pm_session.specs.Prices.{PricesOffered}
 
--- the entries of the children, the step and the index of the last clearing (0 where there is none),
+-- the entries of the children, the step and the index of the last clearing (0 if there is none),
 -- and whether something was learnt since
 pub record Auction : Type 0 where
   pub cache : Cache

@@ -21,7 +21,7 @@ abbrev pub each_from : {A B E : Type 0} → ℕ → (ℕ → A → Result B E) �
 each_from n f [] = Ok []
 each_from n f (x ∷ xs) = f n x >>= λ y. each_from (n + 1) f xs >>= λ ys. Ok (y ∷ ys)
 
--- where an error is a refusal, it is that of the reading; an error that is none says nothing of it
+-- if an error is a refusal, it is that of the reading; an error that is none says nothing of it
 abbrev pub Refuses : {Y E : Type 0} → Option E → Result Y E → Type 0
 Refuses None reading = ⊤
 Refuses (Some refusal) reading = reading ≡ Err refusal

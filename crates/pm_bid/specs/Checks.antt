@@ -11,7 +11,7 @@ use Rattle.pm_bid.specs.declared.fault.BidFault.TheVariants.{WrongLength, Rising
 abbrev pub rises : List ℤ → List Bool
 rises bid = zip2 int_lt bid (drop 1 bid)
 
--- the first step whose demand is above the one before; the length or more where there is none
+-- the first step whose demand is above the one before; the length or more if there is none
 abbrev pub first_rising : List ℤ → ℕ
 first_rising bid = 1 + position_or_len (λ rise. rise) (rises bid)
 
@@ -19,7 +19,7 @@ first_rising bid = 1 + position_or_len (λ rise. rise) (rises bid)
 abbrev pub is_too_large : ℤ → Bool
 is_too_large demand = int_lt (pos demand_limit) demand || int_lt demand (neg_ℤ (pos demand_limit))
 
--- the first step whose demand is too large; the length where there is none
+-- the first step whose demand is too large; the length if there is none
 abbrev pub first_too_large : List ℤ → ℕ
 first_too_large bid = position_or_len is_too_large bid
 

@@ -3,14 +3,14 @@ use Rattle.std.specs.Prelude.{ℕ, ◌+◌, ◌-◌, ◌<◌, ℤ, pos, ◌≤�
 use Rattle.std.specs.List.{prefix_len, suffix_len}
 use Rattle.pm_bid.specs.Bids.{demand_at}
 
--- the first step whose demand is at most the limit, and the last step where there is none: the demands before it are
+-- the first step whose demand is at most the limit, and the last step if there is none: the demands before it are
 -- above the limit, and its own is at most the limit unless it is the last
 pub record IsFirstAtMost (limit : ℤ) (bid : List ℤ) (step : ℕ) : Type 0 where
   pub inside : step < length bid
   pub before : (earlier : ℕ) → earlier < step → limit <ℤ demand_at bid earlier
   pub met : step + 1 < length bid → demand_at bid step ≤ℤ limit
 
--- the last step whose demand is at least the limit, and step 0 where there is none: the demands after it are below the
+-- the last step whose demand is at least the limit, and step 0 if there is none: the demands after it are below the
 -- limit, and its own is at least the limit unless it is step 0
 pub record IsLastAtLeast (limit : ℤ) (bid : List ℤ) (step : ℕ) : Type 0 where
   pub inside : step < length bid
@@ -24,7 +24,7 @@ first_at_most limit bid = min (prefix_len (λ demand. int_lt limit demand) bid) 
 abbrev pub last_at_least : ℤ → List ℤ → ℕ
 last_at_least limit bid = length bid - 1 - suffix_len (λ demand. int_lt demand limit) bid
 
--- a market with this total demand clears at the step: it is the first whose total is not positive, and the last where
+-- a market with this total demand clears at the step: it is the first whose total is not positive, and the last if
 -- all are positive
 abbrev pub Clears : List ℤ → ℕ → Type 0
 Clears total step = IsFirstAtMost (pos 0) total step

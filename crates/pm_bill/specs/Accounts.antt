@@ -22,12 +22,12 @@ abbrev pub account_total : List Account → Account
 account_total [] = no_account
 account_total (account ∷ accounts) = account_sum account (account_total accounts)
 
--- a number where it is positive, else 0
+-- a number if it is positive, else 0
 abbrev pub positive_part : ℤ → ℤ
 positive_part (pos n) = pos n
 positive_part (negsuc n) = pos 0
 
--- the account of a power over so many minutes, where each minute costs so much: power that is positive is taken, and
+-- the account of a power over so many minutes, if each minute costs so much: power that is positive is taken, and
 -- power that is negative is given
 abbrev pub account_of : ℤ → ℤ → ℤ → Account
 account_of minutes cost power = record {

@@ -15,7 +15,7 @@ use Rattle.pm_bill.specs.Accounts.{no_account}
 use Rattle.pm_bill.specs.Shares.{sum_each, group_cost, shares_of, account_of_share, account_of_shares, AreShares, AreGroups, ComeToTheSame}
 use Rattle.pm_bill.specs.Runs.{device_share, device_shares, group_sums}
 
--- the price of a group at an end: that of the step in its line, and the price of the end where it has no line
+-- the price of a group at an end: that of the step in its line, and the price of the end if it has no line
 abbrev pub price_in_end : PlanData → EndData → ℕ → ℤ
 price_in_end plan end g =
     option_map_or (λ line. price_at plan.basis line.step) (find (λ line. line.node == g) end.limited) end.price

@@ -29,7 +29,7 @@ tick_minutes plan p = unwrap_or (minutes_of plan p) (pos 0)
 abbrev pub cut_before : PlanData → ℕ → Cut
 cut_before plan p = end_cut plan (p - 1)
 
--- the share of a device in a cut: the price of its local step, and its power, which is 0 where it is no member
+-- the share of a device in a cut: the price of its local step, and its power, which is 0 if it is no member
 abbrev pub device_share : PlanData → Cut → ℕ → Share
 device_share plan cut d =
     record { node = d; price = price_at plan.basis (local_step_in plan (state plan) cut d); power = power plan (state plan) cut d }

@@ -9,7 +9,7 @@ use Rattle.pm_cache.specs.declared.fault.CacheFault.{CacheFault}
 use Rattle.pm_cache.specs.declared.fault.CacheFault.TheVariants.{Old}
 
 -- the entries of a cache, one for each child: the head of its newest bid and the demand, which is
--- all zeros where the child is gone; each demand has so many steps
+-- all zeros if the child is gone; each demand has so many steps
 pub record Cache : Type 0 where
   pub steps : ℕ
   pub heads : List BidHead
@@ -19,7 +19,7 @@ pub record Cache : Type 0 where
 abbrev pub child_head : Cache → ℕ → BidHead
 child_head cache child = slice_index_or cache.heads child nothing_sent
 
--- the number of a child's newest bid, 0 where it sent none
+-- the number of a child's newest bid, 0 if it sent none
 abbrev pub kept_number : Cache → ℕ → ℕ
 kept_number cache child = (child_head cache child).number
 

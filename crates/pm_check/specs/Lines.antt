@@ -11,7 +11,7 @@ abbrev pub text_of_lines : List (List ℕ) → List ℕ
 text_of_lines lines = flat_map (λ line. line) lines
 
 -- the text is cut after each line feed: it is these whole lines, and behind them a rest without a line feed, which is a
--- line without end where it is not empty
+-- line without end if it is not empty
 pub record AreLinesOf (text : List ℕ) (lines : List (List ℕ)) (rest : List ℕ) : Type 0 where
   pub whole : All IsWholeLine lines
   pub no_end : HasNoLineFeed rest

@@ -5,7 +5,7 @@ use Rattle.std.specs.List.{list_all}
 use Rattle.pm_basis.specs.Prices.{BasisValue}
 use Rattle.pm_plan.specs.Plans.{PlanData, is_leaf}
 
--- what a reader answers of a text: a value that is written so, and none only where no value is written so
+-- what a reader answers of a text: a value that is written so, and none only if no value is written so
 pub record Reads {A B : Type 0} (IsValue : A → Type 0) (text_of : A → B) (text : B) (answer : Option A) : Type 0 where
   pub told : IfSome answer (λ value. IsValue value × (text_of value ≡ text))
   pub none : IsNone answer → (value : A) → IsValue value → text_of value ≢ text
@@ -24,13 +24,13 @@ pub record IsHolding (basis : BasisValue) (held : Option (ℕ × ℕ)) : Type 0 
   pub step : IfSome held (λ one. one.0 < basis.steps)
   pub number : IfSome held (λ one. one.1 < 2 ^ 32)
 
--- an index of 32 bits, and something held only where the node is a device
+-- an index of 32 bits, and something held only if the node is a device
 pub record IsPassed (plan : PlanData) (node : ℕ) (read : ℕ × Option (ℕ × ℕ)) : Type 0 where
   pub index : read.0 < 2 ^ 32
   pub held : IsHolding plan.basis read.1
   pub holder : is_leaf plan node ≡ false → read.1 ≡ None
 
--- a node that is not the auctioneer, an index of 32 bits, and something held where the node is a device
+-- a node that is not the auctioneer, an index of 32 bits, and something held if the node is a device
 pub record IsPassing (plan : PlanData) (read : ℕ × ℕ × Option (ℕ × ℕ)) : Type 0 where
   pub first : 1 ≤ read.0
   pub last : read.0 ≤ length plan.nodes

@@ -27,7 +27,7 @@ use Rattle.pm_cluster.specs.declared.fault.ActFault.TheVariants as act_faults
 use Rattle.pm_cluster.specs.declared.fault.ApplyFault.{ApplyFault}
 use Rattle.pm_cluster.specs.declared.fault.ApplyFault.TheVariants as apply_faults
 
--- the next change of a device, where it has one
+-- the next change of a device, if it has one
 abbrev pub IsNextOrNone : PlanData → ℕ → Cut → ℕ → Option Next → Type 0
 IsNextOrNone plan closed counts d next = MatchOption next (HasNoNext plan closed counts d) (IsNext plan closed counts d)
 
@@ -50,7 +50,7 @@ NotChanged plan closed counts made change_faults.NoMemory = ⊥
 abbrev pub NoMoveBy : PlanData → State → Act → Type 0
 NoMoveBy plan s act = (m : Move) → act_of m ≡ act → Legal (plan_lists plan) s m → ⊥
 
--- what an act made of a cluster: a legal move of its form, by which the cluster stands for the state behind the move; or nothing, where
+-- what an act made of a cluster: a legal move of its form, by which the cluster stands for the state behind the move; or nothing, if
 -- no move of that form is legal, and the cluster is as it was
 pub record IsMadeBy (a : Act) (old new : ClusterValue) (what : Option Move) : Type 0 where
   pub plan : new.plan ≡ old.plan
@@ -58,7 +58,7 @@ pub record IsMadeBy (a : Act) (old new : ClusterValue) (what : Option Move) : Ty
   pub none : what ≡ None → new ≡ old
   pub made : (s : State) → StandsFor old.plan old.core s → MatchOption what (NoMoveBy old.plan s a) (MakesMove old.plan new.core s)
 
--- what a node made of a cluster: a legal move of its own, by which the cluster stands for the state behind the move; or nothing, where
+-- what a node made of a cluster: a legal move of its own, by which the cluster stands for the state behind the move; or nothing, if
 -- the node has no legal move, and the cluster is as it was
 pub record IsMadeOf (x : ℕ) (old new : ClusterValue) (what : Option Move) : Type 0 where
   pub plan : new.plan ≡ old.plan

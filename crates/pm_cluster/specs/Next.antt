@@ -11,7 +11,7 @@ use Rattle.pm_stands.specs.Core.{Core}
 abbrev pub count_of : Core → ℕ → ℕ
 count_of c d = slice_index_or c.counts d 0
 
--- where so many phases are closed and each device made so many changes: no phase is open, or the device made all its changes
+-- if so many phases are closed and each device made so many changes: no phase is open, or the device made all its changes
 -- of the open phase
 abbrev pub HasNoNext : PlanData → ℕ → Cut → ℕ → Type 0
 HasNoNext plan closed counts d = (phases plan ≤ closed) ⊎ (counts d ≡ end_cut plan (closed + 1) d)

@@ -37,7 +37,7 @@ pub record HasLink (plan : PlanData) (next : Next) (links : List (List Session))
   pub steps : (device_link plan links next.device).steps ≡ plan.basis.steps
   pub room : length spare ≡ plan.basis.steps
 
--- the demand of a device after a change was offered on its link, or that its bid is gone where it is no member; no other
+-- the demand of a device after a change was offered on its link, or that its bid is gone if it is no member; no other
 -- link changed, and the spare bid has its steps
 pub record IsOffered (plan : PlanData) (next : Next) (old new : List (List Session)) (spare : List ℤ) : Type 0 where
   pub one : OneLink old new (parent (plan_lists plan) next.device) (place_of plan.entries next.device)

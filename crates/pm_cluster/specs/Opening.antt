@@ -13,7 +13,7 @@ pub record AreStarts (plan : PlanData) (states : List ℤ) : Type 0 where
   pub one_each : length states ≡ nodes (plan_lists plan) + 1
   pub starts : (d : ℕ) → IsLeaf (plan_lists plan) d → start_of (node plan d) ≡ Some (slice_index_or states d (pos 0))
 
--- a number for each node, of a device that of its changes in the first phase, where there is one
+-- a number for each node, of a device that of its changes in the first phase, if there is one
 pub record AreFirstDue (plan : PlanData) (due : List ℕ) : Type 0 where
   pub one_each : length due ≡ nodes (plan_lists plan) + 1
   pub first : 0 < phases plan → (d : ℕ) → IsLeaf (plan_lists plan) d → slice_index_or due d 0 ≡ end_cut plan 1 d
@@ -23,7 +23,7 @@ pub record AreNewRows (plan : PlanData) (rows : List (List Session)) : Type 0 wh
   pub one_each : length rows ≡ nodes (plan_lists plan) + 1
   pub new : (y : ℕ) → y ≤ nodes (plan_lists plan) → row_at rows y ≡ replicate (length (children_of plan.entries y)) (new_session plan.basis.steps)
 
--- a new concentrator where the node is one, and none elsewhere
+-- a new concentrator if the node is one, and none elsewhere
 abbrev pub IsNewAt : PlanData → ℕ → Option Gathered → Type 0
 IsNewAt plan y made = MatchOption made (IsConcentrator (plan_lists plan) y → ⊥)
     (λ c. IsConcentrator (plan_lists plan) y × IsNewConcentrator (length (children_of plan.entries y)) plan.basis.steps (limits_at plan y) c)

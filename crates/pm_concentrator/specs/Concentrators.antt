@@ -10,7 +10,7 @@ use Rattle.pm_session.specs.Links.{Session, BidOffered}
 use Rattle.pm_session.specs.Windows.{newest_record, unanswered_count, steps_of, RecordSent, RecordAnswered, IsNewWindow, WindowValue}
 use Rattle.pm_concentrator.specs.Limited.{sum_kept, sum_steps}
 
--- the entries of the children, the records of what was published, and the limits where there are some, with the demand
+-- the entries of the children, the records of what was published, and the limits if there are some, with the demand
 -- of the newest bid then
 pub record Gathered : Type 0 where
   pub cache : Cache

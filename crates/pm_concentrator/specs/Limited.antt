@@ -8,7 +8,7 @@ pub record LimitedValue : Type 0 where
   pub limits : Limits
   pub announced : List ℤ
 
--- the sum that a record keeps: one only where there are limits
+-- the sum that a record keeps: one only if there are limits
 abbrev pub sum_kept : Option Limits → List ℤ → Option (List ℤ)
 sum_kept None sum = None
 sum_kept (Some limits) sum = Some sum
@@ -23,7 +23,7 @@ abbrev pub local_step_of_record : Option Limits → ℕ → Option (List ℤ) �
 local_step_of_record limits k None = k
 local_step_of_record limits k (Some sum) = local_step limits k sum
 
--- where there are limits, the step of a price is one of the steps
+-- if there are limits, the step of a price is one of the steps
 abbrev pub IsStepOf : Option Limits → ℕ → ℕ → Type 0
 IsStepOf None steps k = Unit {0}
 IsStepOf (Some limits) steps k = k < steps

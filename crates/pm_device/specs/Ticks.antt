@@ -20,7 +20,7 @@ takes_power power = int_lt (pos 0) power
 abbrev pub delivers_power : ℤ → Bool
 delivers_power power = int_lt power (pos 0)
 
--- a change of the temperature where it is so, else none
+-- a change of the temperature if it is so, else none
 abbrev pub change_if : Bool → ℤ → ℤ
 change_if so change = if so then change else pos 0
 
@@ -28,11 +28,11 @@ change_if so change = if so then change else pos 0
 abbrev pub nearest_temperature : ℤ → ℤ
 nearest_temperature temperature = nearest_between (neg_ℤ (pos temperature_limit)) (pos temperature_limit) temperature
 
--- a freezer's temperature after a tick: it warms up, and it cools down where it ran
+-- a freezer's temperature after a tick: it warms up, and it cools down if it ran
 abbrev pub freezer_after : ℤ → ℤ → ℤ → Bool → ℤ
 freezer_after temperature warm cool ran = nearest_temperature ((temperature +ℤ warm) -ℤ change_if ran cool)
 
--- the temperature of a room or a buffer after a tick: it loses heat, and it gains heat where the device ran
+-- the temperature of a room or a buffer after a tick: it loses heat, and it gains heat if the device ran
 abbrev pub heated_after : ℤ → ℤ → ℤ → Bool → ℤ
 heated_after temperature loss gain ran = nearest_temperature ((temperature -ℤ loss) +ℤ change_if ran gain)
 

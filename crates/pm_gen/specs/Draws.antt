@@ -5,7 +5,7 @@ use Rattle.std.specs.Prelude.{ℕ, ◌+◌, ◌*◌, ◌%◌}
 unfoldable pub next : ℕ → ℕ
 next seed = (75 * seed + 74) % 65537
 
--- the number below n that a draw gives, where n is above 0
+-- the number below n that a draw gives, if n is above 0
 abbrev pub draw_below : ℕ → ℕ → ℕ
 draw_below n seed = next seed % n
 

@@ -24,7 +24,7 @@ is_joined earlier i = fold (λ joined named. if named == i then not joined else 
 abbrev pub joined_flags : ℕ → List ℕ → List Bool
 joined_flags size earlier = map (is_joined earlier) (range_with_len 1 size)
 
--- an event of a device after events of these: a leave where it is joined, else a join
+-- an event of a device after events of these: a leave if it is joined, else a join
 abbrev pub turn_event : List ℕ → ℕ → EventPart
 turn_event earlier i = if is_joined earlier i then leave (device_name i) else join (device_name i)
 

@@ -8,7 +8,7 @@ use Rattle.pm_market.specs.Legality.{has_reached}
 abbrev pub is_due : Lists → State → ℕ → ℕ → Bool
 is_due lists s x j = has_reached s (parent lists x) j && addresses lists s j x
 
--- the greatest index of a clearing that is to be passed to the node, 0 where there is none
+-- the greatest index of a clearing that is to be passed to the node, 0 if there is none
 pub record IsNewestDue (lists : Lists) (s : State) (x j : ℕ) : Type 0 where
   pub due : 0 < j → is_due lists s x j ≡ true
   pub most : (i : ℕ) → is_due lists s x i ≡ true → i ≤ j

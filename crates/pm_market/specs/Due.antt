@@ -5,7 +5,7 @@ use Rattle.pm_market.specs.Lists.{Lists, parent, IsNode}
 use Rattle.pm_market.specs.State.{State, clearings, addresses, addresses_of}
 use Rattle.pm_market.specs.Legality.{is_one_of, has_reached}
 
--- due is, of each node, the greatest index of a clearing that is due to it, 0 where there is none
+-- due is, of each node, the greatest index of a clearing that is due to it, 0 if there is none
 pub record KnowsDue (lists : Lists) (s : State) (due : ℕ → ℕ) : Type 0 where
   -- what was passed are clearings
   pub passed_made : (x j : ℕ) → is_one_of (s.passed x) j ≡ true → j ≤ clearings s

@@ -8,7 +8,7 @@ use Rattle.pm_market.specs.declared.moves.Move.{Move}
 use Rattle.pm_market.specs.declared.moves.Move.TheVariants.{Pass}
 use Rattle.pm_market.specs.declared.journal.Line.{Line}
 
--- the number of the last join of a device among its first n changes, 0 where there is none. A change is a join where
+-- the number of the last join of a device among its first n changes, 0 if there is none. A change is a join if
 -- the device is a member after it and was none before it
 unfoldable pub last_join : Lists → ℕ → ℕ → ℕ
 last_join lists d zero = 0
@@ -16,7 +16,7 @@ last_join lists d (suc n) =
     if is_member lists d (suc n) && not (is_member lists d n) then suc n
     else last_join lists d n
 
--- whether a device holds a price: that of the clearing passed to it last, where it is a member now and the number that
+-- whether a device holds a price: that of the clearing passed to it last, if it is a member now and the number that
 -- the price names is at least that of its last join; a price of a former membership is dropped
 unfoldable pub holds_price : Lists → State → ℕ → Bool
 holds_price lists s d =

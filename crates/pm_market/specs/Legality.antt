@@ -39,7 +39,7 @@ unfoldable pub pass_is_legal : Lists → State → ℕ → ℕ → Bool
 pass_is_legal lists s x j = is_node lists x && has_reached s (parent lists x) j && nat_lt (last_index s x) j && addresses lists s j x
 
 -- whether no Learn or Publish of this node and no Pass to it is legal; of the numbers of a Learn the newest is legal
--- where any is
+-- if any is
 unfoldable pub is_idle_at : Lists → State → ℕ → Bool
 is_idle_at lists s x =
     not (learn_is_legal lists s x (newest_number_of lists s x))
@@ -74,7 +74,7 @@ unfoldable pub are_legal : Lists → State → List Move → Bool
 are_legal lists s [] = true
 are_legal lists s (m ∷ ms) = is_legal lists s m && are_legal lists (step lists s m) ms
 
--- the place of the first move that is not legal, from 0; the length where all are
+-- the place of the first move that is not legal, from 0; the length if all are
 unfoldable pub first_illegal : Lists → State → List Move → ℕ
 first_illegal lists s [] = 0
 first_illegal lists s (m ∷ ms) = if is_legal lists s m then suc (first_illegal lists (step lists s m) ms) else 0

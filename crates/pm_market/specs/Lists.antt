@@ -79,7 +79,7 @@ unfoldable pub way_up : Lists → ℕ → ℕ → List ℕ
 way_up lists zero d = []
 way_up lists (suc count) d = d ∷ way_up lists count (parent lists d)
 
--- the child of y at or above d: of the nodes from d up the first whose parent is y, and 0 where there is none; since
+-- the child of y at or above d: of the nodes from d up the first whose parent is y, and 0 if there is none; since
 -- parents have smaller numbers, each node on the way up but the auctioneer is among the first d
 unfoldable pub child_at_or_above : Lists → ℕ → ℕ → ℕ
 child_at_or_above lists y d = unwrap_or (find (λ x. parent lists x == y) (way_up lists d d)) 0

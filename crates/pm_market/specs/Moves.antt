@@ -37,19 +37,19 @@ NodeLegal lists s (Pass node index) =
     × (addresses lists s index node ≡ true)
 NodeLegal lists s _ = ⊥
 
--- a state is idle where no node move is legal
+-- a state is idle if no node move is legal
 abbrev pub Idle : Lists → State → Type 0
 Idle lists s = (m : Move) → NodeLegal lists s m → ⊥
 
 -- the moves that are legal in a state
 abbrev pub Legal : Lists → State → Move → Type 0
--- a device makes its next change, where that change belongs to the open phase
+-- a device makes its next change, if that change belongs to the open phase
 Legal lists s (Change device number') =
     IsLeaf lists device
     × (s.closed < phases lists)
     × (number' ≡ s.counts device + 1)
     × (number' ≤ end_count lists (s.closed + 1) device)
--- the open phase is closed, where all its changes are made and the state is idle
+-- the open phase is closed, if all its changes are made and the state is idle
 Legal lists s (Close phase) =
     (phase ≡ s.closed + 1)
     × (phase ≤ phases lists)
@@ -84,7 +84,7 @@ after lists journal = after_from lists start journal
 abbrev pub LegalJournal : Lists → List Move → Type 0
 LegalJournal lists journal = LegalFrom lists start journal
 
--- a journal is complete where it closes every phase
+-- a journal is complete if it closes every phase
 abbrev pub IsComplete : Lists → List Move → Type 0
 IsComplete lists journal = (after lists journal).closed ≡ phases lists
 

@@ -83,7 +83,7 @@ part_of lists published x i = if is_leaf lists x then (λ d. i) else cut_at (pub
 unfoldable pub knowledge_of : Lists → (ℕ → List Cut) → (ℕ → ℕ) → ℕ → Cut
 knowledge_of lists published learnt y d = let x = child_at_or_above lists y d in part_of lists published x (learnt x) d
 
--- the greatest number up to n under which this cut stands in the list, on the leaves of x; 0 where there is none
+-- the greatest number up to n under which this cut stands in the list, on the leaves of x; 0 if there is none
 unfoldable pub greatest_number : Lists → List Cut → ℕ → Cut → ℕ → ℕ
 greatest_number lists cuts x cut zero = 0
 greatest_number lists cuts x cut (suc n) =
@@ -91,18 +91,18 @@ greatest_number lists cuts x cut (suc n) =
     else greatest_number lists cuts x cut n
 
 -- the number that a cut contains of a node: of a device the cut's number, of a concentrator the greatest number
--- under which it published this cut, and 0 where there is none
+-- under which it published this cut, and 0 if there is none
 unfoldable pub number_of : Lists → (ℕ → List Cut) → ℕ → Cut → ℕ
 number_of lists published x cut =
     if is_leaf lists x then cut x
     else greatest_number lists (published x) x cut (length (published x))
 
--- the last index of a list of indices, 0 where it is empty
+-- the last index of a list of indices, 0 if it is empty
 unfoldable pub last_of : List ℕ → ℕ
 last_of indices = slice_index_or (0 ∷ indices) (length indices) 0
 
--- whether a clearing of this cut addresses x: a device where it is a member at the cut's number, a concentrator
--- where the cut is not all zeros on its leaves
+-- whether a clearing of this cut addresses x: a device if it is a member at the cut's number, a concentrator
+-- if the cut is not all zeros on its leaves
 unfoldable pub addresses_of : Lists → Cut → ℕ → Bool
 addresses_of lists cut x =
     if is_leaf lists x then is_member lists x (cut x)
@@ -124,7 +124,7 @@ knowledge lists s y = knowledge_of lists s.published s.learnt y
 abbrev pub number : Lists → State → ℕ → Cut → ℕ
 number lists s x cut = number_of lists s.published x cut
 
--- the index of the clearing passed to x last, 0 where there was none
+-- the index of the clearing passed to x last, 0 if there was none
 abbrev pub last_index : State → ℕ → ℕ
 last_index s x = last_of (s.passed x)
 

@@ -69,7 +69,7 @@ abbrev pub setpoints_of : PriceMessage → Option Offer → List Setpoint
 setpoints_of price None = []
 setpoints_of price (Some offer) = setpoint_of price offer ∷ []
 
--- a price gives a setpoint where its index is above the last and the offer that it names is kept; an offer of a former
+-- a price gives a setpoint if its index is above the last and the offer that it names is kept; an offer of a former
 -- membership is not
 abbrev pub setpoints_for : DeviceAgent → PriceMessage → List Setpoint
 setpoints_for agent price =

@@ -27,7 +27,7 @@ pub record Devices : Type 0 where
 abbrev pub start_devices : Pricing → Devices
 start_devices p = record { net = start_network p; agents = λ d. new_agent; setpoints = λ d. [] }
 
--- The control of device d makes its next change n: it offers its demand, or leaves, as is given for n. It cannot offer where
+-- The control of device d makes its next change n: it offers its demand, or leaves, as is given for n. It cannot offer if
 -- eight offers are unanswered.
 abbrev pub may_change : Lists → Devices → ℕ → Bool
 may_change lists devices d =
@@ -151,7 +151,7 @@ pub record SetpointsRise (devices : Devices) (d : ℕ) : Type 0 where
 abbrev pub no_setpoint : Setpoint
 no_setpoint = record { number = 0; index = 0; step = 0; power = pos 0 }
 
--- where the price that d holds is for its newest number, and d is a member, a setpoint of its index was given
+-- if the price that d holds is for its newest number, and d is a member, a setpoint of its index was given
 abbrev pub IsTold : Lists → Devices → ℕ → Type 0
 IsTold lists devices d =
     (devices.net.taken d).number ≡ (devices.agents d).number → is_member lists d (devices.agents d).number ≡ true → 0 < (devices.net.taken d).index →

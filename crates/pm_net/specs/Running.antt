@@ -24,7 +24,7 @@ after_bidding lists p net d = record net {
   bids_sent = update net.bids_sent d (net.bids_sent d ++ device_bid lists p d (net.counts d + 1) ∷ []);
 }
 
--- the parent of x takes a bid of it where the bid's number is above that of the one which it holds
+-- the parent of x takes a bid of it if the bid's number is above that of the one which it holds
 unfoldable pub is_new_bid : Lists → Network → ℕ → BidMessage → Bool
 is_new_bid lists net x bid = is_node lists x && nat_lt (net.heard x).number bid.number
 
@@ -122,7 +122,7 @@ is_overtaken lists net c = not (all_children lists c (λ x. nat_le (net.heard x)
 unfoldable pub waits : Lists → Network → ℕ → ℕ → Bool
 waits lists net c n = (n == net.last_number c) && not (is_overtaken lists net c)
 
--- a relay that has the record which a price names passes it on; one that lost the record waits where it may come back, and
+-- a relay that has the record which a price names passes it on; one that lost the record waits if it may come back, and
 -- else takes the price alone
 abbrev pub after_relay_price : Lists → Pricing → Network → ℕ → PriceMessage → Network
 after_relay_price lists p net c price =

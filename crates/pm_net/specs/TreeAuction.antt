@@ -18,7 +18,7 @@ pub record TreeDemand : Type 0 where
   pub add : ℕ → (ℕ → List ℤ) → List ℤ
 
 -- under number 0 a device asks for nothing, and power 0 lies within all limits; a sum sees the children alone, and is zeros
--- where they have zeros
+-- if they have zeros
 pub record IsTreeDemand (lists : Lists) (a : TreeDemand) : Type 0 where
   pub none : (d : ℕ) → a.demand d 0 ≡ zeros a.steps
   pub sums : (y : ℕ) (f g : ℕ → List ℤ) → ((x : ℕ) → IsNode lists x → parent lists x ≡ y → f x ≡ g x) → a.add y f ≡ a.add y g
@@ -71,7 +71,7 @@ tree_pricing lists a = record {
 
 -- ---- limits that never bind
 
--- limits, where there are some, between which each demand of the sum lies that y has of its children, over any cut
+-- limits, if there are some, between which each demand of the sum lies that y has of its children, over any cut
 abbrev pub NeverBindAt : Pricing → ℕ → Option Limits → Type 0
 NeverBindAt p y None = Unit {0}
 NeverBindAt p y (Some limits) = AreLimits limits × ((cut : Cut) → NeverBind limits (p.add y (λ x. p.offer x cut)))

@@ -10,7 +10,7 @@ use Rattle.pm_net.specs.Pricing.{Pricing}
 
 -- ---- numberings
 
--- the place of each node at its parent, from 0; and the node in a place of a parent, 0 where there is none
+-- the place of each node at its parent, from 0; and the node in a place of a parent, 0 if there is none
 pub record Numbering : Type 0 where
   pub place : ℕ → ℕ
   pub child : ℕ → ℕ → ℕ

@@ -16,7 +16,7 @@ use Rattle.pm_plan.specs.States.{state}
 use Rattle.pm_offer.specs.LocalSteps.{IsLocalStep, GoesBy}
 use Rattle.pm_offer.specs.Powers.{total_watts, announced_power, KeepsLimits}
 
--- the line of a member, where the cluster clears at step k: its node is a device that is a member, its number is that of the
+-- the line of a member, if the cluster clears at step k: its node is a device that is a member, its number is that of the
 -- device's last change, and its power is what the bid of that number, of the device's kind in its state then, demands at
 -- the step that the device goes by
 pub record TellsMember (plan : PlanData) (cut : Cut) (k : ℕ) (line : MemberLine) : Type 0 where
@@ -52,6 +52,6 @@ pub record TellsEnd (plan : PlanData) (cut : Cut) (end : EndData) : Type 0 where
   pub limited : All (TellsLimited plan cut end.step end.members) end.limited
   -- the powers told of no limited group, and what the limited concentrators announce, add up to the total told
   pub balance : end.total ≡ told_power plan end.members 0 +ℤ announced_power plan cut end.step
-  -- the powers told of a limited group keep its limits together, where the group's sum keeps them at some step of the basis
+  -- the powers told of a limited group keep its limits together, if the group's sum keeps them at some step of the basis
   pub within : (g : ℕ) (limits : Limits) (step : ℕ) → limits_of (node plan g) ≡ Some limits → step < plan.basis.steps →
       KeepsLimits limits (demand_at (sum_in plan (state plan) cut g) step) → KeepsLimits limits (told_power plan end.members g)

@@ -1,4 +1,4 @@
--- The step by which a node goes, said without computing it: the clearing step, or where limits ask for another one the
+-- The step by which a node goes, said without computing it: the clearing step, or if limits ask for another one the
 -- nearest step at which the group's sum keeps them.
 use Rattle.std.specs.Prelude.{ℕ, ◌≤◌, ℤ, ◌<ℤ◌, List, Option, Some, None}
 use Rattle.pm_base.specs.Cuts.{Cut}
@@ -10,20 +10,20 @@ use Rattle.pm_plan.specs.Auction.{sum_in, total}
 use Rattle.pm_plan.specs.States.{state}
 use Rattle.pm_offer.specs.Powers.{KeepsLimits}
 
--- the step of a group with this sum, where the whole cluster clears at step k
+-- the step of a group with this sum, if the whole cluster clears at step k
 pub data IsLocalStep (sum : List ℤ) (k : ℕ) : Option Limits → ℕ → Type 0 where
   -- a group without limits goes by the clearing step
   unlimited : IsLocalStep sum k None k
   -- so does one whose sum keeps its limits there
   kept : (limits : Limits) → KeepsLimits limits (demand_at sum k) → IsLocalStep sum k (Some limits) k
-  -- where the sum is above the ceiling: the first step, from k on, at which it is at most the ceiling; the last one if there is none
+  -- if the sum is above the ceiling: the first step, from k on, at which it is at most the ceiling; the last one if there is none
   above : (limits : Limits) (step : ℕ) → limits.ceiling <ℤ demand_at sum k → k ≤ step → IsFirstAtMost limits.ceiling sum step →
       IsLocalStep sum k (Some limits) step
-  -- where it is below the floor: the last step, up to k, at which it is at least the floor; step 0 if there is none
+  -- if it is below the floor: the last step, up to k, at which it is at least the floor; step 0 if there is none
   below : (limits : Limits) (step : ℕ) → demand_at sum k <ℤ limits.floor → step ≤ k → IsLastAtLeast limits.floor sum step →
       IsLocalStep sum k (Some limits) step
 
--- the step of a node is that of its group, where the whole cluster clears at step k over a cut
+-- the step of a node is that of its group, if the whole cluster clears at step k over a cut
 abbrev pub GoesBy : PlanData → Cut → ℕ → ℕ → ℕ → Type 0
 GoesBy plan cut k x step = IsLocalStep (sum_in plan (state plan) cut (group plan x)) k (limits_of (node plan (group plan x))) step
 

@@ -10,7 +10,7 @@ use Rattle.pm_plan.specs.Auction.{demand_in_cut, announcement, local_step_in}
 use Rattle.pm_plan.specs.States.{state}
 use Rattle.pm_plan.specs.Market.{plan_lists}
 
--- the demand of a device after its first n changes; zeros where it is no member then
+-- the demand of a device after its first n changes; zeros if it is no member then
 abbrev pub device_demand : PlanData → ℕ → ℕ → List ℤ
 device_demand plan d n = demand_in_cut plan (state plan) (λ node. n) d
 
@@ -18,7 +18,7 @@ device_demand plan d n = demand_in_cut plan (state plan) (λ node. n) d
 abbrev pub is_limited_at : PlanData → ℕ → ℕ → Bool
 is_limited_at plan x g = is_limited plan g && is_below (plan_lists plan) x g
 
--- what a device adds itself: its demand, where it is a leaf of x and no limited concentrator that is x or stands below x
+-- what a device adds itself: its demand, if it is a leaf of x and no limited concentrator that is x or stands below x
 -- stands above it; else zeros
 unfoldable pub own_part : PlanData → ℕ → Cut → ℕ → List ℤ
 own_part plan x cut d =

@@ -20,16 +20,16 @@ abbrev pub node_bid : PlanData → NodeData → ℤ → List ℤ
 node_bid plan (Device planned) state = bid_of planned.kind state plan.arrays plan.basis.steps
 node_bid plan _ state = zeros plan.basis.steps
 
--- the demand of a device in a cut: its bid where it is a member, else zeros
+-- the demand of a device in a cut: its bid if it is a member, else zeros
 unfoldable pub demand_in_cut : PlanData → States → Cut → ℕ → List ℤ
 demand_in_cut plan states cut d =
     if is_member plan d (cut d) then node_bid plan (node plan d) (states d (cut d)) else zeros plan.basis.steps
 
--- what a device adds to a group: its demand where it belongs to the group
+-- what a device adds to a group: its demand if it belongs to the group
 unfoldable pub part_in : PlanData → States → Cut → ℕ → ℕ → List ℤ
 part_in plan states cut g d = if group plan d == g then demand_in_cut plan states cut d else zeros plan.basis.steps
 
--- the sum of a group: of the devices below the limited concentrator g, and of those below none where g is 0
+-- the sum of a group: of the devices below the limited concentrator g, and of those below none if g is 0
 unfoldable pub sum_in : PlanData → States → Cut → ℕ → List ℤ
 sum_in plan states cut g = sum_of plan.basis.steps (map (part_in plan states cut g) (node_numbers plan))
 
@@ -45,11 +45,11 @@ announcement plan states cut g = within_limits (limits_of (node plan g)) (sum_in
 unfoldable pub total : PlanData → States → Cut → List ℤ
 total plan states cut = sum_of plan.basis.steps (sum_in plan states cut 0 ∷ map (announcement plan states cut) (limited_nodes plan))
 
--- the step of the plain auction: the first at which the total is not positive, and the last where it always is
+-- the step of the plain auction: the first at which the total is not positive, and the last if it always is
 unfoldable pub plain_step : PlanData → States → Cut → ℕ
 plain_step plan states cut = clearing_step (total plan states cut)
 
--- the step of a group, where k is the step of the whole
+-- the step of a group, if k is the step of the whole
 unfoldable pub local_step_of_group : PlanData → States → Cut → ℕ → ℕ → ℕ
 local_step_of_group plan states cut k g = local_step (limits_of (node plan g)) k (sum_in plan states cut g)
 
@@ -57,7 +57,7 @@ local_step_of_group plan states cut k g = local_step (limits_of (node plan g)) k
 unfoldable pub local_step_in : PlanData → States → Cut → ℕ → ℕ
 local_step_in plan states cut x = local_step_of_group plan states cut (plain_step plan states cut) (group plan x)
 
--- the power of a device in watts: its demand at the step of its group, so 0 where it is no member
+-- the power of a device in watts: its demand at the step of its group, so 0 if it is no member
 unfoldable pub power : PlanData → States → Cut → ℕ → ℤ
 power plan states cut d = demand_at (demand_in_cut plan states cut d) (local_step_in plan states cut d)
 

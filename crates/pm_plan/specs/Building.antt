@@ -39,7 +39,7 @@ item_of_bid (bid_faults.WrongLength have) = have
 item_of_bid (bid_faults.Rising at) = at
 item_of_bid (bid_faults.TooLarge at) = at
 
--- the item of a refusal: 0 where there are no points, their number where there are too many, else the first at fault
+-- the item of a refusal: 0 if there are no points, their number if there are too many, else the first at fault
 abbrev pub item_of_points : PointFault → ℕ
 item_of_points point_faults.NoPoints = 0
 item_of_points (point_faults.TooMany have) = have

@@ -45,7 +45,7 @@ changes_of (Device planned_change) = planned_change.changes
 changes_of _ = []
 
 -- the nodes stand in the order of the tree's entries, so they are 1, 2, ..; the arrays are the bids of the manual
--- devices, each by its number from 0; a phase has minutes where it is a tick, and none where it has events
+-- devices, each by its number from 0; a phase has minutes if it is a tick, and none if it has events
 pub record PlanData : Type 0 where
   pub basis : BasisValue
   pub entries : List Entry
@@ -75,14 +75,14 @@ is_leaf plan x = is_leaf_at plan.entries x
 abbrev pub is_limited : PlanData → ℕ → Bool
 is_limited plan x = is_some (limits_of (node plan x))
 
--- the limited concentrator above a node, at most so many levels up; 0 where there is none
+-- the limited concentrator above a node, at most so many levels up; 0 if there is none
 unfoldable pub group_in : PlanData → ℕ → ℕ → ℕ
 group_in plan zero x = 0
 group_in plan (suc levels) x =
     if is_limited plan (parent plan x) then parent plan x
     else group_in plan levels (parent plan x)
 
--- the limited concentrator above a node, 0 where there is none: the group that a device belongs to. Parents have
+-- the limited concentrator above a node, 0 if there is none: the group that a device belongs to. Parents have
 -- smaller numbers, so a node has no more nodes above it than its number
 unfoldable pub group : PlanData → ℕ → ℕ
 group plan x = group_in plan x x
@@ -92,14 +92,14 @@ abbrev pub unless_zero : ℕ → Option ℕ
 unless_zero zero = None
 unless_zero (suc x) = Some (suc x)
 
--- the same, none where there is none
+-- the same, none if there is none
 abbrev pub group_above : PlanData → ℕ → Option ℕ
 group_above plan x = unless_zero (group plan x)
 
 abbrev pub phases : PlanData → ℕ
 phases plan = length plan.minutes
 
--- the minutes of a phase, counted from 1; none where it has events
+-- the minutes of a phase, counted from 1; none if it has events
 abbrev pub minutes_of : PlanData → ℕ → Option ℤ
 minutes_of plan p = slice_index_or plan.minutes (p - 1) None
 
@@ -139,7 +139,7 @@ is_member plan d n = is_member_after (take n (changes_of (node plan d)))
 abbrev pub planned_change_at : List Change → ℕ → Option Planned
 planned_change_at changes place = option_map (λ change. change.what) (slice_get changes place)
 
--- change number n of a device, counted from 1; none where the number is 0 or above the device's changes
+-- change number n of a device, counted from 1; none if the number is 0 or above the device's changes
 abbrev pub planned_change : PlanData → ℕ → ℕ → Option Planned
 planned_change plan d zero = None
 planned_change plan d (suc place) = planned_change_at (changes_of (node plan d)) place

@@ -15,17 +15,17 @@ refuse cause place = Err (record { code = cause_code cause; place = place; item 
 abbrev pub refuse_item : {A : Type 0} → Cause → Place → ℕ → Result A Refusal
 refuse_item cause place item = Err (record { code = cause_code cause; place = place; item = Some item })
 
--- the value, where there is one
+-- the value, if there is one
 abbrev pub need : {A : Type 0} → Cause → Place → Option A → Result A Refusal
 need cause place None = refuse cause place
 need cause place (Some x) = Ok x
 
--- nothing, where the test holds
+-- nothing, if the test holds
 abbrev pub check : Cause → Place → Bool → Result ⊤ Refusal
 check cause place true = Ok tt
 check cause place false = refuse cause place
 
--- the refusal of a fault; none where an allocation failed
+-- the refusal of a fault; none if an allocation failed
 abbrev pub refusal_in : PlanFault → Option Refusal
 refusal_in faults.NoMemory = None
 refusal_in (faults.Refused refusal) = Some refusal

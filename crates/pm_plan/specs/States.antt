@@ -15,14 +15,14 @@ use Rattle.pm_base.specs.Cuts.{Cut}
 
 -- ---- what they are
 
--- the state after one change, where the device had this power before: a join and a leave keep it, a tick moves it
+-- the state after one change, if the device had this power before: a join and a leave keep it, a tick moves it
 abbrev pub changed_state : Kind → ℤ → ℤ → Planned → ℤ
 changed_state kind state power Join = state
 changed_state kind state power Leave = state
 changed_state kind state power (Set value) = value.0
 changed_state kind state power (Tick minutes) = tick kind state power minutes
 
--- the power of a device before the changes of phase p, where the devices have these states: that of the plain auction
+-- the power of a device before the changes of phase p, if the devices have these states: that of the plain auction
 -- at the end of the phase before
 abbrev pub power_before : PlanData → States → ℕ → ℕ → ℤ
 power_before plan states p d = power plan states (end_cut plan (p - 1)) d
@@ -40,11 +40,11 @@ pub record FollowChanges (plan : PlanData) (states : States) : Type 0 where
 -- phase p needs the powers at the end of phase p - 1, and these need the states up to there; so the powers at the ends
 -- of the phases are found one after another, each phase's as a row of the powers of all nodes, the auctioneer's first.
 
--- the power of node d at the end of phase p by these rows, the first of which is of phase 0; 0 where there is none
+-- the power of node d at the end of phase p by these rows, the first of which is of phase 0; 0 if there is none
 abbrev pub power_in_rows : List (List ℤ) → ℕ → ℕ → ℤ
 power_in_rows rows p d = slice_index_or (slice_index_or rows p []) d (pos 0)
 
--- the state of a device after these changes, where its power at the end of each phase is known
+-- the state of a device after these changes, if its power at the end of each phase is known
 abbrev pub state_after : DeviceData → (ℕ → ℤ) → List Change → ℤ
 state_after planned powers changes =
     fold (λ state change. changed_state planned.kind state (powers (change.phase - 1)) change.what) planned.start changes

@@ -8,7 +8,7 @@ use Rattle.pm_points.specs.Points.{Point, max_points, demand_of_point, price_of_
 use Rattle.pm_points.specs.declared.fault.PointFault.{PointFault}
 use Rattle.pm_points.specs.declared.fault.PointFault.TheVariants.{NoPoints, TooMany, PriceFalls, Rising, TooLarge, PriceOutside}
 
--- the first point that meets the test together with the one before it; the number of points where
+-- the first point that meets the test together with the one before it; the number of points if
 -- there is none, of a list that is not empty
 abbrev pub first_after : (Point → Point → Bool) → List Point → ℕ
 first_after test points = 1 + position_or_len (λ met. met) (zip2 test points (drop 1 points))
@@ -29,7 +29,7 @@ first_price_fall points = first_after price_falls points
 abbrev pub first_rise : List Point → ℕ
 first_rise points = first_after demand_rises points
 
--- the first point whose demand is outside the limit of one demand; their number where there is none
+-- the first point whose demand is outside the limit of one demand; their number if there is none
 abbrev pub first_large_demand : List Point → ℕ
 first_large_demand points = position_or_len (λ point. is_too_large (demand_of_point point)) points
 
@@ -37,7 +37,7 @@ first_large_demand points = position_or_len (λ point. is_too_large (demand_of_p
 abbrev pub is_outside : BasisValue → ℤ → Bool
 is_outside basis price = int_lt price basis.min || int_lt basis.max price
 
--- the first point whose price is outside the basis; their number where there is none
+-- the first point whose price is outside the basis; their number if there is none
 abbrev pub first_outside : BasisValue → List Point → ℕ
 first_outside basis points = position_or_len (λ point. is_outside basis (price_of_point point)) points
 

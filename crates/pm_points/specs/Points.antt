@@ -35,7 +35,7 @@ pub record IsPointBid (points : List Point) : Type 0 where
   pub prices_within : (k : ℕ) → k < length points → IsWithin price_limit (price_of_point (point_at points k))
   pub demands_within : (k : ℕ) → k < length points → IsWithin demand_limit (demand_of_point (point_at points k))
 
--- the place of the last point whose price is at most this price, where there is one
+-- the place of the last point whose price is at most this price, if there is one
 abbrev pub last_at_most : List Point → ℤ → Option ℕ
 last_at_most [] price = None
 last_at_most (point ∷ later) price =
@@ -52,7 +52,7 @@ abbrev pub demand_between : Point → Point → ℤ → ℤ
 demand_between from to price = demand_of_point from +ℤ int_div_euclid
     ((demand_of_point to -ℤ demand_of_point from) *ℤ (price -ℤ price_of_point from)) (price_of_point to -ℤ price_of_point from)
 
--- the demand at a price, given the place of the last point whose price is at most it: that of the first point where
+-- the demand at a price, given the place of the last point whose price is at most it: that of the first point if
 -- there is none, that of the last point from there on, and else the one between that point and the next
 abbrev pub demand_from : List Point → ℤ → Option ℕ → ℤ
 demand_from points price None = demand_of_point (point_at points 0)

@@ -14,11 +14,11 @@ place_text (Phase number) = codes "phase " ++ decimal number
 place_text (Event phase number) = codes "event " ++ (decimal phase ++ (codes " " ++ decimal number))
 place_text (Line number) = codes "line " ++ decimal number
 
--- item I, where there is one
+-- item I, if there is one
 abbrev pub item_words : Option ℕ → List (List ℕ)
 item_words None = []
 item_words (Some item) = codes "item" ∷ decimal item ∷ []
 
--- refused CODE PLACE, and item I where there is one
+-- refused CODE PLACE, and item I if there is one
 abbrev pub refusal_line : Refusal → List ℕ
 refusal_line refusal = text_line (codes "refused" ∷ decimal refusal.code ∷ place_text refusal.place ∷ item_words refusal.item)

@@ -25,7 +25,7 @@ pub record IsLineOf (plan : PlanData) (line : Line) : Type 0 where
   pub nodes : NamesNodes plan line.what
   pub step : IfSome line.held (λ held. held.0 < plan.basis.steps)
 
--- price X bid N, where X is the price of the step that is held; none where nothing is held
+-- price X bid N, where X is the price of the step that is held; none if nothing is held
 abbrev pub held_words : BasisValue → Option (ℕ × ℕ) → List (List ℕ)
 held_words basis None = codes "none" ∷ []
 held_words basis (Some held) = codes "price" ∷ signed_decimal (price_at basis held.0) ∷ codes "bid" ∷ decimal held.1 ∷ []

@@ -11,12 +11,12 @@ use Rattle.pm_scene.specs.declared.forms.EventForm.TheVariants as events
 use Rattle.pm_scene.specs.declared.forms.ValueForm.{ValueForm}
 use Rattle.pm_scene.specs.declared.forms.ValueForm.TheVariants as values
 
--- the form of the first of these members that is there; the form `missing` where none is
+-- the form of the first of these members that is there; the form `missing` if none is
 abbrev pub form_in : {F : Type 0} → F → List (List ℕ × F) → Data → F
 form_in missing [] d = missing
 form_in missing (form ∷ rest) d = if has_member form.0 d then form.1 else form_in missing rest d
 
--- where none of the members is there, the form is the first one, so that its member is missing
+-- if none of the members is there, the form is the first one, so that its member is missing
 abbrev pub start_form : Data → StartForm
 start_form d = form_in starts.Demand ((codes "demand", starts.Demand) ∷ (codes "points", starts.Points) ∷ []) d
 

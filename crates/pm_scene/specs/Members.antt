@@ -42,7 +42,7 @@ has_form Object d = is_some (as_object d)
 has_form Wholes d = is_some (as_array d) && list_all is_whole (elements d)
 has_form Pairs d = is_some (as_array d) && list_all is_pair (elements d)
 
--- whether a member has the form; yes where it is not there
+-- whether a member has the form; yes if it is not there
 abbrev pub fits : Form → Option Data → Bool
 fits form None = true
 fits form (Some d) = has_form form d

@@ -5,7 +5,7 @@ use Rattle.serde_json.specs.Data.{Data, Items, no_items, item}
 use Rattle.serde_json.specs.Find.{get, as_number, as_i64, as_str, as_array}
 use Rattle.serde_json.specs.Read.{read}
 
--- the value of the bytes: none where they are not UTF-8, or are no JSON text that nests at most 127 deep
+-- the value of the bytes: none if they are not UTF-8, or are no JSON text that nests at most 127 deep
 abbrev pub json_value : List ℕ → Option Data
 json_value bytes = if is_utf8 bytes then read bytes else None
 
@@ -17,7 +17,7 @@ abbrev pub data_list : Items → List Data
 data_list no_items = []
 data_list (item d ds) = d ∷ data_list ds
 
--- the elements of an array, none where it is no array
+-- the elements of an array, none if it is no array
 abbrev pub elements : Data → List Data
 elements d = unwrap_or (option_map data_list (as_array d)) []
 
@@ -25,7 +25,7 @@ elements d = unwrap_or (option_map data_list (as_array d)) []
 abbrev pub has_member : List ℕ → Data → Bool
 has_member name d = is_some (get name d)
 
--- a member as a whole number, as a text and as a list; 0 and nothing where there is none
+-- a member as a whole number, as a text and as a list; 0 and nothing if there is none
 abbrev pub whole_at : List ℕ → Data → ℤ
 whole_at name d = unwrap_or (option_and_then whole (get name d)) (pos 0)
 
@@ -35,7 +35,7 @@ text_at name d = unwrap_or (option_and_then as_str (get name d)) []
 abbrev pub elements_at : List ℕ → Data → List Data
 elements_at name d = unwrap_or (option_map elements (get name d)) []
 
--- whole numbers, and pairs of them; 0 where there is none
+-- whole numbers, and pairs of them; 0 if there is none
 abbrev pub whole_or_zero : Data → ℤ
 whole_or_zero d = unwrap_or (whole d) (pos 0)
 

@@ -5,7 +5,7 @@ use Rattle.pm_bid.specs.Bids.{zeros}
 use Rattle.pm_session.specs.declared.price.PriceUpdate.{PriceUpdate}
 use Rattle.pm_session.specs.Ways.{Way, Waits, Offered, Taken, IsWay, new_way}
 
--- a bid on its way up: gone where the child is no member, with all zeros then
+-- a bid on its way up: gone if the child is no member, with all zeros then
 pub record UpBid : Type 0 where
   pub number : ℕ
   pub gone : Bool
@@ -43,7 +43,7 @@ pub record BidOffered (old new : Session) (bid : UpBid) : Type 0 where
   pub down : new.down ≡ old.down
   pub steps : new.steps ≡ old.steps
 
--- a bid was taken, all zeros where it is gone; the way down stays as it was
+-- a bid was taken, all zeros if it is gone; the way down stays as it was
 pub record BidTaken (old new : Session) (bid : UpBid) : Type 0 where
   pub up : Taken bid_number old.up new.up bid
   pub zeros_where_gone : bid.gone ≡ true → bid.demand ≡ zeros old.steps

@@ -8,7 +8,7 @@ pub record Seat : Type 0 where
   pub joined : Option ℕ
   pub given : Option PriceUpdate
 
--- a device holds the price given last exactly where it is joined, and the number that the price
+-- a device holds the price given last exactly if it is joined, and the number that the price
 -- names is at least that of the last join: the price of a former session is dropped
 abbrev pub held_by : Seat → Option Held
 held_by seat = held_in seat.joined seat.given

@@ -9,7 +9,7 @@ use Rattle.pm_session.specs.Links.{Session, new_session, PriceOffered}
 abbrev pub head_at : List BidHead → ℕ → BidHead
 head_at heads child = slice_index_or heads child nothing_sent
 
--- the price for a child: the step, the number of its head, and the index; none where the head is gone
+-- the price for a child: the step, the number of its head, and the index; none if the head is gone
 abbrev pub price_to : List BidHead → ℕ → ℕ → ℕ → Option PriceUpdate
 price_to heads step index child =
     if (head_at heads child).gone then None else Some (record { step = step; number = (head_at heads child).number; index = index })

@@ -29,7 +29,7 @@ pub record Taken {Message : Type 0} (number : Message → ℕ) (old new : Way Me
   pub taken : new.taken ≡ number message
   pub newest : number message ≡ old.offered
 
--- what holds of each way: nothing waits exactly where the message offered last was taken or none
+-- what holds of each way: nothing waits exactly if the message offered last was taken or none
 -- was offered; else the one that waits is the one offered last
 pub record IsWay {Message : Type 0} (number : Message → ℕ) (way : Way Message) : Type 0 where
   pub order : way.taken ≤ way.offered

@@ -4,17 +4,17 @@ use Rattle.pm_base.specs.Limits.{AreSteps, window_size}
 use Rattle.pm_bid.specs.declared.head.BidHead.{BidHead}
 use Rattle.pm_bid.specs.Heads.{nothing_sent}
 
--- what went into a number: the heads of the children, and their sum where the window keeps sums
+-- what went into a number: the heads of the children, and their sum if the window keeps sums
 pub record Sent : Type 0 where
   pub number : ℕ
   pub heads : List BidHead
   pub sum : Option (List ℤ)
 
--- the record that stands where none is kept
+-- the record if none is kept
 abbrev pub no_record : Sent
 no_record = record { number = 0; heads = []; sum = None }
 
--- a window for so many children, and for sums of so many steps where it keeps sums. The records are
+-- a window for so many children, and for sums of so many steps if it keeps sums. The records are
 -- those from the number answered last to the newest number, in order; number 0 is the opening, when
 -- nothing was sent
 pub record WindowValue : Type 0 where
@@ -65,7 +65,7 @@ abbrev pub steps_of : Option (List ℤ) → Option ℕ
 steps_of None = None
 steps_of (Some sum) = Some (length sum)
 
--- a record has as many children as the window, and a sum exactly where the window keeps sums
+-- a record has as many children as the window, and a sum exactly if the window keeps sums
 pub record Fits (window : WindowValue) (sent : Sent) : Type 0 where
   pub children : length sent.heads ≡ window.children
   pub steps : steps_of sent.sum ≡ window.steps
@@ -86,7 +86,7 @@ pub record IsNewWindow (children' : ℕ) (steps' : Option ℕ) (window : WindowV
   pub last : window.last ≡ 0
   pub opening : (newest_record window).heads ≡ replicate children' nothing_sent
 
--- a number of steps of a basis, where there is one
+-- a number of steps of a basis, if there is one
 abbrev pub HasSteps : Option ℕ → Type 0
 HasSteps None = Unit {0}
 HasSteps (Some steps) = AreSteps steps

@@ -13,7 +13,7 @@ use Rattle.pm_offer.specs.Offers.{local_step_at}
 use Rattle.pm_stands.specs.Core.{Core}
 use Rattle.pm_stands.specs.Stands.{MakesMove}
 
--- the node moves of a node: it learns from its children, publishes, clears where it is the auctioneer, and takes the
+-- the node moves of a node: it learns from its children, publishes, clears if it is the auctioneer, and takes the
 -- price that is passed to it
 abbrev pub IsMoveOf : Lists → ℕ → Move → Type 0
 IsMoveOf lists x (Learn child number) = parent lists child ≡ x

@@ -33,7 +33,7 @@ pub record Core : Type 0 where
 abbrev pub child_at : PlanData → ℕ → ℕ → ℕ
 child_at plan y k = slice_index_or (children_of plan.entries y) k 0
 
--- the limits of a node, where it is a limited concentrator
+-- the limits of a node, if it is a limited concentrator
 abbrev pub limits_at : PlanData → ℕ → Option Limits
 limits_at plan y = limits_of (node plan y)
 

@@ -1,4 +1,4 @@
--- The price that a device holds, and that everyone holds the newest one where nothing is pending.
+-- The price that a device holds, and that everyone holds the newest one if nothing is pending.
 use Rattle.std.specs.Prelude.{◌≡◌, ℕ, ℤ, pos, true, if◌then◌else◌, List, Option, Some, None}
 use Rattle.pm_bid.specs.Bids.{demand_at}
 use Rattle.pm_bid.specs.Limited.{local_step}

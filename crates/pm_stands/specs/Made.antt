@@ -19,7 +19,7 @@ use Rattle.pm_stands.specs.Core.{Core, row_at, link_at, gathered_at, concentrato
 use Rattle.pm_stands.specs.Rows.{OneLink, OneRow, OneConcentrator, EntryLearnt}
 use Rattle.pm_laws.specs.Gone.{is_gone}
 
--- the demand of a bid, none where it is gone
+-- the demand of a bid, none if it is gone
 abbrev pub bid_demand : Bool → List ℤ → Option (List ℤ)
 bid_demand gone demand = if gone then None else Some demand
 

@@ -69,7 +69,7 @@ pub record StandsFor (plan : PlanData) (c : Core) (s : State) : Type 0 where
   pub price_taken : (x : ℕ) → IsNode (plan_lists plan) x → (uplink_of plan c x).down.taken ≡ last_index s x
   pub prices : (x : ℕ) → IsNode (plan_lists plan) x → (price : PriceUpdate) → Waits (uplink_of plan c x).down price → PriceAgrees plan s x price
   -- the window of a concentrator: the numbers from the one answered last to the newest; of each record the children's
-  -- numbers, and the sum where there are limits; and the newest record's numbers, at first those of the opening
+  -- numbers, and the sum if there are limits; and the newest record's numbers, at first those of the opening
   pub window_last : (y : ℕ) → IsConcentrator (plan_lists plan) y → (concentrator_of c y).window.last ≡ newest_number_of (plan_lists plan) s y
   pub window_answered : (y : ℕ) → IsConcentrator (plan_lists plan) y →
       (concentrator_of c y).window.answered ≡ number (plan_lists plan) s y (cleared_cut s (last_index s y))

@@ -5,7 +5,7 @@ use Rattle.pm_device.specs.declared.kind.Kind.{Kind}
 use Rattle.pm_device.specs.declared.kind.Kind.TheVariants.{Freezer, HeatPump, Cogeneration, Battery, Solar, Load, Objective, Manual}
 use Rattle.pm_strategy.specs.Steps.{by_step, share, share_up, up_to, from_on}
 
--- a freezer's demand in watts at a step: always where it is too warm, never where it is cold enough, and between
+-- a freezer's demand in watts at a step: always if it is too warm, never if it is cold enough, and between
 -- these up to a step that is higher the warmer it is
 abbrev pub freezer_demand : ℤ → ℤ → ℤ → ℤ → ℕ → ℕ → ℤ
 freezer_demand low high power temperature last step =
@@ -13,7 +13,7 @@ freezer_demand low high power temperature last step =
     else (if int_le temperature low then pos 0
     else up_to power (share (temperature -ℤ low) (high -ℤ low) last) step)
 
--- a heat pump's demand: always where the room is too cold, never where it is warm enough, and between these up to a
+-- a heat pump's demand: always if the room is too cold, never if it is warm enough, and between these up to a
 -- step that is higher the colder it is
 abbrev pub heat_pump_demand : ℤ → ℤ → ℤ → ℤ → ℕ → ℕ → ℤ
 heat_pump_demand low high power temperature last step =
@@ -21,7 +21,7 @@ heat_pump_demand low high power temperature last step =
     else (if int_le high temperature then pos 0
     else up_to power (share (high -ℤ temperature) (high -ℤ low) last) step)
 
--- a cogeneration unit's demand, which is negative where it delivers: always where the buffer is too cold, never where
+-- a cogeneration unit's demand, which is negative if it delivers: always if the buffer is too cold, never if
 -- it is hot enough, and between these from a step on that is lower the colder it is
 abbrev pub cogeneration_demand : ℤ → ℤ → ℤ → ℤ → ℕ → ℕ → ℤ
 cogeneration_demand low high power temperature last step =
@@ -54,12 +54,12 @@ strategy_demand Load power last step = power
 strategy_demand Objective target last step = neg_ℤ target
 strategy_demand Manual number last step = pos 0
 
--- the array of a number, counted from 0, and zeros where no array has the number
+-- the array of a number, counted from 0, and zeros if no array has the number
 abbrev pub numbered_array : List (List ℤ) → ℤ → ℕ → List ℤ
 numbered_array arrays (pos number) steps = slice_index_or arrays number (zeros steps)
 numbered_array arrays (negsuc number) steps = zeros steps
 
--- the bid of a kind in a state: its array where it is manual, else its demand at each step
+-- the bid of a kind in a state: its array if it is manual, else its demand at each step
 unfoldable pub bid_of : Kind → ℤ → List (List ℤ) → ℕ → List ℤ
 bid_of Manual number arrays steps = numbered_array arrays number steps
 bid_of kind state arrays steps = by_step steps (strategy_demand kind state (steps - 1))

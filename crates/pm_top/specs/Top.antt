@@ -44,7 +44,7 @@ pub record IsRead (command : Option Command) (asked : FileCommand) (old new : Op
   pub at_end : IsAtEnd new
   pub short : length input ≤ input_limit asked
 
--- a status is due with a text where its cause stands
+-- a status is due with a text if its cause holds
 pub data IsDue (command : Option Command) (old new : Option (List ℕ)) : Status → List ℕ → Type 0 where
   usage : IsNoCommand command → IsDue command old new Usage usage_line
   too_long : (asked : FileCommand) → IsTooLong command asked old new → IsDue command old new TooLong (too_long_line asked)

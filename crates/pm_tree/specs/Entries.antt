@@ -40,7 +40,7 @@ name_of entries node = slice_index_or (names_of entries) node []
 unfoldable pub node_named : List Entry → List ℕ → Option ℕ
 node_named entries name = position (bytes_eq name) (names_of entries)
 
--- the number of the node with the name, and 0 where no node has it
+-- the number of the node with the name, and 0 if no node has it
 abbrev pub number_named : List Entry → List ℕ → ℕ
 number_named entries name = unwrap_or (node_named entries name) 0
 

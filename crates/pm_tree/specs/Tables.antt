@@ -58,7 +58,7 @@ pub record AreLists (count : ℕ) (list_at : ℕ → List ℕ) (lists : List (Li
   pub count_is : length lists ≡ count
   pub list_is : (node : ℕ) → node < count → slice_index_or lists node [] ≡ list_at node
 
--- what the list of a node gets where a leaf is added to the list of each node on the path from one node up
+-- what the list of a node gets if a leaf is added to the list of each node on the path from one node up
 abbrev pub added_on_path : List ℕ → ℕ → ℕ → ℕ → List ℕ
 added_on_path parents leaf from node = if is_on_path parents from node then leaf ∷ [] else []
 
