@@ -208,7 +208,8 @@ def long_sentences() -> Iterator[str]:
     for what, paths in (("the README and docs/", read_first()), ("the doc comments of crates/", sources())):
         mean, _ = mean_of(paths)
         if mean > MEAN_LIMIT:
-            yield f"the mean sentence of {what} has {mean:.1f} words, above {MEAN_LIMIT:.0f}: checks/run pages long 25 lists what to split"
+            limit = f"above {MEAN_LIMIT:.0f}: checks/run pages long 25 lists what to split"
+            yield f"the mean sentence of {what} has {mean:.1f} words, {limit}"
 
 
 def long_readme() -> Iterator[str]:

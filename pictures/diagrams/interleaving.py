@@ -55,8 +55,8 @@ def drawn(both: list[str]) -> Iterator[str]:
     if report_of(both[1]) != report or journals[0] == journals[1]:
         raise ValueError("two_orders.trace has not two orders of one report")
     yield text(24, 30, "Two interleavings, one report", bold=True, size=15)
-    yield text(24, 50, "examples/balance.json, run twice: each thread makes its node's moves, one at a time under one lock", size=12,
-               colour=GREY)
+    told = "examples/balance.json, run twice: each thread makes its node's moves, one at a time under one lock"
+    yield text(24, 50, told, size=12, colour=GREY)
     for at, moves in enumerate(journals):
         yield from run(24 + 425 * at, f"Run {at + 1}", moves)
     y = TOP_OF_ROWS + ROW * max(map(len, journals)) + 6

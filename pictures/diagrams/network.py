@@ -7,7 +7,7 @@ from collections.abc import Iterator
 from dataclasses import dataclass
 
 from network_run import Network
-from strokes import DOWN, GREY, INK, LIGHT, UP, arrow, box, card, cross, dot, line, text
+from strokes import DOWN, GREY, INK, LIGHT, UP, arrow, box, card, cross, line, text
 
 WIDE, FIRST, ROW = 860, 128, 33
 # The middle of each machine's line, and where the journal begins.
@@ -37,71 +37,91 @@ class Note:
     words: str
 
 
-def told_run() -> tuple[list[Message], list[Note], list[tuple[float, list[str]]]]:
-    """The run: its messages, its notes, and the moves of the journal by rows."""
-    net, messages, notes, journal = Network(), [], [], []
+class Story:
+    """The run as it is told: what was sent, what is noted beside the lines, and the moves of the journal, each by its row."""
 
-    def moves(row: float, made: list[str]) -> None:
-        if made:
-            journal.append((row, made))
+    def __init__(self) -> None:
+        self.net = Network()
+        self.messages: list[Message] = []
+        self.notes: list[Note] = []
+        self.moves: list[tuple[float, list[str]]] = []
 
-    def send(sender: str, receiver: str, words: str, sent: float, comes: float | None, fate: str) -> None:
-        messages.append(Message(sender, receiver, words, sent, comes, fate))
+    def tell(self, row: float, moves: list[str]) -> None:
+        """Notes the moves of the journal that an event stands for."""
+        if moves:
+            self.moves.append((row, moves))
 
-    def device_bids(row: float, comes: float, *, fate: str = "taken") -> int:
-        number, made = net.bid()
-        send("d", "c", f"bid {number}", row, comes, fate)
-        moves(row, made)
+    def device_bids(self, row: float, comes: float, fate: str = "taken") -> int:
+        """The device makes its next bid."""
+        number, moves = self.net.bid()
+        self.messages.append(Message("d", "c", f"bid {number}", row, comes, fate))
+        self.tell(row, moves)
         return number
 
-    def relay_sends(row: float, comes: float | None, fate: str = "taken") -> int:
-        number, made = net.relay_sends()
-        send("c", "auctioneer", f"bid {number}", row, comes, fate)
-        moves(row, made)
+    def relay_sends(self, row: float, comes: float | None, fate: str = "taken") -> int:
+        """The relay sends what it holds."""
+        number, moves = self.net.relay_sends()
+        self.messages.append(Message("c", "auctioneer", f"bid {number}", row, comes, fate))
+        self.tell(row, moves)
         return number
 
-    def must(right: bool) -> None:
-        if not right:
-            raise ValueError("the run does not go as the diagram tells it")
+    def price_comes_down(self, row: float) -> None:
+        """The auctioneer clears, the relay passes the price on, and the device takes it."""
+        price, moves = self.net.clear()
+        self.tell(row, moves)
+        self.messages.append(Message("auctioneer", "c", f"price {price.index}, for your {price.number}", row, row + 0.7))
+        below, moves = self.net.relay_passes(price)
+        if below is None:
+            raise ValueError("the relay does not pass the price on")
+        self.tell(row + 1, moves)
+        self.messages.append(Message("c", "d", f"price {below.index}, for your {below.number}", row + 1, row + 1.7))
+        self.tell(row + 1.8, self.net.device_takes(below))
 
-    # The relay's first bid is lost, and its second one comes twice.
-    must(net.relay_takes(device_bids(0, 0.7)))
-    relay_sends(1, None, "lost")
-    must(net.relay_takes(device_bids(1.7, 2.4)))
-    second = relay_sends(2.7, 3.4)
-    must(net.auctioneer_takes(second))
-    price, made = net.clear()
-    moves(4.2, made)
-    send("auctioneer", "c", f"price {price.index}, for your {price.number}", 4.2, 4.9, "taken")
-    send("c", "auctioneer", f"bid {second} again", 3.7, 5.2, "dropped")
-    must(not net.auctioneer_takes(second))
-    below, made = net.relay_passes(price)
-    moves(5.2, made)
-    must(below is not None)
-    send("c", "d", f"price {below.index}, for your {below.number}", 5.2, 5.9, "taken")
-    moves(6.0, net.device_takes(below))
-    # The relay restarts. Then the device's next bid overtakes the one before.
-    net.restart_relay()
-    notes.append(Note("c", 6.4, f"restarts: it stored its bid {second}"))
-    late = device_bids(6.8, 9.5, fate="dropped")
-    must(net.relay_takes(device_bids(7.8, 8.5)))
-    third = relay_sends(8.8, 9.5)
-    must(not net.relay_takes(late))
-    must(net.auctioneer_takes(third))
-    price, made = net.clear()
-    moves(10.2, made)
-    send("auctioneer", "c", f"price {price.index}, for your {price.number}", 10.2, 10.9, "taken")
-    below, made = net.relay_passes(price)
-    moves(11.2, made)
-    must(below is not None)
-    send("c", "d", f"price {below.index}, for your {below.number}", 11.2, 11.9, "taken")
-    moves(12.0, net.device_takes(below))
-    return messages, notes, journal
+
+def require(right: bool) -> None:
+    """Refuses a run that does not go as the diagram tells it."""
+    if not right:
+        raise ValueError("the run does not go as the diagram tells it")
+
+
+def before_the_restart(story: Story) -> int:
+    """The relay's first bid is lost, and its second one comes twice. Gives the number of the second."""
+    net = story.net
+    require(net.relay_takes(story.device_bids(0, 0.7)))
+    story.relay_sends(1, None, "lost")
+    require(net.relay_takes(story.device_bids(1.7, 2.4)))
+    second = story.relay_sends(2.7, 3.4)
+    require(net.auctioneer_takes(second))
+    story.price_comes_down(4.2)
+    story.messages.append(Message("c", "auctioneer", f"bid {second} again", 3.7, 5.2, "dropped"))
+    require(not net.auctioneer_takes(second))
+    return second
+
+
+def after_the_restart(story: Story) -> None:
+    """A bid of the device overtakes the one before."""
+    net = story.net
+    late = story.device_bids(6.8, 9.5, "dropped")
+    require(net.relay_takes(story.device_bids(7.8, 8.5)))
+    third = story.relay_sends(8.8, 9.5)
+    require(not net.relay_takes(late))
+    require(net.auctioneer_takes(third))
+    story.price_comes_down(10.2)
+
+
+def told() -> Story:
+    """The whole run."""
+    story = Story()
+    second = before_the_restart(story)
+    story.net.restart_relay()
+    story.notes.append(Note("c", 6.4, f"restarts: it stored its bid {second}"))
+    after_the_restart(story)
+    return story
 
 
 def journal() -> list[str]:
     """The moves of the market that the run stands for."""
-    return [it for _, made in told_run()[2] for it in made]
+    return [it for _, moves in told().moves for it in moves]
 
 
 def drawn_message(it: Message) -> Iterator[str]:
@@ -122,36 +142,45 @@ def drawn_message(it: Message) -> Iterator[str]:
     yield arrow(x1, y1, x2 - side * (12 if dropped else 2), y2, colour=colour, dashed=dropped)
     if dropped:
         yield cross(x2 - side * 6, y2, colour=colour)
-        yield text(x2 - side * 16, y2 + 15, "dropped: it is no newer", size=11, colour=colour, anchor="end" if side > 0 else "start")
+        anchor = "end" if side > 0 else "start"
+        yield text(x2 - side * 16, y2 + 15, "dropped: it is no newer", size=11, colour=colour, anchor=anchor)
     yield text(x1 + side * 14, y1 - 4, it.words, size=11, colour=colour, bold=True, anchor="start" if side > 0 else "end")
 
 
-def drawn() -> Iterator[str]:
-    """The parts of the diagram, and last how high it is."""
-    messages, notes, made = told_run()
-    bottom = FIRST + ROW * 12.4
-    yield text(24, 30, "Messages are lost, repeated and late, and a relay restarts: the run stays legal", bold=True, size=15)
-    yield text(24, 50, "each machine drops what is not newer, and a price finds its bid by the numbers", size=12, colour=GREY)
+def machines(bottom: float) -> Iterator[str]:
+    """The machines with their lines, and what is between them."""
     for name, x in LINES.items():
         yield box(x - 62, 66, 124, 34, fill=LIGHT)
         yield text(x, 88, MACHINES[name], anchor="middle", bold=True)
         yield line(x, 100, x, bottom, wide=2)
     for left, right in (("d", "c"), ("c", "auctioneer")):
         yield text((LINES[left] + LINES[right]) / 2, 88, "network", anchor="middle", size=11, colour=GREY)
+
+
+def drawn_note(note: Note) -> Iterator[str]:
+    """A mark on a machine's line, with its words."""
+    y = FIRST + ROW * note.row
+    yield box(LINES[note.machine] - 10, y - 9, 20, 18, fill=INK)
+    yield text(LINES[note.machine] + 16, y + 4, note.words, size=11, bold=True)
+
+
+def drawn(story: Story, bottom: float) -> Iterator[str]:
+    """The parts of the diagram."""
+    yield text(24, 30, "Messages are lost, repeated and late, and a relay restarts: the run stays legal", bold=True, size=15)
+    yield text(24, 50, "each machine drops what is not newer, and a price finds its bid by the numbers", size=12, colour=GREY)
+    yield from machines(bottom)
     yield text(JOURNAL, 88, "the market's journal", bold=True)
-    for it in messages:
-        yield from drawn_message(it)
-    for it in notes:
-        y = FIRST + ROW * it.row
-        yield box(LINES[it.machine] - 10, y - 9, 20, 18, fill=INK)
-        yield text(LINES[it.machine] + 16, y + 4, it.words, size=11, bold=True)
-    for row, lines in made:
-        for at, it in enumerate(lines):
-            yield text(JOURNAL, FIRST + ROW * row + 4 + 14 * (at - (len(lines) - 1) / 2), it, size=12, code=True)
-    yield str(round(bottom + 16))
+    for message in story.messages:
+        yield from drawn_message(message)
+    for note in story.notes:
+        yield from drawn_note(note)
+    for row, moves in story.moves:
+        for at, move in enumerate(moves):
+            yield text(JOURNAL, FIRST + ROW * row + 4 + 14 * (at - (len(moves) - 1) / 2), move, size=12, code=True)
 
 
 def picture() -> str:
     """The diagram."""
-    *parts, high = drawn()
-    return card(WIDE, int(high), "A run of a network on three machines, with the journal that it stands for", parts)
+    bottom = FIRST + ROW * 12.4
+    parts = drawn(told(), bottom)
+    return card(WIDE, round(bottom + 16), "A run of a network on three machines, with the journal that it stands for", parts)

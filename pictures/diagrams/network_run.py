@@ -88,7 +88,8 @@ class Network:
 
     def relay_passes(self, price: Price) -> tuple[Price | None, list[str]]:
         """The relay takes a price and passes it on by its record of the number. The market passes the skipped ones before."""
-        require(price.index <= len(self.clearings) and self.clearings[price.index - 1] == price.number, "a price that was never sent")
+        was_sent = price.index <= len(self.clearings) and self.clearings[price.index - 1] == price.number
+        require(was_sent, "a price that was never sent")
         if price.index <= self.relay_index:
             return None, []
         moves = [f"pass c {it}" for it in range(self.passed + 1, price.index + 1)]
@@ -104,6 +105,6 @@ class Network:
         return [f"pass d {price.index}"]
 
     def restart_relay(self) -> None:
-        """The relay comes back with what it stored: its last number with the number of the device in it, and its newest price."""
+        """The relay comes back with what it stored: its last number, the number of the device in it, and its newest price."""
         self.heard = 0
         self.records = {}

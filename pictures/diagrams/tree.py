@@ -1,9 +1,10 @@
-"""A tree in which bids go up and a price comes down: examples/street.json at the end of its third phase, by a trace of it.
+"""A tree in which bids go up and a price comes down: examples/street.json at the end of its third phase.
 
 The numbers of the bids and of the clearing are those of the trace street.trace. The demands are those of pictures/auction.py."""
 
 import json
 from collections.abc import Iterator
+from typing import Any
 
 from auction import bid_of, ends_of, prices_of, state_of
 from journals import HERE, TOP, last_of, moves_of, until_close
@@ -17,7 +18,7 @@ PLACES = {"auctioneer": (564, 96), "street": (426, 262), "supplier": (717, 262),
           "battery": (703, 440)}
 
 
-def bids_at(file: dict, phase: int) -> dict[str, list[int]]:
+def bids_at(file: dict[str, Any], phase: int) -> dict[str, list[int]]:
     """The demands of each device's bid at the end of a phase, by the states that the events before gave it. No device here
     changes its state by a tick except the battery, which neither takes nor delivers before."""
     prices, states = prices_of(file), {}
@@ -84,8 +85,8 @@ def drawn() -> Iterator[str]:
     number = {name: last_of(moves, "pass", name, clearing)[6] for name in bids if name != "street"}
     number["street"] = last_of(moves, "publish", "street")[2]
     yield text(24, 30, "A bid goes up, a price comes down, and each price names the bid that it answers", bold=True, size=15)
-    yield text(24, 50, f"examples/street.json at the end of phase {PHASE}, at night: each bid has a demand in watts at each of {len(prices)} prices", size=12,
-               colour=GREY)
+    told = f"examples/street.json at the end of phase {PHASE}, at night: a bid has a demand in watts at each of {len(prices)} prices"
+    yield text(24, 50, told, size=12, colour=GREY)
     middle, top = PLACES["auctioneer"]
     yield text(middle - BOX_WIDE / 2 - 14, top + 46, "total in watts", anchor="end", size=12)
     yield text(middle - BOX_WIDE / 2 - 14, top - 10, "price", anchor="end", size=12)
