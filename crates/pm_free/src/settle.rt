@@ -1,38 +1,50 @@
 //! Runs a whole plan over links without a lock, beside the board whose report is printed.
 
-ghost use Rattle.std.specs.Prelude.{◌≡◌, IfOk};
+ghost use Rattle.std.specs.Prelude.{◌≡◌, All, IfOk, IfSome};
 ghost use Rattle.pm_plan.specs.Plans.{phases};
 ghost use Rattle.pm_board.specs.Boards.{kept_ends, ends_to};
 ghost use Rattle.pm_nodes.specs.DeviceAgents.{AreAgents};
 ghost use Rattle.pm_turns.specs.Settled.{IsSettled};
+ghost use Rattle.pm_phase.specs.Logs.{IsLogOfLink};
+ghost use Rattle.pm_free.specs.Links.{AreKept};
 
 use pm_agent::DeviceAgent;
 use pm_board::Board;
+use pm_cells::LinkLog;
 use pm_device::Next;
 use pm_nodes::{Gate, OpenGate, make_agents};
-use pm_phase::{NodeWork, run_phase};
+use pm_phase::{NodePart, PhaseRun, run_phase};
 use pm_plan::{PhaseEnd, Plan};
+use pm_session::Held;
 use pm_tree::NodeId;
 use pm_turns::{change, finish, first_next, make_move, turn_of};
 use std::alloc::{AllocError, Global};
 use std::sync::Wait;
 use std::thread::Threads;
 
-/// A run over links: the board that the caller drove beside it, and what each node came to hold over the links.
+/// A run over links: the board that the caller drove beside it, and what each phase came to over the links.
 #[derive(Drop)]
 pub struct FreeRun<'p> {
     /// All its phases are closed.
     pub board: Board<'p>,
-    /// By the numbers of the nodes: the step and the number of the bid of the price that a device holds; none of the other
-    /// nodes. No clause ties it to the board: it came from threads.
-    pub held: Vec<Option<(u32, u32)>>,
+    /// From the first phase to the last.
+    pub phases: Vec<FreePhase>,
 }
 
-/// Runs a plan over links without a lock, with a thread for each node and phase, and tells the gate of each turn.
+/// What a phase over links came to. No clause ties it to the board.
+#[derive(Drop)]
+pub struct FreePhase {
+    /// By the numbers of the nodes: the price that a device holds at the end of the phase; none of the other nodes.
+    pub held: Vec<Option<Held>>,
+    /// By the numbers of the nodes below the links, from 1: what was put and taken. A phase without changes has no links.
+    pub links: Vec<Option<LinkLog>>,
+}
+
+/// Runs a plan over links without a lock, with threads for the nodes of each phase, and tells the gate of each turn.
 ///
 /// The answer is the ends of all phases, from the first to the last, each that of the plain auction over the changes of the
 /// phases up to it; it is an error only for want of memory. The ends are those of a board that the caller drives through the
-/// same phases: what comes back from a thread is known by its type alone, and no clause ties the ends to the messages.
+/// same phases: no clause says how often a thread takes a turn, so none ties the ends to the messages.
 pub fn settle_free<R: Threads + Wait + Sync, G: Gate>(
     rt: &R,
     alloc: Global,
@@ -41,12 +53,14 @@ pub fn settle_free<R: Threads + Wait + Sync, G: Gate>(
 ) -> Result<Vec<PhaseEnd>, AllocError>
     ensures ends { IfOk result (λ ends. kept_ends ends.items ≡ ends_to plan.now (phases plan.now)) }
 {
-    let (board, _works) = run_phases(rt, alloc, plan, gate)?;
+    let mut phases = None;
+    let board = run_phases(rt, alloc, plan, gate, &mut phases)?;
     let (_journal, ends) = board.into_parts();
     Ok(ends)
 }
 
-/// As [`settle_free`], and shows what the messages came to beside the board.
+/// As [`settle_free`], and shows what the messages of each phase came to beside the board. On each link the numbers that were
+/// taken rise, and each was put.
 pub fn run_free<'p, R: Threads + Wait + Sync, G: Gate>(
     rt: &R,
     alloc: Global,
@@ -55,49 +69,56 @@ pub fn run_free<'p, R: Threads + Wait + Sync, G: Gate>(
 ) -> Result<FreeRun<'p>, AllocError>
     ensures plan { IfOk result (λ run. run.board.plan ≡ plan.now) }
     ensures settled { IfOk result (λ run. IsSettled run.board) }
+    ensures logs { IfOk result (λ run. AreKept run.phases.items) }
 {
-    let (board, works) = run_phases(rt, alloc, plan, gate)?;
-    let held = held_by(alloc, works.as_slice())?;
-    Ok(FreeRun { board, held })
+    let mut phases = Some(Vec::new(alloc));
+    let board = run_phases(rt, alloc, plan, gate, &mut phases)?;
+    let phases = phases.unwrap_or(Vec::new(alloc));
+    Ok(FreeRun { board, phases })
 }
 
-/// What each node came to hold over the links.
-fn held_by(alloc: Global, works: &[NodeWork]) -> Result<Vec<Option<(u32, u32)>>, AllocError> {
-    let mut held = Vec::with_capacity(alloc, works.len())?;
-    for work in works {
-        held.push(work.held())?;
+/// What each node holds at the end of a phase.
+fn held_by(alloc: Global, parts: &[NodePart]) -> Result<Vec<Option<Held>>, AllocError> {
+    let mut held = Vec::with_capacity(alloc, parts.len())?;
+    for part in parts {
+        held.push(part.held())?;
     }
     Ok(held)
 }
 
-/// The caller's board after all phases, and what the nodes own then.
+/// The caller's board after all phases. What each phase came to is kept if it is asked for.
 fn run_phases<'p, R: Threads + Wait + Sync, G: Gate>(
     rt: &R,
     alloc: Global,
     plan: &'p Plan,
     gate: &G,
-) -> Result<(Board<'p>, Vec<NodeWork>), AllocError>
-    ensures plan { IfOk result (λ run. run.0.plan ≡ plan.now) }
-    ensures settled { IfOk result (λ run. IsSettled run.0) }
+    phases: &mut Option<Vec<FreePhase>>,
+) -> Result<Board<'p>, AllocError>
+    requires kept { IfSome phases.old (λ kept. AreKept kept.items) }
+    ensures plan { IfOk result (λ board. board.plan ≡ plan.now) }
+    ensures settled { IfOk result IsSettled }
+    ensures kept { IfSome phases.new (λ kept. AreKept kept.items) }
 {
     let mut board = Board::open(alloc, plan)?;
-    let works = make_phases(rt, alloc, gate, &mut board)?;
-    Ok((board, works))
+    make_phases(rt, alloc, gate, &mut board, phases)?;
+    Ok(board)
 }
 
-/// Makes all phases of a new board, each on the board and over links; what the nodes own then.
+/// Makes all phases of a new board, each on the board and over links.
 fn make_phases<R: Threads + Wait + Sync, G: Gate>(
     rt: &R,
     alloc: Global,
     gate: &G,
     board: &mut Board,
-) -> Result<Vec<NodeWork>, AllocError>
+    phases: &mut Option<Vec<FreePhase>>,
+) -> Result<(), AllocError>
+    requires kept { IfSome phases.old (λ kept. AreKept kept.items) }
     ensures plan { board.new.plan ≡ board.old.plan }
     ensures settled { IfOk result (λ _. IsSettled board.new) }
+    ensures kept { IfSome phases.new (λ kept. AreKept kept.items) }
 {
-    let works = make_each_phase(rt, alloc, gate, board)?;
-    finish(alloc, board, &OpenGate)?;
-    Ok(works)
+    make_each_phase(rt, alloc, gate, board, phases)?;
+    finish(alloc, board, &OpenGate)
 }
 
 /// Makes as many phases as the plan has, with an agent for each device.
@@ -106,11 +127,14 @@ fn make_each_phase<R: Threads + Wait + Sync, G: Gate>(
     alloc: Global,
     gate: &G,
     board: &mut Board,
-) -> Result<Vec<NodeWork>, AllocError>
+    phases: &mut Option<Vec<FreePhase>>,
+) -> Result<(), AllocError>
+    requires kept { IfSome phases.old (λ kept. AreKept kept.items) }
     ensures plan { board.new.plan ≡ board.old.plan }
+    ensures kept { IfSome phases.new (λ kept. AreKept kept.items) }
 {
     let mut agents = make_agents(alloc, board.plan())?;
-    make_phases_by(rt, alloc, gate, board, agents.as_mut_slice())
+    make_phases_by(rt, alloc, gate, board, agents.as_mut_slice(), phases)
 }
 
 /// Makes as many phases as the plan has, by these agents.
@@ -120,59 +144,84 @@ fn make_phases_by<R: Threads + Wait + Sync, G: Gate>(
     gate: &G,
     board: &mut Board,
     agents: &mut [Option<DeviceAgent>],
-) -> Result<Vec<NodeWork>, AllocError>
+    phases: &mut Option<Vec<FreePhase>>,
+) -> Result<(), AllocError>
+    requires kept { IfSome phases.old (λ kept. AreKept kept.items) }
     requires agents { AreAgents board.old.plan agents.old }
     ensures plan { board.new.plan ≡ board.old.plan }
+    ensures kept { IfSome phases.new (λ kept. AreKept kept.items) }
 {
-    let mut works = make_works(alloc, board.plan())?;
+    let mut parts = make_parts(alloc, board.plan())?;
     for _ in 0..board.plan().phases() {
-        works = make_phase(rt, alloc, gate, board, agents, works)?;
+        let run = make_phase(rt, alloc, gate, board, agents, parts)?;
+        parts = run.parts;
+        keep(alloc, phases, parts.as_slice(), run.links)?;
     }
-    Ok(works)
+    Ok(())
 }
 
-/// Makes the open phase, on the board and over links; what the nodes own then.
+/// Keeps what a phase came to, if it is asked for.
+fn keep(
+    alloc: Global,
+    phases: &mut Option<Vec<FreePhase>>,
+    parts: &[NodePart],
+    links: Vec<Option<LinkLog>>,
+) -> Result<(), AllocError>
+    requires logs { All (λ log. IfSome log IsLogOfLink) links.items }
+    requires before { IfSome phases.old (λ kept. AreKept kept.items) }
+    ensures after { IfSome phases.new (λ kept. AreKept kept.items) }
+{
+    if let Some(phases) = phases {
+        let held = held_by(alloc, parts)?;
+        phases.push(FreePhase { held, links })?;
+    }
+    Ok(())
+}
+
+/// Makes the open phase, on the board and over links; what the nodes own then, and what the links did.
 fn make_phase<R: Threads + Wait + Sync, G: Gate>(
     rt: &R,
     alloc: Global,
     gate: &G,
     board: &mut Board,
     agents: &mut [Option<DeviceAgent>],
-    works: Vec<NodeWork>,
-) -> Result<Vec<NodeWork>, AllocError>
+    parts: Vec<NodePart>,
+) -> Result<PhaseRun, AllocError>
     requires agents { AreAgents board.old.plan agents.old }
     ensures plan { board.new.plan ≡ board.old.plan }
     ensures agents { AreAgents board.new.plan agents.new }
+    ensures logs { IfOk result (λ run. All (λ log. IfSome log IsLogOfLink) run.links.items) }
 {
     let plan = board.plan();
     let mut changes = no_changes(alloc, plan)?;
     let count = make_changes(board, agents, &mut changes)?;
     end_phase(board, agents);
     if count == 0 {
-        return Ok(works);
+        let links = Vec::new(alloc);
+        return Ok(PhaseRun { parts, links });
     }
-    run_phase(rt, alloc, plan, gate, works, changes.as_slice(), count)
+    run_phase(rt, alloc, plan, gate, parts, changes.as_slice(), count)
 }
 
 /// The nodes of a plan, before the first phase.
-fn make_works(alloc: Global, plan: &Plan) -> Result<Vec<NodeWork>, AllocError> {
+fn make_parts(alloc: Global, plan: &Plan) -> Result<Vec<NodePart>, AllocError> {
     let nodes = plan.tree().len();
-    let mut works = Vec::with_capacity(alloc, nodes as usize + 1)?;
+    let mut parts = Vec::with_capacity(alloc, nodes as usize + 1)?;
     for number in 0..nodes + 1 {
-        add_work(alloc, plan, number, &mut works)?;
+        add_part(alloc, plan, number, &mut parts)?;
     }
-    Ok(works)
+    Ok(parts)
 }
 
 /// Adds a node before the first phase.
-fn add_work(
+fn add_part(
     alloc: Global,
     plan: &Plan,
     number: u32,
-    works: &mut Vec<NodeWork>,
+    parts: &mut Vec<NodePart>,
 ) -> Result<(), AllocError> {
-    let work = NodeWork::new(alloc, plan, number)?;
-    Ok(works.push(work)?)
+    let part = NodePart::new(alloc, plan, number)?;
+    Ok(parts.push(part)?)
 }
 
 /// An empty list of changes for each node.

@@ -1,1 +1,9 @@
 pub mod Ends
+pub mod Waiting
+pub mod Devices
+pub mod Matchers
+pub mod Parents
+pub mod Hearing
+pub mod Nodes
+pub mod Logs
+pub mod Opening

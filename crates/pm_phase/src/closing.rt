@@ -1,11 +1,15 @@
-//! Closes the links of a phase once their ends are back, and returns what the nodes own.
+//! Closes the links of a phase once their ends are back: what each node owns, and what each link did.
 
-ghost use Rattle.std.specs.Prelude.{◌≡◌, All, IfSome};
+ghost use Rattle.std.specs.Prelude.{◌≡◌, All, IfOk, IfSome, Some, None, length};
 ghost use Rattle.pm_phase.specs.Ends.{AreOf, IsUpOf, IsDownOf, IsPlaced, ArePlaced};
+ghost use Rattle.pm_cells.specs.Ends.{LinkEnd};
+ghost use Rattle.pm_phase.specs.Logs.{IsLogOfLink};
+ghost use Rattle.pm_phase.specs.Nodes.{numbers_of_parts, numbers_of_nodes};
 
 use crate::ends::{DownEnd, UpEnd};
-use crate::node::{FreeNode, NodeWork};
-use pm_cells::{ChildEnd, FreeLink, ParentEnd, close_link};
+use crate::node::{FreeNode, NodePart};
+use crate::phase::PhaseRun;
+use pm_cells::{ChildEnd, FreeLink, LinkLog, ParentEnd, close_link};
 use std::alloc::{AllocError, Global};
 
 /// The ends of one link that came back.
@@ -15,40 +19,45 @@ pub(crate) struct Places {
     pub(crate) down: Option<ParentEnd>,
 }
 
-/// Closes the links of a phase once the nodes are back, and gives what the nodes own beside their ends, by their numbers.
+/// Closes the links of a phase once the nodes are back. The parts of the nodes stay in their order, and the logs are those of
+/// the links in theirs.
 pub(crate) fn close_links(
     alloc: Global,
     links: Vec<FreeLink>,
     places: Vec<Places>,
     nodes: Vec<FreeNode>,
-) -> Result<Vec<NodeWork>, AllocError>
+) -> Result<PhaseRun, AllocError>
     requires nodes { All (AreOf links.items) nodes.items }
     requires places { ArePlaced links.items places.items }
+    ensures parts { IfOk result (λ run.
+        numbers_of_parts run.parts.items ≡ numbers_of_nodes nodes.items) }
+    ensures each { IfOk result (λ run. length run.links.items ≡ length links.items) }
+    ensures logs { IfOk result (λ run. All (λ log. IfSome log IsLogOfLink) run.links.items) }
 {
     let mut places = places;
-    let mut works = Vec::with_capacity(alloc, nodes.len())?;
+    let mut parts = Vec::with_capacity(alloc, nodes.len())?;
     for node in nodes {
-        works.push(take_ends(&links, &mut places, node))?;
+        parts.push(take_ends(&links, &mut places, node))?;
     }
-    close_all(links, places);
-    works.sort_by_key(|work: &NodeWork| work.number)?;
-    Ok(works)
+    let links = close_all(alloc, links, places)?;
+    Ok(PhaseRun { parts, links })
 }
 
 /// Puts the ends of a node into their places.
-fn take_ends(links: &[FreeLink], places: &mut Vec<Places>, node: FreeNode) -> NodeWork
+fn take_ends(links: &[FreeLink], places: &mut Vec<Places>, node: FreeNode) -> NodePart
     requires node { AreOf links.now node }
     requires places { ArePlaced links.now places.old.items }
+    ensures part { result ≡ node.part }
     ensures places { ArePlaced links.now places.new.items }
 {
-    let FreeNode { work, up, downs } = node;
+    let FreeNode { part, up, downs } = node;
     if let Some(up) = up {
         put_up(links, places, up);
     }
     for down in downs {
         put_down(links, places, down);
     }
-    work
+    part
 }
 
 /// Puts an end that came back into its place.
@@ -71,25 +80,38 @@ fn put_down(links: &[FreeLink], places: &mut Vec<Places>, down: DownEnd)
     places[at].down = Some(end);
 }
 
-/// Closes each link whose two ends came back.
-fn close_all(links: Vec<FreeLink>, places: Vec<Places>)
+/// Closes each link whose two ends came back, and gives the logs of the links in their order.
+fn close_all(
+    alloc: Global,
+    links: Vec<FreeLink>,
+    places: Vec<Places>,
+) -> Result<Vec<Option<LinkLog>>, AllocError>
     requires { ArePlaced links.items places.items }
+    ensures each { IfOk result (λ logs. length logs.items ≡ length links.items) }
+    ensures logs { IfOk result (λ logs. All (λ log. IfSome log IsLogOfLink) logs.items) }
 {
     let mut links = links;
     let mut places = places;
+    let mut logs = Vec::with_capacity(alloc, links.len())?;
     while let Some(link) = links.pop() {
         let Some(ends) = places.pop() else {
             unreachable!()
         };
-        close_one(link, ends);
+        logs.push(close_one(link, ends))?;
     }
+    logs.reverse();
+    Ok(logs)
 }
 
-/// Closes a link, where its two ends came back.
-fn close_one(link: FreeLink, ends: Places)
+/// Closes a link, if its two ends came back.
+fn close_one(link: FreeLink, ends: Places) -> Option<LinkLog>
     requires { IsPlaced link ends }
+    ensures log { IfSome result IsLogOfLink }
+    ensures both { (child : LinkEnd) (parent : LinkEnd) → ends.up ≡ Some child →
+        ends.down ≡ Some parent → result ≡ None → ⊥ }
 {
-    if let (Some(child), Some(parent)) = (ends.up, ends.down) {
-        drop(close_link(link, child, parent));
+    match (ends.up, ends.down) {
+        (Some(child), Some(parent)) => Some(close_link(link, child, parent)),
+        _ => None,
     }
 }

@@ -2,11 +2,13 @@
 
 ghost use Rattle.std.specs.Prelude.{◌≡◌};
 ghost use Rattle.pm_phase.specs.Ends.{IsUpOf, IsDownOf};
+ghost use Rattle.pm_phase.specs.Waiting.{PutsBid, PutsPrice, TakesBid, TakesPrice};
 
 use pm_cells::{
-    Busy, ChildEnd, FreeLink, ParentEnd, PriceUpdate, PutBidFault, PutPriceFault, UpMessage,
-    put_bid, put_price, take_bid, take_price,
+    Busy, ChildEnd, FreeLink, ParentEnd, PutBidFault, PutPriceFault, UpMessage, put_bid, put_price,
+    take_bid, take_price,
 };
+use pm_session::PriceUpdate;
 
 /// A node's end of the link to its parent, and where that link stands among the links.
 #[derive(Drop)]
@@ -22,15 +24,17 @@ pub(crate) struct DownEnd {
     pub(crate) end: ParentEnd,
 }
 
-/// Puts the bid that waits, where there is one; whether it was put. A bid that is handed back waits on, and one that the end
-/// may not put is dropped.
+/// Puts the bid that waits, if there is one; whether it was put. A bid that is handed back waits on, and one that the end may
+/// not put is dropped.
 pub(crate) fn put_waiting_bid(
     links: &[FreeLink],
     up: &mut UpEnd,
     waiting: &mut Option<UpMessage>,
 ) -> bool
     requires { IsUpOf links.now up.old }
-    ensures { IsUpOf links.now up.new }
+    ensures link { IsUpOf links.now up.new }
+    ensures place { up.new.at ≡ up.old.at }
+    ensures put { PutsBid up.old.end up.new.end waiting.old waiting.new result }
 {
     let Some(bid) = waiting.take() else {
         return false;
@@ -47,10 +51,12 @@ pub(crate) fn put_waiting_bid(
     }
 }
 
-/// Takes a price from the parent, where the end may and one waits there.
+/// Takes a price from the parent, if the end may and one waits there.
 pub(crate) fn take_price_from_parent(links: &[FreeLink], up: &mut UpEnd) -> Option<PriceUpdate>
     requires { IsUpOf links.now up.old }
-    ensures { IsUpOf links.now up.new }
+    ensures link { IsUpOf links.now up.new }
+    ensures place { up.new.at ≡ up.old.at }
+    ensures taken { TakesPrice up.old.end up.new.end result }
 {
     if up.end.takes().len() >= up.end.room() {
         return None;
@@ -61,10 +67,12 @@ pub(crate) fn take_price_from_parent(links: &[FreeLink], up: &mut UpEnd) -> Opti
     }
 }
 
-/// Takes a bid from a child, where the end may and one waits there.
+/// Takes a bid from a child, if the end may and one waits there.
 pub(crate) fn take_bid_from_child(links: &[FreeLink], down: &mut DownEnd) -> Option<UpMessage>
     requires { IsDownOf links.now down.old }
-    ensures { IsDownOf links.now down.new }
+    ensures link { IsDownOf links.now down.new }
+    ensures place { down.new.at ≡ down.old.at }
+    ensures taken { TakesBid down.old.end down.new.end result }
 {
     if down.end.takes().len() >= down.end.room() {
         return None;
@@ -75,15 +83,17 @@ pub(crate) fn take_bid_from_child(links: &[FreeLink], down: &mut DownEnd) -> Opt
     }
 }
 
-/// Puts the price that waits for a child, where there is one; whether it was put. A price that is handed back waits on, and
-/// one that the end may not put is dropped.
+/// Puts the price that waits for a child, if there is one; whether it was put. A price that is handed back waits on, and one
+/// that the end may not put is dropped.
 pub(crate) fn put_waiting_price(
     links: &[FreeLink],
     down: &mut DownEnd,
     waiting: &mut Option<PriceUpdate>,
 ) -> bool
     requires { IsDownOf links.now down.old }
-    ensures { IsDownOf links.now down.new }
+    ensures link { IsDownOf links.now down.new }
+    ensures place { down.new.at ≡ down.old.at }
+    ensures put { PutsPrice down.old.end down.new.end waiting.old waiting.new result }
 {
     let Some(price) = waiting.take() else {
         return false;

@@ -1,21 +1,27 @@
-//! A phase of a market over links without a lock: a thread for each node, each with its own part of the market.
+//! A phase of a market over links without a lock, made by threads, each with some of the nodes.
 //!
-//! [`run_phase`] hands each node's part, a [`NodeWork`], to a thread of the node, with the node's ends of the links of
-//! `pm_cells`; nothing that a message passes has a lock. A thread offers its node's bid, learns its children's, and passes
-//! prices on. At the end of the phase the threads are joined, what they left is taken to its end, the links are closed, and
-//! the parts come back for the next phase. What comes back from a thread is known by its type alone, so no clause says which
-//! messages were sent.
+//! [`run_phase`] opens a link of `pm_cells` above each node, hands each node its ends, and lets threads make the turns of the
+//! nodes. A turn is made of calls on the node's part: a device makes a change, puts its bid, and holds the price that came; a node
+//! with children learns their bids, makes its bid or clears, and passes prices on. The contracts of these calls say what a part
+//! keeps and what it hands out, so no message is lost between a link and a node. How often turns come, and in which order, no
+//! clause says. At the end of the phase what the threads left is taken to its end, the links are closed, and the parts come back
+//! for the next phase, with the log of each link.
+//!
+//! Each cell has a lock that is tried and never waited for: an end that is stopped within a call keeps the other end `Busy`. So no
+//! progress is claimed.
 #![tactic(auto)]
 
 mod closing;
 mod device;
 mod ends;
+mod hearing;
+mod matcher;
 mod node;
 mod opening;
 mod parent;
-mod parts;
 mod phase;
 mod threads;
+mod turns;
 
-pub use node::NodeWork;
-pub use phase::run_phase;
+pub use node::NodePart;
+pub use phase::{PhaseRun, run_phase};

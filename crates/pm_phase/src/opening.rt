@@ -1,13 +1,15 @@
 //! Opens the links of a phase, and hands their ends to the nodes.
 
-ghost use Rattle.std.specs.Prelude.{◌≡◌, All, IfOk, [], ◌∷◌, ◌++◌};
+ghost use Rattle.std.specs.Prelude.{◌≡◌, All, IfOk, [], ◌∷◌, ◌++◌, length};
 ghost use Rattle.pm_cells.specs.Ends.{TableId};
 ghost use Rattle.pm_phase.specs.Ends.{AreOf, IsUpOf, IsDownOf, ArePlaced};
+ghost use Rattle.pm_phase.specs.Nodes.{numbers_of_parts, numbers_of_nodes};
+ghost use Rattle.pm_phase.specs.Opening.{PutsAgain};
 
 use crate::closing::Places;
 use crate::ends::{DownEnd, UpEnd, put_waiting_bid, take_bid_from_child};
-use crate::node::{FreeNode, NodeWork};
-use pm_cells::{FreeLink, open_link};
+use crate::node::{FreeNode, NodePart};
+use pm_cells::{FreeLink, UpMessage, open_link};
 use pm_plan::Plan;
 use pm_tree::NodeId;
 use std::alloc::{AllocError, Global};
@@ -20,13 +22,16 @@ use std::alloc::{AllocError, Global};
 pub(crate) fn open_links(
     alloc: Global,
     plan: &Plan,
-    works: Vec<NodeWork>,
+    parts: Vec<NodePart>,
     room: usize,
 ) -> Result<(Vec<FreeLink>, Vec<Places>, Vec<FreeNode>), AllocError>
     ensures nodes { IfOk result (λ opened. All (AreOf opened.0.items) opened.2.items) }
     ensures places { IfOk result (λ opened. ArePlaced opened.0.items opened.1.items) }
+    ensures numbers { IfOk result (λ opened.
+        numbers_of_nodes opened.2.items ≡ numbers_of_parts parts.items) }
+    ensures each { IfOk result (λ opened. length opened.0.items ≡ length plan.now.entries) }
 {
-    let mut nodes = without_ends(alloc, works)?;
+    let mut nodes = without_ends(alloc, parts)?;
     let mut links = Vec::with_capacity(alloc, nodes.len())?;
     let mut places = Vec::with_capacity(alloc, nodes.len())?;
     for number in 1..plan.tree().len() + 1 {
@@ -62,15 +67,17 @@ fn add_link(
 }
 
 /// The nodes before they have ends.
-fn without_ends(alloc: Global, works: Vec<NodeWork>) -> Result<Vec<FreeNode>, AllocError>
-    ensures { IfOk result (λ nodes. All (AreOf []) nodes.items) }
+fn without_ends(alloc: Global, parts: Vec<NodePart>) -> Result<Vec<FreeNode>, AllocError>
+    ensures links { IfOk result (λ nodes. All (AreOf []) nodes.items) }
+    ensures numbers { IfOk result (λ nodes.
+        numbers_of_nodes nodes.items ≡ numbers_of_parts parts.items) }
 {
-    let mut nodes = Vec::with_capacity(alloc, works.len())?;
-    for work in works {
-        let mut work = work;
-        work.begin();
+    let mut nodes = Vec::with_capacity(alloc, parts.len())?;
+    for part in parts {
+        let mut part = part;
+        part.begin();
         nodes.push(FreeNode {
-            work,
+            part,
             up: None,
             downs: Vec::new(alloc),
         })?;
@@ -91,6 +98,7 @@ fn hand_out(
     requires down { IsDownOf links.now down }
     requires nodes { All (AreOf links.now) nodes.old.items }
     ensures nodes { IfOk result (λ _. All (AreOf links.now) nodes.new.items) }
+    ensures numbers { numbers_of_nodes nodes.new.items ≡ numbers_of_nodes nodes.old.items }
 {
     let mut up = up;
     hand_down(links, nodes, above, &mut up, down)?;
@@ -111,6 +119,7 @@ fn hand_down(
     requires nodes { All (AreOf links.now) nodes.old.items }
     ensures up { IsUpOf links.now up.new }
     ensures nodes { All (AreOf links.now) nodes.new.items }
+    ensures numbers { numbers_of_nodes nodes.new.items ≡ numbers_of_nodes nodes.old.items }
 {
     if above as usize >= nodes.len() {
         return Ok(());
@@ -123,6 +132,7 @@ fn hand_up(links: &[FreeLink], nodes: &mut Vec<FreeNode>, number: u32, up: UpEnd
     requires up { IsUpOf links.now up }
     requires nodes { All (AreOf links.now) nodes.old.items }
     ensures nodes { All (AreOf links.now) nodes.new.items }
+    ensures numbers { numbers_of_nodes nodes.new.items ≡ numbers_of_nodes nodes.old.items }
 {
     if number as usize >= nodes.len() {
         return;
@@ -135,6 +145,7 @@ fn add_up(links: &[FreeLink], node: &mut FreeNode, up: UpEnd)
     requires up { IsUpOf links.now up }
     requires node { AreOf links.now node.old }
     ensures node { AreOf links.now node.new }
+    ensures part { node.new.part ≡ node.old.part }
 {
     node.up = Some(up);
 }
@@ -151,14 +162,34 @@ fn add_down(
     requires node { AreOf links.now node.old }
     ensures up { IsUpOf links.now up.new }
     ensures node { AreOf links.now node.new }
+    ensures number { node.new.part.number ≡ node.old.part.number }
 {
     let mut down = down;
     let place = node.downs.len();
-    let mut bid = node.work.take_learnt(place);
-    if put_waiting_bid(links, up, &mut bid) {
-        bid = take_bid_from_child(links, &mut down);
-    }
-    node.work.keep_learnt(place, bid);
+    let bid = node.part.take_learnt(place);
+    let bid = put_again(links, up, &mut down, bid);
+    node.part.keep_learnt(place, bid);
     node.downs.push(down)?;
     Ok(())
+}
+
+/// Puts the newest bid that a parent learnt from a child again on their new link, and takes it at once, so that a price of the
+/// phase may name it. The answer is the bid that the parent has then.
+fn put_again(
+    links: &[FreeLink],
+    up: &mut UpEnd,
+    down: &mut DownEnd,
+    bid: Option<UpMessage>,
+) -> Option<UpMessage>
+    requires up { IsUpOf links.now up.old }
+    requires down { IsDownOf links.now down.old }
+    ensures up { IsUpOf links.now up.new }
+    ensures down { IsDownOf links.now down.new }
+    ensures again { PutsAgain up.old.end up.new.end down.old.end down.new.end bid result }
+{
+    let mut bid = bid;
+    if put_waiting_bid(links, up, &mut bid) {
+        return take_bid_from_child(links, down);
+    }
+    bid
 }

@@ -1,13 +1,14 @@
 //! Runs over links without a lock.
 
-use crate::runs::{LOOKS, REJOINS, TWO_BIDS, are_right, meeting};
-use pm_board::Board;
-use pm_free::{FreeRun, run_free, settle_free};
+use crate::runs::{LOOKS, REJOINS, TWO_BIDS, are_right, holding, meeting};
+use pm_cells::LinkLog;
+use pm_free::{FreePhase, FreeRun, run_free, settle_free};
 use pm_gates::{DrawingGate, Moment};
 use pm_gen::make_plan;
 use pm_nodes::{Gate, OpenGate};
 use pm_plan::{PhaseEnd, Plan, is_device};
 use pm_scene::read_scene;
+use pm_session::Held;
 use pm_tree::NodeId;
 use std::alloc::Global;
 use std::process::Abort;
@@ -44,32 +45,160 @@ fn must_be_right<R: Abort>(
     Ok(())
 }
 
-/// Whether each device holds over the links what it holds on the board: the step, and the number of its bid. Other nodes hold
-/// nothing.
-fn hold_the_same(held: &[Option<(u32, u32)>], board: &Board) -> bool {
-    let mut number: u32 = 0;
-    let mut same = true;
-    for over_links in held {
-        same = same && *over_links == held_by(board, number);
-        number = number.saturating_add(1);
-    }
-    same && number == board.plan().tree().len().saturating_add(1)
-}
-
-/// What a device holds on the board; None if the number is that of another node.
-fn held_by(board: &Board, number: u32) -> Option<(u32, u32)> {
-    let node = NodeId(number);
-    if !is_device(board.plan(), node) {
+/// The step at which the devices below a node's limited concentrator settle at a phase's end, by the lines of the report.
+fn step_at(plan: &Plan, end: &PhaseEnd, node: u32) -> Option<u32> {
+    if node > plan.tree().len() {
         return None;
     }
-    let held = board.held(node)?;
-    Some((held.step, held.number))
+    let Some(group) = plan.group(NodeId(node)) else {
+        return Some(end.step());
+    };
+    for line in end.limited() {
+        if line.node == group.0 {
+            return Some(line.step);
+        }
+    }
+    None
 }
 
-/// Whether the messages over the links came to the prices of the board, and the ends are right.
+/// The number of a device's bid at a phase's end; none if it is no member.
+fn bid_at(end: &PhaseEnd, node: u32) -> Option<u32> {
+    for line in end.members() {
+        if line.node == node {
+            return Some(line.number);
+        }
+    }
+    None
+}
+
+/// Whether a node holds over the links what the end of the phase says: a member its step and the number of its bid, and any
+/// other node nothing.
+fn holds_the_end(plan: &Plan, end: &PhaseEnd, node: u32, held: &Option<Held>) -> bool {
+    match (bid_at(end, node), held) {
+        (Some(number), Some(held)) => {
+            held.number == number && step_at(plan, end, node) == Some(held.step)
+        }
+        (None, None) => true,
+        _ => false,
+    }
+}
+
+/// Whether all nodes do, and there are as many as the plan has.
+fn all_hold_the_end(plan: &Plan, end: &PhaseEnd, phase: &FreePhase) -> bool {
+    let mut node: u32 = 0;
+    let mut same = true;
+    for held in &phase.held {
+        same = same && holds_the_end(plan, end, node, held);
+        node = node.saturating_add(1);
+    }
+    same && node == plan.tree().len().saturating_add(1)
+}
+
+/// Whether the numbers rise, each above the one before.
+fn rise(numbers: &[u32]) -> bool {
+    let mut last = 0;
+    for number in numbers {
+        if *number <= last {
+            return false;
+        }
+        last = *number;
+    }
+    true
+}
+
+/// Whether each of these numbers is among the others.
+fn are_among(numbers: &[u32], others: &[u32]) -> bool {
+    numbers.iter().all(|number| others.contains(number))
+}
+
+/// Whether a link lost nothing that counts: the numbers put and taken rise, what was taken was put, and the newest bid and the
+/// newest price that were put were taken.
+fn is_carried_through(log: &LinkLog) -> bool {
+    let rising = rise(&log.bid_puts)
+        && rise(&log.bid_takes)
+        && rise(&log.price_puts)
+        && rise(&log.price_takes);
+    rising
+        && are_among(&log.bid_takes, &log.bid_puts)
+        && are_among(&log.price_takes, &log.price_puts)
+        && log.bid_puts.last() == log.bid_takes.last()
+        && log.price_puts.last() == log.price_takes.last()
+}
+
+/// Whether a node's link did what the phase's end says: of a member, the bid taken last is the one of the report, and a price
+/// came; of a device that is no member, no price came after it left.
+fn link_did_its_part(plan: &Plan, end: &PhaseEnd, node: u32, log: &LinkLog) -> bool {
+    if !is_carried_through(log) {
+        return false;
+    }
+    if node > plan.tree().len() || !is_device(plan, NodeId(node)) {
+        return true;
+    }
+    match bid_at(end, node) {
+        Some(number) => log.bid_takes.last() == Some(&number) && !log.price_takes.is_empty(),
+        None => true,
+    }
+}
+
+/// Whether each node of a phase with changes has such a link above it. A phase without changes has no links.
+fn links_did_their_part(plan: &Plan, end: &PhaseEnd, phase: &FreePhase) -> bool {
+    let mut node: u32 = 0;
+    for log in &phase.links {
+        node = node.saturating_add(1);
+        match log {
+            Some(log) if link_did_its_part(plan, end, node, log) => {}
+            _ => return false,
+        }
+    }
+    node == 0 || node == plan.tree().len()
+}
+
+/// How many phases of a run had links.
+fn phases_with_links(run: &FreeRun) -> usize {
+    run.phases
+        .iter()
+        .filter(|phase| !phase.links.is_empty())
+        .count()
+}
+
+/// How many changes a device makes in a phase, which counts from 1; of any other node 0.
+#[tactic(auto, using(pm_plan::proofs::MarketLists::leaf_of_plan))]
+fn changes_in(plan: &Plan, phase: u32, node: u32) -> u32 {
+    let device = NodeId(node);
+    if phase == 0 || phase > plan.phases() || !is_device(plan, device) {
+        return 0;
+    }
+    plan.changes_of(phase, device)
+}
+
+/// Whether a device changes in a phase, which counts from 1.
+fn has_changes(plan: &Plan, phase: u32) -> bool {
+    (1..plan.tree().len().saturating_add(1)).any(|node| changes_in(plan, phase, node) > 0)
+}
+
+/// How many phases of a plan have changes.
+fn phases_with_changes(plan: &Plan) -> usize {
+    (1..plan.phases().saturating_add(1))
+        .filter(|phase| has_changes(plan, *phase))
+        .count()
+}
+
+/// Whether each phase came over the links to what the board's end of the phase says, and the ends are right.
 fn is_carried(alloc: Global, plan: &Plan, run: &FreeRun) -> Result<bool, Fail> {
-    let same = hold_the_same(&run.held, &run.board);
-    Ok(same && are_right(alloc, plan, run.board.ends())?)
+    let ends = run.board.ends();
+    for (place, phase) in run.phases.iter().enumerate() {
+        let Some(end) = ends.get(place) else {
+            return Ok(false);
+        };
+        if !all_hold_the_end(plan, end, phase) || !links_did_their_part(plan, end, phase) {
+            return Ok(false);
+        }
+    }
+    Ok(
+        run.phases.len() == ends.len()
+            && phases_with_links(run) == phases_with_changes(plan)
+            && are_right(alloc, plan, ends)?,
+    )
 }
 
 fn are_carried<R: Threads + Wait + Sync, G: Gate>(
@@ -82,7 +211,8 @@ fn are_carried<R: Threads + Wait + Sync, G: Gate>(
     is_carried(alloc, plan, &run)
 }
 
-/// Whether they do so for a plan, under a gate that is open and under one that draws how long it holds a thread back.
+/// Whether they do so for a plan, under a gate that is open, under one that draws how long it holds a thread back, and under ones
+/// that hold every third node back.
 fn market_is_carried<R: Threads + Wait + Sync>(
     rt: &R,
     alloc: Global,
@@ -90,7 +220,10 @@ fn market_is_carried<R: Threads + Wait + Sync>(
 ) -> Result<bool, Fail> {
     Ok(
         are_carried(rt, alloc, plan, &OpenGate)?
-            && are_carried(rt, alloc, plan, &DrawingGate::new(1, 30))?,
+            && are_carried(rt, alloc, plan, &DrawingGate::new(1, 30))?
+            && are_carried(rt, alloc, plan, &holding(alloc, 3, 0)?)?
+            && are_carried(rt, alloc, plan, &holding(alloc, 3, 1)?)?
+            && are_carried(rt, alloc, plan, &holding(alloc, 3, 2)?)?,
     )
 }
 

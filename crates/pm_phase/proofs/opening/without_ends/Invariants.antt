@@ -1,7 +1,9 @@
--- Of `without_ends`: what its loop over `work` keeps.
-use Rattle.std.proofs.Common.{All, []}
+-- Of `without_ends`: what its loop over `part` keeps.
+use Rattle.std.proofs.Common.{◌≡◌, All, [], ◌++◌}
 use Rattle.pm_phase.specs.Ends.{AreOf}
+use Rattle.pm_phase.specs.Nodes.{numbers_of_parts, numbers_of_nodes}
 use Rattle.pm_phase.proofs.opening.without_ends.Given as goal
 
-abbrev pub invariant-loop-work : goal.invariant-loop-work
-invariant-loop-work l = All (AreOf []) l.nodes.items
+abbrev pub invariant-loop-part : goal.invariant-loop-part
+invariant-loop-part l =
+    All (AreOf []) l.nodes.items × (numbers_of_nodes l.nodes.items ++ numbers_of_parts l.part-iterator.rest.items ≡ numbers_of_parts l.fn.parts.items)

@@ -1,7 +1,8 @@
--- Of `take_to_end`: what lasts from turn to turn.
-use Rattle.std.proofs.Common.{All}
+-- Of `take_to_end`: what lasts from round to round.
+use Rattle.std.proofs.Common.{◌≡◌, All}
 use Rattle.pm_phase.specs.Ends.{AreOf}
+use Rattle.pm_phase.specs.Nodes.{numbers_of_nodes}
 use Rattle.pm_phase.proofs.phase.take_to_end.Given as goal
 
 abbrev pub invariant-loop : goal.invariant-loop
-invariant-loop g l = All (AreOf l.links) l.nodes.items
+invariant-loop g l = All (AreOf l.links) l.nodes × (numbers_of_nodes l.nodes ≡ numbers_of_nodes l.fn.nodes)

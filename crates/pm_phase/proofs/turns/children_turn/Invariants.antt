@@ -1,7 +1,7 @@
 -- Of `children_turn`: what its loop over `place` keeps.
 use Rattle.std.proofs.Common.{All, ◌-◌, length}
 use Rattle.pm_phase.specs.Ends.{IsDownOf}
-use Rattle.pm_phase.proofs.node.children_turn.Given as goal
+use Rattle.pm_phase.proofs.turns.children_turn.Given as goal
 
 abbrev pub invariant-loop-place : goal.invariant-loop-place
 invariant-loop-place l = All (IsDownOf l.links) l.downs.items
