@@ -10,14 +10,15 @@ use Rattle.pm_net.specs.Network.{Network}
 use Rattle.pm_net.specs.Running.{all_children, recorded_number, has_news, is_caught_up, is_overtaken}
 use Rattle.pm_net.specs.Agrees.{NetworkAgrees}
 
--- what a test of each child says, and when it passes
-child_from : (lists : Lists) (y : ℕ) (test : ℕ → Bool) → all_children lists y test ≡ true → (x : ℕ) →
+-- a test of each child that passes says what it tests of each of them
+pub child_from : (lists : Lists) (y : ℕ) (test : ℕ → Bool) → all_children lists y test ≡ true → (x : ℕ) →
     IsNode lists x → parent lists x ≡ y → test x ≡ true
 child_from lists y test h x node up =
     let e = all_to_at (nodes lists) (λ x. cond (eqb (parent lists x) y) (test x) true) h x node.0 node.1 in
     sym (cond-true (eqb (parent lists x) y) (test x) true (eq-eqb (parent lists x) y up)) ∙ e
 
-child_at : (lists : Lists) (y : ℕ) (test : ℕ → Bool) → ((x : ℕ) → IsNode lists x → parent lists x ≡ y → test x ≡ true) →
+-- a test of each child passes where it passes for each of them
+pub child_at : (lists : Lists) (y : ℕ) (test : ℕ → Bool) → ((x : ℕ) → IsNode lists x → parent lists x ≡ y → test x ≡ true) →
     all_children lists y test ≡ true
 child_at lists y test h = all_to_from (nodes lists) (λ x. cond (eqb (parent lists x) y) (test x) true) (λ x one le.
     elim (cases_Bool (eqb (parent lists x) y)) [

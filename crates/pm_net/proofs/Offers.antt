@@ -19,20 +19,21 @@ use Rattle.pm_net.specs.Agents.{setpoint_of, setpoints_of, setpoints_for, answer
 use Rattle.pm_net.specs.Devices.{agent_after_change, IsKeptOffer, AreFrom, IsOfferWindow, AgentIs, IsRight}
 
 -- an offer under the number after the last
-from_push : (xs : List Offer) (a : ℕ) (o : Offer) → AreFrom a xs → o.number ≡ a + length xs → AreFrom a (xs ++ o ∷ [])
+pub from_push : (xs : List Offer) (a : ℕ) (o : Offer) → AreFrom a xs → o.number ≡ a + length xs → AreFrom a (xs ++ o ∷ [])
 from_push [] a o are is = (omega (arith, is), tt)
 from_push (x ∷ xs) a o are is = (are.0, from_push xs (a + 1) o are.1 (omega (arith, is)))
 
--- letting go of the offers below m
-record Shorter (a m : ℕ) (xs ys : List Offer) : Type 0 where
-  first : ℕ
-  are : AreFrom first ys
-  to_last : first + length ys ≡ a + length xs
-  from_a : a ≤ first
-  from_m : m ≤ first
-  to : (first ≤ a) ⊎ (first ≤ m)
+-- offers without those below m
+pub record Shorter (a m : ℕ) (xs ys : List Offer) : Type 0 where
+  pub first : ℕ
+  pub are : AreFrom first ys
+  pub to_last : first + length ys ≡ a + length xs
+  pub from_a : a ≤ first
+  pub from_m : m ≤ first
+  pub to : (first ≤ a) ⊎ (first ≤ m)
 
-shorter : (m : ℕ) (xs : List Offer) (a : ℕ) → AreFrom a xs → m ≤ a + length xs → Shorter a m xs (offers_from m xs)
+-- the offers from m on are such
+pub shorter : (m : ℕ) (xs : List Offer) (a : ℕ) → AreFrom a xs → m ≤ a + length xs → Shorter a m xs (offers_from m xs)
 shorter m [] a are le = record { first = a; are = tt; to_last = refl; from_a = omega arith; from_m = omega (arith, le); to = inl (omega arith) }
 shorter m (x ∷ xs) a are le =
     let rest = shorter m xs (a + 1) are.1 (omega (arith, le)) in

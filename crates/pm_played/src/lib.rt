@@ -17,9 +17,13 @@ mod cluster;
 #[cfg(test)]
 mod concentrator;
 #[cfg(test)]
+mod control;
+#[cfg(test)]
 mod io;
 #[cfg(test)]
 mod market;
+#[cfg(test)]
+mod relay;
 #[cfg(test)]
 mod same;
 #[cfg(test)]

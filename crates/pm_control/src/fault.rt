@@ -1,0 +1,14 @@
+//! Why an offer is not taken, in the order of the tests.
+
+use thiserror::Error;
+
+/// Why an offer is not taken. The causes are tested in this order.
+#[derive(Clone, Copy, Debug, PartialEq, Eq, Error)]
+pub enum OfferFault {
+    /// Eight offers are unanswered.
+    #[error("eight offers are unanswered")]
+    WindowFull,
+    /// The last number is 4,294,967,294 or the one after it. The one after it is left for leaving.
+    #[error("no number is left")]
+    OutOfNumbers,
+}

@@ -1,0 +1,3 @@
+mod Learnt
+mod Small
+mod Gathering

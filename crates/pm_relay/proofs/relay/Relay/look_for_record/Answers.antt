@@ -1,0 +1,37 @@
+-- Of `Relay::look_for_record`: what the type keeps.
+use Rattle.std.proofs.Common.{arith}
+use Rattle.pm_concentrator.specs.Concentrators.{BidMade}
+use Rattle.pm_relay.proofs.Gathering.{parts_of, over_bid, over_answer, when_ok}
+use Rattle.pm_relay.proofs.relay.Relay.look_for_record.Goals as goal
+
+pub invariant_of-self-then-self : goal.invariant_of-self-then-self
+invariant_of-self-then-self c =
+    let made = when_ok (BidMade c.self.inside.concentrator c.next_bid.new.self) c.next_bid.result c.if-is_err.ensures.negation c.next_bid.ensures.made in
+    let right = over_answer _ _ 1 (over_bid _ _ made.0 (parts_of _ c.self.invariant) made.1 c.cache-cache.ensures.sound) c.answer.ensures.passed in
+    record {
+      children = right.children;
+      same_children = c.self.invariant.same_children;
+      limits = right.limits;
+      single = right.single;
+      announced = right.announced;
+      small = right.small;
+      numbers = omega (arith, made.1.number, made.1.sent.last, c.answer.ensures.passed.window.last);
+      answered = omega (arith, made.1.number, made.1.sent.last, c.answer.ensures.passed.window.last);
+      window = omega (arith, c.answer.ensures.passed.window.answered);
+    }
+
+pub invariant_of-self-else-self : goal.invariant_of-self-else-self
+invariant_of-self-else-self c =
+    let made = when_ok (BidMade c.self.inside.concentrator c.next_bid.new.self) c.next_bid.result c.if-is_err.ensures.negation c.next_bid.ensures.made in
+    let right = over_bid _ _ made.0 (parts_of _ c.self.invariant) made.1 c.cache-cache.ensures.sound in
+    record {
+      children = right.children;
+      same_children = c.self.invariant.same_children;
+      limits = right.limits;
+      single = right.single;
+      announced = right.announced;
+      small = right.small;
+      numbers = omega (arith, made.1.number, made.1.sent.last);
+      answered = omega (arith, made.1.number, made.1.sent.last);
+      window = omega (arith, made.1.sent.answered);
+    }

@@ -1,0 +1,43 @@
+-- Of `Relay::resumed`: what the type keeps.
+use Rattle.std.proofs.Common.{rules, ◌≡◌, ◌∙◌, sym, ap, subst, length, Some, arith}
+use Rattle.std.proofs.lemmas.Int.{ints}
+use Rattle.std.proofs.lemmas.List.{length-replicate}
+use Rattle.pm_base.specs.Limits.{demand_limit, most_nodes}
+use Rattle.pm_bid.specs.Bids.{AllWithinLimit}
+use Rattle.pm_bid.specs.Bids.{zeros}
+use Rattle.pm_bid.specs.Heads.{nothing_sent}
+use Rattle.pm_bid.proofs.Sums.{zeros-within}
+use Rattle.pm_concentrator.specs.Concentrators.{own_demand}
+use Rattle.pm_cache.specs.Cache.{Cache}
+use Rattle.pm_cache.specs.Learning.{HasSingleBids}
+use Rattle.pm_relay.specs.RelayFields.{HasRelayLimits}
+use Rattle.pm_relay.proofs.Learnt.{same_demand}
+use Rattle.pm_relay.proofs.Small.{empty_single}
+use Rattle.pm_relay.proofs.relay.Relay.resumed.Goals as goal
+
+pub invariant_of-result : goal.invariant_of-result
+invariant_of-result c =
+    let new = c.in_ok-concentrator.ensures.new in
+    let steps = c.args.steps in
+    let announced : c.in_ok-concentrator.concentrator.announced ≡ Some (zeros steps) = search (rules, new.announced) in
+    let own : own_demand c.in_ok-concentrator.concentrator ≡ zeros steps = same_demand _ _ _ announced in
+    record {
+      children = ap (λ (k : Cache). length k.heads) new.cache ∙ length-replicate most_nodes nothing_sent;
+      same_children = search rules;
+      limits = subst HasRelayLimits (sym new.limits) (record {
+        around = record {
+          floor_not_positive = omega (arith, ints);
+          ceiling_not_negative = omega (arith, ints);
+          floor_within = record { low = omega (arith, ints); high = omega (arith, ints) };
+          ceiling_within = record { low = omega (arith, ints); high = omega (arith, ints) };
+        };
+        floor = record { low = omega (arith, ints); high = omega (arith, ints) };
+        ceiling = record { low = omega (arith, ints); high = omega (arith, ints) };
+      });
+      single = subst HasSingleBids (sym new.cache) (empty_single most_nodes steps);
+      announced = announced ∙ ap Some (sym own);
+      small = subst (AllWithinLimit demand_limit) (sym own) (zeros-within demand_limit steps);
+      numbers = omega arith;
+      answered = omega arith;
+      window = omega arith;
+    }

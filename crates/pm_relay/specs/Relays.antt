@@ -1,0 +1,165 @@
+-- What a relay keeps, and what each call makes of it.
+use Rattle.std.specs.Prelude.{◌≡◌, ◌⊎◌, ℕ, ◌+◌, ◌-◌, ◌<◌, ◌≤◌, ◌^◌, ℤ, List, length, Option, Some}
+use Rattle.pm_base.specs.Limits.{AreLimits, IsWithin, demand_limit, most_nodes, window_size}
+use Rattle.pm_base.specs.declared.limits.Limits.{Limits}
+use Rattle.pm_bid.specs.Limited.{within_limits}
+use Rattle.pm_cache.specs.Cache.{aggregate_of}
+use Rattle.pm_cache.specs.Learning.{after_learning}
+use Rattle.pm_session.specs.Windows.{Sent, record_of}
+use Rattle.pm_session.specs.declared.price.PriceUpdate.{PriceUpdate}
+use Rattle.pm_concentrator.specs.Concentrators.{Gathered, published_heads, IsNewConcentrator, BidMade, Passed}
+use Rattle.pm_relay.specs.Numbers.{number_in, head_number, AreReached, AreEnough}
+use Rattle.pm_relay.specs.declared.fault.SendFault.{SendFault}
+use Rattle.pm_relay.specs.declared.fault.SendFault.TheVariants.{NotCaughtUp, NotChanged, WindowFull, OutOfNumbers}
+use Rattle.pm_relay.specs.declared.outcome.PriceOutcome.{PriceOutcome}
+use Rattle.pm_relay.specs.declared.outcome.PriceOutcome.TheVariants.{PassedOn, Alone, Waits, Dropped}
+
+-- What the concentrator in it has gathered and sent since the relay came up, under numbers of its own from 1 on, and `base`,
+-- which the relay's numbers are ahead of these by; the number answered and the index of the price that it took last; and of
+-- each child the number in its newest bid.
+pub record RelayValue : Type 0 where
+  pub gathered : Gathered
+  pub base : ℕ
+  pub answered : ℕ
+  pub index : ℕ
+  pub recorded : List ℕ
+
+-- limits so small that each sum within them fits a message
+pub record AreRelayLimits (limits : Limits) : Type 0 where
+  pub around : AreLimits limits
+  pub floor : IsWithin demand_limit limits.floor
+  pub ceiling : IsWithin demand_limit limits.ceiling
+
+-- ---- numbers
+
+-- the number of its newest bid, 0 where there is none
+abbrev pub newest_number : RelayValue → ℕ
+newest_number r = r.base + r.gathered.window.last
+
+-- the record of a number that it has: what went into that bid
+abbrev pub record_at : RelayValue → ℕ → Sent
+record_at r number = record_of r.gathered.window (number - r.base)
+
+-- it has heard of each child as much as its newest bid had
+abbrev pub IsCaughtUp : RelayValue → Type 0
+IsCaughtUp r = AreReached r.recorded r.gathered.cache.heads
+
+-- it has heard of no child more than its newest bid had
+abbrev pub HearsNothingNewer : RelayValue → Type 0
+HearsNothingNewer r = AreEnough r.recorded r.gathered.cache.heads
+
+-- something was heard that is not in the newest record, or not in the opening where there is none
+abbrev pub HasChanged : RelayValue → Type 0
+HasChanged r = r.gathered.cache.heads ≡ published_heads r.gathered → ⊥
+
+-- how many numbers lie above the one answered last
+abbrev pub unanswered_numbers : RelayValue → ℕ
+unanswered_numbers r = newest_number r - r.answered
+
+-- ---- a relay comes up
+
+-- A relay that heard nothing yet, and whose newest bid, before it restarted, had this number and these of the children. It
+-- holds a price of this index, which answers this number.
+pub record ComesBack (steps : ℕ) (limits' : Limits) (last answered' index' : ℕ) (numbers : List ℕ) (r : RelayValue) : Type 0 where
+  pub gathered : IsNewConcentrator most_nodes steps (Some limits') r.gathered
+  pub base : r.base ≡ last
+  pub answered : r.answered ≡ answered'
+  pub index : r.index ≡ index'
+  pub recorded : r.recorded ≡ numbers
+
+-- ---- a child's bid
+
+-- the relay with the child's newer bid, before it looks for its record
+abbrev pub with_child_bid : RelayValue → ℕ → ℕ → Option (List ℤ) → RelayValue
+with_child_bid r child number demand =
+    record r { gathered = record r.gathered { cache = after_learning r.gathered.cache child number demand } }
+
+-- a relay that came back, has no record of its newest bid, and has heard of each child just what that bid had
+pub record HearsItsRecord (r : RelayValue) : Type 0 where
+  pub came_back : 0 < r.base
+  pub lost : r.gathered.window.last ≡ 0
+  pub caught_up : IsCaughtUp r
+  pub nothing_newer : HearsNothingNewer r
+  pub changed : HasChanged r
+
+-- what it heard became the record of its newest bid again, under the same number
+pub record RecordRebuilt (old new : RelayValue) : Type 0 where
+  pub base : new.base + 1 ≡ old.base
+  pub last : new.gathered.window.last ≡ 1
+  pub window : new.gathered.window.answered ≡ old.answered - new.base
+  pub heads : (record_at new old.base).heads ≡ old.gathered.cache.heads
+  pub sum : (record_at new old.base).sum ≡ Some (aggregate_of old.gathered.cache)
+  pub announced : new.gathered.announced ≡ Some (within_limits old.gathered.limits (aggregate_of old.gathered.cache))
+  pub cache : new.gathered.cache ≡ old.gathered.cache
+  pub limits : new.gathered.limits ≡ old.gathered.limits
+  pub answered : new.answered ≡ old.answered
+  pub index : new.index ≡ old.index
+  pub recorded : new.recorded ≡ old.recorded
+
+-- a relay has its record again as soon as it hears it, and else stays as it is
+abbrev pub LooksForRecord : RelayValue → RelayValue → Type 0
+LooksForRecord old new = (HearsItsRecord old × RecordRebuilt old new) ⊎ ((HearsItsRecord old → ⊥) × (new ≡ old))
+
+-- ---- a bid of its own
+
+-- the sum within the limits goes up under the next number, and what went into it is its record
+pub record BidSent (old new : RelayValue) (number' : ℕ) : Type 0 where
+  pub caught_up : IsCaughtUp old
+  pub room : unanswered_numbers old < window_size
+  pub number : number' ≡ newest_number old + 1
+  pub made : BidMade old.gathered new.gathered (old.gathered.window.last + 1)
+  pub announced : new.gathered.announced ≡ Some (within_limits old.gathered.limits (aggregate_of old.gathered.cache))
+  pub numbers : (child : ℕ) → child < most_nodes → number_in new.recorded child ≡ head_number old.gathered.cache.heads child
+  pub children : length new.recorded ≡ length old.recorded
+  pub base : new.base ≡ old.base
+  pub answered : new.answered ≡ old.answered
+  pub index : new.index ≡ old.index
+
+-- when no bid is sent, and why
+abbrev pub NotSent : RelayValue → SendFault → Type 0
+NotSent r NotCaughtUp = IsCaughtUp r → ⊥
+NotSent r NotChanged = IsCaughtUp r × (r.gathered.cache.heads ≡ published_heads r.gathered)
+NotSent r WindowFull = IsCaughtUp r × HasChanged r × (window_size ≤ unanswered_numbers r)
+NotSent r OutOfNumbers =
+    IsCaughtUp r × HasChanged r × (unanswered_numbers r < window_size) × (newest_number r + 1 ≡ 2 ^ 32)
+
+-- ---- a price
+
+-- a price is new where its index is above the last one, and it names a number from the one answered to the newest
+pub record IsNewPrice (r : RelayValue) (price : PriceUpdate) : Type 0 where
+  pub newer : r.index < price.index
+  pub one : 1 ≤ price.number
+  pub from : r.answered ≤ price.number
+  pub to : price.number ≤ newest_number r
+
+-- it has the record of a number
+pub record HasRecord (r : RelayValue) (number : ℕ) : Type 0 where
+  pub own : r.base < number
+  pub from : r.answered ≤ number
+  pub to : number ≤ newest_number r
+
+-- the number is that of its newest bid, whose record it lost and may hear again
+pub record MayHearRecord (r : RelayValue) (number : ℕ) : Type 0 where
+  pub newest : number ≡ newest_number r
+  pub nothing_newer : HearsNothingNewer r
+
+-- what is taken of a price: its index, and the number that it answers
+abbrev pub with_price : RelayValue → PriceUpdate → RelayValue
+with_price r price = record r { answered = price.number; index = price.index }
+
+-- a price that goes on answers the concentrator's number also
+pub record PricePassedOn (old new : RelayValue) (price : PriceUpdate) : Type 0 where
+  pub passed : Passed old.gathered new.gathered (price.number - old.base)
+  pub base : new.base ≡ old.base
+  pub answered : new.answered ≡ price.number
+  pub index : new.index ≡ price.index
+  pub recorded : new.recorded ≡ old.recorded
+
+-- what was done with a price, and why
+abbrev pub TakesPrice : RelayValue → RelayValue → PriceUpdate → PriceOutcome → Type 0
+TakesPrice old new price Dropped = (IsNewPrice old price → ⊥) × (new ≡ old)
+TakesPrice old new price PassedOn = IsNewPrice old price × (old.base < price.number) × PricePassedOn old new price
+TakesPrice old new price Waits =
+    IsNewPrice old price × (price.number ≤ old.base) × MayHearRecord old price.number × (new ≡ old)
+TakesPrice old new price Alone =
+    IsNewPrice old price × (price.number ≤ old.base) × (MayHearRecord old price.number → ⊥) × (new ≡ with_price old price)
