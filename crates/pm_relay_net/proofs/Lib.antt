@@ -1,0 +1,6 @@
+mod Places
+mod Matching
+mod ComingUp
+mod Learning
+mod Sending
+mod TakingPrices
