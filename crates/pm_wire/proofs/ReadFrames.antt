@@ -1,7 +1,7 @@
 -- What the readers of a frame's fields have read.
 use Rattle.std.proofs.Common.{◌≡◌, ◌∙◌, sym, ap, subst, ℕ, ◌+◌, ◌<◌, ◌≤◌, ◌^◌, ℤ, pos, true, false}
 use Rattle.std.proofs.Common.{Bool, List, [], ◌∷◌, ◌++◌, length, take}
-use Rattle.std.proofs.Common.{drop, get_or, zero, suc, ◌-◌, Option, None, Some, Ok, Err, Result, arith, length-append, inr}
+use Rattle.std.proofs.Common.{drop, get_or, zero, suc, ◌-◌, None, Some, Ok, Err, Result, arith, length-append, inr}
 use Rattle.std.proofs.Common.{FitsSigned, IsTrue}
 use Rattle.std.specs.Int.{w16, w32, w64, to_be_bytes, cast_signed, cast_unsigned}
 use Rattle.std.specs.Prelude.{if◌then◌else◌, ◌==◌}
@@ -11,11 +11,11 @@ use Rattle.std.proofs.lemmas.Int.{fits_signed_from_abs}
 use Rattle.pm_basis.specs.Prices.{BasisValue, checked_basis, has_bad_steps, has_bad_range, is_uneven}
 use Rattle.pm_basis.specs.declared.fault.BasisFault.{BasisFault}
 use Rattle.pm_bid.specs.Checks.{checked_bid}
-use Rattle.pm_wire.specs.declared.frame.Frame.{Frame}
 use Rattle.pm_wire.specs.declared.frame.Frame.TheVariants.{Hello, Bid, Gone}
-use Rattle.pm_wire.specs.Frames.{frame_bytes, hello_kind, bid_kind, gone_kind, signed_bytes, demand_bytes, IsSender}
-use Rattle.pm_wire.specs.Frames.{BeginsBadly}
-use Rattle.pm_wire.specs.Readings.{IsRefused, IsFrameAt, IsWhole}
+use Rattle.pm_wire.specs.Framing.{Framing, BeginsBadly}
+use Rattle.pm_wire.specs.Frames.{bid_framing, frame_bytes, hello_kind, bid_kind, gone_kind, signed_bytes, demand_bytes, IsSender}
+use Rattle.pm_wire.specs.Readings.{IsWhole}
+use Rattle.pm_wire.specs.Spelling.{IsRefusedFrame, IsFrameAt}
 use Rattle.pm_wire.proofs.OneField.{wide}
 
 else_ok : {A E : Type 0} (test : Bool) (fault : E) (rest : Result A E) (value : A) → (if test then Err fault else rest) ≡ Ok value → rest ≡ Ok value
@@ -48,9 +48,9 @@ hello_spelled body x y z min max steps many ex ey ez =
 pub hello_read : (body x y z : List ℕ) (min max : ℤ) (steps : ℕ) (basis : BasisValue) → length body ≡ 10 → body ≡ signed_bytes min ++ x →
     x ≡ signed_bytes max ++ y → y ≡ to_be_bytes w16 steps ++ z →
     FitsSigned w32 min → FitsSigned w32 max → steps < 2 ^ 16 → Ok basis ≡ checked_basis min max (pos steps) →
-    IsFrameAt None (hello_kind ∷ body) (Hello basis)
+    IsFrameAt bid_framing None (hello_kind ∷ body) (Hello basis)
 hello_read body x y z min max steps basis many ex ey ez low high small is =
-    let P : BasisValue → Type 0 = λ b. IsFrameAt None (hello_kind ∷ body) (Hello b) in
+    let P : BasisValue → Type 0 = λ b. IsFrameAt bid_framing None (hello_kind ∷ body) (Hello b) in
     let value : BasisValue = record { min = min; max = max; steps = steps } in
     let same : value ≡ basis = basis_is min max steps basis (sym is) in
     subst P same (record {
@@ -61,7 +61,7 @@ hello_read body x y z min max steps basis many ex ey ez low high small is =
 -- ten bytes behind the kind of Hello whose fields make no basis are a refused frame
 pub hello_refused : (body x y z : List ℕ) (min max : ℤ) (steps : ℕ) (fault : BasisFault) → length body ≡ 10 → body ≡ signed_bytes min ++ x →
     x ≡ signed_bytes max ++ y → y ≡ to_be_bytes w16 steps ++ z →
-    FitsSigned w32 min → FitsSigned w32 max → steps < 2 ^ 16 → Err fault ≡ checked_basis min max (pos steps) → IsRefused None (hello_kind ∷ body)
+    FitsSigned w32 min → FitsSigned w32 max → steps < 2 ^ 16 → Err fault ≡ checked_basis min max (pos steps) → IsRefusedFrame bid_framing None (hello_kind ∷ body)
 hello_refused body x y z min max steps fault many ex ey ez low high small is = record {
   frame = Hello (record { min = min; max = max; steps = steps });
   formed = (low, high, small);
@@ -80,7 +80,7 @@ bid_spelled body x y child number demand ex ey ez =
 pub bid_refused : (steps : ℕ) (body x y : List ℕ) (child number : ℕ) (demand : List ℤ) → body ≡ to_be_bytes w16 child ++ x →
     x ≡ to_be_bytes w32 number ++ y → y ≡ demand_bytes demand →
     child < 2 ^ 16 → number < 2 ^ 32 → length demand ≡ steps → AllByRecursion (λ z. FitsSigned w32 z) demand →
-    (IsSender child number → checked_bid (length demand) demand ≡ Ok demand → ⊥) → IsRefused (Some steps) (bid_kind ∷ body)
+    (IsSender child number → checked_bid (length demand) demand ≡ Ok demand → ⊥) → IsRefusedFrame bid_framing (Some steps) (bid_kind ∷ body)
 bid_refused steps body x y child number demand ex ey ez few small many fit bad = record {
   frame = Bid child number demand;
   formed = (few, small, many, fit);
@@ -100,7 +100,7 @@ gone_spelled body x y child number many ex ey =
 -- six bytes behind the kind of Gone whose child and number are no sender's are a refused frame
 pub gone_refused : (steps : ℕ) (body x y : List ℕ) (child number : ℕ) → length body ≡ 6 → body ≡ to_be_bytes w16 child ++ x →
     x ≡ to_be_bytes w32 number ++ y →
-    child < 2 ^ 16 → number < 2 ^ 32 → (IsSender child number → ⊥) → IsRefused (Some steps) (gone_kind ∷ body)
+    child < 2 ^ 16 → number < 2 ^ 32 → (IsSender child number → ⊥) → IsRefusedFrame bid_framing (Some steps) (gone_kind ∷ body)
 gone_refused steps body x y child number many ex ey few small bad = record {
   frame = Gone child number;
   formed = (few, small);
@@ -121,9 +121,9 @@ front_is (b ∷ bytes) (suc size) some many =
     ap (λ n. b ∷ take n bytes) less
 
 -- a whole frame in the first bytes
-pub whole_read : (place : Option ℕ) (bytes : List ℕ) (frame : Frame) (size : ℕ) → size ≤ length bytes → IsFrameAt place (take size bytes) frame →
-    IsWhole place bytes frame size
-whole_read place bytes frame size within at = record {
+pub whole_read : {P F : Type 0} (framing : Framing P F) (place : P) (bytes : List ℕ) (frame : F) (size : ℕ) → size ≤ length bytes → IsFrameAt framing place (take size bytes) frame →
+    IsWhole framing place bytes frame size
+whole_read framing place bytes frame size within at = record {
   stands = at.stands;
   spelled = sym (take-append-drop size bytes) ∙ ap (λ l. l ++ drop size bytes) at.spelled;
   same_size = sym (length-take-le size bytes within) ∙ ap length at.spelled;
@@ -131,8 +131,9 @@ whole_read place bytes frame size within at = record {
 }
 
 -- a refused frame in the first bytes
-pub refused_read : (place : Option ℕ) (bytes : List ℕ) (size : ℕ) → IsRefused place (take size bytes) → BeginsBadly place bytes
-refused_read place bytes size at = inr (record {
+pub refused_read : {P F : Type 0} (framing : Framing P F) (place : P) (bytes : List ℕ) (size : ℕ) → IsRefusedFrame framing place (take size bytes) →
+    BeginsBadly framing place bytes
+refused_read framing place bytes size at = inr (record {
   frame = at.frame;
   more = drop size bytes;
   formed = at.formed;

@@ -1,5 +1,5 @@
 -- How many bytes the answers to frames have at most.
-use Rattle.std.proofs.Common.{◌≡◌, ◌∙◌, ap, ℕ, ◌+◌, ◌*◌, ◌≤◌, Bool, true, false, List, [], ◌∷◌, ◌++◌, length}
+use Rattle.std.proofs.Common.{◌≡◌, ap, ℕ, ◌+◌, ◌*◌, ◌≤◌, Bool, true, false, List, [], ◌∷◌, ◌++◌, length}
 use Rattle.std.proofs.Common.{Some, arith, length-append, Result, Ok, Err, OnOk}
 use Rattle.std.specs.Prelude.{if◌then◌else◌}
 use Rattle.std.proofs.lemmas.Grind.{flat_map-append}
@@ -9,14 +9,10 @@ use Rattle.pm_bid.specs.declared.head.BidHead.{BidHead}
 use Rattle.pm_cache.specs.Cache.{aggregate_of}
 use Rattle.pm_wire.specs.declared.answer.Reply.{Reply}
 use Rattle.pm_wire.specs.declared.answer.Reply.TheVariants.{Price, NotChanged}
-use Rattle.pm_wire.specs.declared.frame.Frame.{Frame}
 use Rattle.pm_wire.specs.declared.frame.Frame.TheVariants.{Clear}
 use Rattle.pm_wire.specs.Answers.{OpenMarket}
 use Rattle.pm_wire.specs.Answers.{answer_bytes, reply_bytes, price_for, prices, clearing_prices, answers_to}
-use Rattle.pm_wire.specs.Decoding.{Decoding, GivesFrame}
-use Rattle.pm_wire.specs.Frames.{frame_bytes}
 use Rattle.pm_wire.specs.Memory.{reply_limit}
-use Rattle.pm_wire.proofs.Places.{frame_length}
 
 -- of two lists of answers each has at most so many bytes
 few_either : (most : ℕ) (b : Bool) (xs ys : List Reply) → length (reply_bytes xs) ≤ most → length (reply_bytes ys) ≤ most
@@ -49,12 +45,3 @@ pub longer_by_few : {T E : Type 0} (r : Result T E) (old new more : List ℕ) �
     → OnOk r (length new ≤ length old + reply_limit)
 longer_by_few (Ok x) old new more is few = omega (arith, ap length is, length-append old more, few)
 longer_by_few (Err e) old new more is few = is
-
--- a frame that is given takes a byte at least off the rest, which pays for its answers
-pub answers_paid : (old new : Decoding) (frame : Frame) (begun out first rest : ℕ) → GivesFrame old frame new → out ≤ begun + reply_limit
-    → begun + reply_limit * length old.rest ≤ first + reply_limit * rest → out + reply_limit * length new.rest ≤ first + reply_limit * rest
-answers_paid old new frame begun out first rest gives few kept =
-    let spelled : length old.rest ≡ length (frame_bytes frame) + length new.rest =
-    ap length gives.bytes ∙ length-append (frame_bytes frame) new.rest in
-    let some = frame_length old.place frame gives.stands.formed in
-    omega (arith, few, kept, spelled, some)

@@ -1,224 +1,216 @@
 -- Frames that were given and taken one after the other.
-use Rattle.std.proofs.Common.{◌≡◌, ◌∙◌, sym, ap, refl, subst, ℕ, ◌+◌, ◌<◌, ◌≤◌, ℤ, Bool, true, false, List, [], ◌∷◌}
-use Rattle.std.proofs.Common.{◌++◌, length, Option, None, Some}
-use Rattle.std.proofs.Common.{IfSome, arith, append_assoc, length-append}
-use Rattle.std.specs.Prelude.{if◌then◌else◌}
+use Rattle.std.proofs.Common.{◌≡◌, ◌∙◌, sym, ap, refl, subst, ℕ, ◌+◌, ◌*◌, ◌<◌, ◌≤◌, List, [], ◌∷◌, ◌++◌, length, arith}
+use Rattle.std.proofs.Common.{append_assoc, length-append}
 use Rattle.std.proofs.lemmas.List.{append-nil}
-use Rattle.std.proofs.lemmas.Grind.{flat_map-append}
-use Rattle.pm_cache.specs.Cache.{Cache}
-use Rattle.pm_cache.specs.Learning.{with_newer_bid}
-use Rattle.pm_wire.specs.declared.frame.Frame.{Frame}
-use Rattle.pm_wire.specs.declared.frame.Frame.TheVariants.{Hello, Bid, Gone, Clear}
-use Rattle.pm_wire.specs.Answers.{OpenMarket}
-use Rattle.pm_wire.specs.Frames.{frame_bytes, stream_bytes, place_after, place_behind, MayStand, AllStand, BeginsBadly}
-use Rattle.pm_wire.specs.Answers.{open_market, market_after, market_behind, answers_to, answers_behind, answer_bytes, reply_bytes}
-use Rattle.pm_wire.specs.Answers.{place_known}
-use Rattle.pm_wire.specs.Decoding.{Decoding, GivesFrame, with_refusal}
-use Rattle.pm_wire.specs.Streams.{Takes, Agrees}
+use Rattle.std.proofs.Math.Nat.{mul-le-mul_left, mul-add}
+use Rattle.pm_wire.specs.Framing.{Framing, IsFraming, stream_bytes, place_behind, MayStand, AllStand, BeginsBadly}
+use Rattle.pm_wire.specs.Decoding.{Decoding, GivesFrame, with_piece, with_refusal}
+use Rattle.pm_wire.specs.Taking.{Runs, CanTake, TakesFrame, Agrees, Takes, TakesSome, TakesUpToBad, AreBehind, count_limit}
+use Rattle.pm_wire.proofs.Lists.{all_stand-append, place_behind-append, stream_bytes-append, stream_length}
 use Rattle.pm_wire.proofs.Places.{frame_length}
 
--- ---- lists of frames, one behind the other
+-- ---- runs of a service
 
--- frames that may stand at the place behind others that may stand may stand behind them
-pub all_stand-append : (place : Option ℕ) (fs gs : List Frame) → AllStand place fs → AllStand (place_behind place fs) gs → AllStand place (fs ++ gs)
-all_stand-append place [] gs f g = g
-all_stand-append place (h ∷ fs) gs f g = (f.0, all_stand-append (place_after place h) fs gs f.1 g)
-
--- the place behind two lists of frames is that behind the second from the place behind the first
-pub place_behind-append : (place : Option ℕ) (fs gs : List Frame) → place_behind place (fs ++ gs) ≡ place_behind (place_behind place fs) gs
-place_behind-append place [] gs = refl
-place_behind-append place (h ∷ fs) gs = place_behind-append (place_after place h) fs gs
-
--- the market behind two lists of frames is that behind the second from the market behind the first
-pub market_behind-append : (market : Option OpenMarket) (fs gs : List Frame) → market_behind market (fs ++ gs) ≡ market_behind (market_behind market fs) gs
-market_behind-append market [] gs = refl
-market_behind-append market (h ∷ fs) gs = market_behind-append (market_after market h) fs gs
-
--- the answers to two lists of frames are those to the first, then those to the second from its market
-pub answers_behind-append : (market : Option OpenMarket) (fs gs : List Frame) →
-    answers_behind market (fs ++ gs) ≡ answers_behind market fs ++ answers_behind (market_behind market fs) gs
-answers_behind-append market [] gs = refl
-answers_behind-append market (h ∷ fs) gs =
-    ap (λ l. answers_to market h ++ l) (answers_behind-append (market_after market h) fs gs)
-    ∙ sym (append_assoc (answers_to market h) (answers_behind (market_after market h) fs) (answers_behind (market_behind (market_after market h) fs) gs))
-
--- the bytes of the answers to two lists of frames are those of the first, then those of the second
-pub reply_bytes-append : (market : Option OpenMarket) (fs gs : List Frame) →
-    reply_bytes (answers_behind market (fs ++ gs)) ≡ reply_bytes (answers_behind market fs) ++ reply_bytes (answers_behind (market_behind market fs) gs)
-reply_bytes-append market fs gs =
-    ap (λ l. reply_bytes l) (answers_behind-append market fs gs)
-    ∙ flat_map-append answer_bytes (answers_behind market fs) (answers_behind (market_behind market fs) gs)
-
--- the bytes of two lists of frames are those of the first, then those of the second
-pub stream_bytes-append : (fs gs : List Frame) → stream_bytes (fs ++ gs) ≡ stream_bytes fs ++ stream_bytes gs
-stream_bytes-append fs gs = flat_map-append frame_bytes fs gs
-
--- ---- takings
-
--- one frame was taken
-pub takes_one : (old new : Decoding) (frame : Frame) (market after : Option OpenMarket) → GivesFrame old frame new → after ≡ market_after market frame →
-    Takes (frame ∷ []) old new market after (reply_bytes (answers_to market frame))
-takes_one old new frame market after gives is = record {
-  stand = (gives.stands, tt);
-  spelled = gives.bytes ∙ ap (λ l. l ++ new.rest) (sym (append-nil (frame_bytes frame)));
-  offset = gives.offset ∙ ap (λ l. old.offset + length l) (sym (append-nil (frame_bytes frame)));
-  place = gives.place;
-  knows = is;
-  replied = ap (λ l. reply_bytes l) (sym (append-nil (answers_to market frame)));
-}
-
--- some frames were taken, and then others
-pub takes-trans : (fs gs : List Frame) (a b c : Decoding) (m n o : Option OpenMarket) (x y : List ℕ) → Takes fs a b m n x → Takes gs b c n o y →
-    Takes (fs ++ gs) a c m o (x ++ y)
-takes-trans fs gs a b c m n o x y first second =
-    let P : Option ℕ → Type 0 = λ place. AllStand place gs in
-    record {
-      stand = all_stand-append a.place fs gs first.stand (subst P first.place second.stand);
-      spelled = first.spelled ∙ ap (λ l. stream_bytes fs ++ l) second.spelled ∙ sym (append_assoc (stream_bytes fs) (stream_bytes gs) c.rest)
-          ∙ ap (λ l. l ++ c.rest) (sym (stream_bytes-append fs gs));
-      offset = omega (arith, first.offset, second.offset, ap length (stream_bytes-append fs gs), length-append (stream_bytes fs) (stream_bytes gs));
-      place = second.place ∙ ap (λ p. place_behind p gs) first.place ∙ sym (place_behind-append a.place fs gs);
-      knows = second.knows ∙ ap (λ k. market_behind k gs) first.knows ∙ sym (market_behind-append m fs gs);
-      replied = ap (λ l. l ++ y) first.replied ∙ ap (λ l. reply_bytes (answers_behind m fs) ++ l) (second.replied
-          ∙ ap (λ k. reply_bytes (answers_behind k gs)) first.knows)
-          ∙ sym (reply_bytes-append m fs gs);
-    }
-
--- some frames were taken, and one more
-pub takes_more : (fs : List Frame) (frame : Frame) (a b c : Decoding) (m n o : Option OpenMarket) (x out0 out out' : List ℕ) → Takes fs a b m n x →
-    GivesFrame b frame c →
-    o ≡ market_after n frame → out ≡ out0 ++ x → out' ≡ out ++ reply_bytes (answers_to n frame) →
-    (frames : List Frame) × (reply : List ℕ) × Takes frames a c m o reply × (out' ≡ out0 ++ reply)
-takes_more fs frame a b c m n o x out0 out out' takes gives is before now =
-    let one = takes_one b c frame n o gives is in (
-      fs ++ frame ∷ [],
-      x ++ reply_bytes (answers_to n frame),
-      takes-trans fs (frame ∷ []) a b c m n o x _ takes one,
-      now ∙ ap (λ l. l ++ reply_bytes (answers_to n frame)) before ∙ append_assoc out0 x (reply_bytes (answers_to n frame)),
-    )
-
--- ---- the market of a decoder
-
-learnt_steps : (cache : Cache) (child number : ℕ) (demand : Option (List ℤ)) (test : Bool) →
-    (if test then cache else with_newer_bid cache child number demand).steps ≡ cache.steps
-learnt_steps cache child number demand true = refl
-learnt_steps cache child number None false = refl
-learnt_steps cache child number (Some bid) false = refl
-
-cleared_steps : (market : OpenMarket) (test : Bool) →
-    (if test then record { cache = market.cache; index = market.index + 1; changed = false } else market).cache.steps ≡ market.cache.steps
-cleared_steps market true = refl
-cleared_steps market false = refl
-
-cleared_index : (market : OpenMarket) (test : Bool) →
-    (if test then record { cache = market.cache; index = market.index + 1; changed = false } else market).index ≤ market.index + 1
-cleared_index market true = omega arith
-cleared_index market false = omega arith
-
--- the basis is that of Hello
-place_known-after : (market : Option OpenMarket) (frame : Frame) → MayStand (place_known market) frame →
-    place_known (market_after market frame) ≡ place_after (place_known market) frame
-unfolding open_market
-place_known-after None (Hello basis) stands = refl
-place_known-after None (Bid child number demand) stands = absurd stands.formed
-place_known-after None (Gone child number) stands = absurd stands.formed
-place_known-after None Clear stands = absurd stands.formed
-place_known-after (Some market) (Hello basis) stands = absurd stands.formed
-place_known-after (Some market) (Bid child number demand) stands = ap (λ n. Some n) (learnt_steps market.cache _ number (Some demand) _)
-place_known-after (Some market) (Gone child number) stands = ap (λ n. Some n) (learnt_steps market.cache _ number None _)
-place_known-after (Some market) Clear stands = ap (λ n. Some n) (cleared_steps market market.changed)
-
--- a frame makes at most one clearing
-clearings_after : (market : Option OpenMarket) (frame : Frame) (offset : ℕ) → MayStand (place_known market) frame →
-    IfSome market (λ known. known.index ≤ offset) →
-    IfSome (market_after market frame) (λ known. known.index ≤ offset + 1)
-unfolding open_market
-clearings_after None (Hello basis) offset stands few = omega arith
-clearings_after None (Bid child number demand) offset stands few = absurd stands.formed
-clearings_after None (Gone child number) offset stands few = absurd stands.formed
-clearings_after None Clear offset stands few = absurd stands.formed
-clearings_after (Some market) (Hello basis) offset stands few = absurd stands.formed
-clearings_after (Some market) (Bid child number demand) offset stands few = omega (arith, few)
-clearings_after (Some market) (Gone child number) offset stands few = omega (arith, few)
-clearings_after (Some market) Clear offset stands few = omega (arith, few, cleared_index market market.changed)
-
--- a market that has at most m clearings has at most n where m is at most n
-pub fewer : (market : Option OpenMarket) (m n : ℕ) → m ≤ n → IfSome market (λ known. known.index ≤ m) → IfSome market (λ known. known.index ≤ n)
-fewer None m n le few = tt
-fewer (Some market) m n le few = omega (arith, few)
-
--- frames that may stand have at least as many bytes as there are frames
-pub stream_length : (fs : List Frame) (place : Option ℕ) → AllStand place fs → length fs ≤ length (stream_bytes fs)
-stream_length [] place all = omega arith
-stream_length (f ∷ fs) place all = omega (
-  arith,
-  frame_length place f all.0.formed,
-  length-append (frame_bytes f) (stream_bytes fs),
-  stream_length fs
-      (place_after place f) all.1,
+-- where frames lead to a state, and other frames on from it, both lead there one behind the other
+pub runs-append : {S F : Type 0} (Answers : S → F → S → List ℕ → Type 0) (fs gs : List F) (a b c : S) (x y : List ℕ) → Runs Answers a fs b x →
+    Runs Answers b gs c y → Runs Answers a (fs ++ gs) c (x ++ y)
+runs-append {S = S} Answers [] gs a b c x y first second =
+    let A : S → Type 0 = λ s. Runs Answers s gs c (x ++ y) in
+    let B : List ℕ → Type 0 = λ l. Runs Answers b gs c (l ++ y) in
+    subst A first.0 (subst B (sym first.1) second)
+runs-append {S = S} Answers (f ∷ fs) gs a b c x y first second = (
+  first.0,
+  first.1,
+  first.2 ++ y,
+  first.3,
+  runs-append Answers fs gs first.0 b c first.2 y first.4 second,
+  ap (λ l. l ++ y) first.5 ∙ append_assoc first.1 first.2 y,
 )
 
--- the market of frames knows their basis
-pub place_known-behind : (fs : List Frame) (market : Option OpenMarket) → AllStand (place_known market) fs →
-    place_known (market_behind market fs) ≡ place_behind (place_known market) fs
-place_known-behind [] market all = refl
-place_known-behind (f ∷ fs) market all =
-    let same = place_known-after market f all.0 in
-    let P : Option ℕ → Type 0 = λ place. AllStand place fs in
-    place_known-behind fs (market_after market f) (subst P (sym same) all.1) ∙ ap (λ p. place_behind p fs) same
+-- ---- frames given by a decoder and taken by a service
 
--- behind frames a market has at most as many more clearings as there are frames
-pub clearings_behind : (fs : List Frame) (market : Option OpenMarket) (offset : ℕ) → AllStand (place_known market) fs →
-    IfSome market (λ known. known.index ≤ offset) →
-    IfSome (market_behind market fs) (λ known. known.index ≤ offset + length fs)
-clearings_behind [] market offset all few = fewer market offset (offset + 0) (omega arith) few
-clearings_behind (f ∷ fs) market offset all few =
-    let P : Option ℕ → Type 0 = λ place. AllStand place fs in
-    fewer (market_behind (market_after market f) fs) (offset + 1 + length fs) (offset + length (f ∷ fs)) (omega arith)
-    (clearings_behind fs (market_after market f) (offset + 1) (subst P (sym (place_known-after market f all.0)) all.1) (clearings_after market f
-    offset all.0 few))
+module _ {P F S : Type 0} (framing : Framing P F) (Answers : S → F → S → List ℕ → Type 0) where
+  -- no frame was taken
+  pub takes_none : (a : Decoding P) (m : S) (out : List ℕ) → TakesSome framing Answers a a m m out out
+  takes_none a m out = record {
+    frames = [];
+    reply = [];
+    takes = record { stand = tt; spelled = refl; offset = omega arith; place = refl; runs = (refl, refl) };
+    appended = sym (append-nil out);
+  }
 
--- what a decoder and a market agree on they agree on behind frames
-pub agrees_more : (fs : List Frame) (old new : Decoding) (market after : Option OpenMarket) (reply : List ℕ) → Takes fs old new market after reply →
-    Agrees old market → Agrees new after
-agrees_more fs old new market after reply takes agrees =
-    let P : Option ℕ → Type 0 = λ place. AllStand place fs in
-    let Q : Option OpenMarket → Type 0 = λ known. IfSome known (λ k. k.index ≤ new.offset) in
-    let stand : AllStand (place_known market) fs = subst P (sym agrees.place) takes.stand in
-    record {
-      place = ap (λ k. place_known k) takes.knows ∙ place_known-behind fs market stand ∙ ap (λ p. place_behind p fs) agrees.place ∙ sym takes.place;
-      clearings = subst Q (sym takes.knows) (fewer (market_behind market fs) (old.offset + length fs) new.offset
-          (omega (arith, takes.offset, stream_length fs old.place takes.stand)) (clearings_behind fs market old.offset stand agrees.clearings));
-    }
+  -- one frame was taken
+  takes_one : (old new : Decoding P) (frame : F) (m n : S) (reply : List ℕ) → GivesFrame framing old frame new → Answers m frame n reply →
+      Takes framing Answers (frame ∷ []) old new m n reply
+  takes_one old new frame m n reply gives answers = record {
+    stand = (gives.stands, tt);
+    spelled = gives.bytes ∙ ap (λ l. l ++ new.rest) (sym (append-nil (framing.frame_bytes frame)));
+    offset = gives.offset ∙ ap (λ l. old.offset + length l) (sym (append-nil (framing.frame_bytes frame)));
+    place = gives.place;
+    runs = (n, reply, [], answers, (refl, refl), sym (append-nil reply));
+  }
 
--- how many bytes the frames and the rest have, together, stays
-pub takes_length : (fs : List Frame) (old new : Decoding) (market after : Option OpenMarket) (reply : List ℕ) → Takes fs old new market after reply →
-    new.offset + length new.rest ≡ old.offset + length old.rest
-takes_length fs old new market after reply takes = omega (arith, takes.offset, ap length takes.spelled, length-append (stream_bytes fs) new.rest)
+  -- some frames were taken, and then others
+  takes-trans : (fs gs : List F) (a b c : Decoding P) (m n o : S) (x y : List ℕ) → Takes framing Answers fs a b m n x →
+      Takes framing Answers gs b c n o y → Takes framing Answers (fs ++ gs) a c m o (x ++ y)
+  takes-trans fs gs a b c m n o x y first second =
+      let A : P → Type 0 = λ place. AllStand framing place gs in
+      record {
+        stand = all_stand-append framing a.place fs gs first.stand (subst A first.place second.stand);
+        spelled = first.spelled ∙ ap (λ l. stream_bytes framing fs ++ l) second.spelled
+            ∙ sym (append_assoc (stream_bytes framing fs) (stream_bytes framing gs) c.rest)
+            ∙ ap (λ l. l ++ c.rest) (sym (stream_bytes-append framing fs gs));
+        offset = omega (
+          arith,
+          first.offset,
+          second.offset,
+          ap length (stream_bytes-append framing fs gs),
+          length-append (stream_bytes framing fs) (stream_bytes framing gs),
+        );
+        place = second.place ∙ ap (λ p. place_behind framing p gs) first.place ∙ sym (place_behind-append framing a.place fs gs);
+        runs = runs-append Answers fs gs m n o x y first.runs second.runs;
+      }
 
--- a market with no more clearings than an offset below 2^31 has fewer than 2^31
-pub few_clearings : (market : Option OpenMarket) (offset : ℕ) → offset < 2147483648 → IfSome market (λ known. known.index ≤ offset) →
-    IfSome market (λ known. known.index < 2147483648)
-few_clearings None offset small few = tt
-few_clearings (Some market) offset small few = omega (arith, few)
+  -- some frames were taken, and one more
+  pub takes_more : (frame : F) (a b c : Decoding P) (m n o : S) (out0 out out' : List ℕ) → TakesSome framing Answers a b m n out0 out →
+      GivesFrame framing b frame c → TakesFrame Answers n frame o out out' → TakesSome framing Answers a c m o out0 out'
+  takes_more frame a b c m n o out0 out out' taken gives one = record {
+    frames = taken.frames ++ frame ∷ [];
+    reply = taken.reply ++ one.reply;
+    takes = takes-trans taken.frames (frame ∷ []) a b c m n o taken.reply one.reply taken.takes
+        (takes_one b c frame n o one.reply gives one.answers);
+    appended = one.appended ∙ ap (λ l. l ++ one.reply) taken.appended ∙ append_assoc out0 taken.reply one.reply;
+  }
 
--- a decoder that told a bad frame is where it was
-pub takes_refused : (fs : List Frame) (a b c : Decoding) (m n : Option OpenMarket) (x : List ℕ) → Takes fs a b m n x →
-    c ≡ with_refusal b → Takes fs a c m n x
-takes_refused fs a b c m n x takes is =
-    let P : Decoding → Type 0 = λ d. Takes fs a d m n x in
-    subst P (sym is) (record {
-      stand = takes.stand;
-      spelled = takes.spelled;
-      offset = takes.offset;
-      place = takes.place;
-      knows = takes.knows;
-      replied = takes.replied;
-    })
+  -- how many bytes the frames and the rest have, together, stays
+  pub takes_length : (fs : List F) (old new : Decoding P) (m n : S) (reply : List ℕ) → Takes framing Answers fs old new m n reply →
+      new.offset + length new.rest ≡ old.offset + length old.rest
+  takes_length fs old new m n reply takes =
+      omega (arith, takes.offset, ap length takes.spelled, length-append (stream_bytes framing fs) new.rest)
 
--- a decoder that notes the bad frame it found still begins badly, at the same offset
-pub bad_refused : (b c : Decoding) (at : ℕ) → (at ≡ b.offset) × BeginsBadly b.place b.rest × (c ≡ with_refusal b) →
-    BeginsBadly c.place c.rest × (at ≡ c.offset)
-bad_refused b c at h =
-    let P : Decoding → Type 0 = λ d. BeginsBadly d.place d.rest in
-    (subst P (sym h.2) h.1, h.0 ∙ ap (λ d. d.offset) (sym h.2))
+  -- a decoder that told a bad frame is where it was, at the front of the bad frame
+  pub takes_refused : (a b c : Decoding P) (m n : S) (out out' : List ℕ) (at : ℕ) → TakesSome framing Answers a b m n out out' →
+      (at ≡ b.offset) × BeginsBadly framing b.place b.rest × (c ≡ with_refusal b) → TakesUpToBad framing Answers a c m n out out' at
+  takes_refused a b c m n out out' at taken told =
+      let A : Decoding P → Type 0 = λ d. TakesUpToBad framing Answers a d m n out out' at in
+      subst A (sym told.2) (record {
+        some = record {
+          frames = taken.frames;
+          reply = taken.reply;
+          takes = record {
+            stand = taken.takes.stand;
+            spelled = taken.takes.spelled;
+            offset = taken.takes.offset;
+            place = taken.takes.place;
+            runs = taken.takes.runs;
+          };
+          appended = taken.appended;
+        };
+        bad = told.1;
+        offset = told.0;
+      })
+
+  -- with one more piece, and the frames that are whole with it
+  pub follows_more : (start : P) (first : S) (bytes piece : List ℕ) (frames more : List F) (old new : Decoding P) (m n : S) (x y : List ℕ) →
+      AreBehind framing start Answers first bytes frames old m x → Takes framing Answers more (with_piece old piece) new m n y →
+      AreBehind framing start Answers first (bytes ++ piece) (frames ++ more) new n (x ++ y)
+  follows_more start first bytes piece frames more old new m n x y follows takes =
+      let A : P → Type 0 = λ place. AllStand framing place more in
+      record {
+        begins = record {
+          stand = all_stand-append framing start frames more follows.begins.stand (subst A follows.place takes.stand);
+          spelled = ap (λ l. l ++ piece) follows.begins.spelled ∙ append_assoc (stream_bytes framing frames) old.rest piece
+              ∙ ap (λ l. stream_bytes framing frames ++ l) takes.spelled
+              ∙ sym (append_assoc (stream_bytes framing frames) (stream_bytes framing more) new.rest)
+              ∙ ap (λ l. l ++ new.rest) (sym (stream_bytes-append framing frames more));
+        };
+        place = takes.place ∙ ap (λ p. place_behind framing p more) follows.place ∙ sym (place_behind-append framing start frames more);
+        offset = omega (
+          arith,
+          takes.offset,
+          follows.offset,
+          ap length (stream_bytes-append framing frames more),
+          length-append (stream_bytes framing frames) (stream_bytes framing more),
+        );
+        runs = runs-append Answers frames more first m n x y follows.runs takes.runs;
+      }
+
+  -- how many bytes were fed
+  pub follows_length : (start : P) (first : S) (bytes : List ℕ) (frames : List F) (decoding : Decoding P) (m : S) (x : List ℕ) →
+      AreBehind framing start Answers first bytes frames decoding m x → length bytes ≡ decoding.offset + length decoding.rest
+  follows_length start first bytes frames decoding m x follows = omega (
+    arith,
+    ap length follows.begins.spelled,
+    length-append (stream_bytes framing frames) decoding.rest,
+    follows.offset,
+  )
+
+-- ---- a service that agrees with its decoder
+
+module _ {P F S : Type 0} (framing : Framing P F) (sound : IsFraming framing) (Begins : P → S → Type 0) (Answers : S → F → S → List ℕ → Type 0) where
+  -- what a decoder and a service agree on they agree on behind frames
+  pub agrees_more : (fs : List F) (old new : Decoding P) (m n : S) (reply : List ℕ) → Takes framing Answers fs old new m n reply →
+      Agrees framing Begins Answers old m → Agrees framing Begins Answers new n
+  agrees_more fs old new m n reply takes agrees =
+      let A : P → Type 0 = λ place. AllStand framing place fs in
+      record {
+        start = agrees.start;
+        first = agrees.first;
+        frames = agrees.frames ++ fs;
+        reply = agrees.reply ++ reply;
+        begins = agrees.begins;
+        stand = all_stand-append framing agrees.start agrees.frames fs agrees.stand (subst A agrees.place takes.stand);
+        runs = runs-append Answers agrees.frames fs agrees.first m n agrees.reply reply agrees.runs takes.runs;
+        place = takes.place ∙ ap (λ p. place_behind framing p fs) agrees.place ∙ sym (place_behind-append framing agrees.start agrees.frames fs);
+        few = omega (
+          arith,
+          agrees.few,
+          takes.offset,
+          stream_length framing sound fs old.place takes.stand,
+          length-append agrees.frames fs,
+        );
+      }
+
+  -- the frame that the decoder gives may be taken
+  pub can_take : (frame : F) (old b c : Decoding P) (m n : S) (out out' : List ℕ) → TakesSome framing Answers old b m n out out' →
+      Agrees framing Begins Answers old m → GivesFrame framing b frame c → old.offset + length old.rest < count_limit →
+      CanTake framing Begins Answers n frame
+  can_take frame old b c m n out out' taken agrees gives fits =
+      let now = agrees_more taken.frames old b m n taken.reply taken.takes agrees in
+      let A : P → Type 0 = λ place. MayStand framing place frame in
+      record {
+        start = now.start;
+        first = now.first;
+        frames = now.frames;
+        reply = now.reply;
+        begins = now.begins;
+        stand = now.stand;
+        runs = now.runs;
+        stands = subst A now.place gives.stands;
+        few = omega (arith, now.few, fits, takes_length framing Answers taken.frames old b m n taken.reply taken.takes);
+      }
+
+  -- a decoder and a service behind the first frames of the bytes fed agree
+  pub follows_agrees : (start : P) (first : S) (bytes : List ℕ) (frames : List F) (decoding : Decoding P) (m : S) (x : List ℕ) →
+      Begins start first → AreBehind framing start Answers first bytes frames decoding m x → Agrees framing Begins Answers decoding m
+  follows_agrees start first bytes frames decoding m x begins follows = record {
+    start = start;
+    first = first;
+    frames = frames;
+    reply = x;
+    begins = begins;
+    stand = follows.begins.stand;
+    runs = follows.runs;
+    place = follows.place;
+    few = omega (arith, follows.offset, stream_length framing sound frames start follows.begins.stand);
+  }
+
+  -- a frame that is given takes a byte at least off the rest, which pays for its answers
+  pub answers_paid : (old new : Decoding P) (frame : F) (most begun out first rest : ℕ) → GivesFrame framing old frame new → out ≤ begun + most →
+      begun + most * length old.rest ≤ first + most * rest → out + most * length new.rest ≤ first + most * rest
+  answers_paid old new frame most begun out first rest gives few kept =
+      let spelled : length old.rest ≡ length (framing.frame_bytes frame) + length new.rest =
+      ap length gives.bytes ∙ length-append (framing.frame_bytes frame) new.rest in
+      let some = frame_length framing sound old.place frame gives.stands.formed in
+      let more : most * (1 + length new.rest) ≤ most * length old.rest = mul-le-mul_left most (omega (arith, spelled, some)) in
+      omega (arith, few, kept, more, mul-add most 1 (length new.rest))

@@ -1,13 +1,14 @@
 -- What the auctioneer answers to a list of frames.
-use Rattle.std.specs.Prelude.{ℕ, ◌+◌, ◌-◌, ◌||◌, ℤ, Bool, false, not, nat_le, if◌then◌else◌, List, []}
+use Rattle.std.specs.Prelude.{◌≡◌, ℕ, ◌+◌, ◌-◌, ◌||◌, ℤ, Bool, false, not, nat_le, if◌then◌else◌, List, []}
 use Rattle.std.specs.Prelude.{◌∷◌, ◌++◌, Option, Some, None}
-use Rattle.std.specs.Int.{w16, w32, w64, to_be_bytes}
+use Rattle.std.specs.Int.{w16, w32, to_be_bytes}
 use Rattle.std.specs.List.{flat_map}
 use Rattle.pm_base.specs.Limits.{most_nodes}
 use Rattle.pm_bid.specs.Clearing.{clearing_step}
 use Rattle.pm_bid.specs.declared.head.BidHead.{BidHead}
 use Rattle.pm_cache.specs.Cache.{Cache, empty_cache, kept_number, aggregate_of}
 use Rattle.pm_cache.specs.Learning.{after_learning}
+use Rattle.pm_wire.specs.Services.{fault_bytes}
 use Rattle.pm_wire.specs.declared.answer.Reply.{Reply}
 use Rattle.pm_wire.specs.declared.answer.Reply.TheVariants.{Price, NotChanged, Old, Fault}
 use Rattle.pm_wire.specs.declared.frame.Frame.{Frame}
@@ -21,7 +22,7 @@ answer_bytes (Price child number index step) =
     5 ∷ (to_be_bytes w16 child ++ (to_be_bytes w32 number ++ (to_be_bytes w32 index ++ to_be_bytes w16 step)))
 answer_bytes NotChanged = 6 ∷ []
 answer_bytes (Old child kept) = 7 ∷ (to_be_bytes w16 child ++ to_be_bytes w32 kept)
-answer_bytes (Fault offset) = 8 ∷ to_be_bytes w64 offset
+answer_bytes (Fault offset) = fault_bytes offset
 
 -- the bytes of answers, one behind the other
 abbrev pub reply_bytes : List Reply → List ℕ
@@ -113,3 +114,15 @@ answers frames = answers_behind None frames
 abbrev pub place_known : Option OpenMarket → Option ℕ
 place_known None = None
 place_known (Some market) = Some market.cache.steps
+
+-- ---- the auctioneer as a service
+
+-- what a frame makes of what is known, and the bytes that answer it
+pub record AnswersFrame (old : Option OpenMarket) (frame : Frame) (new : Option OpenMarket) (reply : List ℕ) : Type 0 where
+  pub knows : new ≡ market_after old frame
+  pub replied : reply ≡ reply_bytes (answers_to old frame)
+
+-- before Hello nothing is known
+pub record IsAtStart (place : Option ℕ) (market : Option OpenMarket) : Type 0 where
+  pub before_hello : place ≡ None
+  pub nothing_known : market ≡ None

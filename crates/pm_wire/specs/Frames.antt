@@ -1,13 +1,13 @@
 -- The frames of a stream of bids as bytes. Fields have the most significant byte first; signed ones are in two's complement.
-use Rattle.std.specs.Prelude.{◌≡◌, ◌≢◌, ℕ, ◌+◌, ◌*◌, ◌<◌, ◌≤◌, ◌^◌, ◌==◌, ℤ, pos, List, [], ◌∷◌, ◌++◌}
-use Rattle.std.specs.Prelude.{length, Option, Some, None, Ok, ⊤, ◌⊎◌}
-use Rattle.std.specs.Prelude.{if◌then◌else◌}
+use Rattle.std.specs.Prelude.{◌≡◌, ℕ, ◌+◌, ◌*◌, ◌<◌, ◌≤◌, ◌^◌, ◌==◌, ℤ, pos, List, [], ◌∷◌, ◌++◌, length}
+use Rattle.std.specs.Prelude.{Option, Some, None, Ok, ⊤, IfSome, FitsSigned, if◌then◌else◌}
 use Rattle.std.specs.Int.{w16, w32, to_be_bytes, cast_unsigned}
-use Rattle.std.specs.Prelude.{FitsSigned}
 use Rattle.std.specs.List.{flat_map, AllByRecursion}
-use Rattle.pm_base.specs.Limits.{most_nodes}
+use Rattle.pm_base.specs.Limits.{AreSteps, most_nodes}
 use Rattle.pm_basis.specs.Prices.{checked_basis}
 use Rattle.pm_bid.specs.Checks.{checked_bid}
+use Rattle.pm_wire.specs.Framing as framing
+use Rattle.pm_wire.specs.Memory.{frame_limit}
 use Rattle.pm_wire.specs.declared.frame.Frame.{Frame}
 use Rattle.pm_wire.specs.declared.frame.Frame.TheVariants.{Hello, Bid, Gone, Clear}
 
@@ -40,10 +40,6 @@ frame_bytes (Hello basis) = hello_kind ∷ (signed_bytes basis.min ++ (signed_by
 frame_bytes (Bid child number demand) = bid_kind ∷ (to_be_bytes w16 child ++ (to_be_bytes w32 number ++ demand_bytes demand))
 frame_bytes (Gone child number) = gone_kind ∷ (to_be_bytes w16 child ++ to_be_bytes w32 number)
 frame_bytes Clear = clear_kind ∷ []
-
--- the bytes of frames, one behind the other
-abbrev pub stream_bytes : List Frame → List ℕ
-stream_bytes frames = flat_map frame_bytes frames
 
 -- ---- which frame may stand where
 
@@ -84,75 +80,52 @@ IsAccepted (Bid child number demand) = IsSender child number × (checked_bid (le
 IsAccepted (Gone child number) = IsSender child number
 IsAccepted Clear = ⊤
 
+-- a place in the stream of bids: a basis behind Hello, nothing before it
+abbrev pub IsBidPlace : Option ℕ → Type 0
+IsBidPlace place = IfSome place AreSteps
+
+-- the frames of a stream of bids
+abbrev pub bid_framing : framing.Framing (Option ℕ) Frame
+bid_framing = record {
+  size_at = size_at;
+  frame_bytes = frame_bytes;
+  place_after = place_after;
+  IsFormed = IsFormed;
+  IsAccepted = λ place frame. IsAccepted frame;
+  IsPlace = IsBidPlace;
+  most_bytes = frame_limit;
+}
+
+-- ---- streams of bids, from their first byte on
+
 -- the frame may stand at this place
-pub record MayStand (place : Option ℕ) (frame : Frame) : Type 0 where
-  pub formed : IsFormed place frame
-  pub accepted : IsAccepted frame
+abbrev pub MayStand : Option ℕ → Frame → Type 0
+MayStand place frame = framing.MayStand bid_framing place frame
 
--- each of the frames may stand where it stands, the first at this place
-abbrev pub AllStand : Option ℕ → List Frame → Type 0
-AllStand place [] = ⊤
-AllStand place (frame ∷ frames) = MayStand place frame × AllStand (place_after place frame) frames
-
--- the place behind frames of which the first stands at this place
-abbrev pub place_behind : Option ℕ → List Frame → Option ℕ
-place_behind place [] = place
-place_behind place (frame ∷ frames) = place_behind (place_after place frame) frames
-
--- ---- what stands where no frame is whole
-
--- fewer bytes than a frame of their kind has, or none: the frame may still come
-abbrev pub IsUnfinished : Option ℕ → List ℕ → Type 0
-IsUnfinished place [] = ⊤
-IsUnfinished place (kind ∷ more) = (size : ℕ) × (size_at place kind ≡ Some size) × (length (kind ∷ more) < size)
-
--- the first byte is no kind that may stand at this place
-abbrev pub HasWrongKind : Option ℕ → List ℕ → Type 0
-HasWrongKind place [] = ⊥
-HasWrongKind place (kind ∷ more) = size_at place kind ≡ None
-
--- the frame is there, whole, and one of its fields is refused
-pub record HasRefusedFrame (place : Option ℕ) (bytes : List ℕ) : Type 0 where
-  pub frame : Frame
-  pub more : List ℕ
-  pub formed : IsFormed place frame
-  pub refused : ¬ IsAccepted frame
-  pub spelled : bytes ≡ frame_bytes frame ++ more
-
--- the bytes at this place begin with a bad frame
-abbrev pub BeginsBadly : Option ℕ → List ℕ → Type 0
-BeginsBadly place bytes = HasWrongKind place bytes ⊎ HasRefusedFrame place bytes
-
--- ---- streams
+-- the bytes of frames, one behind the other
+abbrev pub stream_bytes : List Frame → List ℕ
+stream_bytes frames = framing.stream_bytes bid_framing frames
 
 -- the bytes begin with these frames, and this is what stands behind them
-pub record BeginsWith (bytes : List ℕ) (frames : List Frame) (rest : List ℕ) : Type 0 where
-  pub stand : AllStand None frames
-  pub spelled : bytes ≡ stream_bytes frames ++ rest
+abbrev pub BeginsWith : List ℕ → List Frame → List ℕ → Type 0
+BeginsWith bytes frames rest = framing.BeginsWith bid_framing None bytes frames rest
 
 -- the bytes are a list of frames
 abbrev pub AreFrames : List ℕ → List Frame → Type 0
-AreFrames bytes frames = BeginsWith bytes frames []
+AreFrames bytes frames = framing.AreFrames bid_framing None bytes frames
 
 -- the bytes have a bad frame, and so many bytes stand before it
-pub record HasBadFrame (bytes : List ℕ) (offset : ℕ) : Type 0 where
-  pub frames : List Frame
-  pub rest : List ℕ
-  pub begins : BeginsWith bytes frames rest
-  pub bad : BeginsBadly (place_behind None frames) rest
-  pub before : offset ≡ length (stream_bytes frames)
+abbrev pub HasBadFrame : List ℕ → ℕ → Type 0
+HasBadFrame bytes offset = framing.HasBadFrame bid_framing None bytes offset
 
 -- the bytes end within a frame, and so many bytes stand before it
-pub record EndsWithin (bytes : List ℕ) (offset : ℕ) : Type 0 where
-  pub frames : List Frame
-  pub rest : List ℕ
-  pub begins : BeginsWith bytes frames rest
-  pub unfinished : IsUnfinished (place_behind None frames) rest
-  pub some : rest ≢ []
-  pub before : offset ≡ length (stream_bytes frames)
+abbrev pub EndsWithin : List ℕ → ℕ → Type 0
+EndsWithin bytes offset = framing.EndsWithin bid_framing None bytes offset
 
--- ---- where a list of frames ends
+-- the place behind frames of which the first stands at this place
+abbrev pub place_behind : Option ℕ → List Frame → Option ℕ
+place_behind place frames = framing.place_behind bid_framing place frames
 
 -- no further frame is whole at this place: the bytes are less than one, or begin badly
 abbrev pub Stops : Option ℕ → List ℕ → Type 0
-Stops place rest = IsUnfinished place rest ⊎ BeginsBadly place rest
+Stops place rest = framing.Stops bid_framing place rest

@@ -1,7 +1,10 @@
+pub mod Framing
+pub mod Spelling
 pub mod Frames
 pub mod Decoding
-pub mod DecoderFields
 pub mod Readings
+pub mod Taking
+pub mod Services
 pub mod Answers
 pub mod MarketFields
 pub mod ServerFields

@@ -2,7 +2,7 @@
 use Rattle.std.specs.Prelude.{ℕ, ◌+◌, ◌*◌}
 use Rattle.pm_base.specs.Limits.{most_steps, most_nodes}
 
--- the most bytes of a frame: a bid over the most steps
+-- the most bytes of a frame of a stream of bids: a bid over the most steps
 abbrev pub frame_limit : ℕ
 frame_limit = 7 + 4 * most_steps
 
@@ -10,18 +10,19 @@ frame_limit = 7 + 4 * most_steps
 abbrev pub piece_limit : ℕ
 piece_limit = 65536
 
--- the most bytes of the answers to a frame: a price of 13 bytes for each child
+-- the most bytes of the answers to such a frame: a price of 13 bytes for each child
 abbrev pub reply_limit : ℕ
 reply_limit = 13 * most_nodes
 
--- between two pieces the decoder holds fewer bytes than this: less than a frame is left, and no more is held of frames given
-abbrev pub rest_limit : ℕ
-rest_limit = 2 * frame_limit
+-- Of frames of at most `most_bytes` bytes, each answered by at most `most_answers` bytes: between two pieces the decoder holds fewer bytes
+-- than this. Less than a frame is left, and no more is held of frames given.
+abbrev pub rest_limit : ℕ → ℕ
+rest_limit most_bytes = 2 * most_bytes
 
 -- and with the next piece fewer than this
-abbrev pub held_limit : ℕ
-held_limit = rest_limit + piece_limit
+abbrev pub held_limit : ℕ → ℕ
+held_limit most_bytes = rest_limit most_bytes + piece_limit
 
 -- the most bytes of the answers to a piece: each frame that it makes whole has a byte at least
-abbrev pub answers_limit : ℕ
-answers_limit = reply_limit * (frame_limit + piece_limit)
+abbrev pub answers_limit : ℕ → ℕ → ℕ
+answers_limit most_bytes most_answers = most_answers * (most_bytes + piece_limit)

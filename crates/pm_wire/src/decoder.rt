@@ -2,43 +2,52 @@
 
 ghost use Rattle.std.specs.Prelude.{◌≡◌, ◌+◌, ◌*◌, ◌<◌, ◌≤◌, ◌++◌, ◌⊎◌, ℕ, List, true, length, drop, vec_len};
 ghost use Rattle.std.specs.Prelude.{IfOk, IfErr, IfSome, IfNone, OnOk, OnErr};
-ghost use Rattle.pm_wire.specs.Frames.{frame_bytes, MayStand, IsUnfinished, BeginsBadly};
-ghost use Rattle.pm_wire.specs.Decoding.{nothing_fed, with_piece, with_refusal, GivesFrame, HoldsLittle};
-ghost use Rattle.pm_wire.specs.Memory.{frame_limit};
+ghost use Rattle.pm_wire.specs.Framing.{MayStand, IsUnfinished, BeginsBadly};
+ghost use Rattle.pm_wire.specs.Decoding.{nothing_fed_at, nothing_fed, with_piece, with_refusal, GivesFrame, HoldsLittle};
 
 use crate::fault::DecodeFault;
 use crate::frame::Frame;
+use crate::framing::StreamFrame;
 use crate::reading::{Reading, read_frame};
 use std::alloc::{AllocError, Global};
 use std::marker::Model;
 
 /// Takes a stream of frames in pieces of any size, and gives the frames that are whole.
 ///
-/// Contracts see how many bytes the frames given have, the place behind them (before Hello, or behind a Hello of so many
+/// Contracts see how many bytes the frames given have, the place behind them (as before Hello, or behind a Hello of so many
 /// steps), the bytes fed that belong to no frame given, whether a bad frame was told, and how many bytes are in memory.
 /// Bytes of frames given are let go, so that at no time more than half of the bytes in memory are of these, and each byte is
 /// copied a bounded number of times, however the stream is cut.
 #[derive(Drop)]
-pub struct Decoder {
+pub struct FrameDecoder<F: StreamFrame> {
     alloc: Global,
     buffer: Vec<u8>,
     start: usize,
     offset: u64,
-    steps: Option<usize>,
+    place: F::Place,
     refused: bool,
 }
 
-impl Model for Decoder {
-    ghost use Rattle.pm_wire.specs.Decoding.{Decoding};
+impl<F: StreamFrame> Model for FrameDecoder<F> {
+    ghost use Rattle.std.specs.Prelude.{◌*◌, ◌≤◌, drop, length};
+    ghost use Rattle.pm_wire.specs.Decoding.{Decoding, AreDecoderFields};
 
-    ghost Value = { Decoding };
+    ghost Value = { Decoding F.Place };
 
-    ghost use Rattle.pm_wire.specs.DecoderFields.{decoding_of, AreDecoderFields};
+    ghost view = { λ fields. record {
+      offset = fields.offset;
+      place = fields.place;
+      rest = drop fields.start fields.buffer.items;
+      refused = fields.refused;
+      held = length fields.buffer.items;
+    } };
 
-    ghost view = { decoding_of };
-
-    ghost invariant = { AreDecoderFields };
+    ghost invariant = { λ fields. AreDecoderFields F.framing fields.start fields.buffer.items
+        fields.place fields.refused };
 }
+
+/// The decoder of a stream of bids.
+pub type Decoder = FrameDecoder<Frame>;
 
 /// Takes the first `start` bytes off where they are at least as many as the others, so that each byte is moved at most once
 /// for each byte taken off. The answer is where the others begin now: in the first half of what is left.
@@ -57,17 +66,27 @@ fn drop_given(buffer: &mut Vec<u8>, start: usize) -> usize
     0
 }
 
-impl Decoder {
+impl FrameDecoder<Frame> {
     /// A decoder to which nothing was fed. It takes no memory.
     pub fn new(alloc: Global) -> Decoder
         ensures { result ≡ nothing_fed }
     {
-        Decoder {
+        FrameDecoder::at(alloc, None)
+    }
+}
+
+impl<F: StreamFrame> FrameDecoder<F> {
+    /// A decoder to which nothing was fed, of a stream whose first frame is to stand at this place. It takes no memory.
+    pub fn at(alloc: Global, place: F::Place) -> FrameDecoder<F>
+        requires { F.framing.IsPlace place }
+        ensures { result ≡ nothing_fed_at place }
+    {
+        FrameDecoder {
             alloc,
             buffer: Vec::new(alloc),
             start: 0,
             offset: 0,
-            steps: None,
+            place,
             refused: false,
         }
     }
@@ -85,24 +104,25 @@ impl Decoder {
 
     /// Gives the next frame, or None where the bytes left are less than a frame and no bad frame shows. Where a bad frame is
     /// next the answer is its offset, and it stays so. Where an allocation fails nothing changes.
-    pub fn next(&mut self) -> Result<Option<Frame>, DecodeFault>
+    pub fn next(&mut self) -> Result<Option<F>, DecodeFault>
         requires { self.old.offset + length self.old.rest ≤ 4294967296 }
         ensures given { IfOk result (λ next. IfSome next
-            (λ frame. GivesFrame self.old frame self.new)) }
+            (λ frame. GivesFrame F.framing self.old frame self.new)) }
         ensures nothing { IfOk result (λ next. IfNone next
-            (IsUnfinished self.old.place self.old.rest × (self.new ≡ self.old))) }
+            (IsUnfinished F.framing self.old.place self.old.rest × (self.new ≡ self.old))) }
         ensures bad { IfErr result (λ fault. (at : ℕ) → fault ≡ DecodeFault.Bad at →
             (at ≡ self.old.offset)
-            × BeginsBadly self.old.place self.old.rest × (self.new ≡ with_refusal self.old)) }
+            × BeginsBadly F.framing self.old.place self.old.rest
+            × (self.new ≡ with_refusal self.old)) }
         ensures no_memory { result ≡ Err DecodeFault.NoMemory → self.new ≡ self.old }
 
         // Each of these answers comes wherever its cause stands, or an allocation failed.
-        ensures gives { (frame : Frame) (more : List ℕ) → MayStand self.old.place frame
-            → self.old.rest ≡ frame_bytes frame ++ more
+        ensures gives { (frame : F) (more : List ℕ) → MayStand F.framing self.old.place frame
+            → self.old.rest ≡ F.framing.frame_bytes frame ++ more
             → (result ≡ Ok (Some frame)) ⊎ (result ≡ Err DecodeFault.NoMemory) }
-        ensures waits { IsUnfinished self.old.place self.old.rest
+        ensures waits { IsUnfinished F.framing self.old.place self.old.rest
             → (result ≡ Ok None) ⊎ (result ≡ Err DecodeFault.NoMemory) }
-        ensures refuses { BeginsBadly self.old.place self.old.rest
+        ensures refuses { BeginsBadly F.framing self.old.place self.old.rest
             → (result ≡ Err (DecodeFault.Bad self.old.offset))
             ⊎ (result ≡ Err DecodeFault.NoMemory) }
 
@@ -111,18 +131,18 @@ impl Decoder {
 
         // The bytes of frames given are let go, and None leaves less than a frame.
         ensures little { HoldsLittle self.new }
-        ensures short { IfOk result (λ next. IfNone next (length self.new.rest < frame_limit)) }
+        ensures short { IfOk result (λ next. IfNone next
+            (length self.new.rest < F.framing.most_bytes)) }
     {
+        F::is_framing();
         if self.refused {
             return Err(DecodeFault::Bad { at: self.offset });
         }
-        match read_frame(self.alloc, self.steps, &self.buffer[self.start..])? {
+        match read_frame::<F>(self.alloc, self.place, &self.buffer[self.start..])? {
             Reading::Whole { frame, size } => {
                 self.start = drop_given(&mut self.buffer, self.start + size);
                 self.offset += size as u64;
-                if let Frame::Hello { basis } = &frame {
-                    self.steps = Some(basis.steps());
-                }
+                self.place = frame.place_behind(self.place);
                 Ok(Some(frame))
             }
             Reading::Unfinished => Ok(None),

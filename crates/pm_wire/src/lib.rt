@@ -13,21 +13,28 @@
 #![tactic(auto)]
 
 mod answer;
+mod auctioneer;
+mod bids;
 mod decoder;
 mod fault;
 mod fields;
 mod frame;
 mod frames;
+mod framing;
 mod laws;
 mod market;
 mod reading;
 mod server;
+mod service;
 mod stream;
 
 pub use answer::Reply;
-pub use decoder::Decoder;
+pub use auctioneer::serve;
+pub use decoder::{Decoder, FrameDecoder};
 pub use fault::DecodeFault;
 pub use frame::Frame;
+pub use framing::StreamFrame;
 pub use laws::{replies_are_of_the_bytes, streams_have_one_reading};
 pub use server::Server;
-pub use stream::{STREAM_LIMIT, Served, serve};
+pub use service::Service;
+pub use stream::{STREAM_LIMIT, Served, serve_frames};

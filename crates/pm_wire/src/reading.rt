@@ -1,164 +1,43 @@
 //! Reads the frame at the front of some bytes, or tells why there is none.
 
-ghost use Rattle.std.specs.Prelude.{◌≡◌, ◌+◌, ◌∷◌, ◌≤◌, ◌*◌, length, IsTrue, ◌↔◌, IfOk, IfSome, Some, None};
-ghost use Rattle.pm_base.specs.Limits.{AreSteps};
-ghost use Rattle.pm_wire.specs.Frames.{size_at, hello_kind, bid_kind, gone_kind, IsSender};
-ghost use Rattle.pm_wire.specs.Readings.{IsOne, IsReading};
+ghost use Rattle.std.specs.Prelude.{IfOk};
+ghost use Rattle.pm_wire.specs.Readings.{IsReading};
 
-use crate::fields::{read_demands, read_i32, read_u16, read_u32};
-use crate::frame::Frame;
-use pm_base::MOST_NODES;
-use pm_basis::Basis;
-use pm_bid::{ArrayBid, Steps};
+use crate::framing::StreamFrame;
 use std::alloc::{AllocError, Global};
-use std::marker::Brand;
-
-const HELLO: u8 = 1;
-
-const BID: u8 = 2;
-
-const GONE: u8 = 3;
-
-const CLEAR: u8 = 4;
 
 /// What stands at the front of some bytes.
 #[derive(Drop)]
-pub(crate) enum Reading {
+pub(crate) enum Reading<F> {
     /// A frame in the first `size` bytes.
-    Whole { frame: Frame, size: usize },
+    Whole { frame: F, size: usize },
     /// Fewer bytes than a frame of their kind has.
     Unfinished,
     /// A bad frame.
     Bad,
 }
 
-/// How many bytes a frame of this kind has, if it may stand at this place: before Hello, or behind it.
-fn size_at(steps: Option<usize>, kind: u8) -> Option<usize>
-    requires { IfSome steps AreSteps }
-    ensures size { result ≡ size_at steps kind }
-    ensures positive { IfSome result (λ size. 1 ≤ size) }
-{
-    match steps {
-        None => {
-            if kind == HELLO {
-                return Some(11);
-            }
-        }
-        Some(steps) => {
-            if kind == BID {
-                return Some(7 + 4 * steps);
-            }
-            if kind == GONE {
-                return Some(7);
-            }
-            if kind == CLEAR {
-                return Some(1);
-            }
-        }
-    }
-    None
-}
-
-/// Whether a frame may come from this child, under this number.
-fn is_sender(child: u16, number: u32) -> bool
-    ensures { IsTrue result ↔ IsSender child number }
-{
-    1 <= child && usize::from(child) <= MOST_NODES && 1 <= number
-}
-
-/// Reads the fields of Hello.
-fn read_hello(body: &[u8]) -> Option<Frame>
-    requires { length body.now ≡ 10 }
-    ensures { IsOne None (hello_kind ∷ body.now) result }
-{
-    let (min, rest) = read_i32(body);
-    let (max, rest) = read_i32(rest);
-    let (steps, _rest) = read_u16(rest);
-    match Basis::new(min, max, i64::from(steps)) {
-        Ok(basis) => Some(Frame::Hello { basis }),
-        Err(_) => None,
-    }
-}
-
-/// Reads the fields of a bid of so many steps.
-fn read_bid(alloc: Global, steps: usize, body: &[u8]) -> Result<Option<Frame>, AllocError>
-    requires steps { AreSteps steps }
-    requires length { length body.now ≡ 6 + 4 * steps }
-    ensures { IfOk result (IsOne (Some steps) (bid_kind ∷ body.now)) }
-{
-    let (child, rest) = read_u16(body);
-    let (number, rest) = read_u32(rest);
-    let demands = read_demands(alloc, steps, rest)?;
-    let demand = ArrayBid::new(demands, steps, &mut Steps::<Brand>::start());
-    if !is_sender(child, number) {
-        return Ok(None);
-    }
-    match demand {
-        Ok(demand) => Ok(Some(Frame::Bid {
-            child,
-            number,
-            demand,
-        })),
-        Err(_) => Ok(None),
-    }
-}
-
-/// Reads the fields of Gone, behind a Hello of so many steps.
-fn read_gone(steps: usize, body: &[u8]) -> Option<Frame>
-    requires { length body.now ≡ 6 }
-    ensures { IsOne (Some steps) (gone_kind ∷ body.now) result }
-{
-    let (child, rest) = read_u16(body);
-    let (number, _rest) = read_u32(rest);
-    if !is_sender(child, number) {
-        return None;
-    }
-    Some(Frame::Gone { child, number })
-}
-
-/// Reads the fields of a frame of this kind.
-fn read_body(
+/// Reads what stands at the front of the bytes at this place.
+pub(crate) fn read_frame<F: StreamFrame>(
     alloc: Global,
-    place: Option<usize>,
-    kind: u8,
-    body: &[u8],
-) -> Result<Option<Frame>, AllocError>
-    requires steps { IfSome place AreSteps }
-    requires size { size_at place kind ≡ Some (length body.now + 1) }
-    ensures { IfOk result (IsOne place (kind ∷ body.now)) }
-{
-    let Some(steps) = place else {
-        return Ok(read_hello(body));
-    };
-    if kind == BID {
-        return read_bid(alloc, steps, body);
-    }
-    if kind == GONE {
-        return Ok(read_gone(steps, body));
-    }
-    Ok(Some(Frame::Clear))
-}
-
-/// Reads what stands at the front of the bytes: before Hello, or behind a Hello of so many steps.
-pub(crate) fn read_frame(
-    alloc: Global,
-    place: Option<usize>,
+    place: F::Place,
     bytes: &[u8],
-) -> Result<Reading, AllocError>
-    requires { IfSome place AreSteps }
-    ensures { IfOk result (IsReading place bytes.now) }
+) -> Result<Reading<F>, AllocError>
+    requires { F.framing.IsPlace place }
+    ensures { IfOk result (IsReading F.framing place bytes.now) }
 {
+    F::is_framing();
     if bytes.is_empty() {
         return Ok(Reading::Unfinished);
     }
     let kind = bytes[0];
-    let Some(size) = size_at(place, kind) else {
+    let Some(size) = F::size_at(place, kind) else {
         return Ok(Reading::Bad);
     };
     if bytes.len() < size {
         return Ok(Reading::Unfinished);
     }
-    match read_body(alloc, place, kind, &bytes[1..size])? {
+    match F::read(alloc, place, kind, &bytes[1..size])? {
         Some(frame) => Ok(Reading::Whole { frame, size }),
         None => Ok(Reading::Bad),
     }

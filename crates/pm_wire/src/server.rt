@@ -3,11 +3,12 @@
 ghost use Rattle.std.specs.Prelude.{◌≡◌, ◌+◌, ◌<◌, ◌≤◌, ◌++◌, ◌^◌, length, IfSome, OnOk, OnErr, None};
 ghost use Rattle.pm_base.specs.Limits.{most_nodes};
 ghost use Rattle.pm_wire.specs.Frames.{MayStand};
-ghost use Rattle.pm_wire.specs.Answers.{market_after, answers_to, reply_bytes, place_known};
+ghost use Rattle.pm_wire.specs.Answers.{market_after, answers_to, reply_bytes, place_known, AnswersFrame, IsAtStart};
 ghost use Rattle.pm_wire.specs.Memory.{reply_limit};
 
 use crate::frame::Frame;
 use crate::market::OpenMarket;
+use crate::service::Service;
 use std::alloc::{AllocError, Global};
 use std::marker::Model;
 
@@ -66,5 +67,17 @@ impl Server {
             self.market = Some(OpenMarket::new(self.alloc, basis.steps())?);
         }
         Ok(())
+    }
+}
+
+impl Service<Frame> for Server {
+    ghost begins = { IsAtStart };
+
+    ghost answers = { AnswersFrame };
+
+    ghost most_answers = { reply_limit };
+
+    fn answer(&mut self, frame: &Frame, out: &mut Vec<u8>) -> Result<(), AllocError> {
+        self.take(frame, out)
     }
 }

@@ -1,29 +1,27 @@
-//! Serves a stream from a source to a sink, and tells how it ended.
+//! Serves a stream from a source to a sink, whatever its frames are, and tells how it ended.
 
-ghost use Rattle.std.specs.Prelude.{◌≡◌, ◌⊎◌, None, Some, ◌<◌, ◌≤◌, ◌++◌, ℕ, List, [], length, take, OnOk, IfErr};
+ghost use Rattle.std.specs.Prelude.{◌≡◌, ◌⊎◌, Some, ◌<◌, ◌≤◌, ◌++◌, ℕ, List, [], length, take, OnOk, IfErr};
 ghost use Rattle.std.specs.Io.KnownBytes.{Appends};
 ghost use Rattle.pm_io.specs.Causes.{Rose};
 ghost use Rattle.pm_io.specs.Taken.{taken_bytes};
-ghost use Rattle.pm_wire.specs.declared.frame.Frame.{Frame};
-ghost use Rattle.pm_wire.specs.Decoding.{nothing_fed};
-ghost use Rattle.pm_wire.specs.Frames.{AreFrames, HasBadFrame, EndsWithin};
-ghost use Rattle.pm_wire.specs.declared.answer.Reply.TheVariants.{Fault};
-ghost use Rattle.pm_wire.specs.Answers.{answer_bytes};
-ghost use Rattle.pm_wire.specs.Streams.{stream_limit, IsDone, IsRefused, IsLongStream, IsCutShort, IsBegun, FailsReading, EndsSo};
+ghost use Rattle.pm_wire.specs.Decoding.{nothing_fed_at};
+ghost use Rattle.pm_wire.specs.Framing.{AreFrames, HasBadFrame, EndsWithin};
+ghost use Rattle.pm_wire.specs.Memory.{piece_limit};
+ghost use Rattle.pm_wire.specs.Taking.{AnswersFrom};
+ghost use Rattle.pm_wire.specs.Services.{stream_limit, fault_bytes, IsDone, IsRefused, IsLongStream, IsCutShort, IsBegun, FailsReading, EndsSo};
+ghost use Rattle.pm_wire.specs.Services.{TellsFault};
 
 use crate::answer::Reply;
-use crate::decoder::Decoder;
+use crate::decoder::FrameDecoder;
 use crate::fault::DecodeFault;
 use crate::frames::take_piece;
-use crate::server::Server;
+use crate::framing::StreamFrame;
+use crate::service::Service;
 use pm_io::{Sink, Source, WriteFault, write_all};
 use std::alloc::Global;
 
 /// The most bytes of a stream.
 pub const STREAM_LIMIT: usize = 1_073_741_824;
-
-/// How many bytes one read asks for.
-const PIECE: usize = 16_384;
 
 /// How the service of a stream ended.
 #[derive(Clone, Copy, Debug, PartialEq, Eq)]
@@ -63,11 +61,11 @@ fn refuse<K: Sink>(sink: &mut K, out: &mut Vec<u8>, offset: u64) -> Served
         ⊎ (result ≡ Served.NoMemory) }
     ensures refused { result ≡ Served.Refused
         → Appends (K.held sink.old) (K.held sink.new)
-        (out.old.items ++ answer_bytes (Fault offset)) }
+        (out.old.items ++ fault_bytes offset) }
     ensures write_fault { result ≡ Served.WriteFault → Rose (K.faults sink.old) (K.faults sink.new)
-        × ((written : ℕ) × (written < length (out.old.items ++ answer_bytes (Fault offset)))
+        × ((written : ℕ) × (written < length (out.old.items ++ fault_bytes offset))
         × Appends (K.held sink.old) (K.held sink.new)
-        (take written (out.old.items ++ answer_bytes (Fault offset)))) }
+        (take written (out.old.items ++ fault_bytes offset))) }
     ensures no_memory { result ≡ Served.NoMemory → sink.new ≡ sink.old }
     ensures count { K.faults sink.old ≤ K.faults sink.new }
 {
@@ -80,28 +78,32 @@ fn refuse<K: Sink>(sink: &mut K, out: &mut Vec<u8>, offset: u64) -> Served
     }
 }
 
-/// Serves the stream by a decoder and a server that took nothing, and tells how it ended.
-fn run<S: Source, K: Sink>(
+/// Serves the stream by a decoder and a service that took nothing, and tells how it ended.
+fn run<F: StreamFrame, V: Service<F>, S: Source, K: Sink>(
     source: &mut S,
     sink: &mut K,
-    decoder: &mut Decoder,
-    server: &mut Server,
+    decoder: &mut FrameDecoder<F>,
+    service: &mut V,
+    piece: &mut [u8],
     out: &mut Vec<u8>,
 ) -> Served
-    requires decoder { decoder.old ≡ nothing_fed }
-    requires server { server.old ≡ None }
+    requires decoder { decoder.old ≡ nothing_fed_at decoder.old.place }
+    requires place { F.framing.IsPlace decoder.old.place }
+    requires service { V.begins decoder.old.place service.old }
     requires out { out.old.items ≡ [] }
-    ensures ends { EndsSo (S.left source.old) (S.left source.new) (K.held sink.old)
-        (K.held sink.new)
+    requires some { 1 ≤ length piece.old }
+    requires few { length piece.old ≤ piece_limit }
+    ensures ends { EndsSo F.framing decoder.old.place (AnswersFrom V.answers service.old)
+        (S.left source.old) (S.left source.new) (K.held sink.old) (K.held sink.new)
         (Rose (S.faults source.old) (S.faults source.new))
         (Rose (K.faults sink.old) (K.faults sink.new)) result }
     ensures source_count { S.faults source.old ≤ S.faults source.new }
     ensures sink_count { K.faults sink.old ≤ K.faults sink.new }
 {
-    let mut piece = [0u8; PIECE];
+    F::is_framing();
     let mut taken = 0;
     while taken <= STREAM_LIMIT {
-        let count = match source.read(&mut piece) {
+        let count = match source.read(piece) {
             Ok(count) => count,
             Err(_) => return Served::ReadFault,
         };
@@ -113,7 +115,7 @@ fn run<S: Source, K: Sink>(
             return Served::Done;
         }
         taken += count;
-        match take_piece(decoder, server, &piece[..count], out) {
+        match take_piece(decoder, service, &piece[..count], out) {
             Ok(()) => {}
             Err(DecodeFault::Bad { at }) => return refuse(sink, out, at),
             Err(DecodeFault::NoMemory) => return Served::NoMemory,
@@ -125,47 +127,63 @@ fn run<S: Source, K: Sink>(
     Served::TooLong
 }
 
-/// Serves the market to the children whose frames come from the source: takes the frames of the stream one after the other,
-/// and appends the answers to the sink. The answers to a piece of the stream are written before the next piece is read. The
-/// memory that is taken is bounded by a piece, a frame and the children, and not by the stream.
-///
-/// What is appended on Done and Refused is a function of the bytes that the source had, however it cut them
-/// ([`replies_are_of_the_bytes`]).
-pub fn serve<S: Source, K: Sink>(alloc: Global, source: &mut S, sink: &mut K) -> Served
+/// Serves a stream of frames from a place on: takes one after the other, and appends the answers of the service to the sink. The
+/// answers to a piece of the stream are written before the next piece is read into `piece`, which has at most 65,536 bytes. The
+/// memory that is taken beside it is bounded by a piece, a frame and its answers, and not by the stream.
+pub fn serve_frames<F: StreamFrame, V: Service<F>, S: Source, K: Sink>(
+    alloc: Global,
+    source: &mut S,
+    sink: &mut K,
+    place: F::Place,
+    service: &mut V,
+    piece: &mut [u8],
+) -> Served
+    requires place { F.framing.IsPlace place }
+    requires service { V.begins place service.old }
+    requires some { 1 ≤ length piece.old }
+    requires few { length piece.old ≤ piece_limit }
     ensures done { result ≡ Served.Done
-        → IsDone (S.left source.old) (S.left source.new) (K.held sink.old) (K.held sink.new) }
+        → IsDone F.framing place (AnswersFrom V.answers service.old)
+        (S.left source.old) (S.left source.new) (K.held sink.old) (K.held sink.new) }
     ensures refused { result ≡ Served.Refused
-        → IsRefused (S.left source.old) (S.left source.new) (K.held sink.old) (K.held sink.new) }
+        → IsRefused F.framing place (AnswersFrom V.answers service.old)
+        (S.left source.old) (S.left source.new) (K.held sink.old) (K.held sink.new) }
     ensures too_long { result ≡ Served.TooLong
-        → IsLongStream (S.left source.old) (S.left source.new) (K.held sink.old) (K.held sink.new) }
+        → IsLongStream F.framing place (AnswersFrom V.answers service.old)
+        (S.left source.old) (S.left source.new) (K.held sink.old) (K.held sink.new) }
     ensures read_fault { result ≡ Served.ReadFault →
         Rose (S.faults source.old) (S.faults source.new)
-        × FailsReading (S.left source.old) (S.left source.new) (K.held sink.old) (K.held sink.new) }
+        × FailsReading F.framing place (AnswersFrom V.answers service.old)
+        (S.left source.old) (S.left source.new) (K.held sink.old) (K.held sink.new) }
     ensures write_fault { result ≡ Served.WriteFault → Rose (K.faults sink.old) (K.faults sink.new)
-        × IsCutShort (S.left source.old) (S.left source.new) (K.held sink.old) (K.held sink.new) }
+        × IsCutShort F.framing place (AnswersFrom V.answers service.old)
+        (S.left source.old) (S.left source.new) (K.held sink.old) (K.held sink.new) }
     ensures no_memory { result ≡ Served.NoMemory
-        → IsBegun (S.left source.old) (S.left source.new) (K.held sink.old) (K.held sink.new) }
+        → IsBegun F.framing place (AnswersFrom V.answers service.old)
+        (S.left source.old) (S.left source.new) (K.held sink.old) (K.held sink.new) }
 
     // Where the source tells what it has, the bytes taken say how it ends, but for a failed write or allocation: Refused
     // where a bad frame stands in them, and TooLong where they are too many and none does.
     ensures bad_frame { (all : List ℕ) (offset : ℕ) → S.left source.old ≡ Some all
-        → HasBadFrame (taken_bytes (S.left source.old) (S.left source.new)) offset
+        → HasBadFrame F.framing place
+        (taken_bytes (S.left source.old) (S.left source.new)) offset
         → (result ≡ Served.Refused) ⊎ (result ≡ Served.WriteFault) ⊎ (result ≡ Served.NoMemory) }
     ensures took_more { (all : List ℕ) → S.left source.old ≡ Some all
         → stream_limit < length (taken_bytes (S.left source.old) (S.left source.new))
-        → ((offset : ℕ) → ¬ HasBadFrame (taken_bytes (S.left source.old) (S.left source.new))
+        → ((offset : ℕ) → ¬ HasBadFrame F.framing place
+        (taken_bytes (S.left source.old) (S.left source.new))
         offset)
         → (result ≡ Served.TooLong) ⊎ (result ≡ Served.WriteFault) ⊎ (result ≡ Served.NoMemory) }
 
     // An input within the limit is Done where it is a list of frames, and Refused where it has a bad frame or ends within
     // one, but for a failure.
-    ensures frames { (all : List ℕ) (frames : List Frame) → S.left source.old ≡ Some all →
+    ensures frames { (all : List ℕ) (frames : List F) → S.left source.old ≡ Some all →
         length all ≤ stream_limit
-        → AreFrames all frames → (result ≡ Served.Done)
+        → AreFrames F.framing place all frames → (result ≡ Served.Done)
         ⊎ (result ≡ Served.ReadFault) ⊎ (result ≡ Served.WriteFault) ⊎ (result ≡ Served.NoMemory) }
     ensures refusal { (all : List ℕ) (offset : ℕ) → S.left source.old ≡ Some all →
         length all ≤ stream_limit
-        → HasBadFrame all offset ⊎ EndsWithin all offset → (result ≡ Served.Refused)
+        → HasBadFrame F.framing place all offset ⊎ EndsWithin F.framing place all offset → (result ≡ Served.Refused)
         ⊎ (result ≡ Served.ReadFault) ⊎ (result ≡ Served.WriteFault) ⊎ (result ≡ Served.NoMemory) }
 
     // An input within the limit, and no fault of either, end in one of these.
@@ -175,9 +193,16 @@ pub fn serve<S: Source, K: Sink>(alloc: Global, source: &mut S, sink: &mut K) ->
         → (result ≡ Served.Done) ⊎ (result ≡ Served.Refused) ⊎ (result ≡ Served.NoMemory) }
     ensures source_count { S.faults source.old ≤ S.faults source.new }
     ensures sink_count { K.faults sink.old ≤ K.faults sink.new }
+
+    // The fault that is told on Refused has the offset of the bad frame, or of the one within which the input ends.
+    ensures fault { (all : List ℕ) (offset : ℕ) → S.left source.old ≡ Some all →
+        result ≡ Served.Refused
+        → HasBadFrame F.framing place all offset ⊎ EndsWithin F.framing place all offset
+        → TellsFault F.framing place (AnswersFrom V.answers service.old) all (K.held sink.old)
+        (K.held sink.new) offset }
 {
-    let mut decoder = Decoder::new(alloc);
-    let mut server = Server::new(alloc);
+    F::is_framing();
+    let mut decoder = FrameDecoder::at(alloc, place);
     let mut out = Vec::new(alloc);
-    run(source, sink, &mut decoder, &mut server, &mut out)
+    run(source, sink, &mut decoder, service, piece, &mut out)
 }

@@ -3,7 +3,7 @@ use Rattle.std.proofs.Common.{◌∙◌, sym, ap, arith}
 use Rattle.std.proofs.lemmas.Grind.{common_steps}
 use Rattle.pm_bid.specs.Checks.{checked_bid}
 use Rattle.pm_wire.proofs.ReadFrames.{bid_refused, not_sender}
-use Rattle.pm_wire.proofs.reading.read_bid.Goals as goal
+use Rattle.pm_wire.proofs.bids.read_bid.Goals as goal
 
 pub returns-then-not-is_sender : goal.returns-then-not-is_sender
 returns-then-not-is_sender c =

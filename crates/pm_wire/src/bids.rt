@@ -1,0 +1,158 @@
+//! Reads the frames of a stream of bids.
+
+ghost use Rattle.std.specs.Prelude.{◌≡◌, ◌+◌, ◌∷◌, ◌≤◌, ◌*◌, length, IsTrue, ◌↔◌, IfOk, IfSome, Some, None};
+ghost use Rattle.pm_base.specs.Limits.{AreSteps};
+ghost use Rattle.pm_wire.specs.Frames.{size_at, place_after, hello_kind, bid_kind, gone_kind, IsSender, MayStand, bid_framing};
+ghost use Rattle.pm_wire.specs.Spelling.{IsOne};
+
+use crate::fields::{read_demands, read_i32, read_u16, read_u32};
+use crate::frame::Frame;
+use crate::framing::StreamFrame;
+use pm_base::MOST_NODES;
+use pm_basis::Basis;
+use pm_bid::{ArrayBid, Steps};
+use std::alloc::{AllocError, Global};
+use std::marker::Brand;
+
+const HELLO: u8 = 1;
+
+const BID: u8 = 2;
+
+const GONE: u8 = 3;
+
+const CLEAR: u8 = 4;
+
+/// How many bytes a frame of this kind has, if it may stand at this place: before Hello, or behind it.
+fn size_at(steps: Option<usize>, kind: u8) -> Option<usize>
+    requires { IfSome steps AreSteps }
+    ensures size { result ≡ size_at steps kind }
+    ensures positive { IfSome result (λ size. 1 ≤ size) }
+{
+    match steps {
+        None => {
+            if kind == HELLO {
+                return Some(11);
+            }
+        }
+        Some(steps) => {
+            if kind == BID {
+                return Some(7 + 4 * steps);
+            }
+            if kind == GONE {
+                return Some(7);
+            }
+            if kind == CLEAR {
+                return Some(1);
+            }
+        }
+    }
+    None
+}
+
+/// Whether a frame may come from this child, under this number.
+fn is_sender(child: u16, number: u32) -> bool
+    ensures { IsTrue result ↔ IsSender child number }
+{
+    1 <= child && usize::from(child) <= MOST_NODES && 1 <= number
+}
+
+/// Reads the fields of Hello.
+fn read_hello(body: &[u8]) -> Option<Frame>
+    requires { length body.now ≡ 10 }
+    ensures { IsOne bid_framing None (hello_kind ∷ body.now) result }
+{
+    let (min, rest) = read_i32(body);
+    let (max, rest) = read_i32(rest);
+    let (steps, _rest) = read_u16(rest);
+    match Basis::new(min, max, i64::from(steps)) {
+        Ok(basis) => Some(Frame::Hello { basis }),
+        Err(_) => None,
+    }
+}
+
+/// Reads the fields of a bid of so many steps.
+fn read_bid(alloc: Global, steps: usize, body: &[u8]) -> Result<Option<Frame>, AllocError>
+    requires steps { AreSteps steps }
+    requires length { length body.now ≡ 6 + 4 * steps }
+    ensures { IfOk result (IsOne bid_framing (Some steps) (bid_kind ∷ body.now)) }
+{
+    let (child, rest) = read_u16(body);
+    let (number, rest) = read_u32(rest);
+    let demands = read_demands(alloc, steps, rest)?;
+    let demand = ArrayBid::new(demands, steps, &mut Steps::<Brand>::start());
+    if !is_sender(child, number) {
+        return Ok(None);
+    }
+    match demand {
+        Ok(demand) => Ok(Some(Frame::Bid {
+            child,
+            number,
+            demand,
+        })),
+        Err(_) => Ok(None),
+    }
+}
+
+/// Reads the fields of Gone, behind a Hello of so many steps.
+fn read_gone(steps: usize, body: &[u8]) -> Option<Frame>
+    requires { length body.now ≡ 6 }
+    ensures { IsOne bid_framing (Some steps) (gone_kind ∷ body.now) result }
+{
+    let (child, rest) = read_u16(body);
+    let (number, _rest) = read_u32(rest);
+    if !is_sender(child, number) {
+        return None;
+    }
+    Some(Frame::Gone { child, number })
+}
+
+/// Reads the fields of a frame of this kind.
+fn read_body(
+    alloc: Global,
+    place: Option<usize>,
+    kind: u8,
+    body: &[u8],
+) -> Result<Option<Frame>, AllocError>
+    requires steps { IfSome place AreSteps }
+    requires size { size_at place kind ≡ Some (length body.now + 1) }
+    ensures { IfOk result (IsOne bid_framing place (kind ∷ body.now)) }
+{
+    let Some(steps) = place else {
+        return Ok(read_hello(body));
+    };
+    if kind == BID {
+        return read_bid(alloc, steps, body);
+    }
+    if kind == GONE {
+        return Ok(read_gone(steps, body));
+    }
+    Ok(Some(Frame::Clear))
+}
+
+impl StreamFrame for Frame {
+    type Place = Option<usize>;
+
+    ghost framing = { bid_framing };
+
+    fn size_at(place: Option<usize>, kind: u8) -> Option<usize> {
+        size_at(place, kind)
+    }
+
+    fn read(
+        alloc: Global,
+        place: Option<usize>,
+        kind: u8,
+        body: &[u8],
+    ) -> Result<Option<Frame>, AllocError> {
+        read_body(alloc, place, kind, body)
+    }
+
+    fn place_behind(&self, place: Option<usize>) -> Option<usize> {
+        match self {
+            Frame::Hello { basis } => Some(basis.steps()),
+            Frame::Bid { .. } | Frame::Gone { .. } | Frame::Clear => place,
+        }
+    }
+
+    fn is_framing() {}
+}
