@@ -6,6 +6,7 @@ use Rattle.std.specs.Io.KnownBytes.{Appends, Consumes, IsAtEnd}
 use Rattle.pm_io.specs.Taken.{TookMore}
 use Rattle.pm_answer.specs.Inputs.{input_limit, HasStatus}
 use Rattle.pm_wire.specs.Streams.{replies, replies_and_fault}
+use Rattle.pm_wire.proofs.Known.{replies_and_fault_are}
 use Rattle.pm_answer.specs.Answers.{IsAnswer, IsSummary}
 use Rattle.pm_top.specs.Top.{IsDue, summary, served, served_fault, served_long, IsServiceEnd, WrotePrefix}
 use Rattle.pm_top.specs.Endings.{EndsUnlessUnwritten, EndsUnlessCutShort, EndsUnlessFailed, EndsUnlessNoMemory, WroteItsText, WrotePartOfDue}
@@ -47,15 +48,21 @@ prefix_is_due command old new before after due text given is same wrote = (due, 
 pub service_is_due : (command : Option Command) (old new held holds : Option (List ℕ)) (status : Status) → command ≡ Some Serve →
     IsServiceEnd status old new held holds → WroteItsText command old new held holds status
 service_is_due command old new held holds Done asks end no_read no_write no_failure =
-    (replies end.frames, served end.frames end.input asks end.consumes end.at_end end.are_frames, end.appends)
+    let is : end.reply ≡ replies end.frames = end.answers in
+    (replies end.frames, served end.frames end.input asks end.consumes end.at_end end.are_frames, subst (Appends held holds) is end.appends)
 service_is_due command old new held holds Invalid asks end no_read no_write no_failure = absurd end
 service_is_due command old new held holds Usage asks end no_read no_write no_failure = absurd end
 service_is_due command old new held holds ReadFault asks end no_read no_write no_failure = absurd (no_read refl)
 service_is_due command old new held holds TooLong asks end no_read no_write no_failure =
     let answered = end.answered in
-    (replies answered.frames, served_long answered.frames end.input asks answered.consumes answered.has end.long, answered.appends)
+    let is : answered.reply ≡ replies answered.frames = answered.answers in (
+      replies answered.frames,
+      served_long answered.frames end.input asks answered.consumes answered.has end.long,
+      subst (Appends held holds) is answered.appends,
+    )
 service_is_due command old new held holds Refused asks end no_read no_write no_failure =
-    (replies_and_fault end.frames, served_fault end.frames end.input asks end.consumes end.fault, end.appends)
+    let is = replies_and_fault_are end.frames end.due end.answers in
+    (replies_and_fault end.frames, served_fault end.frames end.input asks end.consumes end.fault, subst (Appends held holds) is end.appends)
 service_is_due command old new held holds WriteFault asks end no_read no_write no_failure = absurd (no_write refl)
 service_is_due command old new held holds NoMemory asks end no_read no_write no_failure = absurd (no_failure refl)
 

@@ -7,13 +7,13 @@ use Rattle.pm_cache.specs.Cache.{Cache}
 use Rattle.pm_cache.specs.Learning.{with_newer_bid}
 use Rattle.pm_wire.specs.declared.frame.Frame.{Frame}
 use Rattle.pm_wire.specs.declared.frame.Frame.TheVariants.{Hello, Bid, Gone, Clear}
-use Rattle.pm_wire.specs.Framing.{AllStand}
+use Rattle.pm_wire.specs.Framing.{AllStand, stream_bytes}
 use Rattle.pm_wire.specs.Frames.{bid_framing, place_after, place_behind, MayStand}
 use Rattle.pm_wire.specs.Answers.{OpenMarket, open_market, market_after, market_behind, answers_to, answers_behind, answer_bytes, reply_bytes}
 use Rattle.pm_wire.specs.Answers.{place_known, AnswersFrame, IsAtStart}
 use Rattle.pm_wire.specs.Taking.{Runs, AnswersFrom, CanTake, count_limit}
-use Rattle.pm_wire.specs.Services.{HaveOneAnswer}
-use Rattle.pm_wire.specs.Streams.{AreReplies}
+use Rattle.pm_wire.specs.Services.{HaveOneAnswer, AnswersAndFault, fault_bytes}
+use Rattle.pm_wire.specs.Streams.{AreReplies, replies, replies_and_fault}
 
 -- ---- lists of frames
 
@@ -61,6 +61,12 @@ runs_reply market after (f ∷ frames) reply runs =
 -- from the start on they are the replies
 pub from_start : (frames : List Frame) (reply : List ℕ) → AnswersFrom AnswersFrame None frames reply → AreReplies frames reply
 from_start frames reply answers = runs_reply None answers.0 frames reply answers.1
+
+-- what answers frames and tells the fault behind them are the replies and the fault
+pub replies_and_fault_are : (frames : List Frame) (due : List ℕ) → AnswersAndFault bid_framing AreReplies frames due → due ≡ replies_and_fault frames
+replies_and_fault_are frames due d =
+    let is : d.reply ≡ replies frames = d.answers in
+    d.spelled ∙ ap (λ l. l ++ fault_bytes (length (stream_bytes bid_framing frames))) is
 
 -- ---- the place and the clearings
 

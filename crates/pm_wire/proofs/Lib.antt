@@ -13,3 +13,5 @@ pub mod Ending
 pub mod Outcomes
 pub mod EarlyEnds
 pub mod Weaker
+pub mod Calls
+pub mod Newest

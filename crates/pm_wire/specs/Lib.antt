@@ -10,3 +10,5 @@ pub mod MarketFields
 pub mod ServerFields
 pub mod Streams
 pub mod Memory
+pub mod Calls
+pub mod Newest

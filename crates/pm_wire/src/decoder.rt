@@ -3,6 +3,7 @@
 ghost use Rattle.std.specs.Prelude.{◌≡◌, ◌+◌, ◌*◌, ◌<◌, ◌≤◌, ◌++◌, ◌⊎◌, ℕ, List, true, length, drop, vec_len};
 ghost use Rattle.std.specs.Prelude.{IfOk, IfErr, IfSome, IfNone, OnOk, OnErr};
 ghost use Rattle.pm_wire.specs.Framing.{MayStand, IsUnfinished, BeginsBadly};
+ghost use Rattle.pm_wire.specs.Calls.{MakesCall, feed_call, next_call};
 ghost use Rattle.pm_wire.specs.Decoding.{nothing_fed_at, nothing_fed, with_piece, with_refusal, GivesFrame, HoldsLittle};
 
 use crate::fault::DecodeFault;
@@ -98,6 +99,9 @@ impl<F: StreamFrame> FrameDecoder<F> {
         ensures fed { OnOk result (self.new ≡ with_piece self.old piece.now) }
         ensures unchanged { OnErr result (self.new ≡ self.old) }
         ensures little { HoldsLittle self.new }
+
+        // The call as one of a list ([`frames_given_are_those_fed`]).
+        ensures call { MakesCall F.framing self.old (feed_call piece.now result) self.new }
     {
         self.buffer.extend_from_slice(piece)
     }
@@ -133,6 +137,9 @@ impl<F: StreamFrame> FrameDecoder<F> {
         ensures little { HoldsLittle self.new }
         ensures short { IfOk result (λ next. IfNone next
             (length self.new.rest < F.framing.most_bytes)) }
+
+        // The call as one of a list ([`frames_given_are_those_fed`]).
+        ensures call { MakesCall F.framing self.old (next_call result) self.new }
     {
         F::is_framing();
         if self.refused {

@@ -1,10 +1,20 @@
 //! Laws: a stream has one reading, its answers follow from it, and an early end holds a beginning.
 
-ghost use Rattle.std.specs.Prelude.{◌≡◌, ℕ, ◌<◌, List, ◌++◌, length, Option, Some, None};
+ghost use Rattle.std.specs.Prelude.{◌≡◌, ℕ, ◌<◌, ◌≤◌, ℤ, List, ◌∷◌, ◌++◌, length, Option, Some, None};
+ghost use Rattle.pm_base.specs.Limits.{most_nodes};
+ghost use Rattle.pm_basis.specs.Prices.{BasisValue};
+ghost use Rattle.pm_wire.specs.Answers.{OpenMarket, market_behind};
+ghost use Rattle.pm_wire.specs.Newest.{HasGreatestNumber, HasNone, DemandCounts, NothingCounts};
+ghost use Rattle.pm_wire.specs.declared.frame.Frame.TheVariants.{Hello};
 ghost use Rattle.pm_wire.specs.declared.frame.Frame.{Frame};
+ghost use Rattle.pm_wire.specs.Framing as framing;
+ghost use Rattle.pm_wire.specs.Calls.{Call, waits, refuses, MakesCall, MakeCalls, bytes_fed, frames_given};
+ghost use Rattle.pm_wire.specs.Decoding.{Decoding, nothing_fed_at};
 ghost use Rattle.pm_wire.specs.Streams.{IsDone, IsRefused, IsAnswered, FailsReading, IsLongStream, IsCutShort, IsBegun};
 ghost use Rattle.pm_wire.specs.Streams.{stream_limit, EndsWhole, HoldsFirstAnswers, HoldsLess};
-ghost use Rattle.pm_wire.specs.Frames.{BeginsWith, AreFrames, Stops, place_behind, HasBadFrame, EndsWithin};
+ghost use Rattle.pm_wire.specs.Frames.{bid_framing, BeginsWith, AreFrames, Stops, place_behind, HasBadFrame, EndsWithin};
+
+use crate::framing::StreamFrame;
 
 /// A law: some bytes have one list of frames, and one offset at which a bad frame stands or they end within one, and no two
 /// of these. A bad frame stays where it is, whatever follows.
@@ -26,6 +36,30 @@ pub fn streams_have_one_reading()
     ensures bad_stays { (bytes more : List ℕ) (offset : ℕ)
         → HasBadFrame bytes offset → HasBadFrame (bytes ++ more) offset }
 {}
+
+/// A law over any list of calls of `feed` and `next`: the frames given are the first of the bytes fed, in whatever pieces these
+/// came, and what is left stands behind them. If `next` gives none, the frames given are all whole ones. If it tells a bad
+/// frame, the offset is that of the bad frame in the bytes fed.
+pub fn frames_given_are_those_fed<F: StreamFrame>()
+    ensures first { (start : F.Place) (calls : List (Call F)) (new : Decoding F.Place)
+        → MakeCalls F.framing (nothing_fed_at start) calls new
+        → framing.BeginsWith F.framing start (bytes_fed calls) (frames_given calls) new.rest }
+    ensures all { (start : F.Place) (calls : List (Call F)) (mid new : Decoding F.Place)
+        → MakeCalls F.framing (nothing_fed_at start) calls mid → MakesCall F.framing mid waits new
+        → framing.HasFrames F.framing start (bytes_fed calls) (frames_given calls) }
+    ensures bad { (start : F.Place) (calls : List (Call F)) (mid new : Decoding F.Place) (at : ℕ)
+        → MakeCalls F.framing (nothing_fed_at start) calls mid
+        → MakesCall F.framing mid (refuses at) new
+        → framing.HasBadFrame F.framing start (bytes_fed calls) at }
+    ensures however_cut { (start : F.Place) (calls others : List (Call F))
+        (mid new middle last : Decoding F.Place) → bytes_fed calls ≡ bytes_fed others
+        → MakeCalls F.framing (nothing_fed_at start) calls mid → MakesCall F.framing mid waits new
+        → MakeCalls F.framing (nothing_fed_at start) others middle
+        → MakesCall F.framing middle waits last
+        → frames_given calls ≡ frames_given others }
+{
+    F::is_framing();
+}
 
 /// A law: what a service appends is a function of the bytes of its input if it ends with Done, and if it ends with Refused,
 /// however the source cuts them. One input does not end both ways. If the source fails, or the input is too long, what is
@@ -70,4 +104,19 @@ pub fn early_ends_hold_a_beginning()
     ensures write_fault { (all held : List ℕ) (new other holds kept : Option (List ℕ))
         → IsCutShort (Some all) new (Some held) holds → EndsWhole (Some all) other (Some held) kept
         → HoldsLess held holds kept }
+{}
+
+/// A law: of each child the Bid or Gone with the greatest number counts, whatever the order of the frames, and nothing of a child
+/// from which none came. Behind Hello the demand of a Bid that counts is the child's, and that of a Gone is no power.
+pub fn the_greatest_number_counts()
+    ensures counts { (basis : BasisValue) (frames : List Frame) (market : OpenMarket)
+        (child number : ℕ) (demand : Option (List ℤ)) →
+        framing.AllStand bid_framing (Some basis.steps) frames
+        → market_behind None (Hello basis ∷ frames) ≡ Some market → 1 ≤ child
+        → child ≤ most_nodes → HasGreatestNumber child frames number demand
+        → DemandCounts market.cache child number demand }
+    ensures none_counts { (basis : BasisValue) (frames : List Frame) (market : OpenMarket)
+        (child : ℕ) → framing.AllStand bid_framing (Some basis.steps) frames
+        → market_behind None (Hello basis ∷ frames) ≡ Some market → 1 ≤ child
+        → child ≤ most_nodes → HasNone child frames → NothingCounts market.cache child }
 {}

@@ -34,7 +34,10 @@ pub use decoder::{Decoder, FrameDecoder};
 pub use fault::DecodeFault;
 pub use frame::Frame;
 pub use framing::StreamFrame;
-pub use laws::{replies_are_of_the_bytes, streams_have_one_reading};
+pub use laws::{
+    early_ends_hold_a_beginning, frames_given_are_those_fed, replies_are_of_the_bytes,
+    streams_have_one_reading, the_greatest_number_counts,
+};
 pub use server::Server;
 pub use service::Service;
 pub use stream::{STREAM_LIMIT, Served, serve_frames};
