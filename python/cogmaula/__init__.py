@@ -1,0 +1,98 @@
+"""From measured data to a decision, around the proved electronic market `market`.
+
+Build or load a `Cluster`, `run` it, and look at the data frames of the `Run`:
+
+    from cogmaula import Cluster, run
+
+    day = run("examples/village.json")
+    print(day.prices)
+
+The package calls the proved program, and works out nothing that the program proves. docs/PYTHON.md says what each call is for.
+"""
+
+from .calls import Trace, ask, bill, check, run, trace
+from .cluster import Basis, Cluster, Source
+from .errors import (
+    Invalid,
+    MarketError,
+    NoPackage,
+    NoProgram,
+    OutOfMemory,
+    Place,
+    ProgramFault,
+    Refused,
+    TooLong,
+    Unreadable,
+)
+from .nodes import (
+    Battery,
+    Cogeneration,
+    Concentrator,
+    Freezer,
+    HeatPump,
+    Limited,
+    Load,
+    Manual,
+    Node,
+    Objective,
+    Solar,
+)
+from .phases import Event, Events, Join, Leave, Phase, State, Tick
+from .program import Program
+from .runs import Run
+from .states import Bid, DeviceState, Snapshot
+from .texts import Account, Answer, Answers, Bill, GroupEnd, Move, PhaseEnd, Range, Report
+
+__all__ = [
+    "Account",
+    "Answer",
+    "Answers",
+    "Basis",
+    "Battery",
+    "Bid",
+    "Bill",
+    "Cluster",
+    "Cogeneration",
+    "Concentrator",
+    "DeviceState",
+    "Event",
+    "Events",
+    "Freezer",
+    "GroupEnd",
+    "HeatPump",
+    "Invalid",
+    "Join",
+    "Leave",
+    "Limited",
+    "Load",
+    "Manual",
+    "MarketError",
+    "Move",
+    "NoPackage",
+    "NoProgram",
+    "Node",
+    "Objective",
+    "OutOfMemory",
+    "Phase",
+    "PhaseEnd",
+    "Place",
+    "Program",
+    "ProgramFault",
+    "Range",
+    "Refused",
+    "Report",
+    "Run",
+    "Snapshot",
+    "Solar",
+    "Source",
+    "State",
+    "Tick",
+    "TooLong",
+    "Trace",
+    "Unreadable",
+    "ask",
+    "bill",
+    "check",
+    "run",
+    "trace",
+]

@@ -1,0 +1,99 @@
+"""The command line `cogmaula COMMAND`. Each module of `commands/` is a command; this file finds and calls them."""
+
+from __future__ import annotations
+
+import argparse
+import importlib
+import os
+import pkgutil
+import sys
+from collections.abc import Sequence
+from datetime import datetime
+from typing import Protocol, cast
+
+from . import commands
+from .errors import Invalid, MarketError, Refused, TooLong, Unreadable
+from .program import VARIABLE, Program
+
+# The exit status of a command that could not do its work, and of one whose file is refused, too long, invalid or no cluster file.
+FAILED, REFUSED = 1, 5
+
+
+class Command(Protocol):
+    """A module of `commands/`. Its name with - for _ and without _ at its end is the command's."""
+
+    # One line: what the command does.
+    HELP: str
+    # What `--help` says beyond the arguments.
+    MORE: str
+
+    def add_arguments(self, parser: argparse.ArgumentParser) -> None:
+        """Adds the command's own arguments."""
+
+    def main(self, arguments: argparse.Namespace) -> int:
+        """Does the work, and gives the exit status. Errors of this package and OSError may be raised."""
+
+
+def command_names() -> dict[str, str]:
+    """The module of each command, by the command's name."""
+    modules = sorted(it.name for it in pkgutil.iter_modules(commands.__path__))
+    return {it.rstrip("_").replace("_", "-"): it for it in modules if not it.startswith("_")}
+
+
+def command_of(module: str) -> Command:
+    """The command that a module of `commands/` is."""
+    return cast(Command, importlib.import_module(f"{commands.__name__}.{module}"))
+
+
+def moment(text: str) -> datetime:
+    """A moment that the user writes as 2026-01-31 or 2026-01-31T06:30."""
+    return datetime.fromisoformat(text)
+
+
+def make_parser() -> argparse.ArgumentParser:
+    """The parser of all commands."""
+    parser = argparse.ArgumentParser(
+        prog="cogmaula",
+        description="From measured data to a decision, around the proved electronic market.",
+        epilog="cogmaula COMMAND --help says more of a command.",
+    )
+    below = parser.add_subparsers(dest="command", metavar="COMMAND", required=True)
+    for name, module in command_names().items():
+        command = command_of(module)
+        one = below.add_parser(
+            name, help=command.HELP, description=f"{command.HELP[0].upper()}{command.HELP[1:]}. {command.MORE}"
+        )
+        command.add_arguments(one)
+        one.add_argument("--program", metavar="PATH", help=f"the proved program, its installed command or its checkout; else ${VARIABLE}")
+        one.set_defaults(main=command.main)
+    return parser
+
+
+def program_of(arguments: argparse.Namespace) -> Program:
+    """The program that the user named, or the one that is found."""
+    return Program.find(arguments.program)
+
+
+def main(words: Sequence[str] | None = None) -> int:
+    """Runs the command of these words, by default those of the command line, and gives the exit status."""
+    arguments = make_parser().parse_args(words)
+    try:
+        return int(arguments.main(arguments))
+    except BrokenPipeError:
+        # The reader has gone: nothing more can be said there.
+        os.dup2(os.open(os.devnull, os.O_WRONLY), 1)
+        return FAILED
+    except (Refused, TooLong, Invalid, Unreadable) as error:
+        print(f"cogmaula: {error}{hint_of(arguments, error)}", file=sys.stderr)
+        return REFUSED
+    except (MarketError, OSError) as error:
+        print(f"cogmaula: {error}", file=sys.stderr)
+        return FAILED
+
+
+def hint_of(arguments: argparse.Namespace, error: MarketError) -> str:
+    """What to do about a refused file, if the command was given one."""
+    file = getattr(arguments, "file", None)
+    if not isinstance(error, Refused | Unreadable) or not isinstance(file, str):
+        return ""
+    return f"\ncogmaula: cogmaula explain {file} says where and why"

@@ -1,0 +1,144 @@
+"""A cluster: its prices, its tree of nodes and its script, as a value that is read, built by code and written."""
+
+from __future__ import annotations
+
+import json
+import os
+from collections.abc import Iterable
+from dataclasses import dataclass, replace
+from pathlib import Path
+
+from .nodes import AUCTIONEER, Node
+from .phases import Events, Join, Phase, Tick
+from .program import Program, found_program
+
+
+@dataclass(frozen=True)
+class Basis:
+    """The prices of a market: `steps` whole prices at equal distances from `min` to `max`, in price units."""
+
+    min: int
+    max: int
+    steps: int
+
+    def price(self, step: int) -> int:
+        """The price of a step, which counts from 0."""
+        return self.min + step * (self.max - self.min) // (self.steps - 1)
+
+    @property
+    def prices(self) -> list[int]:
+        """The price of each step."""
+        return [self.price(step) for step in range(self.steps)]
+
+
+@dataclass(frozen=True, init=False)
+class Cluster:
+    """A tree of devices and concentrators under one auctioneer, and what happens to it, phase by phase.
+
+    A cluster looks at none of its numbers, names and places. The program does: `check` asks it.
+    """
+
+    basis: Basis
+    nodes: tuple[Node, ...]
+    phases: tuple[Phase, ...]
+    version: int
+
+    def __init__(
+        self, basis: Basis, nodes: Iterable[Node] = (), phases: Iterable[Phase] = (), version: int = 2
+    ) -> None:
+        """Takes nodes and phases in the order of the file. Only version 2 knows limited concentrators."""
+        object.__setattr__(self, "basis", basis)
+        object.__setattr__(self, "nodes", tuple(nodes))
+        object.__setattr__(self, "phases", tuple(phases))
+        object.__setattr__(self, "version", version)
+
+    # Reading and writing.
+
+    @staticmethod
+    def load(path: str | os.PathLike[str]) -> Cluster:
+        """The cluster of a file. Raises Unreadable if the text has another shape, and OSError."""
+        return Cluster.from_json(Path(path).read_bytes())
+
+    @staticmethod
+    def from_json(text: str | bytes) -> Cluster:
+        """The cluster of a text. Raises Unreadable if it has another shape: the program refuses each such text."""
+        from .reader import cluster_of
+
+        return cluster_of(text)
+
+    def to_json(self) -> str:
+        """The text of the cluster file, with a node or a phase in each line."""
+        nodes, phases = (",\n".join(json.dumps(it.members()) for it in them) for them in (self.nodes, self.phases))
+        basis = {"min": self.basis.min, "max": self.basis.max, "steps": self.basis.steps}
+        return (
+            f'{{\n"version": {json.dumps(self.version)},\n"basis": {json.dumps(basis)},\n'
+            f'"nodes": [\n{nodes}\n],\n"phases": [\n{phases}\n]\n}}\n'
+        )
+
+    def to_bytes(self) -> bytes:
+        """The bytes of the cluster file."""
+        return self.to_json().encode("utf-8", "surrogatepass")
+
+    def save(self, path: str | os.PathLike[str]) -> None:
+        """Writes the cluster file."""
+        Path(path).write_bytes(self.to_bytes())
+
+    # Building.
+
+    def with_nodes(self, *nodes: Node) -> Cluster:
+        """The cluster with these nodes behind its own."""
+        return replace(self, nodes=(*self.nodes, *nodes))
+
+    def with_phases(self, *phases: Phase) -> Cluster:
+        """The cluster with these phases behind its own."""
+        return replace(self, phases=(*self.phases, *phases))
+
+    def with_script(self, phases: Iterable[Phase]) -> Cluster:
+        """The cluster with these phases in place of its own."""
+        return replace(self, phases=tuple(phases))
+
+    def join_all(self) -> Events:
+        """A phase in which all devices join, in the order of the file."""
+        return Events(Join(it.name) for it in self.devices)
+
+    # Looking.
+
+    @property
+    def devices(self) -> list[Node]:
+        """The leaves of the tree, in the order of the file."""
+        return [it for it in self.nodes if it.is_device]
+
+    def node(self, name: str) -> Node:
+        """The node with this name. Raises KeyError if there is none."""
+        for it in self.nodes:
+            if it.name == name:
+                return it
+        raise KeyError(name)
+
+    @property
+    def minutes(self) -> int:
+        """The minutes of all ticks."""
+        return sum(it.minutes for it in self.phases if isinstance(it, Tick))
+
+    def groups(self) -> dict[str, str | None]:
+        """For each node the limited concentrator that it is or stands below, or None."""
+        found: dict[str, str | None] = {AUCTIONEER: None}
+        for it in self.nodes:
+            found[it.name] = it.name if it.kind == "limited" else found.get(it.above)
+        del found[AUCTIONEER]
+        return found
+
+    def check(self, program: Program | None = None) -> None:
+        """Asks the program whether it takes the cluster. Raises what a run would, above all Refused."""
+        (program or found_program()).answer("run", self.to_bytes())
+
+
+# What a call takes for a cluster: the cluster, the path of its file, or the bytes of the file.
+Source = Cluster | str | os.PathLike[str] | bytes
+
+
+def bytes_of(source: Source) -> bytes:
+    """The bytes of the cluster file that a source names. Raises OSError."""
+    if isinstance(source, Cluster):
+        return source.to_bytes()
+    return source if isinstance(source, bytes) else Path(source).read_bytes()

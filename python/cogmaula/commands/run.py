@@ -1,0 +1,36 @@
+"""`cogmaula run FILE`: runs a cluster file, prints what came of it, and writes tables."""
+
+from __future__ import annotations
+
+import argparse
+import sys
+
+from .. import calls, cli
+
+HELP = "runs a cluster file, and writes its report or tables"
+MORE = (
+    "Without -o it prints the program's own report. With -o it writes tables into a folder: prices, powers, bids, states, limited"
+    " groups, violations of their limits, and accounts."
+)
+
+
+def add_arguments(parser: argparse.ArgumentParser) -> None:
+    """Adds the arguments of run."""
+    parser.add_argument("file", metavar="FILE", help="the cluster file")
+    parser.add_argument("-o", "--output", metavar="FOLDER", help="where to write the tables")
+    parser.add_argument("--format", choices=["csv", "json-lines", "parquet"], default="csv", help="of the tables; default csv")
+    parser.add_argument("--start", type=cli.moment, metavar="MOMENT", help="the moment before the first phase; default 2000-01-01")
+
+
+def main(arguments: argparse.Namespace) -> int:
+    """Runs the file."""
+    done = calls.run(arguments.file, start=arguments.start, program=cli.program_of(arguments))
+    if arguments.output is None:
+        sys.stdout.write(done.text.decode())
+    elif arguments.format == "json-lines":
+        done.to_json_lines(arguments.output)
+    elif arguments.format == "csv":
+        done.to_csv(arguments.output)
+    else:
+        done.to_parquet(arguments.output)
+    return 0

@@ -1,0 +1,82 @@
+"""The script of a cluster: phases, each a list of events or a tick."""
+
+from __future__ import annotations
+
+from collections.abc import Iterable
+from dataclasses import dataclass
+from typing import Any
+
+from .nodes import Demand, Points, as_demand, as_points
+
+
+@dataclass(frozen=True)
+class Join:
+    """The device becomes a member, with the state that it had last, at first its start."""
+
+    device: str
+
+    def members(self) -> dict[str, Any]:
+        """The members of the event in the cluster file."""
+        return {"join": self.device}
+
+
+@dataclass(frozen=True)
+class Leave:
+    """The device's membership ends. It keeps its state."""
+
+    device: str
+
+    def members(self) -> dict[str, Any]:
+        """The members of the event in the cluster file."""
+        return {"leave": self.device}
+
+
+@dataclass(frozen=True)
+class State:
+    """A member has a new state: a `value` in the unit of its start, or for a manual device its `demand` or `points`."""
+
+    device: str
+    value: int | None = None
+    demand: Demand | None = None
+    points: Points | None = None
+
+    def __post_init__(self) -> None:
+        """Takes lists as well as tuples."""
+        object.__setattr__(self, "demand", as_demand(self.demand))
+        object.__setattr__(self, "points", as_points(self.points))
+
+    def members(self) -> dict[str, Any]:
+        """The members of the event in the cluster file."""
+        given = {"value": self.value, "demand": self.demand, "points": self.points}
+        return {"state": self.device, **{name: it for name, it in given.items() if it is not None}}
+
+
+Event = Join | Leave | State
+
+
+@dataclass(frozen=True)
+class Events:
+    """A phase of events, in their order. It takes no time."""
+
+    events: tuple[Event, ...]
+
+    def __init__(self, events: Iterable[Event] = ()) -> None:
+        object.__setattr__(self, "events", tuple(events))
+
+    def members(self) -> dict[str, Any]:
+        """The members of the phase in the cluster file."""
+        return {"events": [it.members() for it in self.events]}
+
+
+@dataclass(frozen=True)
+class Tick:
+    """A phase in which so many minutes pass, and the states that change by themselves."""
+
+    minutes: int
+
+    def members(self) -> dict[str, Any]:
+        """The members of the phase in the cluster file."""
+        return {"tick": self.minutes}
+
+
+Phase = Events | Tick

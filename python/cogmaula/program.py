@@ -1,0 +1,202 @@
+"""The proved program: where it is found, how it is run, and what its statuses and lines mean.
+
+A `Program` is only ever one that was proved: the installed command, whose installer takes no other, or the program of a
+checkout whose stamp says that it was proved from the sources of today. Whoever names another program by a path answers for it.
+"""
+
+from __future__ import annotations
+
+import os
+import re
+import shutil
+import subprocess
+from dataclasses import dataclass, field
+from functools import cache
+from pathlib import Path
+from typing import NoReturn
+
+from .errors import Invalid, MarketError, NoProgram, OutOfMemory, Place, ProgramFault, Refused, TooLong, What
+
+VARIABLE = "COGMAULA_MARKET"
+REFUSED = re.compile(rb"refused (\d+) (document|basis|node|phase|event|line)((?: \d+)*?)(?: item (\d+))?\n")
+TOO_LONG = re.compile(rb"too long, more than (\d+) bytes\n")
+INVALID = re.compile(rb"invalid line (\d+)\n")
+FAULT_FRAME = 8
+
+
+@dataclass(frozen=True)
+class Program:
+    """The proved program `market`.
+
+    path:  the file that is run
+    found: in words, where it comes from
+    mark:  the file's number, size and time of change when it was found proved; a changed file is not run
+    """
+
+    path: str
+    found: str
+    mark: tuple[int, int, int] = field(repr=False)
+
+    @staticmethod
+    def find(path: str | os.PathLike[str] | None = None) -> Program:
+        """The proved program, looked for in this order:
+
+        1. `path`, if it is given;
+        2. the path in the environment variable COGMAULA_MARKET;
+        3. the installed command `market` on the PATH;
+        4. the checkout that this package lies in.
+
+        A path is that of the installed command, of a checkout or its script, or of the program itself.
+
+        Raises NoProgram if none is proved there.
+        """
+        named = path if path is not None else os.environ.get(VARIABLE) or None
+        if named is not None:
+            return _named(Path(named).absolute())
+        looked: list[str] = []
+        for look in (_on_path, _beside_package):
+            try:
+                return look()
+            except NoProgram as error:
+                looked.append(str(error))
+        raise NoProgram(
+            f"no proved program is at hand: {'; '.join(looked)}. Install market, prove a checkout by ./market prove, "
+            f"or name the program by --program or {VARIABLE}"
+        )
+
+    def answer(self, command: str, data: bytes, timeout: float | None = None) -> bytes:
+        """What the program writes with status 0 for this command with this standard input.
+
+        command: run, trace, bill, free, ask, check or serve
+        data:    the whole standard input
+        timeout: the seconds after which the program is ended, or None
+
+        Raises Refused, TooLong, Invalid, OutOfMemory or ProgramFault, each by its status, and NoProgram if the file changed.
+        """
+        if _mark_of(self.path) != self.mark:
+            raise NoProgram(f"{self.path} changed since it was found proved: look for it again")
+        try:
+            done = subprocess.run([self.path, command], input=data, capture_output=True, timeout=timeout, check=False)
+        except subprocess.TimeoutExpired:
+            raise ProgramFault(f"{command} did not end within {timeout} seconds") from None
+        except OSError as error:
+            raise ProgramFault(f"{self.path} cannot be started: {error.strerror}") from None
+        if done.returncode != 0:
+            _raise_for(command, done.returncode, done.stdout, done.stderr)
+        return done.stdout
+
+
+def _raise_for(command: str, status: int, text: bytes, said: bytes) -> NoReturn:
+    """Raises the error of a status other than 0."""
+    error: MarketError | None = None
+    match status:
+        case 1 if found := INVALID.fullmatch(text):
+            error = Invalid(int(found[1]))
+        case 4 if found := TOO_LONG.fullmatch(text):
+            error = TooLong(int(found[1]))
+        case 5 if command == "serve" and len(text) >= 9 and text[-9] == FAULT_FRAME:
+            error = Refused(24, Place("frame", (int.from_bytes(text[-8:], "big"),)))
+        case 5 if found := REFUSED.fullmatch(text):
+            error = refusal_of(found)
+        case 7:
+            error = OutOfMemory(f"{command} lacked memory: raise its limit, end other programs, or split the cluster")
+    if error is None:
+        words = said.decode(errors="replace").strip() or text[:200].decode(errors="replace").strip()
+        how = f"was ended by signal {-status}" if status < 0 else f"ended with status {status}"
+        error = ProgramFault(f"{command} {how}{': ' if words else ''}{words}")
+    raise error
+
+
+def refusal_of(found: re.Match[bytes]) -> Refused:
+    """The refusal that the line of a match of REFUSED tells."""
+    what: What = found[2].decode()  # type: ignore[assignment]
+    numbers = tuple(map(int, found[3].split()))
+    return Refused(int(found[1]), Place(what, numbers), None if found[4] is None else int(found[4]))
+
+
+def _mark_of(path: str) -> tuple[int, int, int]:
+    """The file's number, size and time of change, or zeros where there is none."""
+    try:
+        told = os.stat(path)
+    except OSError:
+        return 0, 0, 0
+    return told.st_ino, told.st_size, told.st_ctime_ns
+
+
+def _made(path: Path, found: str) -> Program:
+    """The program at this path."""
+    if not os.access(path, os.X_OK) or not path.is_file():
+        raise NoProgram(f"{path} is no program")
+    return Program(str(path), found, _mark_of(str(path)))
+
+
+def _is_checkout(folder: Path) -> bool:
+    """Whether a folder is a checkout of the program's sources."""
+    return all((folder / it).is_file() for it in ("market", "crates.txt", "script/program.sh"))
+
+
+def _named(path: Path) -> Program:
+    """The program that a user's path names."""
+    if _is_checkout(path):
+        return _of_checkout(path)
+    if not path.exists():
+        raise NoProgram(f"{path} does not exist")
+    real = path.resolve()
+    if _is_checkout(real.parent) and real.name == "market":
+        return _of_checkout(real.parent)
+    if real.parts[-4:] == ("crates", "market", "out", "market") and _is_checkout(real.parents[3]):
+        return _of_checkout(real.parents[3])
+    return _installed(real) or _made(real, f"named as {path}")
+
+
+def _of_checkout(folder: Path) -> Program:
+    """The program of a checkout, which says itself whether it was proved from the sources of today."""
+    told = subprocess.run([str(folder / "market"), "version"], capture_output=True, text=True, check=False).stdout
+    lines = told.splitlines()
+    if len(lines) != 2 or not lines[1].startswith("a proved program is at hand, "):
+        why = lines[1].removeprefix("no proved program is at hand: ") if len(lines) == 2 else "its script market does not answer"
+        raise NoProgram(f"{folder}: {why}")
+    return _made(folder / "crates" / "market" / "out" / "market", f"the checkout {folder}: {lines[1]}")
+
+
+def _installed(script: Path) -> Program | None:
+    """The program behind an installed command, or None if the file is no such command."""
+    try:
+        text = script.read_text()
+    except (OSError, UnicodeDecodeError):
+        return None
+    below = re.search(r'^program="\$root(/[^"]+)"$', text, re.M)
+    place = re.search(r'^root="\$\{folder%"([^"]+)"\}"$', text, re.M)
+    if not below or not place or "installed=yes" not in text:
+        return None
+    folder = str(script.parent)
+    root = folder.removesuffix(place[1])
+    return _made(Path(("" if root == folder else root) + below[1]), f"the installed command {script}")
+
+
+def _on_path() -> Program:
+    """The program of the installed command `market` on the PATH."""
+    found = shutil.which("market")
+    if found is None:
+        raise NoProgram("no command market is on the PATH")
+    script = Path(found).resolve()
+    if _is_checkout(script.parent):
+        return _of_checkout(script.parent)
+    program = _installed(script)
+    if program is None:
+        raise NoProgram(f"{found} is no installed market")
+    return program
+
+
+def _beside_package() -> Program:
+    """The program of the checkout that this package lies in."""
+    folder = Path(__file__).resolve().parents[2]
+    if not _is_checkout(folder):
+        raise NoProgram("the package lies in no checkout")
+    return _of_checkout(folder)
+
+
+@cache
+def found_program() -> Program:
+    """The program that `Program.find()` finds, looked for once in a process."""
+    return Program.find()

@@ -1,0 +1,115 @@
+"""Reads a cluster file into a `Cluster`.
+
+It looks only at what a `Cluster` cannot hold: the names of members, and objects and lists in their places. All else goes through as
+it is, so that the program says what it says of the file.
+"""
+
+from __future__ import annotations
+
+import json
+from collections.abc import Callable
+from dataclasses import MISSING, fields
+from typing import Any
+
+from .cluster import Basis, Cluster
+from .errors import Unreadable
+from .nodes import KINDS, Node
+from .phases import Event, Events, Join, Leave, Phase, State, Tick
+
+# The members of a state of which the first that is there counts.
+FORMS = ("value", "demand", "points")
+
+
+def cluster_of(text: str | bytes) -> Cluster:
+    """The cluster of a text. Raises Unreadable."""
+    document = _object("", _json(text), ("version", "basis", "nodes", "phases"))
+    basis = _object("basis", document["basis"], ("min", "max", "steps"))
+    nodes = [_node(f"nodes[{at}]", it) for at, it in enumerate(_list("nodes", document["nodes"]))]
+    phases = [_phase(f"phases[{at}]", it) for at, it in enumerate(_list("phases", document["phases"]))]
+    return Cluster(Basis(**basis), nodes, phases, document["version"])
+
+
+def _whole(digits: str) -> int | float:
+    """A whole number. -0 is none for the program, so it stays apart from 0."""
+    return -0.0 if digits == "-0" else int(digits)
+
+
+def _json(text: str | bytes) -> Any:
+    """The JSON value of a text."""
+    try:
+        words = text.decode() if isinstance(text, bytes) else text
+        return json.loads(words, parse_int=_whole)
+    except UnicodeDecodeError as error:
+        raise Unreadable("", f"the bytes are not UTF-8 at byte {error.start}") from None
+    except RecursionError:
+        raise Unreadable("", "the nesting is too deep") from None
+    except ValueError as error:
+        raise Unreadable("", f"no JSON: {error}") from None
+
+
+def _object(path: str, value: Any, members: tuple[str, ...]) -> dict[str, Any]:
+    """An object that has exactly these members."""
+    if not isinstance(value, dict):
+        raise Unreadable(path, "an object is due")
+    for name in members:
+        if name not in value:
+            raise Unreadable(path, f"the member {name} is missing")
+    for name in value:
+        if name not in members:
+            raise Unreadable(path, f"the member {name!r} is not known")
+    return value
+
+
+def _list(path: str, value: Any) -> list[Any]:
+    if not isinstance(value, list):
+        raise Unreadable(path, "a list is due")
+    return value
+
+
+def _bid(path: str, value: dict[str, Any]) -> dict[str, Any]:
+    """The members of an object with its bid, if it has one, as lists that can be kept."""
+    if isinstance(value.get("demand", []), list) and _are_pairs(value.get("points", [])):
+        return value
+    raise Unreadable(path, "demand is no list, or points is no list of pairs")
+
+
+def _are_pairs(value: Any) -> bool:
+    return isinstance(value, list) and all(isinstance(it, list) and len(it) == 2 for it in value)
+
+
+def _node(path: str, value: Any) -> Node:
+    if not isinstance(value, dict):
+        raise Unreadable(path, "an object is due")
+    kind = value.get("kind")
+    if not isinstance(kind, str) or kind not in KINDS:
+        raise Unreadable(path, f"no kind of node is {kind!r}" if "kind" in value else "the member kind is missing")
+    named = [it for it in fields(KINDS[kind]) if it.default is MISSING or it.name == "parent"]
+    members = ["name", "kind", *(it.name for it in named if it.name != "name")]
+    if kind == "manual":
+        members.append(next((it for it in ("demand", "points") if it in value), "demand"))
+    own = dict(_bid(path, _object(path, value, tuple(members))))
+    del own["kind"]
+    return KINDS[kind](**own)
+
+
+def _event(path: str, value: Any) -> Event:
+    if not isinstance(value, dict):
+        raise Unreadable(path, "an object is due")
+    makers: dict[str, Callable[[str], Event]] = {"join": Join, "leave": Leave}
+    for word, maker in makers.items():
+        if word in value:
+            return maker(_object(path, value, (word,))[word])
+    form = next((it for it in FORMS if it in value), "value")
+    own = _bid(path, _object(path, value, ("state", form)))
+    if own[form] is None:
+        raise Unreadable(path, f"{form} is null")
+    return State(own["state"], **{form: own[form]})
+
+
+def _phase(path: str, value: Any) -> Phase:
+    if not isinstance(value, dict):
+        raise Unreadable(path, "an object is due")
+    if "events" in value:
+        events = _list(f"{path}.events", _object(path, value, ("events",))["events"])
+        return Events(_event(f"{path}.events[{at}]", it) for at, it in enumerate(events))
+    return Tick(_object(path, value, ("tick",))["tick"])

@@ -1,0 +1,209 @@
+"""A run of a cluster: the report of the program as values, as data frames, and as files for other tools."""
+
+from __future__ import annotations
+
+import json
+import os
+from collections.abc import Iterator
+from datetime import datetime, timedelta
+from functools import cached_property
+from pathlib import Path
+from typing import Any
+
+from . import frames
+from .cluster import Cluster
+from .errors import NoPackage
+from .phases import Tick
+from .program import Program, found_program
+from .states import Snapshot, last_snapshot
+from .texts import Bill, PhaseEnd, bill_of, report_of
+
+# The data frames of a run that are written to files, a file each.
+TABLES = ("prices", "powers", "bids", "states", "limited_groups", "violations", "accounts")
+
+
+class Run:
+    """A run of a cluster by the proved program.
+
+    cluster: what was run
+    text:    the report, as the program wrote it
+    ends:    the end of each phase
+    changes: the number of changes of the run
+    start:   the moment at which the first phase ends, if that is no tick
+
+    All data frames are made when they are first asked for. They need pandas, and raise NoPackage without it.
+    """
+
+    def __init__(
+        self, cluster: Cluster, text: bytes, start: datetime | None = None, program: Program | None = None
+    ) -> None:
+        """Takes the report that the program wrote of the cluster. Raises ProgramFault if the text has another form."""
+        report = report_of(text)
+        self.cluster = cluster
+        self.text = text
+        self.ends: tuple[PhaseEnd, ...] = report.ends
+        self.changes = report.changes
+        self.start = start or frames.START
+        self._program = program
+
+    @property
+    def program(self) -> Program:
+        """The program that further questions about this run go to."""
+        return self._program or found_program()
+
+    # Times.
+
+    @cached_property
+    def times(self) -> list[datetime]:
+        """The moment of each phase's end: the start and the minutes of all ticks up to it."""
+        found, now = [], self.start
+        for phase in self.cluster.phases:
+            now += timedelta(minutes=phase.minutes if isinstance(phase, Tick) else 0)
+            found.append(now)
+        return found
+
+    @cached_property
+    def durations(self) -> list[int]:
+        """How many minutes the end of each phase lasts: those of the next phase if that is a tick, else 0.
+
+        The powers and prices of a phase's end hold over the tick behind it. The bill goes by the same.
+        """
+        following = [it.minutes if isinstance(it, Tick) else 0 for it in self.cluster.phases[1:]]
+        return [*following, 0][: len(self.ends)]
+
+    # Data frames.
+
+    @cached_property
+    def _index(self) -> Any:
+        return frames.index_of(self.times, self.ends)
+
+    @cached_property
+    def prices(self) -> Any:
+        """A row for each phase, with the index (time, phase). All columns are int64.
+
+        price:   the clearing price, in price units
+        step:    its step, from 0
+        total_W: the total that is left over, in watts: above 0 if power is lacking at every price, else what is delivered too much
+        members: how many devices are members
+        minutes: how long the end of the phase lasts
+        """
+        return frames.prices(self._index, self.ends, self.durations)
+
+    @cached_property
+    def powers(self) -> Any:
+        """The power of each device in watts, positive if it takes power: (time, phase) by device, Int64, <NA> if no member."""
+        return frames.wide(self._index, [it.name for it in self.cluster.devices], [it.powers for it in self.ends])
+
+    @cached_property
+    def bids(self) -> Any:
+        """The number of each device's bid, which is that of its last change: shaped as `powers`."""
+        return frames.wide(self._index, [it.name for it in self.cluster.devices], [it.bids for it in self.ends])
+
+    @cached_property
+    def states(self) -> Any:
+        """The state of each device but the manual ones: (time, phase) by device, Int64. Devices keep it while they are no members.
+
+        Of a battery it is the charge in watt-hours, of a freezer, heat pump or cogeneration unit the temperature in the unit of
+        the file, of a solar panel, a load and an objective the watts. By the report and the rules of ticks.
+        """
+        return frames.states(self._index, self.cluster, self.ends)
+
+    @cached_property
+    def limited_groups(self) -> Any:
+        """A row for each phase and limited concentrator, with the index (time, phase, group). All columns are int64.
+
+        price, step:        what holds for the nodes below it
+        total_W:            the sum of the bids below it there, in watts
+        floor_W, ceiling_W: its limits
+        excess_W:           0 within the limits, else how far the sum is above the ceiling, or below the floor (negative)
+        minutes:            how long the end of the phase lasts
+        """
+        return frames.limited_groups(self.times, self.cluster, self.ends, self.durations)
+
+    @cached_property
+    def violations(self) -> Any:
+        """The rows of `limited_groups` in which the sum is outside the limits: no price brings the group within them."""
+        return self.limited_groups[self.limited_groups["excess_W"] != 0]
+
+    @cached_property
+    def bill(self) -> Bill:
+        """The accounts of the run, for which the program is asked when they are first wanted."""
+        return bill_of(self.program.answer("bill", self.cluster.to_bytes()))
+
+    @cached_property
+    def accounts(self) -> Any:
+        """A row for each device and for the grid, with the index (party, name): amount, taken_Wmin, given_Wmin.
+
+        `party` is device or grid, so that a device called grid is another row. `amount` is in price units times watts times
+        minutes, in whole numbers of any size: 60,000 are a price unit times a kilowatt-hour.
+        """
+        return frames.accounts(self.bill)
+
+    @cached_property
+    def snapshot(self) -> Snapshot:
+        """All devices at the end of the run: the state of each, and which are members."""
+        return last_snapshot(self.cluster, self.ends)
+
+    # Files.
+
+    def tables(self) -> dict[str, Any]:
+        """Each data frame by its name."""
+        return {name: getattr(self, name) for name in TABLES}
+
+    def to_csv(self, folder: str | os.PathLike[str]) -> list[Path]:
+        """Writes each data frame as a file NAME.csv of the folder, and returns their paths. Raises OSError."""
+        return self._write(folder, "csv", lambda frame, path: frame.to_csv(path))
+
+    def to_parquet(self, folder: str | os.PathLike[str]) -> list[Path]:
+        """Writes each data frame as a file NAME.parquet of the folder, and returns their paths. `amount` is text there.
+
+        Raises NoPackage if pandas has no engine for Parquet, which Debian 12 does not package.
+        """
+        engine = _parquet_engine()
+        return self._write(folder, "parquet", lambda frame, path: _plain(frame).to_parquet(path, engine=engine))
+
+    def _write(self, folder: str | os.PathLike[str], ending: str, write: Any) -> list[Path]:
+        place = Path(folder)
+        place.mkdir(parents=True, exist_ok=True)
+        paths = []
+        for name, frame in self.tables().items():
+            paths.append(place / f"{name}.{ending}")
+            write(frame, paths[-1])
+        return paths
+
+    def rows(self) -> Iterator[dict[str, Any]]:
+        """An object for each phase: phase, time, minutes, price, step, total_W, members with power_W and bid, and limited."""
+        for time, end, minutes in zip(self.times, self.ends, self.durations, strict=True):
+            yield {
+                "phase": end.phase,
+                "time": time.isoformat(),
+                "minutes": minutes,
+                "price": end.price,
+                "step": end.step,
+                "total_W": end.total,
+                "members": {name: {"power_W": power, "bid": end.bids[name]} for name, power in end.powers.items()},
+                "limited": {it.name: {"price": it.price, "step": it.step, "total_W": it.total} for it in end.groups},
+            }
+
+    def to_json_lines(self, path: str | os.PathLike[str]) -> None:
+        """Writes the object of each phase as a line of JSON. It needs no pandas. Raises OSError."""
+        with open(path, "w", encoding="utf-8") as file:
+            for row in self.rows():
+                file.write(json.dumps(row) + "\n")
+
+
+def _parquet_engine() -> str:
+    """The engine with which pandas can write Parquet. Raises NoPackage."""
+    from importlib.util import find_spec
+
+    frames.pandas()
+    for name in ("pyarrow", "fastparquet"):
+        if find_spec(name) is not None:
+            return name
+    raise NoPackage("Parquet needs pyarrow or fastparquet beside pandas: install one of them, or write CSV")
+
+
+def _plain(frame: Any) -> Any:
+    """The frame with whole numbers of any size as text, which Parquet can hold."""
+    large = [name for name, kind in frame.dtypes.items() if kind == object]
+    return frame.astype(dict.fromkeys(large, "string"))
