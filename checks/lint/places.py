@@ -124,8 +124,10 @@ def below(value: Any, path: list[str]) -> Iterator[Any]:
 
 def forms() -> Iterator[tuple[str, dict[str, Any]]]:
     """Each form of a node in the schema, with its kind."""
-    for form in schema()["$defs"]["node"]["oneOf"]:
-        yield form["properties"]["kind"]["const"], form
+    for form in schema()["$defs"].values():
+        kind = form.get("properties", {}).get("kind", {})
+        if "const" in kind:
+            yield kind["const"], form
 
 
 @dataclass(frozen=True)
@@ -206,7 +208,7 @@ LIMITS: dict[str, list[Place]] = {
         Said(TERMS, "phases of a run"),
     ],
     "MOST_EVENTS": [
-        Bound("$defs/phase/oneOf/0/properties/events/maxItems"), Constant(SCENE, "EVENTS"), Constant(LARGE, "EVENTS"),
+        Bound("$defs/events/properties/events/maxItems"), Constant(SCENE, "EVENTS"), Constant(LARGE, "EVENTS"),
         Said(PAGE, "events"), Said(TERMS, "events of a phase"),
     ],
     "MOST_CHANGES": [
@@ -236,7 +238,7 @@ LIMITS: dict[str, list[Place]] = {
         Said(PAGE, r"spread \| 0 to"),
     ],
     "MINUTES_LIMIT": [
-        Bound("$defs/phase/oneOf/1/properties/tick/maximum"), Constant(SCENE, "MINUTES", (1,)), Constant(LARGE, "MINUTES"),
+        Bound("$defs/tick/properties/tick/maximum"), Constant(SCENE, "MINUTES", (1,)), Constant(LARGE, "MINUTES"),
         Said(PAGE, "minutes"),
     ],
     "MAX_POINTS": [Bound("$defs/points/maxItems"), Constant(SCENE, "POINTS"), Said(PAGE, "points")],

@@ -1,12 +1,19 @@
-"""Whether cluster.schema.json agrees with the program: each file that has a plan passes it, and each file that is refused
-for its shape or for a number in it fails it, except those of BEYOND. The files are those of examples/ and checks/cases, and
-those of checks/make/members.py."""
+"""Whether cluster.schema.json agrees with the program, and names a slip as a user made it.
+
+- Each file that has a plan passes the schema. Each file that is refused for its shape or for a number in it fails it, except those
+  of BEYOND. The files are those of examples/ and checks/cases, and those of checks/make/members.py.
+- A member with a slip in its name gives two findings, for each kind of node: one that the member is missing, and one that the
+  misspelt one is unexpected.
+- By the standard, 2500.0 is a whole number. So a validator that follows it passes such a file, which the program refuses. The
+  check counts only numbers without a point and an exponent as whole, and looks that nothing else parts the two.
+"""
 
 import json
 import re
 import sys
 
 from checks import TOP
+from checks.make import members
 from checks.make.cases import edited_members, examples, stored_cases
 
 # The codes that are no matter of a schema: no reading at all, and what names and places have to do with each other.
@@ -35,14 +42,11 @@ BEYOND = {
 }
 
 
-def validator():
-    """The schema's validator, or None if jsonschema is not installed. A number with a point or an exponent is no whole
-    number here, as the program and most editors have it; by the standard 10.0 is one."""
-    try:
-        from jsonschema import Draft202012Validator
-        from jsonschema.validators import extend
-    except ImportError:
-        return None
+def validators():
+    """The schema's validator by the standard, and the one for which a number with a point or an exponent is not whole."""
+    from jsonschema import Draft202012Validator
+    from jsonschema.validators import extend
+
     schema = json.loads((TOP / "cluster.schema.json").read_text())
     Draft202012Validator.check_schema(schema)
 
@@ -50,7 +54,7 @@ def validator():
         return isinstance(it, int) and not isinstance(it, bool)
 
     types = Draft202012Validator.TYPE_CHECKER.redefine("integer", is_whole)
-    return extend(Draft202012Validator, type_checker=types)(schema)
+    return Draft202012Validator(schema), extend(Draft202012Validator, type_checker=types)(schema)
 
 
 def files():
@@ -74,15 +78,57 @@ def why_wrong(check, name, file, code):
     return "passes" if not passes and fault is None else None
 
 
+def slips():
+    """The name of a slip, a file with it, and the two findings that are due: of each member of each kind of node."""
+    nodes = [(kind, {it: value for it, (value, _, _) in limits.items()}) for kind, limits in members.KINDS.items()]
+    for kind, more in [*nodes, *(("manual", it) for it in members.BIDS)]:
+        node = members.node_of(kind, more)
+        for name in node:
+            # Without `kind` no other member can be judged.
+            slip = name[1] + name[0] + name[2:]
+            missing, unknown = f"'{name}' is a required property", f"'{slip}' was unexpected"
+            wrong = {slip if it == name else it: value for it, value in node.items()}
+            # Without `demand` and `points` the form is that of points.
+            missing = missing.replace("'demand'", "'points'")
+            yield f"{kind} with {slip}", members.with_node(wrong), {missing} if name == "kind" else {missing, unknown}
+
+
+def findings_of(check, file):
+    """What the validator says of a file: each message, shortened to the member of which it speaks."""
+    messages = [it.message for it in check.iter_errors(file)]
+    return {re.sub(r"^Additional properties are not allowed \((.*)\)$", r"\1", it) for it in messages}
+
+
+def points():
+    """The name of each number of each kind, and a file in which it has a point."""
+    for kind, limits in members.KINDS.items():
+        node = members.node_of(kind, {name: value for name, (value, _, _) in limits.items()})
+        for name in limits:
+            yield f"{kind} with a point in {name}", members.with_node({**node, name: float(node[name])})
+
+
+def results():
+    """The name of each trial, and what is wrong, or None."""
+    standard, check = validators()
+    for name, file, code in files():
+        yield name, why_wrong(check, name, file, code)
+    for name, file, due in slips():
+        found = findings_of(check, file)
+        yield name, None if found == due else f"the schema says {sorted(found)}, and due is {sorted(due)}"
+    for name, file in points():
+        said = [next(it.iter_errors(file), None) is None for it in (standard, check)]
+        yield name, None if said == [True, False] else "passes by the text, or fails by the standard: say so in docs/CLUSTER_FILE.md"
+
+
 def main():
-    check = validator()
-    if check is None:
-        print("skipped: Python's jsonschema is not installed (Debian: python3-jsonschema)")
+    try:
+        import jsonschema  # noqa: F401
+    except ImportError:
+        print("skipped: Python's jsonschema is not installed; on Debian: apt-get install python3-jsonschema")
         print("0 passed, 0 failed")
         return 0
     passed, failed = 0, 0
-    for name, file, code in files():
-        why = why_wrong(check, name, file, code)
+    for name, why in results():
         if why is None:
             passed += 1
         else:
