@@ -21,6 +21,11 @@ def _cluster_of(source: Source, data: bytes) -> Cluster:
     return source if isinstance(source, Cluster) else Cluster.from_json(data)
 
 
+def cluster_in(source: Source) -> Cluster:
+    """The cluster that a source names. Raises Unreadable and OSError."""
+    return source if isinstance(source, Cluster) else Cluster.from_json(bytes_of(source))
+
+
 def run(source: Source, *, start: datetime | None = None, program: Program | None = None) -> Run:
     """Runs a cluster.
 

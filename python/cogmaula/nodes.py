@@ -171,7 +171,7 @@ class Manual(Child):
         object.__setattr__(self, "points", as_points(self.points))
 
 
-KINDS: dict[str, type[Node]] = {
-    it.kind: it
-    for it in (Concentrator, Limited, Freezer, HeatPump, Cogeneration, Battery, Solar, Load, Objective, Manual)
-}
+ALL: tuple[type[Node], ...] = (
+    Concentrator, Limited, Freezer, HeatPump, Cogeneration, Battery, Solar, Load, Objective, Manual,
+)
+KINDS: dict[str, type[Node]] = {it.kind: it for it in ALL}

@@ -4,7 +4,7 @@ from __future__ import annotations
 
 import json
 import os
-from collections.abc import Iterator
+from collections.abc import Callable, Iterator
 from datetime import datetime, timedelta
 from functools import cached_property
 from pathlib import Path
@@ -35,9 +35,18 @@ class Run:
     """
 
     def __init__(
-        self, cluster: Cluster, text: bytes, start: datetime | None = None, program: Program | None = None
+        self,
+        cluster: Cluster,
+        text: bytes,
+        start: datetime | None = None,
+        program: Program | None = None,
+        *,
+        bill: Callable[[], Bill] | None = None,
     ) -> None:
-        """Takes the report that the program wrote of the cluster. Raises ProgramFault if the text has another form."""
+        """Takes the report that the program wrote of the cluster, and what gives its bill if that is not the program.
+
+        Raises ProgramFault if the text has another form.
+        """
         report = report_of(text)
         self.cluster = cluster
         self.text = text
@@ -45,6 +54,7 @@ class Run:
         self.changes = report.changes
         self.start = start or frames.START
         self._program = program
+        self._bill = bill
 
     @property
     def program(self) -> Program:
@@ -128,7 +138,7 @@ class Run:
     @cached_property
     def bill(self) -> Bill:
         """The accounts of the run, for which the program is asked when they are first wanted."""
-        return bill_of(self.program.answer("bill", self.cluster.to_bytes()))
+        return self._bill() if self._bill else bill_of(self.program.answer("bill", self.cluster.to_bytes()))
 
     @cached_property
     def accounts(self) -> Any:
@@ -170,6 +180,18 @@ class Run:
             paths.append(place / f"{name}.{ending}")
             write(frame, paths[-1])
         return paths
+
+    def write(self, place: str | os.PathLike[str], kind: str) -> None:
+        """Writes the run as `csv` or `parquet` into a folder, or as `json-lines` into a file."""
+        match kind:
+            case "csv":
+                self.to_csv(place)
+            case "parquet":
+                self.to_parquet(place)
+            case "json-lines":
+                self.to_json_lines(place)
+            case _:
+                raise ValueError(f"no format is called {kind}")
 
     def rows(self) -> Iterator[dict[str, Any]]:
         """An object for each phase: phase, time, minutes, price, step, total_W, members with power_W and bid, and limited."""

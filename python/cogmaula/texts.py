@@ -162,6 +162,17 @@ def _report(lines: list[list[str]]) -> tuple[Report, list[list[str]]]:
     raise ProgramFault("the program's report has no last line")
 
 
+def report_text(report: Report) -> bytes:
+    """The text of a report, as the program writes it."""
+    lines = []
+    for end in report.ends:
+        lines.append(f"phase {end.phase} price {end.price} step {end.step} total {end.total} members {len(end.powers)}")
+        lines.extend(f"member {name} power {power} bid {end.bids[name]}" for name, power in end.powers.items())
+        lines.extend(f"limited {it.name} price {it.price} step {it.step} total {it.total}" for it in end.groups)
+    lines.append(f"end phases {len(report.ends)} changes {report.changes}")
+    return "".join(f"{it}\n" for it in lines).encode()
+
+
 def bill_of(text: bytes) -> Bill:
     """The bill that a text of `bill` is. Raises ProgramFault if it has another form."""
     devices: dict[str, Account] = {}

@@ -17,7 +17,7 @@ MORE = (
 def add_arguments(parser: argparse.ArgumentParser) -> None:
     """Adds the arguments of run."""
     parser.add_argument("file", metavar="FILE", help="the cluster file")
-    parser.add_argument("-o", "--output", metavar="FOLDER", help="where to write the tables")
+    parser.add_argument("-o", "--output", metavar="FOLDER", help="where to write the tables: a folder, or a file for json-lines")
     parser.add_argument("--format", choices=["csv", "json-lines", "parquet"], default="csv", help="of the tables; default csv")
     parser.add_argument("--start", type=cli.moment, metavar="MOMENT", help="the moment before the first phase; default 2000-01-01")
 
@@ -27,10 +27,6 @@ def main(arguments: argparse.Namespace) -> int:
     done = calls.run(arguments.file, start=arguments.start, program=cli.program_of(arguments))
     if arguments.output is None:
         sys.stdout.write(done.text.decode())
-    elif arguments.format == "json-lines":
-        done.to_json_lines(arguments.output)
-    elif arguments.format == "csv":
-        done.to_csv(arguments.output)
     else:
-        done.to_parquet(arguments.output)
+        done.write(arguments.output, arguments.format)
     return 0

@@ -1,0 +1,225 @@
+"""Data frames against the lines of the report and of the bill, and the files that they are written to."""
+
+from __future__ import annotations
+
+import json
+import re
+import sys
+from datetime import datetime, timedelta
+
+import pytest
+from clusters import clusters
+from conftest import CASES, EXAMPLES
+from hypothesis import given, settings
+
+from cogmaula import Basis, Cluster, Events, Join, Limited, Load, NoPackage, Run, Tick, ask, bill, run
+from cogmaula import frames
+
+pd = pytest.importorskip("pandas")
+pytestmark = pytest.mark.usefixtures("program")
+
+
+def words(text, first):
+    """The words of each line that begins so."""
+    return [it.split() for it in text.decode().splitlines() if it.startswith(f"{first} ")]
+
+
+@settings(max_examples=120, deadline=None)
+@given(cluster=clusters())
+def test_frames_are_the_lines(cluster):
+    done = run(cluster)
+    look_at_prices(done)
+    look_at_powers_and_bids(done)
+    look_at_groups(done)
+    look_at_accounts(done)
+
+
+def look_at_prices(done):
+    lines = words(done.text, "phase")
+    assert [str(it) for it in done.prices["price"]] == [it[3] for it in lines]
+    assert [str(it) for it in done.prices["step"]] == [it[5] for it in lines]
+    assert [str(it) for it in done.prices["total_W"]] == [it[7] for it in lines]
+    assert [str(it) for it in done.prices["members"]] == [it[9] for it in lines]
+    assert list(done.prices.index.get_level_values("phase")) == [int(it[1]) for it in lines]
+
+
+def look_at_powers_and_bids(done):
+    due, phase = {}, 0
+    for line in done.text.decode().splitlines():
+        if found := re.match(r"phase (\d+)", line):
+            phase = int(found[1])
+        if found := re.match(r"member (\S+) power (\S+) bid (\S+)", line):
+            due[phase, found[1]] = int(found[2]), int(found[3])
+    assert list(done.powers.columns) == [it.name for it in done.cluster.devices]
+    found = {}
+    for (_, at), row in done.powers.iterrows():
+        for name, power in row.items():
+            if not pd.isna(power):
+                found[at, name] = int(power), int(done.bids.xs(at, level="phase")[name].iloc[0])
+    assert found == due
+
+
+def look_at_groups(done):
+    lines = words(done.text, "limited")
+    frame = done.limited_groups.reset_index()
+    assert [[row.group, str(row.price), str(row.step), str(row.total_W)] for row in frame.itertuples()] == [
+        [it[1], it[3], it[5], it[7]] for it in lines
+    ]
+    for row in frame.itertuples():
+        assert row.floor_W <= row.total_W - row.excess_W <= row.ceiling_W
+        assert (row.excess_W == 0) == (row.floor_W <= row.total_W <= row.ceiling_W)
+    assert len(done.violations) == sum(frame["excess_W"] != 0)
+
+
+def look_at_accounts(done):
+    # Powers over the minutes that they last are what the program's bill has.
+    amounts = done.powers.fillna(0).astype("int64").mul(done.prices["minutes"], axis=0)
+    for name, account in bill(done.cluster).devices.items():
+        assert amounts[name].clip(lower=0).sum() == account.taken
+        assert -amounts[name].clip(upper=0).sum() == account.given
+        assert done.accounts.loc[("device", name), "amount"] == account.amount
+    assert done.accounts["amount"].sum() == 0
+
+
+@settings(max_examples=50, deadline=None)
+@given(cluster=clusters())
+def test_times_are_the_minutes_of_ticks(cluster):
+    start = datetime(2026, 3, 1, 6)
+    done = run(cluster, start=start)
+    passed, due = 0, []
+    for phase in cluster.phases:
+        passed += phase.minutes if isinstance(phase, Tick) else 0
+        due.append(start + timedelta(minutes=passed))
+    assert list(done.prices.index.get_level_values("time")) == due
+    # What lasts over the ticks behind a phase is all the time but that before the first end.
+    first = cluster.phases[0].minutes if cluster.phases and isinstance(cluster.phases[0], Tick) else 0
+    assert sum(done.durations) == cluster.minutes - first
+
+
+def overloaded():
+    """A load of 300 W below a ceiling of 200 W, which no price brings down."""
+    nodes = [Limited("feeder", floor=-100, ceiling=200), Load("house", parent="feeder", start=300)]
+    return Cluster(Basis(0, 9, 10), nodes, [Events([Join("house")]), Tick(30), Tick(15)])
+
+
+def test_violations_by_hand():
+    done = run(overloaded())
+    assert list(done.violations["excess_W"]) == [100, 100, 100]
+    assert list(done.violations["minutes"]) == [30, 15, 0]
+    assert list(done.violations.index.get_level_values("group")) == ["feeder"] * 3
+    assert done.violations.index.names == ["time", "phase", "group"]
+
+
+def test_states_by_hand():
+    done = run(EXAMPLES / "battery_day.json")
+    assert done.states["battery"].iloc[0] == done.cluster.node("battery").start
+    assert set(done.states.columns) == {it.name for it in done.cluster.devices if it.kind != "manual"}
+    assert done.states.dtypes.unique().tolist() == [pd.Int64Dtype()]
+
+
+def test_a_device_called_grid_keeps_its_row():
+    text = (CASES / "bill" / "two_bids_over_an_hour.json").read_text().replace("gen1", "grid")
+    accounts = run(text.encode()).accounts
+    assert accounts.loc[("device", "grid"), "amount"] == -36000
+    assert accounts.loc[("grid", ""), "amount"] == 12000
+
+
+def test_amounts_past_64_bits():
+    most = 1_000_000_000
+    phases = [Events([Join("house")]), *[Tick(1440)] * 10]
+    done = run(Cluster(Basis(0, most, 2), [Load("house", start=most)], phases))
+    assert done.accounts.loc[("device", "house"), "amount"] == most * most * 14_400
+    assert done.accounts.loc[("device", "house"), "taken_Wmin"] == most * 14_400
+
+
+def test_curve_and_targets():
+    told = ask(EXAMPLES / "balance.json", [0, -250])
+    curve, targets = frames.curve(told), frames.targets(told)
+    assert list(curve.columns) == ["step", "price", "from_W", "to_W"]
+    assert curve["to_W"].isna().tolist() == [True] + [False] * 5
+    assert targets.to_dict("list") == {"target_W": [0, -250], "price": [2, 5], "step": [2, 5], "total_W": [0, -50]}
+
+
+def test_no_phases():
+    done = run(Cluster(Basis(0, 9, 10), [Load("house", start=1)]))
+    assert [len(it) for it in done.tables().values()] == [0, 0, 0, 0, 0, 0, 2]
+    assert done.durations == [] and done.times == []
+
+
+# Files.
+
+
+def test_csv(tmp_path):
+    done = run(EXAMPLES / "limited_feeder.json")
+    paths = done.to_csv(tmp_path / "tables")
+    assert sorted(it.name for it in paths) == sorted(f"{it}.csv" for it in done.tables())
+    read = pd.read_csv(tmp_path / "tables" / "prices.csv", parse_dates=["time"]).set_index(["time", "phase"])
+    assert read.equals(done.prices)
+    powers = pd.read_csv(tmp_path / "tables" / "powers.csv", parse_dates=["time"]).set_index(["time", "phase"])
+    assert powers.astype("Int64").to_dict() == done.powers.to_dict()
+
+
+def test_json_lines(tmp_path):
+    done = run(EXAMPLES / "limited_feeder.json")
+    done.to_json_lines(tmp_path / "run.jsonl")
+    rows = [json.loads(it) for it in (tmp_path / "run.jsonl").read_text().splitlines()]
+    assert [it["price"] for it in rows] == list(done.prices["price"])
+    for row, end in zip(rows, done.ends, strict=True):
+        assert {name: it["power_W"] for name, it in row["members"].items()} == end.powers
+        assert {name: it["total_W"] for name, it in row["limited"].items()} == {it.name: it.total for it in end.groups}
+        assert (row["phase"], row["total_W"], row["step"]) == (end.phase, end.total, end.step)
+
+
+def test_each_format_by_its_name(tmp_path):
+    done = run(EXAMPLES / "balance.json")
+    done.write(tmp_path / "tables", "csv")
+    done.write(tmp_path / "run.jsonl", "json-lines")
+    assert (tmp_path / "tables" / "prices.csv").is_file() and (tmp_path / "run.jsonl").is_file()
+    with pytest.raises(ValueError, match="no format is called xls"):
+        done.write(tmp_path, "xls")
+
+
+def engine_at_hand():
+    """Whether pandas can write Parquet here."""
+    from importlib.util import find_spec
+
+    return any(find_spec(it) for it in ("pyarrow", "fastparquet"))
+
+
+@pytest.mark.skipif(engine_at_hand(), reason="an engine for Parquet is at hand")
+def test_parquet_without_an_engine(tmp_path):
+    with pytest.raises(NoPackage, match="Parquet needs pyarrow or fastparquet"):
+        run(EXAMPLES / "balance.json").write(tmp_path, "parquet")
+
+
+@pytest.mark.skipif(not engine_at_hand(), reason="no engine for Parquet is at hand")
+def test_parquet_is_read_as_it_was_written(tmp_path):
+    done = run(EXAMPLES / "village.json")
+    done.to_parquet(tmp_path)
+    assert pd.read_parquet(tmp_path / "prices.parquet").equals(done.prices)
+    amounts = pd.read_parquet(tmp_path / "accounts.parquet")["amount"]
+    assert [int(it) for it in amounts] == list(done.accounts["amount"])
+
+
+def test_parquet_is_handed_amounts_as_text(tmp_path, monkeypatch):
+    handed = {}
+
+    def to_parquet(frame, path, engine):
+        handed[path.name] = frame, engine
+
+    monkeypatch.setattr(pd.DataFrame, "to_parquet", to_parquet)
+    monkeypatch.setattr("cogmaula.runs._parquet_engine", lambda: "pyarrow")
+    done = run(EXAMPLES / "village.json")
+    done.to_parquet(tmp_path)
+    assert sorted(handed) == sorted(f"{it}.parquet" for it in done.tables())
+    frame, engine = handed["accounts.parquet"]
+    assert engine == "pyarrow"
+    assert list(frame["amount"]) == [str(it) for it in done.accounts["amount"]]
+
+
+def test_frames_without_pandas(monkeypatch):
+    monkeypatch.setitem(sys.modules, "pandas", None)
+    done = Run(Cluster.load(EXAMPLES / "balance.json"), (EXAMPLES / "balance.txt").read_bytes())
+    assert done.snapshot.members == {"roof", "boiler"}
+    with pytest.raises(NoPackage, match="python3-pandas"):
+        done.prices
