@@ -24,6 +24,7 @@ from .errors import (
     TooLong,
     Unreadable,
 )
+from .explaining import Explanation, explain
 from .nodes import (
     Battery,
     Cogeneration,
@@ -57,6 +58,7 @@ __all__ = [
     "DeviceState",
     "Event",
     "Events",
+    "Explanation",
     "Freezer",
     "GroupEnd",
     "HeatPump",
@@ -93,6 +95,7 @@ __all__ = [
     "ask",
     "bill",
     "check",
+    "explain",
     "run",
     "trace",
 ]

@@ -1,0 +1,9 @@
+"""The limits of the program that its schema cannot say. The program checks them; here they size parts and word messages."""
+
+# The most concentrators on a path, changes in a run, and bytes of a cluster file.
+MOST_DEPTH = 6
+MOST_CHANGES = 20_000
+MOST_BYTES = 4_194_304
+# The most targets of a call of `ask`, and the largest of them in watts.
+MOST_TARGETS = 100_000
+MOST_TARGET = 1_000_000_000
