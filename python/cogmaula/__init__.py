@@ -11,7 +11,9 @@ The package calls the proved program, and works out nothing that the program pro
 """
 
 from .calls import Trace, ask, bill, check, run, trace
+from .chains import chain, parts_of, run_parts, whole_of
 from .cluster import Basis, Cluster, Source
+from .continuing import NoContinuation, continued, resumed
 from .errors import (
     Invalid,
     MarketError,
@@ -70,6 +72,7 @@ __all__ = [
     "Manual",
     "MarketError",
     "Move",
+    "NoContinuation",
     "NoPackage",
     "NoProgram",
     "Node",
@@ -94,8 +97,14 @@ __all__ = [
     "Unreadable",
     "ask",
     "bill",
+    "chain",
     "check",
+    "continued",
     "explain",
+    "parts_of",
+    "resumed",
     "run",
+    "run_parts",
     "trace",
+    "whole_of",
 ]
