@@ -13,7 +13,8 @@ CASES = TOP / "checks" / "cases"
 EXAMPLES = TOP / "examples"
 
 # The package of this checkout, and the plain auction by which texts are worked out without the program.
-sys.path[:0] = [str(TOP / "python"), str(TOP), str(TOP / "pictures"), str(Path(__file__).parent)]
+FOLDERS = ("python", "", "python/tests", "pictures", "checks/oracle")
+sys.path[:0] = [str(TOP / it) for it in FOLDERS]
 
 
 @pytest.fixture(scope="session")

@@ -1,0 +1,261 @@
+"""Finding a proved program, and what its statuses and lines become. Never does an unproved program run."""
+
+from __future__ import annotations
+
+import os
+import pickle
+import shutil
+import stat
+import sys
+from pathlib import Path
+
+import pytest
+from conftest import CASES, EXAMPLES, TOP
+
+from cogmaula import Invalid, MarketError, NoProgram, OutOfMemory, Place, Program, ProgramFault, Refused, TooLong, Unreadable
+from cogmaula.program import VARIABLE, found_program
+
+FILE = (EXAMPLES / "balance.json").read_bytes()
+REPORT = (EXAMPLES / "balance.txt").read_bytes()
+
+
+def script(path, text):
+    """An executable file of this text."""
+    path.write_text(text)
+    path.chmod(path.stat().st_mode | stat.S_IXUSR)
+    return path
+
+
+def pretending(tmp_path, status, text=b"", said=""):
+    """A program that ends with this status after this text."""
+    (tmp_path / "text").write_bytes(text)
+    return Program.find(
+        script(tmp_path / "program", f"#!/bin/sh\ncat >/dev/null\ncat '{tmp_path}/text'\necho '{said}' >&2\nexit {status}\n")
+    )
+
+
+# Where it is found.
+
+
+def test_a_checkout(program):
+    assert program.answer("run", FILE) == REPORT
+    assert "a proved program is at hand" in program.found
+    for path in (TOP, TOP / "market", TOP / "crates/market/out/market"):
+        assert Program.find(path) == program
+
+
+def test_the_variable(program, monkeypatch):
+    monkeypatch.setenv(VARIABLE, str(TOP))
+    assert Program.find() == program
+    monkeypatch.setenv(VARIABLE, "/nowhere/market")
+    with pytest.raises(NoProgram, match="/nowhere/market does not exist"):
+        Program.find()
+    # What is given comes first.
+    assert Program.find(TOP) == program
+
+
+def unproved_checkout(folder):
+    """A checkout with a program that its stamp does not vouch for."""
+    for part in ("script", "crates/market/src"):
+        shutil.copytree(TOP / part, folder / part)
+    for name in ("market", "crates.txt", "VERSION"):
+        shutil.copy(TOP / name, folder / name)
+    out = folder / "crates/market/out"
+    out.mkdir()
+    script(out / "market", "#!/bin/sh\necho ran\n")
+    return folder
+
+
+def test_no_unproved_program_is_run(tmp_path):
+    folder = unproved_checkout(tmp_path / "checkout")
+    for path in (folder, folder / "market", folder / "crates/market/out/market"):
+        with pytest.raises(NoProgram, match="no program is proved here"):
+            Program.find(path)
+    (folder / "crates/market/out/proved").write_text("sources: 0\nprogram: 0\nstate: 0\n")
+    with pytest.raises(NoProgram, match="the sources changed since they were proved"):
+        Program.find(folder)
+
+
+def test_a_checkout_on_the_path_is_looked_at_as_one(tmp_path, monkeypatch):
+    folder = unproved_checkout(tmp_path / "checkout")
+    monkeypatch.delenv(VARIABLE)
+    monkeypatch.setenv("PATH", f"{folder}:{os.environ['PATH']}")
+    monkeypatch.setattr("cogmaula.program.__file__", str(tmp_path / "a/b/c/program.py"))
+    with pytest.raises(NoProgram, match="no program is proved here.*the package lies in no checkout"):
+        Program.find()
+
+
+def test_the_checkout_of_the_package(program, tmp_path, monkeypatch):
+    monkeypatch.delenv(VARIABLE)
+    monkeypatch.setenv("PATH", "/usr/bin:/bin")
+    assert Program.find() == program
+
+
+def test_another_command_of_the_name(tmp_path, monkeypatch):
+    script(tmp_path / "market", "#!/bin/sh\necho ran\n")
+    monkeypatch.delenv(VARIABLE)
+    monkeypatch.setenv("PATH", f"{tmp_path}:/usr/bin:/bin")
+    monkeypatch.setattr("cogmaula.program.__file__", str(tmp_path / "a/b/c/program.py"))
+    with pytest.raises(NoProgram, match="is no installed market"):
+        Program.find()
+
+
+def installed_below(tmp_path, program):
+    """The installed command and its program below a folder, as packaging/install.sh makes them below DESTDIR."""
+    text = (TOP / "packaging/market.sh").read_text()
+    for name, place in {"bindir": "/usr/bin", "libexecdir": "/usr/libexec", "datadir": "/usr/share", "docdir": "/usr/share/doc/market"}.items():
+        text = text.replace(f"@{name}@", place)
+    for folder in ("usr/bin", "usr/libexec/market"):
+        (tmp_path / folder).mkdir(parents=True)
+    shutil.copy(program.path, tmp_path / "usr/libexec/market/market")
+    return script(tmp_path / "usr/bin/market", text)
+
+
+def test_an_installed_command(program, tmp_path, monkeypatch):
+    command = installed_below(tmp_path, program)
+    monkeypatch.delenv(VARIABLE)
+    monkeypatch.setenv("PATH", f"{command.parent}:/usr/bin:/bin")
+    found = Program.find()
+    assert found.path == str(tmp_path / "usr/libexec/market/market")
+    assert "the installed command" in found.found
+    assert found.answer("run", FILE) == REPORT
+    assert Program.find(command) == found
+
+
+def test_an_installed_command_without_its_program(program, tmp_path):
+    command = installed_below(tmp_path, program)
+    (tmp_path / "usr/libexec/market/market").unlink()
+    with pytest.raises(NoProgram, match="is no program"):
+        Program.find(command)
+
+
+def test_a_program_that_changed_is_not_run(program, tmp_path):
+    shutil.copy(program.path, tmp_path / "market")
+    found = Program.find(tmp_path / "market")
+    assert found.answer("run", FILE) == REPORT
+    script(tmp_path / "market", "#!/bin/sh\necho ran\n")
+    with pytest.raises(NoProgram, match="changed since it was found proved"):
+        found.answer("run", FILE)
+    (tmp_path / "market").unlink()
+    with pytest.raises(NoProgram, match="changed since it was found proved"):
+        found.answer("run", FILE)
+
+
+def test_what_is_no_program(tmp_path):
+    (tmp_path / "text").write_bytes(b"\xff")
+    for path in (tmp_path, tmp_path / "text"):
+        with pytest.raises(NoProgram, match="is no program"):
+            Program.find(path)
+
+
+def test_it_is_looked_for_once(program):
+    assert found_program() is found_program()
+
+
+# Statuses and lines.
+
+
+def test_a_refusal(program):
+    with pytest.raises(Refused) as refused:
+        program.answer("run", (CASES / "refusals/17_rising_bid.json").read_bytes())
+    assert (refused.value.code, refused.value.place, refused.value.item) == (17, Place("node", (1,)), 2)
+
+
+def test_every_refusal_of_the_cases(program):
+    for folder in ("refusals", "shape", "order"):
+        for file in (CASES / folder).glob("*.json"):
+            with pytest.raises(Refused) as refused:
+                program.answer("run", file.read_bytes())
+            assert str(refused.value) == file.with_suffix(".stdout").read_text().strip()
+
+
+PATHS = {
+    Place("document"): "",
+    Place("basis"): "basis",
+    Place("node", (2,)): "nodes[1]",
+    Place("phase", (3,)): "phases[2]",
+    Place("event", (3, 1)): "phases[2].events[0]",
+    Place("line", (7,)): "",
+}
+
+
+@pytest.mark.parametrize("place", PATHS, ids=str)
+def test_paths_of_places(place):
+    assert place.path == PATHS[place]
+
+
+def test_too_long(program):
+    with pytest.raises(TooLong) as error:
+        program.answer("run", b" " * 4_194_305)
+    assert error.value.limit == 4_194_304
+
+
+def test_an_invalid_trace(program):
+    with pytest.raises(Invalid) as error:
+        program.answer("check", (CASES / "check/bid_2.stdin").read_bytes())
+    assert error.value.line == 7
+
+
+def test_a_bad_frame(program):
+    with pytest.raises(Refused, match="refused 24 frame 0"):
+        program.answer("serve", b"\x09")
+
+
+def test_words_that_are_no_command(program):
+    with pytest.raises(ProgramFault, match="status 2: usage: market run"):
+        program.answer("ran", b"")
+
+
+@pytest.mark.parametrize(
+    ("status", "text", "error", "words"),
+    [
+        (7, b"", OutOfMemory, "lacked memory"),
+        (3, b"", ProgramFault, "run ended with status 3: words"),
+        (5, b"refused\n", ProgramFault, "status 5"),
+        (4, b"", ProgramFault, "status 4"),
+        (1, b"valid moves 1\n", ProgramFault, "status 1"),
+    ],
+)
+def test_other_statuses(tmp_path, status, text, error, words):
+    with pytest.raises(error, match=words):
+        pretending(tmp_path, status, text, said="words").answer("run", FILE)
+
+
+def test_a_program_that_is_ended(tmp_path):
+    found = Program.find(script(tmp_path / "program", "#!/bin/sh\nkill -9 $$\n"))
+    with pytest.raises(ProgramFault, match="ended by signal 9"):
+        found.answer("run", b"")
+
+
+def test_a_program_that_does_not_end(tmp_path):
+    found = Program.find(script(tmp_path / "program", "#!/bin/sh\nexec sleep 60\n"))
+    with pytest.raises(ProgramFault, match="did not end within 0.2 seconds"):
+        found.answer("run", b"", timeout=0.2)
+
+
+def test_a_program_that_cannot_be_started(tmp_path):
+    found = Program.find(script(tmp_path / "program", "#!/nowhere/sh\n"))
+    with pytest.raises(ProgramFault, match="cannot be started"):
+        found.answer("run", b"")
+
+
+@pytest.mark.parametrize(
+    "error",
+    [Refused(17, Place("node", (1,)), 2), TooLong(5), Invalid(7), Unreadable("nodes[0]", "why"), NoProgram("why")],
+    ids=lambda it: type(it).__name__,
+)
+def test_errors_pass_between_processes(error):
+    again = pickle.loads(pickle.dumps(error))
+    assert isinstance(again, MarketError)
+    assert (type(again), str(again), vars(again)) == (type(error), str(error), vars(error))
+
+
+def test_a_program_passes_between_processes(program):
+    assert pickle.loads(pickle.dumps(program)) == program
+
+
+def test_the_package_lies_where_it_is_tested():
+    import cogmaula
+
+    assert Path(cogmaula.__file__).is_relative_to(TOP / "python")
+    assert sys.version_info >= (3, 11)
