@@ -10,7 +10,7 @@ import json
 import re
 import sys
 from collections.abc import Callable, Iterator
-from dataclasses import dataclass
+from dataclasses import dataclass, fields
 from functools import cache
 from importlib import import_module
 from types import ModuleType
@@ -39,6 +39,9 @@ CASES = "checks/make/cases.py"
 LARGE = "checks/make/limits.py"
 JOURNALS = "checks/make/journals.py"
 AUCTION = "pictures/auction.py"
+PACKAGE = "python/cogmaula/limits.py"
+NODES = "python/cogmaula/nodes.py"
+STATES = "python/cogmaula/states.py"
 VILLAGE = "examples/village.json"
 GUIDE = "CONTRIBUTING.md"
 
@@ -58,7 +61,7 @@ def schema() -> dict[str, Any]:
 @cache
 def module(path: str) -> ModuleType:
     """A module of ours, by its file."""
-    return import_module("auction" if path == AUCTION else path.removesuffix(".py").replace("/", "."))
+    return import_module("auction" if path == AUCTION else path.removeprefix("python/").removesuffix(".py").replace("/", "."))
 
 
 # Places of a limit.
@@ -184,7 +187,7 @@ LIMITS: dict[str, list[Place]] = {
         Said(PAGE, "nodes"), Said("docs/SERVE.md", "child"), Said(TERMS, "nodes of a cluster"),
     ],
     "MOST_DEPTH": [
-        Constant(SCENE, "DEPTH"), Constant(LARGE, "DEPTH"), Said(PAGE, "concentrators"), Said(TERMS, "on a path to"),
+        Constant(SCENE, "DEPTH"), Constant(LARGE, "DEPTH"), Constant(PACKAGE, "MOST_DEPTH"), Said(PAGE, "concentrators"), Said(TERMS, "on a path to"),
     ],
     "WINDOW_SIZE": [
         Constant(JUDGE, "WINDOW"), Constant(JOURNALS, "WINDOW"), Said("docs/PROTOCOL.md", "numbers"), Said(TERMS, "unanswered"),
@@ -196,6 +199,7 @@ LIMITS: dict[str, list[Place]] = {
     ],
     "DEMAND_LIMIT": [
         *both(DEMAND), *both(f"{POINT}/1"), Constant(SCENE, "MOST"), Constant(STREAM, "MOST"), Constant(ORACLE, "MOST_WATTS"),
+        Constant(PACKAGE, "MOST_TARGET"),
         Constant(MEMBERS, "LARGE"), Constant(LARGE, "MOST"), Said(PAGE, "demand"), Said("docs/SERVE.md", "demand"),
         Said(TERMS, "a price, and a single demand"),
     ],
@@ -212,12 +216,12 @@ LIMITS: dict[str, list[Place]] = {
         Said(PAGE, "events"), Said(TERMS, "events of a phase"),
     ],
     "MOST_CHANGES": [
-        Constant(SCENE, "CHANGES"), Constant(LARGE, "CHANGES"), Said(PAGE, "changes"), Said(TERMS, "changes of a run"),
+        Constant(SCENE, "CHANGES"), Constant(LARGE, "CHANGES"), Constant(PACKAGE, "MOST_CHANGES"), Said(PAGE, "changes"), Said(TERMS, "changes of a run"),
     ],
     "TEMPERATURE_LIMIT": [
         *(it for member in ("low", "high") for it in both(f"node/{member}")),
         *(it for kind in HEATED for it in both(f"node {kind}/start")), Constant(SCENE, "TEMPERATURE", (1,)),
-        Constant(MEMBERS, "WARMTH", (1, 1)), Constant(AUCTION, "TEMPERATURE"), Said(PAGE, "low, high"),
+        Constant(MEMBERS, "WARMTH", (1, 1)), Constant(AUCTION, "TEMPERATURE"), Constant(PACKAGE, "MOST_TEMPERATURE"), Said(PAGE, "low, high"),
     ],
     "CHANGE_LIMIT": [
         *(Bound(f"node/{member}/maximum") for member in ("warm", "cool", "loss", "gain")), Constant(SCENE, "RATE", (1,)),
@@ -242,10 +246,12 @@ LIMITS: dict[str, list[Place]] = {
         Said(PAGE, "minutes"),
     ],
     "MAX_POINTS": [Bound("$defs/points/maxItems"), Constant(SCENE, "POINTS"), Said(PAGE, "points")],
-    "MAX_NAME_BYTES": [Constant(SCENE, "NAME_BYTES"), Said(PAGE, "[Nn]ame.*bytes")],
+    "MAX_NAME_BYTES": [
+        Constant(SCENE, "NAME_BYTES"), Constant(PACKAGE, "MOST_NAME_BYTES"), Said(PAGE, "[Nn]ame.*bytes"),
+    ],
     "FILE_LIMIT": [
         Constant(ORACLE, "FILE_LIMIT"), Constant(JUDGE, "FILE_LIMIT"), Constant(CASES, "LIMIT"), Said(MANUAL, "bytes"),
-        Said(PAGE, "bytes"),
+        Constant(PACKAGE, "MOST_BYTES"), Said(PAGE, "bytes"),
     ],
     "the input limit of Run": [Constant(CASES, "LIMIT"), Said(MANUAL, "bytes"), Said(PAGE, "too long")],
     "the input limit of Ask": [
@@ -257,7 +263,7 @@ LIMITS: dict[str, list[Place]] = {
         Said(PAGE, "too long"),
     ],
     "MOST_TARGETS": [
-        Constant(ORACLE, "TARGETS"), Constant(CASES, "MOST_TARGETS"), Said(MANUAL, "target"), Said(PAGE, "target"),
+        Constant(ORACLE, "TARGETS"), Constant(CASES, "MOST_TARGETS"), Constant(PACKAGE, "MOST_TARGETS"), Said(MANUAL, "target"), Said(PAGE, "target"),
     ],
     "STREAM_LIMIT": [Constant(STREAM, "LIMIT"), Said(MANUAL, "serve|bytes"), Said("docs/SERVE.md", "bytes")],
     "MAX_SIZE": [Said(MANUAL, "devices"), Said(PAGE, "devices|SIZE")],
@@ -376,6 +382,7 @@ def kind_places(kind: Kind, ticks: bool) -> Iterator[str]:
     known = made.BIDS if len(kind.forms) > 1 else [made.KINDS[kind.word]] if kind.word in made.KINDS else []
     yield from differ(MEMBERS, kind, [frozenset(it) for it in known])
 
+    yield from package_places(kind, ticks)
     if not re.search(rf"\b{kind.word}\b", text_of(MANUAL)):
         yield f"{MANUAL} has no kind {kind.word}"
     if not re.search(rf'"{kind.word}"', text_of(AUCTION)):
@@ -389,6 +396,21 @@ def kind_places(kind: Kind, ticks: bool) -> Iterator[str]:
     if kind.is_device and f'"{kind.word}"' not in text_of(VILLAGE):
         yield f"{VILLAGE} has no device of the kind {kind.word}"
     yield from page_places(kind, ticks)
+
+
+def package_places(kind: Kind, ticks: bool) -> Iterator[str]:
+    """What the Python package has otherwise of a kind: its members, whether it is a device, and whether it changes at a tick."""
+    known = module(NODES).KINDS.get(kind.word)
+    if known is None:
+        yield f"{NODES} has no kind {kind.word}"
+        return
+    members = {it.name for it in fields(known)} - {"name", "parent"}
+    # Of the members of a kind with several forms one is chosen.
+    yield from differ(NODES, kind, [frozenset({it}) for it in members] if len(kind.forms) > 1 else [frozenset(members)])
+    if (known.is_device, known.ticks) != (kind.is_device, ticks):
+        yield f"{NODES} has another word than the code on whether {kind.word} is a device, and whether it changes at a tick"
+    if ticks and f"case {known.__name__}():" not in text_of(STATES):
+        yield f"{STATES} has no tick of {kind.word}"
 
 
 def page_places(kind: Kind, ticks: bool) -> Iterator[str]:
@@ -425,6 +447,7 @@ def wrong_kinds() -> Iterator[tuple[str, list[str]]]:
         (SCHEMA, {word for word, _ in forms()}),
         (SCENE, set(module(SCENE).KINDS)),
         (MEMBERS, set(module(MEMBERS).KINDS)),
+        (NODES, set(module(NODES).KINDS)),
     ):
         yield path, [f"{path} has the kind {it}, which the code has not" for it in sorted(others - words)]
 
@@ -432,7 +455,7 @@ def wrong_kinds() -> Iterator[tuple[str, list[str]]]:
 # The checklists.
 
 CHECKLISTS = {
-    "To add a kind of device": [SCHEMA, MANUAL, PAGE, TERMS, SCENE, MEMBERS, AUCTION, VILLAGE],
+    "To add a kind of device": [SCHEMA, MANUAL, PAGE, TERMS, SCENE, MEMBERS, AUCTION, NODES, STATES, VILLAGE],
     "To change a limit": sorted(
         {SCHEMA if isinstance(it, Bound) else it.path for places in LIMITS.values() for it in places}
     ),

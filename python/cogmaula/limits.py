@@ -1,6 +1,9 @@
 """The limits of the program that its schema cannot say. The program checks them; here they size parts and word messages."""
 
-# The most concentrators on a path, changes in a run, and bytes of a cluster file.
+# The largest absolute value of a temperature.
+MOST_TEMPERATURE = 1_000_000
+# The most bytes of a name, concentrators on a path, changes in a run, and bytes of a cluster file.
+MOST_NAME_BYTES = 32
 MOST_DEPTH = 6
 MOST_CHANGES = 20_000
 MOST_BYTES = 4_194_304

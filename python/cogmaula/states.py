@@ -11,12 +11,10 @@ from collections.abc import Iterable, Iterator, Mapping
 from dataclasses import dataclass
 
 from .cluster import Cluster
+from .limits import MOST_TEMPERATURE
 from .nodes import Battery, Cogeneration, Demand, Freezer, HeatPump, Manual, Node, Points
-from .phases import Events, Join, Leave, Phase, State, Tick
+from .phases import Events, Join, Leave, Phase, State
 from .texts import PhaseEnd
-
-# The largest absolute value of a temperature.
-MOST_TEMPERATURE = 1_000_000
 
 
 @dataclass(frozen=True)

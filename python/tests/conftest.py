@@ -7,6 +7,7 @@ import sys
 from pathlib import Path
 
 import pytest
+from hypothesis import Phase, settings
 
 TOP = Path(__file__).resolve().parents[2]
 CASES = TOP / "checks" / "cases"
@@ -15,6 +16,11 @@ EXAMPLES = TOP / "examples"
 # The package of this checkout, and the plain auction by which texts are worked out without the program.
 FOLDERS = ("python", "", "python/tests", "pictures", "checks/oracle")
 sys.path[:0] = [str(TOP / it) for it in FOLDERS]
+
+# Nothing is aimed at, which would take half of the time, and nothing is kept beside the tests.
+DRAWN = [Phase.explicit, Phase.generate, Phase.shrink]
+settings.register_profile("market", phases=DRAWN, database=None, deadline=None, print_blob=True)
+settings.load_profile("market")
 
 
 @pytest.fixture(scope="session")

@@ -15,7 +15,7 @@ from cogmaula import parts_of, resumed, run_parts, whole_of
 from cogmaula.continuing import script_for
 
 pytestmark = pytest.mark.usefixtures("program")
-MANY = settings(max_examples=300, deadline=None)
+MANY = settings(max_examples=300)
 
 
 def plain(ends):
@@ -37,7 +37,7 @@ def test_a_run_goes_on_where_it_ended(given_days):
     assert whole.snapshot.states == two.snapshot.states
 
 
-@settings(max_examples=100, deadline=None)
+@settings(max_examples=100)
 @given(given_days=days(count=3))
 def test_a_chain_is_the_run_of_the_whole_script(given_days):
     cluster, scripts = given_days
@@ -48,7 +48,7 @@ def test_a_chain_is_the_run_of_the_whole_script(given_days):
     assert linked.times == whole.times
 
 
-@settings(max_examples=60, deadline=None)
+@settings(max_examples=60)
 @given(cluster=clusters(most=12), minutes=st.integers(1, 400))
 def test_a_script_that_is_cut_by_minutes_has_all_its_phases(cluster, minutes):
     parts = list(parts_of(cluster, minutes))

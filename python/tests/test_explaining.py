@@ -301,7 +301,7 @@ def test_json_is_read_as_python_reads_it(value, indent, plain):
     assert json.loads(text[found.at : found.end]) == value
 
 
-@settings(max_examples=300, deadline=None)
+@settings(max_examples=300)
 @given(st.data())
 def test_a_cut_or_changed_text_has_a_place_where_the_program_has_none(data):
     text = FILE.encode()

@@ -57,7 +57,7 @@ def test_starts():
     assert start_of(Manual("a", points=[[0, 1]])) == Bid(points=((0, 1),))
 
 
-@settings(max_examples=100, deadline=None)
+@settings(max_examples=100)
 @given(cluster=clusters())
 def test_members_are_those_that_the_report_names(program, cluster: Cluster):
     from cogmaula.states import snapshots

@@ -9,8 +9,10 @@ from __future__ import annotations
 from collections.abc import Callable
 from dataclasses import dataclass
 
+from .. import schema
 from ..cluster import Source, bytes_of
 from ..errors import Invalid, Refused, TooLong
+from ..limits import MOST_DEPTH
 from ..program import Program, found_program
 from . import inputs, script, shape, tree
 from .finding import File, Finding, number, shortened
@@ -27,15 +29,15 @@ RULES = {
     7: "a name is an ASCII letter, then letters, digits, _ and -",
     8: "no two nodes have the same name",
     9: "a parent is the auctioneer or an earlier concentrator",
-    10: "at most 6 concentrators are on a path",
-    11: "a file has at most 256 nodes",
+    10: f"at most {MOST_DEPTH} concentrators are on a path",
+    11: f"a file has at most {schema.counts_of('document', 'nodes')} nodes",
     12: "a kind is one of the table; limited needs version 2",
     13: "each number lies within its limits",
     14: "an event names a device",
     15: "only a device that is no member joins",
     16: "only a member leaves or gets a state",
     17: "demand has one number for each step, none above the one before, each within its limits",
-    18: "points are 1 to 64 pairs, with prices that never fall and lie within the basis, and powers that never rise",
+    18: "points are pairs, with prices that never fall and lie within the basis, and powers that never rise",
     19: "a state fits the kind of its device",
     20: "phases, their events and the changes of a run have limits",
     22: "no limited node is below a limited one",

@@ -6,13 +6,12 @@ import re
 from collections.abc import Iterator
 
 from .. import schema
-from ..limits import MOST_DEPTH
+from ..limits import MOST_DEPTH, MOST_NAME_BYTES
 from ..nodes import AUCTIONEER
 from .finding import File, Finding, Node, close, listed, number
 
 CONCENTRATORS = ("concentrator", "limited")
 LETTERS = re.compile(r"[A-Za-z0-9_-]")
-MOST_NAME = 32
 
 
 def _at_member(file: File, node: Node, name: str, fault: str, allowed: str, likely: str | None = None) -> Finding:
@@ -24,11 +23,11 @@ def _at_member(file: File, node: Node, name: str, fault: str, allowed: str, like
 def name(file: File) -> Finding:
     """Code 7: a name has a wrong form."""
     node = file.node()
-    allowed = f"1 to {MOST_NAME} bytes: an ASCII letter, then letters, digits, _ and -; not {AUCTIONEER}"
+    allowed = f"1 to {MOST_NAME_BYTES} bytes: an ASCII letter, then letters, digits, _ and -; not {AUCTIONEER}"
     fault = f"node {node.number}: its name {_why_no_name(node.name)}"
-    likely = re.sub(r"[^A-Za-z0-9_-]+", "_", node.name).strip("_")[:MOST_NAME]
+    likely = re.sub(r"[^A-Za-z0-9_-]+", "_", node.name).strip("_")[:MOST_NAME_BYTES]
     if likely and not likely[0].isalpha():
-        likely = f"{node.kind}_{likely}"[:MOST_NAME]
+        likely = f"{node.kind}_{likely}"[:MOST_NAME_BYTES]
     return _at_member(file, node, "name", fault, allowed, likely if likely not in ("", AUCTIONEER) else None)
 
 
@@ -50,7 +49,7 @@ def twice(file: File) -> Finding:
     node = file.node()
     first = next(it for it in file.nodes() if it.name == node.name)
     taken = {it.name for it in file.nodes()}
-    free = next(it for it in (f"{node.name[: MOST_NAME - 4]}_{at}" for at in range(2, 1000)) if it not in taken)
+    free = next(it for it in (f"{node.name[: MOST_NAME_BYTES - 4]}_{at}" for at in range(2, 1000)) if it not in taken)
     fault = f"{node.words} has the name of node {first.number}"
     return _at_member(file, node, "name", fault, "a name that no other node has", free)
 
