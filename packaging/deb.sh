@@ -39,7 +39,7 @@ stage() {
     cp packaging/copyright "$docs/copyright"
     chmod 644 "$docs/copyright"
     write_changelog | gzip -9n >"$docs/changelog.gz"
-    gzip -9n "$root/usr/share/man/man1/market.1"
+    gzip -9n "$root"/usr/share/man/man1/*.1
 }
 
 write_changelog() {

@@ -78,6 +78,7 @@ make_it() {
 files_due() {
     local file
     cat <<'FILES'
+bin/cogmaula
 bin/market
 libexec/market/bridge.py
 libexec/market/client.py
@@ -90,10 +91,12 @@ share/doc/market/GLOSSARY.md
 share/doc/market/LICENSE
 share/doc/market/NOTICE
 share/doc/market/PROTOCOL.md
+share/doc/market/PYTHON.md
 share/doc/market/SERVE.md
 share/doc/market/TUTORIAL.md
 share/doc/market/examples/README.md
 share/fish/vendor_completions.d/market.fish
+share/man/man1/cogmaula.1
 share/man/man1/market.1
 share/market/cluster.schema.json
 share/market/installed
@@ -106,6 +109,9 @@ share/zsh/site-functions/_market
 FILES
     for file in examples/*.json examples/*.txt examples/serve/*.py pictures/*.py pictures/*.png; do
         echo "share/doc/market/$file"
+    done
+    for file in python/cogmaula/*.py python/cogmaula/*/*.py python/cogmaula/py.typed python/cogmaula/*.json; do
+        echo "share/market/$file"
     done
 }
 
@@ -125,6 +131,20 @@ rights_are_due() {
 # The village by the command that FILE is, as it was installed.
 runs_village() {
     "$1" run <examples/village.json | cmp - examples/village.txt
+}
+
+# Whether the installed command of the Python package runs the village by the market that is installed with it, and leaves nothing.
+cogmaula_runs_village() {
+    local before after
+    before="$(find "$1" | LC_ALL=C sort)"
+    (cd / && env -u COGMAULA_MARKET -u PYTHONPATH "$1/bin/cogmaula" run "$top/examples/village.json") | cmp - examples/village.txt || return 1
+    after="$(find "$1" | LC_ALL=C sort)"
+    [ "$before" = "$after" ] || { echo "it left files beside what is installed"; return 1; }
+}
+
+# Whether this python3 can run the package.
+has_python() {
+    python3 -c 'import sys; sys.exit(sys.version_info < (3, 11))' 2>/dev/null
 }
 
 # No installed file names the folder of the sources, the script, or a place that was not filled in. The words of the script are
@@ -269,7 +289,12 @@ passes "nothing that is not installed" names_only_installed "$at"
 passes "links" links_are_installed "$at"
 passes "units" units_are_installed "$at"
 
-# The installed command.
+# The installed commands.
+if has_python; then
+    passes "cogmaula" cogmaula_runs_village "$at"
+else
+    skipped "cogmaula: there is no python3 from 3.11 on"
+fi
 passes "run" runs_village "$market"
 is "run, all that is told" 0 "phase 1 *" "" run <examples/village.json
 is "demo" 0 "$(crates/market/out/market demo 7 1)" "" demo 7 1
@@ -353,6 +378,7 @@ else
     skipped "the manual page: there is no man"
 fi
 passes "run below DESTDIR" runs_village "$work/stage of it/usr/bin/market"
+! has_python || passes "cogmaula below DESTDIR" cogmaula_runs_village "$work/stage of it/usr"
 fails "DESTDIR is named nowhere" "" grep -rF "$work" "$work/stage of it"
 passes "uninstall below DESTDIR" make_it -s uninstall DESTDIR="$work/stage of it" PREFIX=/usr
 passes "nothing is left" diff /dev/null <(find "$work/stage of it" -mindepth 1)
@@ -368,7 +394,7 @@ if [ -e .git ] && has git; then
     passes "dist gives the same bytes again" cmp "$work/first.tar.gz" "$release.tar.gz"
     tar -xzf "$release.tar.gz" -C "$work"
     passes "all committed files" diff <(git ls-tree -r --name-only HEAD | LC_ALL=C sort) \
-        <(cd "$release" && find . -type f | cut -c 3- | LC_ALL=C sort)
+        <(cd "$release" && find . '(' -type f -o -type l ')' | cut -c 3- | LC_ALL=C sort)
     passes "the release's commit" diff <(git rev-parse HEAD | cut -c 1-7) <(bash "$release/packaging/commit.sh")
 else
     skipped "the release: these sources are no clone of git"
@@ -383,6 +409,7 @@ if has dpkg-deb && has dpkg-shlibdeps; then
     passes "deb gives the same bytes again" cmp "$work/first.deb" "$package"
     dpkg-deb -x "$package" "$work/unpacked"
     passes "run from the unpacked package" runs_village "$work/unpacked/usr/bin/market"
+    ! has_python || passes "cogmaula from the unpacked package" cogmaula_runs_village "$work/unpacked/usr"
     passes "help from the unpacked package" "$work/unpacked/usr/bin/market" help
     passes "the package names nothing of the sources" names_no_sources "$work/unpacked"
     if has lintian; then
