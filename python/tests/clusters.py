@@ -118,6 +118,10 @@ def scripts(draw, nodes, basis, members, most=6):
     """Phases that the program takes, from these members on. Brings the members up to date."""
     found = []
     all_devices = [it for it in nodes if it.is_device]
+    # Most scripts begin with all devices, so that much is going on.
+    if not members and draw(st.integers(0, 3)):
+        found.append(Events([Join(it.name) for it in all_devices]))
+        members.update(it.name for it in all_devices)
     for _ in range(draw(st.integers(0, most))):
         if draw(st.booleans()):
             found.append(Tick(draw(st.integers(1, 200))))
