@@ -85,10 +85,10 @@ if os.path.exists("meanwhile"):
         open(source, "w").write(kept)
 END_OF_PROVE
 # The checks tell their arguments and a last line; that of the program tells its arguments alone.
-all="program traces serve trials memory hostile script install pages schema pictures names places definitions edits"
+all="program traces serve trials memory hostile script install python pages schema pictures names places definitions edits"
 folder_of() {
     case "$1" in
-        cases | traces | serve | trials | memory | hostile) echo "$top/checks/drive" ;;
+        cases | traces | serve | trials | memory | hostile | python) echo "$top/checks/drive" ;;
         *) echo "$top/checks/lint" ;;
     esac
 }
@@ -98,7 +98,7 @@ stub() {
         echo 'import sys; print(*sys.argv[1:]); print("1 passed, 0 failed")' >"$(folder_of "$name")/$name.py"
     done
 }
-stub traces serve trials memory hostile pages schema pictures names places definitions edits
+stub traces serve trials memory hostile python pages schema pictures names places definitions edits
 for name in script install; do
     echo 'echo "1 passed, 0 failed"' >"$top/checks/drive/$name.sh"
 done
@@ -413,7 +413,7 @@ due_of() {
     case "$1" in
         program | traces | serve | memory | hostile) echo crates/market/out/market ;;
         trials) echo crates/trials/out/trials ;;
-        pages | schema | pictures | names | places) echo ;;
+        python | pages | schema | pictures | names | places) echo ;;
         definitions) echo check ;;
         edits) echo --self-test ;;
     esac

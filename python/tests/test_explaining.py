@@ -152,7 +152,7 @@ FAULTS = [
     ("a version that is too low", '"version": 2', '"version": 1', 12, 'likely:  "version": 2'),
     ("a negative power", '"discharge": 1000', '"discharge": ^-1000', 13, "from 0 to 1,000,000,000"),
     ("a slip in an event", '"state": "house"', '"state": ^"huose"', 14, "likely:  house"),
-    ("a state before the join", '{"join": "store"}, {"join": "house"}', '{"state": ^"house", "value": 1}, {"join": "store"}, {"join": "house"}', 16, "it never joined"),
+    ("a state before the join", '{"join": "store"}, ', '{"state": ^"house", "value": 1}, {"join": "store"}, ', 16, "it never joined"),
     ("a bid that rises", "[80, 0]", "[80, ^700]", 18, "a power of at most 600"),
     ("more than the battery holds", '"start": 2500', '"start": ^5001', 19, "from 0 to 5,000, in watt-hours"),
 ]
