@@ -37,14 +37,14 @@ def test_an_example_is_written_as_it_was_read(file):
     assert Cluster.from_json(cluster.to_json()) == cluster
 
 
-@settings(max_examples=200)
+@settings(max_examples=100)
 @given(cluster=clusters())
 def test_a_cluster_is_read_as_it_was_written(cluster):
     assert Cluster.from_json(cluster.to_json()) == cluster
     assert Cluster.from_json(cluster.to_bytes()) == cluster
 
 
-@settings(max_examples=100)
+@settings(max_examples=50)
 @given(cluster=clusters())
 def test_the_program_takes_what_is_drawn(program, cluster):
     cluster.check()

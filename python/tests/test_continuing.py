@@ -46,6 +46,10 @@ def test_a_chain_is_the_run_of_the_whole_script(given_days):
     assert linked.text == whole.text
     assert linked.bill == whole.bill
     assert linked.times == whole.times
+    # Each part goes on at the moment at which the one before ended.
+    runs = list(run_parts(cluster, scripts))
+    for one, two in zip(runs, runs[1:]):
+        assert two.start == (one.times[-1] if one.times else one.start)
 
 
 @settings(max_examples=60)

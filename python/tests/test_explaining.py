@@ -286,10 +286,11 @@ def as_read(value):
 JSON = st.recursive(
     st.none() | st.booleans() | st.integers() | st.floats(allow_nan=False, allow_infinity=False) | st.text(),
     lambda it: st.lists(it) | st.dictionaries(st.text(), it),
-    max_leaves=20,
+    max_leaves=10,
 )
 
 
+@settings(max_examples=50)
 @given(value=JSON, indent=st.sampled_from([None, 1]), plain=st.booleans())
 def test_json_is_read_as_python_reads_it(value, indent, plain):
     try:
@@ -301,7 +302,7 @@ def test_json_is_read_as_python_reads_it(value, indent, plain):
     assert json.loads(text[found.at : found.end]) == value
 
 
-@settings(max_examples=300)
+@settings(max_examples=150)
 @given(st.data())
 def test_a_cut_or_changed_text_has_a_place_where_the_program_has_none(data):
     text = FILE.encode()

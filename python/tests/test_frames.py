@@ -24,7 +24,7 @@ def words(text, first):
     return [it.split() for it in text.decode().splitlines() if it.startswith(f"{first} ")]
 
 
-@settings(max_examples=60)
+@settings(max_examples=40)
 @given(cluster=clusters())
 def test_frames_are_the_lines(cluster):
     done = run(cluster)
@@ -81,7 +81,7 @@ def look_at_accounts(done):
     assert done.accounts["amount"].sum() == 0
 
 
-@settings(max_examples=50)
+@settings(max_examples=25)
 @given(cluster=clusters())
 def test_times_are_the_minutes_of_ticks(cluster):
     start = datetime(2026, 3, 1, 6)

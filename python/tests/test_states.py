@@ -42,7 +42,7 @@ def test_a_tick_by_hand(node, state, power, minutes, due):
     assert after_tick(node, state, power, minutes) == due
 
 
-@settings(max_examples=300)
+@settings(max_examples=150)
 @given(st.data())
 def test_a_tick_by_the_plain_auction(data):
     node = data.draw(devices("d", ["auctioneer"], data.draw(bases())).filter(lambda it: it.ticks))
@@ -57,7 +57,7 @@ def test_starts():
     assert start_of(Manual("a", points=[[0, 1]])) == Bid(points=((0, 1),))
 
 
-@settings(max_examples=100)
+@settings(max_examples=40)
 @given(cluster=clusters())
 def test_members_are_those_that_the_report_names(program, cluster: Cluster):
     from cogmaula.states import snapshots

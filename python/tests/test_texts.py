@@ -21,7 +21,7 @@ def test_a_report_is_written_as_it_was_read(file):
     assert report_text(report_of(text)) == text
 
 
-@settings(max_examples=100)
+@settings(max_examples=40)
 @given(cluster=clusters())
 def test_a_report_of_the_program_is_written_as_it_was_read(program, cluster):
     text = run(cluster).text
