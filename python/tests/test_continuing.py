@@ -110,11 +110,11 @@ def test_more_phases_than_a_run_takes():
 
 def test_a_part_has_no_more_changes_than_a_run_takes():
     flips = Events([it for _ in range(1_000) for it in (Join("house"), Leave("house"))])
-    whole = two_devices([Events([Join("store")]), *[flips] * 12])
+    whole = two_devices([Events([Join("store")]), *[flips] * 20])
     parts = list(parts_of(whole))
-    # A part has 20,000 changes at most: 1 and 9 times 2,000, then the join of the store and 3 times 2,000.
-    assert [len(it) for it in parts] == [10, 3]
-    assert chain(whole).changes == 24_001
+    # A part has 20,000 changes at most. The first has 1 and 9 times 2,000. The others begin with a join of the store.
+    assert [len(it) for it in parts] == [10, 9, 2]
+    assert chain(whole).changes == 40_001
 
 
 def test_a_phase_that_is_too_large():
