@@ -6,5 +6,5 @@ from pathlib import Path
 TOP = Path(__file__).resolve().parent.parent
 CASES = TOP / "checks" / "cases"
 
-# The plain auction, on which the pictures and the oracle stand, and the Python package.
-sys.path[:0] = [str(TOP / "pictures"), str(TOP / "python")]
+# The Python package.
+sys.path.insert(0, str(TOP / "python"))

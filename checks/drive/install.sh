@@ -92,6 +92,7 @@ share/doc/market/LICENSE
 share/doc/market/NOTICE
 share/doc/market/PROTOCOL.md
 share/doc/market/PYTHON.md
+share/doc/market/REPORTS.md
 share/doc/market/SERVE.md
 share/doc/market/TUTORIAL.md
 share/doc/market/examples/README.md
@@ -107,7 +108,7 @@ share/market/units/market-serve@.service
 share/market/words.sh
 share/zsh/site-functions/_market
 FILES
-    for file in examples/*.json examples/*.txt examples/serve/*.py pictures/*.py pictures/*.png; do
+    for file in examples/*.json examples/*.txt examples/serve/*.py pictures/*.svg; do
         echo "share/doc/market/$file"
     done
     for file in python/cogmaula/*.py python/cogmaula/*/*.py python/cogmaula/py.typed python/cogmaula/*.json; do

@@ -150,7 +150,7 @@ def paths_without_a_link(page: Path) -> Iterator[str]:
 
 def reports_of_no_example(page: Path) -> Iterator[str]:
     """The reports that a page quotes and that are no lines, one after another, of the text of an example."""
-    texts = [it.read_text() for it in sorted((TOP / "examples").glob("*.txt"))]
+    texts = [it.read_text() for it in sorted((TOP / "examples").rglob("*.txt"))]
     quoted: list[str] = []
     for number, line in enumerate([*page.read_text().split("\n"), ""], 1):
         if found := REPORT.fullmatch(line):

@@ -1,17 +1,84 @@
-"""Whether pictures/auction.py gives the text of each cluster file that runs, and refuses texts with a line changed, taken out
-or added, and whether pictures/draw_answers.py reads each account and each answer. They know nothing of the program, so the texts
-due are worked out a second time. The pictures of runs are not drawn. The diagrams of the pages are drawn again (diagrams.py)."""
+"""Whether the pictures are those that the commands draw, and whether the auction behind the checks is right.
+
+    python3 -m checks.lint.pictures         compares
+    python3 -m checks.lint.pictures draw    writes the pictures into pictures/
+
+Each picture of the list is drawn again by `cogmaula draw`, with the proved program, and has to have the same bytes. And
+checks/oracle/auction.py has to give the text of each cluster file that runs, and to refuse texts with a line changed, taken out or
+added. It knows nothing of the program, so the texts due are worked out a second time.
+"""
 
 import json
+import subprocess
 import sys
+import tempfile
+from collections.abc import Iterator
+from pathlib import Path
 
-from auction import Misfit, fitting_ends
-from checks.lint import diagrams
-from checks.make.cases import DONE, bills_and_answers, examples, stored_cases
-from draw_answers import accounts_of, answers_of, curve_of
+from checks import TOP
+from checks.make.cases import DONE, examples, stored_cases
+from checks.oracle.auction import Misfit, fitting_ends
+
+# Debian's Python, to which the packages belong.
+PYTHON = "/usr/bin/python3"
+# What draws the same bytes.
+MATPLOTLIB = "3.6.3"
+# The arguments of `cogmaula draw` for each picture.
+PICTURES = {
+    "balance.svg": ["clearing", "examples/balance.json"],
+    "village.svg": ["run", "examples/village.json", "--phase", "3"],
+    "limited_feeder.svg": ["run", "examples/limited_feeder.json", "--phase", "2"],
+    "battery_day_bill.svg": ["bill", "examples/battery_day.json"],
+    "battery_day_ask.svg": ["ask", "examples/battery_day.json", "--target", "-1000", "--target", "-2000"],
+}
 
 
-def fits(file, lines):
+def told_by(*words: str) -> subprocess.CompletedProcess[str]:
+    """What Debian's Python says to these words, with our package at hand."""
+    return subprocess.run([PYTHON, *words], cwd=TOP / "python", capture_output=True, text=True, check=False)
+
+
+def lacking() -> str:
+    """Why no picture can be drawn or compared here, or an empty text."""
+    if not Path(PYTHON).exists() or (told := told_by("-c", "import matplotlib; print(matplotlib.__version__)")).returncode:
+        return "there is no matplotlib (Debian: python3-matplotlib)"
+    if told.stdout.strip() != MATPLOTLIB:
+        return f"matplotlib {told.stdout.strip()} draws other bytes than {MATPLOTLIB}"
+    if told_by("-c", f"from cogmaula import Program; Program.find({str(TOP)!r})").returncode:
+        return "no program is proved from the sources of today (./market prove)"
+    return ""
+
+
+def drawn(name: str, folder: Path) -> str:
+    """Draws a picture into a folder, and says what is wrong, or gives an empty text."""
+    what, file, *rest = PICTURES[name]
+    words = ["-m", "cogmaula", "draw", what, str(TOP / file), "-o", str(folder / name), *rest, "--program", str(TOP)]
+    done = told_by(*words)
+    return "" if done.returncode == 0 else f"{name} is not drawn: {done.stderr.strip()}"
+
+
+def other_pictures() -> Iterator[str]:
+    """A line for each picture that the command draws otherwise."""
+    with tempfile.TemporaryDirectory() as folder:
+        for name in PICTURES:
+            fault, picture = drawn(name, Path(folder)), TOP / "pictures" / name
+            if fault:
+                yield fault
+            elif not picture.exists() or picture.read_bytes() != (Path(folder) / name).read_bytes():
+                yield f"pictures/{name} is not what cogmaula draws: checks/run pictures draw writes it"
+
+
+def draw_all() -> int:
+    """Writes the pictures."""
+    why = lacking()
+    faults = [why] if why else [it for name in PICTURES if (it := drawn(name, TOP / "pictures"))]
+    for it in faults:
+        print(it, file=sys.stderr)
+    return 1 if faults else 0
+
+
+def fits(file: dict, lines: list[str]) -> bool:
+    """Whether the text fits the file."""
     try:
         fitting_ends(file, "".join(f"{it}\n" for it in lines))
     except Misfit:
@@ -19,7 +86,7 @@ def fits(file, lines):
     return True
 
 
-def wrong_texts(lines):
+def wrong_texts(lines: list[str]) -> Iterator[list[str]]:
     """The text without each of its first lines, with it twice, and with its last number raised."""
     for at, line in enumerate(lines[:20]):
         front, _, number = line.rpartition(" ")
@@ -28,41 +95,30 @@ def wrong_texts(lines):
         yield [*lines[:at], f"{front} {int(number) + 1}", *lines[at + 1 :]]
 
 
-def numbers(texts):
-    """The numbers of a text, in order."""
-    return [int(it) for it in texts if it.lstrip("-").isdigit()]
-
-
-def is_read(lines):
-    """Whether what is drawn of a text has each of its numbers: all but the last line of a bill, and but the steps."""
-    bill, curve, answers = accounts_of(lines), curve_of(lines), answers_of(lines)
-    read = [*(it[1:] for it in bill), *([it for it in row if it is not None] for row in curve), *answers]
-    due = [numbers(it.split()[2 if it.startswith("account ") else 1 :]) for it in lines if not it.startswith("ticks ")]
-    due = [it[1:] if line.startswith("curve ") else it for it, line in zip(due, lines)]
-    due = [[it[0], it[1], it[3]] if line.startswith("target ") else it for it, line in zip(due, lines)]
-    return [list(it) for it in read] == due
-
-
-def main():
-    passed, failed = 0, 0
-    for case in bills_and_answers():
-        right = is_read(case.stdout.decode().splitlines())
-        passed, failed = passed + right, failed + (not right)
-        if not right:
-            print(f"{case.name}: an account or an answer is not read")
+def misfits() -> Iterator[list[str]]:
+    """For each case that runs what is wrong with it: a line, or none."""
     for case in [*examples(), *stored_cases()]:
-        if case.arguments != ["run"] or case.status != DONE:
-            continue
-        file, lines = json.loads(case.stdin.read_text()), case.stdout.decode().splitlines()
-        right = fits(file, lines) and not any(fits(file, it) for it in wrong_texts(lines))
-        passed, failed = passed + right, failed + (not right)
-        if not right:
-            print(f"{case.name}: the text does not fit, or a wrong one does")
-    for found in diagrams.findings():
-        for line in found:
+        if case.arguments == ["run"] and case.status == DONE:
+            file, lines = json.loads(case.stdin.read_text()), case.stdout.decode().splitlines()
+            right = fits(file, lines) and not any(fits(file, it) for it in wrong_texts(lines))
+            yield [] if right else [f"{case.name}: the text does not fit, or a wrong one does"]
+
+
+def main() -> int:
+    """Compares, or draws."""
+    if sys.argv[1:] == ["draw"]:
+        return draw_all()
+    findings = list(misfits())
+    if why := lacking():
+        print(f"skipped: the pictures are not drawn again: {why}")
+    else:
+        wrong = list(other_pictures())
+        findings += [[it] for it in wrong] + [[]] * (len(PICTURES) - len(wrong))
+    for it in findings:
+        for line in it:
             print(line)
-        passed, failed = passed + (not found), failed + len(found)
-    print(f"{passed} passed, {failed} failed")
+    failed = sum(bool(it) for it in findings)
+    print(f"{len(findings) - failed} passed, {failed} failed")
     return 1 if failed else 0
 
 

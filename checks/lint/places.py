@@ -38,7 +38,7 @@ MEMBERS = "checks/make/members.py"
 CASES = "checks/make/cases.py"
 LARGE = "checks/make/limits.py"
 JOURNALS = "checks/make/journals.py"
-AUCTION = "pictures/auction.py"
+AUCTION = "checks/oracle/auction.py"
 PACKAGE = "python/cogmaula/limits.py"
 NODES = "python/cogmaula/nodes.py"
 STATES = "python/cogmaula/states.py"
@@ -61,7 +61,7 @@ def schema() -> dict[str, Any]:
 @cache
 def module(path: str) -> ModuleType:
     """A module of ours, by its file."""
-    return import_module("auction" if path == AUCTION else path.removeprefix("python/").removesuffix(".py").replace("/", "."))
+    return import_module(path.removeprefix("python/").removesuffix(".py").replace("/", "."))
 
 
 # Places of a limit.

@@ -63,10 +63,10 @@ def stored_case(folder, name):
 
 def examples():
     """Each example with each command: each has to have its text."""
-    for file in sorted(EXAMPLES.glob("*.json")):
+    for file in sorted([*EXAMPLES.glob("*.json"), *EXAMPLES.glob("cookbook/*.json")]):
         for command, ending in TEXTS.items():
             text = file.with_suffix(ending).read_bytes()
-            yield Case(f"{command} of examples/{file.name}", [command], file, text, DONE)
+            yield Case(f"{command} of {file.relative_to(TOP)}", [command], file, text, DONE)
 
 
 def file_of(name):

@@ -6,14 +6,14 @@ Standard input is an envelope: a line with the number of bytes of the cluster fi
 `valid moves M`, or `invalid line N` with status 1, or with status 5 the refusal of the envelope or of the file.
 
 The trace is judged by docs/PROTOCOL.md on whole cuts: what a node published is kept for good as the numbers of all devices
-below it, and there is no record, running sum, message or window. Reports and prices are those of pictures/auction.py, refusals
+below it, and there is no record, running sum, message or window. Reports and prices are those of auction.py, refusals
 those of scene.py. Nothing here knows the program.
 """
 
 import re
 import sys
 
-from auction import CONCENTRATORS, TICKING, after_tick, bid_of, ends_of, lines_of, parts_at, part_of, prices_of, state_of
+from checks.oracle.auction import CONCENTRATORS, TICKING, after_tick, bid_of, ends_of, lines_of, parts_at, part_of, prices_of, state_of
 from checks.oracle.scene import Refused, scene_of
 
 ROOT = "auctioneer"

@@ -2,7 +2,7 @@
 
 import re
 
-from auction import ends_of, lines_of
+from checks.oracle.auction import ends_of, lines_of
 from checks.oracle import judge, stream
 from checks.oracle.accounts import bill_of
 from checks.oracle.scene import Refused, scene_of

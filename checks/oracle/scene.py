@@ -4,7 +4,7 @@ import json
 import math
 import re
 
-from auction import CONCENTRATORS, TICKING
+from checks.oracle.auction import CONCENTRATORS, TICKING
 
 NESTING = 127
 MOST = 1_000_000_000

@@ -2,7 +2,7 @@
 
 import json
 
-from auction import clearing_step, ends_of, prices_of
+from checks.oracle.auction import clearing_step, ends_of, prices_of
 
 
 def last_total(file):

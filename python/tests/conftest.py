@@ -14,7 +14,7 @@ CASES = TOP / "checks" / "cases"
 EXAMPLES = TOP / "examples"
 
 # The package of this checkout, and the plain auction by which texts are worked out without the program.
-FOLDERS = ("python", "", "python/tests", "pictures", "checks/oracle")
+FOLDERS = ("python", "", "python/tests")
 sys.path[:0] = [str(TOP / it) for it in FOLDERS]
 
 # Nothing is aimed at, which would take half of the time, and nothing is kept beside the tests.

@@ -1,8 +1,8 @@
-"""States after ticks: the worked rows of docs/CLUSTER_FILE.md, and the plain auction of pictures/ as a second opinion."""
+"""States after ticks: the worked rows of docs/CLUSTER_FILE.md, and the plain auction of checks/oracle as a second opinion."""
 
 from __future__ import annotations
 
-import auction
+from checks.oracle import auction
 import pytest
 from clusters import bases, clusters, devices
 from hypothesis import given, settings

@@ -1,0 +1,71 @@
+"""`cogmaula report FILE -o PAGE`: runs a cluster file, and writes a page that shows what came of it."""
+
+from __future__ import annotations
+
+import argparse
+from fractions import Fraction
+from pathlib import Path
+
+from .. import cli
+from ..report import Currency, report
+
+HELP = "runs a cluster file, and writes a page of prices, loads, powers, bills and flexibility"
+MORE = (
+    "The page is one file that needs no network and no script. It shows the price over the hours, the load of each limited group against"
+    " its limits, who took what, what is left over, the bills, and what the cluster would take or deliver at its end."
+)
+
+
+def whole_positive(text: str) -> int:
+    """A whole number above 0."""
+    if not text.isascii() or not text.isdigit() or int(text) == 0:
+        raise argparse.ArgumentTypeError(f"{text!r} is no whole number above 0")
+    return int(text)
+
+
+def rate(text: str) -> Fraction:
+    """A decimal number above 0, such as 0.001."""
+    try:
+        found = Fraction(text)
+    except (ValueError, ZeroDivisionError):
+        raise argparse.ArgumentTypeError(f"{text!r} is no number") from None
+    if found <= 0:
+        raise argparse.ArgumentTypeError(f"{text!r} is not above 0")
+    return found
+
+
+def add_arguments(parser: argparse.ArgumentParser) -> None:
+    """Adds the arguments of report."""
+    parser.add_argument("file", metavar="FILE", help="the cluster file")
+    parser.add_argument("-o", "--output", metavar="PAGE", required=True, help="the page to write, such as day.html")
+    parser.add_argument("--title", help="the title of the page; default the name of the file")
+    parser.add_argument("--start", type=cli.moment, metavar="MOMENT", help="the moment before the first phase; default 2000-01-01")
+    parser.add_argument("--currency", metavar="UNIT", help="the unit of money of the bills, such as EUR; needs --per-kwh")
+    parser.add_argument(
+        "--per-kwh", type=rate, metavar="AMOUNT", help="what a kilowatt-hour costs at price 1 in that unit, such as 0.01"
+    )
+    parser.add_argument("--span", type=whole_positive, metavar="MINUTES", help="the spans of time of the bills; default an hour")
+    parser.add_argument(
+        "--target", type=int, action="append", metavar="WATTS", help="asks what the cluster does for so many watts; may be repeated"
+    )
+    parser.add_argument("--quiet", action="store_true", help="tells no progress")
+    parser.set_defaults(fail=parser.error)
+
+
+def main(arguments: argparse.Namespace) -> int:
+    """Writes the page."""
+    if (arguments.currency is None) != (arguments.per_kwh is None):
+        arguments.fail("--currency and --per-kwh go together: name the unit, and what a kilowatt-hour costs at price 1")
+    currency = None if arguments.currency is None else Currency(arguments.currency, arguments.per_kwh)
+    text = report(
+        arguments.file,
+        title=arguments.title,
+        start=arguments.start,
+        currency=currency,
+        span=arguments.span,
+        targets=arguments.target,
+        program=cli.program_of(arguments),
+        quiet=arguments.quiet,
+    )
+    Path(arguments.output).write_text(text, encoding="utf-8")
+    return 0

@@ -1,0 +1,99 @@
+"""Bills by device and span of time, in kilowatt-hours and a currency.
+
+Each number comes from the program's `bill`. The bill of a span is that of the cluster with the phases of the span alone, whose devices
+start with the states that they had there. All spans have to add up to the bill of the whole run.
+"""
+
+from __future__ import annotations
+
+import os
+from collections.abc import Iterable, Iterator
+from concurrent.futures import ThreadPoolExecutor
+from dataclasses import dataclass
+from fractions import Fraction
+
+from ..calls import bill
+from ..cluster import Cluster
+from ..continuing import resumed
+from ..errors import ProgramFault
+from ..runs import Run
+from ..states import first_snapshot, snapshots
+from ..texts import Account, Bill
+from .times import intervals_of, spans_of
+
+# So many watts times minutes are a kilowatt-hour.
+WATT_MINUTES = 60_000
+
+
+@dataclass(frozen=True)
+class Currency:
+    """A unit of money, and how much of it a kilowatt-hour costs at price 1."""
+
+    unit: str = "price units \u00d7 kWh"
+    at_price_one: Fraction = Fraction(1)
+
+    def money(self, account: Account) -> Fraction:
+        """The amount of an account in this unit: above 0 if it pays."""
+        return Fraction(account.amount, WATT_MINUTES) * self.at_price_one
+
+    def price(self, price: int) -> Fraction:
+        """What a kilowatt-hour costs at a price."""
+        return price * self.at_price_one
+
+
+@dataclass(frozen=True)
+class Span:
+    """The bill of a span of time, which begins and ends so many minutes after the start of the run."""
+
+    begin: int
+    end: int
+    bill: Bill
+
+
+def energy(watt_minutes: int) -> Fraction:
+    """Watts times minutes in kilowatt-hours."""
+    return Fraction(watt_minutes, WATT_MINUTES)
+
+
+def bills_of(run: Run, minutes: int, runs: int | None = None) -> Iterator[Span]:
+    """The bills of a run over spans of so many minutes, in order; each as soon as it is known.
+
+    runs: how many runs of the program go at once; as many as the machine has processors if it is not given
+
+    Raises what `Program.answer` raises, and ProgramFault if the spans do not add up to the bill of the whole run.
+    """
+    spans = list(spans_of(intervals_of(run.cluster), minutes))
+    scripts = list(scripts_of(run, [first for _, _, first, _ in spans], [last for _, _, _, last in spans]))
+    with ThreadPoolExecutor(runs or os.cpu_count() or 1) as pool:
+        whole = pool.submit(lambda: run.bill)
+        bills = pool.map(lambda script: bill(script, program=run.program), scripts)
+        found = []
+        for (begin, end, _, _), one in zip(spans, bills, strict=True):
+            found.append(one)
+            yield Span(begin, end, one)
+    if spans and not add_up(found, whole.result()):
+        raise ProgramFault("the bills of the spans do not add up to the bill of the run")
+
+
+def scripts_of(run: Run, firsts: Iterable[int], lasts: Iterable[int]) -> Iterator[Cluster]:
+    """The cluster from phase `first` on and before phase `last`, both from 0, with the states that its devices had there."""
+    cluster = run.cluster
+    before = [first_snapshot(cluster), *snapshots(cluster, run.ends)]
+    for first, last in zip(firsts, lasts, strict=True):
+        phases = cluster.phases[first:last]
+        yield resumed(cluster, before[first], phases) if first else cluster.with_script(phases)
+
+
+def add_up(parts: Iterable[Bill], whole: Bill) -> bool:
+    """Whether the accounts of these bills come to those of the whole."""
+    bills = list(parts)
+    for name, account in whole.devices.items():
+        if sum_of(it.devices[name] for it in bills) != account:
+            return False
+    return sum_of(it.grid for it in bills) == whole.grid
+
+
+def sum_of(accounts: Iterable[Account]) -> Account:
+    """The sum of some accounts."""
+    them = list(accounts)
+    return Account(*(sum(getattr(it, word) for it in them) for word in ("amount", "taken", "given")))

@@ -1,0 +1,214 @@
+"""The figures of a report: prices, loads of limited groups, powers of devices, what is left over, and the flexibility.
+
+Each function draws on new axes and gives the figure. Powers are in watts, positive if taken. `Hours` has the edges of the
+intervals, and each list of values has one value for each interval.
+"""
+
+from __future__ import annotations
+
+import math
+from collections.abc import Mapping, Sequence
+from dataclasses import dataclass
+from datetime import datetime, timedelta
+from typing import Any
+
+import matplotlib
+import numpy
+from matplotlib.axes import Axes
+from matplotlib.colors import SymLogNorm
+from matplotlib.figure import Figure
+from matplotlib.ticker import FixedLocator, FuncFormatter, MaxNLocator
+
+from .svg import COLOURS, LIMIT, LINE, SETTINGS, new_figure
+
+# Up to so many devices a figure stacks their powers; it shows more as a heat map.
+MOST_STACKED = 8
+# Up to so many rows a heat map names each.
+MOST_NAMED = 60
+
+
+@dataclass(frozen=True)
+class Hours:
+    """The time axis: when the run begins, and the edges of its intervals in hours after that."""
+
+    start: datetime
+    edges: tuple[float, ...]
+
+    def label(self, hour: float) -> str:
+        """The time of so many hours after the start, as an axis shows it."""
+        time = self.start + timedelta(hours=hour)
+        return f"{time:%H:%M}" if self.edges[-1] <= 48 else f"{time:%d.%m. %H:%M}" if time.hour or time.minute else f"{time:%d.%m.}"
+
+
+def number(value: float, digits: int = 0) -> str:
+    """A number as a reader sees it: thousands apart, and a true minus sign."""
+    return f"{value:,.{digits}f}".replace("-", "\u2212").replace(",", "\u202f")
+
+
+def watts(power: float, _: object = None) -> str:
+    """A power with the unit that suits its size."""
+    for size, unit in ((1e6, "MW"), (1e3, "kW")):
+        if abs(power) >= size:
+            return f"{number(power / size, 3).rstrip('0').rstrip('.')} {unit}"
+    return f"{number(power)} W"
+
+
+def timed_axes(hours: Hours, **edges: float) -> tuple[Figure, Axes]:
+    """Axes over the hours of a run."""
+    with matplotlib.rc_context(SETTINGS):
+        figure = new_figure(**edges)
+        axes = figure.add_subplot()
+    set_hours(axes, hours)
+    return figure, axes
+
+
+def set_hours(axes: Axes, hours: Hours) -> None:
+    """Puts the hours below axes, at most nine of them."""
+    last = hours.edges[-1]
+    width = next((it for it in (0.25, 0.5, 1, 2, 3, 6, 12, 24, 48, 96, 168) if last / it <= 8.01), last / 8)
+    axes.xaxis.set_major_locator(FixedLocator([float(it) for it in numpy.arange(0, last + width / 100, width)]))
+    axes.xaxis.set_major_formatter(FuncFormatter(lambda hour, _: hours.label(hour)))
+    axes.tick_params(axis="x", labelrotation=0 if last <= 48 else 20)
+    axes.set_xlim(0, last)
+
+
+def set_powers(axes: Axes) -> None:
+    """Puts powers beside axes, and a line at 0."""
+    axes.yaxis.set_major_locator(MaxNLocator(6))
+    axes.yaxis.set_major_formatter(FuncFormatter(watts))
+    axes.axhline(0, color="0.6", linewidth=0.8, zorder=0)
+
+
+def draw_prices(hours: Hours, market: Sequence[int], groups: Mapping[str, Sequence[int]], unit: str) -> Figure:
+    """The price of the market, and of each limited group whose price differs from it at some time."""
+    figure, axes = timed_axes(hours)
+    own = {name: it for name, it in groups.items() if list(it) != list(market)}
+    for at, (name, prices) in enumerate(list(own.items())[:7]):
+        axes.stairs(prices, hours.edges, baseline=None, color=COLOURS[at % 8], linewidth=1.2, label=f"below {name}")
+    axes.stairs(market, hours.edges, baseline=None, color=LINE, linewidth=1.8, label="market")
+    axes.set_ylabel(f"price ({unit})")
+    axes.yaxis.set_major_locator(MaxNLocator(6, integer=True))
+    axes.margins(y=0.1)
+    if own:
+        axes.legend(fontsize=9, loc="best", framealpha=0.85)
+    return figure
+
+
+def draw_load(hours: Hours, load: Sequence[int], floor: int, ceiling: int) -> Figure:
+    """The load of a limited group between its limits; what is outside them is shaded."""
+    figure, axes = timed_axes(hours, left=0.16)
+    axes.stairs(load, hours.edges, baseline=None, color=COLOURS[0], linewidth=1.8)
+    low, high = min(load), max(load)
+    for limit, word, edge in ((ceiling, "ceiling", "bottom"), (floor, "floor", "top")):
+        # A limit far from all that was taken would press the load flat.
+        if low - 2 * (high - low + 1) <= limit <= high + 2 * (high - low + 1):
+            axes.axhline(limit, color=LIMIT, linestyle="--", linewidth=1.4)
+            axes.annotate(f"{word} {watts(limit)}", (1, limit), xycoords=("axes fraction", "data"), ha="right", va=edge,
+                          xytext=(-3, 2 if edge == "bottom" else -2), textcoords="offset points", color=LIMIT, fontsize=9)
+    for begin, end in runs_of([not floor <= it <= ceiling for it in load]):
+        axes.axvspan(hours.edges[begin], hours.edges[end], color=LIMIT, alpha=0.15, linewidth=0)
+    for limit, beyond in ((ceiling, numpy.maximum(load, ceiling)), (floor, numpy.minimum(load, floor))):
+        if any(beyond != limit):
+            axes.stairs(beyond, hours.edges, baseline=limit, fill=True, color=LIMIT, alpha=0.55, linewidth=0)
+    set_powers(axes)
+    axes.margins(y=0.15)
+    return figure
+
+
+def runs_of(flags: Sequence[bool]) -> list[tuple[int, int]]:
+    """Where the flags are true: the first place of each run, and the place behind its last."""
+    found: list[tuple[int, int]] = []
+    for at, is_set in enumerate(flags):
+        if is_set and found and found[-1][1] == at:
+            found[-1] = (found[-1][0], at + 1)
+        elif is_set:
+            found.append((at, at + 1))
+    return found
+
+
+def draw_powers(hours: Hours, powers: Mapping[str, Sequence[int]]) -> Figure:
+    """What each device takes, stacked upwards, and delivers, stacked downwards; of many devices a heat map."""
+    return draw_stack(hours, powers) if len(powers) <= MOST_STACKED else draw_heat(hours, powers)
+
+
+def draw_stack(hours: Hours, powers: Mapping[str, Sequence[int]]) -> Figure:
+    """The powers of a few devices, one on another."""
+    figure, axes = timed_axes(hours, left=0.16)
+    count = len(hours.edges) - 1
+    up, down = numpy.zeros(count), numpy.zeros(count)
+    for at, (name, row) in enumerate(powers.items()):
+        taken, given = numpy.maximum(row, 0), numpy.minimum(row, 0)
+        look = {"fill": True, "color": COLOURS[at % 8], "linewidth": 0}
+        axes.stairs(up + taken, hours.edges, baseline=up, label=name, **look)
+        axes.stairs(down + given, hours.edges, baseline=down, **look)
+        up, down = up + taken, down + given
+    set_powers(axes)
+    axes.margins(y=0.1)
+    axes.legend(fontsize=9, loc="best", framealpha=0.85, ncols=2)
+    return figure
+
+
+def draw_heat(hours: Hours, powers: Mapping[str, Sequence[int]]) -> Figure:
+    """The powers of many devices: a row for each, and a colour for each power, on a scale that also tells small ones apart."""
+    names, rows = list(powers), numpy.array(list(powers.values()), dtype=float)
+    high = 1.3 + (0.15 if len(names) <= MOST_NAMED else 0.03) * len(names)
+    longest = max(map(len, names)) if len(names) <= MOST_NAMED else 4
+    with matplotlib.rc_context(SETTINGS):
+        figure = new_figure(high=high, left=min(0.4, 0.035 + 0.014 * longest), bottom=0.75 / high, top=1 - 0.15 / high, right=0.94)
+        axes = figure.add_subplot()
+        most = max(1.0, float(numpy.abs(rows).max()))
+        norm = SymLogNorm(linthresh=max(1.0, most / 1000), vmin=-most, vmax=most)
+        edges = numpy.array(hours.edges)
+        even = resampled(rows, edges)
+        image = axes.imshow(even, aspect="auto", interpolation="none", cmap="PuOr_r", norm=norm,
+                            extent=(0, float(edges[-1]), len(names) - 0.5, -0.5))
+        set_hours(axes, hours)
+        if len(names) <= MOST_NAMED:
+            axes.set_yticks(range(len(names)), names, fontsize=8)
+        else:
+            axes.set_ylabel("devices, in the order of the file", fontsize=9)
+        beside = figure.add_axes((0.25, 0.3 / high, 0.5, 0.1 / high))
+        bar = figure.colorbar(image, cax=beside, orientation="horizontal")
+        # Between 0 and the most a power of ten, which is at least a tenth of the way.
+        middle = 10.0 ** math.floor(math.log10(most / 10))
+        ticks = [-most, -middle, 0, middle, most]
+        bar.set_ticks(ticks, labels=[watts(it) for it in ticks], fontsize=8)
+        bar.ax.minorticks_off()
+    return figure
+
+
+def resampled(rows: Any, edges: Any) -> Any:
+    """The rows over columns of one width: as they are if the intervals are equal, and else the value at each of 960 moments."""
+    widths = numpy.diff(edges)
+    if numpy.allclose(widths, widths[0]):
+        return rows
+    moments = (numpy.arange(960) + 0.5) * edges[-1] / 960
+    return rows[:, numpy.searchsorted(edges, moments, side="right") - 1]
+
+
+def draw_left_over(hours: Hours, totals: Sequence[int]) -> Figure:
+    """What the devices leave over: above 0 they take more than they deliver."""
+    figure, axes = timed_axes(hours, left=0.16)
+    axes.stairs(totals, hours.edges, baseline=0, fill=True, color=COLOURS[4], linewidth=0)
+    axes.stairs(totals, hours.edges, baseline=None, color=COLOURS[0], linewidth=1.4)
+    set_powers(axes)
+    axes.margins(y=0.1)
+    return figure
+
+
+def draw_curve(prices: Sequence[int], demands: Sequence[int | None], answers: Sequence[tuple[int, int]], unit: str) -> Figure:
+    """The total of all bids at each price, as dots since nothing lies between two steps, and the price that answers each target."""
+    with matplotlib.rc_context(SETTINGS):
+        figure = new_figure(left=0.16, bottom=0.15)
+        axes = figure.add_subplot()
+        known = [(price, demand) for price, demand in zip(prices, demands) if demand is not None]
+        small = 2.5 if len(known) > 60 else 5
+        axes.plot(*zip(*known), linestyle="none", marker="o", markersize=small, color=COLOURS[0], label="what the cluster takes")
+        if answers:
+            axes.plot([price for _, price in answers], [target for target, _ in answers], linestyle="none", marker="D",
+                      markerfacecolor="none", color=LIMIT, label="target, at its price")
+        set_powers(axes)
+        axes.set_xlabel(f"price ({unit})")
+        axes.margins(x=0.03, y=0.1)
+        axes.legend(fontsize=9, loc="best", framealpha=0.85)
+    return figure

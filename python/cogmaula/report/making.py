@@ -1,0 +1,120 @@
+"""Makes the report of a cluster file: runs it, bills it, asks for its flexibility, and puts the page together."""
+
+from __future__ import annotations
+
+import hashlib
+from collections.abc import Iterable
+from dataclasses import dataclass
+from datetime import datetime
+from pathlib import Path
+
+from ..calls import run
+from ..cluster import Cluster, Source, bytes_of
+from ..continuing import continued
+from ..program import Program, found_program
+from ..progress import Progress
+from ..runs import Run
+from .bills import Currency, Span, bills_of
+from .flexibility import Flexibility, flexibility_of
+from .limits import Group, groups_of
+from .times import Interval, intervals_of, spans_of
+
+# The minutes of a bill's span if the user names none.
+SPAN = 60
+# The most spans that a bill has if the user names no length of them.
+MOST_SPANS = 48
+
+
+@dataclass(frozen=True)
+class Findings:
+    """All that a report tells of a run, and that its sections are made of.
+
+    has_start: whether the user named the start of the run
+    """
+
+    title: str
+    run: Run
+    has_start: bool
+    intervals: tuple[Interval, ...]
+    groups: tuple[Group, ...]
+    spans: tuple[Span, ...]
+    currency: Currency
+    flexibility: Flexibility
+    digest: str
+
+
+def findings_of(
+    source: Source,
+    *,
+    title: str | None = None,
+    start: datetime | None = None,
+    currency: Currency | None = None,
+    span: int | None = None,
+    targets: Iterable[int] | None = None,
+    program: Program | None = None,
+    quiet: bool = True,
+) -> Findings:
+    """Runs a cluster and finds what its report tells. The arguments are those of `report`."""
+    program, data = program or found_program(), bytes_of(source)
+    cluster = source if isinstance(source, Cluster) else Cluster.from_json(data)
+    done = run(cluster, start=start, program=program)
+    intervals = intervals_of(cluster)
+    minutes = span or span_for(cluster.minutes)
+    with Progress("bills", sum(1 for _ in spans_of(intervals, minutes)), quiet=quiet) as progress:
+        spans = []
+        for it in bills_of(done, minutes):
+            spans.append(it)
+            progress.step()
+    return Findings(
+        title or title_of(source),
+        done,
+        start is not None,
+        tuple(intervals),
+        tuple(groups_of(done, intervals)),
+        tuple(spans),
+        currency or Currency(),
+        flexibility_of(continued(done), targets, program),
+        hashlib.sha256(data).hexdigest(),
+    )
+
+
+def span_for(minutes: int) -> int:
+    """The minutes of a span of the bill of a run of so many minutes: an hour, or so many whole hours that there are few spans."""
+    return SPAN * max(1, -(-minutes // (SPAN * MOST_SPANS)))
+
+
+def title_of(source: Source) -> str:
+    """The title of a report: the name of the file."""
+    return "cluster" if isinstance(source, Cluster | bytes) else Path(source).stem
+
+
+def report(
+    source: Source,
+    *,
+    title: str | None = None,
+    start: datetime | None = None,
+    currency: Currency | None = None,
+    span: int | None = None,
+    targets: Iterable[int] | None = None,
+    program: Program | None = None,
+    quiet: bool = True,
+) -> str:
+    """The report of a cluster's run, as one page in HTML that needs no script and no network.
+
+    source:   the cluster, the path of its file, or the bytes of the file
+    title:    the page's title; the name of the file if it is not given
+    start:    the moment before the first phase; 2000-01-01 00:00 if it is not given
+    currency: the unit of money, and what a kilowatt-hour costs at price 1; price units times kilowatt-hours if it is not given
+    span:     the minutes of a span of the bill; if it is not given, an hour, or some hours if the run is long
+    targets:  watts that the cluster is asked for at the end of the run; some of its range if they are not given
+    program:  the proved program; by default the one that `Program.find()` finds
+    quiet:    whether no progress is told on standard error
+
+    Raises what `run` raises, and NoPackage without matplotlib.
+    """
+    found = findings_of(
+        source, title=title, start=start, currency=currency, span=span, targets=targets, program=program, quiet=quiet
+    )
+    from .sections import page_of
+
+    return page_of(found)

@@ -1,0 +1,118 @@
+"""The page of a report: one text in HTML that needs no script and names no address."""
+
+from __future__ import annotations
+
+from collections.abc import Iterable, Sequence
+from html import escape
+
+STYLE = """
+:root { color-scheme: light; --ink: #1a1a1a; --soft: #5a5a5a; --line: #d9d9d9; --bad: #b3400a; --good: #00664a; }
+* { box-sizing: border-box; }
+body { margin: 0 auto; max-width: 80rem; padding: 1rem; color: var(--ink); background: #fff;
+  font: 1rem/1.45 system-ui, "DejaVu Sans", sans-serif; }
+h1 { font-size: 1.5rem; margin: .2rem 0; overflow-wrap: anywhere; }
+h2 { font-size: 1.2rem; margin: 2rem 0 .4rem; border-bottom: 1px solid var(--line); }
+h3 { font-size: 1rem; margin: 1rem 0 .2rem; overflow-wrap: anywhere; }
+p { max-width: 44rem; margin: .4rem 0; }
+a { color: #00548a; }
+nav a { display: inline-block; padding: .3rem .7rem .3rem 0; }
+.soft, figcaption, caption { color: var(--soft); }
+.bad { color: var(--bad); font-weight: 600; }
+.good { color: var(--good); font-weight: 600; }
+.facts { display: grid; grid-template-columns: repeat(auto-fill, minmax(min(100%, 15rem), 1fr)); gap: .6rem; margin: 1rem 0; padding: 0; }
+.facts div { border: 1px solid var(--line); border-radius: .4rem; padding: .5rem .7rem; }
+.facts dt { color: var(--soft); font-size: .85rem; }
+.facts dd { margin: 0; font-size: 1.1rem; overflow-wrap: anywhere; }
+main { display: grid; grid-template-columns: minmax(0, 1fr); gap: 0 3rem; }
+@media (min-width: 66rem) { main { grid-template-columns: repeat(2, minmax(0, 1fr)); } section.wide-part { grid-column: 1 / -1; } }
+.beside { display: grid; grid-template-columns: repeat(auto-fit, minmax(min(100%, 30rem), 1fr)); gap: 1rem 2rem; align-items: start; }
+.beside > * { min-width: 0; }
+figure { margin: .5rem 0; max-width: 42rem; }
+figure svg { display: block; width: 100%; height: auto; }
+figcaption { font-size: .9rem; }
+.wide { overflow-x: auto; max-width: 100%; max-height: 36rem; overflow-y: auto; margin: .5rem 0; }
+table { border-collapse: collapse; font-variant-numeric: tabular-nums; font-size: .9rem; }
+caption { text-align: left; padding: .2rem 0; }
+th, td { padding: .2rem .6rem; text-align: right; white-space: nowrap; border-bottom: 1px solid var(--line); }
+thead th { position: sticky; top: 0; background: #f4f4f4; vertical-align: bottom; white-space: normal; min-width: 4.5rem; }
+th:first-child, td:first-child { text-align: left; padding-left: .2rem; }
+tbody th { font-weight: normal; position: sticky; left: 0; background: #fff; }
+tr.sum > * { border-top: 2px solid var(--line); font-weight: 600; }
+summary { cursor: pointer; padding: .4rem 0; color: #00548a; }
+footer { margin-top: 2.5rem; border-top: 1px solid var(--line); font-size: .85rem; color: var(--soft); overflow-wrap: anywhere; }
+@media print { .wide { overflow: visible; max-height: none; } nav { display: none; } }
+""".strip()
+
+
+def page(title: str, body: Iterable[str]) -> str:
+    """A whole page."""
+    head = (
+        '<!DOCTYPE html>\n<html lang="en">\n<head>\n<meta charset="utf-8">\n'
+        '<meta name="viewport" content="width=device-width, initial-scale=1">\n'
+        f"<title>{escape(title)}</title>\n<style>\n{STYLE}\n</style>\n</head>\n<body>\n"
+    )
+    return head + "\n".join(body) + "\n</body>\n</html>\n"
+
+
+def heading(text: str, level: int) -> str:
+    """A heading of this level, from 1."""
+    return f"<h{level}>{escape(text)}</h{level}>"
+
+
+def section(name: str, title: str, is_wide: bool, *them: str) -> str:
+    """A part of the page with a heading that links lead to. On a wide screen two parts that are not wide are side by side."""
+    style = ' class="wide-part"' if is_wide else ""
+    return "\n".join([f'<section id="{name}"{style}>', f"<h2>{escape(title)}</h2>", *them, "</section>"])
+
+
+def contents(sections: Iterable[tuple[str, str]]) -> str:
+    """Links to the sections."""
+    links = "".join(f'<a href="#{name}">{escape(title)}</a> ' for name, title in sections)
+    return f'<nav aria-label="Contents">{links}</nav>'
+
+
+def parts(them: Iterable[str]) -> str:
+    """The parts of the page, side by side if there is room."""
+    return "<main>\n" + "\n".join(them) + "\n</main>"
+
+
+def words(text: str, style: str = "") -> str:
+    """A paragraph."""
+    kind = f' class="{style}"' if style else ""
+    return f"<p{kind}>{escape(text)}</p>"
+
+
+def facts(pairs: Iterable[tuple[str, str]]) -> str:
+    """Short facts, each below its name."""
+    return '<dl class="facts">' + "".join(f"<div><dt>{escape(name)}</dt><dd>{escape(it)}</dd></div>" for name, it in pairs) + "</dl>"
+
+
+def figure(svg: str, caption: str, told: str) -> str:
+    """A figure with its caption; `told` says in words what it shows, for readers who do not see it."""
+    return f'<figure><div role="img" aria-label="{escape(told)}">{svg}</div><figcaption>{escape(caption)}</figcaption></figure>'
+
+
+def beside(*them: str) -> str:
+    """Pieces side by side if there is room, else one below another."""
+    return '<div class="beside">' + "\n".join(f"<div>{it}</div>" for it in them) + "</div>"
+
+
+def table(caption: str, head: Sequence[str], rows: Iterable[Sequence[str]], sums: Iterable[Sequence[str]] = ()) -> str:
+    """A table whose first column names its rows; `sums` are rows at its end that stand out."""
+    top = "".join(f'<th scope="col">{escape(it)}</th>' for it in head)
+    lines = [f"<tr>{row_of(it)}</tr>" for it in rows] + [f'<tr class="sum">{row_of(it)}</tr>' for it in sums]
+    # A keyboard can scroll what has the focus.
+    return (
+        f'<div class="wide" tabindex="0" role="region" aria-label="{escape(caption)}"><table><caption>{escape(caption)}</caption>'
+        f"<thead><tr>{top}</tr></thead><tbody>\n" + "\n".join(lines) + "\n</tbody></table></div>"
+    )
+
+
+def row_of(cells: Sequence[str]) -> str:
+    """The cells of a row, the first of which names it."""
+    return f'<th scope="row">{escape(cells[0])}</th>' + "".join(f"<td>{escape(it)}</td>" for it in cells[1:])
+
+
+def folded(title: str, *them: str) -> str:
+    """Pieces that the reader opens."""
+    return f"<details><summary>{escape(title)}</summary>" + "\n".join(them) + "</details>"

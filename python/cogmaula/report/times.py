@@ -1,0 +1,45 @@
+"""When the ends of phases hold: the intervals of a run, and the spans of a bill."""
+
+from __future__ import annotations
+
+from collections.abc import Iterator, Sequence
+from dataclasses import dataclass
+
+from ..cluster import Cluster
+from ..phases import Tick
+
+
+@dataclass(frozen=True)
+class Interval:
+    """A tick: over it each member has the power and the price of the end of the phase before.
+
+    begin, end: minutes after the start of the run
+    phases:     how many phases come before the tick, which is the number of the phase whose end holds; 0 if the tick is the first
+    """
+
+    begin: int
+    end: int
+    phases: int
+
+
+def intervals_of(cluster: Cluster) -> list[Interval]:
+    """The ticks of a cluster, one behind another."""
+    found: list[Interval] = []
+    for at, phase in enumerate(cluster.phases):
+        if isinstance(phase, Tick):
+            begin = found[-1].end if found else 0
+            found.append(Interval(begin, begin + phase.minutes, at))
+    return found
+
+
+def spans_of(intervals: Sequence[Interval], minutes: int) -> Iterator[tuple[int, int, int, int]]:
+    """The intervals in spans of so many minutes: the begin and the end of each, its first phase, and the one behind its last.
+
+    Phases count from 0. The phases of events before a tick belong to the span of the tick.
+    A span is made of whole ticks. If a tick goes past the end of a span, the span goes with it.
+    """
+    begin = first = 0
+    for at, it in enumerate(intervals):
+        if it.end >= (begin // minutes + 1) * minutes or at == len(intervals) - 1:
+            yield begin, it.end, first, it.phases + 1
+            begin, first = it.end, it.phases + 1

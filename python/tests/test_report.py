@@ -1,0 +1,243 @@
+"""The report: its bills, violations and flexibility against the program's lines and an independent auction, and its page."""
+
+from __future__ import annotations
+
+import json
+import re
+from dataclasses import replace
+from datetime import datetime
+from fractions import Fraction
+from pathlib import Path
+
+import pytest
+from hypothesis import given, settings
+
+from clusters import clusters
+from cogmaula import Account, Basis, Cluster, Events, Join, Limited, Load, Manual, Program, Run, State, Tick, bill, run
+from cogmaula import cli
+from cogmaula.continuing import continued
+from cogmaula.report import Currency, bills_of, flexibility_of, groups_of
+from cogmaula.report.bills import add_up, sum_of
+from cogmaula.report.flexibility import MOST_TARGET
+from cogmaula.report.limits import Violation
+from cogmaula.report.making import span_for
+from cogmaula.report.times import intervals_of, spans_of
+
+TOP = Path(__file__).resolve().parents[2]
+from checks.oracle import targets as oracle
+from checks.oracle.accounts import bill_of as oracle_bill
+
+pytest.importorskip("matplotlib")
+from cogmaula.report import report
+from cogmaula.report.figures import number, watts
+
+FEEDER = Cluster(
+    Basis(0, 9, 10),
+    [Limited("feeder", floor=-1000, ceiling=1000), Load("house", parent="feeder", start=500)],
+    [
+        Events([Join("house")]),
+        Tick(30),
+        Events([State("house", 1500)]),
+        Tick(60),
+        Events([State("house", 2000)]),
+        Tick(15),
+        Events([State("house", 0)]),
+        Tick(15),
+        Events([State("house", 3000)]),
+        Events([State("house", 100)]),
+        Tick(10),
+    ],
+)
+
+
+def test_spans_are_whole_ticks() -> None:
+    """Worked by hand: ticks of 30, 60, 15, 15 and 10 minutes in spans of an hour."""
+    assert [(it.begin, it.end, it.phases) for it in intervals_of(FEEDER)] == [
+        (0, 30, 1), (30, 90, 3), (90, 105, 5), (105, 120, 7), (120, 130, 10)
+    ]
+    assert list(spans_of(intervals_of(FEEDER), 60)) == [(0, 90, 0, 4), (90, 120, 4, 8), (120, 130, 8, 11)]
+    assert list(spans_of([], 60)) == []
+    assert [span_for(it) for it in (0, 1440, 2880, 2881, 44640)] == [60, 60, 60, 120, 960]
+
+
+def test_violations_are_counted_and_listed(program: Program) -> None:
+    """Worked by hand: 1,500 and 2,000 W break the ceiling for 75 minutes together; the end with 3,000 W lasts no time."""
+    (group,) = groups_of(run(FEEDER, program=program), intervals_of(FEEDER))
+    assert group.loads == (500, 1500, 2000, 0, 100)
+    assert group.violations == (Violation(30, 105, 1000, 2000),)
+    assert (group.minutes_outside, group.outside) == (75, 5)
+
+
+def test_each_side_of_the_limits_is_a_violation_of_its_own(program: Program) -> None:
+    """A load above the ceiling, then delivery below the floor."""
+    cluster = Cluster(
+        Basis(0, 1, 2),
+        [Limited("g", floor=-5, ceiling=5), Manual("m", parent="g", demand=(9, 9))],
+        [Events([Join("m")]), Tick(1), Events([State("m", demand=(-7, -7))]), Tick(2), Tick(3)],
+    )
+    (group,) = groups_of(run(cluster, program=program), intervals_of(cluster))
+    assert group.violations == (Violation(0, 1, 5, 9), Violation(1, 6, -5, -7))
+
+
+@settings(max_examples=60, deadline=None)
+@given(clusters())
+def test_bills_of_spans_add_up_to_the_bill(program: Program, cluster: Cluster) -> None:
+    """Of any cluster: the spans' accounts add up to those of the whole run, and each span's amounts to 0."""
+    spans = list(bills_of(run(cluster, program=program), 45))
+    whole = bill(cluster, program=program)
+    for name, account in whole.devices.items():
+        parts = [it.bill.devices[name] for it in spans]
+        assert Account(*(sum(getattr(it, word) for it in parts) for word in ("amount", "taken", "given"))) == account
+    assert sum(it.bill.minutes for it in spans) == whole.minutes == cluster.minutes
+    assert sum(it.bill.ticks for it in spans) == whole.ticks
+    for it in spans:
+        assert sum(one.amount for one in it.bill.devices.values()) + it.bill.grid.amount == 0
+
+
+@settings(max_examples=30, deadline=None)
+@given(clusters())
+def test_bills_of_spans_are_those_of_an_independent_program(program: Program, cluster: Cluster) -> None:
+    """Of any cluster: each span has what the powers and prices of its ticks come to."""
+    done = run(cluster, program=program)
+    text = done.text.decode()
+    for (begin, end, first, last), span in zip(spans_of(intervals_of(cluster), 45), bills_of(done, 45), strict=True):
+        due, before = (oracle_bill(cluster.with_script(cluster.phases[:it]).to_json(), text) for it in (last, first))
+        for line, old in zip(due.splitlines()[:-1], before.splitlines()[:-1], strict=True):
+            name = line.split()[1]
+            now, then = (Account(*map(int, it.split()[-5::2])) for it in (line, old))
+            found = span.bill.devices[name] if line.startswith("account") else span.bill.grid
+            assert sum_of([found, then]) == now
+        assert (span.begin, span.end) == (begin, end)
+
+
+def test_bills_that_do_not_add_up_are_seen(program: Program) -> None:
+    """A part too few, and a part too much of one account or of the grid."""
+    whole = bill(FEEDER, program=program)
+    parts = [it.bill for it in bills_of(run(FEEDER, program=program), 60)]
+    assert add_up(parts, whole) and not add_up(parts[1:], whole)
+    one = replace(parts[0], grid=replace(parts[0].grid, taken=1))
+    assert not add_up([one, *parts[1:]], whole)
+
+
+@settings(max_examples=60, deadline=None)
+@given(clusters())
+def test_demands_are_the_total_of_all_bids(program: Program, cluster: Cluster) -> None:
+    """Of any cluster: what `ask` tells of each step is what an independent auction adds up."""
+    flexibility = flexibility_of(cluster, [0, 700, -700], program)
+    assert flexibility == flexibility_of(continued(run(cluster, program=program)), [0, 700, -700], program)
+    total = oracle.last_total(json.loads(cluster.to_json()))
+    assert list(flexibility.demands) == total
+    for it in flexibility.answers:
+        below, at, above = flexibility.around(it)
+        assert at == total[it.step]
+        assert below == (total[it.step - 1] if it.step else None)
+        assert above == (total[it.step + 1] if it.step + 1 < len(total) else None)
+        assert at <= it.target or it.step == len(total) - 1
+        assert below is None or below > it.target
+
+
+def test_a_total_beyond_all_targets_is_not_told(program: Program) -> None:
+    """Two plants of a gigawatt each: at the last step the total is below every target that may be asked."""
+    plants = [Manual(f"m{at}", demand=(0, 0, -MOST_TARGET)) for at in range(2)]
+    cluster = Cluster(Basis(0, 2, 3), [*plants, Manual("n", demand=(0, -MOST_TARGET, -MOST_TARGET))])
+    cluster = cluster.with_phases(cluster.join_all())
+    assert flexibility_of(cluster, None, program).demands == (0, -MOST_TARGET, None)
+
+
+@settings(max_examples=15, deadline=None)
+@given(clusters())
+def test_each_cluster_has_a_page(program: Program, cluster: Cluster) -> None:
+    """Of any cluster: one page that names no address, runs no script, and has each account and each violation once."""
+    text = report(cluster, program=program)
+    assert text.startswith("<!DOCTYPE html>") and text.endswith("</html>\n")
+    assert not outside_addresses(text) and "<script" not in text
+    done = run(cluster, program=program)
+    for group in groups_of(done, intervals_of(cluster)):
+        told = f"{group.name} was outside its limits"
+        assert (told in text) == bool(group.outside)
+    assert text == report(cluster, program=program)
+
+
+def outside_addresses(text: str) -> list[str]:
+    """What a browser would fetch: addresses in links, sources and styles that are no place of the page and no data."""
+    found = re.findall(r'(?:href|src|srcset|action|data|poster)="([^"]*)"', text) + re.findall(r"url\(([^)]*)\)", text)
+    found += re.findall(r"@import[^;]*", text) + re.findall(r"\bhttps?://[^\s\"'<]*", text)
+    return [it for it in found if not it.startswith(("#", "data:image/png;base64,"))]
+
+
+def test_an_outside_address_would_be_seen() -> None:
+    """The test of addresses sees a link, a picture, a style and a name space."""
+    for it in ('<a href="x.html">', '<img src="//a/b.png">', "url(a.png)", "@import 'a';", 'xmlns="http://a"'):
+        assert outside_addresses(it)
+    assert not outside_addresses('<a href="#price"> <image xlink:href="data:image/png;base64,AA//"/> url(#p1)')
+
+
+def test_the_page_of_the_feeder_tells_its_violation(program: Program) -> None:
+    """The verdict, the row of the violation, the bill in money, and the title with its marks escaped."""
+    money = Currency("EUR", Fraction("0.01"))
+    text = report(FEEDER, title="A <b> & c", start=datetime(2026, 6, 21, 12), currency=money, program=program)
+    assert "feeder was outside its limits for 1 h 15 min, at the ends of 5 of 11 phases." in text
+    row = ["12:30", "13:45", "1 h 15 min", "1 kW", "2 kW", "1 kW"]
+    assert '<th scope="row">feeder</th>' + "".join(f"<td>{it}</td>" for it in row) in text
+    assert "<title>A &lt;b&gt; &amp; c: report of a run</title>" in text
+    # The house takes 500 W, 1500 W, 2000 W, 0 W and 100 W over 30, 60, 15, 15 and 10 minutes: 2.267 kWh at price 9.
+    assert "<td>2.267</td><td>0.000</td><td>0.20</td>" in text
+    assert "1 is 0.01 EUR/kWh" in text and not outside_addresses(text)
+
+
+def test_a_run_without_time_or_members_has_a_page(program: Program) -> None:
+    """Nothing to draw is said in words."""
+    empty = Cluster(Basis(0, 1, 2))
+    for cluster in (empty, empty.with_phases(Tick(5)), empty.with_nodes(Load("a", start=1)).with_phases(Events([Join("a")]))):
+        text = report(cluster, program=program)
+        assert "so there is nothing to draw" in text
+
+
+def test_many_devices_are_a_heat_map(program: Program) -> None:
+    """Nine devices and uneven ticks: the figure holds a picture, and each account is in the tables."""
+    nodes = [Load(f"house{at}", start=100 * at) for at in range(70)]
+    cluster = Cluster(Basis(0, 9, 10), nodes)
+    for few, has_names in ((9, True), (70, False)):
+        small = Cluster(cluster.basis, nodes[:few])
+        text = report(small.with_phases(small.join_all(), Tick(10), Tick(35)), program=program)
+        assert text.count("data:image/png;base64,") >= 1
+        assert (">house3</text>" in text) == has_names
+        assert all(f'<th scope="row">house{at}</th>' in text for at in range(few))
+
+
+def test_numbers_as_a_reader_sees_them() -> None:
+    """Thousands apart, true minus signs, the unit that suits."""
+    assert [watts(it) for it in (0, -5, 999, 1000, -1234, 35000, 2500000)] == [
+        "0 W", "\u22125 W", "999 W", "1 kW", "\u22121.234 kW", "35 kW", "2.5 MW"
+    ]
+    assert number(-1234567.891, 2) == "\u22121\u202f234\u202f567.89"
+
+
+def test_the_command_writes_a_page(tmp_path: Path, program: Program) -> None:
+    """With a currency, spans and targets; and the arguments that do not fit are refused."""
+    file = tmp_path / "feeder.json"
+    FEEDER.save(file)
+    page = tmp_path / "feeder.html"
+    words = ["report", str(file), "-o", str(page), "--program", program.path, "--start", "2026-06-21"]
+    more = ["--currency", "EUR", "--per-kwh", "0.01", "--span", "30", "--target", "100", "--target", "-1"]
+    assert cli.main([*words, *more]) == 0
+    text = page.read_text()
+    assert "<title>feeder: report of a run</title>" in text and "from 2026-06-21 00:00" in text
+    assert "<td>90</td>" not in text and '<th scope="row">100 W</th>' in text
+    for bad in (["--currency", "EUR"], ["--per-kwh", "x", "--currency", "EUR"], ["--per-kwh", "-1"], ["--span", "0"]):
+        with pytest.raises(SystemExit):
+            cli.main([*words, *bad])
+    assert cli.main(["report", str(tmp_path / "none.json"), "-o", str(page), "--program", program.path]) == 1
+
+
+def test_a_long_run_has_days_on_its_axis(program: Program) -> None:
+    """A run of three days: the spans are of two hours, and times have their day."""
+    house = Cluster(Basis(0, 9, 10), [Load("house", start=5)])
+    text = report(house.with_phases(house.join_all(), *[Tick(1440)] * 3), start=datetime(2026, 6, 30), program=program)
+    assert "30 Jun 00:00 to 01 Jul 00:00" in text and ">02.07.</text>" in text
+
+
+def test_runs_know_their_program(program: Program) -> None:
+    """A run without ends has empty groups."""
+    done = run(Cluster(Basis(0, 1, 2), [Limited("g", floor=0, ceiling=0)]), program=program)
+    assert isinstance(done, Run) and groups_of(done, [])[0].violations == ()
