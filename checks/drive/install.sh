@@ -108,7 +108,7 @@ share/market/units/market-serve@.service
 share/market/words.sh
 share/zsh/site-functions/_market
 FILES
-    for file in examples/*.json examples/*.txt examples/serve/*.py pictures/*.svg; do
+    for file in examples/*.json examples/*.txt examples/serve/*.py examples/neighbourhood/* pictures/*.svg; do
         echo "share/doc/market/$file"
     done
     for file in python/cogmaula/*.py python/cogmaula/*/*.py python/cogmaula/py.typed python/cogmaula/*.json; do
