@@ -4,6 +4,7 @@ from __future__ import annotations
 
 import json
 import re
+import sys
 from dataclasses import replace
 from datetime import datetime
 from fractions import Fraction
@@ -13,7 +14,7 @@ import pytest
 from hypothesis import given, settings
 
 from clusters import clusters
-from cogmaula import Account, Basis, Cluster, Events, Join, Limited, Load, Manual, Program, Run, State, Tick, bill, run
+from cogmaula import Account, Basis, Cluster, Events, Join, Limited, Load, Manual, NoPackage, Program, Run, State, Tick, bill, run
 from cogmaula import cli
 from cogmaula.continuing import continued
 from cogmaula.report import Currency, bills_of, flexibility_of, groups_of
@@ -203,6 +204,13 @@ def test_many_devices_are_a_heat_map(program: Program) -> None:
         assert text.count("data:image/png;base64,") >= 1
         assert (">house3</text>" in text) == has_names
         assert all(f'<th scope="row">house{at}</th>' in text for at in range(few))
+
+
+def test_a_report_needs_matplotlib(program: Program, monkeypatch: pytest.MonkeyPatch) -> None:
+    """Without it the error names the package."""
+    monkeypatch.setitem(sys.modules, "cogmaula.report.sections", None)
+    with pytest.raises(NoPackage, match="python3-matplotlib"):
+        report(FEEDER, program=program)
 
 
 def test_numbers_as_a_reader_sees_them() -> None:

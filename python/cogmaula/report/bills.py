@@ -6,16 +6,17 @@ start with the states that they had there. All spans have to add up to the bill 
 
 from __future__ import annotations
 
-import os
 from collections.abc import Iterable, Iterator
 from concurrent.futures import ThreadPoolExecutor
 from dataclasses import dataclass
 from fractions import Fraction
+from queue import SimpleQueue
 
 from ..calls import bill
 from ..cluster import Cluster
 from ..continuing import resumed
 from ..errors import ProgramFault
+from ..processors import count, dealt, keep_to_one
 from ..runs import Run
 from ..states import first_snapshot, snapshots
 from ..texts import Account, Bill
@@ -64,7 +65,9 @@ def bills_of(run: Run, minutes: int, runs: int | None = None) -> Iterator[Span]:
     """
     spans = list(spans_of(intervals_of(run.cluster), minutes))
     scripts = list(scripts_of(run, [first for _, _, first, _ in spans], [last for _, _, _, last in spans]))
-    with ThreadPoolExecutor(runs or os.cpu_count() or 1) as pool:
+    workers = runs or count()
+    queue: SimpleQueue[int] = SimpleQueue()
+    with ThreadPoolExecutor(workers, initializer=keep_to_one, initargs=(dealt(queue, workers),)) as pool:
         whole = pool.submit(lambda: run.bill)
         bills = pool.map(lambda script: bill(script, program=run.program), scripts)
         found = []

@@ -90,7 +90,7 @@ def draw_prices(hours: Hours, market: Sequence[int], groups: Mapping[str, Sequen
     axes.yaxis.set_major_locator(MaxNLocator(6, integer=True))
     axes.margins(y=0.1)
     if own:
-        axes.legend(fontsize=9, loc="best", framealpha=0.85)
+        axes.legend(fontsize=10, loc="best", framealpha=0.85)
     return figure
 
 
@@ -104,7 +104,8 @@ def draw_load(hours: Hours, load: Sequence[int], floor: int, ceiling: int) -> Fi
         if low - 2 * (high - low + 1) <= limit <= high + 2 * (high - low + 1):
             axes.axhline(limit, color=LIMIT, linestyle="--", linewidth=1.4)
             axes.annotate(f"{word} {watts(limit)}", (1, limit), xycoords=("axes fraction", "data"), ha="right", va=edge,
-                          xytext=(-3, 2 if edge == "bottom" else -2), textcoords="offset points", color=LIMIT, fontsize=9)
+                          xytext=(-3, 2 if edge == "bottom" else -2), textcoords="offset points", color=LIMIT, fontsize=10,
+                          bbox={"facecolor": "white", "edgecolor": "none", "alpha": 0.7, "pad": 0.5}, zorder=5)
     for begin, end in runs_of([not floor <= it <= ceiling for it in load]):
         axes.axvspan(hours.edges[begin], hours.edges[end], color=LIMIT, alpha=0.15, linewidth=0)
     for limit, beyond in ((ceiling, numpy.maximum(load, ceiling)), (floor, numpy.minimum(load, floor))):
@@ -167,10 +168,10 @@ def draw_heat(hours: Hours, powers: Mapping[str, Sequence[int]]) -> Figure:
             axes.set_yticks(range(len(names)), names, fontsize=8)
         else:
             axes.set_ylabel("devices, in the order of the file", fontsize=9)
-        beside = figure.add_axes((0.25, 0.3 / high, 0.5, 0.1 / high))
+        beside = figure.add_axes((0.2, 0.3 / high, 0.65, 0.1 / high))
         bar = figure.colorbar(image, cax=beside, orientation="horizontal")
-        # Between 0 and the most a power of ten, which is at least a tenth of the way.
-        middle = 10.0 ** math.floor(math.log10(most / 10))
+        # Between 0 and the most a power of ten, far enough from both that the words have room.
+        middle = 10.0 ** math.floor(math.log10(most / 20))
         ticks = [-most, -middle, 0, middle, most]
         bar.set_ticks(ticks, labels=[watts(it) for it in ticks], fontsize=8)
         bar.ax.minorticks_off()
@@ -210,5 +211,5 @@ def draw_curve(prices: Sequence[int], demands: Sequence[int | None], answers: Se
         set_powers(axes)
         axes.set_xlabel(f"price ({unit})")
         axes.margins(x=0.03, y=0.1)
-        axes.legend(fontsize=9, loc="best", framealpha=0.85)
+        axes.legend(fontsize=10, loc="best", framealpha=0.85)
     return figure

@@ -4,6 +4,7 @@ from __future__ import annotations
 
 import hashlib
 from collections.abc import Iterable
+from concurrent.futures import ThreadPoolExecutor
 from dataclasses import dataclass
 from datetime import datetime
 from pathlib import Path
@@ -11,6 +12,7 @@ from pathlib import Path
 from ..calls import run
 from ..cluster import Cluster, Source, bytes_of
 from ..continuing import continued
+from ..errors import NoPackage
 from ..program import Program, found_program
 from ..progress import Progress
 from ..runs import Run
@@ -112,9 +114,16 @@ def report(
 
     Raises what `run` raises, and NoPackage without matplotlib.
     """
-    found = findings_of(
-        source, title=title, start=start, currency=currency, span=span, targets=targets, program=program, quiet=quiet
-    )
-    from .sections import page_of
-
-    return page_of(found)
+    asked = None if targets is None else list(targets)
+    with ThreadPoolExecutor(1) as pool:
+        # The program runs while matplotlib is loaded, which takes longer than a short run.
+        found = pool.submit(
+            lambda: findings_of(
+                source, title=title, start=start, currency=currency, span=span, targets=asked, program=program, quiet=quiet
+            )
+        )
+        try:
+            from .sections import page_of
+        except ImportError:
+            raise NoPackage("a report needs matplotlib: on Debian, apt-get install python3-matplotlib") from None
+    return page_of(found.result())

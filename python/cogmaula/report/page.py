@@ -19,7 +19,7 @@ nav a { display: inline-block; padding: .3rem .7rem .3rem 0; }
 .soft, figcaption, caption { color: var(--soft); }
 .bad { color: var(--bad); font-weight: 600; }
 .good { color: var(--good); font-weight: 600; }
-.facts { display: grid; grid-template-columns: repeat(auto-fill, minmax(min(100%, 15rem), 1fr)); gap: .6rem; margin: 1rem 0; padding: 0; }
+.facts { display: grid; grid-template-columns: repeat(auto-fill, minmax(min(100%, 10rem), 1fr)); gap: .6rem; margin: 1rem 0; padding: 0; }
 .facts div { border: 1px solid var(--line); border-radius: .4rem; padding: .5rem .7rem; }
 .facts dt { color: var(--soft); font-size: .85rem; }
 .facts dd { margin: 0; font-size: 1.1rem; overflow-wrap: anywhere; }

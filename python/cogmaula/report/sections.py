@@ -158,9 +158,7 @@ def prices(found: Findings) -> Iterator[str]:
     figure = draw_prices(hours_of(found), held, groups, unit_of(found.currency))
     told = f"The market's price goes from {min(held)} to {max(held)}"
     own = sum(list(it) != held for it in groups.values())
-    caption = "The price that holds over each tick." + (
-        f" {count(own, 'limited group')} had a price of its own at some time." if own else ""
-    )
+    caption = "The price that holds over each tick." + (f" At some time {count(own, 'limited group')} had another price." if own else "")
     yield page.figure(svg_of(figure, "price"), caption, told)
 
 
@@ -198,7 +196,7 @@ def load_of(found: Findings, at: int, group: Group) -> str:
     if group.violations:
         caption = f"Outside its limits for {duration(group.minutes_outside)}, shaded."
     else:
-        caption = "Within its limits at all times." if not group.outside else "Within its limits, but for phases that last no time."
+        caption = "Within its limits at all times." if not group.outside else "Within its limits, except in phases that last no time."
     told = f"The load of {group.name} goes from {watts(min(group.loads))} to {watts(max(group.loads))}. {caption}"
     return page.heading(group.name, 3) + page.figure(svg_of(figure, f"load{at}"), caption, told)
 

@@ -1,0 +1,105 @@
+#!/usr/bin/env python3
+"""Measures the Python package: the report of a day of 200 devices, and a study of 1,000 files over 1 to 4 processes.
+
+    python3 bench/python_package.py report         makes the day and its report, five times
+    python3 bench/python_package.py study [MANY]   makes so many files and runs them over 1, 2, 3 and 4 processes
+
+It needs the proved program of this checkout and matplotlib. It prints a line for each measurement, with the load of the machine.
+"""
+
+import os
+import random
+import subprocess
+import sys
+import tempfile
+import time
+from collections.abc import Iterator
+from pathlib import Path
+
+TOP = Path(__file__).resolve().parent.parent
+sys.path.insert(0, str(TOP / "python"))
+
+from cogmaula import Basis, Battery, Cluster, Events, Limited, Load, Manual, Node, Program, Solar, State, Tick
+from cogmaula.study import study
+
+# The quarters of an hour of a day, and of each file of a study.
+DAY, PART = 96, 24
+
+
+def script_of(devices: int, quarters: int, seed: int) -> Cluster:
+    """So many quarters of an hour: six in ten devices are loads, three are roofs, one a battery, below five feeders."""
+    draw = random.Random(seed)
+    feeders: list[Node] = [Limited(f"feeder{at}", floor=-40_000, ceiling=40_000) for at in range(5)]
+    leaves = [device_of(draw, at, f"feeder{at % 5}") for at in range(devices)]
+    grid = Manual("grid", points=[(60, 200_000), (80, 0), (300, 0), (320, -200_000)])
+    cluster = Cluster(Basis(0, 500, 501), [*feeders, *leaves, grid])
+    changing = [it for it in leaves if not isinstance(it, Battery)]
+    phases = [cluster.join_all(), Tick(15)]
+    for _ in range(1, quarters):
+        phases += [Events([State(it.name, draw.randrange(100, 4000)) for it in changing]), Tick(15)]
+    return cluster.with_phases(*phases)
+
+
+def device_of(draw: random.Random, at: int, feeder: str) -> Node:
+    """A device below a feeder."""
+    if at % 10 == 9:
+        return Battery(f"battery{at}", parent=feeder, capacity=10_000, charge=3000, discharge=3000, spread=20 + at % 30, start=5000)
+    kind = Solar if at % 10 >= 6 else Load
+    return kind(f"{kind.kind}{at}", parent=feeder, start=draw.randrange(100, 4000))
+
+
+def load() -> str:
+    """How many programs wait for the processors."""
+    return f"load {os.getloadavg()[0]:.1f} on {os.cpu_count()} processors"
+
+
+def measure_report(folder: Path) -> None:
+    """The report of a day of 200 devices, as a user runs it, with the start of Python."""
+    file, page = folder / "day.json", folder / "day.html"
+    script_of(199, DAY, 1).save(file)
+    words = [sys.executable, "-m", "cogmaula", "report", str(file), "-o", str(page), "--program", str(TOP), "--quiet"]
+    for _ in range(5):
+        begun = time.monotonic()
+        subprocess.run(words, cwd=TOP / "python", check=True)
+        print(f"report of 200 devices over {DAY} ticks: {time.monotonic() - begun:.2f} s, {page.stat().st_size:,} bytes, {load()}")
+
+
+def files_of(folder: Path, many: int) -> Iterator[Path]:
+    """So many files of 20 devices and six hours each."""
+    for at in range(many):
+        path = folder / f"{at:05}.json"
+        script_of(19, PART, at).save(path)
+        yield path
+
+
+def measure_study(folder: Path, many: int) -> None:
+    """The same files over 1 to 4 processes; the outcomes have to be the same."""
+    paths, program = list(files_of(folder, many)), Program.find(TOP)
+    alone = None
+    for processes in (1, 2, 3, 4):
+        begun = time.monotonic()
+        outcomes = study(paths, processes=processes, program=program)
+        took = time.monotonic() - begun
+        alone = alone or (took, outcomes)
+        assert outcomes == alone[1] and not any(it.fault for it in outcomes)
+        print(f"study of {many} files over {processes} processes: {took:.1f} s, {alone[0] / took:.2f} times as fast as one, {load()}")
+
+
+def main() -> int:
+    """Measures what the words ask for."""
+    with tempfile.TemporaryDirectory() as folder:
+        match sys.argv[1:]:
+            case ["report"]:
+                measure_report(Path(folder))
+            case ["study"]:
+                measure_study(Path(folder), 1000)
+            case ["study", many] if many.isdigit():
+                measure_study(Path(folder), int(many))
+            case _:
+                print(__doc__, file=sys.stderr)
+                return 2
+    return 0
+
+
+if __name__ == "__main__":
+    sys.exit(main())

@@ -1,0 +1,204 @@
+"""Studies: many clusters run over the processors of a machine, or over machines by Dask, with results exact and in order."""
+
+from __future__ import annotations
+
+import csv
+import hashlib
+import multiprocessing
+import os
+from collections.abc import Callable, Iterable, Iterator, Sequence
+from concurrent.futures import ProcessPoolExecutor
+from dataclasses import astuple, dataclass, fields
+from pathlib import Path
+from typing import Any, Generic, TypeVar
+
+from .calls import bill, run
+from .cluster import Cluster, Source, bytes_of
+from .errors import MarketError
+from .processors import count, dealt, keep_to_one
+from .program import Program, found_program
+from .progress import tracked
+
+T = TypeVar("T")
+# What a study does with each cluster: it is given the bytes of the file and the program. It has to be a function of a module, so that
+# another process finds it by its name.
+Work = Callable[[bytes, Program], T]
+
+
+@dataclass(frozen=True)
+class Summary:
+    """What a study tells of a run, in whole numbers.
+
+    phases, changes, minutes: of the run
+    lowest_price, highest_price: over the ends of all phases, in price units
+    price_minutes: the sum of the price times the minutes over all ticks; divided by `minutes` it is the mean price
+    taken_Wmin, given_Wmin: of all devices, in watts times minutes
+    amount: what all devices paid, in price units times watts times minutes
+    grid_taken_Wmin, grid_given_Wmin: what the devices left over, and what they lacked
+    ends_outside, minutes_outside: at how many ends a limited group was outside its limits, and for how long, summed over the groups
+    """
+
+    phases: int
+    changes: int
+    minutes: int
+    lowest_price: int
+    highest_price: int
+    price_minutes: int
+    taken_Wmin: int
+    given_Wmin: int
+    amount: int
+    grid_taken_Wmin: int
+    grid_given_Wmin: int
+    ends_outside: int
+    minutes_outside: int
+
+
+@dataclass(frozen=True)
+class Outcome(Generic[T]):
+    """What came of one cluster of a study.
+
+    name:   the path of its file, or its place among the clusters, from 1
+    digest: the SHA-256 of its file
+    result: what the work gave; None if it failed
+    fault:  why it failed: the refusal or the error in words, else an empty text
+    """
+
+    name: str
+    digest: str
+    result: T | None
+    fault: str
+
+
+def summary(file: bytes, program: Program) -> Summary:
+    """Runs a cluster file and sums up what came of it. Raises what `run` raises."""
+    cluster = Cluster.from_json(file)
+    done, paid = run(cluster, program=program), bill(file, program=program)
+    prices = [it.price for it in done.ends]
+    limits = {it.name: (getattr(it, "floor"), getattr(it, "ceiling")) for it in cluster.nodes if it.kind == "limited"}
+    outside = [
+        minutes
+        for end, minutes in zip(done.ends, done.durations, strict=True)
+        for it in end.groups
+        if not limits[it.name][0] <= it.total <= limits[it.name][1]
+    ]
+    devices = paid.devices.values()
+    return Summary(
+        phases=len(done.ends),
+        changes=done.changes,
+        minutes=paid.minutes,
+        lowest_price=min(prices, default=0),
+        highest_price=max(prices, default=0),
+        price_minutes=sum(price * it for price, it in zip(prices, done.durations, strict=True)),
+        taken_Wmin=sum(it.taken for it in devices),
+        given_Wmin=sum(it.given for it in devices),
+        amount=sum(it.amount for it in devices),
+        grid_taken_Wmin=paid.grid.taken,
+        grid_given_Wmin=paid.grid.given,
+        ends_outside=len(outside),
+        minutes_outside=sum(outside),
+    )
+
+
+@dataclass(frozen=True)
+class _Job(Generic[T]):
+    """One cluster and what is done with it, as another process is told."""
+
+    name: str
+    source: str | bytes
+    work: Work[T]
+    program: Program | str | None
+
+    def __call__(self) -> Outcome[T]:
+        """Does the work. A cluster that the program refuses is an outcome, not an error of the study."""
+        digest = ""
+        try:
+            file = bytes_of(self.source)
+            digest = hashlib.sha256(file).hexdigest()
+            return Outcome(self.name, digest, self.work(file, _program_of(self.program)), "")
+        except (MarketError, OSError) as error:
+            return Outcome(self.name, digest, None, f"{type(error).__name__}: {error}")
+
+
+def _program_of(named: Program | str | None) -> Program:
+    """The program that a job is done with."""
+    if isinstance(named, Program):
+        return named
+    return found_program() if named is None else Program.find(named)
+
+
+def _do(job: _Job[T]) -> Outcome[T]:
+    """Does a job: a function of this module, so that other processes find it."""
+    return job()
+
+
+def study(
+    sources: Iterable[Source],
+    work: Work[T] = summary,  # type: ignore[assignment]
+    *,
+    processes: int | None = None,
+    client: Any = None,
+    program: Program | str | None = None,
+    quiet: bool = True,
+) -> list[Outcome[T]]:
+    """Does the same work with many clusters, and gives an outcome for each, in their order.
+
+    sources:   clusters, paths of their files, or bytes of files
+    work:      what is done with each: a function of a module that takes the bytes of the file and the program
+    processes: how many processes share the work; as many as the machine has processors if it is not given
+    client:    a `distributed.Client`: its workers share the work, on whatever machines they are. They are sent the files, and
+               need this package and a proved program. `processes` counts for nothing then
+    program:   the proved program, or its path. If it is not given, each process finds one
+    quiet:     whether no progress is told on standard error
+
+    A cluster that is refused or cannot be read has an outcome with its fault, and ends nothing. Results do not depend on the
+    number of processes or machines.
+    """
+    jobs = [_job_of(at, it, work, program, is_far=client is not None) for at, it in enumerate(sources, 1)]
+    outcomes = _by_client(client, jobs) if client is not None else _by_processes(processes or count(), jobs)
+    return list(tracked(outcomes, "study", len(jobs), quiet))
+
+
+def _job_of(at: int, source: Source, work: Work[T], program: Program | str | None, is_far: bool) -> _Job[T]:
+    """The job of a source. A far worker cannot read a file of this machine, so it is sent the bytes, and finds its own program."""
+    if isinstance(source, Cluster | bytes):
+        return _Job(str(at), bytes_of(source), work, program)
+    name = os.fspath(source)
+    return _Job(name, _read(name) if is_far else name, work, program)
+
+
+def _read(path: str) -> str | bytes:
+    """The bytes of a file; its path if it cannot be read, so that the job tells the fault."""
+    try:
+        return Path(path).read_bytes()
+    except OSError:
+        return path
+
+
+def _by_processes(processes: int, jobs: Sequence[_Job[T]]) -> Iterator[Outcome[T]]:
+    """The outcome of each job, in order, by processes of this machine, each on a processor of its own. A single job is done here."""
+    if len(jobs) < 2:
+        yield from map(_do, jobs)
+        return
+    queue: Any = multiprocessing.SimpleQueue()
+    with ProcessPoolExecutor(processes, initializer=keep_to_one, initargs=(dealt(queue, processes),)) as pool:
+        # A few jobs go at once, since handing one over takes about a tenth of a millisecond.
+        yield from pool.map(_do, jobs, chunksize=max(1, min(16, len(jobs) // (8 * processes))))
+
+
+def _by_client(client: Any, jobs: Sequence[_Job[T]]) -> Iterator[Outcome[T]]:
+    """The outcome of each job, in order, by the workers of a Dask client."""
+    for future in client.map(_do, jobs, pure=False):
+        yield future.result()
+
+
+def write_table(outcomes: Iterable[Outcome[Summary]], path: str | os.PathLike[str]) -> None:
+    """Writes a study as CSV: a row for each cluster with its name, its digest, its fault, and the numbers of its summary.
+
+    Raises OSError.
+    """
+    names = [it.name for it in fields(Summary)]
+    with open(path, "w", encoding="utf-8", newline="") as text:
+        lines = csv.writer(text, lineterminator="\n")
+        lines.writerow(["name", "sha256", "fault", *names])
+        for it in outcomes:
+            lines.writerow([it.name, it.digest, it.fault, *(astuple(it.result) if it.result else [""] * len(names))])

@@ -1,0 +1,170 @@
+"""Studies: outcomes exact and in order, whoever does the work."""
+
+from __future__ import annotations
+
+import csv
+import hashlib
+import json
+import os
+import subprocess
+import sys
+import textwrap
+from collections.abc import Iterator
+from dataclasses import astuple, fields
+from pathlib import Path
+from typing import Any
+
+import pytest
+from hypothesis import given, settings
+
+from clusters import clusters
+from cogmaula import Basis, Cluster, Load, NoPackage, Program, Tick, cli, run
+from cogmaula.commands import study as command
+from cogmaula.study import Outcome, Summary, study, summary, write_table
+
+TOP = Path(__file__).resolve().parents[2]
+from checks.oracle.accounts import bill_of
+from checks.oracle.auction import ends_of, prices_of
+
+
+def house(power: int) -> Cluster:
+    """A house that takes so many watts for an hour."""
+    one = Cluster(Basis(0, 9, 10), [Load("house", start=power)])
+    return one.with_phases(one.join_all(), Tick(60))
+
+
+def written(folder: Path, many: int) -> list[Path]:
+    """So many files, each with another load; and one that is refused in the middle."""
+    paths = [folder / f"{at:03}.json" for at in range(many)]
+    for at, path in enumerate(paths):
+        house(at * 100).save(path)
+    paths[many // 2].write_text('{"version": 1}')
+    return paths
+
+
+def text_of(file: bytes, program: Program) -> bytes:
+    """Work that another process finds: the report of a file."""
+    return program.answer("run", file)
+
+
+def test_outcomes_are_exact_and_in_order(tmp_path: Path, program: Program) -> None:
+    """However many processes share the work: the load of file `n` is 100 n watts over an hour, at price 9."""
+    paths = written(tmp_path, 41)
+    alone = study(paths, processes=1, program=program)
+    assert [it.name for it in alone] == [str(it) for it in paths]
+    for at, it in enumerate(alone):
+        assert it.digest == hashlib.sha256(paths[at].read_bytes()).hexdigest()
+        if at == 20:
+            assert it.result is None and it.fault.startswith("Unreadable: ")
+        else:
+            assert it.result == Summary(2, 1, 60, *(9 if at else 0,) * 2, (9 if at else 0) * 60, at * 6000, 0, at * 6000 * 9, 0, at * 6000, 0, 0)
+    for processes in (2, 3, 4):
+        assert study(paths, processes=processes, program=program) == alone
+
+
+def test_clusters_bytes_and_lost_files_have_outcomes(tmp_path: Path, program: Program) -> None:
+    """What is no path is named by its place; a file that is not there and one that is refused end nothing."""
+    refused = Cluster(Basis(0, 9, 7))
+    outcomes = study([house(5), house(6).to_bytes(), tmp_path / "none.json", refused], text_of, processes=2, program=program)
+    assert [it.name for it in outcomes] == ["1", "2", str(tmp_path / "none.json"), "4"]
+    assert [it.result for it in outcomes[:2]] == [run(house(it), program=program).text for it in (5, 6)]
+    assert outcomes[2].fault.startswith("FileNotFoundError: ") and outcomes[2].digest == ""
+    assert outcomes[3].fault == "Refused: refused 6 basis"
+    assert study([], processes=4, program=program) == []
+
+
+def test_a_job_finds_the_program_that_it_is_told(tmp_path: Path, program: Program) -> None:
+    """By a path too; and a path that is none is a fault of each cluster."""
+    assert study([house(1)], text_of, program=program.path)[0].result == run(house(1), program=program).text
+    assert study([house(1)], program=str(tmp_path / "no"))[0].fault.startswith("NoProgram: ")
+
+
+@settings(max_examples=60, deadline=None)
+@given(clusters())
+def test_a_summary_is_what_an_independent_auction_gives(program: Program, cluster: Cluster) -> None:
+    """Of any cluster: prices, accounts and limits by the formulas of the pages."""
+    found = summary(cluster.to_bytes(), program)
+    scene = json.loads(cluster.to_json())
+    ends, prices = ends_of(scene), prices_of(scene)
+    ticks = [it.get("tick", 0) for it in scene["phases"]][1:] + [0]
+    paid = [prices[it.parts[None].step] for it in ends]
+    assert (found.phases, found.minutes) == (len(ends), cluster.minutes)
+    assert (found.lowest_price, found.highest_price) == (min(paid, default=0), max(paid, default=0))
+    assert found.price_minutes == sum(price * it for price, it in zip(paid, ticks))
+    assert found.changes == (sum(ends[-1].numbers.values()) if ends else 0)
+    accounts = [list(map(int, it.split()[-5::2])) for it in bill_of(cluster.to_json(), run(cluster, program=program).text.decode()).splitlines()[:-1]]
+    assert [found.amount, found.taken_Wmin, found.given_Wmin] == [sum(it[at] for it in accounts[:-1]) for at in range(3)]
+    assert [found.grid_taken_Wmin, found.grid_given_Wmin] == accounts[-1][1:]
+    limited = [it for it in scene["nodes"] if it["kind"] == "limited"]
+    outside = [
+        minutes
+        for end, minutes in zip(ends, ticks)
+        for it in limited
+        if not it["floor"] <= end.parts[it["name"]].sums[end.parts[it["name"]].step] <= it["ceiling"]
+    ]
+    assert (found.ends_outside, found.minutes_outside) == (len(outside), sum(outside))
+
+
+def test_the_example_of_the_page_runs(tmp_path: Path, program: Program) -> None:
+    """The code of docs/REPORTS.md, as a script of its own: the highest price of a file is that of its report."""
+    page = (TOP / "docs" / "REPORTS.md").read_text()
+    begin = page.index("    from cogmaula import run\n")
+    code = page[begin : page.index("\n\nEach outcome", begin)]
+    for name, power in (("a", 0), ("b", 100)):
+        house(power).save(tmp_path / f"{name}.json")
+    (tmp_path / "script.py").write_text(textwrap.dedent(code) + "\nprint([it.result for it in outcomes])\n")
+    environment = {**os.environ, "PYTHONPATH": str(TOP / "python"), "COGMAULA_MARKET": str(TOP)}
+    told = subprocess.run([sys.executable, "script.py"], cwd=tmp_path, env=environment, capture_output=True, text=True, check=False)
+    assert told.stdout == "[0, 9]\n", told.stderr
+
+
+def test_a_table_has_a_row_for_each_outcome(tmp_path: Path, program: Program) -> None:
+    """Whole numbers as they are, and a fault in words."""
+    outcomes: list[Outcome[Summary]] = study(written(tmp_path, 4), program=program)
+    write_table(outcomes, tmp_path / "table.csv")
+    with open(tmp_path / "table.csv", newline="") as text:
+        head, *rows = list(csv.reader(text))
+    assert head == ["name", "sha256", "fault", *(it.name for it in fields(Summary))]
+    for row, it in zip(rows, outcomes, strict=True):
+        assert row == [it.name, it.digest, it.fault, *(map(str, astuple(it.result)) if it.result else [""] * 13)]
+
+
+def test_the_command_writes_the_table_and_tells_faults(tmp_path: Path, program: Program, capsys: pytest.CaptureFixture[str]) -> None:
+    """The status is 0 if all files ran, and 1 if one has a fault."""
+    paths = [str(it) for it in written(tmp_path, 5)]
+    words = ["study", "-o", str(tmp_path / "table.csv"), "--program", program.path, "--processes", "2", "--quiet"]
+    assert cli.main([*words, *paths]) == 1
+    told = capsys.readouterr().err
+    assert paths[2] in told and "1 of 5 files have a fault" in told
+    assert cli.main([*words, *paths[:2]]) == 0
+    assert len((tmp_path / "table.csv").read_text().splitlines()) == 3
+
+
+def test_a_scheduler_needs_dask(monkeypatch: pytest.MonkeyPatch) -> None:
+    """Without the package the error names it."""
+    monkeypatch.setitem(sys.modules, "distributed", None)
+    with pytest.raises(NoPackage, match="python3-distributed"):
+        command.client_of("tcp://127.0.0.1:1")
+
+
+@pytest.fixture(scope="module")
+def scheduler() -> Iterator[Any]:
+    """A Dask cluster of two workers of this machine, each a process of its own."""
+    distributed = pytest.importorskip("distributed")
+    with distributed.LocalCluster(n_workers=2, threads_per_worker=1, dashboard_address=None) as workers:
+        yield workers
+
+
+def test_dask_gives_the_outcomes_of_one_process(tmp_path: Path, program: Program, scheduler: Any) -> None:
+    """The workers are sent the bytes, so they need no file; and the command takes a scheduler's address."""
+    from distributed import Client
+
+    paths = written(tmp_path, 21)
+    alone = study(paths, processes=1, program=program)
+    with Client(scheduler) as client:
+        assert study(paths, client=client, program=program) == alone
+        assert study([tmp_path / "none.json"], client=client, program=program)[0].fault.startswith("FileNotFoundError: ")
+    table = tmp_path / "table.csv"
+    words = ["study", "-o", str(table), "--scheduler", scheduler.scheduler_address, "--program", program.path]
+    assert cli.main([*words, *map(str, paths)]) == 1
+    assert [it.split(",")[0] for it in table.read_text().splitlines()[1:]] == [str(it) for it in paths]
