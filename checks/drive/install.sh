@@ -87,6 +87,7 @@ share/bash-completion/completions/market
 share/doc/market/CHANGELOG.md
 share/doc/market/CLUSTER_FILE.md
 share/doc/market/COMMANDS.md
+share/doc/market/COOKBOOK.md
 share/doc/market/GLOSSARY.md
 share/doc/market/LICENSE
 share/doc/market/NOTICE
@@ -108,7 +109,7 @@ share/market/units/market-serve@.service
 share/market/words.sh
 share/zsh/site-functions/_market
 FILES
-    for file in examples/*.json examples/*.txt examples/serve/*.py examples/neighbourhood/* pictures/*.svg; do
+    for file in examples/*.json examples/*.txt examples/serve/*.py examples/cookbook/* examples/neighbourhood/* pictures/*.svg; do
         echo "share/doc/market/$file"
     done
     for file in python/cogmaula/*.py python/cogmaula/*/*.py python/cogmaula/py.typed python/cogmaula/*.json; do

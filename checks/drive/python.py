@@ -25,6 +25,8 @@ DEBIAN = {
     "pytest": "python3-pytest",
     "hypothesis": "python3-hypothesis",
     "pandas": "python3-pandas",
+    "matplotlib": "python3-matplotlib",
+    "distributed": "python3-distributed",
     "mypy": "python3-mypy",
     "coverage": "python3-coverage",
     "setuptools": "python3-setuptools",
@@ -140,7 +142,7 @@ def parts(python, work, words):
     files = sorted(PACKAGE.glob("tests/test_*.py"))
     first = Part()
     with_tests = not missing(python, first, "the tests", ["pytest", "hypothesis"])
-    with_lines = with_tests and not words and not missing(python, first, "the count of lines", ["coverage", "pandas"])
+    with_lines = with_tests and not words and not missing(python, first, "the count of lines", ["coverage", "pandas", "matplotlib", "distributed"])
     yield first
     with ThreadPoolExecutor(max_workers=os.cpu_count() or 1) as pool:
         begun = [pool.submit(test_file, python, work, it, words, with_lines) for it in files] if with_tests else []

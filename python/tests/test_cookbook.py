@@ -1,0 +1,105 @@
+"""Runs every command of docs/COOKBOOK.md, and compares each block of the page with what comes out or with the example files."""
+
+from __future__ import annotations
+
+import json
+import os
+import shlex
+import subprocess
+import sys
+from collections.abc import Iterator
+from pathlib import Path
+
+import pytest
+
+from cogmaula import Cluster, Program, run
+
+TOP = Path(__file__).resolve().parents[2]
+PAGE = TOP / "docs" / "COOKBOOK.md"
+FOLDER = TOP / "examples" / "cookbook"
+COMMANDS = ("./market ", "cogmaula ", "python3 ")
+
+
+def blocks_of(page: str) -> Iterator[list[str]]:
+    """The indented blocks of a page, as lines without the indent. An item of a list is none."""
+    block: list[str] = []
+    for line in [*page.splitlines(), ""]:
+        if line.startswith("    "):
+            block.append(line[4:])
+        elif block:
+            yield block
+            block = []
+
+
+def output_of(line: str, folder: Path, program: Program) -> list[list[str]]:
+    """What a command of the page writes: the lines of its standard output, and of each file that it writes into OUTPUT."""
+    words = [it.replace("OUTPUT", str(folder)) for it in shlex.split(line)]
+    if words[0] == "./market":
+        assert words[2] == "<"
+        return [program.answer(words[1], (TOP / words[3]).read_bytes()).decode().splitlines()]
+    start = [sys.executable, "-m", "cogmaula"] if words[0] == "cogmaula" else [sys.executable]
+    environment = {**os.environ, "PYTHONPATH": str(TOP / "python"), "COGMAULA_MARKET": program.path}
+    done = subprocess.run(
+        [*start, *words[1:]], cwd=TOP, env=environment, capture_output=True, text=True, check=False, timeout=60
+    )
+    assert done.returncode == 0, done.stderr
+    return [done.stdout.splitlines(), *(it.read_text().splitlines() for it in sorted(folder.iterdir()))]
+
+
+def is_part(block: list[str], lines: list[str]) -> bool:
+    """Whether the block is some lines, one behind another."""
+    return any(lines[at : at + len(block)] == block for at in range(len(lines) - len(block) + 1))
+
+
+def objects_of(value: object) -> Iterator[object]:
+    """The value and all values in it."""
+    yield value
+    for it in value.values() if isinstance(value, dict) else value if isinstance(value, list) else ():
+        yield from objects_of(it)
+
+
+def test_each_block_of_the_page_is_what_comes_out(tmp_path: Path, program: Program) -> None:
+    """A command is run; a block behind it is a part of what it wrote; an object is a part of a file that the page links."""
+    files = [json.loads(it.read_text()) for it in sorted(FOLDER.glob("*.json"))]
+    written: list[list[str]] = []
+    commands = 0
+    for block in blocks_of(PAGE.read_text()):
+        if block[0].startswith(COMMANDS):
+            for at, line in enumerate(block):
+                folder = tmp_path / f"{commands}-{at}"
+                folder.mkdir()
+                written = output_of(line, folder, program)
+            commands += 1
+        elif block[0].startswith("{"):
+            due = json.loads("\n".join(block))
+            assert any(due in objects_of(it) for it in files), block
+        else:
+            assert any(is_part(block, it) for it in written), "\n".join(block)
+    assert commands >= 10
+
+
+def test_each_file_is_named_by_the_page_and_has_its_text(program: Program) -> None:
+    """The page names each cluster file, and the program writes the text beside it, which was worked out without the program."""
+    page = PAGE.read_text()
+    for file in sorted(FOLDER.glob("*.json")):
+        assert f"../examples/cookbook/{file.name}" in page
+        assert program.answer("run", file.read_bytes()).decode() == file.with_suffix(".txt").read_text()
+        Cluster.load(file).check(program)
+
+
+def test_the_report_of_the_feeder_says_what_the_page_quotes(tmp_path: Path, program: Program) -> None:
+    """The quoted sentence is on the page of the report, and the run has the violations that it tells."""
+    pytest.importorskip("matplotlib")
+    quoted = "feeder was outside its limits for 1 h, at the ends of 2 of 4 phases"
+    assert quoted in PAGE.read_text().replace("\n", " ")
+    written = output_of("cogmaula report examples/cookbook/feeder.json -o OUTPUT/feeder.html", tmp_path, program)
+    assert any(quoted in line for line in written[1])
+    assert [it.groups[0].total for it in run(FOLDER / "feeder.json", program=program).ends] == [4000, 6000, 6000, 5000]
+
+
+def test_equal_batteries_charge_together_or_not_at_all(program: Program) -> None:
+    """Worked by hand: at price 50 none charges; with spreads 0 to 19 the first ten do, at price 40."""
+    equal, staggered = (run(FOLDER / f"batteries_{it}.json", program=program).ends[0] for it in ("equal", "staggered"))
+    names = [f"battery{at:02}" for at in range(20)]
+    assert [equal.powers[it] for it in names] == [0] * 20 and equal.total == -10000
+    assert [staggered.powers[it] for it in names] == [1000] * 10 + [0] * 10 and staggered.total == 0
