@@ -12,12 +12,12 @@ from dataclasses import astuple, dataclass, fields
 from pathlib import Path
 from typing import Any, Generic, TypeVar
 
-from .calls import bill, run
 from .cluster import Cluster, Source, bytes_of
 from .errors import MarketError
 from .processors import count, dealt, keep_to_one
 from .program import Program, found_program
 from .progress import tracked
+from .whole import whole_run
 
 T = TypeVar("T")
 # What a study does with each cluster: it is given the bytes of the file and the program. It has to be a function of a module, so that
@@ -70,9 +70,10 @@ class Outcome(Generic[T]):
 
 
 def summary(file: bytes, program: Program) -> Summary:
-    """Runs a cluster file and sums up what came of it. Raises what `run` raises."""
+    """Runs a cluster file of any length and sums up what came of it. Raises what `run` and `chain` raise."""
     cluster = Cluster.from_json(file)
-    done, paid = run(cluster, program=program), bill(file, program=program)
+    done = whole_run(cluster, program=program)
+    paid = done.bill
     prices = [it.price for it in done.ends]
     limits = {it.name: (getattr(it, "floor"), getattr(it, "ceiling")) for it in cluster.nodes if it.kind == "limited"}
     outside = [

@@ -4,7 +4,7 @@ from __future__ import annotations
 
 import subprocess
 import sys
-from datetime import datetime
+from datetime import datetime, timedelta
 from decimal import Decimal
 from pathlib import Path
 
@@ -194,6 +194,20 @@ def test_the_command_writes_a_file_that_the_program_takes(
     capsys.readouterr()
     assert cli.main(words) == 5
     assert f"cogmaula explain {output} says where and why" in capsys.readouterr().err
+
+
+def test_a_month_is_made_and_tried_in_parts(tmp_path: Path, program: Program, capsys: pytest.CaptureFixture[str]) -> None:
+    """1,500 quarters of an hour are more phases than one run takes."""
+    times = [datetime(2026, 6, 1) + timedelta(minutes=15 * at) for at in range(1500)]
+    rows = [f"{time.isoformat()},{at % 7}" for at, time in enumerate(times)]
+    (tmp_path / "loads.csv").write_text("\n".join(["time,a", *rows, ""]))
+    (tmp_path / "recipe.toml").write_text(
+        '[basis]\nmin = 0\nmax = 9\nsteps = 10\n[[table]]\nfile = "loads.csv"\nkind = "load"\n'
+    )
+    output = tmp_path / "month.json"
+    assert cli.main(["from-csv", str(tmp_path / "recipe.toml"), "-o", str(output), "--program", program.path]) == 0
+    assert "too long for one run" in capsys.readouterr().err
+    assert len(Cluster.load(output).phases) == 3000
 
 
 def test_the_worked_day_has_the_violation_that_its_page_tells(program: Program) -> None:

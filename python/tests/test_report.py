@@ -14,7 +14,7 @@ import pytest
 from hypothesis import given, settings
 
 from clusters import clusters
-from cogmaula import Account, Basis, Cluster, Events, Join, Limited, Load, Manual, NoPackage, Program, Run, State, Tick, bill, run
+from cogmaula import Account, Basis, Cluster, Events, Join, Limited, Load, Manual, NoPackage, Program, Refused, Run, State, Tick, bill, run
 from cogmaula import cli
 from cogmaula.continuing import continued
 from cogmaula.report import Currency, bills_of, flexibility_of, groups_of
@@ -23,6 +23,7 @@ from cogmaula.report.flexibility import MOST_TARGET
 from cogmaula.report.limits import Violation
 from cogmaula.report.making import span_for
 from cogmaula.report.times import intervals_of, spans_of
+from cogmaula.study import summary
 
 TOP = Path(__file__).resolve().parents[2]
 from checks.oracle import targets as oracle
@@ -243,6 +244,18 @@ def test_a_long_run_has_days_on_its_axis(program: Program) -> None:
     house = Cluster(Basis(0, 9, 10), [Load("house", start=5)])
     text = report(house.with_phases(house.join_all(), *[Tick(1440)] * 3), start=datetime(2026, 6, 30), program=program)
     assert "30 Jun 00:00 to 01 Jul 00:00" in text and ">02.07.</text>" in text
+
+
+def test_a_script_that_is_too_long_for_one_run_has_a_page(program: Program) -> None:
+    """Worked by hand: 1,200 minutes in ticks of one at 60 W are 1.2 kWh at price 9."""
+    house = Cluster(Basis(0, 9, 10), [Load("house", start=60)])
+    long = house.with_phases(house.join_all(), *[Tick(1)] * 1200)
+    with pytest.raises(Refused):
+        run(long, program=program)
+    text = report(long, program=program)
+    assert "1 device, 0 concentrators, 1\u202f201 phases, 20 h" in text
+    assert '<th scope="row">house</th><td>1.200</td><td>0.000</td><td>10.80</td>' in text
+    assert summary(long.to_bytes(), program).amount == 60 * 1200 * 9
 
 
 def test_runs_know_their_program(program: Program) -> None:

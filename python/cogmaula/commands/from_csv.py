@@ -8,11 +8,15 @@ from datetime import timedelta
 
 from .. import cli
 from ..data import from_csv
+from ..limits import MOST_CHANGES
+from ..schema import counts_of
+from ..whole import whole_run
 
 HELP = "makes a cluster file of tables of loads and solar power, by a recipe"
 MORE = (
     "The recipe is a short file in TOML. It names the tables, what their columns measure, the prices, and further nodes such as a feeder"
-    " or batteries. docs/REPORTS.md has its words, and examples/neighbourhood a worked day. The program is asked whether it takes the file."
+    " or batteries. docs/REPORTS.md has its words, and examples/neighbourhood a worked day. The program is asked whether it takes the file,"
+    " in parts if it is long."
 )
 
 
@@ -34,10 +38,9 @@ def main(arguments: argparse.Namespace) -> int:
     cluster.save(arguments.output)
     # If the program refuses the file, the command line says how to explain it.
     arguments.file = arguments.output
-    cluster.check(cli.program_of(arguments))
-    minutes = cluster.minutes
-    print(
-        f"{arguments.output}: {len(cluster.devices)} devices, {len(cluster.phases)} phases, {minutes} minutes from {start.isoformat()}",
-        file=sys.stderr,
-    )
+    done = whole_run(cluster, program=cli.program_of(arguments), quiet=False)
+    told = f"{len(cluster.devices)} devices, {len(cluster.phases)} phases, {cluster.minutes} minutes from {start.isoformat()}"
+    print(f"{arguments.output}: {told}", file=sys.stderr)
+    if len(done.ends) > counts_of("document", "phases") or done.changes > MOST_CHANGES:
+        print(f"{arguments.output}: too long for one run: cogmaula chain and cogmaula report run it in parts", file=sys.stderr)
     return 0

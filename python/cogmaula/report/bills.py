@@ -6,6 +6,7 @@ start with the states that they had there. All spans have to add up to the bill 
 
 from __future__ import annotations
 
+import itertools
 from collections.abc import Iterable, Iterator
 from concurrent.futures import ThreadPoolExecutor
 from dataclasses import dataclass
@@ -80,11 +81,12 @@ def bills_of(run: Run, minutes: int, runs: int | None = None) -> Iterator[Span]:
 
 def scripts_of(run: Run, firsts: Iterable[int], lasts: Iterable[int]) -> Iterator[Cluster]:
     """The cluster from phase `first` on and before phase `last`, both from 0, with the states that its devices had there."""
-    cluster = run.cluster
-    before = [first_snapshot(cluster), *snapshots(cluster, run.ends)]
-    for first, last in zip(firsts, lasts, strict=True):
-        phases = cluster.phases[first:last]
-        yield resumed(cluster, before[first], phases) if first else cluster.with_script(phases)
+    cluster, spans = run.cluster, dict(zip(firsts, lasts, strict=True))
+    before = itertools.chain([first_snapshot(cluster)], snapshots(cluster, run.ends))
+    for first, now in enumerate(before):
+        if first in spans:
+            phases = cluster.phases[first : spans[first]]
+            yield resumed(cluster, now, phases) if first else cluster.with_script(phases)
 
 
 def add_up(parts: Iterable[Bill], whole: Bill) -> bool:

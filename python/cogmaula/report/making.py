@@ -9,13 +9,13 @@ from dataclasses import dataclass
 from datetime import datetime
 from pathlib import Path
 
-from ..calls import run
 from ..cluster import Cluster, Source, bytes_of
 from ..continuing import continued
 from ..errors import NoPackage
 from ..program import Program, found_program
 from ..progress import Progress
 from ..runs import Run
+from ..whole import whole_run
 from .bills import Currency, Span, bills_of
 from .flexibility import Flexibility, flexibility_of
 from .limits import Group, groups_of
@@ -59,7 +59,7 @@ def findings_of(
     """Runs a cluster and finds what its report tells. The arguments are those of `report`."""
     program, data = program or found_program(), bytes_of(source)
     cluster = source if isinstance(source, Cluster) else Cluster.from_json(data)
-    done = run(cluster, start=start, program=program)
+    done = whole_run(cluster, start=start, program=program, quiet=quiet)
     intervals = intervals_of(cluster)
     minutes = span or span_for(cluster.minutes)
     with Progress("bills", sum(1 for _ in spans_of(intervals, minutes)), quiet=quiet) as progress:
@@ -101,7 +101,7 @@ def report(
     program: Program | None = None,
     quiet: bool = True,
 ) -> str:
-    """The report of a cluster's run, as one page in HTML that needs no script and no network.
+    """The report of a cluster's run, as one page in HTML that needs no script and no network. The run may be of any length.
 
     source:   the cluster, the path of its file, or the bytes of the file
     title:    the page's title; the name of the file if it is not given
@@ -112,7 +112,7 @@ def report(
     program:  the proved program; by default the one that `Program.find()` finds
     quiet:    whether no progress is told on standard error
 
-    Raises what `run` raises, and NoPackage without matplotlib.
+    Raises what `run` and `chain` raise, and NoPackage without matplotlib.
     """
     asked = None if targets is None else list(targets)
     with ThreadPoolExecutor(1) as pool:
