@@ -8,6 +8,7 @@ import sys
 from dataclasses import replace
 from datetime import datetime
 from fractions import Fraction
+from html.parser import HTMLParser
 from pathlib import Path
 
 import pytest
@@ -153,11 +154,37 @@ def test_each_cluster_has_a_page(program: Program, cluster: Cluster) -> None:
     text = report(cluster, program=program)
     assert text.startswith("<!DOCTYPE html>") and text.endswith("</html>\n")
     assert not outside_addresses(text) and "<script" not in text
+    reader = Balanced()
+    reader.feed(text)
+    assert not reader.open
+    names = re.findall(r'\bid="([^"]*)"', text)
+    assert len(names) == len(set(names))
+    assert set(re.findall(r'(?:href="#|url\(#)([^")]*)', text)) <= set(names)
     done = run(cluster, program=program)
     for group in groups_of(done, intervals_of(cluster)):
         told = f"{group.name} was outside its limits"
         assert (told in text) == bool(group.outside)
     assert text == report(cluster, program=program)
+
+
+class Balanced(HTMLParser):
+    """Fails if an element is closed that is not the one opened last."""
+
+    def __init__(self) -> None:
+        super().__init__()
+        self.open: list[str] = []
+
+    def handle_starttag(self, tag: str, attrs: object) -> None:
+        """Opens an element, unless it is one that has no end."""
+        if tag != "meta":
+            self.open.append(tag)
+
+    def handle_startendtag(self, tag: str, attrs: object) -> None:
+        """An element of a figure that ends itself."""
+
+    def handle_endtag(self, tag: str) -> None:
+        """Closes the element that was opened last."""
+        assert self.open.pop() == tag
 
 
 def outside_addresses(text: str) -> list[str]:
@@ -182,6 +209,8 @@ def test_the_page_of_the_feeder_tells_its_violation(program: Program) -> None:
     row = ["12:30", "13:45", "1 h 15 min", "1 kW", "2 kW", "1 kW"]
     assert '<th scope="row">feeder</th>' + "".join(f"<td>{it}</td>" for it in row) in text
     assert "<title>A &lt;b&gt; &amp; c: report of a run</title>" in text
+    # The price is 9 over 115 of 130 minutes, and 0 while the house takes nothing.
+    assert "8.0 (0.0796 EUR/kWh)" in text
     # The house takes 500 W, 1500 W, 2000 W, 0 W and 100 W over 30, 60, 15, 15 and 10 minutes: 2.267 kWh at price 9.
     assert "<td>2.267</td><td>0.000</td><td>0.20</td>" in text
     assert "1 is 0.01 EUR/kWh" in text and not outside_addresses(text)
@@ -212,6 +241,17 @@ def test_a_report_needs_matplotlib(program: Program, monkeypatch: pytest.MonkeyP
     monkeypatch.setitem(sys.modules, "cogmaula.report.sections", None)
     with pytest.raises(NoPackage, match="python3-matplotlib"):
         report(FEEDER, program=program)
+
+
+def test_many_limited_groups_are_in_tables(program: Program) -> None:
+    """Twenty groups outside their limits: twelve figures, seven prices of their own, and a row for each."""
+    groups = [Limited(f"g{at}", floor=0, ceiling=0) for at in range(20)]
+    cluster = Cluster(Basis(0, 9, 10), [*groups, *(Load(f"d{at}", parent=f"g{at}", start=100) for at in range(20))])
+    text = report(cluster.with_phases(cluster.join_all(), Tick(60)), program=program)
+    assert text.count("Outside its limits for 1 h, shaded.</figcaption>") == 12
+    assert "So were 15 more groups." in text and "The figures show 12 of 20 groups; the table has all." in text
+    assert "At some time 20 limited groups had another price. The figure shows 7 of them." in text
+    assert all(f'<th scope="row">g{at}</th>' in text for at in range(20))
 
 
 def test_numbers_as_a_reader_sees_them() -> None:

@@ -38,7 +38,7 @@ class Currency:
         """The amount of an account in this unit: above 0 if it pays."""
         return Fraction(account.amount, WATT_MINUTES) * self.at_price_one
 
-    def price(self, price: int) -> Fraction:
+    def price(self, price: Fraction) -> Fraction:
         """What a kilowatt-hour costs at a price."""
         return price * self.at_price_one
 

@@ -23,6 +23,8 @@ from .svg import COLOURS, LIMIT, LINE, SETTINGS, new_figure
 
 # Up to so many devices a figure stacks their powers; it shows more as a heat map.
 MOST_STACKED = 8
+# So many limited groups' prices are drawn beside that of the market.
+MOST_LINES = 7
 # Up to so many rows a heat map names each.
 MOST_NAMED = 60
 
@@ -80,10 +82,10 @@ def set_powers(axes: Axes) -> None:
 
 
 def draw_prices(hours: Hours, market: Sequence[int], groups: Mapping[str, Sequence[int]], unit: str) -> Figure:
-    """The price of the market, and of each limited group whose price differs from it at some time."""
+    """The price of the market, and of the first limited groups whose price differs from it at some time."""
     figure, axes = timed_axes(hours)
     own = {name: it for name, it in groups.items() if list(it) != list(market)}
-    for at, (name, prices) in enumerate(list(own.items())[:7]):
+    for at, (name, prices) in enumerate(list(own.items())[:MOST_LINES]):
         axes.stairs(prices, hours.edges, baseline=None, color=COLOURS[at % 8], linewidth=1.2, label=f"below {name}")
     axes.stairs(market, hours.edges, baseline=None, color=LINE, linewidth=1.8, label="market")
     axes.set_ylabel(f"price ({unit})")

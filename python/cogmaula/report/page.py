@@ -37,7 +37,8 @@ th, td { padding: .2rem .6rem; text-align: right; white-space: nowrap; border-bo
 thead th { position: sticky; top: 0; background: #f4f4f4; vertical-align: bottom; white-space: normal; min-width: 4.5rem; }
 th:first-child, td:first-child { text-align: left; padding-left: .2rem; }
 tbody th { font-weight: normal; position: sticky; left: 0; background: #fff; }
-tr.sum > * { border-top: 2px solid var(--line); font-weight: 600; }
+tr.sum > * { border-top: 2px solid var(--line); font-weight: 600; position: sticky; bottom: 0; background: #fff; }
+caption { caption-side: top; position: sticky; left: 0; white-space: normal; max-width: 80vw; }
 summary { cursor: pointer; padding: .4rem 0; color: #00548a; }
 footer { margin-top: 2.5rem; border-top: 1px solid var(--line); font-size: .85rem; color: var(--soft); overflow-wrap: anywhere; }
 @media print { .wide { overflow: visible; max-height: none; } nav { display: none; } }

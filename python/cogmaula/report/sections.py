@@ -9,7 +9,7 @@ from fractions import Fraction
 from ..texts import Account
 from . import page
 from .bills import Currency, energy
-from .figures import Hours, draw_curve, draw_left_over, draw_load, draw_powers, draw_prices, number, watts
+from .figures import MOST_LINES, Hours, draw_curve, draw_left_over, draw_load, draw_powers, draw_prices, number, watts
 from .limits import Group, Violation
 from .making import Findings
 from .svg import svg_of
@@ -128,12 +128,17 @@ def facts(found: Findings) -> Iterator[tuple[str, str]]:
         minutes = [it.end - it.begin for it in found.intervals]
         mean = sum(price * it for price, it in zip(held, minutes, strict=True)) / sum(minutes)
         yield "Price, lowest to highest", f"{number(min(held))} to {number(max(held))}"
-        yield "Mean price over the time", number(mean, 1)
+        yield "Mean price over the time", number(mean, 1) + in_money(found.currency, Fraction(mean))
     bill = found.run.bill
     yield "Taken by devices", f"{kilowatt_hours(sum(it.taken for it in bill.devices.values()))} kWh"
     yield "Delivered by devices", f"{kilowatt_hours(sum(it.given for it in bill.devices.values()))} kWh"
     yield "Left over, given to the grid", f"{kilowatt_hours(bill.grid.taken)} kWh"
     yield "Lacking, taken from the grid", f"{kilowatt_hours(bill.grid.given)} kWh"
+
+
+def in_money(currency: Currency, price: Fraction) -> str:
+    """What a kilowatt-hour costs at a price, behind it; nothing if the user named no currency."""
+    return "" if currency == Currency() else f" ({number(float(currency.price(price)), 4)} {currency.unit}/kWh)"
 
 
 def foot(found: Findings) -> str:
@@ -159,6 +164,8 @@ def prices(found: Findings) -> Iterator[str]:
     told = f"The market's price goes from {min(held)} to {max(held)}"
     own = sum(list(it) != held for it in groups.values())
     caption = "The price that holds over each tick." + (f" At some time {count(own, 'limited group')} had another price." if own else "")
+    if own > MOST_LINES:
+        caption += f" The figure shows {MOST_LINES} of them."
     yield page.figure(svg_of(figure, "price"), caption, told)
 
 
@@ -250,9 +257,10 @@ def left_over(found: Findings) -> Iterator[str]:
 def bills(found: Findings) -> Iterator[str]:
     """The bills by device and by span of time."""
     bill, currency = found.run.bill, found.currency
-    yield page.words(f"Amounts are in {currency.unit}: above 0 if the account pays, below 0 if it earns. All amounts add up to 0.")
+    yield page.words(f"Amounts are in {currency.unit}: above 0 if the account pays, below 0 if it earns. All amounts add up to 0. "
+                     "The grid takes and gives what the devices leave over.")
     head = ["account", "taken (kWh)", "given (kWh)", f"amount ({currency.unit})"]
-    grid = account_row(currency, "the grid: what the devices leave over", bill.grid)
+    grid = account_row(currency, "(the grid)", bill.grid)
     by_device = page.table("By device", head, [account_row(currency, name, it) for name, it in bill.devices.items()], [grid])
     head = ["span", "taken (kWh)", "given (kWh)", f"devices pay ({currency.unit})", f"the grid pays ({currency.unit})"]
     by_span = page.table("By span of time, all devices", head, [span_row(found, at) for at in range(len(found.spans))])
