@@ -33,6 +33,7 @@ from checks.oracle.accounts import bill_of as oracle_bill
 pytest.importorskip("matplotlib")
 from cogmaula.report import report
 from cogmaula.report.figures import number, watts
+from cogmaula.report.sections import duration
 
 FEEDER = Cluster(
     Basis(0, 9, 10),
@@ -254,6 +255,13 @@ def test_many_limited_groups_are_in_tables(program: Program) -> None:
     assert all(f'<th scope="row">g{at}</th>' in text for at in range(20))
 
 
+def test_durations_as_a_reader_sees_them() -> None:
+    """Minutes, hours, and days from four on."""
+    assert [duration(it) for it in (0, 59, 60, 135, 5759, 5760, 43_215)] == [
+        "0 min", "59 min", "1 h", "2 h 15 min", "95 h 59 min", "4 days", "30 days 15 min"
+    ]
+
+
 def test_numbers_as_a_reader_sees_them() -> None:
     """Thousands apart, true minus signs, the unit that suits."""
     assert [watts(it) for it in (0, -5, 999, 1000, -1234, 35000, 2500000)] == [
@@ -283,7 +291,7 @@ def test_a_long_run_has_days_on_its_axis(program: Program) -> None:
     """A run of three days: the spans are of two hours, and times have their day."""
     house = Cluster(Basis(0, 9, 10), [Load("house", start=5)])
     text = report(house.with_phases(house.join_all(), *[Tick(1440)] * 3), start=datetime(2026, 6, 30), program=program)
-    assert "30 Jun 00:00 to 01 Jul 00:00" in text and ">02.07.</text>" in text
+    assert "30 Jun 00:00 to 01 Jul 00:00" in text and ">2 Jul</text>" in text
 
 
 def test_a_script_that_is_too_long_for_one_run_has_a_page(program: Program) -> None:

@@ -39,7 +39,10 @@ class Hours:
     def label(self, hour: float) -> str:
         """The time of so many hours after the start, as an axis shows it."""
         time = self.start + timedelta(hours=hour)
-        return f"{time:%H:%M}" if self.edges[-1] <= 48 else f"{time:%d.%m. %H:%M}" if time.hour or time.minute else f"{time:%d.%m.}"
+        if self.edges[-1] <= 48:
+            return f"{time:%H:%M}"
+        day = f"{time.day} {time:%b}"
+        return f"{day}\n{time:%H:%M}" if time.hour or time.minute else day
 
 
 def number(value: float, digits: int = 0) -> str:
@@ -70,7 +73,6 @@ def set_hours(axes: Axes, hours: Hours) -> None:
     width = next((it for it in (0.25, 0.5, 1, 2, 3, 6, 12, 24, 48, 96, 168) if last / it <= 8.01), last / 8)
     axes.xaxis.set_major_locator(FixedLocator([float(it) for it in numpy.arange(0, last + width / 100, width)]))
     axes.xaxis.set_major_formatter(FuncFormatter(lambda hour, _: hours.label(hour)))
-    axes.tick_params(axis="x", labelrotation=0 if last <= 48 else 20)
     axes.set_xlim(0, last)
 
 
@@ -157,7 +159,7 @@ def draw_heat(hours: Hours, powers: Mapping[str, Sequence[int]]) -> Figure:
     high = 1.3 + (0.15 if len(names) <= MOST_NAMED else 0.03) * len(names)
     longest = max(map(len, names)) if len(names) <= MOST_NAMED else 4
     with matplotlib.rc_context(SETTINGS):
-        figure = new_figure(high=high, left=min(0.4, 0.035 + 0.014 * longest), bottom=0.75 / high, top=1 - 0.15 / high, right=0.94)
+        figure = new_figure(high=high, left=min(0.4, 0.035 + 0.014 * longest), bottom=0.85 / high, top=1 - 0.15 / high, right=0.94)
         axes = figure.add_subplot()
         most = max(1.0, float(numpy.abs(rows).max()))
         norm = SymLogNorm(linthresh=max(1.0, most / 1000), vmin=-most, vmax=most)
@@ -170,7 +172,7 @@ def draw_heat(hours: Hours, powers: Mapping[str, Sequence[int]]) -> Figure:
             axes.set_yticks(range(len(names)), names, fontsize=8)
         else:
             axes.set_ylabel("devices, in the order of the file", fontsize=9)
-        beside = figure.add_axes((0.2, 0.3 / high, 0.65, 0.1 / high))
+        beside = figure.add_axes((0.2, 0.28 / high, 0.65, 0.1 / high))
         bar = figure.colorbar(image, cax=beside, orientation="horizontal")
         # Between 0 and the most a power of ten, far enough from both that the words have room.
         middle = 10.0 ** math.floor(math.log10(most / 20))

@@ -50,9 +50,11 @@ def moment(found: Findings, minutes: int) -> str:
 
 
 def duration(minutes: int) -> str:
-    """A number of minutes in hours and minutes."""
+    """A number of minutes in hours and minutes, and in days if it is long."""
     hours, rest = divmod(minutes, 60)
-    return f"{hours} h {rest} min" if hours and rest else f"{hours} h" if hours else f"{rest} min"
+    days, hours = divmod(hours, 24) if hours >= 96 else (0, hours)
+    told = [f"{it} {unit}" for it, unit in ((days, "days"), (hours, "h"), (rest, "min")) if it]
+    return " ".join(told) or "0 min"
 
 
 def count(many: int, word: str) -> str:
