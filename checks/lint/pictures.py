@@ -1,9 +1,9 @@
 """Whether the pictures are those that the commands draw, and whether the auction behind the checks is right.
 
     python3 -m checks.lint.pictures         compares
-    python3 -m checks.lint.pictures draw    writes the pictures into pictures/
+    python3 -m checks.lint.pictures draw    writes the pictures and the page
 
-Each picture of the list is drawn again by `cogmaula draw`, with the proved program, and has to have the same bytes. And
+Each picture and page of the list is made again by its command, with the proved program, and has to have the same bytes. And
 checks/oracle/auction.py has to give the text of each cluster file that runs, and to refuse texts with a line changed, taken out or
 added. It knows nothing of the program, so the texts due are worked out a second time.
 """
@@ -23,13 +23,15 @@ from checks.oracle.auction import Misfit, fitting_ends
 PYTHON = "/usr/bin/python3"
 # What draws the same bytes.
 MATPLOTLIB = "3.6.3"
-# The arguments of `cogmaula draw` for each picture.
-PICTURES = {
-    "balance.svg": ["clearing", "examples/balance.json"],
-    "village.svg": ["run", "examples/village.json", "--phase", "3"],
-    "limited_feeder.svg": ["run", "examples/limited_feeder.json", "--phase", "2"],
-    "battery_day_bill.svg": ["bill", "examples/battery_day.json"],
-    "battery_day_ask.svg": ["ask", "examples/battery_day.json", "--target", "-1000", "--target", "-2000"],
+MONEY = ["--start", "2026-06-21", "--currency", "EUR", "--per-kwh", "0.001"]
+# The command for each picture and page, without -o.
+MADE = {
+    "pictures/balance.svg": ["draw", "clearing", "examples/balance.json"],
+    "pictures/village.svg": ["draw", "run", "examples/village.json", "--phase", "3"],
+    "pictures/limited_feeder.svg": ["draw", "run", "examples/limited_feeder.json", "--phase", "2"],
+    "pictures/battery_day_bill.svg": ["draw", "bill", "examples/battery_day.json"],
+    "pictures/battery_day_ask.svg": ["draw", "ask", "examples/battery_day.json", "--target", "-1000", "--target", "-2000"],
+    "examples/neighbourhood/neighbourhood.html": ["report", "examples/neighbourhood/neighbourhood.json", *MONEY],
 }
 
 
@@ -49,29 +51,28 @@ def lacking() -> str:
     return ""
 
 
-def drawn(name: str, folder: Path) -> str:
-    """Draws a picture into a folder, and says what is wrong, or gives an empty text."""
-    what, file, *rest = PICTURES[name]
-    words = ["-m", "cogmaula", "draw", what, str(TOP / file), "-o", str(folder / name), *rest, "--program", str(TOP)]
-    done = told_by(*words)
-    return "" if done.returncode == 0 else f"{name} is not drawn: {done.stderr.strip()}"
+def made(name: str, output: Path) -> str:
+    """Makes a picture or a page, and says what is wrong, or gives an empty text."""
+    words = [str(TOP / it) if it.startswith("examples/") else it for it in MADE[name]]
+    done = told_by("-m", "cogmaula", *words, "-o", str(output), "--program", str(TOP))
+    return "" if done.returncode == 0 else f"{name} is not made: {done.stderr.strip()}"
 
 
-def other_pictures() -> Iterator[str]:
-    """A line for each picture that the command draws otherwise."""
+def others() -> Iterator[str]:
+    """A line for each picture and page that its command makes otherwise."""
     with tempfile.TemporaryDirectory() as folder:
-        for name in PICTURES:
-            fault, picture = drawn(name, Path(folder)), TOP / "pictures" / name
-            if fault:
+        for name in MADE:
+            output = Path(folder) / Path(name).name
+            if fault := made(name, output):
                 yield fault
-            elif not picture.exists() or picture.read_bytes() != (Path(folder) / name).read_bytes():
-                yield f"pictures/{name} is not what cogmaula draws: checks/run pictures draw writes it"
+            elif not (TOP / name).exists() or (TOP / name).read_bytes() != output.read_bytes():
+                yield f"{name} is not what its command makes: checks/run pictures draw writes it"
 
 
 def draw_all() -> int:
-    """Writes the pictures."""
+    """Writes the pictures and the page."""
     why = lacking()
-    faults = [why] if why else [it for name in PICTURES if (it := drawn(name, TOP / "pictures"))]
+    faults = [why] if why else [it for name in MADE if (it := made(name, TOP / name))]
     for it in faults:
         print(it, file=sys.stderr)
     return 1 if faults else 0
@@ -112,8 +113,8 @@ def main() -> int:
     if why := lacking():
         print(f"skipped: the pictures are not drawn again: {why}")
     else:
-        wrong = list(other_pictures())
-        findings += [[it] for it in wrong] + [[]] * (len(PICTURES) - len(wrong))
+        wrong = list(others())
+        findings += [[it] for it in wrong] + [[]] * (len(MADE) - len(wrong))
     for it in findings:
         for line in it:
             print(line)
