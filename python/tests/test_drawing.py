@@ -98,12 +98,16 @@ def test_the_command_draws_the_same_bytes_each_time(tmp_path: Path, program: Pro
     """SVG and PNG; other endings, too much and no matplotlib are told."""
     words = ["--program", program.path, "-o"]
     for what, file in (("run", "street"), ("clearing", "balance"), ("bill", "battery_day"), ("ask", "battery_day")):
-        for ending in ("svg", "png"):
-            pictures = [tmp_path / f"{what}{at}.{ending}" for at in range(2)]
-            for it in pictures:
-                assert cli.main(["draw", what, str(TOP / "examples" / f"{file}.json"), *words, str(it)]) == 0
-            assert pictures[0].read_bytes() == pictures[1].read_bytes()
-            assert ending == "png" or b"http://purl.org" not in pictures[0].read_bytes()
+        pictures = [tmp_path / f"{what}{name}" for name in ("0.svg", "1.svg")]
+        for it in pictures:
+            assert cli.main(["draw", what, str(TOP / "examples" / f"{file}.json"), *words, str(it)]) == 0
+        assert pictures[0].read_bytes() == pictures[1].read_bytes()
+        assert b"http://purl.org" not in pictures[0].read_bytes()
+    pictures = [tmp_path / f"{at}.png" for at in range(2)]
+    for it in pictures:
+        assert cli.main(["draw", "clearing", str(TOP / "examples" / "balance.json"), *words, str(it)]) == 0
+    assert pictures[0].read_bytes() == pictures[1].read_bytes()
+    assert pictures[0].read_bytes().startswith(b"\x89PNG")
     assert cli.main(["draw", "run", str(TOP / "examples" / "street.json"), *words, str(tmp_path / "a.gif")]) == 1
 
 
