@@ -2,12 +2,12 @@
 use Rattle.std.specs.Prelude.{◌≡◌, ◌⊎◌, Option, Some, None}
 use Rattle.pm_cells.specs.Ends.{LinkEnd}
 use Rattle.pm_cells.specs.declared.message.UpMessage.{UpMessage}
-use Rattle.pm_phase.specs.Waiting.{PutBid, KeepsBid, DropsBid, TakesBid}
+use Rattle.pm_phase.specs.Waiting.{PutBid, KeepsBid, DropsBid, TakesBidFromLink}
 
 -- the bid was put on the link, and the parent has what it took from there
 pub record PutAndTaken (up up' down down' : LinkEnd) (bid : UpMessage) (has : Option UpMessage) : Type 0 where
   pub put : PutBid up up' bid None
-  pub taken : TakesBid down down' has
+  pub taken : TakesBidFromLink down down' has
 
 -- the bid could not be put: the parent has it, if the slot was lost; no bid was taken
 pub record NotPut (up up' down down' : LinkEnd) (bid : UpMessage) (has : Option UpMessage) : Type 0 where

@@ -62,13 +62,13 @@ PutsPrice old new (Some price) waiting true = PutPrice old new price waiting
 PutsPrice old new (Some price) waiting false = KeepsPrice old new price waiting ⊎ DropsPrice old new price waiting
 
 -- a bid is taken; or none is, since the end may take no more, the other end had the slot, or nothing newer waits
-abbrev pub TakesBid : LinkEnd → LinkEnd → Option UpMessage → Type 0
-TakesBid old new (Some bid) = new ≡ after_taken_bid old bid
-TakesBid old new None =
+abbrev pub TakesBidFromLink : LinkEnd → LinkEnd → Option UpMessage → Type 0
+TakesBidFromLink old new (Some bid) = new ≡ after_taken_bid old bid
+TakesBidFromLink old new None =
     ((length old.known.up.takes < old.room → ⊥) × (new ≡ old)) ⊎ (new ≡ after_no_bid old) ⊎ (new ≡ after_lost_bid old)
 
 -- a price is taken; or none is, for the same reasons
-abbrev pub TakesPrice : LinkEnd → LinkEnd → Option PriceUpdate → Type 0
-TakesPrice old new (Some price) = new ≡ after_taken_price old price
-TakesPrice old new None =
+abbrev pub TakesPriceFromLink : LinkEnd → LinkEnd → Option PriceUpdate → Type 0
+TakesPriceFromLink old new (Some price) = new ≡ after_taken_price old price
+TakesPriceFromLink old new None =
     ((length old.known.down.takes < old.room → ⊥) × (new ≡ old)) ⊎ (new ≡ after_no_price old) ⊎ (new ≡ after_lost_price old)

@@ -2,7 +2,7 @@
 
 ghost use Rattle.std.specs.Prelude.{◌≡◌};
 ghost use Rattle.pm_phase.specs.Ends.{IsUpOf, IsDownOf};
-ghost use Rattle.pm_phase.specs.Waiting.{PutsBid, PutsPrice, TakesBid, TakesPrice};
+ghost use Rattle.pm_phase.specs.Waiting.{PutsBid, PutsPrice, TakesBidFromLink, TakesPriceFromLink};
 
 use pm_cells::{
     Busy, ChildEnd, FreeLink, ParentEnd, PutBidFault, PutPriceFault, UpMessage, put_bid, put_price,
@@ -56,7 +56,7 @@ pub(crate) fn take_price_from_parent(links: &[FreeLink], up: &mut UpEnd) -> Opti
     requires { IsUpOf links.now up.old }
     ensures link { IsUpOf links.now up.new }
     ensures place { up.new.at ≡ up.old.at }
-    ensures taken { TakesPrice up.old.end up.new.end result }
+    ensures taken { TakesPriceFromLink up.old.end up.new.end result }
 {
     if up.end.takes().len() >= up.end.room() {
         return None;
@@ -72,7 +72,7 @@ pub(crate) fn take_bid_from_child(links: &[FreeLink], down: &mut DownEnd) -> Opt
     requires { IsDownOf links.now down.old }
     ensures link { IsDownOf links.now down.new }
     ensures place { down.new.at ≡ down.old.at }
-    ensures taken { TakesBid down.old.end down.new.end result }
+    ensures taken { TakesBidFromLink down.old.end down.new.end result }
 {
     if down.end.takes().len() >= down.end.room() {
         return None;

@@ -13,7 +13,7 @@ use std::thread;
 use std::thread::Threads;
 
 /// A phase is on so many threads at most. Each has nodes that follow one another.
-const MOST_THREADS: usize = 4;
+const THREADS_OF_A_PHASE: usize = 4;
 
 /// Lets the nodes make their rounds on threads, so many rounds each. Where a thread cannot start, its rounds are made here.
 pub(crate) fn run_nodes<R: Threads + Sync, G: Gate>(
@@ -27,7 +27,7 @@ pub(crate) fn run_nodes<R: Threads + Sync, G: Gate>(
     ensures links { All (AreOf links.now) nodes.new }
     ensures numbers { numbers_of_nodes nodes.new ≡ numbers_of_nodes nodes.old }
 {
-    let size = nodes.len().div_ceil(MOST_THREADS).max(1);
+    let size = nodes.len().div_ceil(THREADS_OF_A_PHASE).max(1);
     thread::for_each_chunk_mut(
         rt,
         nodes,
