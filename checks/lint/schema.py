@@ -42,6 +42,10 @@ BEYOND = {
 }
 
 
+# The package has a copy of the schema, since the gate takes no link.
+PACKAGED = "python/cogmaula/cluster.schema.json"
+
+
 def validators():
     """The schema's validator by the standard, and the one for which a number with a point or an exponent is not whole."""
     from jsonschema import Draft202012Validator
@@ -109,6 +113,8 @@ def points():
 
 def results():
     """The name of each trial, and what is wrong, or None."""
+    same = (TOP / PACKAGED).read_bytes() == (TOP / "cluster.schema.json").read_bytes()
+    yield PACKAGED, None if same else f"it differs: cp cluster.schema.json {PACKAGED}"
     standard, check = validators()
     for name, file, code in files():
         yield name, why_wrong(check, name, file, code)
