@@ -76,6 +76,7 @@ OTHER_MEANINGS = [
     ("pm_plan/src/refusal.rt", "the numbers of causes"),
     ("pm_scene/src/kinds.rt", "the lengths of tables"),
     ("pm_wire/specs/Answers.antt", "the first bytes of answers"),
+    ("pm_wire/specs/Services.antt", "the first byte of a fault"),
     ("pm_wire/src/answer.rt", "the first bytes of answers"),
     ("market/src/main.rt", "an exit status"),
 ]

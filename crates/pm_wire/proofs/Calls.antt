@@ -1,5 +1,6 @@
 -- The frames that a decoder gave are those of the bytes that it was fed, in whatever pieces they came.
-use Rattle.std.proofs.Common.{◌≡◌, ◌∙◌, sym, ap, subst, refl, ℕ, ◌+◌, List, [], ◌∷◌, ◌++◌, length, arith, append_assoc, length-append, inl}
+use Rattle.std.proofs.Common.{◌≡◌, ◌∙◌, sym, ap, subst, refl, ℕ, ◌+◌}
+use Rattle.std.proofs.Common.{List, [], ◌∷◌, ◌++◌, length, arith, append_assoc, length-append, inl}
 use Rattle.std.proofs.lemmas.List.{append-nil}
 use Rattle.pm_wire.specs.Framing.{Framing, IsFraming, stream_bytes, place_behind, AllStand, BeginsWith, HasFrames, HasBadFrame, IsUnfinished, BeginsBadly}
 use Rattle.pm_wire.specs.Decoding.{Decoding, nothing_fed_at}
@@ -89,7 +90,8 @@ module _ {P F : Type 0} (framing : Framing P F) where
       }
 
 -- two decoders that were fed the same bytes and wait gave the same frames, in whatever pieces the bytes came
-pub calls_agree : {P F : Type 0} (framing : Framing P F) → IsFraming framing → (start : P) (calls others : List (Call F)) (mid new mid' new' : Decoding P) →
+pub calls_agree : {P F : Type 0} (framing : Framing P F) → IsFraming framing → (start : P) (calls others : List (Call F))
+    (mid new mid' new' : Decoding P) →
     bytes_fed calls ≡ bytes_fed others → MakeCalls framing (nothing_fed_at start) calls mid → MakesCall framing mid waits new →
     MakeCalls framing (nothing_fed_at start) others mid' → MakesCall framing mid' waits new' → frames_given calls ≡ frames_given others
 calls_agree framing sound start calls others mid new mid' new' same made waits_there made' waits_there' =

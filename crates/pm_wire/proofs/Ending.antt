@@ -35,7 +35,8 @@ cut_short framing start Answer old new held holds held' input begun text due n c
     }
 
 -- what is due where there is a fault behind the answers to these frames
-record FaultDue {P F : Type 0} (framing : Framing P F) (start : P) (Answer : List F → List ℕ → Type 0) (new : Option (List ℕ)) (input begun text : List ℕ) :
+record FaultDue {P F : Type 0} (framing : Framing P F) (start : P) (Answer : List F → List ℕ → Type 0) (new : Option (List ℕ))
+    (input begun text : List ℕ) :
     Type 0 where
   frames : List F
   due : List ℕ

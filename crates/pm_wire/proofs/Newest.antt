@@ -1,5 +1,6 @@
 -- Behind frames the market has of each child the Bid or Gone with the greatest number.
-use Rattle.std.proofs.Common.{◌≡◌, ◌≢◌, ◌∙◌, sym, ap, refl, subst, ℕ, ◌+◌, ◌-◌, ◌<◌, ◌≤◌, ℤ, Bool, true, false, List, [], ◌∷◌}
+use Rattle.std.proofs.Common.{◌≡◌, ◌≢◌, ◌∙◌, sym, ap, refl, subst, ℕ, ◌+◌}
+use Rattle.std.proofs.Common.{◌-◌, ◌<◌, ◌≤◌, ℤ, Bool, true, false, List, [], ◌∷◌}
 use Rattle.std.proofs.Common.{◌++◌, length, Option, None, Some, arith}
 use Rattle.std.specs.Prelude.{◌==◌, nat_le, if◌then◌else◌}
 use Rattle.std.specs.List.{AllByRecursion}
@@ -127,7 +128,8 @@ below_learnt cache c number n steps (Some bid) false low small shape inside =
 -- ---- a frame and a child
 
 -- a frame of this sender, taken by the child's entry: the test whether the sender is the child decides
-sent_same : (cache : Cache) (child sender number : ℕ) (demand : Option (List ℤ)) (test : Bool) → test ≡ (sender == child) → 1 ≤ child → 1 ≤ sender →
+sent_same : (cache : Cache) (child sender number : ℕ) (demand : Option (List ℤ)) (test : Bool) → test ≡ (sender == child) → 1 ≤ child →
+    1 ≤ sender →
     (if test then number else 0) ≤ kept_number cache (child - 1) → SameEntry cache (after_learning cache (sender - 1) number demand) (child - 1)
 sent_same cache child sender number demand true is some first low =
     let e : sender ≡ child = grind (arith, nat_tests, is) in
@@ -158,7 +160,8 @@ sent_below cache child sender number n steps demand false is some last first sha
     (λ e. other (omega (arith, e, some, first))) in
     omega (arith, ap (λ (h : BidHead). h.number) same.head, low)
 
-low_below : (cache : Cache) (child n steps : ℕ) (f : Frame) (place : Option ℕ) → 1 ≤ child → child ≤ most_nodes → MayStand place f → Shape cache steps →
+low_below : (cache : Cache) (child n steps : ℕ) (f : Frame) (place : Option ℕ) → 1 ≤ child → child ≤ most_nodes → MayStand place f →
+    Shape cache steps →
     number_from child f < n → kept_number cache (child - 1) < n → kept_number (cache_after cache f) (child - 1) < n
 low_below cache child n steps (Hello basis) place some last stands shape small low = low
 low_below cache child n steps (Bid sender number demand) place some last stands shape small low =
@@ -183,7 +186,8 @@ all_low (f ∷ fs) cache child n place some stand low kept =
     (all_low fs (cache_after cache f) child n (bid_framing.place_after place f) some stand.1 low.1 still)
 
 -- frames whose numbers are below one leave the kept number below it
-all_below : (fs : List Frame) (cache : Cache) (child n steps : ℕ) (place : Option ℕ) → 1 ≤ child → child ≤ most_nodes → AllStand bid_framing place fs →
+all_below : (fs : List Frame) (cache : Cache) (child n steps : ℕ) (place : Option ℕ) → 1 ≤ child → child ≤ most_nodes →
+    AllStand bid_framing place fs →
     Shape cache steps → AllByRecursion (λ f. number_from child f < n) fs → kept_number cache (child - 1) < n →
     kept_number (cache_behind cache fs) (child - 1) < n
 all_below [] cache child n steps place some last stand shape small low = low
@@ -299,7 +303,8 @@ greatest_number_counts basis frames market child number demand stand is some las
 
 -- of a child from which none came nothing counts
 pub none_counts : (basis : BasisValue) (frames : List Frame) (market : OpenMarket) (child : ℕ) → AllStand bid_framing (Some basis.steps) frames →
-    market_behind None (Hello basis ∷ frames) ≡ Some market → 1 ≤ child → child ≤ most_nodes → HasNone child frames → NothingCounts market.cache child
+    market_behind None (Hello basis ∷ frames) ≡ Some market → 1 ≤ child → child ≤ most_nodes → HasNone child frames →
+    NothingCounts market.cache child
 none_counts basis frames market child stand is some last none =
     let start = empty_cache most_nodes basis.steps in
     let head = get_or-replicate_same most_nodes (child - 1) nothing_sent in

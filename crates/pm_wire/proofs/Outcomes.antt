@@ -29,7 +29,8 @@ pub record Outcomes {P F : Type 0} (framing : Framing P F) (start : P) (Answer :
   pub write_fault : result ≡ WriteFault → rose_sink
 
 -- what is known of a service that ended in the way that is told
-pub ended_so : {P F : Type 0} (framing : Framing P F) (start : P) (Answer : List F → List ℕ → Type 0) (old new held holds : Option (List ℕ)) (r k : Type 0)
+pub ended_so : {P F : Type 0} (framing : Framing P F) (start : P) (Answer : List F → List ℕ → Type 0) (old new held holds : Option (List ℕ))
+    (r k : Type 0)
     (result way : Served) → EndsSo framing start Answer old new held holds r k result → result ≡ way →
     EndsSo framing start Answer old new held holds r k way
 ended_so framing start Answer old new held holds r k result way ends is =
@@ -43,7 +44,8 @@ begins_at {P = P} framing start other Answer old new held holds r k result is en
     let Q : P → Type 0 = λ p. EndsSo framing p Answer old new held holds r k result in subst Q is ends
 
 -- what was said of the statuses, of a source that tells all that it has
-pub said : {P F : Type 0} (framing : Framing P F) (start : P) (Answer : List F → List ℕ → Type 0) (all : List ℕ) (old new held holds : Option (List ℕ))
+pub said : {P F : Type 0} (framing : Framing P F) (start : P) (Answer : List F → List ℕ → Type 0) (all : List ℕ)
+    (old new held holds : Option (List ℕ))
     (r k : Type 0) (result : Served) → old ≡ Some all → EndsSo framing start Answer old new held holds r k result →
     Outcomes framing start Answer (Some all) new held holds r k result
 said framing start Answer all old new held holds r k result is ends =
@@ -168,7 +170,8 @@ module _ {P F : Type 0} (framing : Framing P F) (sound : IsFraming framing) (sta
   -- where it took more bytes than the limit and no bad frame, it ends with TooLong, WriteFault or NoMemory
   pub took_more : (all : List ℕ) (new held holds : Option (List ℕ)) (r k : Type 0) (result : Served) →
       Outcomes framing start Answer (Some all) new held holds r k result → stream_limit < length (taken_bytes (Some all) new) →
-      ((n : ℕ) → HasBadFrame framing start (taken_bytes (Some all) new) n → ⊥) → (result ≡ TooLong) ⊎ (result ≡ WriteFault) ⊎ (result ≡ NoMemory)
+      ((n : ℕ) → HasBadFrame framing start (taken_bytes (Some all) new) n → ⊥) → (result ≡ TooLong) ⊎ (result ≡ WriteFault) ⊎
+      (result ≡ NoMemory)
   took_more all new held holds r k Done out long none =
       let d = out.done refl in
       absurd (omega (arith, ap length (taken_bytes-Consumes all new d.input d.consumes), d.short, long))

@@ -61,7 +61,8 @@ hello_read body x y z min max steps basis many ex ey ez low high small is =
 -- ten bytes behind the kind of Hello whose fields make no basis are a refused frame
 pub hello_refused : (body x y z : List ℕ) (min max : ℤ) (steps : ℕ) (fault : BasisFault) → length body ≡ 10 → body ≡ signed_bytes min ++ x →
     x ≡ signed_bytes max ++ y → y ≡ to_be_bytes w16 steps ++ z →
-    FitsSigned w32 min → FitsSigned w32 max → steps < 2 ^ 16 → Err fault ≡ checked_basis min max (pos steps) → IsRefusedFrame bid_framing None (hello_kind ∷ body)
+    FitsSigned w32 min → FitsSigned w32 max → steps < 2 ^ 16 → Err fault ≡ checked_basis min max (pos steps) → IsRefusedFrame bid_framing None
+    (hello_kind ∷ body)
 hello_refused body x y z min max steps fault many ex ey ez low high small is = record {
   frame = Hello (record { min = min; max = max; steps = steps });
   formed = (low, high, small);
@@ -121,7 +122,8 @@ front_is (b ∷ bytes) (suc size) some many =
     ap (λ n. b ∷ take n bytes) less
 
 -- a whole frame in the first bytes
-pub whole_read : {P F : Type 0} (framing : Framing P F) (place : P) (bytes : List ℕ) (frame : F) (size : ℕ) → size ≤ length bytes → IsFrameAt framing place (take size bytes) frame →
+pub whole_read : {P F : Type 0} (framing : Framing P F) (place : P) (bytes : List ℕ) (frame : F) (size : ℕ) → size ≤ length bytes →
+    IsFrameAt framing place (take size bytes) frame →
     IsWhole framing place bytes frame size
 whole_read framing place bytes frame size within at = record {
   stands = at.stands;

@@ -1,5 +1,6 @@
 -- Frames that were given and taken one after the other.
-use Rattle.std.proofs.Common.{◌≡◌, ◌∙◌, sym, ap, refl, subst, ℕ, ◌+◌, ◌*◌, ◌<◌, ◌≤◌, List, [], ◌∷◌, ◌++◌, length, arith}
+use Rattle.std.proofs.Common.{◌≡◌, ◌∙◌, sym, ap, refl, subst, ℕ, ◌+◌}
+use Rattle.std.proofs.Common.{◌*◌, ◌<◌, ◌≤◌, List, [], ◌∷◌, ◌++◌, length, arith}
 use Rattle.std.proofs.Common.{append_assoc, length-append}
 use Rattle.std.proofs.lemmas.List.{append-nil}
 use Rattle.std.proofs.Math.Nat.{mul-le-mul_left, mul-add}
@@ -147,7 +148,8 @@ module _ {P F S : Type 0} (framing : Framing P F) (Answers : S → F → S → L
 
 -- ---- a service that agrees with its decoder
 
-module _ {P F S : Type 0} (framing : Framing P F) (sound : IsFraming framing) (Begins : P → S → Type 0) (Answers : S → F → S → List ℕ → Type 0) where
+module _ {P F S : Type 0} (framing : Framing P F) (sound : IsFraming framing) (Begins : P → S → Type 0)
+    (Answers : S → F → S → List ℕ → Type 0) where
   -- what a decoder and a service agree on they agree on behind frames
   pub agrees_more : (fs : List F) (old new : Decoding P) (m n : S) (reply : List ℕ) → Takes framing Answers fs old new m n reply →
       Agrees framing Begins Answers old m → Agrees framing Begins Answers new n

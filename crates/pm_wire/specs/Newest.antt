@@ -1,5 +1,6 @@
 -- What of a stream of bids counts: of each child its Bid or Gone with the greatest number.
-use Rattle.std.specs.Prelude.{◌≡◌, ℕ, ◌-◌, ◌<◌, ◌≤◌, ◌==◌, ℤ, true, false, List, ◌∷◌, ◌++◌, Option, Some, None, if◌then◌else◌}
+use Rattle.std.specs.Prelude.{◌≡◌, ℕ, ◌-◌, ◌<◌, ◌≤◌, ◌==◌, ℤ, true}
+use Rattle.std.specs.Prelude.{false, List, ◌∷◌, ◌++◌, Option, Some, None, if◌then◌else◌}
 use Rattle.std.specs.List.{AllByRecursion}
 use Rattle.pm_bid.specs.Heads.{nothing_sent}
 use Rattle.pm_bid.specs.Bids.{zeros}

@@ -13,9 +13,13 @@ use Rattle.pm_wire.specs.declared.stream.Served.TheVariants.{Done, Refused, TooL
 abbrev pub stream_limit : ℕ
 stream_limit = 1073741824
 
--- the last answer where a frame is bad: a byte for its kind, and the offset of the frame
+-- the kind of a fault, which is the same whatever the frames are
+abbrev pub fault_kind : ℕ
+fault_kind = 8
+
+-- the last answer where a frame is bad: its kind, and the offset of the frame
 abbrev pub fault_bytes : ℕ → List ℕ
-fault_bytes offset = 8 ∷ to_be_bytes w64 offset
+fault_bytes offset = fault_kind ∷ to_be_bytes w64 offset
 
 -- ---- what is due
 
@@ -84,7 +88,8 @@ pub record IsAnswered {P F : Type 0} (framing : Framing P F) (start : P) (Answer
   pub appends : Appends held holds reply
 
 -- ReadFault: so it is with the bytes that were taken
-abbrev pub FailsReading : {P F : Type 0} → Framing P F → P → (List F → List ℕ → Type 0) → Option (List ℕ) → Option (List ℕ) → Option (List ℕ) →
+abbrev pub FailsReading : {P F : Type 0} → Framing P F → P → (List F → List ℕ → Type 0) → Option (List ℕ) → Option (List ℕ) → Option
+    (List ℕ) →
     Option (List ℕ) → Type 0
 FailsReading framing start Answer old new held holds =
     (input : List ℕ) × IsAnswered framing start Answer old new held holds input × (length input ≤ stream_limit)
@@ -120,7 +125,8 @@ pub record IsBegun {P F : Type 0} (framing : Framing P F) (start : P) (Answer : 
   pub appends : Appends held holds reply
 
 -- Done or Refused: the service answered its input to the end, or to a fault
-abbrev pub EndsWhole : {P F : Type 0} → Framing P F → P → (List F → List ℕ → Type 0) → Option (List ℕ) → Option (List ℕ) → Option (List ℕ) →
+abbrev pub EndsWhole : {P F : Type 0} → Framing P F → P → (List F → List ℕ → Type 0) → Option (List ℕ) → Option (List ℕ) → Option
+    (List ℕ) →
     Option (List ℕ) → Type 0
 EndsWhole framing start Answer old new held holds =
     IsDone framing start Answer old new held holds ⊎ IsRefused framing start Answer old new held holds
@@ -164,7 +170,8 @@ pub record HaveOneAnswer {F : Type 0} (Answer : List F → List ℕ → Type 0) 
 
 -- what is known of the reads and writes of a service that ended in this way; `rose_source` and `rose_sink` say that a fault of
 -- the source, or of the sink, was counted
-abbrev pub EndsSo : {P F : Type 0} → Framing P F → P → (List F → List ℕ → Type 0) → (old new held holds : Option (List ℕ)) (rose_source rose_sink : Type 0) →
+abbrev pub EndsSo : {P F : Type 0} → Framing P F → P → (List F → List ℕ → Type 0) → (old new held holds : Option (List ℕ))
+    (rose_source rose_sink : Type 0) →
     Served → Type 0
 EndsSo framing start Answer old new held holds rose_source rose_sink Done = IsDone framing start Answer old new held holds
 EndsSo framing start Answer old new held holds rose_source rose_sink Refused = IsRefused framing start Answer old new held holds

@@ -19,7 +19,8 @@ abbrev pub count_limit : ℕ
 count_limit = 2147483648
 
 -- a service may take the frame: it was at the start of a stream, and took the frames before this one, which may stand there
-pub record CanTake {P F S : Type 0} (framing : Framing P F) (Begins : P → S → Type 0) (Answers : S → F → S → List ℕ → Type 0) (state : S) (frame : F) :
+pub record CanTake {P F S : Type 0} (framing : Framing P F) (Begins : P → S → Type 0) (Answers : S → F → S → List ℕ → Type 0) (state : S)
+    (frame : F) :
     Type 0 where
   pub start : P
   pub first : S
@@ -40,7 +41,8 @@ pub record TakesFrame {S F : Type 0} (Answers : S → F → S → List ℕ → T
 -- ---- a decoder and a service of its frames
 
 -- the service was at the start of a stream, and took the frames that the decoder gave
-pub record Agrees {P F S : Type 0} (framing : Framing P F) (Begins : P → S → Type 0) (Answers : S → F → S → List ℕ → Type 0) (decoding : Decoding P)
+pub record Agrees {P F S : Type 0} (framing : Framing P F) (Begins : P → S → Type 0) (Answers : S → F → S → List ℕ → Type 0)
+    (decoding : Decoding P)
     (state : S) : Type 0 where
   pub start : P
   pub first : S

@@ -183,8 +183,9 @@ pub fn serve_frames<F: StreamFrame, V: Service<F>, S: Source, K: Sink>(
         ⊎ (result ≡ Served.ReadFault) ⊎ (result ≡ Served.WriteFault) ⊎ (result ≡ Served.NoMemory) }
     ensures refusal { (all : List ℕ) (offset : ℕ) → S.left source.old ≡ Some all →
         length all ≤ stream_limit
-        → HasBadFrame F.framing place all offset ⊎ EndsWithin F.framing place all offset → (result ≡ Served.Refused)
-        ⊎ (result ≡ Served.ReadFault) ⊎ (result ≡ Served.WriteFault) ⊎ (result ≡ Served.NoMemory) }
+        → HasBadFrame F.framing place all offset ⊎ EndsWithin F.framing place all offset
+        → (result ≡ Served.Refused) ⊎ (result ≡ Served.ReadFault)
+        ⊎ (result ≡ Served.WriteFault) ⊎ (result ≡ Served.NoMemory) }
 
     // An input within the limit, and no fault of either, end in one of these.
     ensures complete { (all : List ℕ) → S.left source.old ≡ Some all → length all ≤ stream_limit
