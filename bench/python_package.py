@@ -9,6 +9,7 @@ It needs the proved program of this checkout and matplotlib. It prints a line fo
 
 import os
 import random
+import resource
 import subprocess
 import sys
 import tempfile
@@ -53,15 +54,22 @@ def load() -> str:
     return f"load {os.getloadavg()[0]:.1f} on {os.cpu_count()} processors"
 
 
+def processor_time() -> float:
+    """The seconds that this program and those that it started and that ended had of a processor."""
+    used = [resource.getrusage(it) for it in (resource.RUSAGE_SELF, resource.RUSAGE_CHILDREN)]
+    return sum(it.ru_utime + it.ru_stime for it in used)
+
+
 def measure_report(folder: Path) -> None:
     """The report of a day of 200 devices, as a user runs it, with the start of Python."""
     file, page = folder / "day.json", folder / "day.html"
     script_of(199, DAY, 1).save(file)
     words = [sys.executable, "-m", "cogmaula", "report", str(file), "-o", str(page), "--program", str(TOP), "--quiet"]
     for _ in range(5):
-        begun = time.monotonic()
+        begun, used = time.monotonic(), processor_time()
         subprocess.run(words, cwd=TOP / "python", check=True)
-        print(f"report of 200 devices over {DAY} ticks: {time.monotonic() - begun:.2f} s, {page.stat().st_size:,} bytes, {load()}")
+        took, used = time.monotonic() - begun, processor_time() - used
+        print(f"report of 200 devices over {DAY} ticks: {took:.2f} s, {used:.2f} s of a processor, {page.stat().st_size:,} bytes, {load()}")
 
 
 def files_of(folder: Path, many: int) -> Iterator[Path]:
@@ -77,12 +85,13 @@ def measure_study(folder: Path, many: int) -> None:
     paths, program = list(files_of(folder, many)), Program.find(TOP)
     alone = None
     for processes in (1, 2, 3, 4):
-        begun = time.monotonic()
+        begun, used = time.monotonic(), processor_time()
         outcomes = study(paths, processes=processes, program=program)
-        took = time.monotonic() - begun
+        took, used = time.monotonic() - begun, processor_time() - used
         alone = alone or (took, outcomes)
         assert outcomes == alone[1] and not any(it.fault for it in outcomes)
-        print(f"study of {many} files over {processes} processes: {took:.1f} s, {alone[0] / took:.2f} times as fast as one, {load()}")
+        told = f"{took:.1f} s, {used:.1f} s of a processor, {alone[0] / took:.2f} times as fast as one"
+        print(f"study of {many} files over {processes} processes: {told}, {load()}")
 
 
 def main() -> int:

@@ -43,10 +43,10 @@ def heights(figure: object, at: int) -> list[float]:
 
 
 def test_a_run_shows_its_prices_and_powers(program: Program) -> None:
-    """The village's prices by hand (docs/COMMANDS.md), and a marker at the sum of all powers of each phase."""
+    """The village's prices, which were worked out by hand, and a marker at the sum of all powers of each phase."""
     done = run(TOP / "examples" / "village.json", program=program)
     figure = draw_run(done, 3, program)
-    assert heights(figure, 0) == [40, 47, 75, 80, 50] or heights(figure, 0) == [it.price for it in done.ends]
+    assert heights(figure, 0) == [40, 47, 50, 60, 53]
     together = [it for it in figure.axes[3].lines if it.get_label() == "together"]
     assert [int(it) for it in together[0].get_ydata()] == [sum(it.powers.values()) for it in done.ends]
 

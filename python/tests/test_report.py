@@ -162,7 +162,10 @@ def test_each_cluster_has_a_page(program: Program, cluster: Cluster) -> None:
     assert len(names) == len(set(names))
     assert set(re.findall(r'(?:href="#|url\(#)([^")]*)', text)) <= set(names)
     done = run(cluster, program=program)
-    for group in groups_of(done, intervals_of(cluster)):
+    groups = groups_of(done, intervals_of(cluster))
+    assert sum(it.outside for it in groups) == len(done.violations)
+    assert sum(it.minutes_outside for it in groups) == done.violations["minutes"].sum()
+    for group in groups:
         told = f"{group.name} was outside its limits"
         assert (told in text) == bool(group.outside)
 
