@@ -258,6 +258,26 @@ def test_many_limited_groups_are_in_tables(program: Program) -> None:
     assert all(f'<th scope="row">g{at}</th>' in text for at in range(20))
 
 
+def test_numbers_at_their_limits_have_a_page(program: Program) -> None:
+    """Nine loads of nothing, 200 of a gigawatt in a unit with marks, and prices at both ends with the widest limits."""
+    basis = Basis(0, 9, 10)
+    nothing = Cluster(basis, [Load(f"d{at}", start=0) for at in range(9)])
+    assert "<td>0.000</td>" in report(nothing.with_phases(nothing.join_all(), Tick(60)), program=program)
+    large = Cluster(basis, [Load(f"d{at}", start=10**9) for at in range(200)])
+    text = report(large.with_phases(large.join_all(), Tick(60)), currency=Currency("$A$<", Fraction(1, 3)), program=program)
+    assert "<td>1\u202f000\u202f000.000</td>" in text and "$A$&lt;/kWh" in text
+    wide = Cluster(Basis(-(10**9), 10**9, 2), [Limited("g", floor=-256 * 10**9, ceiling=256 * 10**9), Load("d", parent="g", start=5)])
+    assert "All limits were kept, in 1 group." in report(wide.with_phases(wide.join_all(), Tick(5)), program=program)
+
+
+def test_a_device_called_grid_is_not_the_grid(program: Program) -> None:
+    """Worked by hand: it takes 1 kW for an hour at price 9, which the grid gives: a row for each."""
+    cluster = Cluster(Basis(0, 9, 10), [Load("grid", start=1000)])
+    text = report(cluster.with_phases(cluster.join_all(), Tick(60)), program=program)
+    assert '<th scope="row">grid</th><td>1.000</td><td>0.000</td><td>9.00</td>' in text
+    assert '<th scope="row">(the grid)</th><td>0.000</td><td>1.000</td><td>\u22129.00</td>' in text
+
+
 def test_durations_as_a_reader_sees_them() -> None:
     """Minutes, hours, and days from four on."""
     assert [duration(it) for it in (0, 59, 60, 135, 5759, 5760, 43_215)] == [

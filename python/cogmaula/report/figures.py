@@ -90,7 +90,8 @@ def draw_prices(hours: Hours, market: Sequence[int], groups: Mapping[str, Sequen
     for at, (name, prices) in enumerate(list(own.items())[:MOST_LINES]):
         axes.stairs(prices, hours.edges, baseline=None, color=COLOURS[at % 8], linewidth=1.2, label=f"below {name}")
     axes.stairs(market, hours.edges, baseline=None, color=LINE, linewidth=1.8, label="market")
-    axes.set_ylabel(f"price ({unit})")
+    # A unit may have a dollar sign, which would begin a formula.
+    axes.set_ylabel(f"price ({unit})", parse_math=False)
     axes.yaxis.set_major_locator(MaxNLocator(6, integer=True))
     axes.margins(y=0.1)
     if own:
@@ -213,7 +214,7 @@ def draw_curve(prices: Sequence[int], demands: Sequence[int | None], answers: Se
             axes.plot([price for _, price in answers], [target for target, _ in answers], linestyle="none", marker="D",
                       markerfacecolor="none", color=LIMIT, label="target, at its price")
         set_powers(axes)
-        axes.set_xlabel(f"price ({unit})")
+        axes.set_xlabel(f"price ({unit})", parse_math=False)
         axes.margins(x=0.03, y=0.1)
         axes.legend(fontsize=10, loc="best", framealpha=0.85)
     return figure

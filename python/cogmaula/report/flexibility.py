@@ -77,7 +77,7 @@ def demands_of(told: Answers, steps: int) -> list[int | None]:
 
 
 def quarters_of(demands: Iterable[int | None]) -> list[int]:
-    """0, and the quarters from what the cluster takes at its highest price to what it takes at its lowest."""
-    known = [it for it in demands if it is not None]
-    low, high = max(min(known), -MOST_TARGET), min(max(known), MOST_TARGET)
+    """0, and the quarters from what the cluster takes at its highest price to what it takes at its lowest, as far as may be asked."""
+    known = [max(-MOST_TARGET, min(it, MOST_TARGET)) for it in demands if it is not None]
+    low, high = min(known), max(known)
     return sorted({0, *(low + (high - low) * part // 4 for part in range(5))})
