@@ -5,7 +5,10 @@ ghost use Rattle.std.specs.Prelude.{◌≡◌, ◌+◌, ◌≤◌, length};
 use crate::same::same;
 use crate::shared::may_be_shared;
 use pm_io::{MemSink, MemSource};
-use pm_wire::{DecodeFault, Decoder, Frame, Reply, Served, Server, serve};
+use pm_wire::{
+    DecodeFault, Decoder, Frame, FrameDecoder, Reply, Served, Server, frames_given_are_those_fed,
+    serve, serve_frames, the_greatest_number_counts,
+};
 use std::alloc::Global;
 use std::process::Abort;
 use std::test::Fail;
@@ -194,6 +197,58 @@ fn frames_come_in_pieces(rt: HostRuntime) -> Result<(), Fail> {
     decoder.feed(&[4, 9])?;
     same(&rt, "rest", decoder.rest(), 28);
     frames_are(&rt, &mut decoder)
+}
+
+/// Serves the parts by the service of any frames, one byte at a time into a buffer of one byte.
+fn serves_by_bytes(
+    rt: &impl Abort,
+    alloc: Global,
+    parts: &[&[u8]],
+    wanted: Wanted<'_>,
+) -> Result<(), Fail> {
+    let mut source = MemSource::new(input_of(alloc, parts)?, 1, Vec::new(alloc));
+    let mut sink = MemSink::new(alloc, 1_048_576, 1, Vec::new(alloc))?;
+    let mut server = Server::new(alloc);
+    let mut piece = [0u8; 1];
+    let ended = serve_frames::<Frame, Server, MemSource, MemSink>(
+        alloc,
+        &mut source,
+        &mut sink,
+        None,
+        &mut server,
+        &mut piece,
+    );
+    let (case, due, answers) = wanted;
+    same(rt, case, (ended, sink.bytes()), (due, answers));
+    Ok(())
+}
+
+/// The service of any frames answers bids as that of bids does, from the place before Hello on.
+#[test]
+fn the_service_of_any_frames_serves_bids(rt: HostRuntime) -> Result<(), Fail> {
+    for (name, parts, ended, answers) in STREAMS {
+        let answers = input_of(rt.alloc(), answers)?;
+        serves_by_bytes(&rt, rt.alloc(), parts, (name, *ended, &answers))?;
+    }
+    Ok(())
+}
+
+/// A decoder may begin behind a Hello of two steps: its first frame is then a bid, and its offset counts from there.
+#[test]
+fn a_decoder_begins_at_a_place(rt: HostRuntime) -> Result<(), Fail> {
+    frames_given_are_those_fed::<Frame>();
+    the_greatest_number_counts();
+    let mut decoder = FrameDecoder::<Frame>::at(rt.alloc(), Some(2));
+    decoder.feed(&BID)?;
+    decoder.feed(&HELLO)?;
+    same(&rt, "bid", next_kind(&mut decoder), Ok(Some((2, 1, 1))));
+    same(
+        &rt,
+        "hello",
+        next_kind(&mut decoder),
+        Err(DecodeFault::Bad { at: 15 }),
+    );
+    Ok(())
 }
 
 /// The types of the crate may be sent to threads and shared by them: it is proved here.

@@ -1,4 +1,5 @@
-//! Laws: a stream has one reading, its answers follow from it, and an early end holds a beginning.
+//! Laws: a stream has one reading, which any list of calls gives; the greatest number counts; the answers follow from the bytes,
+//! and an early end holds a beginning of them.
 
 ghost use Rattle.std.specs.Prelude.{◌≡◌, ℕ, ◌<◌, ◌≤◌, ℤ, List, ◌∷◌, ◌++◌, length, Option, Some, None};
 ghost use Rattle.pm_base.specs.Limits.{most_nodes};

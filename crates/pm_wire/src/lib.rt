@@ -1,15 +1,21 @@
-//! The auctioneer as a service over a stream of bytes.
+//! Frames over a stream of bytes, and the auctioneer as a service of them.
 //!
-//! Children send their bids as frames, one behind the other on one stream, and the auctioneer answers with frames of its
-//! own. A [`Decoder`] takes the stream in pieces of any size and gives the frames that are whole, or the offset of the
-//! first bad one. A [`Server`] keeps the newest bid of each of up to 256 children and their running sum, clears the market
-//! when it is asked to, and appends the bytes of its answers. [`serve`] does both over a source and a sink of pm_io. Memory
-//! is bounded by a piece, a frame and the children, and not by the stream (`Memory`). The market is Kok's ("The PowerMatcher", 2013):
-//! bids are demand functions, and the price is where their sum turns. The frames are this project's own profile.
+//! A sort of frames is a [`StreamFrame`]: how long a frame is by its first byte and its place, and how its fields are read. A
+//! [`FrameDecoder`] takes a stream in pieces of any size and gives the frames that are whole, or the offset of the first bad
+//! one. A [`Service`] takes one frame after the other and appends the bytes of its answers, and [`serve_frames`] runs it over a
+//! source and a sink of pm_io. Memory is bounded by a piece, a frame and its answers, and not by the stream (`Memory`).
 //!
-//! The definitions stand in `specs/`: `Frames` (the frames as bytes, which frame may stand where, and which is bad),
-//! `Decoding` (what a decoder keeps, and what its calls do), `Answers` (what is answered to a list of frames), `Streams`
-//! (what a service reads and writes, by how it ends), `Memory` (how many bytes it holds at a time).
+//! The frames of a stream of bids are one such sort, and the auctioneer is one such service. Children send their bids as
+//! frames, one behind the other on one stream, and the auctioneer answers with frames of its own. A [`Server`] keeps the
+//! newest bid of each of up to 256 children and their running sum, clears the market when it is asked to, and appends the bytes
+//! of its answers. [`serve`] serves it. The market is Kok's ("The PowerMatcher", 2013): bids are demand functions, and the
+//! price is where their sum turns. The frames are this project's own profile.
+//!
+//! The definitions stand in `specs/`. Of any frames: `Framing` (which frame may stand where, and which is bad), `Spelling`
+//! (what the bytes of one frame are), `Decoding` (what a decoder keeps, and what its calls do), `Calls` (any list of them),
+//! `Taking` (what a service makes of frames), `Services` (what it reads and writes, by how it ends), `Memory` (how many bytes it
+//! holds at a time). Of bids: `Frames` (the frames as bytes), `Answers` (what is answered to a list of frames), `Newest` (which
+//! bid of a child counts), `Streams` (what the auctioneer reads and writes, by how it ends).
 #![tactic(auto)]
 
 mod answer;
