@@ -1,5 +1,6 @@
 -- The offers that an agent keeps: which number is found, and what is left after a price and after a restart.
-use Rattle.std.proofs.Common.{◌≡◌, ◌∙◌, sym, ap, ℕ, suc, ◌+◌, ◌<◌, ◌≤◌, true, false, eqb, leb, inl, inr, List, [], ◌∷◌}
+use Rattle.std.proofs.Common.{◌≡◌, ◌∙◌, sym, ap, ℕ, suc, ◌+◌, ◌<◌, ◌≤◌, true, false, eqb, leb, inl, inr, List}
+use Rattle.std.proofs.Common.{[], ◌∷◌}
 use Rattle.std.proofs.Common.{length, Option, Some, None, refl, subst, arith}
 use Rattle.std.proofs.lemmas.Bool.{cases_Bool, cond-true, cond-false, eqb-true, eq-eqb, leb-true, le-leb, both_ways, false_from_ne_true}
 use Rattle.std.specs.List.{find}
@@ -29,7 +30,9 @@ in_range n (x ∷ xs) a are =
 
 -- the window once a price answered a number whose offer is kept
 pub record Answers (agent : DeviceAgent) (n index' : ℕ) : Type 0 where
+  -- the offers are a window
   pub window : IsOfferWindow (record agent { answered = n; offers = offers_from n agent.offers; index = index' })
+  -- no number answered is above the last
   pub order : n ≤ agent.number
 
 -- a price that names a kept offer leaves a window

@@ -44,7 +44,7 @@ impl Model for ControlAgent {
 }
 
 /// Lets go of the offers below a number.
-fn let_go(offers: &mut Vec<Offer>, number: u32)
+fn drop_offers(offers: &mut Vec<Offer>, number: u32)
     ensures offers { offers.new.items ≡ offers_from number offers.old.items }
     ensures capacity { vec_capacity offers.new ≡ vec_capacity offers.old }
 {
@@ -145,7 +145,7 @@ impl ControlAgent {
         self.index = price.index;
         let power = self.kept(price.number)?.power(price.step);
         self.answered = price.number;
-        let_go(&mut self.offers, price.number);
+        drop_offers(&mut self.offers, price.number);
         Some(Setpoint {
             number: price.number,
             index: price.index,

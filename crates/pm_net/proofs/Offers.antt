@@ -25,11 +25,17 @@ from_push (x ∷ xs) a o are is = (are.0, from_push xs (a + 1) o are.1 (omega (a
 
 -- offers without those below m
 pub record Shorter (a m : ℕ) (xs ys : List Offer) : Type 0 where
+  -- the number of the first, or of the next offer
   pub first : ℕ
+  -- they are under the numbers from it on
   pub are : AreFrom first ys
+  -- to the same last number
   pub to_last : first + length ys ≡ a + length xs
+  -- it is no lower than before
   pub from_a : a ≤ first
+  -- nor below m
   pub from_m : m ≤ first
+  -- and no higher than one of these
   pub to : (first ≤ a) ⊎ (first ≤ m)
 
 -- the offers from m on are such

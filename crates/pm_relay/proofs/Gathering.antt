@@ -14,10 +14,15 @@ use Rattle.pm_relay.proofs.Small.{announced_small, demand_announced}
 
 -- what a relay keeps of its concentrator, but for its numbers
 pub record GathersRight (g : Gathered) : Type 0 where
+  -- it has all children
   pub children : length g.cache.heads ≡ most_nodes
+  -- its limits are a relay's
   pub limits : HasRelayLimits g.limits
+  -- its entries are single bids
   pub single : HasSingleBids g.cache
+  -- it announces a demand
   pub announced : g.announced ≡ Some (own_demand g)
+  -- which is small
   pub small : AllWithinLimit demand_limit (own_demand g)
 
 -- each relay keeps it

@@ -14,7 +14,9 @@ use Rattle.pm_relay.specs.RelayFields.{IsRelay}
 
 -- what a cache keeps with another entry
 pub record KeepsSingle (old new : Cache) : Type 0 where
+  -- as many children
   pub children : length new.heads ≡ length old.heads
+  -- single bids
   pub single : HasSingleBids new
 
 with_one : (cache : Cache) (child : ℕ) (head : BidHead) (demand : List ℤ) → HasSingleBids cache →

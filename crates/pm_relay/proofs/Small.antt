@@ -30,7 +30,8 @@ clamped_small limits sum order low high = λ step inside.
 -- a sum within a relay's limits is small at each step
 pub announced_small : (limits : Option Limits) (sum : List ℤ) → HasRelayLimits limits → AllWithinLimit demand_limit (within_limits limits sum)
 announced_small None sum has = absurd has
-announced_small (Some limits) sum has = clamped_small limits sum (omega (arith, ints, has.around.floor_not_positive, has.around.ceiling_not_negative)) has.floor has.ceiling
+announced_small (Some limits) sum has =
+    clamped_small limits sum (omega (arith, ints, has.around.floor_not_positive, has.around.ceiling_not_negative)) has.floor has.ceiling
 
 -- a concentrator with a relay's limits has an announced demand
 demand_there : (limits : Option Limits) (announced : Option (List ℤ)) (sum : List ℤ) (steps : ℕ) → HasRelayLimits limits →
@@ -51,7 +52,3 @@ single_learnt cache child demand sound inside single steps small = record {
   equal_lengths = steps;
   within = single_within cache child (demand_of_offer cache demand) sound inside single steps small;
 }
-
--- the entries of children that sent nothing are single bids
-pub empty_single : (children steps : ℕ) → HasSingleBids (empty_cache children steps)
-empty_single children steps = All-replicate (λ bid. AllWithinLimit demand_limit bid) children (zeros steps) (zeros-within demand_limit steps)

@@ -5,7 +5,7 @@ use Rattle.pm_base.specs.declared.limits.Limits.{Limits}
 use Rattle.pm_bid.specs.Bids.{AllWithinLimit}
 use Rattle.pm_cache.specs.Learning.{HasSingleBids}
 use Rattle.pm_concentrator.specs.Concentrators.{own_demand}
-use Rattle.pm_relay.specs.Relays.{RelayValue, AreRelayLimits, newest_number}
+use Rattle.pm_relay.specs.Relays.{RelayValue, AreRelayLimits, newest_bid_number}
 use Rattle.pm_relay.specs.declared.relay.Relay.TheInside.{Inside}
 
 abbrev pub relay_of : Inside → RelayValue
@@ -30,8 +30,8 @@ pub record IsRelay (r : RelayValue) : Type 0 where
   pub single : HasSingleBids r.gathered.cache
   pub announced : r.gathered.announced ≡ Some (own_demand r.gathered)
   pub small : AllWithinLimit demand_limit (own_demand r.gathered)
-  pub numbers : newest_number r < 2 ^ 32
-  pub answered : r.answered ≤ newest_number r
+  pub numbers : newest_bid_number r < 2 ^ 32
+  pub answered : r.answered ≤ newest_bid_number r
   pub window : r.gathered.window.answered ≡ r.answered - r.base
 
 abbrev pub AreRelayFields : Inside → Type 0

@@ -8,7 +8,7 @@ use Rattle.pm_cache.specs.Learning.{after_learning}
 use Rattle.pm_session.specs.Windows.{Sent, record_of}
 use Rattle.pm_session.specs.declared.price.PriceUpdate.{PriceUpdate}
 use Rattle.pm_concentrator.specs.Concentrators.{Gathered, published_heads, IsNewConcentrator, BidMade, Passed}
-use Rattle.pm_relay.specs.Numbers.{number_in, head_number, AreReached, AreEnough}
+use Rattle.pm_relay.specs.Numbers.{child_number, head_number, AreReached, AreEnough}
 use Rattle.pm_relay.specs.declared.fault.SendFault.{SendFault}
 use Rattle.pm_relay.specs.declared.fault.SendFault.TheVariants.{NotCaughtUp, NotChanged, WindowFull, OutOfNumbers}
 use Rattle.pm_relay.specs.declared.outcome.PriceOutcome.{PriceOutcome}
@@ -33,8 +33,8 @@ pub record AreRelayLimits (limits : Limits) : Type 0 where
 -- ---- numbers
 
 -- the number of its newest bid, 0 where there is none
-abbrev pub newest_number : RelayValue → ℕ
-newest_number r = r.base + r.gathered.window.last
+abbrev pub newest_bid_number : RelayValue → ℕ
+newest_bid_number r = r.base + r.gathered.window.last
 
 -- the record of a number that it has: what went into that bid
 abbrev pub record_at : RelayValue → ℕ → Sent
@@ -54,7 +54,7 @@ HasChanged r = r.gathered.cache.heads ≡ published_heads r.gathered → ⊥
 
 -- how many numbers lie above the one answered last
 abbrev pub unanswered_numbers : RelayValue → ℕ
-unanswered_numbers r = newest_number r - r.answered
+unanswered_numbers r = newest_bid_number r - r.answered
 
 -- ---- a relay comes up
 
@@ -106,10 +106,10 @@ LooksForRecord old new = (HearsItsRecord old × RecordRebuilt old new) ⊎ ((Hea
 pub record BidSent (old new : RelayValue) (number' : ℕ) : Type 0 where
   pub caught_up : IsCaughtUp old
   pub room : unanswered_numbers old < window_size
-  pub number : number' ≡ newest_number old + 1
+  pub number : number' ≡ newest_bid_number old + 1
   pub made : BidMade old.gathered new.gathered (old.gathered.window.last + 1)
   pub announced : new.gathered.announced ≡ Some (within_limits old.gathered.limits (aggregate_of old.gathered.cache))
-  pub numbers : (child : ℕ) → child < most_nodes → number_in new.recorded child ≡ head_number old.gathered.cache.heads child
+  pub numbers : (child : ℕ) → child < most_nodes → child_number new.recorded child ≡ head_number old.gathered.cache.heads child
   pub children : length new.recorded ≡ length old.recorded
   pub base : new.base ≡ old.base
   pub answered : new.answered ≡ old.answered
@@ -121,7 +121,7 @@ NotSent r NotCaughtUp = IsCaughtUp r → ⊥
 NotSent r NotChanged = IsCaughtUp r × (r.gathered.cache.heads ≡ published_heads r.gathered)
 NotSent r WindowFull = IsCaughtUp r × HasChanged r × (window_size ≤ unanswered_numbers r)
 NotSent r OutOfNumbers =
-    IsCaughtUp r × HasChanged r × (unanswered_numbers r < window_size) × (newest_number r + 1 ≡ 2 ^ 32)
+    IsCaughtUp r × HasChanged r × (unanswered_numbers r < window_size) × (newest_bid_number r + 1 ≡ 2 ^ 32)
 
 -- ---- a price
 
@@ -130,17 +130,17 @@ pub record IsNewPrice (r : RelayValue) (price : PriceUpdate) : Type 0 where
   pub newer : r.index < price.index
   pub one : 1 ≤ price.number
   pub from : r.answered ≤ price.number
-  pub to : price.number ≤ newest_number r
+  pub to : price.number ≤ newest_bid_number r
 
 -- it has the record of a number
 pub record HasRecord (r : RelayValue) (number : ℕ) : Type 0 where
   pub own : r.base < number
   pub from : r.answered ≤ number
-  pub to : number ≤ newest_number r
+  pub to : number ≤ newest_bid_number r
 
 -- the number is that of its newest bid, whose record it lost and may hear again
 pub record MayHearRecord (r : RelayValue) (number : ℕ) : Type 0 where
-  pub newest : number ≡ newest_number r
+  pub newest : number ≡ newest_bid_number r
   pub nothing_newer : HearsNothingNewer r
 
 -- what is taken of a price: its index, and the number that it answers

@@ -1,7 +1,7 @@
 //! Compares the numbers of a record with the numbers that were heard, and notes them.
 
 ghost use Rattle.std.specs.Prelude.{◌≡◌, ℕ, ◌<◌, ◌↔◌, IsTrue, length};
-ghost use Rattle.pm_relay.specs.Numbers.{AreReached, AreEnough, number_in, head_number};
+ghost use Rattle.pm_relay.specs.Numbers.{AreReached, AreEnough, child_number, head_number};
 
 use pm_bid::BidHead;
 
@@ -36,7 +36,7 @@ pub(crate) fn note_numbers(heads: &[BidHead], numbers: &mut Vec<u32>)
     requires { length heads.now ≡ length numbers.old.items }
     ensures same_length { length numbers.new.items ≡ length numbers.old.items }
     ensures noted { (child : ℕ) → child < length heads.now →
-        number_in numbers.new.items child ≡ head_number heads.now child }
+        child_number numbers.new.items child ≡ head_number heads.now child }
 {
     for child in 0..numbers.len() {
         numbers[child] = heads[child].number;

@@ -1,6 +1,7 @@
 //! A relay: it learns its children's bids, sends bids of its own, takes prices, and comes back after a restart.
 
-ghost use Rattle.std.specs.Prelude.{◌≡◌, ◌+◌, ◌-◌, ◌<◌, ◌≤◌, ◌^◌, ◌==◌, length, replicate, IfOk, IfErr, OnErr, IsTrue, ◌↔◌, Some, None};
+ghost use Rattle.std.specs.Prelude.{◌≡◌, ◌+◌, ◌-◌, ◌<◌, ◌≤◌, ◌^◌, ◌==◌, length, replicate, IfOk, IfErr};
+ghost use Rattle.std.specs.Prelude.{OnErr, IsTrue, ◌↔◌, Some, None};
 ghost use Rattle.std.specs.Prelude.{if◌then◌else◌};
 ghost use Rattle.std.specs.Option.{option_copied};
 ghost use Rattle.pm_base.specs.Limits.{AreSteps, demand_limit, most_nodes};
@@ -9,7 +10,7 @@ ghost use Rattle.pm_cache.specs.Cache.{kept_number, answer_to};
 ghost use Rattle.pm_cache.specs.Learning.{demand_of_offer};
 ghost use Rattle.pm_concentrator.specs.Concentrators.{own_demand};
 ghost use Rattle.pm_concentrator.specs.Limited.{local_step_of_record};
-ghost use Rattle.pm_relay.specs.Relays.{AreRelayLimits, ComesBack, IsCaughtUp, HearsNothingNewer, newest_number, with_child_bid, LooksForRecord};
+ghost use Rattle.pm_relay.specs.Relays.{AreRelayLimits, ComesBack, IsCaughtUp, HearsNothingNewer, newest_bid_number, with_child_bid, LooksForRecord};
 ghost use Rattle.pm_relay.specs.Relays.{BidSent, NotSent, HasRecord, record_at, TakesPrice};
 
 use crate::fault::SendFault;
@@ -97,7 +98,7 @@ impl Relay {
 
     /// What the relay comes back with if it restarts now.
     pub fn resume(&self) -> Resume<'_>
-        ensures last { result.last ≡ newest_number self.now }
+        ensures last { result.last ≡ newest_bid_number self.now }
         ensures numbers { result.numbers.now ≡ self.now.recorded }
         ensures answered { result.answered ≡ self.now.answered }
         ensures index { result.index ≡ self.now.index }
@@ -114,7 +115,7 @@ impl Relay {
 
     /// The number of the newest bid, 0 where there is none.
     pub fn last(&self) -> u32
-        ensures { result ≡ newest_number self.now }
+        ensures { result ≡ newest_bid_number self.now }
     {
         self.base + self.concentrator.last()
     }
@@ -240,7 +241,7 @@ impl Relay {
     /// record was lost in a restart and is not had again.
     pub fn resend(&self) -> Option<u32>
         ensures { result ≡ (if self.now.gathered.window.last == 0 then None
-            else Some (newest_number self.now)) }
+            else Some (newest_bid_number self.now)) }
     {
         if self.concentrator.last() == 0 {
             return None;
@@ -274,7 +275,7 @@ impl Relay {
     /// Whether a price may name the number: one from the one answered last to the newest.
     fn may_name(&self, number: u32) -> bool
         ensures { IsTrue result ↔ ((1 ≤ number) × (self.now.answered ≤ number)
-            × (number ≤ newest_number self.now)) }
+            × (number ≤ newest_bid_number self.now)) }
     {
         1 <= number && self.answered <= number && number <= self.last()
     }

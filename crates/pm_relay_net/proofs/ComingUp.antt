@@ -1,5 +1,6 @@
 -- A relay comes up, for the first time or after a restart.
-use Rattle.std.proofs.Common.{◌≡◌, ◌∙◌, sym, ap, subst, ℕ, ◌+◌, ◌-◌, ◌<◌, ◌≤◌, ℤ, Bool, true, false, cond, eqb, List, [], length, get_or, arith}
+use Rattle.std.proofs.Common.{◌≡◌, ◌∙◌, sym, ap, subst, ℕ, ◌+◌, ◌-◌, ◌<◌, ◌≤◌, ℤ, Bool, true, false, cond}
+use Rattle.std.proofs.Common.{eqb, List, [], length, get_or, arith}
 use Rattle.std.proofs.Common.{inl, inr, replicate, refl, Some}
 use Rattle.std.proofs.lemmas.Bool.{cases_eq, cond-true, cond-false, eq-eqb, ne_eqb}
 use Rattle.std.proofs.lemmas.List.{get_or-replicate, length-replicate}
@@ -16,16 +17,12 @@ use Rattle.pm_net.specs.Messages.{BidMessage, PriceMessage, nothing_heard}
 use Rattle.pm_net.specs.Network.{Network, start_network}
 use Rattle.pm_net.specs.Restarts.{stored_price, records_left, number_alone, nothing_left, after_restart}
 use Rattle.pm_net_plan.specs.Places.{Numbering, IsNumbering, demand_in, demands_of}
-use Rattle.pm_relay.specs.Numbers.{number_in, head_number}
-use Rattle.pm_relay.specs.Relays.{RelayValue, newest_number, ComesBack}
-use Rattle.pm_relay_net.specs.Heads.{head_of, head_in, heads_of}
+use Rattle.pm_relay.specs.Numbers.{child_number, head_number}
+use Rattle.pm_relay.specs.Relays.{RelayValue, newest_bid_number, ComesBack}
+use Rattle.pm_relay_net.specs.Heads.{bid_head, head_in, heads_of}
 use Rattle.pm_relay_net.specs.RelayIs.{MatchesNode, RelayIs}
 use Rattle.pm_relay_net.proofs.Places.{heads_of-at, heads_of-none, demands_of-none}
 use Rattle.pm_relay_net.proofs.Matching.{same_numbers}
-
-same_choice : {A : Type 0} → (b : Bool) (x : A) → cond b x x ≡ x
-same_choice true x = refl
-same_choice false x = refl
 
 -- the heads of y and its demands where nothing was heard of its children
 record HearsNone (p : Pricing) (numbering : Numbering) (y : ℕ) (heard : ℕ → BidMessage) : Type 0 where
@@ -35,7 +32,7 @@ record HearsNone (p : Pricing) (numbering : Numbering) (y : ℕ) (heard : ℕ �
 hears_none : (lists : Lists) (p : Pricing) (numbering : Numbering) → IsNumbering lists numbering → (y : ℕ) (heard : ℕ → BidMessage) →
     ((x : ℕ) → IsNode lists x → parent lists x ≡ y → heard x ≡ nothing_heard p) → HearsNone p numbering y heard
 hears_none lists p numbering is y heard none = record {
-  heads = heads_of-none numbering y heard (λ k inside. each k inside (λ (b : BidMessage). head_of b) nothing_sent refl);
+  heads = heads_of-none numbering y heard (λ k inside. each k inside (λ (b : BidMessage). bid_head b) nothing_sent refl);
   demands = demands_of-none numbering y p.steps (λ z. (heard z).demand) (λ k inside. each k inside (λ (b : BidMessage). b.demand) (zeros p.steps) refl);
 }
   where
@@ -56,14 +53,16 @@ module _ (lists : Lists) (p : Pricing) (numbering : Numbering) (is : IsNumbering
     (back : ComesBack p.steps limits last answered index numbers r)
     (none : (x : ℕ) → IsNode lists x → parent lists x ≡ c → net.heard x ≡ nothing_heard p)
     (last_is : last ≡ net.last_number c) (few : length numbers ≡ most_nodes)
-    (numbers_are : (k : ℕ) → k < most_nodes → number_in numbers k ≡ head_number (heads_of numbering c (net.records c (net.last_number c))) k)
-    (answered_is : answered ≡ net.answered c) (index_is : index ≡ (net.taken c).index) (base_is : last ≡ net.whole_from c - 1) (order : answered ≤ last) where
+    (numbers_are : (k : ℕ) → k < most_nodes → child_number numbers k ≡ head_number (heads_of numbering c (net.records c (net.last_number c))) k)
+    (answered_is : answered ≡ net.answered c) (index_is : index ≡ (net.taken c).index) (base_is : last ≡ net.whole_from c - 1)
+    (order : answered ≤ last) where
   hears : HearsNone p numbering c net.heard
   hears = hears_none lists p numbering is c net.heard none
 
   heads_are : r.gathered.cache.heads ≡ replicate most_nodes nothing_sent
   heads_are = ap (λ (k : Cache). k.heads) back.gathered.cache
 
+  -- it is what the network has of its node
   pub comes_up : RelayIs p numbering net c r
   comes_up = record {
     matches = record {
@@ -74,7 +73,7 @@ module _ (lists : Lists) (p : Pricing) (numbering : Numbering) (is : IsNumbering
       demands = ap (λ (k : Cache). k.demands) back.gathered.cache ∙ sym hears.demands;
       newest = omega (arith, back.base, back.gathered.window.last, last_is);
       children = ap (λ (l : List ℕ). length l) back.recorded ∙ few;
-      recorded = λ k inside. ap (λ (l : List ℕ). number_in l k) back.recorded ∙ numbers_are k inside;
+      recorded = λ k inside. ap (λ (l : List ℕ). child_number l k) back.recorded ∙ numbers_are k inside;
       answered = back.answered ∙ answered_is;
       index = back.index ∙ index_is;
       base = back.base ∙ base_is;
@@ -94,20 +93,22 @@ pub first_up : (lists : Lists) (p : Pricing) (numbering : Numbering) → IsNumbe
 first_up lists p numbering is limits c r limited back =
     comes_up lists p numbering is (start_network p) limits c 0 0 0 (replicate most_nodes 0) r limited back (λ x node up. refl) refl
     (length-replicate {A = ℕ} most_nodes 0)
-    (λ k inside. get_or-replicate most_nodes k 0 0 (omega (arith, inside, length-replicate {A = ℕ} most_nodes 0)) ∙ sym (zero_in k inside)) refl refl refl (omega arith)
+    (λ k inside. get_or-replicate most_nodes k 0 0 (omega (arith, inside, length-replicate {A = ℕ} most_nodes 0)) ∙ sym (zero_in k inside))
+    refl refl refl (omega arith)
   where
     zero_in : (k : ℕ) → k < most_nodes → head_number (heads_of numbering c (λ x. nothing_heard p)) k ≡ 0
     zero_in k inside =
-        ap (λ (h : BidHead). h.number) (heads_of-at numbering c (λ x. nothing_heard p) k inside
-        ∙ same_choice (eqb (numbering.child c k) 0) nothing_sent)
+        ap (λ (l : List BidHead). head_number l k) (hears_none lists p numbering is c (λ x. nothing_heard p) (λ x node up. refl)).heads
+        ∙ ap (λ (h : BidHead). h.number) (get_or-replicate most_nodes k nothing_sent nothing_sent
+        (omega (arith, inside, length-replicate {A = BidHead} most_nodes nothing_sent)))
 
 -- and after a restart
 pub back_up : (lists : Lists) (p : Pricing) (numbering : Numbering) → IsNumbering lists numbering → (net : Network) (limits : Limits) (c k : ℕ)
     (old new : RelayValue) → p.limits c ≡ Some limits → MatchesNode p numbering net c old → (stored_price net c k).number ≤ net.last_number c →
-    ComesBack p.steps limits (newest_number old) (stored_price net c k).number (stored_price net c k).index old.recorded new →
+    ComesBack p.steps limits (newest_bid_number old) (stored_price net c k).number (stored_price net c k).index old.recorded new →
     RelayIs p numbering (after_restart lists p net c k) c new
 back_up lists p numbering is net limits c k old new limited m within back =
-    comes_up lists p numbering is (after_restart lists p net c k) limits c (newest_number old) (stored_price net c k).number (stored_price net c k).index
+    comes_up lists p numbering is (after_restart lists p net c k) limits c (newest_bid_number old) (stored_price net c k).number (stored_price net c k).index
     old.recorded new limited back
     (λ x node up. cond-true (eqb (parent lists x) c) (nothing_heard p) (net.heard x) (eq-eqb (parent lists x) c up))
     m.newest m.children

@@ -1,8 +1,10 @@
 -- A relay learns a child's bid, and may have its record again.
-use Rattle.std.proofs.Common.{◌≡◌, ◌∙◌, sym, ap, subst, ℕ, ◌+◌, ◌-◌, ◌<◌, ◌≤◌, ℤ, Bool, true, false, cond, leb, ltb, List, length, get_or, arith}
+use Rattle.std.proofs.Common.{◌≡◌, ◌∙◌, sym, ap, subst, ℕ, ◌+◌, ◌-◌, ◌<◌, ◌≤◌, ℤ, Bool, true, false, cond}
+use Rattle.std.proofs.Common.{leb, ltb, List, length, get_or, arith}
 use Rattle.std.proofs.Common.{inl, inr, refl, Some, None, Option, ◌⊎◌, not, ◌&&◌, [], ◌∷◌}
 use Rattle.std.specs.Prelude.{if◌then◌else◌}
-use Rattle.std.proofs.lemmas.Bool.{cases_lt, cond-true, cond-false, lt-ltb, le-leb, ltb-true, leb-true, and_from, and_parts, not_from_false, false_from_ne_true}
+use Rattle.std.proofs.lemmas.Bool.{cases_lt, cond-true, cond-false, lt-ltb, le-leb, ltb-true, leb-true, and_from, and_parts, not_from_false}
+use Rattle.std.proofs.lemmas.Bool.{false_from_ne_true}
 use Rattle.std.proofs.Math.ListN.{set}
 use Rattle.pm_base.specs.Limits.{most_nodes}
 use Rattle.pm_bid.specs.Bids.{zeros}
@@ -25,10 +27,10 @@ use Rattle.pm_net.specs.Events.{network_step, network_after, TakesBid, Rebuilds}
 use Rattle.pm_net.proofs.Messages.{two_same}
 use Rattle.pm_net.proofs.News.{level}
 use Rattle.pm_net_plan.specs.Places.{Numbering, IsNumbering, demands_of}
-use Rattle.pm_relay.specs.Numbers.{number_in, head_number}
+use Rattle.pm_relay.specs.Numbers.{child_number, head_number}
 use Rattle.pm_relay.specs.Relays.{RelayValue, with_child_bid, HearsItsRecord, RecordRebuilt, LooksForRecord}
-use Rattle.pm_relay_net.specs.Heads.{head_of, heads_of, AddsByPlaces}
-use Rattle.pm_relay_net.specs.RelayIs.{MatchesNode, RelayIs, bid_demand}
+use Rattle.pm_relay_net.specs.Heads.{bid_head, heads_of, AddsByPlaces}
+use Rattle.pm_relay_net.specs.RelayIs.{MatchesNode, RelayIs, told_demand}
 use Rattle.pm_relay_net.proofs.Places.{head_there, heads_set, demands_set, length-heads_of}
 use Rattle.pm_relay_net.proofs.Matching.{caught_to, over_to, sum_is}
 
@@ -47,20 +49,20 @@ module _ (lists : Lists) (p : Pricing) (numbering : Numbering) (is : IsNumbering
   c = parent lists x
 
   abbrev entered : RelayValue
-  entered = with_child_bid r (numbering.place x) bid.number (bid_demand bid)
+  entered = with_child_bid r (numbering.place x) bid.number (told_demand bid)
 
   kept_is : kept_number r.gathered.cache (numbering.place x) ≡ (net.heard x).number
   kept_is = ap (λ (l : List BidHead). (get_or l (numbering.place x) nothing_sent).number) m.heads
       ∙ ap (λ (h : BidHead). h.number) (head_there lists numbering is net.heard x node)
 
   -- with the bid in its place the relay matches the node that took it
-  with_bid : (cache : Cache) → cache ≡ with_entry r.gathered.cache (numbering.place x) (head_of bid) bid.demand →
+  with_bid : (cache : Cache) → cache ≡ with_entry r.gathered.cache (numbering.place x) (bid_head bid) bid.demand →
       MatchesNode p numbering (after_taking_bid net x bid) c (record r { gathered = record r.gathered { cache = cache } })
   with_bid cache made = record {
     steps = ap (λ (w : Cache). w.steps) made ∙ m.steps;
     limits = m.limits;
     limited = m.limited;
-    heads = ap (λ (w : Cache). w.heads) made ∙ ap (λ (l : List BidHead). set l (numbering.place x) (head_of bid)) m.heads
+    heads = ap (λ (w : Cache). w.heads) made ∙ ap (λ (l : List BidHead). set l (numbering.place x) (bid_head bid)) m.heads
         ∙ heads_set lists numbering is net.heard x bid node;
     demands = ap (λ (w : Cache). w.demands) made ∙ ap (λ (l : List (List ℤ)). set l (numbering.place x) bid.demand) m.demands
         ∙ demands_set lists numbering is p.steps net.heard x bid node;
@@ -91,25 +93,25 @@ module _ (lists : Lists) (p : Pricing) (numbering : Numbering) (is : IsNumbering
         | inl lt ↦
             let is_new : test ≡ true = and_from (is_node lists x) (ltb (net.heard x).number bid.number) (is_node_at lists x node)
             (lt-ltb (net.heard x).number bid.number lt) in
-            let made : after_learning r.gathered.cache (numbering.place x) bid.number (bid_demand bid)
-            ≡ with_entry r.gathered.cache (numbering.place x) (head_of bid) bid.demand =
+            let made : after_learning r.gathered.cache (numbering.place x) bid.number (told_demand bid)
+            ≡ with_entry r.gathered.cache (numbering.place x) (bid_head bid) bid.demand =
             cond-false (leb bid.number (kept_number r.gathered.cache (numbering.place x))) r.gathered.cache
-            (with_newer_bid r.gathered.cache (numbering.place x) bid.number (bid_demand bid))
+            (with_newer_bid r.gathered.cache (numbering.place x) bid.number (told_demand bid))
             (false_from_ne_true (leb bid.number (kept_number r.gathered.cache (numbering.place x))) (λ e.
             omega (arith, leb-true bid.number (kept_number r.gathered.cache (numbering.place x)) e, kept_is, lt)))
             ∙ entered_is r.gathered.cache (numbering.place x) bid.number bid.gone bid.demand (λ e. none e ∙ ap zeros (sym m.steps)) in
             subst Match (sym (cond-true test (after_taking_bid net x bid) net is_new))
-            (with_bid (after_learning r.gathered.cache (numbering.place x) bid.number (bid_demand bid)) made)
+            (with_bid (after_learning r.gathered.cache (numbering.place x) bid.number (told_demand bid)) made)
         | inr ge ↦
             let not_new : test ≡ false = false_from_ne_true test (λ e.
             let parts = and_parts (is_node lists x) (ltb (net.heard x).number bid.number) e in
             omega (arith, ltb-true (net.heard x).number bid.number parts.1, ge)) in
-            let made : after_learning r.gathered.cache (numbering.place x) bid.number (bid_demand bid) ≡ r.gathered.cache =
+            let made : after_learning r.gathered.cache (numbering.place x) bid.number (told_demand bid) ≡ r.gathered.cache =
             cond-true (leb bid.number (kept_number r.gathered.cache (numbering.place x))) r.gathered.cache
-            (with_newer_bid r.gathered.cache (numbering.place x) bid.number (bid_demand bid))
+            (with_newer_bid r.gathered.cache (numbering.place x) bid.number (told_demand bid))
             (le-leb bid.number (kept_number r.gathered.cache (numbering.place x)) (omega (arith, kept_is, ge))) in
             subst Match (sym (cond-false test (after_taking_bid net x bid) net not_new))
-            (same_relay (after_learning r.gathered.cache (numbering.place x) bid.number (bid_demand bid)) made)
+            (same_relay (after_learning r.gathered.cache (numbering.place x) bid.number (told_demand bid)) made)
       ]
 
 -- a relay that hears its record has it again, as the node does
@@ -131,7 +133,7 @@ module _ (lists : Lists) (p : Pricing) (numbering : Numbering) (is : IsNumbering
   heard_is : (n : ℕ) → n ≡ net.last_number c → net'.records c n ≡ net.heard
   heard_is n at = two_same net.records c (net.last_number c) net.heard c n refl at
 
-  equal : (k : ℕ) → k < most_nodes → number_in old.recorded k ≡ head_number old.gathered.cache.heads k
+  equal : (k : ℕ) → k < most_nodes → child_number old.recorded k ≡ head_number old.gathered.cache.heads k
   equal k inside = omega (
     arith,
     hears.caught_up k (omega (arith, inside, m.children)),
@@ -144,6 +146,7 @@ module _ (lists : Lists) (p : Pricing) (numbering : Numbering) (is : IsNumbering
   at_last : (n : ℕ) → Keeps new.gathered.window n → new.base + n ≡ net.last_number c
   at_last n keeps = omega (arith, keeps.one, keeps.to, did.last, did.base, last_is)
 
+  -- the relay is what the network has of the node that rebuilt its record
   pub rebuilds : RelayIs p numbering (network_step lists p net (Rebuilds c)) c new
   rebuilds =
       let Is : Network → Type 0 = λ n. RelayIs p numbering n c new in
@@ -156,7 +159,7 @@ module _ (lists : Lists) (p : Pricing) (numbering : Numbering) (is : IsNumbering
           demands = ap (λ (w : Cache). w.demands) did.cache ∙ m.demands;
           newest = omega (arith, did.base, did.last, last_is);
           children = ap (λ (l : List ℕ). length l) did.recorded ∙ m.children;
-          recorded = λ k inside. ap (λ (l : List ℕ). number_in l k) did.recorded ∙ equal k inside
+          recorded = λ k inside. ap (λ (l : List ℕ). child_number l k) did.recorded ∙ equal k inside
               ∙ ap (λ (l : List BidHead). head_number l k) (m.heads ∙ ap (heads_of numbering c) (sym (heard_is (net.last_number c) refl)));
           answered = did.answered ∙ m.answered;
           index = did.index ∙ m.index;
@@ -180,12 +183,12 @@ module _ (lists : Lists) (p : Pricing) (numbering : Numbering) (is : IsNumbering
 pub learns : (lists : Lists) (p : Pricing) (numbering : Numbering) (net : Network) (x k : ℕ) (old new : RelayValue) →
     IsNumbering lists numbering → AddsByPlaces p numbering → IsNode lists x → RelayIs p numbering net (parent lists x) old →
     ((sent_bid p net x k).gone ≡ true → (sent_bid p net x k).demand ≡ zeros p.steps) →
-    LooksForRecord (with_child_bid old (numbering.place x) (sent_bid p net x k).number (bid_demand (sent_bid p net x k))) new →
+    LooksForRecord (with_child_bid old (numbering.place x) (sent_bid p net x k).number (told_demand (sent_bid p net x k))) new →
     RelayIs p numbering (network_step lists p net (TakesBid x k)) (parent lists x) new
     ⊎ RelayIs p numbering (network_after lists p net (TakesBid x k ∷ Rebuilds (parent lists x) ∷ [])) (parent lists x) new
 learns lists p numbering net x k old new is adds node was none looks =
     let step : Network = network_step lists p net (TakesBid x k) in
-    let entered : RelayValue = with_child_bid old (numbering.place x) (sent_bid p net x k).number (bid_demand (sent_bid p net x k)) in
+    let entered : RelayValue = with_child_bid old (numbering.place x) (sent_bid p net x k).number (told_demand (sent_bid p net x k)) in
     let m : MatchesNode p numbering step (parent lists x) entered = enters lists p numbering is net x k node old was.matches none in
     elim looks [
       | inl did ↦ inr (rebuilds lists p numbering is adds step (parent lists x) entered new m did.0 did.1)

@@ -1,5 +1,6 @@
 -- What a relay that matches a node says of the node.
-use Rattle.std.proofs.Common.{◌≡◌, ◌∙◌, sym, ap, subst, ℕ, ◌+◌, ◌-◌, ◌<◌, ◌≤◌, ℤ, Bool, true, false, cond, not, eqb, leb, List, length, get_or, arith}
+use Rattle.std.proofs.Common.{◌≡◌, ◌∙◌, sym, ap, subst, ℕ, ◌+◌, ◌-◌, ◌<◌, ◌≤◌, ℤ, Bool, true, false, cond}
+use Rattle.std.proofs.Common.{not, eqb, leb, List, length, get_or, arith}
 use Rattle.std.proofs.Common.{inl, inr, replicate, refl}
 use Rattle.std.proofs.lemmas.Bool.{cases_eq, cond-true, cond-false, eq-eqb, ne_eqb, leb-true, le-leb}
 use Rattle.std.proofs.lemmas.List.{get_or-replicate}
@@ -15,9 +16,9 @@ use Rattle.pm_net.specs.Network.{Network}
 use Rattle.pm_net.specs.Running.{recorded_number, is_caught_up, is_overtaken, heard_sum}
 use Rattle.pm_net.proofs.News.{child_from, child_at}
 use Rattle.pm_net_plan.specs.Places.{Numbering, IsNumbering}
-use Rattle.pm_relay.specs.Numbers.{number_in, head_number}
+use Rattle.pm_relay.specs.Numbers.{child_number, head_number}
 use Rattle.pm_relay.specs.Relays.{RelayValue, IsCaughtUp, HearsNothingNewer}
-use Rattle.pm_relay_net.specs.Heads.{head_of, head_in, heads_of, AddsByPlaces}
+use Rattle.pm_relay_net.specs.Heads.{bid_head, head_in, heads_of, AddsByPlaces}
 use Rattle.pm_relay_net.specs.RelayIs.{MatchesNode}
 use Rattle.pm_relay_net.proofs.Places.{length-heads_of, heads_of-at, head_there, in_each_place}
 
@@ -26,7 +27,7 @@ pub none_there : (numbering : Numbering) (c k : ℕ) (bids : ℕ → BidMessage)
     head_number (heads_of numbering c bids) k ≡ 0
 none_there numbering c k bids inside none =
     ap (λ (h : BidHead). h.number) (heads_of-at numbering c bids k inside
-    ∙ cond-true (eqb (numbering.child c k) 0) nothing_sent (head_of (bids (numbering.child c k))) (eq-eqb (numbering.child c k) 0 none))
+    ∙ cond-true (eqb (numbering.child c k) 0) nothing_sent (bid_head (bids (numbering.child c k))) (eq-eqb (numbering.child c k) 0 none))
 
 -- the heads of bids with the same numbers have the same numbers
 pub same_numbers : (numbering : Numbering) (c k : ℕ) (a b : ℕ → BidMessage) → k < most_nodes → ((x : ℕ) → (a x).number ≡ (b x).number) →
@@ -37,19 +38,21 @@ same_numbers numbering c k a b inside each =
       | inr ne ↦ at a ne ∙ each (numbering.child c k) ∙ sym (at b ne)
     ]
   where
-    at : (bids : ℕ → BidMessage) → (numbering.child c k ≡ 0 → ⊥) → head_number (heads_of numbering c bids) k ≡ (bids (numbering.child c k)).number
+    at : (bids : ℕ → BidMessage) → (numbering.child c k ≡ 0 → ⊥) →
+        head_number (heads_of numbering c bids) k ≡ (bids (numbering.child c k)).number
     at bids ne = ap (λ (h : BidHead). h.number) (heads_of-at numbering c bids k inside
-        ∙ cond-false (eqb (numbering.child c k) 0) nothing_sent (head_of (bids (numbering.child c k))) (ne_eqb (numbering.child c k) 0 ne))
+        ∙ cond-false (eqb (numbering.child c k) 0) nothing_sent (bid_head (bids (numbering.child c k))) (ne_eqb (numbering.child c k) 0 ne))
 
 module _ (lists : Lists) (p : Pricing) (numbering : Numbering) (is : IsNumbering lists numbering) (net : Network) (c : ℕ) (r : RelayValue)
     (m : MatchesNode p numbering net c r) where
   -- the number of a child in the newest record, and the one heard
-  pub recorded_at : (x : ℕ) → IsNode lists x → parent lists x ≡ c → number_in r.recorded (numbering.place x) ≡ recorded_number net c x
+  pub recorded_at : (x : ℕ) → IsNode lists x → parent lists x ≡ c → child_number r.recorded (numbering.place x) ≡ recorded_number net c x
   recorded_at x node up =
       m.recorded (numbering.place x) (is.inside x node)
       ∙ ap (λ (y : ℕ). head_number (heads_of numbering y (net.records c (net.last_number c))) (numbering.place x)) (sym up)
       ∙ ap (λ (h : BidHead). h.number) (head_there lists numbering is (net.records c (net.last_number c)) x node)
 
+  -- the number heard of a child
   pub heard_at : (x : ℕ) → IsNode lists x → parent lists x ≡ c → head_number r.gathered.cache.heads (numbering.place x) ≡ (net.heard x).number
   heard_at x node up =
       ap (λ (l : List BidHead). head_number l (numbering.place x)) (m.heads ∙ ap (λ (y : ℕ). heads_of numbering y net.heard) (sym up))
@@ -62,10 +65,11 @@ module _ (lists : Lists) (p : Pricing) (numbering : Numbering) (is : IsNumbering
       le-leb (recorded_number net c x) (net.heard x).number
       (omega (arith, caught (numbering.place x) (omega (arith, is.inside x node, m.children)), recorded_at x node up, heard_at x node up)))
 
+  -- a node that is caught up says so of its relay
   pub caught_from : is_caught_up lists net c ≡ true → IsCaughtUp r
   unfolding is_caught_up
   caught_from caught = λ k inside.
-      in_each_place lists numbering is c (λ k. number_in r.recorded k ≤ head_number r.gathered.cache.heads k)
+      in_each_place lists numbering is c (λ k. child_number r.recorded k ≤ head_number r.gathered.cache.heads k)
       (λ k inside none. omega (arith, m.recorded k inside, none_there numbering c k (net.records c (net.last_number c)) inside none))
       (λ x node up. omega (
         arith,
@@ -85,7 +89,7 @@ module _ (lists : Lists) (p : Pricing) (numbering : Numbering) (is : IsNumbering
   -- so it does where no child's number is above the recorded one
   pub nothing_newer : ((x : ℕ) → IsNode lists x → parent lists x ≡ c → (net.heard x).number ≤ recorded_number net c x) → HearsNothingNewer r
   nothing_newer each = λ k inside.
-      in_each_place lists numbering is c (λ k. head_number r.gathered.cache.heads k ≤ number_in r.recorded k)
+      in_each_place lists numbering is c (λ k. head_number r.gathered.cache.heads k ≤ child_number r.recorded k)
       (λ k inside none. omega (arith, ap (λ (l : List BidHead). head_number l k) m.heads, none_there numbering c k net.heard inside none))
       (λ x node up. omega (arith, recorded_at x node up, heard_at x node up, each x node up)) k (omega (arith, inside, m.children))
 

@@ -1,5 +1,6 @@
 -- Lists by places: the heads and the demands of the children of a node.
-use Rattle.std.proofs.Common.{◌≡◌, ◌∙◌, sym, ap, ℕ, ◌<◌, ℤ, pos, cond, eqb, List, [], length, get_or, map, replicate, arith, inl, inr, true}
+use Rattle.std.proofs.Common.{◌≡◌, ◌∙◌, sym, ap, ℕ, ◌<◌, ℤ, pos, cond, eqb, List, [], length, get_or, map, replicate}
+use Rattle.std.proofs.Common.{arith, inl, inr, true}
 use Rattle.std.proofs.Common.{get_or-set_same, get_or-set_other, refl}
 use Rattle.std.proofs.Math.ListN.{set, length-set}
 use Rattle.std.specs.List.{range_with_len}
@@ -15,7 +16,7 @@ use Rattle.pm_market.specs.State.{update}
 use Rattle.pm_market.proofs.Cuts.{updated_same, updated_other}
 use Rattle.pm_net.specs.Messages.{BidMessage}
 use Rattle.pm_net_plan.specs.Places.{Numbering, IsNumbering, demand_in, demands_of}
-use Rattle.pm_relay_net.specs.Heads.{head_of, head_in, heads_of}
+use Rattle.pm_relay_net.specs.Heads.{bid_head, head_in, heads_of}
 
 -- a list by places with one place set is that of another function
 set_by : {A : Type 0} → (g h : ℕ → A) (n k : ℕ) (v d : A) → k < n → h k ≡ v → ((i : ℕ) → i < n → (i ≡ k → ⊥) → g i ≡ h i) →
@@ -34,7 +35,8 @@ set_by g h n k v d inside here there =
     ])
 
 -- lists by places of functions that are the same at each place
-same_by : {A : Type 0} → (g h : ℕ → A) (n : ℕ) (d : A) → ((i : ℕ) → i < n → g i ≡ h i) → map g (range_with_len 0 n) ≡ map h (range_with_len 0 n)
+same_by : {A : Type 0} → (g h : ℕ → A) (n : ℕ) (d : A) → ((i : ℕ) → i < n → g i ≡ h i) →
+    map g (range_with_len 0 n) ≡ map h (range_with_len 0 n)
 same_by g h n d each =
     let len = length-map-range_with_len g 0 n in
     ext_get_or d (map g (range_with_len 0 n)) (map h (range_with_len 0 n)) (len ∙ sym (length-map-range_with_len h 0 n)) (λ i lt.
@@ -56,7 +58,8 @@ module _ (numbering : Numbering) (y : ℕ) where
   length-heads_of bids = length-map-range_with_len (head_in numbering y bids) 0 most_nodes
 
   -- the head in a place
-  pub heads_of-at : (bids : ℕ → BidMessage) (k : ℕ) → k < most_nodes → get_or (heads_of numbering y bids) k nothing_sent ≡ head_in numbering y bids k
+  pub heads_of-at : (bids : ℕ → BidMessage) (k : ℕ) → k < most_nodes →
+      get_or (heads_of numbering y bids) k nothing_sent ≡ head_in numbering y bids k
   unfolding heads_of
   heads_of-at bids k inside = get_or-map-range_with_len (head_in numbering y bids) 0 most_nodes k k nothing_sent inside (omega arith)
 
@@ -81,14 +84,14 @@ module _ (numbering : Numbering) (y : ℕ) where
 module _ (lists : Lists) (numbering : Numbering) (is : IsNumbering lists numbering) where
   -- in a node's place stands the node
   pub head_there : (bids : ℕ → BidMessage) (x : ℕ) → IsNode lists x →
-      get_or (heads_of numbering (parent lists x) bids) (numbering.place x) nothing_sent ≡ head_of (bids x)
+      get_or (heads_of numbering (parent lists x) bids) (numbering.place x) nothing_sent ≡ bid_head (bids x)
   head_there bids x node =
       let y : ℕ = parent lists x in
       let some : numbering.child y (numbering.place x) ≡ x = is.there x node in
       heads_of-at numbering y bids (numbering.place x) (is.inside x node)
-      ∙ cond-false (eqb (numbering.child y (numbering.place x)) 0) nothing_sent (head_of (bids (numbering.child y (numbering.place x))))
+      ∙ cond-false (eqb (numbering.child y (numbering.place x)) 0) nothing_sent (bid_head (bids (numbering.child y (numbering.place x))))
       (ne_eqb (numbering.child y (numbering.place x)) 0 (λ e. omega (arith, e, some, node.0)))
-      ∙ ap (λ z. head_of (bids z)) some
+      ∙ ap (λ z. bid_head (bids z)) some
 
   other_child : (x y k : ℕ) → IsNode lists x → k < most_nodes → (k ≡ numbering.place x → ⊥) → numbering.child y k ≡ x → ⊥
   other_child x y k node inside ne e =
@@ -97,16 +100,16 @@ module _ (lists : Lists) (numbering : Numbering) (is : IsNumbering lists numberi
 
   -- a bid of x in its place
   pub heads_set : (bids : ℕ → BidMessage) (x : ℕ) (bid : BidMessage) → IsNode lists x →
-      set (heads_of numbering (parent lists x) bids) (numbering.place x) (head_of bid) ≡ heads_of numbering (parent lists x) (update bids x bid)
+      set (heads_of numbering (parent lists x) bids) (numbering.place x) (bid_head bid) ≡ heads_of numbering (parent lists x) (update bids x bid)
   unfolding heads_of
   heads_set bids x bid node =
       let y : ℕ = parent lists x in
       let at : numbering.child y (numbering.place x) ≡ x = is.there x node in
-      set_by (head_in numbering y bids) (head_in numbering y (update bids x bid)) most_nodes (numbering.place x) (head_of bid) nothing_sent (is.inside x node)
-      (cond-false (eqb (numbering.child y (numbering.place x)) 0) nothing_sent (head_of (update bids x bid (numbering.child y (numbering.place x))))
+      set_by (head_in numbering y bids) (head_in numbering y (update bids x bid)) most_nodes (numbering.place x) (bid_head bid) nothing_sent (is.inside x node)
+      (cond-false (eqb (numbering.child y (numbering.place x)) 0) nothing_sent (bid_head (update bids x bid (numbering.child y (numbering.place x))))
       (ne_eqb (numbering.child y (numbering.place x)) 0 (λ e. omega (arith, e, at, node.0)))
-      ∙ ap (λ z. head_of (update bids x bid z)) at ∙ ap head_of (updated_same bids x bid))
-      (λ k inside ne. ap (λ (b : BidMessage). cond (eqb (numbering.child y k) 0) nothing_sent (head_of b))
+      ∙ ap (λ z. bid_head (update bids x bid z)) at ∙ ap bid_head (updated_same bids x bid))
+      (λ k inside ne. ap (λ (b : BidMessage). cond (eqb (numbering.child y k) 0) nothing_sent (bid_head b))
       (sym (updated_other bids x bid (numbering.child y k) (other_child x y k node inside ne))))
 
   -- its demand in its place
@@ -142,8 +145,8 @@ module _ (lists : Lists) (numbering : Numbering) (is : IsNumbering lists numberi
       heads_of numbering y a ≡ heads_of numbering y b
   heads_of-same y a b each = heads_of-alike numbering y a b (λ k inside.
       elim (cases_eq (numbering.child y k) 0) [
-        | inl e ↦ cond-true (eqb (numbering.child y k) 0) nothing_sent (head_of (a (numbering.child y k))) (eq-eqb (numbering.child y k) 0 e)
-            ∙ sym (cond-true (eqb (numbering.child y k) 0) nothing_sent (head_of (b (numbering.child y k))) (eq-eqb (numbering.child y k) 0 e))
+        | inl e ↦ cond-true (eqb (numbering.child y k) 0) nothing_sent (bid_head (a (numbering.child y k))) (eq-eqb (numbering.child y k) 0 e)
+            ∙ sym (cond-true (eqb (numbering.child y k) 0) nothing_sent (bid_head (b (numbering.child y k))) (eq-eqb (numbering.child y k) 0 e))
         | inr ne ↦ let at = is.child_is y k inside ne in
-            ap (λ (m : BidMessage). cond (eqb (numbering.child y k) 0) nothing_sent (head_of m)) (each (numbering.child y k) at.0 at.1)
+            ap (λ (m : BidMessage). cond (eqb (numbering.child y k) 0) nothing_sent (bid_head m)) (each (numbering.child y k) at.0 at.1)
       ])

@@ -1,8 +1,10 @@
 -- A relay sends a bid, refuses to, or sends its newest one again.
-use Rattle.std.proofs.Common.{◌≡◌, ◌∙◌, sym, ap, subst, ℕ, ◌+◌, ◌-◌, ◌<◌, ◌≤◌, ℤ, Bool, true, false, cond, not, ltb, leb, eqb, ◌&&◌, ◌||◌, List, [], ◌∷◌, ◌++◌}
+use Rattle.std.proofs.Common.{◌≡◌, ◌∙◌, sym, ap, subst, ℕ, ◌+◌, ◌-◌, ◌<◌, ◌≤◌, ℤ, Bool, true, false, cond}
+use Rattle.std.proofs.Common.{not, ltb, leb, eqb, ◌&&◌, ◌||◌, List, [], ◌∷◌, ◌++◌}
 use Rattle.std.proofs.Common.{length, get_or, Some, Option, replicate, arith, inl, inr, refl, ◌⊎◌}
 use Rattle.std.specs.Prelude.{unwrap_or}
-use Rattle.std.proofs.lemmas.Bool.{cases_eq, cases_Bool, cases_lt, and_parts, and_from, ltb-true, lt-ltb, le-leb, leb-true, eqb-true, not_from_false, both_ways}
+use Rattle.std.proofs.lemmas.Bool.{cases_eq, cases_Bool, cases_lt, and_parts, and_from, ltb-true, lt-ltb, le-leb, leb-true, eqb-true}
+use Rattle.std.proofs.lemmas.Bool.{not_from_false, both_ways}
 use Rattle.std.proofs.lemmas.Bool.{false_from_ne_true, cond-true, cond-false, not-false}
 use Rattle.pm_base.specs.Cuts.{Cut}
 use Rattle.pm_base.specs.Limits.{window_size, most_nodes}
@@ -31,11 +33,11 @@ use Rattle.pm_net.specs.Agrees.{bid_of_number, NetworkAgrees}
 use Rattle.pm_net.proofs.Messages.{two_same, two_other}
 use Rattle.pm_net.proofs.News.{level, child_from}
 use Rattle.pm_net_plan.specs.Places.{Numbering, IsNumbering}
-use Rattle.pm_relay.specs.Numbers.{number_in, head_number}
-use Rattle.pm_relay.specs.Relays.{RelayValue, newest_number, IsCaughtUp, HasChanged, unanswered_numbers, BidSent, NotSent}
+use Rattle.pm_relay.specs.Numbers.{child_number, head_number}
+use Rattle.pm_relay.specs.Relays.{RelayValue, newest_bid_number, IsCaughtUp, HasChanged, unanswered_numbers, BidSent, NotSent}
 use Rattle.pm_relay.specs.declared.fault.SendFault.{SendFault}
 use Rattle.pm_relay.specs.declared.fault.SendFault.TheVariants.{NotCaughtUp, NotChanged, WindowFull, OutOfNumbers}
-use Rattle.pm_relay_net.specs.Heads.{head_of, heads_of, AddsByPlaces}
+use Rattle.pm_relay_net.specs.Heads.{bid_head, head_in, heads_of, AddsByPlaces}
 use Rattle.pm_relay_net.specs.RelayIs.{MatchesNode, RelayIs}
 use Rattle.pm_relay_net.proofs.Places.{heads_of-same, in_each_place, heads_of-at, heads_of-none}
 use Rattle.pm_relay_net.proofs.Matching.{recorded_at, heard_at, caught_to, caught_from, over_to, nothing_newer, sum_is, none_there}
@@ -46,10 +48,12 @@ module _ (lists : Lists) (p : Pricing) (numbering : Numbering) (net : Network) (
   last_kept : Keeps r.gathered.window r.gathered.window.last
   last_kept = record { one = some; from = omega (arith, m.window, m.order); to = omega arith }
 
+  -- the heads of its newest record are those that the network has
   pub published_is : published_heads r.gathered ≡ heads_of numbering c (net.records c (net.last_number c))
   published_is = m.record_heads r.gathered.window.last last_kept
       ∙ ap (λ (i : ℕ). heads_of numbering c (net.records c i)) (omega (arith, m.newest))
 
+  -- the network has that record whole
   pub is_whole : net.whole_from c ≤ net.last_number c
   is_whole = omega (arith, m.newest, m.base, some)
 
@@ -142,16 +146,16 @@ module _ (lists : Lists) (law : Lawful lists) (p : Pricing) (numbering : Numberi
             changed (m.heads ∙ heads_of-none numbering c net.heard (λ k inside. all_nothing start k inside) ∙ sym (m.opening zero))
       ]
     where
-      all_nothing : net.last_number c ≡ 0 → (k : ℕ) → k < most_nodes → Rattle.pm_relay_net.specs.Heads.head_in numbering c net.heard k ≡ nothing_sent
+      all_nothing : net.last_number c ≡ 0 → (k : ℕ) → k < most_nodes → head_in numbering c net.heard k ≡ nothing_sent
       all_nothing start k inside =
           sym (heads_of-at numbering c net.heard k inside)
           ∙ in_each_place lists numbering is c (λ i. get_or (heads_of numbering c net.heard) i nothing_sent ≡ nothing_sent)
           (λ i within no. heads_of-at numbering c net.heard i within
-          ∙ cond-true (eqb (numbering.child c i) 0) nothing_sent (head_of (net.heard (numbering.child c i)))
+          ∙ cond-true (eqb (numbering.child c i) 0) nothing_sent (bid_head (net.heard (numbering.child c i)))
           (Rattle.std.proofs.lemmas.Bool.eq-eqb (numbering.child c i) 0 no))
           (λ x node up. ap (λ (y : ℕ). get_or (heads_of numbering y net.heard) (numbering.place x) nothing_sent) (sym up)
           ∙ Rattle.pm_relay_net.proofs.Places.head_there lists numbering is net.heard x node
-          ∙ ap head_of ((agrees.heard x node).1 ∙ ap (bid_of_number lists p s x) (equal none x node up ∙ none_recorded start x node up))
+          ∙ ap bid_head ((agrees.heard x node).1 ∙ ap (bid_of_number lists p s x) (equal none x node up ∙ none_recorded start x node up))
           ∙ ap (λ (g : Bool). record { number = 0; gone = g }) (gone_zero lists x))
           k inside
 
@@ -180,6 +184,7 @@ module _ (lists : Lists) (law : Lawful lists) (p : Pricing) (numbering : Numberi
   stays : (can_send lists net c ≡ true → ⊥) → network_step lists p net (Sends c) ≡ net
   stays cannot = cond-false (can_send lists net c) (after_sending p net c) net (false_from_ne_true (can_send lists net c) cannot)
 
+  -- where a relay refuses, the node may not send either, or numbers are at their end
   pub refuses : (fault : SendFault) → NotSent r fault → (fault ≡ OutOfNumbers) ⊎ (network_step lists p net (Sends c) ≡ net)
   refuses NotCaughtUp why = inr (stays (λ e. why (caught_from lists p numbering is net c r m (parts e).0)))
   refuses NotChanged why = inr (stays (λ e. both_ways (has_news lists net c) (no_news why.0 why.1) (parts e).1))
@@ -231,6 +236,7 @@ module _ (lists : Lists) (law : Lawful lists) (p : Pricing) (numbering : Numberi
     new_sum k at = ap (λ (i : ℕ). (record_of new.gathered.window i).sum) at ∙ ap (λ (q : Sent). q.sum) did.made.sent.at
         ∙ ap (λ l. sum_kept l (aggregate_of r.gathered.cache)) (m.limits ∙ m.limited.1)
 
+    -- after its bid the relay is what the network has of the node
     pub sent_is : RelayIs p numbering net' c new
     sent_is = record {
       matches = record {
@@ -280,6 +286,7 @@ module _ (lists : Lists) (law : Lawful lists) (p : Pricing) (numbering : Numberi
     step_is : network_step lists p net (Sends c) ≡ net'
     step_is = cond-true (can_send lists net c) net' net can
 
+    -- the relay and what goes up are the network's
     pub sends : RelayIs p numbering (network_step lists p net (Sends c)) c new
         × ((network_step lists p net (Sends c)).bids_sent c ≡ net.bids_sent c ++ bid_message number' false (own_demand new.gathered) ∷ [])
     sends = (
@@ -291,7 +298,7 @@ module _ (lists : Lists) (law : Lawful lists) (p : Pricing) (numbering : Numberi
 -- a relay that has its newest record sends its newest bid again as the node does
 pub sends_again : (lists : Lists) (p : Pricing) (numbering : Numbering) (net : Network) (c : ℕ) (r : RelayValue) → IsConcentrator lists c →
     MatchesNode p numbering net c r → 1 ≤ r.gathered.window.last →
-    (network_step lists p net (Resends c)).bids_sent c ≡ net.bids_sent c ++ bid_message (newest_number r) false (own_demand r.gathered) ∷ []
+    (network_step lists p net (Resends c)).bids_sent c ≡ net.bids_sent c ++ bid_message (newest_bid_number r) false (own_demand r.gathered) ∷ []
 unfolding can_resend
 sends_again lists p numbering net c r conc m some =
     let whole : Bool = leb (net.whole_from c) (net.last_number c) && leb 1 (net.last_number c) in
@@ -301,7 +308,7 @@ sends_again lists p numbering net c r conc m some =
     ∙ or_true (is_leaf lists c)) in
     let demand : own_demand r.gathered ≡ within_limits (p.limits c) (p.add c (λ z. (net.records c (net.last_number c) z).demand)) =
     ap (λ o. unwrap_or o (aggregate_of r.gathered.cache)) (m.demand some) in
-    let bid : newest_bid lists p net c ≡ bid_message (newest_number r) false (own_demand r.gathered) =
+    let bid : newest_bid lists p net c ≡ bid_message (newest_bid_number r) false (own_demand r.gathered) =
     cond-false (is_leaf lists c) _ _ conc.2 ∙ ap (bid_message (net.last_number c) false) (sym demand)
     ∙ ap (λ (k : ℕ). bid_message k false (own_demand r.gathered)) (sym m.newest) in
     ap (λ (w : Network). w.bids_sent c) (cond-true (can_resend lists net c) (after_resending lists p net c) net may)

@@ -1,7 +1,9 @@
 -- A relay is given a price: it passes it on, takes it alone, leaves it for later, or drops it.
-use Rattle.std.proofs.Common.{◌≡◌, ◌∙◌, sym, ap, subst, ℕ, ◌+◌, ◌-◌, ◌<◌, ◌≤◌, Bool, true, false, cond, not, eqb, ltb, leb, ◌&&◌, List, [], ◌∷◌, ◌++◌}
+use Rattle.std.proofs.Common.{◌≡◌, ◌∙◌, sym, ap, subst, ℕ, ◌+◌, ◌-◌, ◌<◌, ◌≤◌, Bool, true, false, cond, not}
+use Rattle.std.proofs.Common.{eqb, ltb, leb, ◌&&◌, List, [], ◌∷◌, ◌++◌}
 use Rattle.std.proofs.Common.{length, get_or, Some, None, arith, inl, inr, refl}
-use Rattle.std.proofs.lemmas.Bool.{cases_Bool, cond-true, cond-false, and_parts, and_from, ltb-true, lt-ltb, leb-true, le-leb, eq-eqb, eqb-true, not_from_false}
+use Rattle.std.proofs.lemmas.Bool.{cases_Bool, cond-true, cond-false, and_parts, and_from, ltb-true, lt-ltb, leb-true, le-leb, eq-eqb}
+use Rattle.std.proofs.lemmas.Bool.{eqb-true, not_from_false}
 use Rattle.std.proofs.lemmas.Bool.{both_ways, false_from_ne_true, not-true}
 use Rattle.std.proofs.lemmas.List.{append-nil}
 use Rattle.pm_bid.specs.Heads.{nothing_sent}
@@ -18,15 +20,16 @@ use Rattle.pm_concentrator.specs.Limited.{local_step_of_record}
 use Rattle.pm_net.specs.Pricing.{Pricing}
 use Rattle.pm_net.specs.Messages.{BidMessage, PriceMessage, price_message}
 use Rattle.pm_net.specs.Network.{Network, sent_price}
-use Rattle.pm_net.specs.Running.{is_new_price, names_a_bid, relay_step, sent_down, waits, is_overtaken, after_answer, after_passing, after_relay_price}
+use Rattle.pm_net.specs.Running.{is_new_price, names_a_bid, relay_step, sent_down, waits, is_overtaken, after_answer, after_passing}
+use Rattle.pm_net.specs.Running.{after_relay_price}
 use Rattle.pm_net.specs.Running.{after_given_price, after_taking_price}
 use Rattle.pm_net.specs.Events.{network_step, TakesPrice}
 use Rattle.pm_net_plan.specs.Places.{Numbering, IsNumbering}
 use Rattle.pm_relay.specs.Relays as relays
-use Rattle.pm_relay.specs.Relays.{RelayValue, newest_number, record_at, IsNewPrice, MayHearRecord, PricePassedOn, with_price, HearsItsRecord}
+use Rattle.pm_relay.specs.Relays.{RelayValue, newest_bid_number, record_at, IsNewPrice, MayHearRecord, PricePassedOn, with_price, HearsItsRecord}
 use Rattle.pm_relay.specs.declared.outcome.PriceOutcome.{PriceOutcome}
 use Rattle.pm_relay.specs.declared.outcome.PriceOutcome.TheVariants.{PassedOn, Alone, Waits, Dropped}
-use Rattle.pm_relay_net.specs.Heads.{head_of, heads_of}
+use Rattle.pm_relay_net.specs.Heads.{bid_head, heads_of}
 use Rattle.pm_relay_net.specs.RelayIs.{MatchesNode, RelayIs, update_of, prices_down, messages_of, recorded_sum}
 use Rattle.pm_relay_net.proofs.Places.{head_there}
 use Rattle.pm_relay_net.proofs.Matching.{over_to, nothing_newer, recorded_at, heard_at}
@@ -183,7 +186,8 @@ module _ (lists : Lists) (p : Pricing) (numbering : Numbering) (is : IsNumbering
     sum_is = m.record_sum (price.number - old.base) own_kept ∙ ap (λ (n : ℕ). Some (recorded_sum p net c n)) number_is
 
     step_is : local_step_of_record old.gathered.limits price.step (record_at old price.number).sum ≡ relay_step p net c price
-    step_is = ap (local_step_of_record old.gathered.limits price.step) sum_is ∙ ap (λ l. local_step l price.step (recorded_sum p net c price.number)) m.limits
+    step_is = ap (local_step_of_record old.gathered.limits price.step) sum_is
+        ∙ ap (λ l. local_step l price.step (recorded_sum p net c price.number)) m.limits
 
     older : (n : ℕ) → Keeps new.gathered.window n → Keeps old.gathered.window n
     older n keeps = record {
@@ -202,7 +206,7 @@ module _ (lists : Lists) (p : Pricing) (numbering : Numbering) (is : IsNumbering
         demands = ap (λ (w : Cache). w.demands) did.passed.cache ∙ m.demands;
         newest = omega (arith, did.base, did.passed.window.last, m.newest);
         children = ap (λ (l : List ℕ). length l) did.recorded ∙ m.children;
-        recorded = λ k inside. ap (λ (l : List ℕ). Rattle.pm_relay.specs.Numbers.number_in l k) did.recorded ∙ m.recorded k inside;
+        recorded = λ k inside. ap (λ (l : List ℕ). Rattle.pm_relay.specs.Numbers.child_number l k) did.recorded ∙ m.recorded k inside;
         answered = did.answered ∙ sym (updated_same net.answered c price.number);
         index = did.index ∙ sym (ap (λ (q : PriceMessage). q.index) (updated_same net.taken c price));
         base = did.base ∙ m.base;
@@ -227,7 +231,7 @@ module _ (lists : Lists) (p : Pricing) (numbering : Numbering) (is : IsNumbering
         let basis : ℕ → BidMessage = net.records c price.number in
         let heads : List BidHead = (record_at old price.number).heads in
         let step' : ℕ = local_step_of_record old.gathered.limits price.step (record_at old price.number).sum in
-        let head : head_at heads k ≡ head_of (basis x) =
+        let head : head_at heads k ≡ bid_head (basis x) =
         ap (λ (l : List BidHead). get_or l k nothing_sent) (heads_are ∙ ap (λ (y : ℕ). heads_of numbering y basis) (sym up))
         ∙ head_there lists numbering is basis x node in
         choice (basis x).gone refl

@@ -10,12 +10,12 @@ use Rattle.pm_net.specs.Messages.{BidMessage}
 use Rattle.pm_net_plan.specs.Places.{Numbering, demands_of}
 
 -- the head of a bid
-abbrev pub head_of : BidMessage → BidHead
-head_of bid = record { number = bid.number; gone = bid.gone }
+abbrev pub bid_head : BidMessage → BidHead
+bid_head bid = record { number = bid.number; gone = bid.gone }
 
 -- the head in a place of y: that of its child there, in these bids, else that of one that sent nothing
 abbrev pub head_in : Numbering → ℕ → (ℕ → BidMessage) → ℕ → BidHead
-head_in numbering y bids k = if numbering.child y k == 0 then nothing_sent else head_of (bids (numbering.child y k))
+head_in numbering y bids k = if numbering.child y k == 0 then nothing_sent else bid_head (bids (numbering.child y k))
 
 unfoldable pub heads_of : Numbering → ℕ → (ℕ → BidMessage) → List BidHead
 heads_of numbering y bids = map (head_in numbering y bids) (range_with_len 0 most_nodes)

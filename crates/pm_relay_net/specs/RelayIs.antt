@@ -1,5 +1,6 @@
 -- A relay's value is what the network has of its node.
-use Rattle.std.specs.Prelude.{◌≡◌, ℕ, ◌+◌, ◌-◌, ◌<◌, ◌≤◌, ℤ, if◌then◌else◌, List, [], ◌∷◌, length, replicate, Option, Some, None}
+use Rattle.std.specs.Prelude.{◌≡◌, ℕ, ◌+◌, ◌-◌, ◌<◌, ◌≤◌, ℤ, if◌then◌else◌, List, [], ◌∷◌, length}
+use Rattle.std.specs.Prelude.{replicate, Option, Some, None}
 use Rattle.pm_base.specs.Limits.{most_nodes}
 use Rattle.pm_base.specs.declared.limits.Limits.{Limits}
 use Rattle.pm_bid.specs.Heads.{nothing_sent}
@@ -13,8 +14,8 @@ use Rattle.pm_net.specs.Pricing.{Pricing}
 use Rattle.pm_net.specs.Messages.{BidMessage, PriceMessage, price_message}
 use Rattle.pm_net.specs.Network.{Network}
 use Rattle.pm_net_plan.specs.Places.{Numbering, demands_of}
-use Rattle.pm_relay.specs.Numbers.{number_in, head_number}
-use Rattle.pm_relay.specs.Relays.{RelayValue, newest_number, record_at, HearsItsRecord}
+use Rattle.pm_relay.specs.Numbers.{child_number, head_number}
+use Rattle.pm_relay.specs.Relays.{RelayValue, newest_bid_number, record_at, HearsItsRecord}
 use Rattle.pm_relay.specs.declared.outcome.PriceOutcome.{PriceOutcome}
 use Rattle.pm_relay.specs.declared.outcome.PriceOutcome.TheVariants.{PassedOn}
 use Rattle.pm_relay_net.specs.Heads.{heads_of}
@@ -32,10 +33,10 @@ pub record MatchesNode (p : Pricing) (numbering : Numbering) (net : Network) (c 
   pub heads : r.gathered.cache.heads ≡ heads_of numbering c net.heard
   pub demands : r.gathered.cache.demands ≡ demands_of p.steps numbering c (λ z. (net.heard z).demand)
   -- its newest bid, and the children's numbers in it
-  pub newest : newest_number r ≡ net.last_number c
+  pub newest : newest_bid_number r ≡ net.last_number c
   pub children : length r.recorded ≡ most_nodes
   pub recorded : (k : ℕ) → k < most_nodes →
-      number_in r.recorded k ≡ head_number (heads_of numbering c (net.records c (net.last_number c))) k
+      child_number r.recorded k ≡ head_number (heads_of numbering c (net.records c (net.last_number c))) k
   -- the price that it took last
   pub answered : r.answered ≡ net.answered c
   pub index : r.index ≡ (net.taken c).index
@@ -47,7 +48,7 @@ pub record MatchesNode (p : Pricing) (numbering : Numbering) (net : Network) (c 
       (record_of r.gathered.window n).sum ≡ Some (recorded_sum p net c (r.base + n))
   pub opening : r.gathered.window.last ≡ 0 → published_heads r.gathered ≡ replicate most_nodes nothing_sent
   pub window : r.gathered.window.answered ≡ r.answered - r.base
-  pub order : r.answered ≤ newest_number r
+  pub order : r.answered ≤ newest_bid_number r
   -- its demand is that of its newest bid
   pub demand : 1 ≤ r.gathered.window.last →
       r.gathered.announced ≡ Some (within_limits (p.limits c) (recorded_sum p net c (net.last_number c)))
@@ -60,8 +61,8 @@ pub record RelayIs (p : Pricing) (numbering : Numbering) (net : Network) (c : �
 -- ---- messages as values
 
 -- the demand of a bid, none where the sender is gone
-abbrev pub bid_demand : BidMessage → Option (List ℤ)
-bid_demand bid = if bid.gone then None else Some bid.demand
+abbrev pub told_demand : BidMessage → Option (List ℤ)
+told_demand bid = if bid.gone then None else Some bid.demand
 
 -- a price as a relay is given it
 abbrev pub update_of : PriceMessage → PriceUpdate

@@ -18,11 +18,11 @@ ghost use Rattle.pm_net.specs.Restarts.{stored_price};
 ghost use Rattle.pm_net.specs.Events.{Event, network_step, network_after};
 ghost use Rattle.pm_net.specs.Agrees.{NetworkAgrees};
 ghost use Rattle.pm_net_plan.specs.Places.{Numbering, IsNumbering};
-ghost use Rattle.pm_relay.specs.Relays.{RelayValue, newest_number, ComesBack, with_child_bid, LooksForRecord, BidSent, NotSent, TakesPrice};
+ghost use Rattle.pm_relay.specs.Relays.{RelayValue, newest_bid_number, ComesBack, with_child_bid, LooksForRecord, BidSent, NotSent, TakesPrice};
 ghost use Rattle.pm_relay.specs.declared.fault.SendFault.{SendFault};
 ghost use Rattle.pm_relay.specs.declared.outcome.PriceOutcome.{PriceOutcome};
 ghost use Rattle.pm_relay_net.specs.Heads.{AddsByPlaces};
-ghost use Rattle.pm_relay_net.specs.RelayIs.{RelayIs, bid_demand, update_of, prices_down};
+ghost use Rattle.pm_relay_net.specs.RelayIs.{RelayIs, told_demand, update_of, prices_down};
 
 /// A law: a relay that comes up for the first time is what a network in which nothing was sent has of its node, and one that
 /// comes back is what the network has of the node after its restart. It comes back with what it gave when it stopped, and
@@ -36,7 +36,7 @@ pub fn relays_come_up()
         (limits : Limits) (c k : ℕ) (old new : RelayValue) →
         IsNumbering lists numbering → p.limits c ≡ Some limits → RelayIs p numbering net c old →
         (stored_price net c k).number ≤ net.last_number c →
-        ComesBack p.steps limits (newest_number old) (stored_price net c k).number
+        ComesBack p.steps limits (newest_bid_number old) (stored_price net c k).number
         (stored_price net c k).index old.recorded new →
         RelayIs p numbering (network_step lists p net (Event.Restarts c k)) c new }
 {}
@@ -50,7 +50,7 @@ pub fn relays_learn()
         IsNode lists x → RelayIs p numbering net (parent lists x) old →
         ((sent_bid p net x k).gone ≡ true → (sent_bid p net x k).demand ≡ zeros p.steps) →
         LooksForRecord (with_child_bid old (numbering.place x) (sent_bid p net x k).number
-        (bid_demand (sent_bid p net x k))) new →
+        (told_demand (sent_bid p net x k))) new →
         RelayIs p numbering (network_step lists p net (Event.TakesBid x k)) (parent lists x) new
         ⊎ RelayIs p numbering (network_after lists p net
         (Event.TakesBid x k ∷ Event.Rebuilds (parent lists x) ∷ [])) (parent lists x) new }
@@ -76,7 +76,7 @@ pub fn relays_send()
         (r : RelayValue) → IsConcentrator lists c → RelayIs p numbering net c r →
         1 ≤ r.gathered.window.last →
         (network_step lists p net (Event.Resends c)).bids_sent c
-        ≡ net.bids_sent c ++ bid_message (newest_number r) false (own_demand r.gathered) ∷ [] }
+        ≡ net.bids_sent c ++ bid_message (newest_bid_number r) false (own_demand r.gathered) ∷ [] }
 {}
 
 /// A law: a relay that is given a price does what the network's relay does with it, and each child is sent the same.

@@ -3,4 +3,4 @@ use Rattle.std.proofs.Common.{◌≡◌}
 use Rattle.pm_played.proofs.relay.fills_the_window.Given as goal
 
 abbrev pub invariant-loop-number : goal.invariant-loop-number
-invariant-loop-number l = l.relay.gathered.cache.steps ≡ 2
+invariant-loop-number g l = l.relay.gathered.cache.steps ≡ 2

@@ -15,9 +15,9 @@ invariant_of-self-2 c =
     let Window : List Offer → Type 0 = λ l. IsOfferWindow
     (record { number = c.self.inside.number; answered = price.number; offers = l; index = price.index }) in
     record {
-      window = subst Window (sym c.let_go.ensures.offers) after.window;
+      window = subst Window (sym c.drop_offers.ensures.offers) after.window;
       order = after.order;
-      room = omega (arith, c.self.invariant.room, c.let_go.ensures.capacity);
+      room = omega (arith, c.self.invariant.room, c.drop_offers.ensures.capacity);
     }
 
 pub returns-clause-after : goal.returns-clause-after
@@ -32,7 +32,7 @@ returns-clause-after c =
     } in
     let with_offers : List Offer → DeviceAgent = λ l. record { number = number; answered = price.number; offers = l; index = price.index } in
     let found : kept_offer old price.number ≡ Some c.in_ok-kept.field-0.now = sym c.in_ok-kept.ensures in
-    let After : DeviceAgent → Type 0 = λ agent. with_offers c.let_go.new.offers.items ≡ after_price agent price in
-    subst After c.self.view_is (ap with_offers c.let_go.ensures.offers ∙ ap (answered_by old price) (sym found)
+    let After : DeviceAgent → Type 0 = λ agent. with_offers c.drop_offers.new.offers.items ≡ after_price agent price in
+    subst After c.self.view_is (ap with_offers c.drop_offers.ensures.offers ∙ ap (answered_by old price) (sym found)
     ∙ sym (cond-true (ltb old.index price.index) (answered_by old price (kept_offer old price.number)) old
     (lt-ltb old.index price.index c.if-price-self.false)))

@@ -2,6 +2,7 @@
 use Rattle.std.proofs.Common.{rules, ◌≡◌, ◌∙◌, sym, ap, subst, length, Some, arith}
 use Rattle.std.proofs.lemmas.Int.{ints}
 use Rattle.std.proofs.lemmas.List.{length-replicate}
+use Rattle.std.proofs.lemmas.List.Elements.{All-replicate}
 use Rattle.pm_base.specs.Limits.{demand_limit, most_nodes}
 use Rattle.pm_bid.specs.Bids.{AllWithinLimit}
 use Rattle.pm_bid.specs.Bids.{zeros}
@@ -12,7 +13,6 @@ use Rattle.pm_cache.specs.Cache.{Cache}
 use Rattle.pm_cache.specs.Learning.{HasSingleBids}
 use Rattle.pm_relay.specs.RelayFields.{HasRelayLimits}
 use Rattle.pm_relay.proofs.Learnt.{same_demand}
-use Rattle.pm_relay.proofs.Small.{empty_single}
 use Rattle.pm_relay.proofs.relay.Relay.resumed.Goals as goal
 
 pub invariant_of-result : goal.invariant_of-result
@@ -34,7 +34,8 @@ invariant_of-result c =
         floor = record { low = omega (arith, ints); high = omega (arith, ints) };
         ceiling = record { low = omega (arith, ints); high = omega (arith, ints) };
       });
-      single = subst HasSingleBids (sym new.cache) (empty_single most_nodes steps);
+      single = subst HasSingleBids (sym new.cache)
+          (All-replicate (λ bid. AllWithinLimit demand_limit bid) most_nodes (zeros steps) (zeros-within demand_limit steps));
       announced = announced ∙ ap Some (sym own);
       small = subst (AllWithinLimit demand_limit) (sym own) (zeros-within demand_limit steps);
       numbers = omega arith;

@@ -4,7 +4,7 @@ use Rattle.pm_base.specs.Limits.{most_nodes}
 use Rattle.pm_cache.specs.Cache.{Cache}
 use Rattle.pm_concentrator.specs.Concentrators.{BidMade}
 use Rattle.pm_relay.specs.Numbers.{head_number}
-use Rattle.pm_relay.specs.Relays.{RelayValue, BidSent, newest_number}
+use Rattle.pm_relay.specs.Relays.{RelayValue, BidSent, newest_bid_number}
 use Rattle.pm_relay.proofs.Gathering.{parts_of, over_bid}
 use Rattle.pm_relay.proofs.relay.Relay.send.Goals as goal
 
@@ -19,7 +19,7 @@ invariant_of-self c =
       single = right.single;
       announced = right.announced;
       small = right.small;
-      numbers = omega (arith, made.number, made.sent.last, c.last-last.ensures, ap newest_number c.self.view_is, c.if-last.false);
+      numbers = omega (arith, made.number, made.sent.last, c.last-last.ensures, ap newest_bid_number c.self.view_is, c.if-last.false);
       answered = omega (arith, made.number, made.sent.last);
       window = omega (arith, made.sent.answered);
     }
@@ -40,8 +40,8 @@ returns-clause-sent c =
       recorded = c.note_numbers.new.numbers.items;
     }) (c.last-last.result + 1)) c.self.view_is (record {
       caught_up = search rules;
-      room = omega (arith, c.last-last.ensures, ap newest_number c.self.view_is, c.if-last-self-ge-WINDOW_SIZE.false);
-      number = omega (arith, c.last-last.ensures, ap newest_number c.self.view_is);
+      room = omega (arith, c.last-last.ensures, ap newest_bid_number c.self.view_is, c.if-last-self-ge-WINDOW_SIZE.false);
+      number = omega (arith, c.last-last.ensures, ap newest_bid_number c.self.view_is);
       made = subst (λ (n : ℕ). BidMade old new n) made.number made;
       announced = right.announced ∙ ap Some made.demand;
       numbers = λ child inside. c.note_numbers.ensures.noted child (omega (arith, inside, children)) ∙ ap (λ l. head_number l child) heads;

@@ -1,8 +1,8 @@
--- Of `let_go`: its clause `offers`.
+-- Of `drop_offers`: its clause `offers`.
 use Rattle.std.proofs.Common.{rules, leb}
 use Rattle.std.proofs.lemmas.Fn.{filter_same}
 use Rattle.pm_net.specs.Agents.{Offer}
-use Rattle.pm_control.proofs.agent.let_go.Goals as goal
+use Rattle.pm_control.proofs.agent.drop_offers.Goals as goal
 
 pub returns-clause-offers : goal.returns-clause-offers
 returns-clause-offers c =
