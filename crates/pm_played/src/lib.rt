@@ -25,6 +25,8 @@ mod market;
 #[cfg(test)]
 mod relay;
 #[cfg(test)]
+mod root;
+#[cfg(test)]
 mod same;
 #[cfg(test)]
 mod session;

@@ -18,3 +18,17 @@ pub enum SendFault {
     #[error("no number is left")]
     OutOfNumbers,
 }
+
+/// Why the market is not cleared. The causes are tested in this order.
+#[derive(Clone, Copy, Debug, PartialEq, Eq, Error)]
+pub enum RootFault {
+    /// The auctioneer came back, and of some child it has not heard as much as its newest clearing had.
+    #[error("a child was not heard again since the restart")]
+    NotCaughtUp,
+    /// Nothing was learnt since the last clearing.
+    #[error("nothing changed since the last clearing")]
+    NotChanged,
+    /// The last index is 4,294,967,295, the greatest that there is.
+    #[error("no index is left")]
+    OutOfNumbers,
+}

@@ -8,6 +8,8 @@
 //! A relay may restart. It comes back with a [`Resume`], which it gave before: its last number, the children's numbers in
 //! that bid, and a price that it took. It sends nothing until it heard of each child what that bid had. If it heard the very
 //! same numbers, it has the record of that bid again, can send it again and pass its price on.
+//!
+//! A [`Root`] is an auctioneer that may restart in the same way.
 #![tactic(auto)]
 
 mod fault;
@@ -15,8 +17,10 @@ mod numbers;
 mod outcome;
 mod relay;
 mod resume;
+mod root;
 
-pub use fault::SendFault;
+pub use fault::{RootFault, SendFault};
 pub use outcome::PriceOutcome;
 pub use relay::Relay;
 pub use resume::Resume;
+pub use root::Root;
