@@ -10,9 +10,10 @@ from conftest import EXAMPLES
 from hypothesis import given, settings
 from hypothesis import strategies as st
 
-from cogmaula import Basis, Battery, Cluster, Events, Join, Leave, Load, NoContinuation, Refused, Tick, chain, continued, run
-from cogmaula import parts_of, resumed, run_parts, whole_of
+from cogmaula import Basis, Battery, Cluster, Events, Join, Leave, Load, Manual, NoContinuation
+from cogmaula import Refused, State, Tick, TooLong, chain, continued, parts_of, resumed, run, run_parts, whole_of
 from cogmaula.continuing import script_for
+from cogmaula.limits import MOST_BYTES
 
 pytestmark = pytest.mark.usefixtures("program")
 MANY = settings(max_examples=300)
@@ -147,3 +148,20 @@ def test_resumed_before_all_phases_is_the_cluster_with_a_phase_of_nobody():
 
     first = two_devices([])
     assert resumed(first, first_snapshot(first)) == first.with_phases(Events())
+
+
+def test_more_bytes_than_a_file_may_have():
+    basis = Basis(0, 999, 1_000)
+    events = [State("flex", demand=[-(10**9) + at] * 1_000) for at in range(400)]
+    phases = [Events([Join("flex")]), *(Events([it]) for it in events)]
+    whole = Cluster(basis, [Manual("flex", demand=[0] * 1_000)], phases)
+    with pytest.raises(TooLong):
+        run(whole)
+    parts = list(parts_of(whole))
+    assert len(parts) == 2
+    # Each part is one that the program takes, and no event more would fit into the first.
+    done = list(run_parts(whole, parts))
+    sizes = [len(it.cluster.to_bytes()) for it in done]
+    assert max(sizes) <= MOST_BYTES
+    assert sizes[0] > MOST_BYTES - 60_000
+    assert [it.powers["flex"] for it in whole_of(whole, done).ends] == [0, *(-(10**9) + at for at in range(400))]
