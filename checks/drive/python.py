@@ -74,7 +74,8 @@ def missing(python, part, what, names):
 
 def surroundings(work):
     """The environment of a process of the check: it leaves nothing in the repository."""
-    return {**os.environ, "PYTHONDONTWRITEBYTECODE": "1", "COVERAGE_FILE": str(work / "coverage"), "MPLCONFIGDIR": str(work / "matplotlib")}
+    kept = {"COVERAGE_FILE": str(work / "coverage"), "MPLCONFIGDIR": str(work / "matplotlib")}
+    return {**os.environ, "COGMAULA_MARKET": str(TOP), "PYTHONDONTWRITEBYTECODE": "1", **kept}
 
 
 def test_file(python, work, file, words, with_lines):

@@ -1,4 +1,7 @@
-"""What the tests share: the proved program of the checkout, and the cluster files of the repository."""
+"""What the tests share: the proved program, and the cluster files of the repository.
+
+The program is the one that COGMAULA_MARKET names, or that of the checkout.
+"""
 
 from __future__ import annotations
 
@@ -12,6 +15,7 @@ from hypothesis import Phase, settings
 TOP = Path(__file__).resolve().parents[2]
 CASES = TOP / "checks" / "cases"
 EXAMPLES = TOP / "examples"
+NAMED = os.environ.get("COGMAULA_MARKET") or str(TOP)
 
 # The package of this checkout, and the plain auction by which texts are worked out without the program.
 FOLDERS = ("python", "", "python/tests")
@@ -25,24 +29,28 @@ settings.load_profile("market")
 
 @pytest.fixture(scope="session")
 def program():
-    """The proved program of the checkout. Without one, the tests that run it are skipped."""
+    """The proved program. Without one, the tests that run it are skipped."""
+    return found_or_skipped(NAMED)
+
+
+@pytest.fixture(scope="session")
+def checkout():
+    """The proved program of the checkout. Without one, the tests of how it is found are skipped."""
+    return found_or_skipped(TOP)
+
+
+def found_or_skipped(path):
     from cogmaula import NoProgram, Program
 
     try:
-        return Program.find(TOP)
+        return Program.find(path)
     except NoProgram as error:
         pytest.skip(str(error))
 
 
 @pytest.fixture(scope="session", autouse=True)
 def named_program():
-    """Calls without a program find that of the checkout."""
-    from cogmaula.program import VARIABLE, found_program
-
-    before = os.environ.get(VARIABLE)
-    os.environ[VARIABLE] = str(TOP)
-    found_program.cache_clear()
-    yield
-    os.environ.pop(VARIABLE)
-    if before is not None:
-        os.environ[VARIABLE] = before
+    """Calls without a program find the same one."""
+    with pytest.MonkeyPatch.context() as patch:
+        patch.setenv("COGMAULA_MARKET", NAMED)
+        yield

@@ -37,21 +37,21 @@ def pretending(tmp_path, status, text=b"", said=""):
 # Where it is found.
 
 
-def test_a_checkout(program):
-    assert program.answer("run", FILE) == REPORT
-    assert "a proved program is at hand" in program.found
+def test_a_checkout(checkout):
+    assert checkout.answer("run", FILE) == REPORT
+    assert "a proved program is at hand" in checkout.found
     for path in (TOP, TOP / "market", TOP / "crates/market/out/market"):
-        assert Program.find(path) == program
+        assert Program.find(path) == checkout
 
 
-def test_the_variable(program, monkeypatch):
+def test_the_variable(checkout, monkeypatch):
     monkeypatch.setenv(VARIABLE, str(TOP))
-    assert Program.find() == program
+    assert Program.find() == checkout
     monkeypatch.setenv(VARIABLE, "/nowhere/market")
     with pytest.raises(NoProgram, match="/nowhere/market does not exist"):
         Program.find()
     # What is given comes first.
-    assert Program.find(TOP) == program
+    assert Program.find(TOP) == checkout
 
 
 def unproved_checkout(folder):
@@ -85,10 +85,10 @@ def test_a_checkout_on_the_path_is_looked_at_as_one(tmp_path, monkeypatch):
         Program.find()
 
 
-def test_the_checkout_of_the_package(program, tmp_path, monkeypatch):
+def test_the_checkout_of_the_package(checkout, monkeypatch):
     monkeypatch.delenv(VARIABLE)
     monkeypatch.setenv("PATH", "/usr/bin:/bin")
-    assert Program.find() == program
+    assert Program.find() == checkout
 
 
 def test_another_command_of_the_name(tmp_path, monkeypatch):
