@@ -256,6 +256,7 @@ ExecStart=$1/libexec/market/market serve" ]
 
 papers_agree() {
     grep -qx "version: $version" CITATION.cff || { echo "CITATION.cff has another version"; return 1; }
+    grep -qx "version = \"$version\"" python/pyproject.toml || { echo "python/pyproject.toml has another version"; return 1; }
     local day
     day="$(awk '/^date-released: / { gsub("\"", ""); print $2 }' CITATION.cff)"
     grep -qxF "## [$version] - $day" CHANGELOG.md || { echo "CHANGELOG.md has no release $version of $day"; return 1; }
