@@ -153,6 +153,9 @@ FAULTS = [
     ("a negative power", '"discharge": 1000', '"discharge": ^-1000', 13, "from 0 to 1,000,000,000"),
     ("a slip in an event", '"state": "house"', '"state": ^"huose"', 14, "likely:  house"),
     ("a state before the join", '{"join": "store"}, ', '{"state": ^"house", "value": 1}, {"join": "store"}, ', 16, "it never joined"),
+    ("a second join", '{"state": "house", "value": 500}', '{"join": ^"house"}', 15, "is joined already, by event 2 of phase 1"),
+    ("a second leave", '{"leave": "flex"}]', '{"leave": "flex"}, {"leave": ^"flex"}]', 16, "it left by event 2 of phase 3"),
+    ("a concentrator in an event", '{"leave": "flex"}', '{"leave": ^"feeder"}', 14, "a limited concentrator, and no device"),
     ("a bid that rises", "[80, 0]", "[80, ^700]", 18, "a power of at most 600"),
     ("more than the battery holds", '"start": 2500', '"start": ^5001', 19, "from 0 to 5,000, in watt-hours"),
 ]
@@ -172,6 +175,12 @@ def test_faults_as_users_make_them(name, old, new, code, words):
     if "^" in new:
         at = FILE.index(old) + new.index("^")
         assert (told.line, told.column) == line_and_column(text, at)
+
+
+def test_a_device_is_not_offered_for_a_parent():
+    text = FILE.replace('"parent": "auctioneer", "points"', '"parent": "hous", "points"')
+    told = explain(text.encode())
+    assert (told.code, told.likely) == (9, None)
 
 
 def test_the_text_of_an_explanation():

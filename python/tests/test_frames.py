@@ -125,7 +125,8 @@ def test_a_device_called_grid_keeps_its_row():
 
 
 def test_amounts_past_64_bits():
-    most = 1_000_000_000
+    # A float would lose its last digits.
+    most = 999_999_999
     phases = [Events([Join("house")]), *[Tick(1440)] * 10]
     done = run(Cluster(Basis(0, most, 2), [Load("house", start=most)], phases))
     assert done.accounts.loc[("device", "house"), "amount"] == most * most * 14_400

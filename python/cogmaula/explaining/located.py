@@ -187,8 +187,7 @@ class Reader:
                 raise self._misses("a colon behind the name of the member")
             self.at += 1
             value = self._value(depth + 1)
-            # The last of several counts, and stands where it was read.
-            members.pop(name.value, None)
+            # The last of several counts.
             members[name.value] = Member(name.value, name.at, name.end, value)
             if self._ends("}", "a comma or the } that ends the object"):
                 return Value(at, self.at, "object", members=members)
