@@ -43,7 +43,8 @@ def test_a_run_is_looked_at(monkeypatch, capsys):
     pytest.importorskip("pandas")
     monkeypatch.chdir(TOP)
     exec(block_with('day = run("examples'), {})
-    assert "minutes" in capsys.readouterr().out
+    written = [it.split() for it in capsys.readouterr().out.splitlines()]
+    assert written == [it.split() for it in block_with("2000 Wh are left").splitlines()]
 
 
 def test_a_refused_file_is_explained(street, capsys):
