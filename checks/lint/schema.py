@@ -95,6 +95,20 @@ def slips():
             # Without `demand` and `points` the form is that of points.
             missing = missing.replace("'demand'", "'points'")
             yield f"{kind} with {slip}", members.with_node(wrong), {missing} if name == "kind" else {missing, unknown}
+    right = members.with_node(members.node_of("load", {"start": 10}))
+    state, lacks_state, lacks_value = {"state": "node1", "value": 1}, "'state' is a required property", "'value' is a required property"
+    yield "phases with phsaes", {**without(right, "phases"), "phsaes": []}, {"'phases' is a required property", "'phsaes' was unexpected"}
+    yield "a basis with setps", {**right, "basis": {"min": 0, "max": 9, "setps": 10}}, {"'steps' is a required property", "'setps' was unexpected"}
+    yield "a tick with tcik", {**right, "phases": [{"tcik": 15}]}, {"'tick' is a required property", "'tcik' was unexpected"}
+    # Without any of the words that tell the form of an event, the form is that of a state with a value.
+    yield "a join with jion", members.with_event({"jion": "node1"}), {lacks_state, lacks_value, "'jion' was unexpected"}
+    yield "a value with vlaue", members.with_event({**without(state, "value"), "vlaue": 1}), {lacks_value, "'vlaue' was unexpected"}
+    yield "a join and a tick", {**right, "phases": [{"events": [], "tick": 15}]}, {"'tick' was unexpected"}
+
+
+def without(value, name):
+    """The object without a member."""
+    return {it: value[it] for it in value if it != name}
 
 
 def findings_of(check, file):

@@ -17,6 +17,8 @@ from .program import VARIABLE, Program
 
 # The exit status of a command that could not do its work, and of one whose file is refused, too long, invalid or no cluster file.
 FAILED, REFUSED = 1, 5
+# The code of a refusal for too many phases, events or changes.
+TOO_MANY = 20
 
 
 class Command(Protocol):
@@ -94,6 +96,10 @@ def main(words: Sequence[str] | None = None) -> int:
 def hint_of(arguments: argparse.Namespace, error: MarketError) -> str:
     """What to do about a refused file, if the command was given one."""
     file = getattr(arguments, "file", None)
-    if not isinstance(error, Refused | Unreadable) or not isinstance(file, str):
+    if not isinstance(file, str):
         return ""
-    return f"\ncogmaula: cogmaula explain {file} says where and why"
+    if isinstance(error, TooLong) or (isinstance(error, Refused) and error.code == TOO_MANY):
+        return f"\ncogmaula: cogmaula chain {file} runs a script that is too long for one run"
+    if isinstance(error, Refused | Unreadable):
+        return f"\ncogmaula: cogmaula explain {file} says where and why"
+    return ""

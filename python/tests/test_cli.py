@@ -93,6 +93,20 @@ def test_a_refused_file(tmp_path, capsys):
     assert f"cogmaula explain {file}" in told
 
 
+def test_a_script_that_is_too_long(tmp_path, capsys):
+    file = tmp_path / "long.json"
+    cluster = Cluster.load(VILLAGE)
+    cluster.with_script([Events()] * 1_001).save(file)
+    assert main(["run", str(file)]) == 5
+    assert capsys.readouterr().err.splitlines() == [
+        "cogmaula: refused 20 document",
+        f"cogmaula: cogmaula chain {file} runs a script that is too long for one run",
+    ]
+    file.write_bytes(b" " * 4_194_305)
+    assert main(["run", str(file)]) == 5
+    assert f"cogmaula chain {file}" in capsys.readouterr().err
+
+
 def test_explain(tmp_path, capsys):
     file = slip(tmp_path)
     assert main(["explain", str(file)]) == 5
