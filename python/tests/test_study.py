@@ -113,7 +113,7 @@ def test_the_example_of_the_page_runs(tmp_path: Path, program: Program) -> None:
     for name, power in (("a", 0), ("b", 100)):
         house(power).save(tmp_path / f"{name}.json")
     (tmp_path / "script.py").write_text(textwrap.dedent(code) + "\nprint([it.result for it in outcomes])\n")
-    environment = {**os.environ, "PYTHONPATH": str(TOP / "python"), "COGMAULA_MARKET": str(TOP)}
+    environment = {**os.environ, "PYTHONPATH": str(TOP / "python"), "COGMAULA_MARKET": program.path}
     told = subprocess.run([sys.executable, "script.py"], cwd=tmp_path, env=environment, capture_output=True, text=True, check=False)
     assert told.stdout == "[0, 9]\n", told.stderr
 
