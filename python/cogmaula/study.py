@@ -148,7 +148,8 @@ def study(
     processes: how many processes share the work; as many as the machine has processors if it is not given
     client:    a `distributed.Client`: its workers share the work, on whatever machines they are. They are sent the files, and
                need this package and a proved program. `processes` counts for nothing then
-    program:   the proved program, or its path. If it is not given, each process finds one
+    program:   the proved program of this machine, or a path, which each worker looks up on its own machine. If it is not given,
+               each process finds one
     quiet:     whether no progress is told on standard error
 
     A cluster that is refused or cannot be read has an outcome with its fault, and ends nothing. Results do not depend on the
@@ -160,7 +161,7 @@ def study(
 
 
 def _job_of(at: int, source: Source, work: Work[T], program: Program | str | None, is_far: bool) -> _Job[T]:
-    """The job of a source. A far worker cannot read a file of this machine, so it is sent the bytes, and finds its own program."""
+    """The job of a source. A far worker cannot read a file of this machine, so it is sent the bytes."""
     if isinstance(source, Cluster | bytes):
         return _Job(str(at), bytes_of(source), work, program)
     name = os.fspath(source)

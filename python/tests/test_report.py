@@ -5,11 +5,13 @@ from __future__ import annotations
 import json
 import re
 import sys
+import textwrap
 from dataclasses import replace
 from datetime import datetime
 from fractions import Fraction
 from html.parser import HTMLParser
 from pathlib import Path
+from typing import Any
 
 import pytest
 from hypothesis import given, settings
@@ -18,7 +20,7 @@ from clusters import clusters
 from cogmaula import Account, Basis, Cluster, Events, Join, Limited, Load, Manual, NoPackage, Program, Refused, Run, State, Tick, bill, run
 from cogmaula import cli
 from cogmaula.continuing import continued
-from cogmaula.report import Currency, bills_of, flexibility_of, groups_of
+from cogmaula.report import Currency, bills_of, flexibility_of, frame_of, groups_of
 from cogmaula.report.bills import add_up, sum_of
 from cogmaula.report.flexibility import MOST_TARGET
 from cogmaula.report.limits import Violation
@@ -112,6 +114,29 @@ def test_bills_of_spans_are_those_of_an_independent_program(program: Program, cl
             found = span.bill.devices[name] if line.startswith("account") else span.bill.grid
             assert sum_of([found, then]) == now
         assert (span.begin, span.end) == (begin, end)
+
+
+def test_a_frame_has_a_row_for_each_account_of_each_span(program: Program) -> None:
+    """Worked by hand: the house takes 500 W for 30 minutes and 1,500 W for 60, then 2,000 W for 15, at price 9; the grid gives it."""
+    start = datetime(2026, 6, 21)
+    frame = frame_of(bills_of(run(FEEDER, program=program), 60), start)
+    first, last = datetime(2026, 6, 21, 1, 30), datetime(2026, 6, 21, 2)
+    assert list(frame.columns) == ["amount", "taken_Wmin", "given_Wmin"] and len(frame) == 6
+    assert list(frame.loc[(start, first, "device", "house")]) == [105_000 * 9, 105_000, 0]
+    assert list(frame.loc[(start, first, "grid", "")]) == [-105_000 * 9, 0, 105_000]
+    assert list(frame.loc[(first, last, "device", "house")]) == [30_000 * 9, 30_000, 0]
+    assert len(frame_of([], start)) == 0 and list(frame_of([], start).index.names) == ["begin", "end", "party", "name"]
+
+
+def test_the_notebook_of_the_page_runs(tmp_path: Path, program: Program, monkeypatch: pytest.MonkeyPatch) -> None:
+    """The code of docs/REPORTS.md, on the feeder's file: two hours and ten minutes are three spans of a device and the grid."""
+    FEEDER.save(tmp_path / "day.json")
+    monkeypatch.chdir(tmp_path)
+    page = (TOP / "docs" / "REPORTS.md").read_text()
+    begin = page.index("    from datetime import datetime\n")
+    names: dict[str, Any] = {}
+    exec(textwrap.dedent(page[begin : page.index("\n\n### ", begin)]), names)
+    assert len(names["hours"]) == 6
 
 
 def test_bills_that_do_not_add_up_are_seen(program: Program) -> None:

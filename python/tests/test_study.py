@@ -108,7 +108,7 @@ def test_a_summary_is_what_an_independent_auction_gives(program: Program, cluste
 def test_the_example_of_the_page_runs(tmp_path: Path, program: Program) -> None:
     """The code of docs/REPORTS.md, as a script of its own: the highest price of a file is that of its report."""
     page = (TOP / "docs" / "REPORTS.md").read_text()
-    begin = page.index("    from cogmaula import run\n")
+    begin = page.index("    from cogmaula import run\n    from cogmaula.study")
     code = page[begin : page.index("\n\nEach outcome", begin)]
     for name, power in (("a", 0), ("b", 100)):
         house(power).save(tmp_path / f"{name}.json")

@@ -10,9 +10,12 @@ import itertools
 from collections.abc import Iterable, Iterator
 from concurrent.futures import ThreadPoolExecutor
 from dataclasses import dataclass
+from datetime import datetime, timedelta
 from fractions import Fraction
 from queue import SimpleQueue
+from typing import Any
 
+from .. import frames
 from ..calls import bill
 from ..cluster import Cluster
 from ..continuing import resumed
@@ -77,6 +80,26 @@ def bills_of(run: Run, minutes: int, runs: int | None = None) -> Iterator[Span]:
             yield Span(begin, end, one)
     if spans and not add_up(found, whole.result()):
         raise ProgramFault("the bills of the spans do not add up to the bill of the run")
+
+
+def frame_of(spans: Iterable[Span], start: datetime) -> Any:
+    """The bills of spans as a data frame, which needs pandas: a row for each span and device, and one for the grid.
+
+    start: the moment before the first phase
+
+    The index has the levels begin, end (moments), party (device or grid) and name. The columns are those of `Run.accounts`: amount in
+    price units times watts times minutes, as Python's whole numbers, and taken_Wmin and given_Wmin as int64.
+
+    Raises NoPackage without pandas.
+    """
+    pd = frames.pandas()
+    parts = [
+        frames.accounts(it.bill).assign(begin=start + timedelta(minutes=it.begin), end=start + timedelta(minutes=it.end))
+        for it in spans
+    ]
+    if not parts:
+        parts = [frames.accounts(Bill({}, Account(0, 0, 0), 0, 0)).iloc[:0].assign(begin=start, end=start)]
+    return pd.concat(parts).set_index(["begin", "end"], append=True).reorder_levels(["begin", "end", "party", "name"])
 
 
 def scripts_of(run: Run, firsts: Iterable[int], lasts: Iterable[int]) -> Iterator[Cluster]:
