@@ -25,6 +25,8 @@ from .svg import COLOURS, LIMIT, LINE, SETTINGS, new_figure
 MOST_STACKED = 8
 # So many limited groups' prices are drawn beside that of the market.
 MOST_LINES = 7
+# So many names are beside each other above a figure.
+MOST_BESIDE = 3
 # Up to so many rows a heat map names each.
 MOST_NAMED = 60
 
@@ -67,6 +69,19 @@ def timed_axes(hours: Hours, **edges: float) -> tuple[Figure, Axes]:
     return figure, axes
 
 
+def legend_above(many: int) -> dict[str, float]:
+    """The height of a figure over hours with so many names above its axes, and their upper edge."""
+    rows = -(-many // MOST_BESIDE)
+    high = 3.1 + 0.24 * rows
+    return {"high": high, "bottom": 0.45 / high, "top": 1 - (0.1 + 0.24 * rows) / high}
+
+
+def put_legend(axes: Axes) -> None:
+    """Puts the names above axes, where they hide nothing."""
+    axes.legend(fontsize=10, loc="lower left", bbox_to_anchor=(-0.03, 1), ncols=MOST_BESIDE, frameon=False, columnspacing=1.2,
+                handlelength=1.4, borderaxespad=0.1)
+
+
 def set_hours(axes: Axes, hours: Hours) -> None:
     """Puts the hours below axes, at most nine of them."""
     last = hours.edges[-1]
@@ -85,8 +100,8 @@ def set_powers(axes: Axes) -> None:
 
 def draw_prices(hours: Hours, market: Sequence[int], groups: Mapping[str, Sequence[int]], unit: str) -> Figure:
     """The price of the market, and of the first limited groups whose price differs from it at some time."""
-    figure, axes = timed_axes(hours)
     own = {name: it for name, it in groups.items() if list(it) != list(market)}
+    figure, axes = timed_axes(hours, **(legend_above(1 + min(len(own), MOST_LINES)) if own else {}))
     for at, (name, prices) in enumerate(list(own.items())[:MOST_LINES]):
         axes.stairs(prices, hours.edges, baseline=None, color=COLOURS[at % 8], linewidth=1.2, label=f"below {name}")
     axes.stairs(market, hours.edges, baseline=None, color=LINE, linewidth=1.8, label="market")
@@ -95,7 +110,7 @@ def draw_prices(hours: Hours, market: Sequence[int], groups: Mapping[str, Sequen
     axes.yaxis.set_major_locator(MaxNLocator(6, integer=True))
     axes.margins(y=0.1)
     if own:
-        axes.legend(fontsize=10, loc="best", framealpha=0.85)
+        put_legend(axes)
     return figure
 
 
@@ -139,7 +154,7 @@ def draw_powers(hours: Hours, powers: Mapping[str, Sequence[int]]) -> Figure:
 
 def draw_stack(hours: Hours, powers: Mapping[str, Sequence[int]]) -> Figure:
     """The powers of a few devices, one on another."""
-    figure, axes = timed_axes(hours, left=0.16)
+    figure, axes = timed_axes(hours, left=0.16, **legend_above(len(powers)))
     count = len(hours.edges) - 1
     up, down = numpy.zeros(count), numpy.zeros(count)
     for at, (name, row) in enumerate(powers.items()):
@@ -150,7 +165,7 @@ def draw_stack(hours: Hours, powers: Mapping[str, Sequence[int]]) -> Figure:
         up, down = up + taken, down + given
     set_powers(axes)
     axes.margins(y=0.1)
-    axes.legend(fontsize=9, loc="best", framealpha=0.85, ncols=2)
+    put_legend(axes)
     return figure
 
 

@@ -41,6 +41,7 @@ tr.sum > * { border-top: 2px solid var(--line); font-weight: 600; position: stic
 caption { caption-side: top; position: sticky; left: 0; white-space: normal; max-width: 80vw; }
 summary { cursor: pointer; padding: .4rem 0; color: #00548a; }
 footer { margin-top: 2.5rem; border-top: 1px solid var(--line); font-size: .85rem; color: var(--soft); overflow-wrap: anywhere; }
+@media (max-width: 30rem) { th, td { padding: .2rem .35rem; } thead th { min-width: 3.5rem; } }
 @media print { .wide { overflow: visible; max-height: none; } nav { display: none; } }
 """.strip()
 
