@@ -1,10 +1,12 @@
 #!/usr/bin/env python3
-"""Measures the Python package: the report of a day of 200 devices, and a study of 1,000 files over 1 to 4 processes.
+"""Measures the Python package: the report of a day of 200 devices, a study of 1,000 files over 1 to 4 processes, and a month.
 
     python3 bench/python_package.py report         makes the day and its report, five times
     python3 bench/python_package.py study [MANY]   makes so many files and runs them over 1, 2, 3 and 4 processes
+    python3 bench/python_package.py month          makes a month of 156 devices, and runs it day by day
 
-It needs the proved program of this checkout and matplotlib. It prints a line for each measurement, with the load of the machine.
+It needs matplotlib, and the proved program of this checkout or the one that COGMAULA_MARKET names. It prints a line for each
+measurement, with the load of the machine.
 """
 
 import os
@@ -20,7 +22,7 @@ from pathlib import Path
 TOP = Path(__file__).resolve().parent.parent
 sys.path.insert(0, str(TOP / "python"))
 
-from cogmaula import Basis, Battery, Cluster, Events, Limited, Load, Manual, Node, Program, Solar, State, Tick
+from cogmaula import Basis, Battery, Cluster, Events, Limited, Load, Manual, Node, Program, Solar, State, Tick, parts_of
 from cogmaula.study import study
 
 # The quarters of an hour of a day, and of each file of a study.
@@ -72,6 +74,21 @@ def measure_report(folder: Path) -> None:
         print(f"report of 200 devices over {DAY} ticks: {took:.2f} s, {used:.2f} s of a processor, {page.stat().st_size:,} bytes, {load()}")
 
 
+def measure_month(folder: Path) -> None:
+    """A month of 156 devices in quarters of an hour, cut into days, with all its tables."""
+    file, program = folder / "month.json", os.environ.get("COGMAULA_MARKET") or str(TOP)
+    month = script_of(155, 30 * DAY, 1)
+    month.save(file)
+    words = [sys.executable, "-m", "cogmaula", "chain", str(file), "--minutes", "1440", "-o", str(folder / "tables"), "--program", program]
+    begun, used = time.monotonic(), processor_time()
+    subprocess.run(words, cwd=TOP / "python", check=True)
+    took, used = time.monotonic() - begun, processor_time() - used
+    rows = (folder / "tables" / "prices.csv").read_text().count("\n") - 1
+    assert rows == len(month.phases)
+    told = f"{rows} phases in {len(list(parts_of(month, 1440)))} parts, {file.stat().st_size:,} bytes"
+    print(f"month of 156 devices: {took:.1f} s, {used:.1f} s of a processor, {told}, {load()}")
+
+
 def files_of(folder: Path, many: int) -> Iterator[Path]:
     """So many files of 20 devices and six hours each."""
     for at in range(many):
@@ -102,6 +119,8 @@ def main() -> int:
                 measure_report(Path(folder))
             case ["study"]:
                 measure_study(Path(folder), 1000)
+            case ["month"]:
+                measure_month(Path(folder))
             case ["study", many] if many.isdigit():
                 measure_study(Path(folder), int(many))
             case _:

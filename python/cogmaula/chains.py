@@ -55,7 +55,8 @@ def _head_size(cluster: Cluster) -> int:
     largest: dict[str, int] = {}
     for phase in cluster.phases:
         for event in phase.events if isinstance(phase, Events) else ():
-            if isinstance(event, State):
+            # A number of a start is short, and a bid may be long.
+            if isinstance(event, State) and event.value is None:
                 largest[event.device] = max(largest.get(event.device, 0), len(json.dumps(event.members())))
     return len(cluster.with_script([cluster.join_all()]).to_bytes()) + sum(largest.values()) + 32 * len(cluster.nodes)
 
