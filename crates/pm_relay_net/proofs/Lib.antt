@@ -4,3 +4,4 @@ mod ComingUp
 mod Learning
 mod Sending
 mod TakingPrices
+mod Elsewhere

@@ -150,3 +150,16 @@ module _ (lists : Lists) (numbering : Numbering) (is : IsNumbering lists numberi
         | inr ne ↦ let at = is.child_is y k inside ne in
             ap (λ (m : BidMessage). cond (eqb (numbering.child y k) 0) nothing_sent (bid_head m)) (each (numbering.child y k) at.0 at.1)
       ])
+
+  -- the demands of y in them
+  pub demands_of-same : (steps y : ℕ) (a b : ℕ → BidMessage) → ((x : ℕ) → IsNode lists x → parent lists x ≡ y → a x ≡ b x) →
+      demands_of steps numbering y (λ z. (a z).demand) ≡ demands_of steps numbering y (λ z. (b z).demand)
+  unfolding demands_of
+  demands_of-same steps y a b each =
+      same_by (demand_in steps numbering y (λ z. (a z).demand)) (demand_in steps numbering y (λ z. (b z).demand)) most_nodes [] (λ k inside.
+      elim (cases_eq (numbering.child y k) 0) [
+        | inl e ↦ cond-true (eqb (numbering.child y k) 0) (zeros steps) (a (numbering.child y k)).demand (eq-eqb (numbering.child y k) 0 e)
+            ∙ sym (cond-true (eqb (numbering.child y k) 0) (zeros steps) (b (numbering.child y k)).demand (eq-eqb (numbering.child y k) 0 e))
+        | inr ne ↦ let at = is.child_is y k inside ne in
+            ap (λ (m : BidMessage). cond (eqb (numbering.child y k) 0) (zeros steps) m.demand) (each (numbering.child y k) at.0 at.1)
+      ])

@@ -21,6 +21,7 @@ ghost use Rattle.pm_net_plan.specs.Places.{Numbering, IsNumbering};
 ghost use Rattle.pm_relay.specs.Relays.{RelayValue, newest_bid_number, ComesBack, with_child_bid, LooksForRecord, BidSent, NotSent, TakesPrice};
 ghost use Rattle.pm_relay.specs.declared.fault.SendFault.{SendFault};
 ghost use Rattle.pm_relay.specs.declared.outcome.PriceOutcome.{PriceOutcome};
+ghost use Rattle.pm_relay_net.specs.Elsewhere.{IsElsewhere};
 ghost use Rattle.pm_relay_net.specs.Heads.{AddsByPlaces};
 ghost use Rattle.pm_relay_net.specs.RelayIs.{RelayIs, told_demand, update_of, prices_down};
 
@@ -90,4 +91,12 @@ pub fn relays_take_prices()
         (network_step lists p net (Event.TakesPrice c k)).prices_sent x
         ≡ net.prices_sent x
         ++ prices_down old (update_of (sent_price net c k)) outcome (numbering.place x)) }
+{}
+
+/// A law: a relay stays what the network has of its node over each event that happens elsewhere.
+pub fn relays_are_left_alone()
+    ensures { (lists : Lists) (p : Pricing) (numbering : Numbering) (net : Network) (c : ℕ)
+        (r : RelayValue) (e : Event) → IsNumbering lists numbering → IsConcentrator lists c →
+        RelayIs p numbering net c r → IsElsewhere lists c e →
+        RelayIs p numbering (network_step lists p net e) c r }
 {}
