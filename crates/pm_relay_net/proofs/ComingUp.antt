@@ -1,6 +1,6 @@
 -- A relay comes up, for the first time or after a restart.
-use Rattle.std.proofs.Common.{◌≡◌, ◌∙◌, sym, ap, subst, ℕ, ◌+◌, ◌-◌, ◌<◌, ◌≤◌, ℤ, Bool, true, false, cond}
-use Rattle.std.proofs.Common.{eqb, List, [], length, get_or, arith}
+use Rattle.std.proofs.Common.{◌≡◌, ◌∙◌, sym, ap, ℕ, ◌+◌, ◌-◌, ◌<◌, ◌≤◌, cond}
+use Rattle.std.proofs.Common.{eqb, List, length, arith}
 use Rattle.std.proofs.Common.{inl, inr, replicate, refl, Some}
 use Rattle.std.proofs.lemmas.Bool.{cases_eq, cond-true, cond-false, eq-eqb, ne_eqb}
 use Rattle.std.proofs.lemmas.List.{get_or-replicate, length-replicate}
@@ -16,12 +16,12 @@ use Rattle.pm_net.specs.Pricing.{Pricing}
 use Rattle.pm_net.specs.Messages.{BidMessage, PriceMessage, nothing_heard}
 use Rattle.pm_net.specs.Network.{Network, start_network}
 use Rattle.pm_net.specs.Restarts.{stored_price, records_left, number_alone, nothing_left, after_restart}
-use Rattle.pm_net_plan.specs.Places.{Numbering, IsNumbering, demand_in, demands_of}
+use Rattle.pm_net_plan.specs.Places.{Numbering, IsNumbering, demands_of}
 use Rattle.pm_relay.specs.Numbers.{child_number, head_number}
 use Rattle.pm_relay.specs.Relays.{RelayValue, newest_bid_number, ComesBack}
-use Rattle.pm_relay_net.specs.Heads.{bid_head, head_in, heads_of}
+use Rattle.pm_relay_net.specs.Heads.{bid_head, heads_of}
 use Rattle.pm_relay_net.specs.RelayIs.{MatchesNode, RelayIs}
-use Rattle.pm_relay_net.proofs.Places.{heads_of-at, heads_of-none, demands_of-none}
+use Rattle.pm_relay_net.proofs.Places.{heads_of-none, demands_of-none}
 use Rattle.pm_relay_net.proofs.Matching.{same_numbers}
 
 -- the heads of y and its demands where nothing was heard of its children

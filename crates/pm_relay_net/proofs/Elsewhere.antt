@@ -1,7 +1,6 @@
 -- What happens elsewhere leaves a relay what it is.
 use Rattle.std.proofs.Common.{◌≡◌, ◌∙◌, sym, ap, ℕ, ◌+◌, ◌-◌, cond, eqb, leb, Some, refl, arith}
-use Rattle.std.proofs.lemmas.Bool.{cases_eq, cond-false, cond-true, eq-eqb, ne_eqb}
-use Rattle.pm_base.specs.Limits.{most_nodes}
+use Rattle.std.proofs.lemmas.Bool.{cond-false, ne_eqb}
 use Rattle.pm_bid.specs.Limited.{within_limits}
 use Rattle.pm_market.specs.Lists.{Lists, parent, is_leaf, IsNode, IsConcentrator}
 use Rattle.pm_market.specs.State.{update}
@@ -17,11 +16,11 @@ use Rattle.pm_net.specs.Restarts.{stored_price}
 use Rattle.pm_net.specs.Events.{Event, may_bid, network_step, Bids, TakesBid, Sends, Clears, TakesPrice, Restarts, Rebuilds, StopsBidding}
 use Rattle.pm_net.specs.Events.{Resends, PassesToOne, StopsClearing, TellsOne}
 use Rattle.pm_net.proofs.Messages.{either}
-use Rattle.pm_net_plan.specs.Places.{Numbering, IsNumbering, demands_of, demand_in}
+use Rattle.pm_net_plan.specs.Places.{Numbering, IsNumbering}
 use Rattle.pm_relay.specs.Numbers.{head_number}
 use Rattle.pm_relay.specs.Relays.{RelayValue}
 use Rattle.pm_relay_net.specs.Heads.{heads_of}
-use Rattle.pm_relay_net.specs.RelayIs.{MatchesNode, RelayIs, recorded_sum}
+use Rattle.pm_relay_net.specs.RelayIs.{MatchesNode, RelayIs}
 use Rattle.pm_relay_net.specs.Elsewhere.{IsElsewhere}
 use Rattle.pm_relay_net.proofs.Places.{heads_of-same, demands_of-same}
 

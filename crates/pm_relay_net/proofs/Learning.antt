@@ -1,7 +1,7 @@
 -- A relay learns a child's bid, and may have its record again.
-use Rattle.std.proofs.Common.{◌≡◌, ◌∙◌, sym, ap, subst, ℕ, ◌+◌, ◌-◌, ◌<◌, ◌≤◌, ℤ, Bool, true, false, cond}
+use Rattle.std.proofs.Common.{◌≡◌, ◌∙◌, sym, ap, subst, ℕ, ◌+◌, ◌-◌, ◌<◌, ℤ, Bool, true, false}
 use Rattle.std.proofs.Common.{leb, ltb, List, length, get_or, arith}
-use Rattle.std.proofs.Common.{inl, inr, refl, Some, None, Option, ◌⊎◌, not, ◌&&◌, [], ◌∷◌}
+use Rattle.std.proofs.Common.{inl, inr, refl, Some, None, ◌⊎◌, not, [], ◌∷◌}
 use Rattle.std.specs.Prelude.{if◌then◌else◌}
 use Rattle.std.proofs.lemmas.Bool.{cases_lt, cond-true, cond-false, lt-ltb, le-leb, ltb-true, leb-true, and_from, and_parts, not_from_false}
 use Rattle.std.proofs.lemmas.Bool.{false_from_ne_true}
@@ -26,12 +26,12 @@ use Rattle.pm_net.specs.Restarts.{can_rebuild, after_rebuilding}
 use Rattle.pm_net.specs.Events.{network_step, network_after, TakesBid, Rebuilds}
 use Rattle.pm_net.proofs.Messages.{two_same}
 use Rattle.pm_net.proofs.News.{level}
-use Rattle.pm_net_plan.specs.Places.{Numbering, IsNumbering, demands_of}
+use Rattle.pm_net_plan.specs.Places.{Numbering, IsNumbering}
 use Rattle.pm_relay.specs.Numbers.{child_number, head_number}
 use Rattle.pm_relay.specs.Relays.{RelayValue, with_child_bid, HearsItsRecord, RecordRebuilt, LooksForRecord}
 use Rattle.pm_relay_net.specs.Heads.{bid_head, heads_of, AddsByPlaces}
 use Rattle.pm_relay_net.specs.RelayIs.{MatchesNode, RelayIs, told_demand}
-use Rattle.pm_relay_net.proofs.Places.{head_there, heads_set, demands_set, length-heads_of}
+use Rattle.pm_relay_net.proofs.Places.{head_there, heads_set, demands_set}
 use Rattle.pm_relay_net.proofs.Matching.{caught_to, over_to, sum_is}
 
 entered_is : (cache : Cache) (k n : ℕ) (g : Bool) (d : List ℤ) → (g ≡ true → d ≡ zeros cache.steps) →

@@ -1,9 +1,8 @@
 -- What a relay that matches a node says of the node.
-use Rattle.std.proofs.Common.{◌≡◌, ◌∙◌, sym, ap, subst, ℕ, ◌+◌, ◌-◌, ◌<◌, ◌≤◌, ℤ, Bool, true, false, cond}
-use Rattle.std.proofs.Common.{not, eqb, leb, List, length, get_or, arith}
-use Rattle.std.proofs.Common.{inl, inr, replicate, refl}
+use Rattle.std.proofs.Common.{◌≡◌, ◌∙◌, sym, ap, ℕ, ◌<◌, ◌≤◌, true, false}
+use Rattle.std.proofs.Common.{not, eqb, leb, List, arith}
+use Rattle.std.proofs.Common.{inl, inr}
 use Rattle.std.proofs.lemmas.Bool.{cases_eq, cond-true, cond-false, eq-eqb, ne_eqb, leb-true, le-leb}
-use Rattle.std.proofs.lemmas.List.{get_or-replicate}
 use Rattle.pm_base.specs.Limits.{most_nodes}
 use Rattle.pm_bid.specs.Bids.{sum_of}
 use Rattle.pm_bid.specs.Heads.{nothing_sent}
@@ -18,9 +17,9 @@ use Rattle.pm_net.proofs.News.{child_from, child_at}
 use Rattle.pm_net_plan.specs.Places.{Numbering, IsNumbering}
 use Rattle.pm_relay.specs.Numbers.{child_number, head_number}
 use Rattle.pm_relay.specs.Relays.{RelayValue, IsCaughtUp, HearsNothingNewer}
-use Rattle.pm_relay_net.specs.Heads.{bid_head, head_in, heads_of, AddsByPlaces}
+use Rattle.pm_relay_net.specs.Heads.{bid_head, heads_of, AddsByPlaces}
 use Rattle.pm_relay_net.specs.RelayIs.{MatchesNode}
-use Rattle.pm_relay_net.proofs.Places.{length-heads_of, heads_of-at, head_there, in_each_place}
+use Rattle.pm_relay_net.proofs.Places.{heads_of-at, head_there, in_each_place}
 
 -- the number in a place without a child is 0
 pub none_there : (numbering : Numbering) (c k : ℕ) (bids : ℕ → BidMessage) → k < most_nodes → numbering.child c k ≡ 0 →

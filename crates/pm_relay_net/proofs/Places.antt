@@ -10,7 +10,6 @@ use Rattle.std.proofs.lemmas.List.FromFn.{get_or-map-range_with_len, length-map-
 use Rattle.pm_base.specs.Limits.{most_nodes}
 use Rattle.pm_bid.specs.Bids.{zeros}
 use Rattle.pm_bid.specs.Heads.{nothing_sent}
-use Rattle.pm_bid.specs.declared.head.BidHead.{BidHead}
 use Rattle.pm_market.specs.Lists.{Lists, parent, IsNode}
 use Rattle.pm_market.specs.State.{update}
 use Rattle.pm_market.proofs.Cuts.{updated_same, updated_other}

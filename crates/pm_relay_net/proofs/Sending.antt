@@ -1,7 +1,7 @@
 -- A relay sends a bid, refuses to, or sends its newest one again.
-use Rattle.std.proofs.Common.{◌≡◌, ◌∙◌, sym, ap, subst, ℕ, ◌+◌, ◌-◌, ◌<◌, ◌≤◌, ℤ, Bool, true, false, cond}
+use Rattle.std.proofs.Common.{◌≡◌, ◌∙◌, sym, ap, subst, ℕ, ◌+◌, ◌-◌, ◌<◌, ◌≤◌, Bool, true, false}
 use Rattle.std.proofs.Common.{not, ltb, leb, eqb, ◌&&◌, ◌||◌, List, [], ◌∷◌, ◌++◌}
-use Rattle.std.proofs.Common.{length, get_or, Some, Option, replicate, arith, inl, inr, refl, ◌⊎◌}
+use Rattle.std.proofs.Common.{length, get_or, Some, arith, inl, inr, refl, ◌⊎◌}
 use Rattle.std.specs.Prelude.{unwrap_or}
 use Rattle.std.proofs.lemmas.Bool.{cases_eq, cases_Bool, cases_lt, and_parts, and_from, ltb-true, lt-ltb, le-leb, leb-true, eqb-true}
 use Rattle.std.proofs.lemmas.Bool.{not_from_false, both_ways}
@@ -17,7 +17,6 @@ use Rattle.pm_market.specs.State.{State, cut_at, number}
 use Rattle.pm_market.specs.Legality.{is_node}
 use Rattle.pm_market.proofs.Legality.{is_node_at}
 use Rattle.pm_market.proofs.Cuts.{updated_same, entry_zero, part_zero}
-use Rattle.pm_laws.specs.Gone.{is_gone}
 use Rattle.pm_laws.proofs.Gone.{gone_zero}
 use Rattle.pm_laws.proofs.Numbers.{number_of_part}
 use Rattle.pm_session.specs.Windows.{Sent, Keeps, record_of}
@@ -33,14 +32,14 @@ use Rattle.pm_net.specs.Agrees.{bid_of_number, NetworkAgrees}
 use Rattle.pm_net.proofs.Messages.{two_same, two_other}
 use Rattle.pm_net.proofs.News.{level, child_from}
 use Rattle.pm_net_plan.specs.Places.{Numbering, IsNumbering}
-use Rattle.pm_relay.specs.Numbers.{child_number, head_number}
+use Rattle.pm_relay.specs.Numbers.{head_number}
 use Rattle.pm_relay.specs.Relays.{RelayValue, newest_bid_number, IsCaughtUp, HasChanged, unanswered_numbers, BidSent, NotSent}
 use Rattle.pm_relay.specs.declared.fault.SendFault.{SendFault}
 use Rattle.pm_relay.specs.declared.fault.SendFault.TheVariants.{NotCaughtUp, NotChanged, WindowFull, OutOfNumbers}
 use Rattle.pm_relay_net.specs.Heads.{bid_head, head_in, heads_of, AddsByPlaces}
 use Rattle.pm_relay_net.specs.RelayIs.{MatchesNode, RelayIs}
 use Rattle.pm_relay_net.proofs.Places.{heads_of-same, in_each_place, heads_of-at, heads_of-none}
-use Rattle.pm_relay_net.proofs.Matching.{recorded_at, heard_at, caught_to, caught_from, over_to, nothing_newer, sum_is, none_there}
+use Rattle.pm_relay_net.proofs.Matching.{recorded_at, heard_at, caught_to, caught_from, over_to, nothing_newer, sum_is}
 
 -- the newest record of a relay that has one
 module _ (lists : Lists) (p : Pricing) (numbering : Numbering) (net : Network) (c : ℕ) (r : RelayValue) (m : MatchesNode p numbering net c r)

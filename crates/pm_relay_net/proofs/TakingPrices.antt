@@ -1,7 +1,7 @@
 -- A relay is given a price: it passes it on, takes it alone, leaves it for later, or drops it.
 use Rattle.std.proofs.Common.{◌≡◌, ◌∙◌, sym, ap, subst, ℕ, ◌+◌, ◌-◌, ◌<◌, ◌≤◌, Bool, true, false, cond, not}
 use Rattle.std.proofs.Common.{eqb, ltb, leb, ◌&&◌, List, [], ◌∷◌, ◌++◌}
-use Rattle.std.proofs.Common.{length, get_or, Some, None, arith, inl, inr, refl}
+use Rattle.std.proofs.Common.{length, get_or, Some, None, arith, refl}
 use Rattle.std.proofs.lemmas.Bool.{cases_Bool, cond-true, cond-false, and_parts, and_from, ltb-true, lt-ltb, leb-true, le-leb, eq-eqb}
 use Rattle.std.proofs.lemmas.Bool.{eqb-true, not_from_false}
 use Rattle.std.proofs.lemmas.Bool.{both_ways, false_from_ne_true, not-true}
@@ -14,7 +14,7 @@ use Rattle.pm_market.specs.Lists.{Lists, parent, is_leaf, IsNode, IsConcentrator
 use Rattle.pm_market.specs.Legality.{is_node}
 use Rattle.pm_market.proofs.Legality.{is_node_at}
 use Rattle.pm_market.proofs.Cuts.{updated_same}
-use Rattle.pm_session.specs.Windows.{Sent, Keeps, record_of}
+use Rattle.pm_session.specs.Windows.{Sent, Keeps}
 use Rattle.pm_session.specs.Prices.{price_to, head_at}
 use Rattle.pm_concentrator.specs.Limited.{local_step_of_record}
 use Rattle.pm_net.specs.Pricing.{Pricing}
@@ -32,7 +32,7 @@ use Rattle.pm_relay.specs.declared.outcome.PriceOutcome.TheVariants.{PassedOn, A
 use Rattle.pm_relay_net.specs.Heads.{bid_head, heads_of}
 use Rattle.pm_relay_net.specs.RelayIs.{MatchesNode, RelayIs, update_of, prices_down, messages_of, recorded_sum}
 use Rattle.pm_relay_net.proofs.Places.{head_there}
-use Rattle.pm_relay_net.proofs.Matching.{over_to, nothing_newer, recorded_at, heard_at}
+use Rattle.pm_relay_net.proofs.Matching.{over_to, nothing_newer}
 use Rattle.pm_net.proofs.News.{child_from}
 
 -- what a relay does with a price, and what its node then is and sends

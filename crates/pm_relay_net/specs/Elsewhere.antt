@@ -1,8 +1,7 @@
 -- Which events are no step of a relay, and bring it no bid.
 use Rattle.std.specs.Prelude.{◌≡◌, ℕ}
 use Rattle.pm_market.specs.Lists.{Lists, parent}
-use Rattle.pm_net.specs.Events.{Event, Bids, TakesBid, Sends, Clears, TakesPrice, Restarts, Rebuilds, StopsBidding, Resends}
-use Rattle.pm_net.specs.Events.{PassesToOne, StopsClearing, TellsOne}
+use Rattle.pm_net.specs.Events.{Event, TakesBid, Sends, TakesPrice, Restarts, Rebuilds, StopsBidding}
 
 -- the event happens elsewhere than at c; a message that is sent again changes no node
 abbrev pub IsElsewhere : Lists → ℕ → Event → Type 0
