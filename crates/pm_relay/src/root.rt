@@ -1,6 +1,6 @@
 //! An auctioneer that may restart: it learns its children's bids, clears the market, and tells its newest price again.
 
-ghost use Rattle.std.specs.Prelude.{◌≡◌, ◌⊎◌, ◌<◌, length, replicate, true, IfOk, IfErr, OnErr, IsTrue, ◌↔◌, MatchOption};
+ghost use Rattle.std.specs.Prelude.{◌≡◌, ◌⊎◌, ◌<◌, length, replicate, true, false, IfOk, IfErr, OnErr, IsTrue, ◌↔◌, MatchOption};
 ghost use Rattle.std.specs.Option.{option_copied};
 ghost use Rattle.pm_base.specs.Limits.{AreSteps, demand_limit, most_nodes};
 ghost use Rattle.pm_bid.specs.Bids.{AllWithinLimit};
@@ -197,7 +197,8 @@ impl Root {
     pub fn prices(&self) -> Option<Prices<'_>>
         ensures { MatchOption result
             ((self.now.auction.index ≡ 0) ⊎ (self.now.auction.changed ≡ true)) (λ prices.
-            (prices.heads.now ≡ self.now.auction.cache.heads)
+            (0 < self.now.auction.index) × (self.now.auction.changed ≡ false)
+            × (prices.heads.now ≡ self.now.auction.cache.heads)
             × (prices.step ≡ self.now.auction.step)
             × (prices.index ≡ newest_index self.now)) }
     {
