@@ -35,6 +35,7 @@ COMPARED = ["demo", "wide", "deep", "bursts", "chain", "calm"]
 
 # The ways, by their names; `plain read` and `measure read` stop once the plan is made.
 MARKET = "market run"
+FREE = "market free"
 PLAIN = "plain"
 PLAIN_READING = "plain read"
 WALK = "measure walk"
@@ -43,6 +44,8 @@ READING = "measure read"
 
 # How often longer than the plain program `market run` may take, by the file.
 MARKET_GOALS = {"demo": 12, "wide": 5.5, "deep": 2, "bursts": 2, "calm": 2}
+# How often longer than `market run` `market free` may take, by the file.
+FREE_GOALS = {"demo": 3, "wide": 3, "deep": 10, "chain": 3, "calm": 3}
 # How many targets are asked of the total of a file, how often longer than `market run` that may take, and by how much.
 ASKED, TARGETS = "demo", 100_000
 ASK_GOAL, ASK_SECONDS = 2, 0.050
@@ -114,8 +117,9 @@ def peak(command, path):
 
 def compare_texts(texts):
     """Fails if a text is not the one due: the report is the same, and the other ways tell the lines of its phases."""
-    if PLAIN in texts and texts[PLAIN] != texts[MARKET]:
-        raise Failed(f"the texts of {MARKET} and {PLAIN} differ")
+    for way in (PLAIN, FREE):
+        if way in texts and texts[way] != texts[MARKET]:
+            raise Failed(f"the texts of {MARKET} and {way} differ")
     phases = b"".join(line for line in texts[MARKET].splitlines(True) if line.startswith(b"phase "))
     for way in (WALK, DRIVE):
         if way in texts and texts[way] != phases:
@@ -163,6 +167,9 @@ def ratio_lines(name, least, processors, peaks):
         computing = told(quotient(processors[MARKET], processors[PLAIN]))
         lines.append(f"{MARKET} / {PLAIN}: time {whole}, without the reading {told(quotient(market, plain))}, "
                      f"time of processors {computing}")
+    free = told(quotient(least[FREE], least[MARKET]), FREE_GOALS.get(name))
+    lines.append(f"{FREE} / {MARKET}: time {free}, time of processors {told(quotient(processors[FREE], processors[MARKET]))}, "
+                 f"memory {told(quotient(peaks[FREE], peaks[MARKET]))}")
     lines.append(f"{MARKET} / {WALK}: memory {told(quotient(peaks[MARKET], peaks[WALK]), MEMORY_GOAL)}")
     drive, walk = ((least[way] - least[READING]) for way in (DRIVE, WALK))
     computing = quotient(*(processors[way] - processors[READING] for way in (DRIVE, WALK)))
@@ -326,7 +333,7 @@ def measured_stream(market, plain, runs, path):
 
 def ways_of(market, measure, plain):
     """The commands of the ways."""
-    ways = {MARKET: [market, "run"]}
+    ways = {MARKET: [market, "run"], FREE: [market, "free"]}
     if plain:
         ways |= {PLAIN: [plain], PLAIN_READING: [plain, "read"]}
     return ways | {way: [measure, way.split()[1]] for way in (WALK, DRIVE, READING)}
