@@ -104,10 +104,22 @@ fn the_last_number_is_left_for_leaving(rt: HostRuntime) -> Result<(), Fail> {
     let alloc = rt.alloc();
     let mut agent = ControlAgent::resumed(alloc, 4_294_967_293, None, 0)?;
     offers(&rt, alloc, &mut agent, [1, 0], Ok(4_294_967_294))?;
-    offers(&rt, alloc, &mut agent, [2, 0], Err(OfferFault::OutOfNumbers))?;
+    offers(
+        &rt,
+        alloc,
+        &mut agent,
+        [2, 0],
+        Err(OfferFault::OutOfNumbers),
+    )?;
     same(&rt, "left", agent.leave(), Some(4_294_967_295));
     same(&rt, "left twice", agent.leave(), None);
-    offers(&rt, alloc, &mut agent, [3, 0], Err(OfferFault::OutOfNumbers))
+    offers(
+        &rt,
+        alloc,
+        &mut agent,
+        [3, 0],
+        Err(OfferFault::OutOfNumbers),
+    )
 }
 
 #[test]

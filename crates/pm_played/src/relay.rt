@@ -39,7 +39,12 @@ fn learns(
     ensures steps { relay.new.gathered.cache.steps ≡ 2 }
 {
     let bid = bid_of(alloc, demands)?;
-    same(rt, (child, number), relay.learn(child, number, Some(&bid)), Ok(()));
+    same(
+        rt,
+        (child, number),
+        relay.learn(child, number, Some(&bid)),
+        Ok(()),
+    );
     Ok(())
 }
 
@@ -72,12 +77,7 @@ fn refuses(rt: &impl Abort, relay: &mut Relay, fault: SendFault)
 }
 
 /// What goes to the first two children for a price of step 0 that goes on, and that no other child has one.
-fn passes(
-    rt: &impl Abort,
-    relay: &mut Relay,
-    number: u32,
-    index: u32,
-) -> [Option<PriceUpdate>; 2]
+fn passes(rt: &impl Abort, relay: &mut Relay, number: u32, index: u32) -> [Option<PriceUpdate>; 2]
     requires steps { relay.old.gathered.cache.steps ≡ 2 }
     ensures steps { relay.new.gathered.cache.steps ≡ 2 }
 {
@@ -119,7 +119,12 @@ fn moved(number: u32, index: u32) -> Option<PriceUpdate> {
 fn leaves(rt: &impl Abort, relay: &mut Relay, number: u32, index: u32, outcome: PriceOutcome)
     ensures { relay.new.gathered.cache ≡ relay.old.gathered.cache }
 {
-    same(rt, index, relay.take_price(price_of(number, index)), outcome);
+    same(
+        rt,
+        index,
+        relay.take_price(price_of(number, index)),
+        outcome,
+    );
 }
 
 /// A relay of two steps between -100 and 150 watts.
@@ -183,7 +188,12 @@ fn gathers(rt: &impl Abort, alloc: Global, relay: &mut Relay) -> Result<(), Fail
     same(rt, "again", relay.resend(), Some(1));
     learns(rt, alloc, relay, 0, 2, [50, 0])?;
     leaves(rt, relay, 2, 1, PriceOutcome::Dropped);
-    same(rt, "passed", passes(rt, relay, 1, 1), [moved(1, 1), moved(1, 1)]);
+    same(
+        rt,
+        "passed",
+        passes(rt, relay, 1, 1),
+        [moved(1, 1), moved(1, 1)],
+    );
     leaves(rt, relay, 1, 1, PriceOutcome::Dropped);
     sends(rt, relay, 2, [130, -100]);
     same(rt, "stored", stored(relay), (2, [2, 1], 1, 1));
@@ -253,7 +263,12 @@ fn hears_its_record(rt: &impl Abort, alloc: Global, relay: &mut Relay) -> Result
     same(rt, "again", relay.resend(), Some(4));
     same(rt, "demands", demands_of(relay), [150, -100]);
     refuses(rt, relay, SendFault::NotChanged);
-    same(rt, "passed", passes(rt, relay, 4, 8), [moved(6, 8), moved(3, 8)]);
+    same(
+        rt,
+        "passed",
+        passes(rt, relay, 4, 8),
+        [moved(6, 8), moved(3, 8)],
+    );
     learns(rt, alloc, relay, 0, 7, [50, 0])?;
     sends(rt, relay, 5, [130, -100]);
     same(rt, "stored", stored(relay), (5, [7, 3], 4, 8));
@@ -280,7 +295,12 @@ fn is_overtaken(rt: &impl Abort, alloc: Global, relay: &mut Relay) -> Result<(),
     sends(rt, relay, 5, [130, -100]);
     leaves(rt, relay, 4, 10, PriceOutcome::Alone);
     leaves(rt, relay, 3, 11, PriceOutcome::Dropped);
-    same(rt, "passed", passes(rt, relay, 5, 11), [Some(price_of(7, 11)), Some(price_of(3, 11))]);
+    same(
+        rt,
+        "passed",
+        passes(rt, relay, 5, 11),
+        [Some(price_of(7, 11)), Some(price_of(3, 11))],
+    );
     Ok(())
 }
 
