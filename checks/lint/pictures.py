@@ -5,7 +5,8 @@
 
 Each picture and page of the list is made again by its command, with the proved program, and has to have the same bytes. And
 checks/oracle/auction.py has to give the text of each cluster file that runs, and to refuse texts with a line changed, taken out or
-added. It knows nothing of the program, so the texts due are worked out a second time.
+added. It knows nothing of the program, so the texts due are worked out a second time. The diagrams of the pages are drawn again too
+(checks/lint/diagrams.py).
 """
 
 import json
@@ -16,6 +17,7 @@ from collections.abc import Iterator
 from pathlib import Path
 
 from checks import TOP
+from checks.lint import diagrams
 from checks.make.cases import DONE, examples, stored_cases
 from checks.oracle.auction import Misfit, fitting_ends
 
@@ -109,7 +111,7 @@ def main() -> int:
     """Compares, or draws."""
     if sys.argv[1:] == ["draw"]:
         return draw_all()
-    findings = list(misfits())
+    findings = [*misfits(), *diagrams.findings()]
     if why := lacking():
         print(f"skipped: the pictures are not drawn again: {why}")
     else:

@@ -10,7 +10,8 @@ from pathlib import Path
 
 sys.dont_write_bytecode = True
 HERE = Path(__file__).resolve().parent
-sys.path.insert(0, str(HERE.parent))
+# The diagrams' own modules, and the independent auction of the checks.
+sys.path[:0] = [str(HERE), str(HERE.parents[1])]
 import interleaving
 import layers
 import network

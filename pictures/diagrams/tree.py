@@ -1,12 +1,12 @@
 """A tree in which bids go up and a price comes down: examples/street.json at the end of its third phase.
 
-The numbers of the bids and of the clearing are those of the trace street.trace. The demands are those of pictures/auction.py."""
+The numbers of the bids and of the clearing are those of the trace street.trace. The demands are those of checks/oracle/auction.py."""
 
 import json
 from collections.abc import Iterator
 from typing import Any
 
-from auction import bid_of, ends_of, prices_of, state_of
+from checks.oracle.auction import bid_of, ends_of, prices_of, state_of
 from journals import HERE, TOP, last_of, moves_of, until_close
 from strokes import DOWN, GREY, LIGHT, UP, arrow, box, card, text
 
