@@ -70,7 +70,8 @@ replies_and_fault_are frames due d =
 
 -- ---- the place and the clearings
 
-learnt_steps : (cache : Cache) (child number : ℕ) (demand : Option (List ℤ)) (test : Bool) →
+-- learning a bid keeps the steps
+pub learnt_steps : (cache : Cache) (child number : ℕ) (demand : Option (List ℤ)) (test : Bool) →
     (if test then cache else with_newer_bid cache child number demand).steps ≡ cache.steps
 learnt_steps cache child number demand true = refl
 learnt_steps cache child number None false = refl

@@ -13,7 +13,8 @@ use Rattle.pm_wire.specs.Frames.{size_at, place_after, IsFormed, IsBidPlace, sig
 use Rattle.pm_wire.specs.Memory.{frame_limit}
 use Rattle.pm_wire.proofs.OneField.{two_same, four_same, signed_same, demands_same, length-demand_bytes}
 
-parts_same : (a b : ℕ) (x y : List ℕ) → a ∷ x ≡ b ∷ y → (a ≡ b) × (x ≡ y)
+-- two lists that are equal have the same first number and the same rests
+pub parts_same : (a b : ℕ) (x y : List ℕ) → a ∷ x ≡ b ∷ y → (a ≡ b) × (x ≡ y)
 parts_same a b x y e = (cc, cc)
 
 hello_same : (b c : BasisValue) (x y : List ℕ) → IsFormed None (Hello b) → IsFormed None (Hello c) →

@@ -25,7 +25,7 @@ pub price_for_few : (index step child : ℕ) (head : BidHead) → length (reply_
 price_for_few index step child head = few_either 13 head.gone [] (Price child head.number index step ∷ []) (omega arith) (omega arith)
 
 -- and those for some children as many times 13
-prices_few : (index step child : ℕ) (heads : List BidHead) → length (reply_bytes (prices index step child heads)) ≤ 13 * length heads
+pub prices_few : (index step child : ℕ) (heads : List BidHead) → length (reply_bytes (prices index step child heads)) ≤ 13 * length heads
 prices_few index step child [] = omega arith
 prices_few index step child (head ∷ heads) =
     let one = price_for_few index step child head in

@@ -8,7 +8,7 @@ ghost use Rattle.pm_wire.specs.Frames.{signed_bytes, demand_bytes};
 use std::alloc::{AllocError, Global};
 
 /// The first two bytes as a number, and the bytes behind them.
-pub(crate) fn read_u16(bytes: &[u8]) -> (u16, &[u8])
+pub fn read_u16(bytes: &[u8]) -> (u16, &[u8])
     requires { 2 ≤ length bytes.now }
     ensures { bytes.now ≡ to_be_bytes w16 result.0 ++ result.1.now }
 {
@@ -17,7 +17,7 @@ pub(crate) fn read_u16(bytes: &[u8]) -> (u16, &[u8])
 }
 
 /// The first four bytes as a number, and the bytes behind them.
-pub(crate) fn read_u32(bytes: &[u8]) -> (u32, &[u8])
+pub fn read_u32(bytes: &[u8]) -> (u32, &[u8])
     requires { 4 ≤ length bytes.now }
     ensures { bytes.now ≡ to_be_bytes w32 result.0 ++ result.1.now }
 {
@@ -36,11 +36,7 @@ pub(crate) fn read_i32(bytes: &[u8]) -> (i64, &[u8])
 }
 
 /// The demands that the bytes are, four bytes each.
-pub(crate) fn read_demands(
-    alloc: Global,
-    count: usize,
-    bytes: &[u8],
-) -> Result<Vec<i64>, AllocError>
+pub fn read_demands(alloc: Global, count: usize, bytes: &[u8]) -> Result<Vec<i64>, AllocError>
     requires { length bytes.now ≡ 4 * count }
     ensures bytes { IfOk result (λ demands. bytes.now ≡ demand_bytes demands.items) }
     ensures fit { IfOk result (λ demands. AllByRecursion (λ z. FitsSigned w32 z) demands.items) }

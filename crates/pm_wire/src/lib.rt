@@ -38,12 +38,14 @@ pub use answer::Reply;
 pub use auctioneer::serve;
 pub use decoder::{Decoder, FrameDecoder};
 pub use fault::DecodeFault;
+pub use fields::{read_demands, read_u16, read_u32};
 pub use frame::Frame;
 pub use framing::StreamFrame;
 pub use laws::{
     early_ends_hold_a_beginning, frames_given_are_those_fed, replies_are_of_the_bytes,
     streams_have_one_reading, the_greatest_number_counts,
 };
+pub use market::write_prices;
 pub use server::Server;
 pub use service::Service;
 pub use stream::{STREAM_LIMIT, Served, serve_frames};

@@ -68,12 +68,13 @@ fn write_price(clearing: &Prices<'_>, place: usize, out: &mut Vec<u8>) -> Result
 }
 
 /// Appends the price for each child that is not gone, by their places. There is room for as many prices.
-fn write_prices(clearing: &Prices<'_>, out: &mut Vec<u8>)
+pub fn write_prices(clearing: &Prices<'_>, out: &mut Vec<u8>)
     requires children { length clearing.now.heads.now + 1 < 2 ^ 16 }
     requires step { clearing.now.step < 2 ^ 16 }
     requires room { vec_len out.old + 13 * length clearing.now.heads.now ≤ vec_capacity out.old }
     ensures written { out.new.items ≡ out.old.items ++ reply_bytes
         (prices clearing.now.index clearing.now.step 1 clearing.now.heads.now) }
+    ensures capacity { vec_capacity out.old ≤ vec_capacity out.new }
 {
     for place in 0..clearing.children() {
         let Ok(()) = write_price(clearing, place, out) else {

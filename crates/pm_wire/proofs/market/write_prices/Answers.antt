@@ -16,6 +16,7 @@ loop-place-preserved c =
     record {
       written = prices_more clearing.index clearing.step (place + 1) place clearing.heads.now nothing_sent _ _ _ (omega arith)
           c.loop-place.invariant.written written;
+      capacity = omega (arith, c.loop-place.invariant.capacity, c.write_price.ensures.capacity);
       room = omega (
         arith,
         ap length written,

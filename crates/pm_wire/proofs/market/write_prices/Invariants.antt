@@ -8,5 +8,6 @@ abbrev pub invariant-loop-place : goal.invariant-loop-place
 invariant-loop-place l = record {
   written : l.out.items ++ reply_bytes (prices l.clearing.index l.clearing.step (l.place + 1) (drop l.place l.clearing.heads.now))
       ≡ l.fn.out.items ++ reply_bytes (prices l.clearing.index l.clearing.step 1 l.clearing.heads.now);
+  capacity : vec_capacity l.fn.out ≤ vec_capacity l.out;
   room : vec_len l.out + 13 * (length l.clearing.heads.now - l.place) ≤ vec_capacity l.out;
 }
