@@ -1,0 +1,11 @@
+pub mod FirstBytes
+pub mod OneNumber
+pub mod OneParent
+pub mod OneStored
+pub mod NodePlaces
+pub mod Sizes
+pub mod OneRelayFrame
+pub mod OneRootFrame
+pub mod OneDeviceFrame
+pub mod ReadNodes
+pub mod Written

@@ -1,0 +1,83 @@
+-- The frames of the stream to a device's agent: Hello, what it comes back with, those of the device's control, and its parent's.
+use Rattle.std.specs.Prelude.{◌≡◌, ℕ, ℤ, ◌+◌, ◌*◌, ◌==◌, if◌then◌else◌, List, [], ◌∷◌, length, Option}
+use Rattle.std.specs.Prelude.{Some, None, ⊤, Ok, FitsSigned}
+use Rattle.std.specs.Int.{w32}
+use Rattle.std.specs.List.{AllByRecursion}
+use Rattle.pm_base.specs.Limits.{most_steps}
+use Rattle.pm_bid.specs.Checks.{checked_bid}
+use Rattle.pm_wire.specs.declared.frame.Frame as bids
+use Rattle.pm_wire.specs.Frames.{hello_kind, frame_bytes, demand_bytes, IsFormed, IsAccepted}
+use Rattle.pm_wire.specs.Framing.{Framing}
+use Rattle.pm_frames.specs.Kinds.{price_kind, old_kind, resume_kind, offer_kind, leave_kind, resume_gone_kind}
+use Rattle.pm_frames.specs.Places.{bid_place, steps_at, IsOpen, IsFresh, stage_behind, with_stage, IsNodePlace}
+use Rattle.pm_frames.specs.ParentFrames.{parent_bytes, IsParentFormed, IsParentAccepted}
+use Rattle.pm_frames.specs.Stored.{agent_resume_bytes, IsAgentStored, IsNewestAccepted}
+use Rattle.pm_frames.specs.declared.place.NodePlace.{NodePlace}
+use Rattle.pm_frames.specs.declared.place.Stage.{Stage}
+use Rattle.pm_frames.specs.declared.place.Stage.TheVariants.{Start, Opened, Running}
+use Rattle.pm_frames.specs.declared.device.DeviceFrame.{DeviceFrame}
+use Rattle.pm_frames.specs.declared.device.DeviceFrame.TheVariants.{Hello, Offer, Leave, Parent, Resume}
+
+abbrev pub offer_bytes : List ℤ → List ℕ
+offer_bytes demand = offer_kind ∷ demand_bytes demand
+
+abbrev pub device_frame_bytes : DeviceFrame → List ℕ
+device_frame_bytes (Hello basis) = frame_bytes (bids.TheVariants.Hello basis)
+device_frame_bytes (Offer demand) = offer_bytes demand
+device_frame_bytes Leave = leave_kind ∷ []
+device_frame_bytes (Parent frame) = parent_bytes frame
+device_frame_bytes (Resume stored) = agent_resume_bytes stored
+
+-- how many bytes a frame of this kind has behind Hello
+abbrev pub device_size_open : ℕ → ℕ → Option ℕ
+device_size_open steps kind =
+    if kind == offer_kind
+    then Some (1 + 4 * steps)
+    else (if kind == leave_kind then Some 1 else (if kind == price_kind then Some 13 else (if kind == old_kind then Some 7 else None)))
+
+-- Hello stands first and only there, and what the agent comes back with directly behind it
+abbrev pub device_size : Stage → ℕ → Option ℕ
+device_size Start kind = if kind == hello_kind then Some 11 else None
+device_size (Opened steps) kind =
+    if kind == resume_kind then Some (9 + 4 * steps) else (if kind == resume_gone_kind then Some 9 else device_size_open steps kind)
+device_size (Running steps) kind = device_size_open steps kind
+
+-- a frame of a kind that may stand at this place, each of whose fields has its bytes
+abbrev pub IsDeviceFormed : NodePlace → DeviceFrame → Type 0
+IsDeviceFormed place (Hello basis) = IsFormed (bid_place place.stage) (bids.TheVariants.Hello basis)
+IsDeviceFormed place (Offer demand) =
+    IsOpen place.stage × (length demand ≡ steps_at place.stage) × AllByRecursion (λ z. FitsSigned w32 z) demand
+IsDeviceFormed place Leave = IsOpen place.stage
+IsDeviceFormed place (Parent frame) = IsOpen place.stage × IsParentFormed frame
+IsDeviceFormed place (Resume stored) = IsFresh place.stage × IsAgentStored (steps_at place.stage) stored
+
+-- the fields are accepted: an offer is a bid
+abbrev pub IsDeviceAccepted : NodePlace → DeviceFrame → Type 0
+IsDeviceAccepted place (Hello basis) = IsAccepted (bids.TheVariants.Hello basis)
+IsDeviceAccepted place (Offer demand) = checked_bid (length demand) demand ≡ Ok demand
+IsDeviceAccepted place Leave = ⊤
+IsDeviceAccepted place (Parent frame) = IsParentAccepted place.child (steps_at place.stage) frame
+IsDeviceAccepted place (Resume stored) = IsNewestAccepted stored.number stored.newest
+
+abbrev pub device_place_after : NodePlace → DeviceFrame → NodePlace
+device_place_after place (Hello basis) = with_stage place (Opened basis.steps)
+device_place_after place (Offer demand) = with_stage place (stage_behind place.stage)
+device_place_after place Leave = with_stage place (stage_behind place.stage)
+device_place_after place (Parent frame) = with_stage place (stage_behind place.stage)
+device_place_after place (Resume stored) = with_stage place (stage_behind place.stage)
+
+-- the most bytes of a frame: a Resume over the most steps
+abbrev pub device_frame_limit : ℕ
+device_frame_limit = 9 + 4 * most_steps
+
+-- the frames of the stream to a device's agent
+abbrev pub device_framing : Framing NodePlace DeviceFrame
+device_framing = record {
+  size_at = λ place kind. device_size place.stage kind;
+  frame_bytes = device_frame_bytes;
+  place_after = device_place_after;
+  IsFormed = IsDeviceFormed;
+  IsAccepted = IsDeviceAccepted;
+  IsPlace = IsNodePlace;
+  most_bytes = device_frame_limit;
+}

@@ -1,0 +1,38 @@
+-- The kinds of the frames of a market across machines, beside those of a stream of bids (1 to 8).
+use Rattle.std.specs.Prelude.{ℕ}
+
+abbrev pub price_kind : ℕ
+price_kind = 5
+
+abbrev pub old_kind : ℕ
+old_kind = 7
+
+abbrev pub send_kind : ℕ
+send_kind = 9
+
+abbrev pub window_full_kind : ℕ
+window_full_kind = 10
+
+abbrev pub dropped_kind : ℕ
+dropped_kind = 11
+
+abbrev pub resume_kind : ℕ
+resume_kind = 12
+
+abbrev pub offer_kind : ℕ
+offer_kind = 13
+
+abbrev pub leave_kind : ℕ
+leave_kind = 14
+
+abbrev pub setpoint_kind : ℕ
+setpoint_kind = 15
+
+abbrev pub resume_gone_kind : ℕ
+resume_gone_kind = 16
+
+abbrev pub not_caught_up_kind : ℕ
+not_caught_up_kind = 17
+
+abbrev pub out_of_numbers_kind : ℕ
+out_of_numbers_kind = 18

@@ -1,0 +1,9 @@
+pub mod Kinds
+pub mod Places
+pub mod ParentFrames
+pub mod Stored
+pub mod RelayFrames
+pub mod RootFrames
+pub mod DeviceFrames
+pub mod Offers
+pub mod Answers

@@ -1,0 +1,234 @@
+//! Writes the frames of a node. The caller has made room for them, so no allocation fails.
+
+ghost use Rattle.std.specs.Prelude.{◌≡◌, ◌+◌, ◌*◌, ◌≤◌, ◌<◌, ◌^◌, ◌++◌, length, vec_len, vec_capacity};
+ghost use Rattle.std.specs.Prelude.{FitsSigned, IfSome};
+ghost use Rattle.std.specs.Option.{option_copied};
+ghost use Rattle.std.specs.Int.{w16, w32, to_be_bytes};
+ghost use Rattle.pm_base.specs.Limits.{most_nodes, demand_limit};
+ghost use Rattle.pm_bid.specs.Bids.{AllWithinLimit};
+ghost use Rattle.pm_wire.specs.Answers.{answer_bytes};
+ghost use Rattle.pm_wire.specs.Frames.{frame_bytes, signed_bytes, demand_bytes};
+ghost use Rattle.pm_wire.specs.declared.frame.Frame.{Frame};
+ghost use Rattle.pm_frames.specs.Stored.{number_bytes, relay_resume_bytes, root_resume_bytes, newest_bytes};
+ghost use Rattle.pm_frames.specs.Answers.{window_full_bytes, not_caught_up_bytes, out_of_numbers_bytes, dropped_bytes, setpoint_bytes};
+
+use crate::kinds::{
+    BID, DROPPED, GONE, NOT_CAUGHT_UP, OUT_OF_NUMBERS, RESUME, RESUME_GONE, SETPOINT, WINDOW_FULL,
+};
+use pm_bid::{ArrayBid, Steps};
+use pm_control::{AgentResume, Setpoint};
+use pm_relay::Resume;
+use pm_wire::Reply;
+use std::marker::Brand;
+
+/// Appends an answer that `serve` has too.
+pub fn write_reply(reply: Reply, out: &mut Vec<u8>)
+    requires room { vec_len out.old + length (answer_bytes reply) ≤ vec_capacity out.old }
+    ensures written { out.new.items ≡ out.old.items ++ answer_bytes reply }
+    ensures capacity { vec_capacity out.old ≤ vec_capacity out.new }
+{
+    let Ok(()) = reply.write(out) else {
+        unreachable!()
+    };
+}
+
+/// Appends these bytes.
+fn append(bytes: &[u8], out: &mut Vec<u8>)
+    requires room { vec_len out.old + length bytes.now ≤ vec_capacity out.old }
+    ensures written { out.new.items ≡ out.old.items ++ bytes.now }
+    ensures capacity { vec_capacity out.old ≤ vec_capacity out.new }
+{
+    let Ok(()) = out.extend_from_slice(bytes) else {
+        unreachable!()
+    };
+}
+
+/// Appends a field of two bytes.
+fn write_u16(number: u16, out: &mut Vec<u8>)
+    requires room { vec_len out.old + 2 ≤ vec_capacity out.old }
+    ensures written { out.new.items ≡ out.old.items ++ to_be_bytes w16 number }
+    ensures capacity { vec_capacity out.old ≤ vec_capacity out.new }
+{
+    append(&number.to_be_bytes(), out);
+}
+
+/// Appends a field of four bytes.
+fn write_u32(number: u32, out: &mut Vec<u8>)
+    requires room { vec_len out.old + 4 ≤ vec_capacity out.old }
+    ensures written { out.new.items ≡ out.old.items ++ to_be_bytes w32 number }
+    ensures capacity { vec_capacity out.old ≤ vec_capacity out.new }
+{
+    append(&number.to_be_bytes(), out);
+}
+
+/// Appends a power in watts, a signed field of four bytes.
+fn write_i32(power: i64, out: &mut Vec<u8>)
+    requires fits { FitsSigned w32 power }
+    requires room { vec_len out.old + 4 ≤ vec_capacity out.old }
+    ensures written { out.new.items ≡ out.old.items ++ signed_bytes power }
+    ensures capacity { vec_capacity out.old ≤ vec_capacity out.new }
+{
+    let power = power as i32;
+    append(&power.to_be_bytes(), out);
+}
+
+/// Appends the numbers of the children.
+fn write_numbers(numbers: &[u32], out: &mut Vec<u8>)
+    requires room { vec_len out.old + 4 * length numbers.now ≤ vec_capacity out.old }
+    ensures written { out.new.items ≡ out.old.items ++ number_bytes numbers.now }
+    ensures capacity { vec_capacity out.old ≤ vec_capacity out.new }
+{
+    for number in numbers {
+        write_u32(*number, out);
+    }
+}
+
+/// Appends demands in watts, each within ±1,000,000,000.
+fn write_demands(demand: &ArrayBid, out: &mut Vec<u8>)
+    requires small { AllWithinLimit demand_limit demand.now }
+    requires room { vec_len out.old + 4 * length demand.now ≤ vec_capacity out.old }
+    ensures written { out.new.items ≡ out.old.items ++ demand_bytes demand.now }
+    ensures capacity { vec_capacity out.old ≤ vec_capacity out.new }
+{
+    for step in 0..demand.steps() {
+        write_i32(demand.at(step, &mut Steps::<Brand>::start()), out);
+    }
+}
+
+/// Appends the bid of a child: its number, and its demand in watts at each step.
+pub fn write_bid(child: u16, number: u32, demand: &ArrayBid, out: &mut Vec<u8>)
+    requires small { AllWithinLimit demand_limit demand.now }
+    requires room { vec_len out.old + 7 + 4 * length demand.now ≤ vec_capacity out.old }
+    ensures written { out.new.items ≡ out.old.items
+        ++ frame_bytes (Frame.Bid child number demand.now) }
+    ensures capacity { vec_capacity out.old ≤ vec_capacity out.new }
+{
+    append(&[BID], out);
+    write_u16(child, out);
+    write_u32(number, out);
+    write_demands(demand, out);
+}
+
+/// Appends that a child has no bid any more, under this number.
+pub fn write_gone(child: u16, number: u32, out: &mut Vec<u8>)
+    requires room { vec_len out.old + 7 ≤ vec_capacity out.old }
+    ensures written { out.new.items ≡ out.old.items ++ frame_bytes (Frame.Gone child number) }
+    ensures capacity { vec_capacity out.old ≤ vec_capacity out.new }
+{
+    append(&[GONE], out);
+    write_u16(child, out);
+    write_u32(number, out);
+}
+
+/// Appends what a relay keeps over a restart.
+pub fn write_relay_resume(resume: &Resume<'_>, out: &mut Vec<u8>)
+    requires children { length resume.now.numbers.now ≡ most_nodes }
+    requires room { vec_len out.old + 13 + 4 * most_nodes ≤ vec_capacity out.old }
+    ensures written { out.new.items ≡ out.old.items ++ relay_resume_bytes (record {
+      last = resume.now.last;
+      answered = resume.now.answered;
+      index = resume.now.index;
+      numbers = resume.now.numbers.now;
+    }) }
+    ensures capacity { vec_capacity out.old ≤ vec_capacity out.new }
+{
+    append(&[RESUME], out);
+    write_u32(resume.last, out);
+    write_u32(resume.answered, out);
+    write_u32(resume.index, out);
+    write_numbers(resume.numbers, out);
+}
+
+/// Appends what an auctioneer keeps over a restart.
+pub fn write_root_resume(last: u32, numbers: &[u32], out: &mut Vec<u8>)
+    requires children { length numbers.now ≡ most_nodes }
+    requires room { vec_len out.old + 5 + 4 * most_nodes ≤ vec_capacity out.old }
+    ensures written { out.new.items ≡ out.old.items ++ root_resume_bytes (record {
+      last = last;
+      numbers = numbers.now;
+    }) }
+    ensures capacity { vec_capacity out.old ≤ vec_capacity out.new }
+{
+    append(&[RESUME], out);
+    write_u32(last, out);
+    write_numbers(numbers, out);
+}
+
+/// Appends what a device's agent keeps over a restart.
+pub fn write_agent_resume(resume: &AgentResume<'_>, out: &mut Vec<u8>)
+    requires small { IfSome (option_copied resume.now.newest)
+        (λ demand. AllWithinLimit demand_limit demand) }
+    requires room { vec_len out.old + length (newest_bytes resume.now.number resume.now.index
+        (option_copied resume.now.newest)) ≤ vec_capacity out.old }
+    ensures written { out.new.items ≡ out.old.items
+        ++ newest_bytes resume.now.number resume.now.index (option_copied resume.now.newest) }
+    ensures capacity { vec_capacity out.old ≤ vec_capacity out.new }
+{
+    match resume.newest {
+        Some(demand) => {
+            append(&[RESUME], out);
+            write_u32(resume.number, out);
+            write_u32(resume.index, out);
+            write_demands(demand, out);
+        }
+        None => {
+            append(&[RESUME_GONE], out);
+            write_u32(resume.number, out);
+            write_u32(resume.index, out);
+        }
+    }
+}
+
+/// Appends that a price was not taken.
+pub fn write_dropped(number: u32, index: u32, out: &mut Vec<u8>)
+    requires room { vec_len out.old + 9 ≤ vec_capacity out.old }
+    ensures written { out.new.items ≡ out.old.items ++ dropped_bytes number index }
+    ensures capacity { vec_capacity out.old ≤ vec_capacity out.new }
+{
+    append(&[DROPPED], out);
+    write_u32(number, out);
+    write_u32(index, out);
+}
+
+/// Appends the power in watts that a device's control is to take.
+pub fn write_setpoint(setpoint: Setpoint, out: &mut Vec<u8>)
+    requires step { setpoint.step < 2 ^ 16 }
+    requires power { FitsSigned w32 setpoint.power }
+    requires room { vec_len out.old + 15 ≤ vec_capacity out.old }
+    ensures written { out.new.items ≡ out.old.items
+        ++ setpoint_bytes setpoint.number setpoint.index setpoint.step setpoint.power }
+    ensures capacity { vec_capacity out.old ≤ vec_capacity out.new }
+{
+    append(&[SETPOINT], out);
+    write_u32(setpoint.number, out);
+    write_u32(setpoint.index, out);
+    write_u16(setpoint.step as u16, out);
+    write_i32(setpoint.power, out);
+}
+
+/// Appends that eight numbers are unanswered.
+pub fn write_window_full(out: &mut Vec<u8>)
+    requires room { vec_len out.old + 1 ≤ vec_capacity out.old }
+    ensures written { out.new.items ≡ out.old.items ++ window_full_bytes }
+    ensures capacity { vec_capacity out.old ≤ vec_capacity out.new }
+{
+    append(&[WINDOW_FULL], out);
+}
+
+/// Appends that some child was not heard again since the restart.
+pub fn write_not_caught_up(out: &mut Vec<u8>)
+    requires room { vec_len out.old + 1 ≤ vec_capacity out.old }
+    ensures written { out.new.items ≡ out.old.items ++ not_caught_up_bytes }
+    ensures capacity { vec_capacity out.old ≤ vec_capacity out.new }
+{
+    append(&[NOT_CAUGHT_UP], out);
+}
+
+/// Appends that no number is left.
+pub fn write_out_of_numbers(out: &mut Vec<u8>)
+    requires room { vec_len out.old + 1 ≤ vec_capacity out.old }
+    ensures written { out.new.items ≡ out.old.items ++ out_of_numbers_bytes }
+    ensures capacity { vec_capacity out.old ≤ vec_capacity out.new }
+{
+    append(&[OUT_OF_NUMBERS], out);
+}

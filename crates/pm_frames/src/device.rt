@@ -1,0 +1,225 @@
+//! The frames of the stream to a device's agent.
+
+ghost use Rattle.std.specs.Prelude.{◌≡◌, ◌+◌, ◌*◌, ◌∷◌, length, Some, IfOk};
+ghost use Rattle.pm_base.specs.Limits.{AreSteps};
+ghost use Rattle.pm_wire.specs.Frames.{hello_kind};
+ghost use Rattle.pm_wire.specs.Spelling.{IsOne};
+ghost use Rattle.pm_frames.specs.Kinds.{offer_kind, resume_kind, resume_gone_kind};
+ghost use Rattle.pm_frames.specs.Places.{bid_place, steps_at, IsOpen, IsFresh, IsStage};
+ghost use Rattle.pm_frames.specs.ParentFrames.{parent_size};
+ghost use Rattle.pm_frames.specs.Offers.{IsOffer};
+ghost use Rattle.pm_frames.specs.DeviceFrames.{device_size, device_size_open, device_framing};
+
+use crate::kinds::{HELLO, LEAVE, OFFER, OLD, PRICE, RESUME, RESUME_GONE};
+use crate::parent::{ParentFrame, read_parent};
+use crate::place::{NodePlace, Stage};
+use crate::stored::StoredAgent;
+use pm_basis::Basis;
+use pm_bid::{ArrayBid, Steps};
+use pm_wire::{Frame, StreamFrame, read_demands, read_u32};
+use std::alloc::{AllocError, Global};
+use std::marker::Brand;
+
+/// A frame of the stream to a device's agent.
+#[derive(Drop)]
+pub enum DeviceFrame {
+    /// The market basis, in price units. It stands first, and only there.
+    Hello { basis: Basis },
+    /// The control offers the power in watts that the device would take at each step.
+    Offer { demand: ArrayBid },
+    /// The device leaves the market.
+    Leave,
+    /// A frame of the device's parent.
+    Parent(ParentFrame),
+    /// What the agent comes back with.
+    Resume(StoredAgent),
+}
+
+/// How many bytes a frame of this kind has behind a Hello of so many steps.
+fn size_open(steps: usize, kind: u8) -> Option<usize>
+    requires { AreSteps steps }
+    ensures { result ≡ device_size_open steps kind }
+{
+    match kind {
+        OFFER => Some(1 + 4 * steps),
+        LEAVE => Some(1),
+        PRICE => Some(13),
+        OLD => Some(7),
+        _ => None,
+    }
+}
+
+/// How many bytes a frame of this kind has at a stage, if it may stand there.
+fn size_at(stage: Stage, kind: u8) -> Option<usize>
+    requires { IsStage stage }
+    ensures { result ≡ device_size stage kind }
+{
+    match stage {
+        Stage::Start if kind == HELLO => Some(11),
+        Stage::Start => None,
+        Stage::Opened { steps } if kind == RESUME => Some(9 + 4 * steps),
+        Stage::Opened { .. } if kind == RESUME_GONE => Some(9),
+        Stage::Opened { steps } | Stage::Running { steps } => size_open(steps, kind),
+    }
+}
+
+/// Reads the fields of Hello.
+fn read_hello(
+    alloc: Global,
+    place: NodePlace,
+    body: &[u8],
+) -> Result<Option<DeviceFrame>, AllocError>
+    requires start { place.stage ≡ Stage.Start }
+    requires size { length body.now ≡ 10 }
+    ensures { IfOk result (IsOne device_framing place (hello_kind ∷ body.now)) }
+{
+    let Some(frame) = Frame::read(alloc, None, HELLO, body)? else {
+        return Ok(None);
+    };
+    match &frame {
+        Frame::Hello { basis } => Ok(Some(DeviceFrame::Hello { basis: *basis })),
+        Frame::Bid { .. } | Frame::Gone { .. } | Frame::Clear => unreachable!(),
+    }
+}
+
+/// The bid of the demands that the bytes are, or None where they are no bid of so many steps.
+fn read_offered(alloc: Global, steps: usize, bytes: &[u8]) -> Result<Option<ArrayBid>, AllocError>
+    requires steps { AreSteps steps }
+    requires size { length bytes.now ≡ 4 * steps }
+    ensures { IfOk result (IsOffer steps bytes.now) }
+{
+    let demands = read_demands(alloc, steps, bytes)?;
+    match ArrayBid::new(demands, steps, &mut Steps::<Brand>::start()) {
+        Ok(demand) => Ok(Some(demand)),
+        Err(_) => Ok(None),
+    }
+}
+
+/// Reads the fields of Offer.
+fn read_offer(
+    alloc: Global,
+    place: NodePlace,
+    body: &[u8],
+) -> Result<Option<DeviceFrame>, AllocError>
+    requires stage { IsStage place.stage }
+    requires open { IsOpen place.stage }
+    requires size { length body.now ≡ 4 * steps_at place.stage }
+    ensures { IfOk result (IsOne device_framing place (offer_kind ∷ body.now)) }
+{
+    match read_offered(alloc, place.stage.steps(), body)? {
+        Some(demand) => Ok(Some(DeviceFrame::Offer { demand })),
+        None => Ok(None),
+    }
+}
+
+/// Reads the fields of Resume.
+fn read_resume(
+    alloc: Global,
+    place: NodePlace,
+    body: &[u8],
+) -> Result<Option<DeviceFrame>, AllocError>
+    requires stage { IsStage place.stage }
+    requires fresh { IsFresh place.stage }
+    requires size { length body.now ≡ 8 + 4 * steps_at place.stage }
+    ensures { IfOk result (IsOne device_framing place (resume_kind ∷ body.now)) }
+{
+    let (number, rest) = read_u32(body);
+    let (index, rest) = read_u32(rest);
+    let Some(demand) = read_offered(alloc, place.stage.steps(), rest)? else {
+        return Ok(None);
+    };
+    if number == 0 {
+        return Ok(None);
+    }
+    Ok(Some(DeviceFrame::Resume(StoredAgent {
+        number,
+        index,
+        newest: Some(demand),
+    })))
+}
+
+/// Reads the fields of ResumeGone.
+fn read_resume_gone(place: NodePlace, body: &[u8]) -> Option<DeviceFrame>
+    requires fresh { IsFresh place.stage }
+    requires size { length body.now ≡ 8 }
+    ensures { IsOne device_framing place (resume_gone_kind ∷ body.now) result }
+{
+    let (number, rest) = read_u32(body);
+    let (index, _rest) = read_u32(rest);
+    Some(DeviceFrame::Resume(StoredAgent {
+        number,
+        index,
+        newest: None,
+    }))
+}
+
+/// Reads the fields of a frame of the parent.
+fn read_from_parent(place: NodePlace, kind: u8, body: &[u8]) -> Option<DeviceFrame>
+    requires open { IsOpen place.stage }
+    requires size { parent_size kind ≡ Some (length body.now + 1) }
+    ensures { IsOne device_framing place (kind ∷ body.now) result }
+{
+    let frame = read_parent(kind, body);
+    if !frame.is_accepted(place.child, place.stage.steps()) {
+        return None;
+    }
+    Some(DeviceFrame::Parent(frame))
+}
+
+/// Reads the fields of a frame of this kind.
+fn read_body(
+    alloc: Global,
+    place: NodePlace,
+    kind: u8,
+    body: &[u8],
+) -> Result<Option<DeviceFrame>, AllocError>
+    requires stage { IsStage place.stage }
+    requires size { device_size place.stage kind ≡ Some (length body.now + 1) }
+    ensures { IfOk result (IsOne device_framing place (kind ∷ body.now)) }
+{
+    match kind {
+        HELLO => read_hello(alloc, place, body),
+        RESUME => read_resume(alloc, place, body),
+        RESUME_GONE => Ok(read_resume_gone(place, body)),
+        OFFER => read_offer(alloc, place, body),
+        LEAVE => Ok(Some(DeviceFrame::Leave)),
+        _ => Ok(read_from_parent(place, kind, body)),
+    }
+}
+
+impl StreamFrame for DeviceFrame {
+    type Place = NodePlace;
+
+    ghost framing = { device_framing };
+
+    fn size_at(place: NodePlace, kind: u8) -> Option<usize> {
+        size_at(place.stage, kind)
+    }
+
+    fn read(
+        alloc: Global,
+        place: NodePlace,
+        kind: u8,
+        body: &[u8],
+    ) -> Result<Option<DeviceFrame>, AllocError> {
+        read_body(alloc, place, kind, body)
+    }
+
+    fn place_behind(&self, place: NodePlace) -> NodePlace {
+        let stage = match self {
+            DeviceFrame::Hello { basis } => Stage::Opened {
+                steps: basis.steps(),
+            },
+            DeviceFrame::Offer { .. }
+            | DeviceFrame::Leave
+            | DeviceFrame::Parent(_)
+            | DeviceFrame::Resume(_) => place.stage.behind(),
+        };
+        NodePlace {
+            child: place.child,
+            stage,
+        }
+    }
+
+    fn is_framing() {}
+}

@@ -1,0 +1,31 @@
+//! The first byte of each frame.
+
+pub(crate) const HELLO: u8 = 1;
+
+pub(crate) const BID: u8 = 2;
+
+pub(crate) const GONE: u8 = 3;
+
+pub(crate) const PRICE: u8 = 5;
+
+pub(crate) const OLD: u8 = 7;
+
+pub(crate) const SEND: u8 = 9;
+
+pub(crate) const WINDOW_FULL: u8 = 10;
+
+pub(crate) const DROPPED: u8 = 11;
+
+pub(crate) const RESUME: u8 = 12;
+
+pub(crate) const OFFER: u8 = 13;
+
+pub(crate) const LEAVE: u8 = 14;
+
+pub(crate) const SETPOINT: u8 = 15;
+
+pub(crate) const RESUME_GONE: u8 = 16;
+
+pub(crate) const NOT_CAUGHT_UP: u8 = 17;
+
+pub(crate) const OUT_OF_NUMBERS: u8 = 18;

@@ -1,0 +1,70 @@
+//! Where a frame stands in the stream to a node.
+
+ghost use Rattle.std.specs.Prelude.{◌≡◌};
+ghost use Rattle.pm_frames.specs.Places.{bid_place, steps_at, stage_behind, stage_after};
+
+use pm_wire::Frame;
+
+/// How far the stream to a node is.
+#[derive(Clone, Copy, Debug, PartialEq, Eq)]
+pub enum Stage {
+    /// Before Hello.
+    Start,
+    /// Directly behind Hello, whose basis has so many steps. What the node comes back with may stand here.
+    Opened { steps: usize },
+    /// Further behind Hello.
+    Running { steps: usize },
+}
+
+/// A place in the stream to a node that has a parent.
+#[derive(Clone, Copy, Debug, PartialEq, Eq)]
+pub struct NodePlace {
+    /// The node's own number at its parent.
+    pub child: u16,
+    /// How far the stream is.
+    pub stage: Stage,
+}
+
+impl Stage {
+    /// The place in a stream of bids: None before Hello, and behind it the steps of its basis.
+    pub(crate) fn bid_place(self) -> Option<usize>
+        ensures { result ≡ bid_place self }
+    {
+        match self {
+            Stage::Start => None,
+            Stage::Opened { steps } | Stage::Running { steps } => Some(steps),
+        }
+    }
+
+    /// How many steps the basis has, 0 before Hello.
+    pub(crate) fn steps(self) -> usize
+        ensures { result ≡ steps_at self }
+    {
+        match self {
+            Stage::Start => 0,
+            Stage::Opened { steps } | Stage::Running { steps } => steps,
+        }
+    }
+
+    /// The stage behind a frame that is no Hello.
+    pub(crate) fn behind(self) -> Stage
+        ensures { result ≡ stage_behind self }
+    {
+        match self {
+            Stage::Start => Stage::Start,
+            Stage::Opened { steps } | Stage::Running { steps } => Stage::Running { steps },
+        }
+    }
+
+    /// The stage behind a frame of a stream of bids.
+    pub(crate) fn after(self, frame: &Frame) -> Stage
+        ensures { result ≡ stage_after self frame.now }
+    {
+        match frame {
+            Frame::Hello { basis } => Stage::Opened {
+                steps: basis.steps(),
+            },
+            Frame::Bid { .. } | Frame::Gone { .. } | Frame::Clear => self.behind(),
+        }
+    }
+}

@@ -1,0 +1,160 @@
+//! The frames of the stream to a relay.
+
+ghost use Rattle.std.specs.Prelude.{◌≡◌, ◌≢◌, ◌+◌, ◌≤◌, ◌∷◌, length, Some, IfOk};
+ghost use Rattle.pm_base.specs.Limits.{most_steps};
+ghost use Rattle.pm_wire.specs.Frames.{clear_kind, size_at as bid_size_at};
+ghost use Rattle.pm_wire.specs.Spelling.{IsOne};
+ghost use Rattle.pm_frames.specs.Kinds.{resume_kind};
+ghost use Rattle.pm_frames.specs.Places.{bid_place, IsOpen, IsFresh, IsStage};
+ghost use Rattle.pm_frames.specs.ParentFrames.{parent_size};
+ghost use Rattle.pm_frames.specs.Stored.{relay_resume_size};
+ghost use Rattle.pm_frames.specs.RelayFrames.{relay_size, relay_size_open, relay_framing};
+
+use crate::kinds::{BID, GONE, HELLO, OLD, PRICE, RESUME, SEND};
+use crate::parent::{ParentFrame, read_parent};
+use crate::place::{NodePlace, Stage};
+use crate::stored::{StoredRelay, read_stored_relay};
+use pm_base::MOST_NODES;
+use pm_wire::{Frame, StreamFrame};
+use std::alloc::{AllocError, Global};
+
+/// A frame of the stream to a relay.
+#[derive(Drop)]
+pub enum RelayFrame {
+    /// Hello, or the Bid or Gone of a child, as they stand in a stream of bids.
+    Child(Frame),
+    /// A frame of the relay's parent.
+    Parent(ParentFrame),
+    /// The relay is to send its bid.
+    Send,
+    /// What the relay comes back with.
+    Resume(StoredRelay),
+}
+
+/// How many bytes a frame of this kind has behind a Hello of so many steps.
+fn size_open(steps: usize, kind: u8) -> Option<usize>
+    requires { steps ≤ most_steps }
+    ensures { result ≡ relay_size_open steps kind }
+{
+    match kind {
+        BID => Some(7 + 4 * steps),
+        GONE | OLD => Some(7),
+        PRICE => Some(13),
+        SEND => Some(1),
+        _ => None,
+    }
+}
+
+/// How many bytes a frame of this kind has at a stage, if it may stand there.
+fn size_at(stage: Stage, kind: u8) -> Option<usize>
+    requires { IsStage stage }
+    ensures { result ≡ relay_size stage kind }
+{
+    match stage {
+        Stage::Start if kind == HELLO => Some(11),
+        Stage::Start => None,
+        Stage::Opened { .. } if kind == RESUME => Some(13 + 4 * MOST_NODES),
+        Stage::Opened { steps } | Stage::Running { steps } => size_open(steps, kind),
+    }
+}
+
+/// Reads the fields of Hello, or of the Bid or Gone of a child.
+fn read_child(
+    alloc: Global,
+    place: NodePlace,
+    kind: u8,
+    body: &[u8],
+) -> Result<Option<RelayFrame>, AllocError>
+    requires stage { IsStage place.stage }
+    requires size { bid_size_at (bid_place place.stage) kind ≡ Some (length body.now + 1) }
+    requires kind { kind ≢ clear_kind }
+    ensures { IfOk result (IsOne relay_framing place (kind ∷ body.now)) }
+{
+    match Frame::read(alloc, place.stage.bid_place(), kind, body)? {
+        Some(frame) => Ok(Some(RelayFrame::Child(frame))),
+        None => Ok(None),
+    }
+}
+
+/// Reads the fields of a frame of the parent.
+fn read_from_parent(place: NodePlace, kind: u8, body: &[u8]) -> Option<RelayFrame>
+    requires open { IsOpen place.stage }
+    requires size { parent_size kind ≡ Some (length body.now + 1) }
+    ensures { IsOne relay_framing place (kind ∷ body.now) result }
+{
+    let frame = read_parent(kind, body);
+    if !frame.is_accepted(place.child, place.stage.steps()) {
+        return None;
+    }
+    Some(RelayFrame::Parent(frame))
+}
+
+/// Reads the fields of Resume.
+fn read_resume(
+    alloc: Global,
+    place: NodePlace,
+    body: &[u8],
+) -> Result<Option<RelayFrame>, AllocError>
+    requires fresh { IsFresh place.stage }
+    requires size { relay_resume_size ≡ length body.now + 1 }
+    ensures { IfOk result (IsOne relay_framing place (resume_kind ∷ body.now)) }
+{
+    let stored = read_stored_relay(alloc, body)?;
+    if !stored.is_accepted() {
+        return Ok(None);
+    }
+    Ok(Some(RelayFrame::Resume(stored)))
+}
+
+/// Reads the fields of a frame of this kind.
+fn read_body(
+    alloc: Global,
+    place: NodePlace,
+    kind: u8,
+    body: &[u8],
+) -> Result<Option<RelayFrame>, AllocError>
+    requires stage { IsStage place.stage }
+    requires size { relay_size place.stage kind ≡ Some (length body.now + 1) }
+    ensures { IfOk result (IsOne relay_framing place (kind ∷ body.now)) }
+{
+    match kind {
+        RESUME => read_resume(alloc, place, body),
+        SEND => Ok(Some(RelayFrame::Send)),
+        PRICE | OLD => Ok(read_from_parent(place, kind, body)),
+        _ => read_child(alloc, place, kind, body),
+    }
+}
+
+impl StreamFrame for RelayFrame {
+    type Place = NodePlace;
+
+    ghost framing = { relay_framing };
+
+    fn size_at(place: NodePlace, kind: u8) -> Option<usize> {
+        size_at(place.stage, kind)
+    }
+
+    fn read(
+        alloc: Global,
+        place: NodePlace,
+        kind: u8,
+        body: &[u8],
+    ) -> Result<Option<RelayFrame>, AllocError> {
+        read_body(alloc, place, kind, body)
+    }
+
+    fn place_behind(&self, place: NodePlace) -> NodePlace {
+        let stage = match self {
+            RelayFrame::Child(frame) => place.stage.after(frame),
+            RelayFrame::Parent(_) | RelayFrame::Send | RelayFrame::Resume(_) => place
+                .stage
+                .behind(),
+        };
+        NodePlace {
+            child: place.child,
+            stage,
+        }
+    }
+
+    fn is_framing() {}
+}

@@ -1,0 +1,110 @@
+//! The frames of the stream to an auctioneer that may restart.
+
+ghost use Rattle.std.specs.Prelude.{◌≡◌, ◌+◌, ◌∷◌, length, Some, IfOk};
+ghost use Rattle.pm_wire.specs.Frames.{size_at as bid_size_at};
+ghost use Rattle.pm_wire.specs.Spelling.{IsOne};
+ghost use Rattle.pm_frames.specs.Kinds.{resume_kind};
+ghost use Rattle.pm_frames.specs.Places.{bid_place, IsFresh, IsStage};
+ghost use Rattle.pm_frames.specs.Stored.{root_resume_size};
+ghost use Rattle.pm_frames.specs.RootFrames.{root_size, root_framing};
+
+use crate::kinds::RESUME;
+use crate::place::Stage;
+use crate::stored::{StoredRoot, read_stored_root};
+use pm_base::MOST_NODES;
+use pm_wire::{Frame, StreamFrame};
+use std::alloc::{AllocError, Global};
+
+/// A frame of the stream to an auctioneer.
+#[derive(Drop)]
+pub enum RootFrame {
+    /// A frame of a stream of bids.
+    Market(Frame),
+    /// What the auctioneer comes back with.
+    Resume(StoredRoot),
+}
+
+/// How many bytes a frame of this kind has at a stage, if it may stand there.
+fn size_at(stage: Stage, kind: u8) -> Option<usize>
+    requires { IsStage stage }
+    ensures { result ≡ root_size stage kind }
+{
+    match stage {
+        Stage::Opened { .. } if kind == RESUME => Some(5 + 4 * MOST_NODES),
+        Stage::Start | Stage::Opened { .. } | Stage::Running { .. } => {
+            <Frame as StreamFrame>::size_at(stage.bid_place(), kind)
+        }
+    }
+}
+
+/// Reads the fields of a frame of a stream of bids.
+fn read_market(
+    alloc: Global,
+    stage: Stage,
+    kind: u8,
+    body: &[u8],
+) -> Result<Option<RootFrame>, AllocError>
+    requires stage { IsStage stage }
+    requires size { bid_size_at (bid_place stage) kind ≡ Some (length body.now + 1) }
+    ensures { IfOk result (IsOne root_framing stage (kind ∷ body.now)) }
+{
+    match Frame::read(alloc, stage.bid_place(), kind, body)? {
+        Some(frame) => Ok(Some(RootFrame::Market(frame))),
+        None => Ok(None),
+    }
+}
+
+/// Reads the fields of Resume.
+fn read_resume(alloc: Global, stage: Stage, body: &[u8]) -> Result<Option<RootFrame>, AllocError>
+    requires fresh { IsFresh stage }
+    requires size { root_resume_size ≡ length body.now + 1 }
+    ensures { IfOk result (IsOne root_framing stage (resume_kind ∷ body.now)) }
+{
+    let stored = read_stored_root(alloc, body)?;
+    Ok(Some(RootFrame::Resume(stored)))
+}
+
+/// Reads the fields of a frame of this kind.
+fn read_body(
+    alloc: Global,
+    stage: Stage,
+    kind: u8,
+    body: &[u8],
+) -> Result<Option<RootFrame>, AllocError>
+    requires stage { IsStage stage }
+    requires size { root_size stage kind ≡ Some (length body.now + 1) }
+    ensures { IfOk result (IsOne root_framing stage (kind ∷ body.now)) }
+{
+    if kind == RESUME {
+        return read_resume(alloc, stage, body);
+    }
+    read_market(alloc, stage, kind, body)
+}
+
+impl StreamFrame for RootFrame {
+    type Place = Stage;
+
+    ghost framing = { root_framing };
+
+    fn size_at(place: Stage, kind: u8) -> Option<usize> {
+        size_at(place, kind)
+    }
+
+    fn read(
+        alloc: Global,
+        place: Stage,
+        kind: u8,
+        body: &[u8],
+    ) -> Result<Option<RootFrame>, AllocError> {
+        read_body(alloc, place, kind, body)
+    }
+
+    fn place_behind(&self, place: Stage) -> Stage {
+        match self {
+            RootFrame::Market(frame) => place.after(frame),
+            RootFrame::Resume(_) => place.behind(),
+        }
+    }
+
+    fn is_framing() {}
+}
