@@ -1,0 +1,11 @@
+pub mod Limits
+pub mod Receipts
+pub mod RelayAnswers
+pub mod RelayStands
+pub mod OpenRelayFields
+pub mod RelayServiceFields
+pub mod RootAnswers
+pub mod RootStands
+pub mod OpenRootFields
+pub mod DeviceAnswers
+pub mod DeviceServiceFields

@@ -1,0 +1,259 @@
+//! A device's agent behind Hello: what it makes of each frame, and the bytes of its answers.
+
+ghost use Rattle.std.specs.Prelude.{◌≡◌, ◌+◌, ◌<◌, ◌≤◌, ◌^◌, ◌++◌, length, vec_len, vec_capacity, IfOk, IfSome};
+ghost use Rattle.std.specs.Prelude.{OnOk, OnErr};
+ghost use Rattle.std.specs.Option.{option_copied};
+ghost use Rattle.pm_base.specs.Limits.{demand_limit, most_steps};
+ghost use Rattle.pm_bid.specs.Bids.{AllWithinLimit};
+ghost use Rattle.pm_net.specs.Agents.{new_agent, after_price};
+ghost use Rattle.pm_control.specs.Control.{message_of, agent_stored};
+ghost use Rattle.pm_frames.specs.DeviceFrames.{device_frame_limit};
+ghost use Rattle.pm_services.specs.Limits.{device_reply_limit};
+ghost use Rattle.pm_services.specs.DeviceAnswers.{own_resume_bytes, after_asking, offer_reply, after_asking_to_leave, leave_reply};
+ghost use Rattle.pm_services.specs.DeviceAnswers.{price_reply, sent_again, agent_behind, agent_reply};
+ghost use Rattle.pm_services.specs.DeviceServiceFields.{HasSmallDemand, IsSmall};
+
+use pm_bid::{ArrayBid, Steps};
+use pm_control::{ControlAgent, OfferFault};
+use pm_frames::{
+    DeviceFrame, ParentFrame, StoredAgent, write_agent_resume, write_bid, write_dropped,
+    write_gone, write_out_of_numbers, write_setpoint, write_window_full,
+};
+use pm_session::PriceUpdate;
+use std::alloc::{AllocError, Global};
+use std::marker::{Brand, Model};
+
+/// A device that has a basis.
+///
+/// Contracts see its agent. Each offer that the agent keeps fits a message.
+#[derive(Drop)]
+pub(crate) struct OpenDevice {
+    agent: ControlAgent,
+}
+
+impl Model for OpenDevice {
+    ghost use Rattle.pm_net.specs.Agents.{DeviceAgent};
+
+    ghost Value = { DeviceAgent };
+
+    ghost use Rattle.pm_services.specs.DeviceServiceFields.{AreOpenDeviceFields};
+
+    ghost view = { λ device. device.agent };
+
+    ghost invariant = { AreOpenDeviceFields };
+}
+
+/// A copy of a bid, which has at most 1000 steps.
+fn copy_of(alloc: Global, demand: &ArrayBid) -> Result<ArrayBid, AllocError>
+    ensures copy { IfOk result (λ copy. copy ≡ demand.now) }
+    ensures steps { length demand.now ≤ most_steps }
+{
+    let mut counter = Steps::<Brand>::start();
+    let mut copy = ArrayBid::zero(alloc, demand.steps(), &mut counter)?;
+    demand.copy_into(&mut copy, &mut counter);
+    Ok(copy)
+}
+
+/// A copy of a bid, where there is one.
+fn copy_if_some(alloc: Global, demand: Option<&ArrayBid>) -> Result<Option<ArrayBid>, AllocError>
+    ensures { IfOk result (λ copy. copy ≡ option_copied demand.entry) }
+{
+    let Some(demand) = demand else {
+        return Ok(None);
+    };
+    let copy = copy_of(alloc, demand)?;
+    Ok(Some(copy))
+}
+
+/// How many steps a bid has, at most 1000, and 0 where there is none.
+fn steps_if_some(demand: Option<&ArrayBid>) -> usize
+    ensures steps { IfSome (option_copied demand.entry) (λ bid. result ≡ length bid) }
+    ensures few { result ≤ most_steps }
+{
+    match demand {
+        Some(bid) => bid.steps(),
+        None => 0,
+    }
+}
+
+/// Appends the newest Bid of a device that comes back, or its Gone, unless it gave no number yet.
+fn send_again(child: u16, stored: &StoredAgent, out: &mut Vec<u8>)
+    requires small { IsSmall stored.now.newest }
+    requires room { vec_len out.old + device_reply_limit ≤ vec_capacity out.old }
+    ensures written { out.new.items ≡ out.old.items
+        ++ sent_again child stored.now.number stored.now.newest }
+    ensures few { length out.new.items ≤ length out.old.items + device_reply_limit }
+{
+    if let Some(demand) = &stored.newest {
+        // The call tells a fact of the type: a bid has at most 1000 steps.
+        let _steps = demand.steps();
+        write_bid(child, stored.number, demand, out);
+    } else if stored.number != 0 {
+        write_gone(child, stored.number, out);
+    }
+}
+
+impl OpenDevice {
+    /// A device whose control made no offer.
+    pub(crate) fn new(alloc: Global) -> Result<OpenDevice, AllocError>
+        ensures { IfOk result (λ device. device ≡ new_agent) }
+    {
+        let agent = ControlAgent::new(alloc)?;
+        Ok(OpenDevice { agent })
+    }
+
+    /// Takes a frame behind Hello, and appends the answers to it. Where an allocation fails nothing changes and nothing is
+    /// appended.
+    pub(crate) fn take(
+        &mut self,
+        alloc: Global,
+        child: u16,
+        frame: &DeviceFrame,
+        out: &mut Vec<u8>,
+    ) -> Result<(), AllocError>
+        requires small { HasSmallDemand frame.now }
+        requires room { vec_len out.old + device_reply_limit ≤ vec_capacity out.old }
+        ensures taken { OnOk result (self.new ≡ agent_behind self.old frame.now) }
+        ensures answered { OnOk result (out.new.items ≡ out.old.items
+            ++ agent_reply child self.old frame.now) }
+        ensures unchanged { OnErr result ((self.new ≡ self.old) × (out.new.items ≡ out.old.items)) }
+        ensures few { length out.new.items ≤ length out.old.items + device_reply_limit }
+    {
+        match frame {
+            DeviceFrame::Offer { demand } => self.offer(alloc, child, demand, out),
+            DeviceFrame::Leave => {
+                self.leave(child, out);
+                Ok(())
+            }
+            DeviceFrame::Parent(
+                ParentFrame::Price {
+                    number,
+                    index,
+                    step,
+                    ..
+                },
+            ) => {
+                let price = PriceUpdate {
+                    step: u32::from(*step),
+                    number: *number,
+                    index: *index,
+                };
+                self.take_price(price, out);
+                Ok(())
+            }
+            DeviceFrame::Resume(stored) => self.come_back(alloc, child, stored, out),
+            // Hello stands first and only there, and an Old says nothing new.
+            DeviceFrame::Hello { .. } | DeviceFrame::Parent(ParentFrame::Old { .. }) => Ok(()),
+        }
+    }
+
+    /// Appends what the agent keeps over a restart.
+    fn write_resume(&self, out: &mut Vec<u8>)
+        requires room { vec_len out.old + device_frame_limit ≤ vec_capacity out.old }
+        ensures written { out.new.items ≡ out.old.items ++ own_resume_bytes self.now }
+        ensures few { length out.new.items ≤ length out.old.items + device_frame_limit }
+        ensures capacity { vec_capacity out.old ≤ vec_capacity out.new }
+    {
+        let resume = self.agent.resume();
+        // The call tells a fact of the type: a bid has at most 1000 steps.
+        let _steps = steps_if_some(resume.newest);
+        write_agent_resume(&resume, out);
+    }
+
+    /// Makes an offer, and appends its Bid with what the agent keeps over a restart before it, or why there is none.
+    fn offer(
+        &mut self,
+        alloc: Global,
+        child: u16,
+        demand: &ArrayBid,
+        out: &mut Vec<u8>,
+    ) -> Result<(), AllocError>
+        requires small { AllWithinLimit demand_limit demand.now }
+        requires room { vec_len out.old + device_reply_limit ≤ vec_capacity out.old }
+        ensures offered { OnOk result (self.new ≡ after_asking self.old demand.now) }
+        ensures answered { OnOk result (out.new.items ≡ out.old.items
+            ++ offer_reply child self.old demand.now) }
+        ensures unchanged { OnErr result ((self.new ≡ self.old) × (out.new.items ≡ out.old.items)) }
+        ensures few { length out.new.items ≤ length out.old.items + device_reply_limit }
+    {
+        let kept = copy_of(alloc, demand)?;
+        self.send_offer(child, kept, demand, out);
+        Ok(())
+    }
+
+    /// Gives an offer the next number and keeps it, and appends what is answered. The offer is a copy of the demand.
+    fn send_offer(&mut self, child: u16, kept: ArrayBid, demand: &ArrayBid, out: &mut Vec<u8>)
+        requires copy { kept ≡ demand.now }
+        requires small { AllWithinLimit demand_limit demand.now }
+        requires steps { length demand.now ≤ most_steps }
+        requires room { vec_len out.old + device_reply_limit ≤ vec_capacity out.old }
+        ensures offered { self.new ≡ after_asking self.old demand.now }
+        ensures answered { out.new.items ≡ out.old.items ++ offer_reply child self.old demand.now }
+        ensures few { length out.new.items ≤ length out.old.items + device_reply_limit }
+    {
+        match self.agent.offer(kept) {
+            Ok(number) => {
+                self.write_resume(out);
+                write_bid(child, number, demand, out);
+            }
+            Err(OfferFault::WindowFull) => write_window_full(out),
+            Err(OfferFault::OutOfNumbers) => write_out_of_numbers(out),
+        }
+    }
+
+    /// Leaves the market, and appends the Gone with what the agent keeps over a restart before it, or that no number is left.
+    fn leave(&mut self, child: u16, out: &mut Vec<u8>)
+        requires room { vec_len out.old + device_reply_limit ≤ vec_capacity out.old }
+        ensures left { self.new ≡ after_asking_to_leave self.old }
+        ensures answered { out.new.items ≡ out.old.items ++ leave_reply child self.old }
+        ensures few { length out.new.items ≤ length out.old.items + device_reply_limit }
+    {
+        let Some(number) = self.agent.leave() else {
+            write_out_of_numbers(out);
+            return;
+        };
+        self.write_resume(out);
+        write_gone(child, number, out);
+    }
+
+    /// Takes a price of the parent, and appends the setpoint with what the agent keeps over a restart behind it, or that the
+    /// price was dropped.
+    fn take_price(&mut self, price: PriceUpdate, out: &mut Vec<u8>)
+        requires step { price.step < 2 ^ 16 }
+        requires room { vec_len out.old + device_reply_limit ≤ vec_capacity out.old }
+        ensures taken { self.new ≡ after_price self.old (message_of price) }
+        ensures answered { out.new.items ≡ out.old.items
+            ++ price_reply self.old (message_of price) }
+        ensures few { length out.new.items ≤ length out.old.items + device_reply_limit }
+    {
+        let Some(setpoint) = self.agent.take_price(price) else {
+            write_dropped(price.number, price.index, out);
+            return;
+        };
+        write_setpoint(setpoint, out);
+        self.write_resume(out);
+    }
+
+    /// Comes back with what an agent gave before a restart, and appends its newest Bid or Gone again.
+    fn come_back(
+        &mut self,
+        alloc: Global,
+        child: u16,
+        stored: &StoredAgent,
+        out: &mut Vec<u8>,
+    ) -> Result<(), AllocError>
+        requires small { IsSmall stored.now.newest }
+        requires room { vec_len out.old + device_reply_limit ≤ vec_capacity out.old }
+        ensures back { OnOk result (self.new
+            ≡ agent_stored stored.now.number stored.now.newest stored.now.index) }
+        ensures answered { OnOk result (out.new.items ≡ out.old.items
+            ++ sent_again child stored.now.number stored.now.newest) }
+        ensures unchanged { OnErr result ((self.new ≡ self.old) × (out.new.items ≡ out.old.items)) }
+        ensures few { length out.new.items ≤ length out.old.items + device_reply_limit }
+    {
+        let newest = copy_if_some(alloc, stored.newest.as_ref())?;
+        self.agent = ControlAgent::resumed(alloc, stored.number, newest, stored.index)?;
+        send_again(child, stored, out);
+        Ok(())
+    }
+}
