@@ -4,4 +4,6 @@
 #![tactic(auto)]
 
 #[cfg(test)]
+mod live;
+#[cfg(test)]
 mod top;

@@ -1,0 +1,4 @@
+pub mod LiveNodes
+pub mod Endings
+pub mod Due
+pub mod Serving
