@@ -22,14 +22,17 @@ use Rattle.pm_relay.specs.Relays.{RelayValue, newest_bid_number, ComesBack}
 use Rattle.pm_relay_net.specs.Heads.{bid_head, heads_of}
 use Rattle.pm_relay_net.specs.RelayIs.{MatchesNode, RelayIs}
 use Rattle.pm_relay_net.proofs.Places.{heads_of-none, demands_of-none}
-use Rattle.pm_relay_net.proofs.Matching.{same_numbers}
+use Rattle.pm_relay_net.proofs.Children.{same_numbers}
 
 -- the heads of y and its demands where nothing was heard of its children
-record HearsNone (p : Pricing) (numbering : Numbering) (y : ℕ) (heard : ℕ → BidMessage) : Type 0 where
-  heads : heads_of numbering y heard ≡ replicate most_nodes nothing_sent
-  demands : demands_of p.steps numbering y (λ z. (heard z).demand) ≡ replicate most_nodes (zeros p.steps)
+pub record HearsNone (p : Pricing) (numbering : Numbering) (y : ℕ) (heard : ℕ → BidMessage) : Type 0 where
+  -- the heads
+  pub heads : heads_of numbering y heard ≡ replicate most_nodes nothing_sent
+  -- the demands
+  pub demands : demands_of p.steps numbering y (λ z. (heard z).demand) ≡ replicate most_nodes (zeros p.steps)
 
-hears_none : (lists : Lists) (p : Pricing) (numbering : Numbering) → IsNumbering lists numbering → (y : ℕ) (heard : ℕ → BidMessage) →
+-- there is nothing of anyone then
+pub hears_none : (lists : Lists) (p : Pricing) (numbering : Numbering) → IsNumbering lists numbering → (y : ℕ) (heard : ℕ → BidMessage) →
     ((x : ℕ) → IsNode lists x → parent lists x ≡ y → heard x ≡ nothing_heard p) → HearsNone p numbering y heard
 hears_none lists p numbering is y heard none = record {
   heads = heads_of-none numbering y heard (λ k inside. each k inside (λ (b : BidMessage). bid_head b) nothing_sent refl);
@@ -87,20 +90,31 @@ module _ (lists : Lists) (p : Pricing) (numbering : Numbering) (is : IsNumbering
     rebuilt = λ hears. hears.changed (heads_are ∙ sym back.gathered.window.opening);
   }
 
+-- the number in each place is 0 where nothing was heard
+pub zero_in : (lists : Lists) (p : Pricing) (numbering : Numbering) → IsNumbering lists numbering → (c k : ℕ) → k < most_nodes →
+    head_number (heads_of numbering c (λ x. nothing_heard p)) k ≡ 0
+zero_in lists p numbering is c k inside =
+    ap (λ (l : List BidHead). head_number l k) (hears_none lists p numbering is c (λ x. nothing_heard p) (λ x node up. refl)).heads
+    ∙ ap (λ (h : BidHead). h.number) (get_or-replicate most_nodes k nothing_sent nothing_sent
+    (omega (arith, inside, length-replicate {A = BidHead} most_nodes nothing_sent)))
+
+-- a restart leaves of the newest record its numbers
+pub numbers_left : (lists : Lists) (p : Pricing) (net : Network) (c k x : ℕ) →
+    ((after_restart lists p net c k).records c (net.last_number c) x).number ≡ (net.records c (net.last_number c) x).number
+numbers_left lists p net c k x =
+    ap (λ (f : ℕ → ℕ → BidMessage). (f (net.last_number c) x).number) (updated_same net.records c (records_left net c))
+    ∙ ap (λ (b : BidMessage). b.number) (cond-true (eqb (net.last_number c) (net.last_number c))
+    (number_alone (net.records c (net.last_number c) x)) nothing_left (eq-eqb (net.last_number c) (net.last_number c) refl))
+
 -- for the first time
 pub first_up : (lists : Lists) (p : Pricing) (numbering : Numbering) → IsNumbering lists numbering → (limits : Limits) (c : ℕ) (r : RelayValue) →
     p.limits c ≡ Some limits → ComesBack p.steps limits 0 0 0 (replicate most_nodes 0) r → RelayIs p numbering (start_network p) c r
 first_up lists p numbering is limits c r limited back =
     comes_up lists p numbering is (start_network p) limits c 0 0 0 (replicate most_nodes 0) r limited back (λ x node up. refl) refl
     (length-replicate {A = ℕ} most_nodes 0)
-    (λ k inside. get_or-replicate most_nodes k 0 0 (omega (arith, inside, length-replicate {A = ℕ} most_nodes 0)) ∙ sym (zero_in k inside))
+    (λ k inside. get_or-replicate most_nodes k 0 0 (omega (arith, inside, length-replicate {A = ℕ} most_nodes 0))
+    ∙ sym (zero_in lists p numbering is c k inside))
     refl refl refl (omega arith)
-  where
-    zero_in : (k : ℕ) → k < most_nodes → head_number (heads_of numbering c (λ x. nothing_heard p)) k ≡ 0
-    zero_in k inside =
-        ap (λ (l : List BidHead). head_number l k) (hears_none lists p numbering is c (λ x. nothing_heard p) (λ x node up. refl)).heads
-        ∙ ap (λ (h : BidHead). h.number) (get_or-replicate most_nodes k nothing_sent nothing_sent
-        (omega (arith, inside, length-replicate {A = BidHead} most_nodes nothing_sent)))
 
 -- and after a restart
 pub back_up : (lists : Lists) (p : Pricing) (numbering : Numbering) → IsNumbering lists numbering → (net : Network) (limits : Limits) (c k : ℕ)
@@ -113,13 +127,8 @@ back_up lists p numbering is net limits c k old new limited m within back =
     (λ x node up. cond-true (eqb (parent lists x) c) (nothing_heard p) (net.heard x) (eq-eqb (parent lists x) c up))
     m.newest m.children
     (λ i inside. m.recorded i inside ∙ same_numbers numbering c i (net.records c (net.last_number c))
-    ((after_restart lists p net c k).records c (net.last_number c)) inside (λ x. sym (left x)))
+    ((after_restart lists p net c k).records c (net.last_number c)) inside (λ x. sym (numbers_left lists p net c k x)))
     (sym (updated_same net.answered c (stored_price net c k).number))
     (sym (ap (λ (q : PriceMessage). q.index) (updated_same net.taken c (stored_price net c k))))
     (omega (arith, m.newest, updated_same net.whole_from c (net.last_number c + 1)))
     (omega (arith, within, m.newest))
-  where
-    left : (x : ℕ) → ((after_restart lists p net c k).records c (net.last_number c) x).number ≡ (net.records c (net.last_number c) x).number
-    left x = ap (λ (f : ℕ → ℕ → BidMessage). (f (net.last_number c) x).number) (updated_same net.records c (records_left net c))
-        ∙ ap (λ (b : BidMessage). b.number) (cond-true (eqb (net.last_number c) (net.last_number c))
-        (number_alone (net.records c (net.last_number c) x)) nothing_left (eq-eqb (net.last_number c) (net.last_number c) refl))

@@ -1,27 +1,21 @@
 -- A relay learns a child's bid, and may have its record again.
-use Rattle.std.proofs.Common.{◌≡◌, ◌∙◌, sym, ap, subst, ℕ, ◌+◌, ◌-◌, ◌<◌, ℤ, Bool, true, false}
-use Rattle.std.proofs.Common.{leb, ltb, List, length, get_or, arith}
-use Rattle.std.proofs.Common.{inl, inr, refl, Some, None, ◌⊎◌, not, [], ◌∷◌}
-use Rattle.std.specs.Prelude.{if◌then◌else◌}
-use Rattle.std.proofs.lemmas.Bool.{cases_lt, cond-true, cond-false, lt-ltb, le-leb, ltb-true, leb-true, and_from, and_parts, not_from_false}
-use Rattle.std.proofs.lemmas.Bool.{false_from_ne_true}
-use Rattle.std.proofs.Math.ListN.{set}
+use Rattle.std.proofs.Common.{◌≡◌, ◌∙◌, sym, ap, subst, ℕ, ◌+◌, ◌-◌, ◌<◌, true}
+use Rattle.std.proofs.Common.{ltb, List, length, arith}
+use Rattle.std.proofs.Common.{inl, inr, refl, Some, ◌⊎◌, not, [], ◌∷◌}
+use Rattle.std.proofs.lemmas.Bool.{cases_lt, cond-true, lt-ltb, and_from, not_from_false}
 use Rattle.pm_base.specs.Limits.{most_nodes}
 use Rattle.pm_bid.specs.Bids.{zeros}
-use Rattle.pm_bid.specs.Heads.{nothing_sent}
 use Rattle.pm_bid.specs.Limited.{within_limits}
 use Rattle.pm_bid.specs.declared.head.BidHead.{BidHead}
-use Rattle.pm_cache.specs.Cache.{Cache, kept_number, with_entry, aggregate_of}
-use Rattle.pm_cache.specs.Learning.{after_learning, with_newer_bid}
+use Rattle.pm_cache.specs.Cache.{Cache, aggregate_of}
+use Rattle.pm_cache.specs.Learning.{after_learning}
 use Rattle.pm_market.specs.Lists.{Lists, parent, IsNode}
-use Rattle.pm_market.specs.Legality.{is_node}
-use Rattle.pm_market.proofs.Legality.{is_node_at}
 use Rattle.pm_market.proofs.Cuts.{updated_same}
 use Rattle.pm_session.specs.Windows.{Keeps, record_of}
 use Rattle.pm_net.specs.Pricing.{Pricing}
 use Rattle.pm_net.specs.Messages.{BidMessage}
 use Rattle.pm_net.specs.Network.{Network, sent_bid}
-use Rattle.pm_net.specs.Running.{is_new_bid, after_taking_bid, has_news}
+use Rattle.pm_net.specs.Running.{after_taking_bid, has_news}
 use Rattle.pm_net.specs.Restarts.{can_rebuild, after_rebuilding}
 use Rattle.pm_net.specs.Events.{network_step, network_after, TakesBid, Rebuilds}
 use Rattle.pm_net.proofs.Messages.{two_same}
@@ -29,15 +23,10 @@ use Rattle.pm_net.proofs.News.{level}
 use Rattle.pm_net_plan.specs.Places.{Numbering, IsNumbering}
 use Rattle.pm_relay.specs.Numbers.{child_number, head_number}
 use Rattle.pm_relay.specs.Relays.{RelayValue, with_child_bid, HearsItsRecord, RecordRebuilt, LooksForRecord}
-use Rattle.pm_relay_net.specs.Heads.{bid_head, heads_of, AddsByPlaces}
+use Rattle.pm_relay_net.specs.Heads.{heads_of, AddsByPlaces}
 use Rattle.pm_relay_net.specs.RelayIs.{MatchesNode, RelayIs, told_demand}
-use Rattle.pm_relay_net.proofs.Places.{head_there, heads_set, demands_set}
+use Rattle.pm_relay_net.proofs.Entering.{HearsChildren, newer_taken, newer_heard, older_left, same_cache}
 use Rattle.pm_relay_net.proofs.Matching.{caught_to, over_to, sum_is}
-
-entered_is : (cache : Cache) (k n : ℕ) (g : Bool) (d : List ℤ) → (g ≡ true → d ≡ zeros cache.steps) →
-    with_newer_bid cache k n (if g then None else Some d) ≡ with_entry cache k (record { number = n; gone = g }) d
-entered_is cache k n true d h = ap (with_entry cache k (record { number = n; gone = true })) (sym (h refl))
-entered_is cache k n false d h = refl
 
 module _ (lists : Lists) (p : Pricing) (numbering : Numbering) (is : IsNumbering lists numbering) (net : Network) (x k : ℕ) (node : IsNode lists x)
     (r : RelayValue) (m : MatchesNode p numbering net (parent lists x) r)
@@ -51,21 +40,17 @@ module _ (lists : Lists) (p : Pricing) (numbering : Numbering) (is : IsNumbering
   abbrev entered : RelayValue
   entered = with_child_bid r (numbering.place x) bid.number (told_demand bid)
 
-  kept_is : kept_number r.gathered.cache (numbering.place x) ≡ (net.heard x).number
-  kept_is = ap (λ (l : List BidHead). (get_or l (numbering.place x) nothing_sent).number) m.heads
-      ∙ ap (λ (h : BidHead). h.number) (head_there lists numbering is net.heard x node)
+  has : HearsChildren p numbering net (parent lists x) r.gathered.cache
+  has = record { steps = m.steps; heads = m.heads; demands = m.demands }
 
-  -- with the bid in its place the relay matches the node that took it
-  with_bid : (cache : Cache) → cache ≡ with_entry r.gathered.cache (numbering.place x) (bid_head bid) bid.demand →
+  with_cache : (cache : Cache) → HearsChildren p numbering (after_taking_bid net x bid) c cache →
       MatchesNode p numbering (after_taking_bid net x bid) c (record r { gathered = record r.gathered { cache = cache } })
-  with_bid cache made = record {
-    steps = ap (λ (w : Cache). w.steps) made ∙ m.steps;
+  with_cache cache hears = record {
+    steps = hears.steps;
     limits = m.limits;
     limited = m.limited;
-    heads = ap (λ (w : Cache). w.heads) made ∙ ap (λ (l : List BidHead). set l (numbering.place x) (bid_head bid)) m.heads
-        ∙ heads_set lists numbering is net.heard x bid node;
-    demands = ap (λ (w : Cache). w.demands) made ∙ ap (λ (l : List (List ℤ)). set l (numbering.place x) bid.demand) m.demands
-        ∙ demands_set lists numbering is p.steps net.heard x bid node;
+    heads = hears.heads;
+    demands = hears.demands;
     newest = m.newest;
     children = m.children;
     recorded = m.recorded;
@@ -85,33 +70,14 @@ module _ (lists : Lists) (p : Pricing) (numbering : Numbering) (is : IsNumbering
 
   -- the relay with the bid matches the node after it was given the bid
   pub enters : MatchesNode p numbering (network_step lists p net (TakesBid x k)) c entered
-  unfolding is_new_bid
   enters =
-      let test : Bool = is_new_bid lists net x bid in
+      let cache : Cache = after_learning r.gathered.cache (numbering.place x) bid.number (told_demand bid) in
       let Match : Network → Type 0 = λ n. MatchesNode p numbering n c entered in
       elim (cases_lt (net.heard x).number bid.number) [
-        | inl lt ↦
-            let is_new : test ≡ true = and_from (is_node lists x) (ltb (net.heard x).number bid.number) (is_node_at lists x node)
-            (lt-ltb (net.heard x).number bid.number lt) in
-            let made : after_learning r.gathered.cache (numbering.place x) bid.number (told_demand bid)
-            ≡ with_entry r.gathered.cache (numbering.place x) (bid_head bid) bid.demand =
-            cond-false (leb bid.number (kept_number r.gathered.cache (numbering.place x))) r.gathered.cache
-            (with_newer_bid r.gathered.cache (numbering.place x) bid.number (told_demand bid))
-            (false_from_ne_true (leb bid.number (kept_number r.gathered.cache (numbering.place x))) (λ e.
-            omega (arith, leb-true bid.number (kept_number r.gathered.cache (numbering.place x)) e, kept_is, lt)))
-            ∙ entered_is r.gathered.cache (numbering.place x) bid.number bid.gone bid.demand (λ e. none e ∙ ap zeros (sym m.steps)) in
-            subst Match (sym (cond-true test (after_taking_bid net x bid) net is_new))
-            (with_bid (after_learning r.gathered.cache (numbering.place x) bid.number (told_demand bid)) made)
-        | inr ge ↦
-            let not_new : test ≡ false = false_from_ne_true test (λ e.
-            let parts = and_parts (is_node lists x) (ltb (net.heard x).number bid.number) e in
-            omega (arith, ltb-true (net.heard x).number bid.number parts.1, ge)) in
-            let made : after_learning r.gathered.cache (numbering.place x) bid.number (told_demand bid) ≡ r.gathered.cache =
-            cond-true (leb bid.number (kept_number r.gathered.cache (numbering.place x))) r.gathered.cache
-            (with_newer_bid r.gathered.cache (numbering.place x) bid.number (told_demand bid))
-            (le-leb bid.number (kept_number r.gathered.cache (numbering.place x)) (omega (arith, kept_is, ge))) in
-            subst Match (sym (cond-false test (after_taking_bid net x bid) net not_new))
-            (same_relay (after_learning r.gathered.cache (numbering.place x) bid.number (told_demand bid)) made)
+        | inl lt ↦ subst Match (sym (newer_taken lists p numbering is net x k node r.gathered.cache has none lt))
+            (with_cache cache (newer_heard lists p numbering is net x k node r.gathered.cache has none lt))
+        | inr ge ↦ subst Match (sym (older_left lists p numbering is net x k node r.gathered.cache has none ge))
+            (same_relay cache (same_cache lists p numbering is net x k node r.gathered.cache has none ge))
       ]
 
 -- a relay that hears its record has it again, as the node does

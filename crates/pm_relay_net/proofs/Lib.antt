@@ -1,7 +1,14 @@
-mod Places
-mod Matching
-mod ComingUp
-mod Learning
-mod Sending
-mod TakingPrices
-mod Elsewhere
+pub mod Places
+pub mod Children
+pub mod Matching
+pub mod ComingUp
+pub mod Entering
+pub mod Learning
+pub mod Elsewhere
+pub mod LeftAlone
+pub mod Sending
+pub mod PricesDown
+pub mod TakingPrices
+pub mod RootComingUp
+pub mod RootLearning
+pub mod RootClearing

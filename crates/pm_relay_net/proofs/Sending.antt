@@ -1,7 +1,7 @@
 -- A relay sends a bid, refuses to, or sends its newest one again.
 use Rattle.std.proofs.Common.{◌≡◌, ◌∙◌, sym, ap, subst, ℕ, ◌+◌, ◌-◌, ◌<◌, ◌≤◌, Bool, true, false}
 use Rattle.std.proofs.Common.{not, ltb, leb, eqb, ◌&&◌, ◌||◌, List, [], ◌∷◌, ◌++◌}
-use Rattle.std.proofs.Common.{length, get_or, Some, arith, inl, inr, refl, ◌⊎◌}
+use Rattle.std.proofs.Common.{length, get_or, Some, arith, inl, inr, refl, ◌⊎◌, cond}
 use Rattle.std.specs.Prelude.{unwrap_or}
 use Rattle.std.proofs.lemmas.Bool.{cases_eq, cases_Bool, cases_lt, and_parts, and_from, ltb-true, lt-ltb, le-leb, leb-true, eqb-true}
 use Rattle.std.proofs.lemmas.Bool.{not_from_false, both_ways}
@@ -12,7 +12,7 @@ use Rattle.pm_bid.specs.Heads.{nothing_sent}
 use Rattle.pm_bid.specs.Limited.{within_limits}
 use Rattle.pm_bid.specs.declared.head.BidHead.{BidHead}
 use Rattle.pm_cache.specs.Cache.{Cache, aggregate_of}
-use Rattle.pm_market.specs.Lists.{Lists, parent, is_leaf, IsNode, IsConcentrator, Lawful}
+use Rattle.pm_market.specs.Lists.{Lists, parent, is_leaf, changes, IsNode, IsConcentrator, Lawful}
 use Rattle.pm_market.specs.State.{State, cut_at, number}
 use Rattle.pm_market.specs.Legality.{is_node}
 use Rattle.pm_market.proofs.Legality.{is_node_at}
@@ -26,8 +26,8 @@ use Rattle.pm_net.specs.Pricing.{Pricing}
 use Rattle.pm_net.specs.Messages.{BidMessage, bid_message}
 use Rattle.pm_net.specs.Network.{Network}
 use Rattle.pm_net.specs.Running.{is_caught_up, has_news, can_send, heard_sum, relay_bid, after_sending, recorded_number}
-use Rattle.pm_net.specs.Restarts.{can_resend, newest_bid, after_resending}
-use Rattle.pm_net.specs.Events.{network_step, Sends, Resends}
+use Rattle.pm_net.specs.Restarts.{can_resend, newest_bid, after_resending, device_stopped, relay_stopped}
+use Rattle.pm_net.specs.Events.{network_step, may_bid, Sends, Resends, StopsBidding}
 use Rattle.pm_net.specs.Agrees.{bid_of_number, NetworkAgrees}
 use Rattle.pm_net.proofs.Messages.{two_same, two_other}
 use Rattle.pm_net.proofs.News.{level, child_from}
@@ -39,6 +39,7 @@ use Rattle.pm_relay.specs.declared.fault.SendFault.TheVariants.{NotCaughtUp, Not
 use Rattle.pm_relay_net.specs.Heads.{bid_head, head_in, heads_of, AddsByPlaces}
 use Rattle.pm_relay_net.specs.RelayIs.{MatchesNode, RelayIs}
 use Rattle.pm_relay_net.proofs.Places.{heads_of-same, in_each_place, heads_of-at, heads_of-none}
+use Rattle.pm_relay_net.proofs.LeftAlone.{relay_stays}
 use Rattle.pm_relay_net.proofs.Matching.{recorded_at, heard_at, caught_to, caught_from, over_to, nothing_newer, sum_is}
 
 -- the newest record of a relay that has one
@@ -293,6 +294,17 @@ module _ (lists : Lists) (law : Lawful lists) (p : Pricing) (numbering : Numberi
       ap (λ (w : Network). w.bids_sent c) step_is ∙ updated_same net.bids_sent c (net.bids_sent c ++ relay_bid p net c ∷ [])
           ∙ ap (λ (b : BidMessage). net.bids_sent c ++ b ∷ []) bid_is,
     )
+
+    -- so is the relay if it stops before the bid is sent
+    pub stops : RelayIs p numbering (network_step lists p net (StopsBidding c)) c new
+    stops =
+        let Is : Network → Type 0 = λ w. RelayIs p numbering w c new in
+        let sends_or_not : Network = cond (can_send lists net c) (relay_stopped net c) net in
+        subst Is (sym (cond-false (may_bid lists net c) (device_stopped net c) sends_or_not
+        (ap (λ (b : Bool). b && ltb (net.counts c) (changes lists c)) conc.2)
+        ∙ cond-true (can_send lists net c) (relay_stopped net c) net can))
+        (relay_stays lists p numbering is net' (relay_stopped net c) c new
+        (record { heard = λ x node up. refl; last_number = refl; records = refl; whole_from = refl; answered = refl; taken = refl }) sent_is)
 
 -- a relay that has its newest record sends its newest bid again as the node does
 pub sends_again : (lists : Lists) (p : Pricing) (numbering : Numbering) (net : Network) (c : ℕ) (r : RelayValue) → IsConcentrator lists c →

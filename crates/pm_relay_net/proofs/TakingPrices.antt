@@ -1,24 +1,21 @@
 -- A relay is given a price: it passes it on, takes it alone, leaves it for later, or drops it.
 use Rattle.std.proofs.Common.{◌≡◌, ◌∙◌, sym, ap, subst, ℕ, ◌+◌, ◌-◌, ◌<◌, ◌≤◌, Bool, true, false, cond, not}
-use Rattle.std.proofs.Common.{eqb, ltb, leb, ◌&&◌, List, [], ◌∷◌, ◌++◌}
-use Rattle.std.proofs.Common.{length, get_or, Some, None, arith, refl}
+use Rattle.std.proofs.Common.{eqb, ltb, leb, ◌&&◌, List, [], ◌++◌}
+use Rattle.std.proofs.Common.{length, Some, arith, refl}
 use Rattle.std.proofs.lemmas.Bool.{cases_Bool, cond-true, cond-false, and_parts, and_from, ltb-true, lt-ltb, leb-true, le-leb, eq-eqb}
 use Rattle.std.proofs.lemmas.Bool.{eqb-true, not_from_false}
 use Rattle.std.proofs.lemmas.Bool.{both_ways, false_from_ne_true, not-true}
 use Rattle.std.proofs.lemmas.List.{append-nil}
-use Rattle.pm_bid.specs.Heads.{nothing_sent}
 use Rattle.pm_bid.specs.Limited.{local_step}
-use Rattle.pm_bid.specs.declared.head.BidHead.{BidHead}
 use Rattle.pm_cache.specs.Cache.{Cache}
 use Rattle.pm_market.specs.Lists.{Lists, parent, is_leaf, IsNode, IsConcentrator}
 use Rattle.pm_market.specs.Legality.{is_node}
 use Rattle.pm_market.proofs.Legality.{is_node_at}
 use Rattle.pm_market.proofs.Cuts.{updated_same}
 use Rattle.pm_session.specs.Windows.{Sent, Keeps}
-use Rattle.pm_session.specs.Prices.{price_to, head_at}
 use Rattle.pm_concentrator.specs.Limited.{local_step_of_record}
 use Rattle.pm_net.specs.Pricing.{Pricing}
-use Rattle.pm_net.specs.Messages.{BidMessage, PriceMessage, price_message}
+use Rattle.pm_net.specs.Messages.{PriceMessage}
 use Rattle.pm_net.specs.Network.{Network, sent_price}
 use Rattle.pm_net.specs.Running.{is_new_price, names_a_bid, relay_step, sent_down, waits, is_overtaken, after_answer, after_passing}
 use Rattle.pm_net.specs.Running.{after_relay_price}
@@ -29,9 +26,9 @@ use Rattle.pm_relay.specs.Relays as relays
 use Rattle.pm_relay.specs.Relays.{RelayValue, newest_bid_number, record_at, IsNewPrice, MayHearRecord, PricePassedOn, with_price, HearsItsRecord}
 use Rattle.pm_relay.specs.declared.outcome.PriceOutcome.{PriceOutcome}
 use Rattle.pm_relay.specs.declared.outcome.PriceOutcome.TheVariants.{PassedOn, Alone, Waits, Dropped}
-use Rattle.pm_relay_net.specs.Heads.{bid_head, heads_of}
-use Rattle.pm_relay_net.specs.RelayIs.{MatchesNode, RelayIs, update_of, prices_down, messages_of, recorded_sum}
-use Rattle.pm_relay_net.proofs.Places.{head_there}
+use Rattle.pm_relay_net.specs.Heads.{heads_of}
+use Rattle.pm_relay_net.specs.RelayIs.{MatchesNode, RelayIs, update_of, prices_down, recorded_sum}
+use Rattle.pm_relay_net.proofs.PricesDown.{price_for_bid, price_by_heads, sent_to_child}
 use Rattle.pm_relay_net.proofs.Matching.{over_to, nothing_newer}
 use Rattle.pm_net.proofs.News.{child_from}
 
@@ -41,14 +38,6 @@ record Does (lists : Lists) (p : Pricing) (numbering : Numbering) (net : Network
   relay : RelayIs p numbering after c new
   sent : (x : ℕ) → IsNode lists x → parent lists x ≡ c →
       after.prices_sent x ≡ net.prices_sent x ++ prices_down old (update_of price) outcome (numbering.place x)
-
--- what a child is sent by its head in a record
-messages_for : (heads : List BidHead) (k step index : ℕ) (gone : Bool) → (head_at heads k).gone ≡ gone →
-    messages_of (price_to heads step index k) ≡ cond gone [] (price_message (head_at heads k).number index step ∷ [])
-messages_for heads k step index true e =
-    ap messages_of (cond-true (head_at heads k).gone None (Some (record { step = step; number = (head_at heads k).number; index = index })) e)
-messages_for heads k step index false e =
-    ap messages_of (cond-false (head_at heads k).gone None (Some (record { step = step; number = (head_at heads k).number; index = index })) e)
 
 module _ (lists : Lists) (p : Pricing) (numbering : Numbering) (is : IsNumbering lists numbering) (net : Network) (c : ℕ)
     (conc : IsConcentrator lists c) (old new : RelayValue) (was : RelayIs p numbering net c old) (price : PriceMessage) where
@@ -225,38 +214,12 @@ module _ (lists : Lists) (p : Pricing) (numbering : Numbering) (is : IsNumbering
     -- what each child is sent
     sent_to : (x : ℕ) → IsNode lists x → parent lists x ≡ c →
         (after_passing lists p net c price).prices_sent x ≡ net.prices_sent x ++ prices_down old (update_of price) PassedOn (numbering.place x)
-    unfolding sent_down
     sent_to x node up =
-        let k : ℕ = numbering.place x in
-        let basis : ℕ → BidMessage = net.records c price.number in
-        let heads : List BidHead = (record_at old price.number).heads in
-        let step' : ℕ = local_step_of_record old.gathered.limits price.step (record_at old price.number).sum in
-        let head : head_at heads k ≡ bid_head (basis x) =
-        ap (λ (l : List BidHead). get_or l k nothing_sent) (heads_are ∙ ap (λ (y : ℕ). heads_of numbering y basis) (sym up))
-        ∙ head_there lists numbering is basis x node in
-        choice (basis x).gone refl
-        ∙ sym (ap (λ l. net.prices_sent x ++ l) (messages_for heads k step' price.index (basis x).gone (ap (λ (h : BidHead). h.gone) head)
-        ∙ ap (λ (n : ℕ). cond (basis x).gone [] (price_message n price.index step' ∷ [])) (ap (λ (h : BidHead). h.number) head)
-        ∙ ap (λ (n : ℕ). cond (basis x).gone [] (price_message (basis x).number price.index n ∷ [])) step_is))
-      where
-        choice : (g : Bool) → (net.records c price.number x).gone ≡ g →
-            cond (eqb (parent lists x) c && not (net.records c price.number x).gone)
-            (net.prices_sent x ++ price_message (net.records c price.number x).number price.index (relay_step p net c price) ∷ []) (net.prices_sent x)
-            ≡ net.prices_sent x ++ cond (net.records c price.number x).gone []
-            (price_message (net.records c price.number x).number price.index (relay_step p net c price) ∷ [])
-        choice true e =
-            cond-false (eqb (parent lists x) c && not (net.records c price.number x).gone)
-            (net.prices_sent x ++ price_message (net.records c price.number x).number price.index (relay_step p net c price) ∷ []) (net.prices_sent x)
-            (false_from_ne_true (eqb (parent lists x) c && not (net.records c price.number x).gone) (λ h.
-            both_ways (net.records c price.number x).gone (not-true (net.records c price.number x).gone (and_parts _ _ h).1) e))
-            ∙ sym (ap (λ (b : Bool). net.prices_sent x ++ cond b []
-            (price_message (net.records c price.number x).number price.index (relay_step p net c price) ∷ [])) e ∙ append-nil (net.prices_sent x))
-        choice false e =
-            cond-true (eqb (parent lists x) c && not (net.records c price.number x).gone)
-            (net.prices_sent x ++ price_message (net.records c price.number x).number price.index (relay_step p net c price) ∷ []) (net.prices_sent x)
-            (and_from _ _ (eq-eqb (parent lists x) c up) (not_from_false (net.records c price.number x).gone e))
-            ∙ sym (ap (λ (b : Bool). net.prices_sent x ++ cond b []
-            (price_message (net.records c price.number x).number price.index (relay_step p net c price) ∷ [])) e)
+        sent_to_child lists net.prices_sent c (net.records c price.number) price.index (relay_step p net c price) x up
+        ∙ ap (λ (k : ℕ). net.prices_sent x ++ price_for_bid (net.records c price.number x) price.index k) (sym step_is)
+        ∙ sym (ap (λ l. net.prices_sent x ++ l) (price_by_heads lists numbering is (net.records c price.number)
+        (record_at old price.number).heads price.index
+        (local_step_of_record old.gathered.limits price.step (record_at old price.number).sum) c x node up heads_are))
 
   -- whatever it does
   does : (outcome : PriceOutcome) → relays.TakesPrice old new (update_of price) outcome →

@@ -1,3 +1,4 @@
 pub mod Heads
 pub mod RelayIs
+pub mod RootIs
 pub mod Elsewhere

@@ -1,6 +1,6 @@
 -- Of `relays_come_up`: its clauses.
 use Rattle.pm_relay_net.proofs.ComingUp.{first_up, back_up}
-use Rattle.pm_relay_net.proofs.relays_come_up.Goals as goal
+use Rattle.pm_relay_net.proofs.relay.relays_come_up.Goals as goal
 
 pub returns-clause-first : goal.returns-clause-first
 returns-clause-first c lists p numbering limits y r is limited back = first_up lists p numbering is limits y r limited back
