@@ -1,0 +1,12 @@
+pub mod Moving
+pub mod Devices
+pub mod DeviceCalls
+pub mod RelayCalls
+pub mod RootCalls
+pub mod Runs
+pub mod Given
+pub mod Law
+pub mod Rising
+pub mod Settling
+pub mod Offers
+pub mod Frames

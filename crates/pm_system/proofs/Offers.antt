@@ -1,0 +1,184 @@
+-- Each node's offer is a demand that a bid may have, and each local step is one of the steps.
+use Rattle.std.proofs.Common.{◌≡◌, ◌∙◌, sym, ap, subst, ℕ, zero, suc, ◌+◌, ◌<◌, ◌≤◌, ℤ, pos, ◌≤ℤ◌}
+use Rattle.std.proofs.Common.{cond, eqb, List, [], ◌∷◌, length, arith, inl, inr}
+use Rattle.std.specs.Prelude.{All, int_lt}
+use Rattle.std.proofs.lemmas.Bool.{cases_eq, cases_Bool, cond-true, cond-false, eq-eqb, ne_eqb}
+use Rattle.std.proofs.lemmas.Int.{ints, clamps}
+use Rattle.std.proofs.lemmas.List.Elements.{All-head, All-tail}
+use Rattle.std.proofs.lemmas.List.FromFn.{get_or-map-range_with_len, length-map-range_with_len}
+use Rattle.pm_base.specs.Cuts.{Cut}
+use Rattle.pm_base.specs.Limits.{demand_limit, most_nodes, IsWithin}
+use Rattle.pm_base.specs.declared.limits.Limits.{Limits}
+use Rattle.pm_bid.specs.Bids.{NeverRises, HaveSteps, demand_at, sum_of, zeros, clamp, nearest_in_range}
+use Rattle.pm_bid.specs.Clearing.{first_at_most, last_at_least}
+use Rattle.pm_bid.specs.Limited.{within_limits, step_within, local_step}
+use Rattle.pm_bid.proofs.EachStep.{clamp-at, length-clamped}
+use Rattle.pm_bid.proofs.FoundStep.{first_at_most_is_first, last_at_least_is_last}
+use Rattle.pm_bid.proofs.Sums.{length-zeros, zeros-at, zeros-within, have_steps_rest, length-sum_of, total_at, sum_of-at}
+use Rattle.pm_market.specs.Lists.{Lists, nodes, parent, is_leaf, IsNode, IsConcentrator}
+use Rattle.pm_net.specs.Pricing.{Pricing, GoesByNodes}
+use Rattle.pm_net.proofs.Messages.{either}
+use Rattle.pm_net_plan.specs.Places.{Numbering, demand_in, demands_of}
+use Rattle.pm_relay.specs.Relays.{AreRelayLimits}
+use Rattle.pm_system.specs.Given.{IsDemand, IsTreeMarket}
+use Rattle.pm_system.proofs.Moving.{parent_relay}
+
+-- ---- sums and limits
+
+total_falls : (bids : List (List ℤ)) (steps step : ℕ) → HaveSteps steps bids → All NeverRises bids → step + 1 < steps →
+    total_at bids (step + 1) ≤ℤ total_at bids step
+total_falls [] steps step have falls inside = omega (arith, ints)
+total_falls (bid ∷ bids) steps step have falls inside =
+    let long : length bid ≡ steps = All-head (λ (b : List ℤ). length b ≡ steps) bid bids have in
+    omega (
+      arith,
+      ints,
+      All-head NeverRises bid bids falls step (omega (arith, inside, long)),
+      total_falls bids steps step (have_steps_rest steps bid bids have) (All-tail NeverRises bid bids falls) inside,
+    )
+
+-- a sum of demands that never rise never rises
+sum_falls : (steps : ℕ) (bids : List (List ℤ)) → HaveSteps steps bids → All NeverRises bids → NeverRises (sum_of steps bids)
+sum_falls steps bids have falls = λ step inside.
+    let within : step + 1 < steps = omega (arith, inside, length-sum_of steps bids have) in
+    omega (
+      arith,
+      ints,
+      sum_of-at steps bids (step + 1) have within,
+      sum_of-at steps bids step have (omega (arith, within)),
+      total_falls bids steps step have falls within,
+    )
+
+nearest_falls : (floor ceiling a b : ℤ) → b ≤ℤ a → nearest_in_range floor ceiling b ≤ℤ nearest_in_range floor ceiling a
+nearest_falls floor ceiling a b le = omega (arith, ints, clamps, le)
+
+-- within a relay's limits a demand that never rises is one that a bid may have
+clamped : (limits : Limits) (steps : ℕ) (sum : List ℤ) → AreRelayLimits limits → length sum ≡ steps → NeverRises sum →
+    IsDemand steps (clamp limits.floor limits.ceiling sum)
+clamped limits steps sum are long falls =
+    let same = length-clamped limits.floor limits.ceiling sum in
+    let at : (k : ℕ) → k < length sum → demand_at
+    (clamp limits.floor limits.ceiling sum) k ≡ nearest_in_range limits.floor limits.ceiling (demand_at sum k) =
+    λ k inside. clamp-at limits.floor limits.ceiling sum k inside in
+    record {
+      one_each = same ∙ long;
+      small = λ step inside. subst (IsWithin demand_limit) (sym (at step (omega (arith, inside, same))))
+          (record {
+            low = omega (arith, ints, clamps, are.around.floor_not_positive, are.around.ceiling_not_negative, are.floor.low);
+            high = omega (arith, ints, clamps, are.around.floor_not_positive, are.around.ceiling_not_negative, are.ceiling.high);
+          });
+      falls = λ step inside.
+          let le = nearest_falls limits.floor limits.ceiling (demand_at sum step) (demand_at sum (step + 1)) (falls step (omega (arith, inside, same))) in
+          subst (λ (z : ℤ). z ≤ℤ demand_at (clamp limits.floor limits.ceiling sum) step) (sym (at (step + 1) (omega (arith, inside, same))))
+          (subst (λ (z : ℤ). nearest_in_range limits.floor limits.ceiling (demand_at sum (step + 1)) ≤ℤ z)
+          (sym (at step (omega (arith, inside, same)))) le);
+    }
+
+-- zeros are such a demand
+zeros_demand : (steps : ℕ) → IsDemand steps (zeros steps)
+zeros_demand steps = record {
+  one_each = length-zeros steps;
+  small = zeros-within demand_limit steps;
+  falls = λ step inside. omega (arith, ints, zeros-at steps (step + 1), zeros-at steps step);
+}
+
+-- ---- offers
+
+module _ (lists : Lists) (p : Pricing) (numbering : Numbering) (market : IsTreeMarket lists p numbering) (cut : Cut) where
+  by : GoesByNodes lists p
+  by = market.by_nodes
+
+  abbrev offers : ℕ → List ℤ
+  offers x = p.offer x cut
+
+  -- where each child of y has such an offer, so has each place
+  module _ (y : ℕ) (each : (x : ℕ) → IsNode lists x → parent lists x ≡ y → IsDemand p.steps (p.offer x cut)) where
+    abbrev placed : List (List ℤ)
+    placed = demands_of p.steps numbering y offers
+
+    in_place : (k : ℕ) → k < most_nodes → IsDemand p.steps (demand_in p.steps numbering y offers k)
+    in_place k inside = elim (cases_eq (numbering.child y k) 0) [
+      | inl none ↦ subst (IsDemand p.steps) (sym (cond-true (eqb (numbering.child y k) 0) (zeros p.steps) (offers (numbering.child y k))
+          (eq-eqb (numbering.child y k) 0 none))) (zeros_demand p.steps)
+      | inr ne ↦
+          let at = market.places.child_is y k inside ne in
+          subst (IsDemand p.steps) (sym (cond-false (eqb (numbering.child y k) 0) (zeros p.steps) (offers (numbering.child y k))
+          (ne_eqb (numbering.child y k) 0 ne))) (each (numbering.child y k) at.0 at.1)
+    ]
+
+    all_places : All (IsDemand p.steps) (demands_of p.steps numbering y (λ x. p.offer x cut))
+    unfolding demands_of
+    all_places = λ k o lt.
+        let inside : k < most_nodes = omega (arith, lt, length-map-range_with_len (demand_in p.steps numbering y offers) 0 most_nodes) in
+        subst (IsDemand p.steps) (sym (get_or-map-range_with_len (demand_in p.steps numbering y offers) 0 most_nodes k k o inside (omega arith)))
+        (in_place k inside)
+
+    have : HaveSteps p.steps placed
+    have = λ k o lt. (all_places k o lt).one_each
+
+    -- the sum has a demand for each step, and never rises
+    sum_long : length (p.add y (λ x. p.offer x cut)) ≡ p.steps
+    sum_long = ap (λ (l : List ℤ). length l) (market.by_places y offers) ∙ length-sum_of p.steps placed have
+
+    sum_down : NeverRises (p.add y (λ x. p.offer x cut))
+    sum_down = subst NeverRises (sym (market.by_places y offers)) (sum_falls p.steps placed have (λ k o lt. (all_places k o lt).falls))
+
+  offer_below : (n x : ℕ) → IsNode lists x → nodes lists < x + n → IsDemand p.steps (p.offer x cut)
+  offer_below zero x node over = absurd (omega (arith, node.1, over))
+  offer_below (suc n) x node over = elim (cases_Bool (is_leaf lists x)) [
+    | inl leaf ↦ subst (IsDemand p.steps) (sym (by.device x cut leaf)) (market.demands x (cut x) leaf)
+    | inr inner ↦
+        let conc : IsConcentrator lists x = (node.0, node.1, inner) in
+        let limited = market.limited x conc in
+        let sum : List ℤ = p.add x (λ z. p.offer z cut) in
+        let each : (z : ℕ) → IsNode lists z → parent lists z ≡ x → IsDemand p.steps (p.offer z cut) =
+        λ z z_node up. offer_below n z z_node (omega (arith, over, market.law.earlier z z_node, up)) in
+        subst (IsDemand p.steps) (sym (by.relay x cut conc ∙ ap (λ l. within_limits l sum) limited.1))
+        (clamped limited.0 p.steps sum limited.2 (sum_long x each) (sum_down x each))
+  ]
+
+  -- each node's offer is a demand that a bid may have
+  pub offer_is : (x : ℕ) → IsNode lists x → IsDemand p.steps (p.offer x cut)
+  offer_is x node = offer_below (suc (nodes lists)) x node (omega arith)
+
+  -- ---- local steps
+
+  long : (y : ℕ) → length (p.add y (λ x. p.offer x cut)) ≡ p.steps
+  long y = sum_long y (λ x node up. offer_is x node)
+
+  moved_inside : (limits : Limits) (k : ℕ) (sum : List ℤ) → k < length sum → step_within limits k sum < length sum
+  moved_inside limits k sum inside =
+      let some : 1 ≤ length sum = omega (arith, inside) in
+      let Inside : ℕ → Type 0 = λ i. i < length sum in
+      either Inside (int_lt limits.ceiling (demand_at sum k)) (first_at_most limits.ceiling sum)
+      (cond (int_lt (demand_at sum k) limits.floor) (last_at_least limits.floor sum) k)
+      (λ e. (first_at_most_is_first limits.ceiling sum some).inside)
+      (λ e. either Inside (int_lt (demand_at sum k) limits.floor) (last_at_least limits.floor sum) k
+      (λ e. (last_at_least_is_last limits.floor sum some).inside) (λ e. inside))
+
+  step_above : (n x : ℕ) → IsNode lists x → x < n → p.local cut x < p.steps
+  step_above zero x node below = absurd (omega (arith, below))
+  step_above (suc n) x node below =
+      let y : ℕ = parent lists x in
+      let sum : List ℤ = p.add (parent lists x) (λ z. p.offer z cut) in
+      elim (cases_eq (parent lists x) 0) [
+        | inl up ↦
+            let total : List ℤ = p.add 0 (λ z. p.offer z cut) in
+            let first = first_at_most_is_first (pos 0) total (omega (arith, long 0, market.steps.least)) in
+            omega (arith, by.root x cut node up, first.inside, long 0)
+        | inr ne ↦
+            let conc : IsConcentrator lists (parent lists x) = parent_relay lists market.law x node ne in
+            let limited = market.limited (parent lists x) conc in
+            let above : p.local cut (parent lists x) < p.steps =
+            step_above n (parent lists x) (conc.0, conc.1) (omega (arith, below, market.law.earlier x node)) in
+            omega (
+              arith,
+              by.below x cut node conc ∙ ap (λ l. local_step l (p.local cut (parent lists x)) sum) limited.1,
+              moved_inside limited.0 (p.local cut (parent lists x)) sum (omega (arith, above, long (parent lists x))),
+              long (parent lists x),
+            )
+      ]
+
+  -- each local step is one of the steps
+  pub step_is : (x : ℕ) → IsNode lists x → p.local cut x < p.steps
+  step_is x node = step_above (suc x) x node (omega arith)

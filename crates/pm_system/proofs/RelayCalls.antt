@@ -1,0 +1,369 @@
+-- The calls of a relay are events of the network.
+use Rattle.std.proofs.Common.{◌≡◌, ◌∙◌, sym, ap, subst, ℕ, ◌-◌, ◌≤◌, true, false, cond, leb, List, [], ◌∷◌}
+use Rattle.std.proofs.Common.{◌++◌, length, arith, inl, inr, refl}
+use Rattle.std.proofs.lemmas.Bool.{cases_eq, cases_Bool, cond-true, cond-false, not-true, eqb-true}
+use Rattle.pm_bid.specs.Bids.{zeros}
+use Rattle.pm_market.specs.Lists.{Lists, parent, is_leaf, is_member, IsNode, IsConcentrator}
+use Rattle.pm_market.specs.State.{State, update, part, no_changes, cleared_cut}
+use Rattle.pm_market.proofs.Cuts.{updated_same, updated_other, part_leaf, part_zero, number_inner, greatest_le}
+use Rattle.pm_laws.specs.Gone.{is_gone}
+use Rattle.pm_laws.proofs.Gone.{gone_leaf, gone_inner}
+use Rattle.pm_session.specs.Windows.{Sent, Keeps, record_of}
+use Rattle.pm_concentrator.specs.Concentrators.{own_demand}
+use Rattle.pm_concentrator.specs.Limited.{local_step_of_record}
+use Rattle.pm_net.specs.Pricing.{Pricing, GoesByNodes}
+use Rattle.pm_net.specs.Messages.{BidMessage, PriceMessage, bid_message, no_price}
+use Rattle.pm_net.specs.Network.{Network, sent_bid, sent_price}
+use Rattle.pm_net.specs.Running.{is_new_bid, after_taking_bid, can_send, after_sending}
+use Rattle.pm_net.specs.Restarts as restarts
+use Rattle.pm_net.specs.Restarts.{can_rebuild, after_rebuilding, device_stopped, relay_stopped, can_resend, after_resending, after_restart}
+use Rattle.pm_net.specs.Events.{may_bid, network_step, TakesBid, Rebuilds, Sends, StopsBidding, Resends, TakesPrice, Restarts}
+use Rattle.pm_net.specs.Agrees.{IsItsBid, HoldsIts, NetworkAgrees}
+use Rattle.pm_net.specs.Agents.{after_coming_back}
+use Rattle.pm_net.specs.Devices.{Devices, with_network, after_stop, after_given, may_change}
+use Rattle.pm_net.proofs.Messages.{either, past}
+use Rattle.pm_net.proofs.Steps.{hears_each}
+use Rattle.pm_net_plan.specs.Places.{Numbering}
+use Rattle.pm_relay.specs.Relays as relays
+use Rattle.pm_relay.specs.Relays.{RelayValue, newest_bid_number, record_at, ComesBack, with_child_bid, LooksForRecord}
+use Rattle.pm_relay.specs.declared.outcome.PriceOutcome.{PriceOutcome}
+use Rattle.pm_relay.specs.declared.outcome.PriceOutcome.TheVariants.{PassedOn, Alone, Waits, Dropped}
+use Rattle.pm_relay_net.specs.RelayIs.{RelayIs, told_demand, update_of, messages_of, prices_down}
+use Rattle.pm_relay_net.proofs.Elsewhere.{SameNode, same_elsewhere, same_then}
+use Rattle.pm_relay_net.proofs.ComingUp.{back_up}
+use Rattle.pm_relay_net.proofs.Learning.{learns}
+use Rattle.pm_relay_net.proofs.Sending as sending
+use Rattle.pm_relay_net.proofs.TakingPrices.{takes}
+use Rattle.pm_relay_net.proofs.PricesDown.{none_to_others}
+use Rattle.pm_session.specs.Prices.{price_to}
+use Rattle.pm_system.specs.System.{System, price_in_channel, price_stored}
+use Rattle.pm_system.specs.Calls as call
+use Rattle.pm_system.specs.Calls.{RelayTakesBid, RelaySends, RelayStops, RelayResends, RelayTakesPrice, RelayRestarts}
+use Rattle.pm_system.specs.Given.{IsTreeMarket}
+use Rattle.pm_system.specs.Market.{SystemIs}
+use Rattle.pm_system.proofs.Moving.{Follows, relay_no_leaf, parent_relay, same_bid, same_price, bids_in, sent_prices, relay_moves}
+
+-- a bid that is gone has zeros
+pub gone_zeros : (lists : Lists) (p : Pricing) (numbering : Numbering) → IsTreeMarket lists p numbering → (s : State) (x : ℕ) → IsNode lists x →
+    (bid : BidMessage) → IsItsBid lists p s x bid → bid.gone ≡ true → bid.demand ≡ zeros p.steps
+gone_zeros lists p numbering market s x node bid its gone =
+    let n : ℕ = bid.number in
+    let by : GoesByNodes lists p = market.by_nodes in
+    let is : is_gone lists x n ≡ true = sym (ap (λ (b : BidMessage). b.gone) its.1) ∙ gone in
+    ap (λ (b : BidMessage). b.demand) its.1
+    ∙ elim (cases_Bool (is_leaf lists x)) [
+      | inl leaf ↦
+          let out : is_member lists x n ≡ false = not-true (is_member lists x n) (sym (gone_leaf lists x n leaf) ∙ is) in
+          by.device x (part lists s x n) leaf ∙ ap (p.demand x) (part_leaf lists s.published x n x leaf) ∙ market.absent x n leaf out
+      | inr inner ↦
+          let zero : n ≡ 0 = eqb-true n 0 (sym (gone_inner lists x n inner) ∙ is) in
+          ap (λ (k : ℕ). p.offer x (part lists s x k)) zero
+          ∙ by.alike x (part lists s x 0) no_changes (λ d leaf. part_zero lists s.published x d) ∙ by.nothing x node
+    ]
+
+-- a price sends the same down after the relay took it as before
+pub same_down : (old new : RelayValue) (price : PriceMessage) (outcome : PriceOutcome) → relays.TakesPrice old new
+    (update_of price) outcome → (place : ℕ) →
+    prices_down old (update_of price) outcome place ≡ prices_down new (update_of price) outcome place
+same_down old new price Dropped did place = refl
+same_down old new price Waits did place = refl
+same_down old new price Alone did place = refl
+same_down old new price PassedOn did place =
+    let own : ℕ = price.number - old.base in
+    let kept : Keeps new.gathered.window own = record {
+      one = omega (arith, did.1);
+      from = omega (arith, did.2.passed.window.answered);
+      to = omega (arith, did.2.passed.window.last, did.0.to);
+    } in
+    let same : record_at old price.number ≡ record_at new price.number =
+    sym (did.2.passed.window.records own kept) ∙ ap (λ (n : ℕ). record_of new.gathered.window (price.number - n)) (sym did.2.base) in
+    ap (λ (q : Sent). messages_of (price_to q.heads (local_step_of_record old.gathered.limits price.step q.sum) price.index place)) same
+    ∙ ap (λ l. messages_of (price_to (record_at new price.number).heads
+    (local_step_of_record l price.step (record_at new price.number).sum) price.index place)) (sym did.2.passed.limits)
+
+module _ (lists : Lists) (p : Pricing) (numbering : Numbering) (market : IsTreeMarket lists p numbering) (devices : Devices) (s : State)
+    (agrees : NetworkAgrees lists p devices.net s) (sys : System) (sys_is : SystemIs lists p numbering devices sys) where
+  abbrev net : Network
+  net = devices.net
+
+  -- ---- it learns a bid
+
+  module _ (x k : ℕ) (new : System) (did : RelayTakesBid lists p numbering sys x k new) where
+    abbrev c : ℕ
+    c = parent lists x
+
+    conc : IsConcentrator lists (parent lists x)
+    conc = parent_relay lists market.law x did.node did.below
+
+    none : (sent_bid p net x k).gone ≡ true → (sent_bid p net x k).demand ≡ zeros p.steps
+    none = gone_zeros lists p numbering market s x did.node (sent_bid p net x k)
+        (agrees.bids_sent x k did.node (bids_in lists p numbering market.places devices sys sys_is x k did.node did.inside))
+
+    looks : LooksForRecord (with_child_bid (sys.relays c) (numbering.place x) (sent_bid p net x k).number (told_demand (sent_bid p net x k))) did.relay
+    looks =
+        let Looks : BidMessage → Type 0 =
+        λ b. LooksForRecord (with_child_bid (sys.relays (parent lists x)) (numbering.place x) b.number (told_demand b)) did.relay in
+        subst Looks (same_bid lists p numbering market.places devices sys sys_is x k did.node) did.learnt
+
+    abbrev once : Network
+    once = network_step lists p net (TakesBid x k)
+
+    abbrev twice : Network
+    twice = network_step lists p once (Rebuilds c)
+
+    taken_channels : (once.bids_sent ≡ net.bids_sent) × (once.prices_sent ≡ net.prices_sent)
+    taken_channels = either (λ (w : Network). (w.bids_sent ≡ net.bids_sent) × (w.prices_sent ≡ net.prices_sent))
+        (is_new_bid lists net x (sent_bid p net x k)) (after_taking_bid net x (sent_bid p net x k)) net (λ e. (refl, refl)) (λ e. (refl, refl))
+
+    rebuilt_channels : (twice.bids_sent ≡ once.bids_sent) × (twice.prices_sent ≡ once.prices_sent)
+    rebuilt_channels = either (λ (w : Network). (w.bids_sent ≡ once.bids_sent) × (w.prices_sent ≡ once.prices_sent))
+        (can_rebuild lists once c) (after_rebuilding once c) once (λ e. (refl, refl)) (λ e. (refl, refl))
+
+    moved : (after : Network) → RelayIs p numbering after c did.relay → ((y : ℕ) → (y ≡ c → ⊥) → SameNode lists y net after) →
+        after.bids_sent ≡ net.bids_sent → after.prices_sent ≡ net.prices_sent → SystemIs lists p numbering (with_network devices after) new
+    moved after relay_is same bids prices =
+        subst (λ (t : System). SystemIs lists p numbering (with_network devices after) t) (sym did.new_is)
+        (relay_moves lists p numbering market.places devices sys sys_is
+        (with_network devices after) c did.relay conc relay_is same sys_is.agents sys_is.setpoints
+        sys.bids_sent (λ z node. ap (λ f. f z) bids ∙ sys_is.bids_sent z node) sys.prices_sent
+        (λ z node. ap (λ f. f z) prices ∙ sys_is.prices_sent z node))
+
+    same_once : (y : ℕ) → (y ≡ c → ⊥) → SameNode lists y net once
+    same_once y ne = same_elsewhere lists p net y (TakesBid x k) (λ e. ne (sym e))
+
+    -- a relay that takes a bid does what the network does
+    pub takes_bid : Follows lists p numbering devices (call.TakesBid x k) new
+    takes_bid = elim (learns lists p numbering net x k (sys.relays c) did.relay market.places market.by_places did.node (sys_is.relays c conc) none looks) [
+      | inl is ↦ record {
+        events = TakesBid x k ∷ [];
+        is = moved once is same_once taken_channels.0 taken_channels.1;
+        restarts = λ y up. (tt, tt);
+      }
+      | inr is ↦ record {
+        events = TakesBid x k ∷ Rebuilds c ∷ [];
+        is = moved twice is (λ y ne. same_then lists y net once twice (same_once y ne) (same_elsewhere lists p once y (Rebuilds c) (λ e. ne (sym e))))
+            (rebuilt_channels.0 ∙ taken_channels.0) (rebuilt_channels.1 ∙ taken_channels.1);
+        restarts = λ y up. (tt, (tt, tt));
+      }
+    ]
+
+  -- ---- it sends
+
+  -- a bid in its channel
+  bid_pushed : (c : ℕ) (bid : BidMessage) (after : ℕ → List BidMessage) → IsNode lists c → after c ≡ net.bids_sent c ++ bid ∷ [] →
+      ((x : ℕ) → (x ≡ c → ⊥) → after x ≡ net.bids_sent x) → (x : ℕ) → IsNode lists x →
+      after x ≡ update sys.bids_sent c (sys.bids_sent c ++ bid ∷ []) x
+  bid_pushed c bid after c_node here there x node = elim (cases_eq x c) [
+    | inl e ↦ ap after e ∙ here ∙ ap (λ (l : List BidMessage). l ++ bid ∷ []) (sys_is.bids_sent c c_node)
+        ∙ sym (ap (update sys.bids_sent c (sys.bids_sent c ++ bid ∷ [])) e ∙ updated_same sys.bids_sent c (sys.bids_sent c ++ bid ∷ []))
+    | inr ne ↦ there x ne ∙ sys_is.bids_sent x node ∙ sym (updated_other sys.bids_sent c (sys.bids_sent c ++ bid ∷ []) x ne)
+  ]
+
+  module _ (c : ℕ) (new : System) (did : RelaySends lists sys c new) where
+    abbrev after_sent : Network
+    after_sent = network_step lists p net (Sends c)
+
+    -- so does one that sends its bid
+    pub sends : Follows lists p numbering devices (call.Sends c) new
+    sends =
+        let sent = sending.sends lists market.law p numbering market.places net s agrees c did.conc (sys.relays c) (sys_is.relays c did.conc) market.by_places
+        did.relay did.number did.sent in
+        let bid : BidMessage = bid_message did.number false (own_demand did.relay.gathered) in
+        record {
+          events = Sends c ∷ [];
+          is = subst (λ (t : System). SystemIs lists p numbering (with_network devices after_sent) t) (sym did.new_is)
+              (relay_moves lists p numbering market.places devices sys sys_is (with_network devices after_sent) c did.relay did.conc sent.0
+              (λ y ne. same_elsewhere lists p net y (Sends c) (λ e. ne (sym e))) sys_is.agents sys_is.setpoints
+              (update sys.bids_sent c (sys.bids_sent c ++ bid ∷ []))
+              (bid_pushed c bid after_sent.bids_sent (did.conc.0, did.conc.1) sent.1 (λ x ne.
+              either (λ (w : Network). w.bids_sent x ≡ net.bids_sent x) (can_send lists net c) (after_sending p net c) net
+              (λ e. updated_other net.bids_sent c _ x ne) (λ e. refl)))
+              sys.prices_sent (λ x node. either (λ (w : Network). w.prices_sent x ≡ net.prices_sent x) (can_send lists net c) (after_sending p net c) net
+              (λ e. refl) (λ e. refl) ∙ sys_is.prices_sent x node));
+          restarts = λ y up. (tt, tt);
+        }
+
+  -- ---- it stops before its bid is sent
+
+  module _ (c : ℕ) (new : System) (did : RelayStops lists sys c new) where
+    abbrev after_stopped : Network
+    after_stopped = network_step lists p net (StopsBidding c)
+
+    stopped_channels : (after_stopped.bids_sent ≡ net.bids_sent) × (after_stopped.prices_sent ≡ net.prices_sent)
+    stopped_channels =
+        let Same : Network → Type 0 = λ w. (w.bids_sent ≡ net.bids_sent) × (w.prices_sent ≡ net.prices_sent) in
+        either Same (may_bid lists net c) (device_stopped net c) (cond (can_send lists net c) (relay_stopped net c) net) (λ e. (refl, refl))
+        (λ e. either Same (can_send lists net c) (relay_stopped net c) net (λ e. (refl, refl)) (λ e. (refl, refl)))
+
+    -- one that stores its bid and stops
+    pub stops : Follows lists p numbering devices (call.StopsBidding c) new
+    stops =
+        let Is : Devices → Type 0 = λ w. SystemIs lists p numbering w new in
+        record {
+          events = StopsBidding c ∷ [];
+          is = subst Is (sym (cond-false (is_leaf lists c) (cond (may_change lists devices c) (after_stop lists p devices c) devices)
+              (with_network devices after_stopped) did.conc.2))
+              (subst (λ (t : System). SystemIs lists p numbering (with_network devices after_stopped) t) (sym did.new_is)
+              (relay_moves lists p numbering market.places devices sys sys_is (with_network devices after_stopped) c did.relay did.conc
+              (sending.stops lists market.law p numbering market.places net s agrees c did.conc (sys.relays c) (sys_is.relays c did.conc) market.by_places
+              did.relay did.number did.sent)
+              (λ y ne. same_elsewhere lists p net y (StopsBidding c) (λ e. ne (sym e))) sys_is.agents sys_is.setpoints
+              sys.bids_sent (λ x node. ap (λ f. f x) stopped_channels.0 ∙ sys_is.bids_sent x node)
+              sys.prices_sent (λ x node. ap (λ f. f x) stopped_channels.1 ∙ sys_is.prices_sent x node)));
+          restarts = λ y up. (tt, tt);
+        }
+
+  -- ---- it sends its newest bid again
+
+  module _ (c : ℕ) (new : System) (did : RelayResends lists sys c new) where
+    abbrev after_again : Network
+    after_again = network_step lists p net (Resends c)
+
+    -- one that sends its newest bid again
+    pub resends : Follows lists p numbering devices (call.Resends c) new
+    resends =
+        let r : RelayValue = sys.relays c in
+        let bid : BidMessage = bid_message (newest_bid_number r) false (own_demand r.gathered) in
+        let same : (y : ℕ) → SameNode lists y net after_again = λ y. same_elsewhere lists p net y (Resends c) tt in
+        record {
+          events = Resends c ∷ [];
+          is = subst (λ (t : System). SystemIs lists p numbering (with_network devices after_again) t) (sym did.new_is) (record {
+            root = Rattle.pm_relay_net.proofs.LeftAlone.root_stays lists p numbering market.places net after_again sys.root (same 0) sys_is.root;
+            relays = λ y conc.
+                Rattle.pm_relay_net.proofs.LeftAlone.relay_stays lists p numbering market.places net after_again y (sys.relays y) (same y)
+                (sys_is.relays y conc);
+            agents = sys_is.agents;
+            setpoints = sys_is.setpoints;
+            bids_sent = bid_pushed c bid after_again.bids_sent (did.conc.0, did.conc.1)
+                (sending.sends_again lists p numbering net c r did.conc (sys_is.relays c did.conc).matches did.has)
+                (λ x ne. either (λ (w : Network). w.bids_sent x ≡ net.bids_sent x) (can_resend lists net c) (after_resending lists p net c) net
+                (λ e. updated_other net.bids_sent c _ x ne) (λ e. refl));
+            prices_sent = λ x node. either (λ (w : Network). w.prices_sent x ≡ net.prices_sent x) (can_resend lists net c)
+                (after_resending lists p net c) net
+                (λ e. refl) (λ e. refl) ∙ sys_is.prices_sent x node;
+          });
+          restarts = λ y up. (tt, tt);
+        }
+
+  -- ---- it takes a price
+
+  module _ (c k : ℕ) (new : System) (did : RelayTakesPrice lists numbering sys c k new) where
+    abbrev after_taken : Network
+    after_taken = network_step lists p net (TakesPrice c k)
+
+    price_is : price_in_channel sys c k ≡ sent_price net c k
+    price_is = same_price lists p numbering market.places devices sys sys_is c k (did.conc.0, did.conc.1)
+
+    took : relays.TakesPrice (sys.relays c) did.relay (update_of (sent_price net c k)) did.outcome
+    took =
+        let Takes : PriceMessage → Type 0 = λ q. relays.TakesPrice (sys.relays c) did.relay (update_of q) did.outcome in
+        subst Takes price_is did.taken
+
+    others : (x : ℕ) → IsNode lists x → (parent lists x ≡ c → ⊥) → after_taken.prices_sent x ≡ net.prices_sent x
+    others x node ne = hears_each lists p net c k (λ (w : Network). w.prices_sent x ≡ net.prices_sent x) refl refl
+        (none_to_others lists net.prices_sent c _ _ _ x ne) refl
+
+    -- one that takes a price
+    pub takes_price : Follows lists p numbering devices (call.TakesPrice c k) new
+    takes_price =
+        let Is : Devices → Type 0 = λ w. SystemIs lists p numbering w new in
+        let done = takes lists p numbering net c k (sys.relays c) did.relay did.outcome market.places did.conc (sys_is.relays c did.conc) took in
+        let down : ℕ → List PriceMessage = prices_down did.relay (update_of (price_in_channel sys c k)) did.outcome in
+        record {
+          events = TakesPrice c k ∷ [];
+          is = subst Is (sym (cond-false (is_leaf lists c) (after_given devices c k after_taken) (with_network devices after_taken) did.conc.2))
+              (subst (λ (t : System). SystemIs lists p numbering (with_network devices after_taken) t) (sym did.new_is)
+              (relay_moves lists p numbering market.places devices sys sys_is (with_network devices after_taken) c did.relay did.conc done.0
+              (λ y ne. same_elsewhere lists p net y (TakesPrice c k) (λ e. ne (sym e))) sys_is.agents sys_is.setpoints
+              sys.bids_sent (λ x node. hears_each lists p net c k (λ (w : Network). w.bids_sent x ≡ net.bids_sent x) refl refl refl refl
+              ∙ sys_is.bids_sent x node)
+              _ (sent_prices lists p numbering market.places devices sys sys_is c down after_taken.prices_sent
+              (λ x node up. done.1 x node up
+              ∙ ap (λ l. net.prices_sent x ++ l) (same_down (sys.relays c) did.relay (sent_price net c k) did.outcome took (numbering.place x)
+              ∙ ap (λ (q : PriceMessage). prices_down did.relay (update_of q) did.outcome (numbering.place x)) (sym price_is)))
+              others)));
+          restarts = λ y up. (tt, tt);
+        }
+
+  -- ---- it comes back
+
+  -- a price of the node has one of its numbers
+  its_number : (c : ℕ) → IsConcentrator lists c → (price : PriceMessage) → HoldsIts lists p s c price → price.number ≤ net.last_number c
+  its_number c conc price (inl none) = omega (arith, ap (λ (q : PriceMessage). q.number) none)
+  its_number c conc price (inr its) =
+      let cut = cleared_cut s price.index in
+      omega (
+        arith,
+        ap (λ (q : PriceMessage). q.number) its.1,
+        number_inner lists s.published c cut conc.2,
+        greatest_le lists (s.published c) c cut (length (s.published c)),
+        agrees.last_number c conc.2,
+      )
+
+  sent_its : (c k : ℕ) → IsNode lists c → HoldsIts lists p s c (sent_price net c k)
+  sent_its c k node = elim (Rattle.std.proofs.lemmas.Bool.cases_lt k (length (net.prices_sent c))) [
+    | inl inside ↦ inr (agrees.prices_sent c k node inside)
+    | inr beyond ↦ inl (past (net.prices_sent c) k no_price (omega (arith, beyond)))
+  ]
+
+  stored_its : (c k : ℕ) → IsNode lists c → HoldsIts lists p s c (restarts.stored_price net c k)
+  stored_its c k node = either (HoldsIts lists p s c) (leb (sent_price net c k).index (net.taken c).index) (sent_price net c k) (net.taken c)
+      (λ e. sent_its c k node) (λ e. agrees.taken c node)
+
+  module _ (c k : ℕ) (new : System) (did : RelayRestarts lists p sys c k new) where
+    abbrev r : RelayValue
+    r = sys.relays c
+
+    c_node : IsNode lists c
+    c_node = (did.conc.0, did.conc.1)
+
+    price_same : price_in_channel sys c k ≡ sent_price net c k
+    price_same = same_price lists p numbering market.places devices sys sys_is c k c_node
+
+    abbrev kept : PriceMessage
+    kept = restarts.stored_price net c k
+
+    -- what it stored is what the network's relay stored
+    stored_same : ((price_stored sys c k r.answered r.index).number ≡ kept.number) × ((price_stored sys c k r.answered r.index).index ≡ kept.index)
+    stored_same =
+        let m = (sys_is.relays c did.conc).matches in
+        let held : PriceMessage = record { number = r.answered; index = r.index; step = 0 } in
+        let own : price_stored sys c k r.answered r.index ≡ cond (leb (sent_price net c k).index (net.taken c).index) (sent_price net c k) held =
+        ap (λ (q : PriceMessage). cond (leb q.index r.index) q held) price_same
+        ∙ ap (λ (i : ℕ). cond (leb (sent_price net c k).index i) (sent_price net c k) held) m.index in
+        elim (cases_Bool (leb (sent_price net c k).index (net.taken c).index)) [
+          | inl e ↦
+              let same = own ∙ cond-true _ (sent_price net c k) held e ∙ sym (cond-true _ (sent_price net c k) (net.taken c) e) in
+              (ap (λ (q : PriceMessage). q.number) same, ap (λ (q : PriceMessage). q.index) same)
+          | inr e ↦
+              let mine = own ∙ cond-false _ (sent_price net c k) held e in
+              let its = cond-false _ (sent_price net c k) (net.taken c) e in (
+                ap (λ (q : PriceMessage). q.number) mine ∙ m.answered ∙ agrees.answered c did.conc ∙ ap (λ (q : PriceMessage). q.number) (sym its),
+                ap (λ (q : PriceMessage). q.index) mine ∙ m.index ∙ ap (λ (q : PriceMessage). q.index) (sym its),
+              )
+        ]
+
+    comes_back : ComesBack p.steps did.limits (newest_bid_number r) kept.number kept.index r.recorded did.relay
+    comes_back =
+        let Back : ℕ → ℕ → Type 0 = λ n i. ComesBack p.steps did.limits (newest_bid_number r) n i r.recorded did.relay in
+        subst (λ (i : ℕ). Back kept.number i) stored_same.1
+        (subst (λ (n : ℕ). Back n (price_stored sys c k r.answered r.index).index) stored_same.0 did.back)
+
+    -- and one that comes back
+    pub comes_up : Follows lists p numbering devices (call.Restarts c k) new
+    comes_up =
+        let after : Devices = record devices {
+          net = after_restart lists p net c k;
+          agents = update devices.agents c (after_coming_back (devices.agents c) kept.index);
+        } in
+        record {
+          events = Restarts c k ∷ [];
+          is = subst (λ (t : System). SystemIs lists p numbering after t) (sym did.new_is)
+              (relay_moves lists p numbering market.places devices sys sys_is after c did.relay did.conc
+              (back_up lists p numbering market.places net did.limits c k r did.relay did.limited (sys_is.relays c did.conc).matches
+              (its_number c did.conc kept (stored_its c k c_node)) comes_back)
+              (λ y ne. same_elsewhere lists p net y (Restarts c k) (λ e. ne (sym e)))
+              (λ d leaf. updated_other devices.agents c _ d (relay_no_leaf lists c d did.conc leaf) ∙ sys_is.agents d leaf)
+              sys_is.setpoints sys.bids_sent sys_is.bids_sent sys.prices_sent sys_is.prices_sent);
+          restarts = λ y up. (up, tt);
+        }

@@ -1,0 +1,214 @@
+-- A settled system is current.
+use Rattle.std.proofs.Common.{◌≡◌, ◌∙◌, sym, ap, subst, ℕ, ◌+◌, ◌<◌, ◌≤◌, true, false, eqb, List, length}
+use Rattle.std.proofs.Common.{get_or, arith, inl, inr, pos}
+use Rattle.std.proofs.Common.{◌⊎◌}
+use Rattle.std.proofs.lemmas.Bool.{cases_eq, cases_Bool, cond-true, cond-false, eq-eqb, ne_eqb}
+use Rattle.std.specs.List.{Contains}
+use Rattle.pm_bid.specs.Heads.{nothing_sent}
+use Rattle.pm_bid.specs.declared.head.BidHead.{BidHead}
+use Rattle.pm_cache.specs.Cache.{kept_number, child_head}
+use Rattle.pm_market.specs.Lists.{Lists, parent, is_leaf, is_member, IsNode, IsLeaf}
+use Rattle.pm_market.specs.State.{State, start, clearings, last_index}
+use Rattle.pm_market.specs.Moves.{after_from}
+use Rattle.pm_market.proofs.Cuts.{updated_same}
+use Rattle.pm_market.proofs.Tree.{leaf_node, leaf_zero}
+use Rattle.pm_laws.proofs.Facts.{last_within}
+use Rattle.pm_net.specs.Pricing.{Pricing}
+use Rattle.pm_net.specs.Messages.{PriceMessage, price_message}
+use Rattle.pm_net.specs.Network.{Network, sent_price, WasSent}
+use Rattle.pm_net.specs.Running.{can_send, after_sending, can_clear, after_clearing}
+use Rattle.pm_net.specs.Events.{network_step, Sends, Clears}
+use Rattle.pm_net.specs.Agents.{Setpoint}
+use Rattle.pm_net.specs.Agrees.{NetworkAgrees, price_of_clearing}
+use Rattle.pm_net.specs.Devices.{Devices, start_devices, devices_after, DevicesAgree, IsToldNow}
+use Rattle.pm_net.specs.Settled.{IsSettledNetwork, made_number}
+use Rattle.pm_net.proofs.Settled as settled
+use Rattle.pm_net.proofs.Steps.{run_from_start}
+use Rattle.pm_net.proofs.Told.{told_now}
+use Rattle.pm_net_plan.specs.Places.{Numbering}
+use Rattle.pm_relay.specs.Roots.{newest_index}
+use Rattle.pm_relay.specs.Relays.{newest_bid_number}
+use Rattle.pm_relay_net.specs.Heads.{bid_head, heads_of}
+use Rattle.pm_relay_net.proofs.Places.{head_there}
+use Rattle.pm_relay_net.proofs.RootClearing as clearing
+use Rattle.pm_relay_net.proofs.Sending as sending
+use Rattle.pm_system.specs.System.{System, price_in_channel}
+use Rattle.pm_system.specs.Calls.{NodeCall, StaysUp}
+use Rattle.pm_system.specs.Given.{IsTreeMarket}
+use Rattle.pm_system.specs.Market.{RunsTheMarket}
+use Rattle.pm_system.specs.Settled.{number_made, number_held, index_of_held, IsSettledSystem, IsCurrentSystem, HoldsNewestBid, WasTold, bids_made}
+use Rattle.pm_system.proofs.Moving.{same_price, prices_in, parent_relay}
+
+-- a node that sends and does not change cannot send
+cannot_send : (lists : Lists) (p : Pricing) (net : Network) (c : ℕ) → network_step lists p net (Sends c) ≡ net → can_send lists net c ≡ false
+cannot_send lists p net c same = elim (cases_Bool (can_send lists net c)) [
+  | inr e ↦ e
+  | inl e ↦ absurd (omega (
+    arith,
+    ap (λ (w : Network). w.last_number c) (sym same ∙ cond-true (can_send lists net c) (after_sending p net c) net e),
+    updated_same net.last_number c (net.last_number c + 1),
+  ))
+]
+
+cannot_clear : (lists : Lists) (p : Pricing) (net : Network) → network_step lists p net Clears ≡ net → can_clear lists net ≡ false
+cannot_clear lists p net same = elim (cases_Bool (can_clear lists net)) [
+  | inr e ↦ e
+  | inl e ↦ absurd (omega (
+    arith,
+    ap (λ (w : Network). w.last_number 0) (sym same ∙ cond-true (can_clear lists net) (after_clearing lists p net) net e),
+    updated_same net.last_number 0 (net.last_number 0 + 1),
+  ))
+]
+
+not_left : {A B : Type 0} → (A → ⊥) → A ⊎ B → B
+not_left never (inl a) = absurd (never a)
+not_left never (inr b) = b
+
+module _ (lists : Lists) (p : Pricing) (numbering : Numbering) (market : IsTreeMarket lists p numbering) (calls : List NodeCall) (sys : System)
+    (has : RunsTheMarket lists p numbering calls sys) (quiet : IsSettledSystem lists numbering sys) where
+  abbrev devices : Devices
+  devices = devices_after lists p (start_devices p) has.events
+
+  abbrev net : Network
+  net = devices.net
+
+  goes : Rattle.pm_net.specs.Devices.DevicesGoOn lists p start (devices_after lists p (start_devices p) has.events)
+  goes = run_from_start lists market.law market.one_phase p market.by_nodes has.events
+
+  abbrev s : State
+  s = after_from lists start goes.moves
+
+  agree : DevicesAgree lists p devices (after_from lists start goes.moves)
+  agree = goes.agree
+
+  agrees : NetworkAgrees lists p net s
+  agrees = agree.agrees
+
+  made_is : (d : ℕ) → IsLeaf lists d → bids_made sys d ≡ net.counts d
+  made_is d leaf = ap (λ a. a.number) (sym (has.is.agents d leaf)) ∙ (agree.agents d leaf).number
+
+  -- what a node holds is what the network's node holds
+  number_is : (x : ℕ) → IsNode lists x → number_made lists sys x ≡ made_number lists net x
+  number_is x node = elim (cases_Bool (is_leaf lists x)) [
+    | inl leaf ↦ cond-true (is_leaf lists x) (sys.agents x).number (newest_bid_number (sys.relays x)) leaf ∙ made_is x leaf
+        ∙ sym (cond-true (is_leaf lists x) (net.counts x) (net.last_number x) leaf)
+    | inr inner ↦ cond-false (is_leaf lists x) (sys.agents x).number (newest_bid_number (sys.relays x)) inner
+        ∙ (has.is.relays x (node.0, node.1, inner)).matches.newest ∙ sym (cond-false (is_leaf lists x) (net.counts x) (net.last_number x) inner)
+  ]
+
+  head_here : (x : ℕ) → IsNode lists x → (heads : List BidHead) → heads ≡ heads_of numbering (parent lists x) net.heard →
+      get_or heads (numbering.place x) nothing_sent ≡ bid_head (net.heard x)
+  head_here x node heads e = ap (λ (l : List BidHead). get_or l (numbering.place x) nothing_sent) e
+      ∙ head_there lists numbering market.places net.heard x node
+
+  root_head : (x : ℕ) → IsNode lists x → parent lists x ≡ 0 → child_head sys.root.auction.cache (numbering.place x) ≡ bid_head (net.heard x)
+  root_head x node up = head_here x node sys.root.auction.cache.heads
+      (has.is.root.matches.heads ∙ ap (λ (y : ℕ). heads_of numbering y net.heard) (sym up))
+
+  held_is : (x : ℕ) → IsNode lists x → number_held lists numbering sys x ≡ (net.heard x).number
+  held_is x node =
+      let at_root : ℕ = kept_number sys.root.auction.cache (numbering.place x) in
+      let at_relay : ℕ = kept_number (sys.relays (parent lists x)).gathered.cache (numbering.place x) in
+      elim (cases_eq (parent lists x) 0) [
+        | inl up ↦ cond-true (eqb (parent lists x) 0) at_root at_relay (eq-eqb (parent lists x) 0 up)
+            ∙ ap (λ (h : BidHead). h.number) (root_head x node up)
+        | inr ne ↦ cond-false (eqb (parent lists x) 0) at_root at_relay (ne_eqb (parent lists x) 0 ne)
+            ∙ ap (λ (h : BidHead). h.number) (head_here x node (sys.relays (parent lists x)).gathered.cache.heads
+            (has.is.relays (parent lists x) (parent_relay lists market.law x node ne)).matches.heads)
+      ]
+
+  agent_index : (d : ℕ) → IsLeaf lists d → (sys.agents d).index ≡ (net.taken d).index
+  agent_index d leaf = ap (λ a. a.index) (sym (has.is.agents d leaf)) ∙ (agree.agents d leaf).its_index
+
+  index_is : (x : ℕ) → IsNode lists x → index_of_held lists sys x ≡ (net.taken x).index
+  index_is x node = elim (cases_Bool (is_leaf lists x)) [
+    | inl leaf ↦ cond-true (is_leaf lists x) (sys.agents x).index (sys.relays x).index leaf ∙ agent_index x leaf
+    | inr inner ↦ cond-false (is_leaf lists x) (sys.agents x).index (sys.relays x).index inner ∙ (has.is.relays x (node.0, node.1, inner)).matches.index
+  ]
+
+  price_same : (x k : ℕ) → IsNode lists x → price_in_channel sys x k ≡ sent_price net x k
+  price_same x k node = same_price lists p numbering market.places devices sys has.is x k node
+
+  -- the network is settled
+  net_settled : IsSettledNetwork lists (devices_after lists p (start_devices p) has.events).net
+  net_settled = record {
+    bids = λ x node. omega (arith, quiet.bids x node, number_is x node, held_is x node);
+    prices = λ x k node inside.
+        let within : k < length (sys.prices_sent x) = subst (λ (l : List PriceMessage). k < length l) (has.is.prices_sent x node) inside in
+        omega (arith, quiet.prices x k node within, index_is x node, ap (λ (q : PriceMessage). q.index) (price_same x k node));
+    told = λ x node up there.
+        let told = quiet.told x node up (ap (λ (h : BidHead). h.gone) (root_head x node up) ∙ there) in (
+          told.0,
+          prices_in lists p numbering market.places devices sys has.is x told.0 node told.1,
+          ap (λ (q : PriceMessage). q.index) (sym (price_same x told.0 node)) ∙ told.2 ∙ has.is.root.matches.newest,
+        );
+    relays = λ c conc.
+        let why = quiet.relays c conc in
+        cannot_send lists p net c (not_left why.2 (sending.refuses lists market.law p numbering market.places net s agrees c conc (sys.relays c)
+        (has.is.relays c conc) why.0 why.1));
+    auctioneer = let why = quiet.root in
+        cannot_clear lists p net (not_left why.2 (clearing.refuses lists p numbering market.places net sys.root has.is.root why.0 why.1));
+  }
+
+  newest_is : newest_index sys.root ≡ clearings s
+  newest_is = has.is.root.matches.newest ∙ agrees.last_number 0 (leaf_zero lists)
+
+  -- the local steps over all bids ever made
+  steps_same : (d : ℕ) → IsLeaf lists d → p.local net.counts d ≡ p.local (bids_made sys) d
+  steps_same d leaf = market.by_nodes.steps_alike d net.counts (bids_made sys) (leaf_node lists market.law d leaf) (λ e e_leaf. sym (made_is e e_leaf))
+
+  module _ (d : ℕ) (leaf : IsLeaf lists d) (member : is_member lists d (bids_made sys d) ≡ true) where
+    d_node : IsNode lists d
+    d_node = leaf_node lists market.law d leaf
+
+    counted : is_member lists d (net.counts d) ≡ true
+    counted = ap (is_member lists d) (sym (made_is d leaf)) ∙ member
+
+    taken_is : net.taken d ≡ price_message (net.counts d) (clearings s) (p.local net.counts d)
+    taken_is = settled.all_held lists market.law p market.by_nodes net s agrees net_settled d leaf counted
+
+    one : 1 ≤ clearings s
+    one = settled.one_cleared lists market.law p market.by_nodes net s agrees net_settled d leaf counted
+
+    last_is : last_index s d ≡ clearings s
+    last_is = omega (arith, agrees.index d d_node, ap (λ (q : PriceMessage). q.index) taken_is, last_within lists s agrees.sound d)
+
+    was_sent : WasSent net d (last_index s d)
+    was_sent = agrees.last_sent d d_node (omega (arith, last_is, one))
+
+    -- the price that it holds is the one in that place
+    sent_is : sent_price net d was_sent.0 ≡ net.taken d
+    sent_is = elim (agrees.taken d d_node) [
+      | inl none ↦ absurd (omega (arith, ap (λ (q : PriceMessage). q.index) (sym none ∙ taken_is), one))
+      | inr its ↦ (agrees.prices_sent d was_sent.0 d_node was_sent.1).1
+          ∙ ap (price_of_clearing lists p s d) (was_sent.2 ∙ last_is ∙ ap (λ (q : PriceMessage). q.index) (sym taken_is)) ∙ sym its.1
+    ]
+
+    holds : HoldsNewestBid p sys d
+    holds = record {
+      place = was_sent.0;
+      inside = subst (λ (l : List PriceMessage). was_sent.0 < length l) (has.is.prices_sent d d_node) was_sent.1;
+      price = price_same d was_sent.0 d_node ∙ sent_is ∙ taken_is
+          ∙ ap (λ (n : ℕ). price_message n (clearings s) (p.local net.counts d)) (sym (made_is d leaf))
+          ∙ ap (λ (i : ℕ). price_message (bids_made sys d) i (p.local net.counts d)) (sym newest_is)
+          ∙ ap (price_message (bids_made sys d) (newest_index sys.root)) (steps_same d leaf);
+      taken = agent_index d leaf ∙ ap (λ (q : PriceMessage). q.index) taken_is ∙ sym newest_is;
+    }
+
+    told : StaysUp d calls → WasTold p sys d
+    told up =
+        let was : IsToldNow p devices d = told_now lists market.law market.one_phase p market.by_nodes has.events d leaf
+        (has.restarts d up) net_settled counted in
+        let Given : List Setpoint → Type 0 = λ l. Contains l was.0 in
+        record {
+          setpoint = was.0;
+          given = subst Given (has.is.setpoints d leaf) was.1;
+          number = was.2 ∙ sym (made_is d leaf);
+          step = was.3 ∙ steps_same d leaf;
+          power = was.4 ∙ ap (λ (n : ℕ). get_or (p.demand d n) (p.local net.counts d) (pos 0)) (sym (made_is d leaf))
+              ∙ ap (λ (n : ℕ). get_or (p.demand d (bids_made sys d)) n (pos 0)) (steps_same d leaf);
+        }
+
+  -- a settled system is current
+  pub current : IsCurrentSystem lists p calls sys
+  current = record { held = holds; told = told }

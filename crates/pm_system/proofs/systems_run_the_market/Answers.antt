@@ -1,0 +1,14 @@
+-- Of `systems_run_the_market`: its clauses.
+use Rattle.pm_system.proofs.Given.{is_market}
+use Rattle.pm_system.proofs.Law.{keeps_the_law}
+use Rattle.pm_system.proofs.Runs.{system_runs}
+use Rattle.pm_system.proofs.systems_run_the_market.Goals as goal
+
+pub returns-clause-given : goal.returns-clause-given
+returns-clause-given c lists steps demand limits given = is_market lists steps demand limits given
+
+pub returns-clause-run : goal.returns-clause-run
+returns-clause-run c lists p numbering sys new calls market at runs = system_runs lists p numbering market c.agents_come_back.ensures sys new calls at runs
+
+pub returns-clause-named : goal.returns-clause-named
+returns-clause-named c lists p numbering calls sys market has = keeps_the_law lists p numbering calls sys market has

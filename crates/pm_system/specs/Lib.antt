@@ -1,0 +1,6 @@
+pub mod System
+pub mod Calls
+pub mod Given
+pub mod Market
+pub mod Settled
+pub mod Frames

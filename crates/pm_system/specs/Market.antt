@@ -1,0 +1,46 @@
+-- What holds of a system after any run.
+use Rattle.std.specs.Prelude.{◌≡◌, ℕ, ◌<◌, ◌≤◌, List, length}
+use Rattle.std.specs.List.{All}
+use Rattle.pm_market.specs.Lists.{Lists, IsNode, IsLeaf, IsConcentrator}
+use Rattle.pm_market.specs.State.{clearings, cleared_cut}
+use Rattle.pm_market.specs.Moves.{after, LegalJournal}
+use Rattle.pm_market.specs.declared.moves.Move.{Move}
+use Rattle.pm_net.specs.Pricing.{Pricing}
+use Rattle.pm_net.specs.Events.{Event, RunsOn}
+use Rattle.pm_net.specs.Agrees.{IsItsPrice}
+use Rattle.pm_net.specs.Devices.{Devices, start_devices, devices_after, IsRight}
+use Rattle.pm_net_plan.specs.Places.{Numbering}
+use Rattle.pm_relay_net.specs.RelayIs.{RelayIs}
+use Rattle.pm_relay_net.specs.RootIs.{RootIs}
+use Rattle.pm_system.specs.System.{System, price_in_channel}
+use Rattle.pm_system.specs.Calls.{NodeCall, StaysUp}
+
+-- ---- it is what a network has
+
+pub record SystemIs (lists : Lists) (p : Pricing) (numbering : Numbering) (devices : Devices) (sys : System) : Type 0 where
+  pub root : RootIs p numbering devices.net sys.root
+  pub relays : (c : ℕ) → IsConcentrator lists c → RelayIs p numbering devices.net c (sys.relays c)
+  pub agents : (d : ℕ) → IsLeaf lists d → devices.agents d ≡ sys.agents d
+  pub setpoints : (d : ℕ) → IsLeaf lists d → devices.setpoints d ≡ sys.setpoints d
+  pub bids_sent : (x : ℕ) → IsNode lists x → devices.net.bids_sent x ≡ sys.bids_sent x
+  pub prices_sent : (x : ℕ) → IsNode lists x → devices.net.prices_sent x ≡ sys.prices_sent x
+
+-- after these calls the system is what a network with devices has after some events, which restart no node that stayed up
+pub record RunsTheMarket (lists : Lists) (p : Pricing) (numbering : Numbering) (calls : List NodeCall) (sys : System) : Type 0 where
+  pub events : List Event
+  pub is : SystemIs lists p numbering (devices_after lists p (start_devices p) events) sys
+  pub restarts : (x : ℕ) → StaysUp x calls → RunsOn x events
+
+-- ---- what follows
+
+-- All prices that were ever sent are of one legal journal: each is due to its receiver, and names the receiver's own number and
+-- local step in the cut of its clearing. Every setpoint that was ever given is right in it. A later clearing has no older number.
+pub record KeepsTheLaw (lists : Lists) (p : Pricing) (sys : System) : Type 0 where
+  pub journal : List Move
+  pub legal : LegalJournal lists journal
+  pub prices : (x k : ℕ) → IsNode lists x → k < length (sys.prices_sent x) → IsItsPrice lists p (after lists journal) x (price_in_channel sys x k)
+  pub cleared : (x k : ℕ) → IsNode lists x → k < length (sys.prices_sent x) →
+      (1 ≤ (price_in_channel sys x k).index) × ((price_in_channel sys x k).index ≤ clearings (after lists journal))
+  pub setpoints : (d : ℕ) → IsLeaf lists d → All (IsRight lists p (after lists journal) d) (sys.setpoints d)
+  pub later : (i j d : ℕ) → i ≤ j → j ≤ clearings (after lists journal) → IsLeaf lists d →
+      cleared_cut (after lists journal) i d ≤ cleared_cut (after lists journal) j d

@@ -1,0 +1,79 @@
+-- A system in which everything was taken and nothing new can be sent, and what is current then.
+use Rattle.std.specs.Prelude.{◌≡◌, ℕ, ◌<◌, ◌≤◌, false, true, pos, if◌then◌else◌, ◌==◌, List, length, slice_index_or}
+use Rattle.std.specs.List.{Contains}
+use Rattle.pm_cache.specs.Cache.{child_head, kept_number}
+use Rattle.pm_market.specs.Lists.{Lists, parent, is_leaf, is_member, IsNode, IsLeaf, IsConcentrator}
+use Rattle.pm_net.specs.Pricing.{Pricing}
+use Rattle.pm_net.specs.Messages.{price_message}
+use Rattle.pm_net.specs.Agents.{Setpoint}
+use Rattle.pm_net_plan.specs.Places.{Numbering}
+use Rattle.pm_relay.specs.Relays.{RelayValue, newest_bid_number, NotSent}
+use Rattle.pm_relay.specs.Roots.{RootValue, newest_index, NotCleared}
+use Rattle.pm_relay.specs.declared.fault.SendFault.{SendFault}
+use Rattle.pm_relay.specs.declared.fault.SendFault.TheVariants as send_fault
+use Rattle.pm_relay.specs.declared.fault.RootFault.{RootFault}
+use Rattle.pm_relay.specs.declared.fault.RootFault.TheVariants as root_fault
+use Rattle.pm_system.specs.System.{System, price_in_channel}
+use Rattle.pm_system.specs.Calls.{NodeCall, StaysUp}
+
+-- ---- what a node holds
+
+-- the number of its newest bid, sent or not
+abbrev pub number_made : Lists → System → ℕ → ℕ
+number_made lists sys x = if is_leaf lists x then (sys.agents x).number else newest_bid_number (sys.relays x)
+
+-- the number that its parent holds of it
+abbrev pub number_held : Lists → Numbering → System → ℕ → ℕ
+number_held lists numbering sys x =
+    if parent lists x == 0 then kept_number sys.root.auction.cache (numbering.place x)
+    else kept_number (sys.relays (parent lists x)).gathered.cache (numbering.place x)
+
+-- the index of the price that it took last
+abbrev pub index_of_held : Lists → System → ℕ → ℕ
+index_of_held lists sys x = if is_leaf lists x then (sys.agents x).index else (sys.relays x).index
+
+-- ---- settled
+
+-- a relay refuses to send, and a root to clear, but not for want of numbers
+abbrev pub HasNothingToSend : RelayValue → Type 0
+HasNothingToSend r = (fault : SendFault) × NotSent r fault × (fault ≡ send_fault.OutOfNumbers → ⊥)
+
+abbrev pub HasNothingToClear : RootValue → Type 0
+HasNothingToClear r = (fault : RootFault) × NotCleared r fault × (fault ≡ root_fault.OutOfNumbers → ⊥)
+
+-- Each parent holds the newest bid of its child; each node took the newest price that was sent to it; the root sent the price of
+-- its newest clearing to each child that is not gone; and no relay has anything to send, nor the root anything to clear.
+pub record IsSettledSystem (lists : Lists) (numbering : Numbering) (sys : System) : Type 0 where
+  pub bids : (x : ℕ) → IsNode lists x → number_made lists sys x ≤ number_held lists numbering sys x
+  pub prices : (x k : ℕ) → IsNode lists x → k < length (sys.prices_sent x) → (price_in_channel sys x k).index ≤ index_of_held lists sys x
+  pub told : (x : ℕ) → IsNode lists x → parent lists x ≡ 0 → (child_head sys.root.auction.cache (numbering.place x)).gone ≡ false →
+      (k : ℕ) × (k < length (sys.prices_sent x)) × ((price_in_channel sys x k).index ≡ newest_index sys.root)
+  pub relays : (c : ℕ) → IsConcentrator lists c → HasNothingToSend (sys.relays c)
+  pub root : HasNothingToClear sys.root
+
+-- ---- current
+
+-- how many bids each device ever made
+abbrev pub bids_made : System → ℕ → ℕ
+bids_made sys d = (sys.agents d).number
+
+-- the price of the newest clearing came to d, under its newest number and with its local step over all bids ever made; it is the
+-- one that d took last
+pub record HoldsNewestBid (p : Pricing) (sys : System) (d : ℕ) : Type 0 where
+  pub place : ℕ
+  pub inside : place < length (sys.prices_sent d)
+  pub price : price_in_channel sys d place ≡ price_message (bids_made sys d) (newest_index sys.root) (p.local (bids_made sys) d)
+  pub taken : (sys.agents d).index ≡ newest_index sys.root
+
+-- the control of d was told what its newest bid asks for at that step
+pub record WasTold (p : Pricing) (sys : System) (d : ℕ) : Type 0 where
+  pub setpoint : Setpoint
+  pub given : Contains (sys.setpoints d) setpoint
+  pub number : setpoint.number ≡ bids_made sys d
+  pub step : setpoint.step ≡ p.local (bids_made sys) d
+  pub power : setpoint.power ≡ slice_index_or (p.demand d (bids_made sys d)) (p.local (bids_made sys) d) (pos 0)
+
+-- so it is for each member; the control of one that did not restart was told
+pub record IsCurrentSystem (lists : Lists) (p : Pricing) (calls : List NodeCall) (sys : System) : Type 0 where
+  pub held : (d : ℕ) → IsLeaf lists d → is_member lists d (bids_made sys d) ≡ true → HoldsNewestBid p sys d
+  pub told : (d : ℕ) → IsLeaf lists d → is_member lists d (bids_made sys d) ≡ true → StaysUp d calls → WasTold p sys d

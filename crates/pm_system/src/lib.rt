@@ -1,0 +1,78 @@
+//! The theorem over a whole tree across machines: a root, relays and devices' agents that do what the contracts of their code
+//! say run the market, whatever is lost, repeated or reordered between them, and whoever restarts.
+//!
+//! A system is the values of its nodes with all messages that were ever sent. A step of it is one call of one node, on any
+//! message that was ever sent to it. Each law is the contract of a function that has nothing to do.
+#![tactic(auto)]
+
+ghost use Rattle.std.specs.Prelude.{◌≡◌, ℕ, ◌<◌, ◌≤◌, ℤ, List};
+ghost use Rattle.std.specs.List.{AllPairs};
+ghost use Rattle.pm_base.specs.declared.limits.Limits.{Limits};
+ghost use Rattle.pm_market.specs.Lists.{Lists, IsLeaf};
+ghost use Rattle.pm_net.specs.Pricing.{Pricing};
+ghost use Rattle.pm_net.specs.Agents.{Setpoint};
+ghost use Rattle.pm_net_plan.specs.Places.{Numbering, places_in};
+ghost use Rattle.pm_system.specs.System.{System};
+ghost use Rattle.pm_system.specs.Calls.{NodeCall, Does, SystemRuns, IsNoRestart, StaysUp};
+ghost use Rattle.pm_system.specs.Given.{IsTreeMarket, IsGiven, placed_pricing, IsStarted};
+ghost use Rattle.pm_system.specs.Market.{RunsTheMarket, KeepsTheLaw};
+ghost use Rattle.pm_system.specs.Settled.{index_of_held, IsSettledSystem, IsCurrentSystem};
+ghost use Rattle.pm_system.specs.Frames.{AreSent};
+
+use pm_control::agents_come_back;
+
+/// A law: a system whose nodes came up for the first time is, after any calls, what a network with devices has after some
+/// events. So its prices and setpoints are of one legal journal. Each price that was ever sent is due to its receiver, and
+/// names the receiver's own number in the cut of its clearing, and its local step there. Each setpoint that was ever given is
+/// the power of the device's own bid of its number there, at that step.
+pub fn systems_run_the_market()
+    ensures given { (lists : Lists) (steps : ℕ) (demand : ℕ → ℕ → List ℤ) (limits : ℕ → Limits) →
+        IsGiven lists steps demand limits →
+        IsTreeMarket lists (placed_pricing lists steps demand limits) (places_in lists) }
+    ensures run { (lists : Lists) (p : Pricing) (numbering : Numbering) (sys new : System)
+        (calls : List NodeCall) → IsTreeMarket lists p numbering → IsStarted lists p sys →
+        SystemRuns lists p numbering sys calls new → RunsTheMarket lists p numbering calls new }
+    ensures named { (lists : Lists) (p : Pricing) (numbering : Numbering) (calls : List NodeCall)
+        (sys : System) → IsTreeMarket lists p numbering →
+        RunsTheMarket lists p numbering calls sys → KeepsTheLaw lists p sys }
+{
+    // The call tells a fact: an agent that comes back with what it stored is the agent after a restart in the network.
+    agents_come_back();
+}
+
+/// A law: nobody goes back, except over its own restart. No call lowers the index of the price that a node holds; a restart
+/// never raises it. The setpoints of a device that did not restart have rising indices.
+pub fn systems_do_not_go_back()
+    ensures back { (lists : Lists) (p : Pricing) (numbering : Numbering) (sys new : System)
+        (call : NodeCall) (x : ℕ) → Does lists p numbering sys call new → IsNoRestart x call →
+        index_of_held lists sys x ≤ index_of_held lists new x }
+    ensures restarts { (lists : Lists) (p : Pricing) (numbering : Numbering) (sys new : System)
+        (y k : ℕ) → Does lists p numbering sys (NodeCall.Restarts y k) new →
+        index_of_held lists new y ≤ index_of_held lists sys y }
+    ensures rising { (lists : Lists) (p : Pricing) (numbering : Numbering) (calls : List NodeCall)
+        (sys : System) (d : ℕ) → RunsTheMarket lists p numbering calls sys → IsLeaf lists d →
+        StaysUp d calls → AllPairs (λ (a b : Setpoint). a.index < b.index) (sys.setpoints d) }
+{}
+
+/// A law: settled is current, over restarts too. A system is settled if each parent holds the newest bid of its child, each
+/// node took the newest price that was sent to it, the root sent the price of its newest clearing to each child that is not
+/// gone, and no node has anything new to send. Then the newest clearing is over all bids ever made: each member holds its
+/// price, under its own newest number and with its local step. The control of a member that did not restart was told so.
+pub fn settled_systems_are_current()
+    ensures { (lists : Lists) (p : Pricing) (numbering : Numbering) (calls : List NodeCall)
+        (sys : System) → IsTreeMarket lists p numbering →
+        RunsTheMarket lists p numbering calls sys → IsSettledSystem lists numbering sys →
+        IsCurrentSystem lists p calls sys }
+{}
+
+/// A law: each message that was ever sent fits a frame. A bid has a number above 0, and a demand for each step that never rises
+/// and is within ±1,000,000,000 watts; a price has a number and an index above 0, and one of the steps. So each may be given to
+/// the call that takes it. Nothing is said of numbers being below 4,294,967,296: the calls that give numbers refuse there.
+pub fn systems_send_frames()
+    ensures { (lists : Lists) (p : Pricing) (numbering : Numbering) (sys new : System)
+        (calls : List NodeCall) → IsTreeMarket lists p numbering → IsStarted lists p sys →
+        SystemRuns lists p numbering sys calls new → AreSent lists p new }
+{
+    // The call tells a fact: an agent that comes back with what it stored is the agent after a restart in the network.
+    agents_come_back();
+}
