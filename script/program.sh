@@ -1,24 +1,31 @@
-# Which crates the program stands on, and whether the built program is what was proved from the sources of today.
+# Which crates a program stands on, and whether the built program is what was proved from the sources of today.
 #
 # `market`, `.ci/run` and the checks source this file. They set `top`, the absolute path of the repository, before.
+# There are two programs, `market` and `live`. All here is about the one that `choose_program` names, `market` at first.
 # The stamp beside the program says from which sources it was proved. `write_stamp` writes it and `is_current` reads it.
 # shellcheck shell=bash
 : "${top:?}"
-program="$top/crates/market/out/market"
-stamp="$top/crates/market/out/proved"
+
+# Sets `program_name` to the name of a program, `program` to its path, and `stamp` to that of its stamp.
+choose_program() {
+    program_name="$1"
+    program="$top/crates/$1/out/$1"
+    stamp="$top/crates/$1/out/proved"
+}
+choose_program market
 
 # Sets `crates` to the crates that the program stands on, itself first, and `rows` to the line of crates.txt of each.
 list_crates() {
     local line name place
     local -a lines
-    local -A row=() taken=([market]=yes)
+    local -A row=() taken=(["$program_name"]=yes)
     mapfile -t lines <"$top/crates.txt"
     for line in "${lines[@]}"; do
         line="${line%%#*}"
         name="${line%%[: ]*}"
         [ -z "$name" ] || row[$name]="$line"
     done
-    crates=(market)
+    crates=("$program_name")
     rows=()
     for ((place = 0; place < ${#crates[@]}; place++)); do
         line="${row[${crates[place]}]-}"
@@ -67,7 +74,7 @@ sources_state() (
 
 # Prints the same of the sources and the program. The stamp keeps it.
 whole_state() {
-    sources_state market/out/market
+    sources_state "$program_name/out/$program_name"
 }
 
 # Prints the sum of the built program.
@@ -134,7 +141,7 @@ date: $(date +%Y-%m-%d)
 state: $now"
 }
 
-# Prints about how many minutes the proof of all these crates takes here. On four processors it was measured
+# Prints about how many minutes the proof of all crates of `market` takes here. On four processors it was measured
 # (docs/measured/PROVE.md); for fewer it is worked out from the 42 processor minutes that it took there.
 minutes_to_prove() {
     local processors

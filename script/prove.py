@@ -1,14 +1,14 @@
 #!/usr/bin/env python3
-"""Proves and builds the program, with all processors: the crates that it stands on side by side, the longest chain first.
+"""Proves and builds a program, with all processors: the crates that it stands on side by side, the longest chain first.
 
-    python3 script/prove.py [--jobs N]
+    python3 script/prove.py [market|live] [--jobs N]
 
 `rt run` proves one crate after the other, and `rt ci` also every test and every must-fail edit. This script asks the kit's
 own calls behind `rt ci` for the proofs alone that the program stands on. Each crate is proved from nothing, and the program is
 held to HANDLES.
 What is proved is kept in crates/NAME/out/prove, so a run that is stopped goes on with the crates that were open. What the
 kit says of a crate is in crates/NAME/out/prove/log. Progress goes to standard error. The status is 0 only if all is proved and
-crates/market/out/market is built. A kit without these calls is asked for `rt run` instead.
+the program is built, as crates/NAME/out/NAME. A kit without these calls is asked for `rt run` instead.
 """
 
 import argparse
@@ -31,7 +31,9 @@ from types import ModuleType
 from typing import Any
 
 TOP = Path(__file__).resolve().parent.parent
-PROGRAM = "market"
+
+# The programs that a user runs, first the one that is meant if none is named.
+PROGRAMS = ("market", "live")
 
 # The seconds between two lines that say how far the proofs are.
 PERIOD = 60
@@ -209,19 +211,23 @@ class Lanes:
 
 
 class Proofs:
-    """The proofs of the program and of the crates below it, by the calls of the kit."""
+    """The proofs of a program and of the crates below it, by the calls of the kit."""
 
-    def __init__(self, kit: Any) -> None:
+    def __init__(self, kit: Any, name: str) -> None:
         self.kit = kit
         # As `rt ci` sets the kit up: a library is built of its statements, and the program held to HANDLES.
         kit.rtlib.Crate = kit.Crate
         kit.Crate.cuts_libraries = True
         kit.Crate.allowed = kit.handles_of(str(TOP))
-        self.program = kit.Crate(str(TOP / "crates" / PROGRAM), str(TOP), {})
+        self.program = kit.Crate(str(TOP / "crates" / name), str(TOP), {})
         self.crates = [*self.program.below(), self.program]
         for crate in self.crates:
             crate.rlib = f"{crate.folder}/out/prove/{crate.name}.rlib"
         self.sums = {it.name: sum_of(it) for it in self.crates}
+
+    def built_program(self) -> Path:
+        """Where the built program is."""
+        return Path(self.program.folder) / "out" / str(self.program.name)
 
     def stamp_of(self, crate: Any) -> Path:
         """The file that says from which sources a crate was proved."""
@@ -231,14 +237,14 @@ class Proofs:
         """What the stamp of a proved crate says: the kit, and a sum of the crate and of each below it, and of the built program."""
         names = [crate.name, *(it.name for it in crate.below())]
         lines = [Path(f"{self.kit.KIT}/KIT-ID").read_text().strip(), *(f"{it} {self.sums[it]}" for it in names)]
-        if crate.name == PROGRAM:
-            lines.append(f"program {hashlib.sha256(built_program().read_bytes()).hexdigest()}")
+        if crate.name == self.program.name:
+            lines.append(f"program {hashlib.sha256(self.built_program().read_bytes()).hexdigest()}")
         return "\n".join(lines)
 
     def is_kept(self, crate: Any) -> bool:
         """Whether an earlier run proved the crate from these sources, and what it built is there."""
         stamp = self.stamp_of(crate)
-        made = built_program() if crate.name == PROGRAM else Path(crate.rlib)
+        made = self.built_program() if crate.name == self.program.name else Path(crate.rlib)
         return made.exists() and stamp.is_file() and stamp.read_text() == self.due_in_stamp(crate)
 
     def prove(self, crate: Any, jobs: int) -> bool:
@@ -257,11 +263,11 @@ class Proofs:
         """Asks the kit for the proof and the build, and returns the status."""
         rattle = self.kit.rtlib.RATTLE
         words = crate.words(["--jobs", str(jobs)], keeps=False)
-        if crate.name != PROGRAM:
+        if crate.name != self.program.name:
             return int(crate.call(rattle, "build", *words, "--statements", "-o", crate.rlib))
         words += ["--toolchain", f"{self.kit.KIT}/toolchain", "--backend", "llvm"]
-        status = crate.call(rattle, "build", *words, "-o", f"out/{PROGRAM}.o")
-        return int(status or crate.link(f"out/{PROGRAM}.o", f"out/{PROGRAM}"))
+        status = crate.call(rattle, "build", *words, "-o", f"out/{crate.name}.o")
+        return int(status or crate.link(f"out/{crate.name}.o", f"out/{crate.name}"))
 
     def run(self, processors: int) -> bool:
         """Proves what is not kept, side by side, and returns whether all is proved."""
@@ -281,11 +287,6 @@ class Proofs:
         log = self.stamp_of(crate).with_name("log")
         print("\n".join(log.read_text(errors="replace").splitlines()[-30:]), file=sys.stderr)
         say(f"{crate.name} is not proved: the end of {log.relative_to(TOP)} is above")
-
-
-def built_program() -> Path:
-    """Where the built program is."""
-    return TOP / "crates" / PROGRAM / "out" / PROGRAM
 
 
 def free_memory() -> int:
@@ -313,35 +314,38 @@ def sum_of(crate: Any) -> str:
     return whole.hexdigest()
 
 
-def run_by_turns() -> bool:
-    """Lets `rt run` prove one crate after the other, and build the program."""
+def run_by_turns(name: str) -> bool:
+    """Lets `rt run` prove one crate after the other, and build the program of this name."""
     say("this kit proves one crate after the other, so it takes longer")
-    how: dict[str, Any] = {"cwd": TOP / "crates" / PROGRAM, "stdin": subprocess.DEVNULL, "capture_output": True, "text": True, "errors": "replace"}
+    how: dict[str, Any] = {"cwd": TOP / "crates" / name, "stdin": subprocess.DEVNULL, "capture_output": True, "text": True, "errors": "replace"}
     ran = subprocess.run(["rt", "run"], check=False, **how)
-    if f"rt: running out/{PROGRAM}" in ran.stderr + ran.stdout:
+    if f"rt: running out/{name}" in ran.stderr + ran.stdout:
         return True
     print(ran.stdout + ran.stderr, file=sys.stderr)
     return False
 
 
 def main() -> int:
-    """Proves and builds the program, and returns the status."""
-    parser = argparse.ArgumentParser(prog="./market prove", description="Proves and builds the program.")
+    """Proves and builds the program that the arguments name, and returns the status."""
+    # It has no help, since the script takes status 0 for a proof.
+    parser = argparse.ArgumentParser(prog="./market prove", add_help=False)
+    parser.add_argument("program", nargs="?", choices=PROGRAMS, default=PROGRAMS[0])
     processors = sorted(os.sched_getaffinity(0))
-    parser.add_argument("--jobs", type=int, default=len(processors), help="how many processors to use; all, if not said")
-    jobs = parser.parse_args().jobs
-    if jobs < 1:
+    # How many processors to use; all, if not said.
+    parser.add_argument("--jobs", type=int, default=len(processors))
+    given = parser.parse_args()
+    if given.jobs < 1:
         parser.error("--jobs takes a number from 1 on")
-    os.sched_setaffinity(0, processors[:jobs])
+    os.sched_setaffinity(0, processors[: given.jobs])
     os.chdir(TOP)
     kit = load_kit()
     if kit is None:
-        return 0 if run_by_turns() else 1
+        return 0 if run_by_turns(given.program) else 1
     # The first call sets a signal's handler, which only the main thread may. What it starts ends with this process.
     kit.rtlib.guarded()
     for it in (signal.SIGTERM, signal.SIGHUP, signal.SIGINT):
         signal.signal(it, lambda number, _: os._exit(128 + number))
-    return 0 if Proofs(kit).run(jobs) else 1
+    return 0 if Proofs(kit, given.program).run(given.jobs) else 1
 
 
 if __name__ == "__main__":

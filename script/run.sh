@@ -1,10 +1,18 @@
 # How the proved program is run, and how help is given: by the script of the repository, and by the installed command.
 #
 # Both source script/words.sh and then this file. They set before:
-#   program    the path of the proved program
+#   program    the path of the proved program that is run: of `market`, or of `live` for a node
 #   called     as for words.sh
 # shellcheck shell=bash
 : "${program:?}" "${called:?}"
+
+# Whether these arguments are a node of a market across machines, which the program `live` serves.
+is_node() {
+    case "${1-}" in
+        relay | auctioneer | device) ;;
+        *) return 1 ;;
+    esac
+}
 
 # Whether these arguments are a command that reads a whole input and then answers.
 reads_input() {
@@ -18,7 +26,7 @@ reads_input() {
 # Says that a command reads standard input, if a file was given as its argument.
 tell_of_input() {
     local file
-    [ $# -ge 2 ] && { reads_input "$1" || [ "$1" = serve ]; } && [ -f "$2" ] && [ -r "$2" ] || return 1
+    [ $# -ge 2 ] && { reads_input "$1" || [[ "$1" = serve || "$1" = auctioneer ]]; } && [ -f "$2" ] && [ -r "$2" ] || return 1
     printf -v file %q "$2"
     say "$1 reads standard input: $called $1 < $file"
 }
@@ -67,7 +75,17 @@ show_text() {
     end "$1" "$text"
 }
 
-# Runs the proved program.
+# Runs a node by the proved program `live`, which writes no line about how it ended.
+run_node() {
+    local status
+    tell_of_input "$@" || :
+    "$program" "$@"
+    status=$?
+    [ "$status" != 4 ] || say "the stream is too long: start the node again with its newest Resume"
+    end "$status" "refused 24 frame"
+}
+
+# Runs the proved program `market`.
 run_proved() {
     local status
     tell_of_input "$@" || :
@@ -88,7 +106,9 @@ run_proved() {
 # Prints the help that was asked for.
 print_help() {
     case "${1-}" in
-        "" | run | trace | bill | free | check | ask | serve | demo | help | version | prove) help_text ;;
+        "" | run | trace | bill | free | check | ask | serve | demo | relay | auctioneer | device | help | version | prove)
+            help_text
+            ;;
         refusals) help_refusals ;;
         *)
             help_refusal "$1" && return

@@ -33,14 +33,19 @@ usage: $called COMMAND < INPUT > OUTPUT
   serve    is the auctioneer alone: reads frames, writes answers as they come
   demo SIZE NUMBER
            reads nothing; runs a made cluster of SIZE devices, 1 to 200
+  relay CHILD FLOOR CEILING
+  auctioneer
+  device CHILD
+           is one node of a market across machines, by the program live: reads
+           frames, writes frames
 
   help     prints this text; help refusals: what each refusal means;
            help CODE: what this refusal means, and what to do
   version  prints the version
 END_OF_HELP
     [ "$installed" = yes ] || cat <<END_OF_HELP
-  prove [--jobs N]
-           proves and builds the program, on N processors
+  prove [live] [--jobs N]
+           proves and builds the program market, or live, on N processors
   --proved COMMAND
            runs the command only if a proved program is at hand
   --unproved COMMAND
@@ -93,7 +98,7 @@ refusals() {
 21|no refusal has this code|nothing
 22|a limited node is below a limited one|take one of the two limits out
 23|the input of check or ask does not begin with the file's length|write the length in bytes and a line feed before the file
-24|serve: a frame is bad; a Fault tells its offset|mend the stream from that byte on
+24|a frame is bad; a Fault tells its offset|mend the stream from that byte on
 25|ask: a line behind the file is no target|give whole numbers of watts, one a line, at most 100,000
 END_OF_TABLE
 }

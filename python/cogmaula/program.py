@@ -153,8 +153,8 @@ def _of_checkout(folder: Path) -> Program:
     """The program of a checkout, which says itself whether it was proved from the sources of today."""
     told = subprocess.run([str(folder / "market"), "version"], capture_output=True, text=True, check=False).stdout
     lines = told.splitlines()
-    if len(lines) != 2 or not lines[1].startswith("a proved program is at hand, "):
-        why = lines[1].removeprefix("no proved program is at hand: ") if len(lines) == 2 else "its script market does not answer"
+    if len(lines) < 2 or not lines[1].startswith("a proved program is at hand, "):
+        why = lines[1].removeprefix("no proved program is at hand: ") if len(lines) > 1 else "its script market does not answer"
         raise NoProgram(f"{folder}: {why}")
     return _made(folder / "crates" / "market" / "out" / "market", f"the checkout {folder}: {lines[1]}")
 
