@@ -28,25 +28,26 @@ help: ## lists the targets, and the variables that say where to
 	@echo "PREFIX is $(PREFIX). DESTDIR is put before all places: make install DESTDIR=/tmp/stage PREFIX=/usr"
 	@echo "Also: bindir libexecdir datadir docdir mandir unitdir, and bash-, zsh- and fishcompletiondir."
 
-prove: ## proves and builds the program, in about 13 minutes on four processors
+prove: ## proves and builds the programs: market in about 13 minutes on four processors, then live
 	./market prove
+	./market prove live
 
 check: ## runs the gate: every proof, must-fail edit, test and check
 	.ci/run
 
-install: ## installs the proved program, its pages, completions, examples and units
+install: ## installs the proved programs, their pages, completions, examples and units
 	@bash packaging/install.sh install
 
 uninstall: ## removes what install made
 	@bash packaging/install.sh uninstall
 
-installcheck: ## runs the installed program on the village, and compares the text
+installcheck: ## runs the installed program on the village and as a node, and compares what it writes
 	@bash packaging/installcheck.sh
 
 dist: ## packs the committed sources into build/
 	@bash packaging/dist.sh $(tarball)
 
-deb: ## builds a Debian package of the proved program in build/
+deb: ## builds a Debian package of the proved programs in build/
 	@bash packaging/deb.sh $(package)
 
 clean: ## removes what dist and deb made

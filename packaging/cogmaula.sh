@@ -1,7 +1,7 @@
 #!/usr/bin/env bash
 # cogmaula: runs the command line of the Python package that is installed with market; `cogmaula --help` lists its commands.
 #
-# It runs the market that is installed with it, unless the environment names another.
+# It runs the market and the live that are installed with it, unless the environment names others.
 set -u
 self="$0"
 [ ! -L "$self" ] || self="$(readlink -f -- "$self")" || exit 1
@@ -15,5 +15,6 @@ if ! command -v python3 >/dev/null; then
     exit 1
 fi
 export PYTHONPATH="$root@datadir@/market/python${PYTHONPATH:+:$PYTHONPATH}" COGMAULA_MARKET="${COGMAULA_MARKET:-$folder/market}"
+export COGMAULA_LIVE="${COGMAULA_LIVE:-$root@libexecdir@/market/live}"
 # Nothing is written beside what is installed.
 exec python3 -B -m cogmaula "$@"

@@ -1,5 +1,5 @@
 #!/usr/bin/env bash
-# Builds a Debian package of the proved program, from what `make install` puts into a folder. The same sources and the same program
+# Builds a Debian package of the proved programs, from what `make install` puts into a folder. The same sources and the same programs
 # give the same bytes: all times are that of the release.
 #   bash packaging/deb.sh build/market_VERSION_amd64.deb
 set -euo pipefail
@@ -35,7 +35,7 @@ stage() {
     rm "$root/usr/share/market/installed"
     # The licence is on each Debian system.
     rm "$docs/LICENSE"
-    strip --strip-unneeded "$root/usr/libexec/market/market"
+    strip --strip-unneeded "$root/usr/libexec/market/market" "$root/usr/libexec/market/live"
     cp packaging/copyright "$docs/copyright"
     chmod 644 "$docs/copyright"
     write_changelog | gzip -9n >"$docs/changelog.gz"
@@ -47,11 +47,11 @@ write_changelog() {
     printf ' -- %s  %s\n' "$(awk -F ': ' '/^Maintainer: / { print $2 }' packaging/control)" "$(LC_ALL=C date -u -d "$day" -R)"
 }
 
-# Which packages hold the libraries that the program loads.
+# Which packages hold the libraries that the programs load.
 list_depends() {
     mkdir -p "$work/source/debian"
     printf 'Source: market\n\nPackage: market\nArchitecture: any\n' >"$work/source/debian/control"
-    (cd "$work/source" && dpkg-shlibdeps -O "$root/usr/libexec/market/market" 2>"$work/told") >"$work/depends" || {
+    (cd "$work/source" && dpkg-shlibdeps -O "$root/usr/libexec/market/market" "$root/usr/libexec/market/live" 2>"$work/told") >"$work/depends" || {
         cat "$work/told" >&2
         return 1
     }

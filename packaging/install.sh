@@ -25,14 +25,18 @@ require_places() {
     done
 }
 
-# Only the program that was proved from today's sources is installed.
+# Only programs that were proved from today's sources are installed.
 require_proved() {
+    local name
     # shellcheck source=script/program.sh
     . script/program.sh
-    if ! is_current; then
-        say "there is no proved program of these sources: run \`make prove\` first"
-        exit 1
-    fi
+    for name in market live; do
+        choose_program "$name"
+        if ! is_current; then
+            say "there is no proved program $name of these sources: run \`make prove\` first"
+            exit 1
+        fi
+    done
 }
 
 # Writes TEXT with each place @..@ filled in.

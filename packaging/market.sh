@@ -1,5 +1,6 @@
 #!/usr/bin/env bash
-# market: runs the installed program with these arguments and this standard input; `market help` lists them.
+# market: runs the installed program with these arguments and this standard input; `market help` lists them. A node of a market
+# across machines is run by the program `live` beside it.
 #
 # Standard output and the status are the program's own. What this command says goes to standard error, except the help and the
 # version, which were asked for.
@@ -27,5 +28,12 @@ case "${1-}" in
         ;;
     help | --help | -h) print_help "${@:2}" ;;
     version | --version) echo "market @version@ (@commit@)" ;;
-    *) run_proved "$@" ;;
+    *)
+        if is_node "$@"; then
+            program="${program%/*}/live"
+            run_node "$@"
+        else
+            run_proved "$@"
+        fi
+        ;;
 esac

@@ -102,6 +102,7 @@ function relinked(line,    done, before, target, at) {
 BEGIN {
     part = "both"
     program = ENVIRON["libexecdir"] "/market/market"
+    live = ENVIRON["libexecdir"] "/market/live"
     docs = ENVIRON["docdir"] "/"
     read_list()
 }
@@ -119,14 +120,17 @@ part == "installed" { sub(/^\.\\"\+ ?/, "") }
     line = FILENAME ~ /\.md$/ ? relinked($0) : $0
     line = swap(line, "../../crates/market/out/market", program)
     line = swap(line, "crates/market/out/market", program)
+    line = swap(line, "crates/live/out/live", live)
     line = swap(line, "/usr/local/libexec/market/", ENVIRON["libexecdir"] "/market/")
     line = swap(line, "/usr/local/share/market/units", ENVIRON["unitdir"])
+    line = swap(line, "/usr/local/bin/cogmaula", ENVIRON["bindir"] "/cogmaula")
     line = swap(line, "./market ", "market ")
     line = swap(line, "\"./market\"", "\"market\"")
     line = swap(line, "./cluster.schema.json", "cluster.schema.json")
     line = swap(line, "cluster.schema.json", ENVIRON["datadir"] "/market/cluster.schema.json")
     line = swap(line, "docs/CLUSTER_FILE.md", docs "CLUSTER_FILE.md")
     line = swap(line, "docs/SERVE.md", docs "SERVE.md")
+    line = swap(line, "docs/RELAY.md", docs "RELAY.md")
     line = swap(line, "examples/", docs "examples/")
     line = swap(line, "pictures/", docs "pictures/")
     for (; links > 0; links--)
