@@ -18,6 +18,14 @@ def ended(program, arguments, text, seconds=SECONDS):
     return done.returncode, done.stdout
 
 
+def differs(found, due):
+    """What is wrong with the status and the answers of a run, or None."""
+    def told(it):
+        return f"{it[0]} and answers that end with {it[1][-60:].hex()}"
+
+    return None if found == due else f"it ends with {told(found)}, and due is {told(due)}"
+
+
 def sampled(things, most):
     """So many of a list, evenly over it; all if there are no more."""
     things = list(things)

@@ -19,6 +19,8 @@ from checks.oracle.oracle import due_of, envelope, why_wrong
 DONE, READ_FAULT, WRITE_FAULT = 0, 3, 6
 TARGETS = b"0\n100\n-60\n"
 LEAST_PIPE = 4_096
+# No command reads less at once.
+LONGEST_PIECE = 4_096
 SAMPLE = 12
 
 
@@ -72,6 +74,28 @@ def in_packets(program, arguments, text, size):
         pass
     ours.close()
     return finish(child)
+
+
+def in_pieces(program, arguments, pieces):
+    """A run whose every read gives one piece, written while the answers are read. Long pieces are cut: a short read loses the rest."""
+    ours, its = socket.socketpair(socket.AF_UNIX, socket.SOCK_SEQPACKET)
+    child = start(program, arguments, stdin=its)
+    its.close()
+
+    def send():
+        try:
+            for piece in pieces:
+                for at in range(0, len(piece), LONGEST_PIECE):
+                    ours.send(piece[at : at + LONGEST_PIECE])
+        except OSError:
+            pass
+        ours.close()
+
+    sender = threading.Thread(target=send)
+    sender.start()
+    found = finish(child)
+    sender.join()
+    return found
 
 
 def through_a_pipe(program, arguments, text, size, halfway=None):

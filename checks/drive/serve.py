@@ -14,9 +14,9 @@ from pathlib import Path
 
 from checks import TOP
 from checks.drive import faults
-from checks.drive.built import Hangs, ended
+from checks.drive.built import Hangs, differs, ended
 from checks.make.streams import CLEAR, bid, hello, many_frames, price, random_pieces, random_stream, rows, small_stream
-from checks.oracle import stream
+from checks.oracle import frames, stream
 
 sys.path.insert(0, str(TOP / "examples" / "serve"))
 from client import Market, NotChanged, Old, Price
@@ -26,40 +26,12 @@ SECONDS = 20
 ROUNDS = 100
 
 
-def in_pieces(words, pieces):
-    """The status and the answers if each read gives one piece."""
-    ours, its = faults.socket.socketpair(faults.socket.AF_UNIX, faults.socket.SOCK_SEQPACKET)
-    child = faults.start(words[0], words[1:], stdin=its)
-    its.close()
-
-    def send():
-        try:
-            for piece in pieces:
-                ours.send(piece)
-        except OSError:
-            pass
-        ours.close()
-
-    sender = threading.Thread(target=send)
-    sender.start()
-    found = faults.finish(child)
-    sender.join()
-    return found
-
-
-def differs(found, due):
-    def told(it):
-        return f"{it[0]} and answers that end with {it[1][-60:].hex()}"
-
-    return None if found == due else f"it ends with {told(found)}, and due is {told(due)}"
-
-
 def try_rows(words):
     for name, data, status, answers in rows():
         yield f"{name}, by the definitions", differs(stream.answers_to(data), (status, answers))
         for size in (1, 7, 100, 100_000):
             pieces = [data[at : at + size] for at in range(0, len(data), size)]
-            yield f"{name}, in pieces of {size}", differs(in_pieces(words, pieces), (status, answers))
+            yield f"{name}, in pieces of {size}", differs(faults.in_pieces(words[0], words[1:], pieces), (status, answers))
 
 
 def try_random(words, number):
@@ -67,7 +39,7 @@ def try_random(words, number):
         chance = random.Random(f"{SEED} {seed}")
         data = random_stream(chance)
         due = stream.answers_to(data)
-        yield f"random stream {seed}", differs(in_pieces(words, list(random_pieces(data, chance))), due)
+        yield f"random stream {seed}", differs(faults.in_pieces(words[0], words[1:], list(random_pieces(data, chance))), due)
         if seed % 4 == 0:
             yield f"random stream {seed}, at once", differs(ended(words[0], words[1:], data, SECONDS), due)
 
@@ -83,10 +55,10 @@ def try_faults(words, folder):
     status, answers = stream.answers_to(data)
     for size in range(len(answers) + 1):
         found = faults.file_that_takes(words[0], words[1:], data, size, folder)
-        due = (stream.WRITE_FAULT, answers[:size]) if size < len(answers) else (status, answers)
+        due = (frames.WRITE_FAULT, answers[:size]) if size < len(answers) else (status, answers)
         yield f"answers of which {size} bytes can be written", differs(found, due)
     found = faults.reader_that_goes(words[0], words[1:], data, 0)
-    yield "nobody reads", differs(found, (stream.WRITE_FAULT, b""))
+    yield "nobody reads", differs(found, (frames.WRITE_FAULT, b""))
 
 
 def start(words):
@@ -108,7 +80,7 @@ def try_client(words):
             number = market.bid(one, demands)
             bids[one] = (number, demands)
             total = [sum(it) for it in zip(*(it[1] for it in bids.values()))]
-            due = [Price(it, bids[it][0], index, stream.clearing_step(total)) for it in sorted(bids)]
+            due = [Price(it, bids[it][0], index, frames.clearing_step(total)) for it in sorted(bids)]
             found = [waited(market) for _ in range(market.ask_to_clear())]
             yield f"client: clearing {index}", None if found == due else f"prices {found}, and {due} are due"
             market.bid(one, demands, number)
@@ -117,7 +89,7 @@ def try_client(words):
             found = [waited(market) for _ in range(market.ask_to_clear())]
             yield f"client: nothing new after clearing {index}", None if found == [NotChanged()] else f"it is answered by {found}"
     child.stdout.close()
-    yield "client: the end", None if child.wait(SECONDS) == stream.DONE else "another status"
+    yield "client: the end", None if child.wait(SECONDS) == frames.DONE else "another status"
 
 
 def try_open_ends(words):
@@ -125,7 +97,7 @@ def try_open_ends(words):
     child = start(words)
     child.stdin.write(hello() + b"\x09")
     found = (child.wait(SECONDS), child.stdout.read())
-    yield "a fault while the input stays open", differs(found, (stream.REFUSED, stream.fault_at(11)))
+    yield "a fault while the input stays open", differs(found, (frames.REFUSED, frames.fault_at(11)))
     child.stdin.close()
     child.stdout.close()
     child = start(words)
@@ -195,7 +167,7 @@ def try_longest(words):
         child.stdout.close()
         return child.wait(), len(received[0])
 
-    for size, status in ((stream.LIMIT, stream.DONE), (stream.LIMIT + 1, stream.TOO_LONG)):
+    for size, status in ((frames.LIMIT, frames.DONE), (frames.LIMIT + 1, frames.TOO_LONG)):
         found = run(size)
         yield f"a stream of {size} bytes", None if found == (status, size - 11) else f"it ends with {found}"
 
