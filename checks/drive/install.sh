@@ -1,5 +1,5 @@
 #!/usr/bin/env bash
-# Installs the proved program into folders of its own, and looks whether what is there works without the sources, names nothing of
+# Installs the proved programs into folders of its own, and looks whether what is there works without the sources, names nothing of
 # them, and is wholly removed; then the same of a release and of the Debian package. A trial whose tool is missing is skipped, and
 # the check says so. The last line is 'N passed, M failed'; the status is 1 if any failed.
 # shellcheck disable=SC2317 # `passes` calls the functions
@@ -82,6 +82,7 @@ bin/cogmaula
 bin/market
 libexec/market/bridge.py
 libexec/market/client.py
+libexec/market/live
 libexec/market/market
 share/bash-completion/completions/market
 share/doc/market/CHANGELOG.md
@@ -90,9 +91,11 @@ share/doc/market/COMMANDS.md
 share/doc/market/COOKBOOK.md
 share/doc/market/GLOSSARY.md
 share/doc/market/LICENSE
+share/doc/market/LIVE.md
 share/doc/market/NOTICE
 share/doc/market/PROTOCOL.md
 share/doc/market/PYTHON.md
+share/doc/market/RELAY.md
 share/doc/market/REPORTS.md
 share/doc/market/SERVE.md
 share/doc/market/TUTORIAL.md
@@ -104,12 +107,13 @@ share/market/cluster.schema.json
 share/market/installed
 share/market/run.sh
 share/market/units/market-bridge.service
+share/market/units/market-node@.service
 share/market/units/market-serve.socket
 share/market/units/market-serve@.service
 share/market/words.sh
 share/zsh/site-functions/_market
 FILES
-    for file in examples/*.json examples/*.txt examples/serve/*.py examples/cookbook/* examples/neighbourhood/* pictures/*.svg; do
+    for file in examples/*.json examples/*.txt examples/serve/*.py examples/live/[!m]* examples/live/mosquitto.* examples/cookbook/* examples/neighbourhood/* pictures/*.svg; do
         echo "share/doc/market/$file"
     done
     for file in python/cogmaula/*.py python/cogmaula/*/*.py python/cogmaula/py.typed python/cogmaula/*.json; do
@@ -133,6 +137,16 @@ rights_are_due() {
 # The village by the command that FILE is, as it was installed.
 runs_village() {
     "$1" run <examples/village.json | cmp - examples/village.txt
+}
+
+# Whether the command that FILE is runs a device that makes an offer of 500 W at the lower and -300 W at the higher of two prices,
+# takes a price and leaves. It is told a clearing 7 at the higher price.
+runs_device() {
+    "$1" device 2 < <(printf '%b' '\1\0\0\0\0\0\0\0\x9\0\2' '\xD\0\0\x1\xF4\xFF\xFF\xFE\xD4' \
+        '\5\0\2\0\0\0\1\0\0\0\7\0\1' '\xE') | cmp - <(printf '%b' \
+        '\xC\0\0\0\1\0\0\0\0\0\0\x1\xF4\xFF\xFF\xFE\xD4' '\2\0\2\0\0\0\1\0\0\x1\xF4\xFF\xFF\xFE\xD4' \
+        '\xF\0\0\0\1\0\0\0\7\0\1\xFF\xFF\xFE\xD4' '\xC\0\0\0\1\0\0\0\7\0\0\x1\xF4\xFF\xFF\xFE\xD4' \
+        '\x10\0\0\0\2\0\0\0\7' '\3\0\2\0\0\0\2')
 }
 
 # Whether the installed command of the Python package runs the village by the market that is installed with it, and leaves nothing.
@@ -191,7 +205,7 @@ manual_is_installed() {
     man -E UTF-8 -l "$page" | grep -qF "market run < /usr/share/doc/market/examples/village.json"
 }
 
-commands="ask bill check demo free help run serve trace version"
+commands="ask auctioneer bill check demo device free help relay run serve trace version"
 
 # The words that begin with no - among standard input's are the commands.
 are_commands() {
@@ -251,6 +265,7 @@ explains_on_terminal() {
 # The units name programs that are installed, as the program and not as a script around it.
 units_are_installed() {
     [ "$(grep -h '^ExecStart=' "$1"/share/market/units/*)" = "ExecStart=/usr/bin/python3 $1/libexec/market/bridge.py 127.0.0.1:1883 0 99 100 1 /run/market.socket
+ExecStart=$1/bin/cogmaula node %j --config /etc/market/%i.toml --password-file %d/password
 ExecStart=$1/libexec/market/market serve" ]
 }
 
@@ -274,11 +289,14 @@ if ! has make; then
 fi
 # shellcheck source=script/program.sh
 . script/program.sh
-if ! is_current; then
-    echo "there is no proved program of these sources: run \`make prove\` first"
-    failed=$((failed + 1))
-    end
-fi
+for name in live market; do
+    choose_program "$name"
+    if ! is_current; then
+        echo "there is no proved program $name of these sources: run \`make prove\` first"
+        failed=$((failed + 1))
+        end
+    fi
+done
 
 # What is installed, where and with which rights, whatever rights a new file has by itself.
 at="$work/usr"
@@ -286,6 +304,7 @@ market="$at/bin/market"
 passes "install" make_it -s install PREFIX="$at"
 passes "installed files" same_files "$at"
 passes "the program is the proved one" cmp crates/market/out/market "$at/libexec/market/market"
+passes "that of the nodes is the proved one" cmp crates/live/out/live "$at/libexec/market/live"
 passes "installcheck" make_it -s installcheck PREFIX="$at"
 passes "nothing of the sources" names_no_sources "$at"
 passes "nothing that is not installed" names_only_installed "$at"
@@ -300,6 +319,9 @@ else
 fi
 passes "run" runs_village "$market"
 is "run, all that is told" 0 "phase 1 *" "" run <examples/village.json
+passes "device" runs_device "$market"
+is "a device of no number" 2 "usage: live *" "" device
+is "a node's fault of reading" 3 "" "market: standard input could not be read*" auctioneer </
 is "demo" 0 "$(crates/market/out/market demo 7 1)" "" demo 7 1
 is "help" 0 "*market*run*help refusals*" "" help
 is "--help" 0 "$("$market" help)" "" --help
@@ -313,7 +335,7 @@ is "--version" 0 "market $version (*" "" --version
 is "a refused file" 5 "refused 5 document" "" run <checks/cases/refusals/05_version.json
 is "help of no code" 2 "" "market: there is no help on 99*" help 99
 is "run FILE" 2 "usage: *" "market: run reads standard input: market run < examples/village.json" run examples/village.json
-is "an unknown command" 2 "usage: *" "" frobnicate
+is "an unknown command" 2 "usage: market *" "" frobnicate
 is "--proved is no command" 2 "usage: *" "" --proved run
 is "--unproved is no command" 2 "usage: *" "" --unproved run
 is "prove is no command" 2 "usage: *" "" prove
@@ -342,15 +364,35 @@ is "status 3" 3 "<3>input" "market: standard input could not be read*" 3 <<<inpu
 is "status 6" 6 "<6>input" "market: standard output did not take the whole text*" 6 <<<input
 is "status 7" 7 "<7>input" "market: memory did not suffice*" 7 <<<input
 is "status 8" 8 "<8>input" "market: the arguments are not text*" 8 <<<input
-
 fails "installcheck of another program" "does not give the text" make_it -s installcheck DESTDIR="$work/copy" PREFIX="$at"
 
-# The same sources with a program of which nothing says that it was proved.
-mkdir -p "$work/unproved/crates/market/out"
+# The same of the program of the nodes.
+cp "$at/libexec/market/market" "$work/copy$at/libexec/market/market"
+cat >"$work/copy$at/libexec/market/live" <<'PROGRAM'
+#!/usr/bin/env bash
+printf '<%s>' "$@"
+cat
+exit "${2-0}"
+PROGRAM
+for status in 0 2 5; do
+    is "a device, status $status" "$status" "<device><$status>input" "" device "$status" <<<input
+done
+is "a relay" 0 "<relay><0><a  b><\*>input" "" relay 0 "a  b" "*" <<<input
+is "a device, status 3" 3 "<device><3>input" "market: standard input could not be read*" device 3 <<<input
+is "a device, status 4" 4 "<device><4>input" "market: the stream is too long: start the node again with its newest Resume" device 4 <<<input
+is "a device, status 6" 6 "<device><6>input" "market: standard output did not take the whole text*" device 6 <<<input
+is "a device, status 7" 7 "<device><7>input" "market: memory did not suffice*" device 7 <<<input
+fails "installcheck of another program of the nodes" "is no auctioneer" make_it -s installcheck DESTDIR="$work/copy" PREFIX="$at"
+
+# The same sources with programs of which nothing says that they were proved, and then with one for which a stamp vouches.
+mkdir -p "$work/unproved"/crates/{market,live}/out
 cp -R Makefile VERSION CHANGELOG.md crates.txt packaging script "$work/unproved"
 cp crates/market/out/market "$work/unproved/crates/market/out"
-fails "install without a proved program" "no proved program" make_it -s -C "$work/unproved" install PREFIX="$work/none"
-fails "deb without a proved program" "no proved program" make_it -s -C "$work/unproved" deb
+cp crates/live/out/live "$work/unproved/crates/live/out"
+fails "install without a proved program" "no proved program market" make_it -s -C "$work/unproved" install PREFIX="$work/none"
+fails "deb without a proved program" "no proved program market" make_it -s -C "$work/unproved" deb
+(top="$work/unproved" && . script/program.sh && look_at_sources && write_stamp "$sum")
+fails "install without a proved program of the nodes" "no proved program live" make_it -s -C "$work/unproved" install PREFIX="$work/none"
 passes "nothing was installed" [ ! -e "$work/none" ]
 
 # Completions and the manual page.

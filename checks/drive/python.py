@@ -140,7 +140,7 @@ def look_at_lines(python, work):
 
 def parts(python, work, words):
     """What came of each part."""
-    files = sorted(PACKAGE.glob("tests/test_*.py"))
+    files = sorted([*PACKAGE.glob("tests/test_*.py"), *PACKAGE.glob("tests/*/test_*.py")])
     first = Part()
     with_tests = not missing(python, first, "the tests", ["pytest", "hypothesis"])
     with_lines = with_tests and not words and not missing(python, first, "the count of lines", ["coverage", "pandas", "matplotlib", "distributed"])

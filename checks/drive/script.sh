@@ -1,5 +1,5 @@
 #!/usr/bin/env bash
-# Runs the script `market`, the gate and checks/run in a folder of four crates with an rt, a script/prove.py and checks of its
+# Runs the script `market`, the gate and checks/run in a folder of five crates with an rt, a script/prove.py and checks of its
 # own, which prove and try nothing, and compares what each writes, what it says and its status. The last line is 'N passed, M
 # failed'; the status is 1 if any failed.
 # shellcheck disable=SC2016,SC2034 # The commands of the cases are evaluated one by one.
@@ -9,15 +9,16 @@ folder="$(mktemp -d)" || exit 1
 trap 'rm -rf "$folder"' EXIT
 # The folder has a blank in its name.
 top="$folder/a clone"
-mkdir -p "$top"/crates/{low,high,other,market}/src "$top"/{script,.ci,checks/{drive,lint},docs} "$folder"/{bin,tools,git}
+mkdir -p "$top"/crates/{low,high,other,market,live}/src "$top"/{script,.ci,checks/{drive,lint},docs} "$folder"/{bin,tools,git}
 cp market "$top/market"
 cp script/words.sh script/program.sh script/run.sh "$top/script"
 cp .ci/run "$top/.ci"
 cp checks/run "$top/checks/run.kept"
-for crate in low high other market; do
+for crate in low high other market live; do
     echo "a source" >"$top/crates/$crate/src/lib.rt"
 done
-printf '%s\n' '# A comment.' 'low: kit # another' 'high: low' 'other:' 'market: high, low' >"$top/crates.txt"
+printf '%s\n' '# A comment.' 'low: kit # another' 'high: low' 'other:' 'market: high, low' 'live: other, low' \
+    >"$top/crates.txt"
 printf '%s\n' '# The kit.' 'kit: kit-1' 'debian: bash' >"$top/kit.txt"
 echo 1.2.3 >"$top/VERSION"
 echo input >"$folder/input"
@@ -38,15 +39,29 @@ esac
 END_OF_PROGRAM
 cp "$top/program" "$top/sources"
 
+# The program of the nodes, which writes `live` before its text.
+cat >"$top/nodes" <<'END_OF_NODES'
+#!/usr/bin/env bash
+case "$#$*" in
+    "4relay "* | 1auctioneer | "2device "*) given="$(cat)" ;;
+    *) echo "usage: live ..."; exit 2 ;;
+esac
+case "$given" in
+    "status "*) exit "${given#status }" ;;
+    *) echo "live $*: $given" ;;
+esac
+END_OF_NODES
+
 # rt tries the program as it would: it waits for standard input only for a while.
 cat >"$folder/bin/rt" <<'END_OF_RT'
 #!/usr/bin/env bash
 case "$*" in
     version) echo "kit-1 of today" ;;
     ci)
-        mkdir -p crates/market/out
+        mkdir -p crates/{market,live}/out
         [ -f no-build ] || cp program crates/market/out/market
-        [ ! -f meanwhile ] || echo "an edit" >>crates/low/src/lib.rt
+        [ -f no-build ] || cp nodes crates/live/out/live
+        [ ! -f meanwhile ] || echo "an edit" >>"$(cat meanwhile)"
         exit "$(cat ci-status 2>/dev/null || echo 0)"
         ;;
     "run -- "*)
@@ -73,22 +88,23 @@ cat >"$top/script/prove.py" <<'END_OF_PROVE'
 import os, shutil, sys
 source = "crates/low/src/lib.rt"
 kept = open(source).read()
+name = sys.argv[1]
 print("proves", *sys.argv[1:], file=sys.stderr)
 if "bad" in kept:
     sys.exit("low is not proved")
 if not os.path.exists("no-build"):
-    os.makedirs("crates/market/out", exist_ok=True)
-    shutil.copy("program", "crates/market/out/market")
+    os.makedirs(f"crates/{name}/out", exist_ok=True)
+    shutil.copy({"market": "program", "live": "nodes"}[name], f"crates/{name}/out/{name}")
 if os.path.exists("meanwhile"):
     open(source, "a").write("an edit\n")
     if "restore" in open("meanwhile").read():
         open(source, "w").write(kept)
 END_OF_PROVE
 # The checks tell their arguments and a last line; that of the program tells its arguments alone.
-all="program traces serve trials memory hostile script install python pages schema pictures names places definitions edits"
+all="program traces serve live network trials memory hostile script install python pages schema pictures names places definitions edits"
 folder_of() {
     case "$1" in
-        cases | traces | serve | trials | memory | hostile | python) echo "$top/checks/drive" ;;
+        cases | traces | serve | nodes | network | trials | memory | hostile | python) echo "$top/checks/drive" ;;
         *) echo "$top/checks/lint" ;;
     esac
 }
@@ -98,7 +114,7 @@ stub() {
         echo 'import sys; print(*sys.argv[1:]); print("1 passed, 0 failed")' >"$(folder_of "$name")/$name.py"
     done
 }
-stub traces serve trials memory hostile python pages schema pictures names places definitions edits
+stub traces serve nodes network trials memory hostile python pages schema pictures names places definitions edits
 for name in script install; do
     echo 'echo "1 passed, 0 failed"' >"$top/checks/drive/$name.sh"
 done
@@ -114,7 +130,7 @@ for tool in bash env cat cp cut date dirname find grep head mkdir mktemp mv npro
 done
 ln -s "$(python3 -c 'import sys; print(sys.executable)')" "$folder/tools/python3"
 ln -s "$(command -v git)" "$folder/git/git"
-chmod +x "$top/program" "$folder/bin/rt"
+chmod +x "$top/program" "$top/nodes" "$folder/bin/rt"
 ln -s "$top/market" "$folder/link"
 for tool in awk chmod ln mkfifo script touch tr; do
     eval "$tool() { $(command -v "$tool") \"\$@\"; }"
@@ -153,29 +169,39 @@ screen() {
 }
 
 # Takes the proof away, or makes one.
-forget() { rm -rf crates/market/out; }
+forget() { rm -rf crates/{market,live}/out; }
 prove() { ./market prove 2>/dev/null; }
+prove_live() { ./market prove live 2>/dev/null; }
 
 nproc() { echo 4; }
 export -f nproc
 none="no program is proved here; ./market prove makes one in about 13 minutes"
 stale="the sources changed since they were proved; ./market prove takes at most about 13 minutes"
 other="the program is not the one that was proved; ./market prove takes at most about 13 minutes"
+none_live="live is not proved here; ./market prove live makes it"
+stale_live="the sources of live changed since they were proved; ./market prove live proves them"
+other_live="live is not the program that was proved; ./market prove live makes it again"
 first="market: this run is unproved and takes half a minute to a minute:"
 asked="market: nothing is proved of this run; it takes half a minute to a minute"
-made="proves
+made="proves market
 market: proved: ./market now runs the proved program"
+made_live="proves live
+market: proved: ./market relay, auctioneer and device now run the proved program"
 read_fault="market: standard input could not be read: give it a file, as in ./market run < examples/village.json"
 write_fault="market: standard output did not take the whole text: look whether the disk is full or the reader has gone"
 memory="market: memory did not suffice: raise its limit (ulimit -v), end other programs, or split the cluster"
 text="market: the arguments are not text: write them in UTF-8"
 parent="the parent is not known, is no concentrator, or comes later"
+bad_frame="market: refused: a frame is bad; a Fault tells its offset; ./market help 24 and docs/CLUSTER_FILE.md say more"
 meaning="market: refused: $parent; ./market help 9 and docs/CLUSTER_FILE.md say more"
 unknown="market: the input is refused: ./market help refusals says what the code means"
 absolute="$(printf %q "$top")"
 in_status() { echo "$2" | ./market "${@:3}" "$1"; }
-
 # Without a proof.
+is "a relay" 1 "" "market: relay needs the proved program live, since it reads a stream: $none_live" './market relay 3 -1000 1000'
+is "an auctioneer of a file, --unproved" 1 "" \
+    "market: auctioneer without a proof reads no stream: run ./market prove live first, and leave --unproved out" \
+    './market --unproved auctioneer <../input'
 is "a fresh folder" 0 "tried run: input" "$first $none" './market run'
 is "slow input" 0 "tried run: input" "$first $none" '(sleep 1; cat) <"$folder/input" | ./market run'
 is "an empty input" 0 "tried run: " "$first $none" './market run </dev/null'
@@ -242,24 +268,30 @@ is "the notes are gone" 0 "" "" 'find "$folder" -mindepth 1 -maxdepth 1 -name "t
 # The proof.
 is "no rt to prove" 1 "" "market: there is no rt to prove the program: install the kit that kit.txt names" \
     'PATH="$folder/tools" ./market prove'
-is "a proof that fails" 1 "" "proves
+is "a proof that fails" 1 "" "proves market
 low is not proved
 market: the program is not proved: mend what is named above, and run ./market prove again; it keeps what still holds" \
     'echo bad >crates/low/src/lib.rt; ./market prove; s=$?; echo "a source" >crates/low/src/lib.rt; (exit $s)'
-is "nothing is built" 1 "" "proves
+is "nothing is built" 1 "" "proves market
 market: the program is not built: script/prove.py left no $top/crates/market/out/market; rt run in crates/market says more" \
     'touch no-build; ./market prove; s=$?; rm no-build; (exit $s)'
-is "sources edited meanwhile" 1 "" "proves
+is "sources edited meanwhile" 1 "" "proves market
 market: the sources changed while they were proved: run ./market prove again; it keeps what still holds" \
     'touch meanwhile; ./market prove'
 is "and not proved then" 0 "tried run: input" "$first $none" './market run'
-is "sources edited and put back meanwhile" 1 "" "proves
+is "sources edited and put back meanwhile" 1 "" "proves market
 market: the sources changed while they were proved: run ./market prove again; it keeps what still holds" \
     'echo restore >meanwhile; ./market prove; s=$?; rm meanwhile; (exit $s)'
 echo "a source" >crates/low/src/lib.rt
 is "a proof by another kit" 0 "" "market: the kit at hand is kit-1, and kit.txt names kit-2: what follows holds by the kit at hand
 $made" 'sed -i s/kit-1/kit-2/ kit.txt; ./market prove; sed -i s/kit-2/kit-1/ kit.txt'
-is "a proof" 0 "" "${made/proves/proves --jobs 3}" './market prove --jobs 3'
+is "arguments of no proof" 0 "2 2 2 2" "" 'echo $(for words in all --help "live market" "live --jobs 0"; do
+    python3 "$repository/script/prove.py" $words >/dev/null 2>&1; echo $?; done)'
+is "a proof" 0 "" "${made/market/market --jobs 3}" './market prove --jobs 3'
+is "a proof by the program's name" 0 "" "${made/market/market --jobs 3}" './market prove market --jobs 3'
+is "a relay without its program" 1 "" \
+    "market: relay needs the proved program live, since it reads a stream: ${none_live//.\/market/$folder\/link}" \
+    '"$folder/link" relay 3 -1000 1000'
 is "the stamp" 0 "program: $(sha256sum <crates/market/out/market | cut -d " " -f 1)
 kit: kit-1 of today
 date: $(date +%Y-%m-%d)" "" 'grep -E "^(program|kit|date)" crates/market/out/proved'
@@ -296,10 +328,57 @@ is "refused before other lines" 5 "$meaning" "" \
 is "refused into a pipe" 0 "$unknown
 refused 9 node 1" "" 'screen "./market run <bad | cat >wrote"; cat wrote'
 is "a refused stream" 5 "refused 9 node 1
-market: refused: serve: a frame is bad; a Fault tells its offset; ./market help 24 and docs/CLUSTER_FILE.md say more" "" \
-    'screen "./market serve <bad"'
+$bad_frame" "" 'screen "./market serve <bad"'
 is "a code that is not known" 5 "refused 77 document
 $unknown" "" 'echo refused 77 document >worse; screen "./market run <worse"'
+
+# The nodes, by the program live.
+is "live is not built" 1 "" "proves live
+market: the program is not built: script/prove.py left no $top/crates/live/out/live; rt run in crates/live says more" \
+    'touch no-build; ./market prove live; s=$?; rm no-build; (exit $s)'
+is "a proof of live that fails" 1 "" "proves live
+low is not proved
+market: the program is not proved: mend what is named above, and run ./market prove live again; it keeps what still holds" \
+    'echo bad >crates/low/src/lib.rt; ./market prove live; s=$?; echo "a source" >crates/low/src/lib.rt; (exit $s)'
+is "sources of live edited meanwhile" 1 "" "proves live
+market: the sources changed while they were proved: run ./market prove live again; it keeps what still holds" \
+    'echo restore >meanwhile; ./market prove live; s=$?; rm meanwhile; (exit $s)'
+is "and live not proved then" 1 "" "market: device needs the proved program live, since it reads a stream: $none_live" \
+    './market device 2'
+is "a proof of live" 0 "" "${made_live/live/live --jobs 3}" './market prove live --jobs 3'
+is "the stamp of live" 0 "program: $(sha256sum <nodes | cut -d " " -f 1)
+kit: kit-1 of today
+date: $(date +%Y-%m-%d)" "" 'grep -E "^(program|kit|date)" crates/live/out/proved'
+is "a relay, proved" 0 "live relay 3 -1000 1000: input" "" 'cat | ./market relay 3 -1000 1000'
+is "an auctioneer, proved" 0 "live auctioneer: input" "" './market auctioneer'
+is "a device, --proved" 0 "live device 2: input" "" './market --proved device 2'
+is "a device from elsewhere, without rt" 0 "live device 2: input" "" '(cd / && PATH="$folder/tools" "$folder/link" device 2)'
+is "an auctioneer, --unproved" 1 "" \
+    "market: auctioneer without a proof reads no stream: run ./market prove live first, and leave --unproved out" \
+    './market --unproved auctioneer'
+is "a relay of too few numbers" 2 "usage: live ..." "" './market relay 3'
+is "a file for an auctioneer" 2 "usage: live ..." "market: auctioneer reads standard input: ./market auctioneer < ../input" \
+    './market auctioneer ../input'
+is "a node's fault of reading" 3 "" "$read_fault" 'echo status 3 | ./market device 2'
+is "a node's long stream" 4 "" "market: the stream is too long: start the node again with its newest Resume" \
+    'echo status 4 | ./market device 2'
+is "a node's bad frame" 5 "" "" 'echo status 5 | ./market auctioneer'
+echo status 5 >fault
+is "a node's bad frame on a terminal" 5 "$bad_frame" "" 'screen "./market auctioneer <fault"'
+is "a node's fault of writing" 6 "" "$write_fault" 'echo status 6 | ./market relay 3 0 0'
+is "a node without memory" 7 "" "$memory" 'echo status 7 | ./market relay 3 0 0'
+is "a node's arguments that are no text" 8 "" "$text" 'echo status 8 | ./market relay 3 0 0'
+is "an edit of what market alone stands on" 0 "live auctioneer: input" "" 'echo more >>crates/high/src/lib.rt; ./market auctioneer'
+is "and market is not current" 1 "" "market: $stale" './market --proved run; s=$?; echo "a source" >crates/high/src/lib.rt; (exit $s)'
+is "an edit of what live alone stands on" 0 "proved run: input" "" 'echo more >>crates/other/src/lib.rt; ./market run'
+is "and live is not current" 1 "" "market: auctioneer needs the proved program live, since it reads a stream: $stale_live" \
+    './market auctioneer; s=$?; echo "a source" >crates/other/src/lib.rt; (exit $s)'
+is "live put back" 0 "live auctioneer: input" "" './market auctioneer'
+is "another program of the nodes" 1 "" \
+    "market: auctioneer needs the proved program live, since it reads a stream: $other_live" \
+    'echo "# more" >>crates/live/out/live; ./market auctioneer; s=$?; cp nodes crates/live/out/live; (exit $s)'
+is "no program of the nodes" 1 "" "market: device needs the proved program live, since it reads a stream: $none_live" \
+    'rm crates/live/out/live; ./market --proved device 2'
 
 # What is current, and what is not.
 is "an edit of another crate" 0 "proved run: input" "" 'echo more >>crates/other/src/lib.rt; ./market run'
@@ -357,14 +436,19 @@ is "a program without a stamp" 1 "" "market: $none" 'rm crates/market/out/proved
 printf '%s\n' '#!/usr/bin/env bash' '[ "$*" = all ] && ./market run <../input' >checks/run
 chmod +x checks/run
 is "the gate" 0 "proved run: input" "" 'forget; .ci/run'
+is "the nodes behind the gate" 0 "live auctioneer: input" "" './market auctioneer'
 is "the gate from elsewhere" 0 "proved run: input" "" 'forget; (cd / && "$top/.ci/run")'
 is "a gate that fails" 3 "tried run: input" "$first $none" \
     'forget; echo 3 >ci-status; .ci/run; s=$?; rm ci-status; (exit $s)'
 is "a gate that builds nothing" 0 "tried run: input" "$first $none" \
     'rm -f crates/market/out/proved; touch no-build; .ci/run; rm no-build'
 is "an edit during the gate" 0 "tried run: input" \
-    "market: the sources changed during the proof, so the program does not count as proved
-$first $none" 'forget; touch meanwhile; .ci/run; rm meanwhile; echo "a source" >crates/low/src/lib.rt'
+    "market: the sources of market changed during the proof, so it does not count as proved
+market: the sources of live changed during the proof, so it does not count as proved
+$first $none" 'forget; echo crates/low/src/lib.rt >meanwhile; .ci/run; rm meanwhile; echo "a source" >crates/low/src/lib.rt'
+is "an edit of live during the gate" 0 "proved run: input" \
+    "market: the sources of live changed during the proof, so it does not count as proved" \
+    'forget; echo crates/live/src/lib.rt >meanwhile; .ci/run; rm meanwhile; echo "a source" >crates/live/src/lib.rt'
 is "the gate by another kit" 0 "proved run: input" \
     "market: the kit at hand is kit-1, and kit.txt names kit-2: what follows holds by the kit at hand" \
     'sed -i s/kit-1/kit-2/ kit.txt; .ci/run; sed -i s/kit-2/kit-1/ kit.txt'
@@ -380,7 +464,7 @@ is "of an older build" 0 "crates/market/out/market" "" \
 is "the program's checks prove first" 0 "no program is proved from the sources of today: ./market prove makes it first
 crates/market/out/market" "$made" 'forget; checks/run program | sed "s|$top/||g"'
 is "the program's checks without a proof" 1 "no program is proved from the sources of today: ./market prove makes it first
-0 passed, 1 failed" "proves
+0 passed, 1 failed" "proves market
 low is not proved
 market: the program is not proved: mend what is named above, and run ./market prove again; it keeps what still holds" \
     'echo bad >crates/low/src/lib.rt; checks/run program; s=$?; echo "a source" >crates/low/src/lib.rt; (exit $s)'
@@ -388,6 +472,13 @@ market: the program is not proved: mend what is named above, and run ./market pr
 is "another check without a proof" 1 "no program is proved from the sources of today: checks/run program proves it first
 0 passed, 1 failed" "" 'forget; checks/run traces'
 prove
+is "the nodes' checks without a proof" 1 "live is not proved from the sources of today: ./market prove live proves it first
+0 passed, 1 failed" "" 'checks/run live'
+prove_live
+is "the nodes' checks" 0 "crates/live/out/live all
+1 passed, 0 failed
+crates/live/out/live 1000
+1 passed, 0 failed" "" '{ checks/run live all; checks/run network 1000; } | sed "s|$top/||g"'
 is "the list" 0 "$all" "" 'echo $(checks/run | cut -d " " -f 1)'
 is "the list says how long and why" 0 "$(set -- $all; echo $#)" "" 'checks/run | grep -cE "^[a-z]+ +([0-9]+|some) s +[A-Z].*[?]$"'
 is "no such check" 2 "" "no check has the name rum: checks/run lists them" 'checks/run rum'
@@ -413,6 +504,7 @@ due_of() {
     case "$1" in
         program | traces | serve | memory | hostile) echo crates/market/out/market ;;
         trials) echo crates/trials/out/trials ;;
+        live | network) echo crates/live/out/live ;;
         python | pages | schema | pictures | names | places) echo ;;
         definitions) echo check ;;
         edits) echo --self-test ;;
@@ -445,9 +537,9 @@ is "-h" 0 "$help" "" './market -h'
 is "by a link, the help" 0 "${help//.\/market C/$folder\/link C}" "" "$bare"' "$folder/link" help'
 is "nothing" 2 "$help" "" './market'
 is "the help's size" 0 "" "" 'awk "length > 80 || NR > 45" <<<"$help"'
-is "the help names all" 0 "run trace bill free check ask serve demo help version prove --proved --unproved 0 1 2 3 4 5 6 7 8 " "" \
+is "the help names all" 0 "run trace bill free check ask serve demo relay auctioneer device help version prove --proved --unproved 0 1 2 3 4 5 6 7 8 " "" \
     'awk "/^  [-a-z0-9]/ { printf \"%s \", \$1 }" <<<"$help"'
-is "the help when installed" 0 "run trace bill free check ask serve demo help version 0 1 2 3 4 5 6 7 8 More: man market " "" \
+is "the help when installed" 0 "run trace bill free check ask serve demo relay auctioneer device help version 0 1 2 3 4 5 6 7 8 More: man market " "" \
     '(called=market pages="man market" installed=yes; . script/words.sh; help_text) |
         awk "/^  [-a-z0-9]/ { printf \"%s \", \$1 } /^More/ { printf \"%s \", \$0 } /prove/ { print }"'
 is "the codes" 0 "$(echo {1..25})" "" 'echo $(./market help refusals | awk "\$1 ~ /^[0-9]+\$/ { print \$1 }")'
@@ -460,8 +552,12 @@ is "each code whole" 0 75 "" '(. script/words.sh; for code in {1..25}; do help_r
     grep -cE "^(refused [0-9]+|What to do|More): .+"'
 is "no such code" 2 "" "market: there is no help on 26: ./market help lists the commands, ./market help refusals the codes" \
     './market help 26'
+is "the help of a node" 0 "$help" "" './market help relay'
+is "the help of the other nodes" 0 "$help
+$help" "" './market help auctioneer; ./market help device'
 is "the version" 0 "market 1.2.3
-no proved program is at hand: $none" "" './market version'
+no proved program is at hand: $none
+no proved program live is at hand: $none_live" "" './market version'
 is "the version, bare" 0 "market 1.2.3" "" "$bare"' "$top/market" --version | head -n 1'
 rm -rf "$folder/copy" "$folder/other"
 {
@@ -475,9 +571,13 @@ is "a commit" 0 "market 1.2.3 ($commit)" "" "$with_git"' touch VERSION; ./market
 is "an edit of a commit" 0 "market 1.2.3 ($commit-modified)" "" "$with_git"' echo 1.2.3 >old; echo >>old; cp old VERSION; ./market version | head -n 1'
 is "without git" 0 "market 1.2.3" "" './market version | head -n 1'
 prove
-is "the version, proved" 0 "a proved program is at hand, proved on $(date +%Y-%m-%d) with kit-1" "" \
-    './market version | tail -n 1'
+is "the version, proved" 0 "a proved program is at hand, proved on $(date +%Y-%m-%d) with kit-1
+no proved program live is at hand: $none_live" "" './market version | tail -n 2'
+prove_live
+is "the version, both proved" 0 "a proved program is at hand, proved on $(date +%Y-%m-%d) with kit-1
+a proved program live is at hand, proved on $(date +%Y-%m-%d) with kit-1" "" './market version | tail -n 2'
 echo more >>crates/low/src/lib.rt
-is "the version, changed" 0 "no proved program is at hand: $stale" "" './market version | tail -n 1'
+is "the version, changed" 0 "no proved program is at hand: $stale
+no proved program live is at hand: $stale_live" "" './market version | tail -n 2'
 echo "$passed passed, $failed failed"
 [ "$failed" = 0 ]

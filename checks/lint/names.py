@@ -23,6 +23,7 @@ TOOLS = {"measure", "trials"}
 
 # Functions of code that have one name in two crates, and the one thing that the name says in both.
 SAME_IN_CODE = {
+    "arguments_of": "the arguments of a program",
     "are_limits": "whether two powers are a floor and a ceiling",
     "change": "makes a change of a device",
     "clear": "the auctioneer clears",
@@ -39,7 +40,10 @@ SAME_IN_CODE = {
     "no_changes": "no change of any device",
     "pass": "a concentrator passes a price on",
     "power_of": "the power of a device",
+    "read_body": "reads the fields of a frame",
+    "read_hello": "reads the fields of Hello",
     "run": "runs what the crate is for to its end",
+    "size_at": "how many bytes a frame has, by its kind and place",
     "start_of": "a device before its first change",
     "starts": "the devices before their first change",
     "take_bid": "takes the bid that waits on a link",
@@ -75,10 +79,19 @@ OTHER_MEANINGS = [
     ("pm_plan/specs/Causes.antt", "the numbers of causes"),
     ("pm_plan/src/refusal.rt", "the numbers of causes"),
     ("pm_scene/src/kinds.rt", "the lengths of tables"),
+    ("pm_frames/specs/Kinds.antt", "the first bytes of frames"),
+    ("pm_frames/src/kinds.rt", "the first bytes of frames"),
+    ("pm_frames/specs/DeviceFrames.antt", "the bytes of frames"),
+    ("pm_frames/src/device.rt", "the bytes of frames"),
+    ("pm_frames/src/answers.rt", "the bytes of frames"),
+    ("pm_frames/proofs/OneDeviceFrame.antt", "the bytes of frames"),
+    ("pm_services/src/device.rt", "the bytes of frames"),
+    ("pm_services/src/open_relay.rt", "the bytes of frames"),
     ("pm_wire/specs/Answers.antt", "the first bytes of answers"),
     ("pm_wire/specs/Services.antt", "the first byte of a fault"),
     ("pm_wire/src/answer.rt", "the first bytes of answers"),
     ("market/src/main.rt", "an exit status"),
+    ("live/src/main.rt", "an exit status"),
 ]
 
 DEFINITION = re.compile(r"^(?:abbrev pub|unfoldable pub|pub record|pub data|abbrev|unfoldable|record|data) (\S+)", re.M)

@@ -33,7 +33,9 @@ TERMS = "docs/DEFINITIONS.md"
 SCENE = "checks/oracle/scene.py"
 ORACLE = "checks/oracle/oracle.py"
 JUDGE = "checks/oracle/judge.py"
-STREAM = "checks/oracle/stream.py"
+FRAMES = "checks/oracle/frames.py"
+LIVE = "checks/oracle/nodes.py"
+CUTS = "checks/oracle/cuts.py"
 MEMBERS = "checks/make/members.py"
 CASES = "checks/make/cases.py"
 LARGE = "checks/make/limits.py"
@@ -174,31 +176,32 @@ def both(path: str) -> list[Place]:
 LIMITS: dict[str, list[Place]] = {
     "LEAST_STEPS": [
         Bound(f"{BASIS}/steps/minimum"), Bound("$defs/demand/minItems"), Constant(SCENE, "STEPS", (0,)),
-        Constant(STREAM, "STEPS", (0,)), Constant(MEMBERS, "STEPS", (0,)), Said(PAGE, "steps"),
+        Constant(FRAMES, "STEPS", (0,)), Constant(MEMBERS, "STEPS", (0,)), Said(PAGE, "steps"),
         Said(TERMS, "steps of a market basis"),
     ],
     "MOST_STEPS": [
         Bound(f"{BASIS}/steps/maximum"), Bound("$defs/demand/maxItems"), Constant(SCENE, "STEPS", (1,)),
-        Constant(STREAM, "STEPS", (1,)), Constant(MEMBERS, "STEPS", (1,)), Constant(LARGE, "STEPS"), Said(PAGE, "steps"),
+        Constant(FRAMES, "STEPS", (1,)), Constant(MEMBERS, "STEPS", (1,)), Constant(LARGE, "STEPS"), Said(PAGE, "steps"),
         Said(TERMS, "steps of a market basis"),
     ],
     "MOST_NODES": [
-        Bound("properties/nodes/maxItems"), Constant(SCENE, "NODES"), Constant(STREAM, "CHILDREN"), Constant(LARGE, "NODES"),
+        Bound("properties/nodes/maxItems"), Constant(SCENE, "NODES"), Constant(FRAMES, "CHILDREN"), Constant(LARGE, "NODES"),
         Said(PAGE, "nodes"), Said("docs/SERVE.md", "child"), Said(TERMS, "nodes of a cluster"),
     ],
     "MOST_DEPTH": [
         Constant(SCENE, "DEPTH"), Constant(LARGE, "DEPTH"), Constant(PACKAGE, "MOST_DEPTH"), Said(PAGE, "concentrators"), Said(TERMS, "on a path to"),
     ],
     "WINDOW_SIZE": [
-        Constant(JUDGE, "WINDOW"), Constant(JOURNALS, "WINDOW"), Said("docs/PROTOCOL.md", "numbers"), Said(TERMS, "unanswered"),
+        Constant(JUDGE, "WINDOW"), Constant(JOURNALS, "WINDOW"), Constant(LIVE, "WINDOW"), Constant(CUTS, "WINDOW"),
+        Said("docs/PROTOCOL.md", "numbers"), Said(TERMS, "unanswered"),
     ],
     "PRICE_LIMIT": [
-        *both(f"{BASIS}/min"), *both(f"{BASIS}/max"), *both(f"{POINT}/0"), Constant(SCENE, "MOST"), Constant(STREAM, "MOST"),
+        *both(f"{BASIS}/min"), *both(f"{BASIS}/max"), *both(f"{POINT}/0"), Constant(SCENE, "MOST"), Constant(FRAMES, "MOST"),
         Constant(MEMBERS, "BASIS", ("max", 1, 0)), Constant(LARGE, "MOST"), Said(PAGE, "min below max"),
         Said(TERMS, "a price, and a single demand"),
     ],
     "DEMAND_LIMIT": [
-        *both(DEMAND), *both(f"{POINT}/1"), Constant(SCENE, "MOST"), Constant(STREAM, "MOST"), Constant(ORACLE, "MOST_WATTS"),
+        *both(DEMAND), *both(f"{POINT}/1"), Constant(SCENE, "MOST"), Constant(FRAMES, "MOST"), Constant(ORACLE, "MOST_WATTS"),
         Constant(PACKAGE, "MOST_TARGET"),
         Constant(MEMBERS, "LARGE"), Constant(LARGE, "MOST"), Said(PAGE, "demand"), Said("docs/SERVE.md", "demand"),
         Said(TERMS, "a price, and a single demand"),
@@ -265,7 +268,7 @@ LIMITS: dict[str, list[Place]] = {
     "MOST_TARGETS": [
         Constant(ORACLE, "TARGETS"), Constant(CASES, "MOST_TARGETS"), Constant(PACKAGE, "MOST_TARGETS"), Said(MANUAL, "target"), Said(PAGE, "target"),
     ],
-    "STREAM_LIMIT": [Constant(STREAM, "LIMIT"), Said(MANUAL, "serve|bytes"), Said("docs/SERVE.md", "bytes")],
+    "STREAM_LIMIT": [Constant(FRAMES, "LIMIT"), Said(MANUAL, "serve|bytes"), Said("docs/SERVE.md", "bytes")],
     "MAX_SIZE": [Said(MANUAL, "devices"), Said(PAGE, "devices|SIZE")],
 }
 
