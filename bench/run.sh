@@ -5,7 +5,9 @@
 #   - `market ask` on many targets;
 #   - `market check` on a trace and on one of 4,000,000 moves (make_trace.py), the latter beside `measure judge`;
 #   - messages over one link by `measure link`;
-#   - `market serve` on a stream of bids of 407 MB, beside the plain program of `bench/plain_serve`.
+#   - `market serve` on a stream of bids of 407 MB, beside the plain program of `bench/plain_serve`;
+#   - `live relay` beside the plain program of `bench/plain_relay` (relay.py): on streams of bids, the time to its own bid, and its
+#     memory.
 #
 # Without `rustc` the plain programs are left out, and without `gcc` the counts.
 #
@@ -50,14 +52,30 @@ check_plain() {
     done
 }
 
+# Whether the plain relay gives the answers of the model of a relay.
+check_plain_relay() {
+    python3 bench/check_relay.py "$plain_relay" > "$folder/log" || { tail "$folder/log" >&2; return 1; }
+}
+
 folder="$(mktemp -d)" || exit 1
 trap 'rm -rf "$folder"' EXIT
 python3 bench/make_files.py "$folder" || exit 1
 python3 bench/make_trace.py "$folder" || exit 1
 python3 bench/make_stream.py > "$folder/stream" || exit 1
-build market && build measure || exit 1
+python3 bench/make_relay_stream.py "$folder" || exit 1
+build market && build measure && build live || exit 1
 plain="$(build_with rustc "$folder/plain" -O --edition 2021 bench/plain/plain.rs)" || exit 1
 [ "$plain" = - ] || check_plain || exit 1
 plain_serve="$(build_with rustc "$folder/plain_serve" -O --edition 2021 bench/plain_serve/plain_serve.rs)" || exit 1
+plain_relay="$(build_with rustc "$folder/plain_relay" -O --edition 2021 bench/plain_relay/plain_relay.rs)" || exit 1
+[ "$plain_relay" = - ] || check_plain_relay || exit 1
 counter="$(build_with gcc "$folder/count.so" -O2 -shared -fPIC bench/count.c)" || exit 1
 python3 bench/compare.py "${1:-7}" crates/market/out/market crates/measure/out/measure "$plain" "$plain_serve" "$counter" "$folder"
+compared=$?
+python3 bench/relay.py "${1:-7}" crates/live/out/live "$plain_relay" "$folder"
+relayed=$?
+case "$compared$relayed" in
+    00) exit 0 ;;
+    02 | 20 | 22) exit 2 ;;
+    *) exit 1 ;;
+esac
