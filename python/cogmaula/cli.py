@@ -22,7 +22,10 @@ TOO_MANY = 20
 
 
 class Command(Protocol):
-    """A module of `commands/`. Its name with - for _ and without _ at its end is the command's."""
+    """A module of `commands/`. Its name with - for _ and without _ at its end is the command's.
+
+    A command that does not call the program has `CALLS_PROGRAM = False`.
+    """
 
     # One line: what the command does.
     HELP: str
@@ -66,7 +69,9 @@ def make_parser() -> argparse.ArgumentParser:
             name, help=command.HELP, description=f"{command.HELP[0].upper()}{command.HELP[1:]}. {command.MORE}"
         )
         command.add_arguments(one)
-        one.add_argument("--program", metavar="PATH", help=f"the proved program, its installed command or its checkout; else ${VARIABLE}")
+        if getattr(command, "CALLS_PROGRAM", True):
+            told = f"the proved program, its installed command or its checkout; else ${VARIABLE}"
+            one.add_argument("--program", metavar="PATH", help=told)
         one.set_defaults(main=command.main)
     return parser
 

@@ -1,0 +1,96 @@
+"""`cogmaula node auctioneer|relay|device`: a node of a market across machines, joined to an MQTT broker."""
+
+from __future__ import annotations
+
+import argparse
+import signal
+import sys
+from typing import Any
+
+from .. import cli
+from ..live.errors import BadSettings, NodeRefused
+from ..live.settings import LIVE_VARIABLE, PASSWORD_VARIABLE, SORTS, read_toml, settings_of
+
+CALLS_PROGRAM = False
+HELP = "runs a node of a market across machines, joined to an MQTT broker"
+MORE = (
+    "The settings come from the file of --config, and options go before them; docs/LIVE.md has the file. A device reads offers at"
+    ' standard input, {"power": [WATTS, ..]} with a number for each step or {"leave": true}, a line each, and writes its setpoints at'
+    " standard output. The exit status is 0 after SIGTERM or SIGINT, 2 for settings that are wrong, and 5 if a person has to look before"
+    " the node may go on, as if another process runs as it."
+)
+
+# Of each option the table and the member of the settings that it sets, its type, its word in the help, and what it is.
+_OPTIONS: list[tuple[str, str, type, str, str]] = [
+    ("node", "name", str, "NAME", "the node's name in topics"),
+    ("node", "state", str, "FOLDER", "where the node keeps its Resume over a restart; of this node alone"),
+    ("node", "live", str, "PROGRAM", f"the program live; else ${LIVE_VARIABLE}, or live on the PATH"),
+    ("node", "parent", str, "NAME", "the name of the node above, of a relay and a device"),
+    ("node", "child", int, "CHILD", "its own number there, 1 to 256"),
+    ("node", "floor", int, "WATTS", "the least power that a relay announces, 0 or below"),
+    ("node", "ceiling", int, "WATTS", "the greatest power that a relay announces, 0 or above"),
+    ("node", "period", float, "SECONDS", "clears or sends by the clock; without it after news"),
+    ("node", "pause", float, "SECONDS", "after news, not faster than this; default 1"),
+    ("node", "validity", float, "SECONDS", "a device whose control is silent for so long leaves; default never"),
+    ("basis", "min", int, "PRICE", "the least price of the market"),
+    ("basis", "max", int, "PRICE", "the greatest price"),
+    ("basis", "steps", int, "N", "how many prices, 2 to 1000"),
+    ("broker", "host", str, "HOST", "the broker; default 127.0.0.1"),
+    ("broker", "port", int, "PORT", "its port; default 8883 with TLS, 1883 without"),
+    ("broker", "prefix", str, "PREFIX", "the first levels of all topics of the market; default market"),
+    ("broker", "user", str, "USER", "the login at the broker"),
+    ("broker", "password_file", str, "FILE", f"its first line is the password; else ${PASSWORD_VARIABLE}"),
+    ("broker", "ca", str, "FILE", "the CA that signed the broker's certificate; makes the connection by TLS"),
+    ("broker", "certificate", str, "FILE", "the node's own certificate, if the broker asks for one"),
+    ("broker", "key", str, "FILE", "its key"),
+    ("broker", "keepalive", int, "SECONDS", "a connection that is silent for 1.5 times as long is lost; default 10"),
+]
+_FLAGS = [
+    ("broker", "tls", "connects by TLS, with the CAs of the system if no CA is given"),
+    ("node", "new_session", "an auctioneer begins a new session, in which all nodes count from 1"),
+    ("node", "leave", "a device leaves the market, and the command ends"),
+]
+
+
+def _option(member: str) -> str:
+    return f"--{member.replace('_', '-')}"
+
+
+def add_arguments(parser: argparse.ArgumentParser) -> None:
+    """Adds the arguments of node."""
+    parser.add_argument("sort", choices=SORTS, help="what the node is")
+    parser.add_argument("--config", metavar="FILE", help="a TOML file with the tables [node], [basis] and [broker]")
+    for table, member, kind, word, what in _OPTIONS:
+        parser.add_argument(_option(member), dest=f"{table}.{member}", type=kind, metavar=word, help=what)
+    for table, member, what in _FLAGS:
+        parser.add_argument(_option(member), dest=f"{table}.{member}", action="store_true", default=None, help=what)
+
+
+def _tables_of(arguments: argparse.Namespace) -> dict[str, dict[str, Any]]:
+    """The tables of the settings: those of the file, with the options in them."""
+    tables = {} if arguments.config is None else read_toml(arguments.config)
+    for table, member in [it[:2] for it in _OPTIONS] + [it[:2] for it in _FLAGS]:
+        value = getattr(arguments, f"{table}.{member}")
+        if value is not None:
+            tables.setdefault(table, {})[member] = value
+    return tables
+
+
+def main(arguments: argparse.Namespace) -> int:
+    """Runs the node until a signal ends it."""
+    from ..live.node import make_node
+
+    try:
+        settings = settings_of(arguments.sort, _tables_of(arguments))
+    except BadSettings as error:
+        print(f"cogmaula: {error}", file=sys.stderr)
+        return 2
+    node = make_node(settings)
+    for number in (signal.SIGTERM, signal.SIGINT):
+        signal.signal(number, lambda *_: node.stop())
+    try:
+        node.run()
+    except NodeRefused as error:
+        print(f"cogmaula: {error}", file=sys.stderr)
+        return cli.REFUSED
+    return 0

@@ -1,0 +1,30 @@
+"""Nodes of a market across machines, joined to an MQTT broker. docs/LIVE.md says how to run one.
+
+    from cogmaula.live import make_node, read_toml, settings_of
+
+    make_node(settings_of("relay", read_toml("street.toml"))).run()
+
+What is proved is the service, the program `live` (docs/RELAY.md). This package carries its frames, and is tested.
+"""
+
+from .control import Control, StandardControl
+from .errors import BadFrame, BadMessage, BadSettings, BadStore, LiveError, NodeRefused
+from .node import Node, make_node
+from .settings import BrokerSettings, Settings, read_toml, settings_of
+
+__all__ = [
+    "BadFrame",
+    "BadMessage",
+    "BadSettings",
+    "BadStore",
+    "BrokerSettings",
+    "Control",
+    "LiveError",
+    "Node",
+    "NodeRefused",
+    "Settings",
+    "StandardControl",
+    "make_node",
+    "read_toml",
+    "settings_of",
+]

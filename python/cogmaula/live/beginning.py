@@ -1,0 +1,190 @@
+"""Which session and which Resume a node begins with, by what is on its disk and what its broker retains."""
+
+from __future__ import annotations
+
+from collections.abc import Callable, Mapping
+from dataclasses import dataclass, replace
+
+from .broker import Message
+from .children import SESSION, TIME
+from .errors import BadFrame, BadMessage, NodeRefused
+from .frames import BIDS, RESUMES, AuctioneerResume, Bid, DeviceResume, Gone, RelayResume, Resume, ResumeGone, frame_of
+from .messages import BasisMessage, StateMessage, is_setpoint
+from .sessions import Session, new_session, now_text
+from .settings import Settings
+from .store import Store, Stored
+
+
+def resume_of(settings: Settings, data: bytes) -> Resume | None:
+    """The Resume that stored bytes are, None for no bytes. Raises BadFrame."""
+    if not data:
+        return None
+    frame = frame_of(data, RESUMES[settings.sort], settings.basis.steps)
+    assert isinstance(frame, RelayResume | AuctioneerResume | DeviceResume | ResumeGone)
+    return frame
+
+
+@dataclass(frozen=True)
+class Beginning:
+    """Finds what a node begins with.
+
+    seen: the newest message of each topic that the node reads
+    say:  takes a line
+    """
+
+    settings: Settings
+    store: Store
+    seen: Mapping[str, Message]
+    say: Callable[[str], None]
+
+    def basis(self) -> BasisMessage | None:
+        """The basis that the broker retains, or None."""
+        message = self.seen.get(self.settings.topics.basis)
+        try:
+            return BasisMessage.of(message.payload) if message is not None and message.payload else None
+        except BadMessage as error:
+            self.say(f"{self.settings.topics.basis} is not taken: {error}")
+            return None
+
+    def of_auctioneer(self) -> Stored:
+        """What an auctioneer begins with: its newest session, or a new one. Raises NodeRefused, BadStore and OSError."""
+        stored, told = self.store.newest(), self.basis()
+        sessions = [it.session for it in (stored, told) if it is not None]
+        newest = max(sessions, key=lambda it: it.order, default=None)
+        if self.settings.new_session or newest is None:
+            return self._new(newest)
+        if stored is not None and stored.session != newest:
+            raise NodeRefused(
+                f"the market is in session {newest.id}, which another auctioneer began later than {stored.session.id} of "
+                f"{self.store.folder}: end the other one, or begin a new session by --new-session"
+            )
+        found = self._newer(newest, stored)
+        if found is None:
+            self.say(f"no Resume of session {newest.id} is on disk or at the broker: a new session begins")
+            return self._new(newest)
+        if found.basis != self.settings.basis or (told is not None and told.session == newest and told.basis != found.basis):
+            raise NodeRefused(
+                f"session {newest.id} is of another basis, {found.basis}: give that one, or begin a new session by --new-session"
+            )
+        return found
+
+    def of_other(self) -> Stored | None:
+        """What a relay or a device begins with, None while it has to wait. Raises NodeRefused, BadStore and OSError."""
+        told = self.basis()
+        if told is None:
+            topic = self.settings.topics.basis
+            self.say(f"waits for the basis at {topic}: is the auctioneer up, and may this node read that topic?")
+            return None
+        self.require_basis(told)
+        newest = self.store.newest()
+        if newest is not None and newest.session.order > told.session.order:
+            self.say(f"waits: the broker tells of session {told.session.id}, older than {newest.session.id} on disk")
+            return None
+        found = self._newer(told.session, self.store.load(told.session))
+        if found is None:
+            self._require_no_bid(told.session)
+            found = Stored(told.session, told.basis, b"", now_text())
+        if found.basis != told.basis:
+            raise NodeRefused(f"{self.store.path(told.session)} is of another basis, {found.basis}: bring back that of this market")
+        return found
+
+    def require_basis(self, told: BasisMessage) -> None:
+        """Raises NodeRefused if the market's basis is not the node's."""
+        if told.basis != self.settings.basis:
+            raise NodeRefused(f"the market's basis is {told.basis}, and this node has {self.settings.basis}: give it the market's")
+
+    def require_alone(self, session: Session, run: str, started: str, own: int) -> None:
+        """Raises NodeRefused if another process goes on as this node.
+
+        session:      the session that the node is in
+        run, started: those of this process
+        own:          the last number of the newest Resume of this process
+        """
+        settings = self.settings
+        other = self._state()
+        if other is not None and other.run != run and other.started > started:
+            topic = settings.topics.of(settings.name, "state")
+            raise NodeRefused(
+                f"another process runs as {settings.name} since {other.started}: end one of the two, since a node runs once. "
+                f"If it runs no more, clear the topic {topic}"
+            )
+        resume, bid = self._resume_at_broker(session), self._own_bid(session)
+        number = max(0 if resume is None else resume[1].last, 0 if bid is None else bid.number)
+        if number > own:
+            raise NodeRefused(
+                f"{settings.name} has given number {number}, and the newest Resume here has {own}: another process runs as "
+                f"{settings.name}, or {self.store.path(session)} is an old copy"
+            )
+
+    def _state(self) -> StateMessage | None:
+        """The state of this node that the broker retains, or None."""
+        message = self.seen.get(self.settings.topics.of(self.settings.name, "state"))
+        try:
+            return StateMessage.of(message.payload) if message is not None and message.payload else None
+        except BadMessage:
+            return None
+
+    def _new(self, before: Session | None) -> Stored:
+        session = new_session(before)
+        self.say(f"session {session.id} begins: all nodes count from 1 in it")
+        return Stored(session, self.settings.basis, b"", now_text())
+
+    def _resume_at_broker(self, session: Session) -> tuple[Message, Resume] | None:
+        """The Resume of this session that the broker retains, or None."""
+        topic = self.settings.topics.of(self.settings.name, "resume")
+        message = self.seen.get(topic)
+        if message is None or not message.payload or message.properties.get(SESSION) != session.id:
+            return None
+        try:
+            resume = resume_of(self.settings, message.payload)
+        except BadFrame as error:
+            self.say(f"{topic} is not taken: {error}")
+            return None
+        return None if resume is None else (message, resume)
+
+    def _newer(self, session: Session, stored: Stored | None) -> Stored | None:
+        """The newer of the Resume on disk and the one at the broker; the one on disk if they are of one number."""
+        found = self._resume_at_broker(session)
+        if found is None:
+            return stored
+        message, resume = found
+        try:
+            before = None if stored is None else resume_of(replace(self.settings, basis=stored.basis), stored.frame)
+        except BadFrame as error:
+            raise NodeRefused(f"{self.store.path(session)} has no Resume of this node: {error}") from None
+        if stored is not None and before is not None and before.last >= resume.last:
+            return stored
+        self.say(f"goes on from the broker's Resume with number {resume.last}, which is newer than the one on disk")
+        setpoint = self._setpoint(session) if isinstance(resume, DeviceResume) else ""
+        return Stored(session, self.settings.basis, message.payload, message.properties.get(TIME, now_text()), setpoint)
+
+    def _setpoint(self, session: Session) -> str:
+        """The setpoint of this session that the broker retains, "" without one."""
+        message = self.seen.get(self.settings.own_topic("setpoint"))
+        if message is None or message.properties.get(SESSION) != session.id:
+            return ""
+        return message.payload.decode(errors="replace") if is_setpoint(message.payload) else ""
+
+    def _own_bid(self, session: Session) -> Bid | Gone | None:
+        """This node's bid of this session that the broker retains, or None."""
+        settings = self.settings
+        if settings.parent is None or settings.child is None:
+            return None
+        message = self.seen.get(settings.topics.bid(settings.parent, settings.child))
+        if message is None or not message.payload or message.properties.get(SESSION) != session.id:
+            return None
+        try:
+            frame = frame_of(message.payload, BIDS, settings.basis.steps)
+        except BadFrame:
+            return None
+        return frame if isinstance(frame, Bid | Gone) else None
+
+    def _require_no_bid(self, session: Session) -> None:
+        """Raises NodeRefused if the node has bid in this session, and so has lost its Resume."""
+        bid = self._own_bid(session)
+        if bid is not None:
+            raise NodeRefused(
+                f"child {bid.child} of {self.settings.parent} has bid number {bid.number} in session {session.id}, and its Resume is on no "
+                "disk and not at the broker: bring it back, give the node another child number, or begin a new session at the auctioneer"
+            )
+

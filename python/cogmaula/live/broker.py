@@ -1,0 +1,387 @@
+"""A node's connection to an MQTT 5 broker: it waits for a broker that is away, and says in a line what is wrong.
+
+Everything is published retained, with QoS 1. The newest message of each topic is kept, and published again on each new
+connection. After it has subscribed, a connection publishes a marker and waits until it comes back: then the broker has handed
+on all that it retains, and lets the node write and read its own topics.
+"""
+
+from __future__ import annotations
+
+import queue
+import ssl
+import threading
+import time
+from collections.abc import Callable, Iterable, Sequence
+from dataclasses import dataclass, field
+from typing import Any, Protocol
+
+from ..errors import NoPackage
+from .settings import BrokerSettings
+
+# The pauses between tries in seconds: the first, and the longest; each is twice the one before.
+FIRST_PAUSE, LONGEST_PAUSE = 1.0, 60.0
+# The seconds after which a message that did not come back is told.
+PATIENCE = 10.0
+# The longest message taken, in bytes, and the most topics of which messages wait.
+LONGEST, WAITING = 32_768, 2_048
+REFUSED = 128
+NO_LOGIN = {134, 135, 138, 140}
+
+
+@dataclass(frozen=True)
+class Publication:
+    """A message for a topic. An empty payload clears the topic."""
+
+    topic: str
+    payload: bytes
+    properties: tuple[tuple[str, str], ...] = ()
+
+
+@dataclass(frozen=True)
+class Message:
+    """A message that came.
+
+    retained: whether the broker had kept it, so that its age is not known
+    expiry:   the seconds for which it still holds, None without an end
+    """
+
+    topic: str
+    payload: bytes
+    properties: dict[str, str] = field(default_factory=dict)
+    retained: bool = False
+    expiry: int | None = None
+
+
+@dataclass(frozen=True)
+class Settled:
+    """A connection is there, and all that the broker retains has come."""
+
+
+@dataclass(frozen=True)
+class Arrived:
+    """Messages wait for `taken`."""
+
+
+@dataclass(frozen=True)
+class Confirmed:
+    """The broker has confirmed a publication."""
+
+
+Event = Settled | Arrived | Confirmed
+
+
+class Link(Protocol):
+    """What a node needs of its connection. All calls are of the node's one thread."""
+
+    def start(self, topics: Sequence[str], will: Publication, marker: Callable[[], Publication]) -> None:
+        """Connects, now and again, with this last will, and reads these topics. The marker is told anew for each connection."""
+
+    @property
+    def is_settled(self) -> bool:
+        """Whether a connection is there, and all that the broker retains has come."""
+
+    def publish(self, publication: Publication) -> None:
+        """Publishes, now or once the connection is settled. Only the newest of a topic is kept."""
+
+    def publish_all(self) -> None:
+        """Publishes the newest of each topic, after Settled."""
+
+    def kept(self, topic: str) -> Publication | None:
+        """The newest that was published under a topic."""
+
+    def is_unconfirmed(self, topics: Iterable[str]) -> bool:
+        """Whether the broker has not yet confirmed the newest of one of these topics."""
+
+    def taken(self) -> list[Message]:
+        """The messages that came, the newest alone of each topic, in the order in which they came."""
+
+    def tick(self) -> None:
+        """Says what did not come back for long. To be called a few times a second."""
+
+    def close(self, last: Publication, seconds: float) -> None:
+        """Publishes this last and ends the connection, within so many seconds."""
+
+
+def paho() -> Any:
+    """The module paho.mqtt.client. Raises NoPackage if it is not installed."""
+    try:
+        import paho.mqtt.client
+    except ImportError:
+        raise NoPackage("a node needs the package paho-mqtt (Debian: python3-paho-mqtt)") from None
+    return paho.mqtt.client
+
+
+def _properties(kind: str, **members: object) -> Any:
+    """Properties of MQTT 5 for a packet of this kind."""
+    from paho.mqtt.packettypes import PacketTypes
+    from paho.mqtt.properties import Properties
+
+    found = Properties(getattr(PacketTypes, kind))
+    for name, value in members.items():
+        setattr(found, name, value)
+    return found
+
+
+class Broker:
+    """A connection to a broker, made anew as often as it is lost. See `Link` for its calls."""
+
+    def __init__(
+        self,
+        settings: BrokerSettings,
+        client_id: str,
+        notify: Callable[[Event], None],
+        say: Callable[[str], None],
+        pauses: tuple[float, float] = (FIRST_PAUSE, LONGEST_PAUSE),
+        patience: float = PATIENCE,
+    ) -> None:
+        """Takes the settings, and calls for events and for lines. Raises NoPackage if paho is missing."""
+        self._mqtt = paho()
+        self.settings = settings
+        self._client_id = client_id
+        self._notify = notify
+        self._say = say
+        self._pauses = pauses
+        self._patience = patience
+        self._closing = threading.Event()
+        # Of the node's thread alone.
+        self._newest: dict[str, Publication] = {}
+        self._unconfirmed: dict[str, tuple[object, int]] = {}
+        self._echoes: dict[str, float] = {}
+        self._told: set[str] = set()
+        # Of both threads; the locks are never held in a call of paho.
+        self._lock = threading.Lock()
+        self._inbox: dict[str, Message] = {}
+        self._confirms: queue.SimpleQueue[tuple[object, int]] = queue.SimpleQueue()
+        self._client: Any = None
+        self._settled: Any = None
+        self._marked: Publication | None = None
+        self._marked_at = 0.0
+
+    # The calls of a Link.
+
+    def start(self, topics: Sequence[str], will: Publication, marker: Callable[[], Publication]) -> None:
+        """See Link."""
+        self._topics, self._will, self._marker = list(topics), will, marker
+        self._thread = threading.Thread(target=self._run, daemon=True)
+        self._thread.start()
+
+    @property
+    def is_settled(self) -> bool:
+        """See Link."""
+        return self._settled is not None
+
+    def publish(self, publication: Publication) -> None:
+        """See Link."""
+        self._newest.pop(publication.topic, None)
+        self._newest[publication.topic] = publication
+        client = self._settled
+        if client is None:
+            # Nothing is confirmed before a connection has it.
+            self._unconfirmed[publication.topic] = (None, 0)
+        else:
+            self._send(client, publication)
+
+    def publish_all(self) -> None:
+        """See Link."""
+        client = self._settled
+        self._echoes.clear()
+        self._told.clear()
+        if client is not None:
+            for publication in list(self._newest.values()):
+                self._send(client, publication)
+
+    def kept(self, topic: str) -> Publication | None:
+        """See Link."""
+        return self._newest.get(topic)
+
+    def is_unconfirmed(self, topics: Iterable[str]) -> bool:
+        """See Link."""
+        self._take_confirms()
+        return any(it in self._unconfirmed for it in topics)
+
+    def taken(self) -> list[Message]:
+        """See Link."""
+        with self._lock:
+            found, self._inbox = list(self._inbox.values()), {}
+        for it in found:
+            kept = self._newest.get(it.topic)
+            if it.topic in self._echoes and (not it.retained or (kept is not None and kept.payload == it.payload)):
+                del self._echoes[it.topic]
+        return found
+
+    def tick(self) -> None:
+        """See Link."""
+        self._take_confirms()
+        now = time.monotonic()
+        if self._client is not None and self._settled is None and now > self._marked_at + self._patience:
+            self._say_no_echo(self._will.topic)
+            self._mark(self._client)
+        for topic, since in list(self._echoes.items()):
+            if now > since + self._patience:
+                del self._echoes[topic]
+                self._say_no_echo(topic)
+
+    def close(self, last: Publication, seconds: float) -> None:
+        """See Link."""
+        end = time.monotonic() + seconds
+        self.publish(last)
+        while self._settled is not None and self.is_unconfirmed([last.topic]) and time.monotonic() < end:
+            time.sleep(0.01)
+        self._closing.set()
+        client = self._client
+        if client is not None:
+            client.disconnect()
+            self._thread.join(max(0.0, end - time.monotonic()))
+
+    # Publishing.
+
+    def _take_confirms(self) -> None:
+        while not self._confirms.empty():
+            found = self._confirms.get()
+            for topic in [it for it, due in self._unconfirmed.items() if due == found]:
+                del self._unconfirmed[topic]
+
+    def _send(self, client: Any, publication: Publication) -> None:
+        properties = _properties("PUBLISH")
+        if publication.properties:
+            properties.UserProperty = list(publication.properties)
+        told = client.publish(publication.topic, publication.payload, 1, True, properties)
+        self._unconfirmed[publication.topic] = (client, told.mid)
+        # What clears a topic comes back to a reader too, as every message does.
+        self._echoes.setdefault(publication.topic, time.monotonic())
+
+    def _mark(self, client: Any) -> None:
+        """Publishes the marker."""
+        marked = self._marker()
+        self._marked, self._marked_at = marked, time.monotonic()
+        client.publish(marked.topic, marked.payload, 1, True, _properties("PUBLISH"))
+
+    def _say_no_echo(self, topic: str) -> None:
+        if topic not in self._told:
+            self._told.add(topic)
+            user = self.settings.user or "a node without a user"
+            self._say(
+                f"{self.settings.address} does not give {topic} back: let {user} write and read this topic, in the broker's list of rights"
+            )
+
+    # One connection after the other, in a thread of its own.
+
+    def _run(self) -> None:
+        pause = self._pauses[0]
+        while not self._closing.is_set():
+            was_there, why = self._connection()
+            self._client = self._settled = None
+            if self._closing.is_set():
+                return
+            pause = self._pauses[0] if was_there else pause
+            self._say(f"{self.settings.address}: {why}. The next try is in {pause:g} s")
+            self._closing.wait(pause)
+            pause = min(2 * pause, self._pauses[1])
+
+    def _connection(self) -> tuple[bool, str]:
+        """Makes one connection, and waits for its end: whether it was there, and why it ended."""
+        ended = threading.Event()
+        words: list[str] = []
+        try:
+            client = self._made(ended, words)
+            client.connect(
+                self.settings.host,
+                self.settings.port_due,
+                self.settings.keepalive,
+                clean_start=True,
+                properties=_properties("CONNECT", MaximumPacketSize=LONGEST),
+            )
+        except (OSError, ValueError) as error:
+            return False, _words_of(error, self.settings)
+        client.loop_start()
+        ended.wait()
+        client.loop_stop()
+        return self._client is client, words[0] if words else "the connection was lost"
+
+    def _made(self, ended: threading.Event, words: list[str]) -> Any:
+        """A client of paho. Raises OSError if a file cannot be read."""
+        mqtt, settings = self._mqtt, self.settings
+        version = getattr(mqtt, "CallbackAPIVersion", None)
+        first = () if version is None else (version.VERSION1,)
+        client = mqtt.Client(*first, client_id=self._client_id, protocol=mqtt.MQTTv5, reconnect_on_failure=False)
+        if settings.user is not None:
+            client.username_pw_set(settings.user, settings.password())
+        if settings.with_tls:
+            client.tls_set(settings.ca, settings.certificate, settings.key)
+        client.will_set(self._will.topic, self._will.payload, 1, True)
+        client.on_connect = lambda it, _data, _flags, code, _more: self._on_connect(it, code, words)
+        client.on_subscribe = lambda _it, _data, _mid, codes, _more: self._on_subscribe(codes)
+        client.on_message = lambda it, _data, message: self._on_message(it, message)
+        client.on_publish = lambda it, _data, mid: self._on_publish(it, mid)
+        client.on_disconnect = lambda _it, _data, code, _more: self._on_disconnect(code, ended, words)
+        return client
+
+    def _on_connect(self, client: Any, code: Any, words: list[str]) -> None:
+        if code.value >= REFUSED:
+            words.append(self._words_of_refusal(code))
+            return
+        self._marked_at = time.monotonic()
+        self._client = client
+        options = self._mqtt.SubscribeOptions(qos=1)
+        client.subscribe([(it, options) for it in self._topics])
+        self._mark(client)
+
+    def _words_of_refusal(self, code: Any) -> str:
+        if code.value not in NO_LOGIN:
+            return f"the broker refuses the connection: {code}"
+        user = f"the login of {self.settings.user}" if self.settings.user else "a login without a user"
+        return f"the broker refuses {user} ({code}): look at user, password_file and the broker's list of users"
+
+    def _on_subscribe(self, codes: Any) -> None:
+        for topic, code in zip(self._topics, codes, strict=False):
+            if code.value >= REFUSED:
+                self._say(f"{self.settings.address} does not let {self.settings.user or 'this node'} read {topic} ({code})")
+
+    def _on_message(self, client: Any, message: Any) -> None:
+        properties = dict(getattr(message.properties, "UserProperty", []))
+        expiry = getattr(message.properties, "MessageExpiryInterval", None)
+        found = Message(message.topic, bytes(message.payload), properties, bool(message.retain), expiry)
+        marked = self._marked
+        if marked is not None and (found.topic, found.payload) == (marked.topic, marked.payload) and self._settled is None:
+            self._settled = client
+            self._notify(Settled())
+            return
+        with self._lock:
+            is_first = not self._inbox
+            if found.topic in self._inbox or len(self._inbox) < WAITING:
+                self._inbox.pop(found.topic, None)
+                self._inbox[found.topic] = found
+        if is_first:
+            self._notify(Arrived())
+
+    def _on_publish(self, client: Any, mid: int) -> None:
+        self._confirms.put((client, mid))
+        self._notify(Confirmed())
+
+    def _on_disconnect(self, code: Any, ended: threading.Event, words: list[str]) -> None:
+        if not words:
+            words.append(self._words_of_end(code))
+        ended.set()
+
+    def _words_of_end(self, code: Any) -> str:
+        if not isinstance(code, int):
+            return f"the broker ends the connection: {code}"
+        if self._client is None:
+            return "the connection ended before a login: does the broker want TLS, or a certificate of the node?"
+        more = "" if code == self._mqtt.MQTT_ERR_CONN_LOST else f": {self._mqtt.error_string(code)}"
+        return f"the connection was lost{more}"
+
+
+def _words_of(error: Exception, settings: BrokerSettings) -> str:
+    """Why no connection was made, in words, and what to do."""
+    if isinstance(error, ssl.SSLCertVerificationError):
+        return f"the broker's certificate is not trusted ({error.verify_message}): give the CA that signed it by ca, and its own host name"
+    if isinstance(error, ssl.SSLError):
+        return f"TLS fails ({error.reason or error}): look at tls, ca, certificate, key and the port"
+    if isinstance(error, FileNotFoundError | PermissionError):
+        return f"{error.filename or 'a file of the settings'} cannot be read: {error.strerror}"
+    if isinstance(error, ConnectionResetError) and settings.with_tls:
+        return "the broker ended the connection before TLS was there: does it speak TLS at this port?"
+    if isinstance(error, OSError):
+        return f"the broker cannot be reached ({error.strerror or error})"
+    return f"the settings of the broker are refused: {error}"

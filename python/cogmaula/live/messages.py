@@ -1,0 +1,147 @@
+"""The messages of a market that are JSON: the basis, a node's state, a device's offers and its setpoints."""
+
+from __future__ import annotations
+
+import json
+from dataclasses import dataclass
+from typing import Any, Literal
+
+from ..cluster import Basis
+from .errors import BadFrame, BadMessage
+from .frames import Leave, Offer, Setpoint
+from .sessions import Session, time_of
+
+
+def _object_of(data: bytes, what: str) -> dict[str, Any]:
+    """The JSON object that a message is. Raises BadMessage."""
+    try:
+        told = json.loads(data)
+    except (ValueError, RecursionError):
+        raise BadMessage(f"{what} is no JSON") from None
+    if not isinstance(told, dict):
+        raise BadMessage(f"{what} is no JSON object")
+    return told
+
+
+def _whole(told: dict[str, Any], name: str, what: str) -> int:
+    value = told.get(name)
+    if type(value) is not int:
+        raise BadMessage(f"{what} has no whole number {name}")
+    return value
+
+
+def _text(told: dict[str, Any], name: str, what: str) -> str:
+    value = told.get(name)
+    if not isinstance(value, str):
+        raise BadMessage(f"{what} has no text {name}")
+    return value
+
+
+@dataclass(frozen=True)
+class BasisMessage:
+    """What the auctioneer publishes once: the basis in price units, and the session."""
+
+    basis: Basis
+    session: Session
+
+    def to_bytes(self) -> bytes:
+        """The message."""
+        told = {"min": self.basis.min, "max": self.basis.max, "steps": self.basis.steps}
+        return json.dumps({**told, "session": self.session.id, "begun": self.session.begun}).encode()
+
+    @staticmethod
+    def of(data: bytes) -> BasisMessage:
+        """The basis that a message tells. Raises BadMessage."""
+        what = "the basis"
+        told = _object_of(data, what)
+        numbers = [_whole(told, it, what) for it in ("min", "max", "steps")]
+        return BasisMessage(Basis(*numbers), Session(_text(told, "session", what), _text(told, "begun", what)))
+
+
+@dataclass(frozen=True)
+class StateMessage:
+    """Whether a node's process is up.
+
+    run:     16 hexadecimal digits that each start of the process draws anew
+    started: when the process started (RFC 3339, UTC)
+    session: the id of the auctioneer's session that the node is in, "" before it knows one
+    time:    when the state was told; of a last will, when the connection was made
+    why:     in words, "" if there is nothing to say
+    """
+
+    state: Literal["up", "down"]
+    run: str
+    started: str
+    session: str
+    time: str
+    why: str = ""
+
+    def to_bytes(self) -> bytes:
+        """The message."""
+        return json.dumps(dict(self.__dict__)).encode()
+
+    @staticmethod
+    def of(data: bytes) -> StateMessage:
+        """The state that a message tells. Raises BadMessage."""
+        what = "the state"
+        told = _object_of(data, what)
+        if told.get("state") not in ("up", "down"):
+            raise BadMessage("the state is neither up nor down")
+        run, started, session, time, why = (_text(told, it, what) for it in ("run", "started", "session", "time", "why"))
+        time_of(started)
+        return StateMessage(told["state"], run, started, session, time, why)
+
+
+@dataclass(frozen=True)
+class OfferMessage:
+    """What a device's control offers: a frame for the agent, and when that was (RFC 3339), None if the control does not say."""
+
+    frame: Offer | Leave
+    time: str | None = None
+
+    @staticmethod
+    def of(data: bytes, steps: int) -> OfferMessage:
+        """The offer that a message tells, `{"power": [WATTS, ..]}` or `{"leave": true}`, each also with `"time"`.
+
+        Raises BadMessage.
+        """
+        what = "the offer"
+        told = _object_of(data, what)
+        time = told.pop("time", None)
+        if time is not None:
+            time_of(_text({"time": time}, "time", what))
+        if told == {"leave": True}:
+            return OfferMessage(Leave(), time)
+        power = told.get("power")
+        if len(told) != 1 or not isinstance(power, list):
+            raise BadMessage('an offer is {"power": [WATTS, ..]} or {"leave": true}, and may have a "time"')
+        if any(type(it) is not int for it in power):
+            raise BadMessage("a power is no whole number of watts")
+        offer = Offer(tuple(power))
+        try:
+            offer.require_right(steps)
+        except BadFrame as error:
+            raise BadMessage(f"the offer is no bid: {error}") from None
+        return OfferMessage(offer, time)
+
+
+def is_setpoint(data: bytes) -> bool:
+    """Whether a message is a setpoint."""
+    try:
+        return isinstance(_object_of(data, "the setpoint").get("time"), str)
+    except BadMessage:
+        return False
+
+
+def setpoint_bytes(setpoint: Setpoint, basis: Basis, time: str) -> bytes:
+    """A setpoint as the control reads it: watts, the step and its price, the numbers of the offer and the clearing, and when the
+    market cleared."""
+    told = {
+        "power": setpoint.power,
+        "step": setpoint.step,
+        "price": basis.price(setpoint.step),
+        "bid": setpoint.number,
+        "clearing": setpoint.index,
+        "time": time,
+    }
+    return json.dumps(told).encode()

@@ -1,0 +1,304 @@
+"""A node of the live market: joins a service, which is a process of `live`, to an MQTT broker.
+
+One thread does all the work, event by event. This file has the node's connection and its session; serving.py has its service.
+"""
+
+from __future__ import annotations
+
+import queue
+import secrets
+import sys
+import time
+from collections.abc import Callable
+from typing import Literal
+
+from .beginning import Beginning, resume_of
+from .broker import Arrived, Broker, Confirmed, Event, Link, Message, Publication, Settled
+from .children import SESSION, TIME
+from .control import Control, StandardControl
+from .errors import BadFrame, BadMessage, LiveError, NodeRefused
+from .frames import PRICES, Leave, Price, frame_of
+from .messages import BasisMessage, StateMessage
+from .service import Came, Ended
+from .serving import LAST_SECONDS, Serving
+from .sessions import Session, now_text
+from .settings import Settings
+from .store import Store
+
+# The seconds between looks at the clock.
+TICK = 0.05
+
+
+class _Stop:
+    """The node is to end."""
+
+
+class _Offered:
+    """The control has offered this."""
+
+    def __init__(self, data: bytes) -> None:
+        self.data = data
+
+
+# Makes a connection that calls its first argument for events, and the second for lines.
+MakeLink = Callable[[Callable[[Event], None], Callable[[str], None]], Link]
+
+
+class Node:
+    """A node, from its start to its end. `run` does the work, and `stop` ends it from anywhere."""
+
+    def __init__(
+        self,
+        settings: Settings,
+        control: Control | None = None,
+        say: Callable[[str], None] | None = None,
+        make_link: MakeLink | None = None,
+    ) -> None:
+        """Takes the node's place on disk. `make_node` has the arguments; `make_link` makes another connection than a broker's."""
+        self.settings = settings
+        self._say = say or self._say_at_standard_error
+        self._events: queue.SimpleQueue[Event | Came | Ended | _Offered | _Stop] = queue.SimpleQueue()
+        self._run_id, self._started = secrets.token_hex(8), now_text()
+        self._seen: dict[str, Message] = {}
+        self.session: Session | None = None
+        self._state_told = self._said = self._parent_state = ""
+        self._offer_at_topic = b""
+        if control is None and settings.sort == "device" and not settings.leave:
+            control = StandardControl()
+        self._control = control
+        self._link: Link = (make_link or self._broker)(self._events.put, self._say)
+        self._store = Store(settings.state, settings.name, settings.sort)
+        self.serving = Serving(settings, self._store, self._link, control, self._say, self._events.put)
+
+    def _broker(self, notify: Callable[[Event], None], say: Callable[[str], None]) -> Link:
+        client_id = f"cogmaula.{self.settings.broker.prefix.replace('/', '.')}.{self.settings.name}"
+        return Broker(self.settings.broker, client_id, notify, say)
+
+    def _say_at_standard_error(self, text: str) -> None:
+        print(f"cogmaula node {self.settings.name}: {text}", file=sys.stderr, flush=True)
+
+    # The work, and its end.
+
+    def run(self) -> None:
+        """Works until `stop` is called, or a device that was to leave has left.
+
+        Raises NodeRefused if a person has to look first, another LiveError, or OSError, such as that of a full disk.
+        """
+        why = "it failed"
+        try:
+            self._link.start(self._subscriptions(), self._state("down", "the connection was lost"), self._marker)
+            if self._control is not None:
+                self._control.start(lambda data: self._events.put(_Offered(data)), self._say)
+            while not (self.settings.leave and self.serving.has_left):
+                event = self._next_event()
+                if isinstance(event, _Stop):
+                    break
+                self._take(event)
+                self._link.tick()
+                self.serving.tick(time.monotonic())
+                self._tell_state()
+            why = "stopped"
+        except (LiveError, OSError) as error:
+            why = str(error)
+            raise
+        finally:
+            self._link.close(self._state("down", why), LAST_SECONDS)
+            self.serving.end(why)
+            self._store.close()
+
+    def stop(self) -> None:
+        """Ends `run`, from any thread or from the handler of a signal."""
+        self._events.put(_Stop())
+
+    def _next_event(self) -> Event | Came | Ended | _Offered | _Stop | None:
+        try:
+            return self._events.get(timeout=TICK)
+        except queue.Empty:
+            return None
+
+    def _take(self, event: Event | Came | Ended | _Offered | _Stop | None) -> None:
+        match event:
+            case Settled():
+                self._take_messages()
+                self._settle()
+            case Arrived():
+                self._take_messages()
+            case Confirmed():
+                self.serving.work()
+            case Came() | Ended():
+                self.serving.take(event)
+            case _Offered():
+                self.serving.offers.take(event.data, time.monotonic())
+
+    def _subscriptions(self) -> list[str]:
+        """The topics that the node reads: what is for it, and its own, to go on from and to see that the broker takes them."""
+        settings, topics = self.settings, self.settings.topics
+        found = [topics.basis, settings.own_topic("state"), settings.own_topic("resume")]
+        if settings.sort == "device":
+            found += [settings.own_topic("offer"), settings.own_topic("setpoint")]
+        else:
+            found += [topics.bid(settings.name, "+"), topics.price(settings.name, "+")]
+        if settings.parent is not None:
+            found += [settings.own_topic("bid"), settings.own_topic("price"), topics.of(settings.parent, "state")]
+        return found
+
+    # The node's state.
+
+    def _state(self, state: Literal["up", "down"], why: str) -> Publication:
+        session = "" if self.session is None else self.session.id
+        message = StateMessage(state, self._run_id, self._started, session, now_text(), why)
+        return Publication(self.settings.own_topic("state"), message.to_bytes())
+
+    def _marker(self) -> Publication:
+        """The state as it is, told anew for each connection."""
+        why = self.serving.why_down
+        return self._state("down" if why else "up", why)
+
+    def _tell_state(self) -> None:
+        """Publishes the state if it changed."""
+        state = f"{self.session} {self.serving.why_down}"
+        if state != self._state_told:
+            self._state_told = state
+            self._link.publish(self._marker())
+
+    # Messages of the broker.
+
+    def _take_messages(self) -> None:
+        found = self._link.taken()
+        self._seen.update({it.topic: it for it in found})
+        if self.session is not None:
+            for message in found:
+                self._take_message(message)
+        elif self._link.is_settled and any(it.topic == self.settings.topics.basis for it in found):
+            self._begin()
+
+    def _take_message(self, message: Message) -> None:
+        """Takes a message of a node that is in a session."""
+        settings, topics, topic = self.settings, self.settings.topics, message.topic
+        if (child := topics.child_of(topic, settings.name, "bid")) is not None:
+            if self.serving.children.taken(child, message) is not None:
+                self.serving.hear_bid(message.payload)
+        elif (child := topics.child_of(topic, settings.name, "price")) is not None:
+            self.serving.children.keep_price(child, message)
+        elif topic == topics.basis:
+            self._take_basis()
+        elif settings.parent is not None and topic == settings.own_topic("price"):
+            self._take_price(message)
+        elif topic == settings.own_topic("offer"):
+            self._take_offer(message)
+        elif settings.parent is not None and topic == topics.of(settings.parent, "state"):
+            self._take_parent_state(message)
+        elif topic in [settings.own_topic(it) for it in ("state", "resume")] or topic == self._bid_topic:
+            self._require_alone()
+
+    @property
+    def _bid_topic(self) -> str:
+        return "" if self.settings.parent is None else self.settings.own_topic("bid")
+
+    def _take_price(self, message: Message) -> None:
+        assert self.session is not None
+        if not message.payload or message.properties.get(SESSION) != self.session.id:
+            return
+        try:
+            price = frame_of(message.payload, PRICES, self.settings.basis.steps)
+            assert isinstance(price, Price)
+            if price.child != self.settings.child:
+                raise BadFrame(f"it names child {price.child}")
+        except BadFrame as error:
+            self._say(f"{message.topic} is not taken: {error}")
+            return
+        self.serving.hear_price(price, message.properties.get(TIME, ""))
+
+    def _take_offer(self, message: Message) -> None:
+        """Takes an offer of the topic. If the broker sends a kept one again, that does not say that the control lives."""
+        is_again = message.retained and message.expiry is None and message.payload == self._offer_at_topic
+        self._offer_at_topic = message.payload
+        if message.payload and not is_again and not self.settings.leave:
+            self.serving.offers.take(message.payload, time.monotonic(), message.expiry)
+
+    def _take_parent_state(self, message: Message) -> None:
+        try:
+            told = StateMessage.of(message.payload) if message.payload else None
+        except BadMessage as error:
+            self._say(f"{message.topic} is not taken: {error}")
+            return
+        if told is not None and told.state != (self._parent_state or "up"):
+            self._say(f"{self.settings.parent} is {'up again' if told.state == 'up' else f'down: {told.why}'}")
+        self._parent_state = "" if told is None else told.state
+
+    # Sessions.
+
+    @property
+    def _beginning(self) -> Beginning:
+        return Beginning(self.settings, self._store, self._seen, self._say_once)
+
+    def _say_once(self, text: str) -> None:
+        """Says a line, unless it is the one that was said last."""
+        if text != self._said:
+            self._said = text
+            self._say(text)
+
+    def _settle(self) -> None:
+        """Begins, or goes on after a connection was lost."""
+        if self.session is None:
+            self._begin()
+            return
+        self._require_alone()
+        self._take_basis()
+        self._link.publish_all()
+
+    def _require_alone(self) -> None:
+        if self.session is not None:
+            self._beginning.require_alone(self.session, self._run_id, self._started, self.serving.last)
+
+    def _begin(self) -> None:
+        """Enters a session, if the broker and the disk tell one."""
+        beginning = self._beginning
+        stored = beginning.of_auctioneer() if self.settings.sort == "auctioneer" else beginning.of_other()
+        if stored is None:
+            return
+        resume = resume_of(self.settings, stored.frame)
+        beginning.require_alone(stored.session, self._run_id, self._started, 0 if resume is None else resume.last)
+        if self.settings.sort == "auctioneer" or stored.frame:
+            self._store.save(stored)
+        self.session = stored.session
+        self._tell_basis()
+        self.serving.begin(stored, resume, time.monotonic())
+        if self.settings.leave:
+            self.serving.offers.want(Leave())
+        for message in list(self._seen.values()):
+            if message.topic != self.settings.topics.basis:
+                self._take_message(message)
+
+    def _take_basis(self) -> None:
+        """Takes the basis that the broker tells, in a session."""
+        told = self._beginning.basis()
+        assert self.session is not None
+        if told is None or told.session.order < self.session.order:
+            self._tell_basis()
+        elif told.session == self.session:
+            self._beginning.require_basis(told)
+        elif self.settings.sort == "auctioneer":
+            raise NodeRefused(f"another auctioneer has begun session {told.session.id}: end one of the two")
+        else:
+            self._say(f"session {self.session.id} is over: session {told.session.id} has begun")
+            self.session = None
+            self.serving.end("it waits for its session")
+            self._begin()
+
+    def _tell_basis(self) -> None:
+        """Publishes the basis, if this is the auctioneer."""
+        if self.settings.sort == "auctioneer" and self.session is not None:
+            told = BasisMessage(self.settings.basis, self.session)
+            self._link.publish(Publication(self.settings.topics.basis, told.to_bytes()))
+
+
+def make_node(settings: Settings, control: Control | None = None, say: Callable[[str], None] | None = None) -> Node:
+    """A node of the live market, to be worked by `run`.
+
+    control: of a device, by default standard input and output
+    say:     takes each line about what is wrong, by default to standard error
+
+    Raises BadStore if another process has the folder of its state, NoPackage if paho is missing, and OSError.
+    """
+    return Node(settings, control, say)

@@ -1,0 +1,113 @@
+"""What a device's control offers, and what the device's agent has made of it. Times are seconds of a clock that only rises."""
+
+from __future__ import annotations
+
+from collections.abc import Callable
+from datetime import datetime, timezone
+
+from .errors import BadMessage
+from .frames import DeviceResume, Leave, Offer, ResumeGone
+from .messages import OfferMessage
+from .sessions import time_of
+
+# The seconds after which an offer is made again that the full window did not let through.
+AGAIN = 1.0
+
+
+class Offers:
+    """The newest offer of the control, until the agent has answered it, and how long it holds."""
+
+    def __init__(self, steps: int, validity: float | None, say: Callable[[str], None]) -> None:
+        """Takes the steps of the market, the seconds that an offer holds, None without an end, and a call for lines."""
+        self._steps = steps
+        self._validity = validity
+        self._say = say
+        self._wanted: Offer | Leave | None = None
+        self._asked: Offer | Leave | None = None
+        self._not_before = 0.0
+        self._until: float | None = None
+        self._last = 0
+        # The demands of the agent's last offer, None if it has left or never offered.
+        self.current: tuple[int, ...] | None = None
+        self.since: float | None = None
+
+    def begin(self, resume: DeviceResume | ResumeGone | None, now: float) -> None:
+        """Goes by the Resume that the agent begins with, None for an agent that never offered."""
+        self._last = 0 if resume is None else resume.last
+        self.current = resume.demands if isinstance(resume, DeviceResume) else None
+        self._until = None if self._validity is None else now + self._validity
+        self.forget()
+
+    def forget(self) -> None:
+        """Notes that the service starts anew: what it was asked and did not answer is asked again."""
+        self._asked, self.since, self._not_before = None, None, 0.0
+
+    def take(self, data: bytes, now: float, expiry: int | None = None) -> None:
+        """Takes a message of the control. `expiry` is for how many seconds the broker lets it hold."""
+        try:
+            message = OfferMessage.of(data, self._steps)
+        except BadMessage as error:
+            self._say(f"an offer is not taken: {error}")
+            return
+        until = self._end_of(message, now, expiry)
+        if until is not None and until <= now:
+            self._say(f"an offer of {message.time} is not taken: it is older than its validity")
+            return
+        self._until = until
+        self.want(message.frame)
+
+    def want(self, frame: Offer | Leave) -> None:
+        """Wants a frame, in place of one that was not yet asked. What the agent already does is not asked again."""
+        newest = self._wanted if self._wanted is not None else self._standing()
+        self._wanted = self._wanted if frame == newest else frame
+
+    def _standing(self) -> Offer | Leave:
+        return Leave() if self.current is None else Offer(self.current)
+
+    def _end_of(self, message: OfferMessage, now: float, expiry: int | None) -> float | None:
+        ends = [] if expiry is None else [now + expiry]
+        if self._validity is not None:
+            age = 0.0
+            if message.time is not None:
+                age = max(0.0, (datetime.now(timezone.utc) - time_of(message.time)).total_seconds())
+            ends.append(now + self._validity - age)
+        return min(ends, default=None)
+
+    @property
+    def is_out(self) -> bool:
+        """Whether the device has no offer, and none is wanted."""
+        return self.current is None and self._wanted is None
+
+    def due(self, now: float) -> Offer | Leave | None:
+        """The frame to feed to the agent now, or None. It counts as asked."""
+        if self._until is not None and now > self._until and self.current is not None and not isinstance(self._wanted, Leave):
+            self._say("the control was silent for longer than the validity of its offer: the device leaves")
+            self._wanted = Leave()
+        if self._wanted is None or self._asked is not None or now < self._not_before:
+            return None
+        if isinstance(self._wanted, Leave) and self.current is None:
+            self._wanted = None
+            return None
+        self._asked, self.since = self._wanted, now
+        return self._asked
+
+    def resumed(self, resume: DeviceResume | ResumeGone) -> None:
+        """Goes by a Resume that was stored. One with a greater number answers what was asked."""
+        is_answer = resume.last > self._last
+        self._last = resume.last
+        self.current = resume.demands if isinstance(resume, DeviceResume) else None
+        if is_answer:
+            self._answered()
+
+    def refused(self, now: float) -> None:
+        """Notes that the window is full: what was asked is asked again later."""
+        self._asked, self.since, self._not_before = None, None, now + AGAIN
+
+    def ended(self) -> None:
+        """Notes that no number is left."""
+        self._answered()
+
+    def _answered(self) -> None:
+        if self._wanted == self._asked:
+            self._wanted = None
+        self._asked, self.since = None, None

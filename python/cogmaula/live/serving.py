@@ -1,0 +1,297 @@
+"""What a node does with its service: starts it, feeds it, starts it anew, and handles what it writes, frame by frame.
+
+A Resume is stored, on disk and then at the broker, before a frame behind it is published. A relay's or a device's Resume is not
+stored before the broker has confirmed the prices or the setpoint before it. So a crash between the two gives them again.
+"""
+
+from __future__ import annotations
+
+import json
+import time
+from collections import deque
+from collections.abc import Callable
+from dataclasses import replace
+
+from .asking import Asking
+from .broker import Link, Publication
+from .children import SESSION, TIME, Children
+from .control import Control
+from .errors import LiveError
+from .frames import (
+    AuctioneerResume,
+    Bid,
+    Clear,
+    DeviceResume,
+    Fault,
+    Frame,
+    Gone,
+    NotCaughtUp,
+    NotChanged,
+    OutOfNumbers,
+    Price,
+    RelayResume,
+    Resume,
+    ResumeGone,
+    Send,
+    Setpoint,
+    WindowFull,
+)
+from .messages import setpoint_bytes
+from .offers import Offers
+from .service import Came, Ended, Service
+from .sessions import now_text
+from .settings import Settings
+from .store import Store, Stored
+
+# The pauses in seconds before a service is started anew that ended soon: the first, and the longest. Soon is below the third.
+FIRST_PAUSE, LONGEST_PAUSE, LIVED = 0.5, 60.0, 10.0
+# The seconds after which a service that does not answer is ended, and the seconds within which it ends by itself.
+PATIENCE, LAST_SECONDS = 10.0, 0.3
+# How many clearings' times are remembered, and the seconds between two lines about children that are awaited.
+TIMES, BETWEEN_LINES = 64, 60.0
+
+
+class Serving:
+    """The service of one node. All calls are of the node's one thread; times are seconds of a clock that only rises."""
+
+    def __init__(
+        self,
+        settings: Settings,
+        store: Store,
+        link: Link,
+        control: Control | None,
+        say: Callable[[str], None],
+        notify: Callable[[Came | Ended], None],
+    ) -> None:
+        """Takes what the node has. `notify` is called from other threads with what the service does, to come back by `take`."""
+        self._settings = settings
+        self._store = store
+        self._link = link
+        self._control = control
+        self._say = say
+        self._notify = notify
+        self.children = Children(settings.name, settings.topics, settings.basis.steps, link, say)
+        self.offers = Offers(settings.basis.steps, settings.validity, say)
+        self._asking = Asking(settings.period, settings.pause)
+        self.service: Service | None = None
+        self.stored: Stored | None = None
+        self.resume: Resume | None = None
+        # Why there is no service, "" if there is one.
+        self.why_down = "it waits for its session"
+        self._price: Price | None = None
+        # The number of the Bid or Gone that was published last.
+        self._bid = 0
+        self._times: dict[int, str] = {}
+        self._pending: deque[Frame] = deque()
+        self._restart_at = self._pause = self._born = self._came_at = self._lines_from = 0.0
+
+    # From a session's begin to its end.
+
+    def begin(self, stored: Stored, resume: Resume | None, now: float) -> None:
+        """Begins a session with what is stored of it."""
+        self.stored, self.resume = stored, resume
+        self.children.begin(stored.session.id)
+        self.offers.begin(resume if isinstance(resume, DeviceResume | ResumeGone) else None, now)
+        if stored.frame:
+            self._publish(self._settings.own_topic("resume"), stored.frame, stored.time)
+        self._tell_setpoint()
+        self._start(now)
+
+    def end(self, why: str) -> None:
+        """Ends the service, and forgets all of its session."""
+        service, self.service = self.service, None
+        if service is not None:
+            service.close(LAST_SECONDS)
+        self.stored = self.resume = self._price = None
+        self.why_down = why
+        self._bid = 0
+        self._times.clear()
+        self._pending.clear()
+
+    @property
+    def last(self) -> int:
+        """The last number of the newest Resume, 0 without one."""
+        return 0 if self.resume is None else self.resume.last
+
+    @property
+    def has_left(self) -> bool:
+        """Whether a device has no offer, and the broker has its Resume and its Gone."""
+        topics = [self._settings.own_topic(it) for it in ("bid", "resume")]
+        is_told = self._bid == self.last and not self._link.is_unconfirmed(topics)
+        return self.service is not None and self.offers.is_out and is_told
+
+    # What the node hears.
+
+    def hear_bid(self, data: bytes) -> None:
+        """Feeds a Bid or a Gone of a child."""
+        self._asking.has_news()
+        self._feed(data)
+
+    def hear_price(self, price: Price, moment: str) -> None:
+        """Feeds a Price of the parent, unless a newer one came. `moment` is when its clearing was, "" if that was not told."""
+        if self._price is not None and price.index < self._price.index:
+            return
+        self._times[price.index] = moment
+        while len(self._times) > TIMES:
+            del self._times[min(self._times)]
+        self._price = price
+        self._feed(price.to_bytes())
+
+    def _feed(self, data: bytes) -> None:
+        if self.service is not None:
+            self.service.feed(data)
+
+    # The process.
+
+    def take(self, event: Came | Ended) -> None:
+        """Takes what the service did. What an earlier one did is dropped."""
+        if event.service is not self.service:
+            return
+        if isinstance(event, Ended):
+            self._ended(event.why)
+        else:
+            self._came_at = time.monotonic()
+            self._pending.append(event.frame)
+            self.work()
+
+    def tick(self, now: float) -> None:
+        """Starts the service anew, asks it, and ends one that does not answer. To be called many times a second."""
+        self.work()
+        if self.stored is not None and self.service is None and now >= self._restart_at:
+            self._start(now)
+        if self.service is None:
+            return
+        if self._settings.sort == "device":
+            frame = self.offers.due(now)
+            self._feed(b"" if frame is None else frame.to_bytes())
+        elif self._asking.is_due(now):
+            self._asking.asked(now)
+            self._feed((Clear() if self._settings.sort == "auctioneer" else Send()).to_bytes())
+        since = self.offers.since if self._settings.sort == "device" else self._asking.since
+        if since is not None and now > max(since, self._came_at) + PATIENCE and not self._pending:
+            self._say(f"the service has not answered for {PATIENCE:g} s: it is ended")
+            self._came_at = now
+            self.service.kill()
+
+    def _start(self, now: float) -> None:
+        """Starts the service from the newest Resume, and feeds it the newest of all that was heard."""
+        assert self.stored is not None
+        self._born = self._came_at = now
+        settings = self._settings
+        try:
+            self.service = Service(settings.command, settings.sort, settings.basis, self.stored.frame, self._notify)
+        except LiveError as error:
+            self._ended(str(error))
+            return
+        self.why_down = ""
+        self._asking.forget()
+        for frame in self.children.newest:
+            self.hear_bid(frame.to_bytes())
+        self._feed(b"" if self._price is None else self._price.to_bytes())
+        self.offers.forget()
+
+    def _ended(self, why: str) -> None:
+        """Lets the service start anew, at once or after a pause that grows if it does not live long."""
+        now = time.monotonic()
+        self.service = None
+        self._pending.clear()
+        self._pause = 0.0 if now > self._born + LIVED else min(max(FIRST_PAUSE, 2 * self._pause), LONGEST_PAUSE)
+        self._restart_at = now + self._pause
+        self.why_down = f"the service has ended, {why}"
+        self._say(f"{self.why_down}; it starts anew from its newest Resume in {self._pause:g} s")
+
+    # The frames of the service.
+
+    def work(self) -> None:
+        """Handles the service's frames in their order, up to a Resume that has to wait for the broker."""
+        while self._pending:
+            frame = self._pending[0]
+            if isinstance(frame, RelayResume | DeviceResume | ResumeGone) and self._link.is_unconfirmed(self._told_below()):
+                return
+            self._pending.popleft()
+            self._handle(frame)
+
+    def _told_below(self) -> list[str]:
+        """The topics that the broker has to confirm before a Resume behind them is stored."""
+        is_relay = self._settings.sort == "relay"
+        return self.children.price_topics if is_relay else [self._settings.own_topic("setpoint")]
+
+    def _handle(self, frame: Frame) -> None:
+        match frame:
+            case RelayResume() | AuctioneerResume() | DeviceResume() | ResumeGone():
+                self._keep(frame)
+            case Bid() | Gone():
+                self._publish(self._settings.own_topic("bid"), frame.to_bytes(), now_text())
+                self._bid = frame.number
+                self._asking.answered()
+                if isinstance(frame, Gone):
+                    self._link.publish(Publication(self._settings.own_topic("setpoint"), b""))
+            case Price():
+                self._asking.answered()
+                self.children.pass_on(frame, self._time_of(frame.index))
+            case Setpoint():
+                self._tell_control(frame)
+            case NotChanged():
+                self._asking.answered()
+            case WindowFull():
+                self._asking.answered(again=True)
+                self.offers.refused(time.monotonic())
+            case NotCaughtUp():
+                self._asking.answered(again=True)
+                self._say_lacking()
+            case OutOfNumbers():
+                self._asking.answered()
+                self.offers.ended()
+                self._say("no number is left: begin a new session at the auctioneer")
+            case Fault():
+                self._say(f"the service refused the frame at byte {frame.offset}")
+
+    def _keep(self, resume: Resume) -> None:
+        """Stores a Resume, before any frame behind it is handled. Raises OSError, and then the node has to end."""
+        assert self.stored is not None
+        setpoint = "" if isinstance(resume, ResumeGone) else self.stored.setpoint
+        self.stored = Stored(self.stored.session, self._settings.basis, resume.to_bytes(), now_text(), setpoint)
+        self._store.save(self.stored)
+        self.resume = resume
+        self._publish(self._settings.own_topic("resume"), self.stored.frame, self.stored.time)
+        if isinstance(resume, DeviceResume | ResumeGone):
+            self.offers.resumed(resume)
+        elif isinstance(resume, AuctioneerResume):
+            self._asking.answered()
+
+    def _publish(self, topic: str, payload: bytes, moment: str) -> None:
+        assert self.stored is not None
+        self._link.publish(Publication(topic, payload, ((TIME, moment), (SESSION, self.stored.session.id))))
+
+    def _time_of(self, index: int) -> str:
+        """When the clearing of this index was, "" if that was not told."""
+        if self._settings.sort == "auctioneer":
+            assert self.stored is not None
+            return self.stored.time
+        return self._times.get(index, "")
+
+    def _tell_control(self, setpoint: Setpoint) -> None:
+        """Stores a setpoint and then tells it, so that after a restart the control is told none that is older."""
+        assert self.stored is not None
+        told = setpoint_bytes(setpoint, self._settings.basis, self._time_of(setpoint.index))
+        self.stored = replace(self.stored, setpoint=told.decode())
+        self._store.save(self.stored)
+        self._tell_setpoint()
+
+    def _tell_setpoint(self) -> None:
+        """Tells the control the stored setpoint, if there is one."""
+        assert self.stored is not None
+        told = self.stored.setpoint.encode()
+        if told and self._control is not None:
+            self._control.write(told)
+        if told:
+            self._publish(self._settings.own_topic("setpoint"), told, json.loads(told)["time"])
+
+    def _say_lacking(self) -> None:
+        """Says which children are awaited, not more often than once in a while."""
+        now = time.monotonic()
+        if now < self._lines_from or not isinstance(self.resume, RelayResume | AuctioneerResume):
+            return
+        self._lines_from = now + BETWEEN_LINES
+        children = ", ".join(map(str, self.children.lacking(self.resume.numbers)))
+        self._say(f"waits for the bids of children {children}, which were in the newest sum: are their nodes up?")

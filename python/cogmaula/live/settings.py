@@ -1,0 +1,223 @@
+"""The settings of a node: from a TOML file, from options, or from Python. docs/LIVE.md has them in a table."""
+
+from __future__ import annotations
+
+import os
+import tomllib
+from collections.abc import Mapping
+from dataclasses import dataclass, field, fields
+from pathlib import Path
+from typing import Any, cast
+
+from ..cluster import Basis
+from .errors import BadSettings
+from .frames import CHILDREN, MOST, Sort
+from .topics import Topics, require_name, require_prefix
+
+SORTS: tuple[Sort, ...] = ("auctioneer", "relay", "device")
+PASSWORD_VARIABLE, LIVE_VARIABLE = "COGMAULA_PASSWORD", "COGMAULA_LIVE"
+
+
+@dataclass(frozen=True)
+class BrokerSettings:
+    """How to reach the broker.
+
+    port:          by default 8883 with TLS and 1883 without
+    tls:           whether the connection is by TLS; a CA or a certificate makes it so
+    ca:            the file of the CA that signed the broker's certificate; without it those of the system count
+    certificate:   the file of the node's own certificate, and `key` that of its key
+    password_file: a file whose first line is the password; else the environment variable COGMAULA_PASSWORD
+    keepalive:     seconds; a connection that is silent for 1.5 times as long is lost
+    """
+
+    host: str = "127.0.0.1"
+    port: int | None = None
+    prefix: str = "market"
+    user: str | None = None
+    password_file: str | None = None
+    tls: bool = False
+    ca: str | None = None
+    certificate: str | None = None
+    key: str | None = None
+    keepalive: int = 10
+
+    def __post_init__(self) -> None:
+        """Raises BadSettings."""
+        require_prefix(self.prefix)
+        if self.port is not None and not 1 <= self.port <= 65_535:
+            raise BadSettings(f"broker.port is {self.port}: give 1 to 65535")
+        if not 1 <= self.keepalive <= 65_535:
+            raise BadSettings(f"broker.keepalive is {self.keepalive}: give 1 to 65535 seconds")
+        if (self.certificate is None) != (self.key is None):
+            raise BadSettings("broker.certificate and broker.key go together: give both or neither")
+
+    @property
+    def with_tls(self) -> bool:
+        """Whether the connection is by TLS."""
+        return self.tls or self.ca is not None or self.certificate is not None
+
+    @property
+    def port_due(self) -> int:
+        """The port, by default that of MQTT with or without TLS."""
+        return self.port or (8883 if self.with_tls else 1883)
+
+    @property
+    def address(self) -> str:
+        """The broker as lines name it."""
+        return f"{self.host}:{self.port_due}"
+
+    def password(self) -> str | None:
+        """The password now, or None. Raises OSError if its file cannot be read."""
+        if self.password_file is not None:
+            return Path(self.password_file).read_text().partition("\n")[0]
+        return os.environ.get(PASSWORD_VARIABLE)
+
+
+@dataclass(frozen=True)
+class Settings:
+    """One node of a market.
+
+    name:     the node in topics
+    state:    the folder of its stored Resume
+    basis:    the market's prices
+    live:     the program `live`
+    parent:   the name of the node above, of a relay and a device
+    child:    its own number there, 1 to 256
+    floor:    the least power that a relay announces, in watts, at most 0; ceiling the greatest, at least 0
+    period:   the seconds from one Clear or Send to the next, by the clock; None asks after news
+    pause:    the least seconds between two of them if they come after news
+    validity: the seconds after which a device whose control is silent leaves; None keeps its bid
+    new_session: whether an auctioneer begins a new session
+    leave:    whether a device leaves and the node then ends
+    """
+
+    sort: Sort
+    name: str
+    state: str
+    basis: Basis
+    live: str = "live"
+    parent: str | None = None
+    child: int | None = None
+    floor: int = -MOST
+    ceiling: int = MOST
+    period: float | None = None
+    pause: float = 1.0
+    validity: float | None = None
+    new_session: bool = False
+    leave: bool = False
+    broker: BrokerSettings = field(default_factory=BrokerSettings)
+
+    def __post_init__(self) -> None:
+        """Raises BadSettings."""
+        require_name(self.name, "name")
+        self._require_place()
+        self._require_times()
+        self._require_basis()
+        if not -MOST <= self.floor <= 0 <= self.ceiling <= MOST:
+            raise BadSettings(f"floor and ceiling are {self.floor} and {self.ceiling}: give -{MOST} to 0 and 0 to {MOST} watts")
+        if (self.new_session and self.sort != "auctioneer") or (self.leave and self.sort != "device"):
+            raise BadSettings("new_session is for an auctioneer, and leave for a device")
+
+    def _require_place(self) -> None:
+        if self.sort == "auctioneer":
+            if self.parent is not None or self.child is not None:
+                raise BadSettings("an auctioneer has no parent and no child number: take them out")
+            return
+        if self.parent is None or self.child is None:
+            raise BadSettings(f"a {self.sort} needs parent, the name of the node above, and child, its own number there")
+        if require_name(self.parent, "parent") == self.name:
+            raise BadSettings(f"parent is the node itself, {self.name}")
+        if not 1 <= self.child <= CHILDREN:
+            raise BadSettings(f"child is {self.child}: give 1 to {CHILDREN}")
+
+    def _require_times(self) -> None:
+        for name, value in (("period", self.period), ("pause", self.pause), ("validity", self.validity)):
+            if value is not None and not 0.01 <= value <= 1e9:
+                raise BadSettings(f"{name} is {value}: give 0.01 seconds or more")
+
+    def _require_basis(self) -> None:
+        basis = self.basis
+        if not (2 <= basis.steps <= 1_000 and -MOST <= basis.min < basis.max <= MOST):
+            raise BadSettings(f"the basis is {basis}: give 2 to 1000 steps from min to a greater max, within ±{MOST}")
+        if (basis.max - basis.min) % (basis.steps - 1):
+            raise BadSettings(f"the basis is {basis}: max - min has to be a multiple of steps - 1")
+
+    @property
+    def topics(self) -> Topics:
+        """The topics of the market."""
+        return Topics(self.broker.prefix)
+
+    def own_topic(self, what: str) -> str:
+        """One of the node's own topics: its `bid` and its `price` are its parent's, the others such as `state` its own."""
+        if what in ("bid", "price"):
+            assert self.parent is not None and self.child is not None
+            below = self.topics.bid if what == "bid" else self.topics.price
+            return below(self.parent, self.child)
+        return self.topics.of(self.name, what)
+
+    @property
+    def command(self) -> list[str]:
+        """The command line of the node's service."""
+        match self.sort:
+            case "auctioneer":
+                return [self.live, "auctioneer"]
+            case "device":
+                return [self.live, "device", str(self.child)]
+            case _:
+                return [self.live, "relay", str(self.child), str(self.floor), str(self.ceiling)]
+
+
+# The settings by the names of the tables of a TOML file.
+_TABLES = ("node", "basis", "broker")
+
+
+def read_toml(path: str | os.PathLike[str]) -> dict[str, dict[str, Any]]:
+    """The tables of a file. Raises BadSettings if it is no TOML or has another table, and OSError."""
+    try:
+        told = tomllib.loads(Path(path).read_text())
+    except (tomllib.TOMLDecodeError, UnicodeDecodeError) as error:
+        raise BadSettings(f"{path}: {error}") from None
+    for name, table in told.items():
+        if name not in _TABLES or not isinstance(table, dict):
+            raise BadSettings(f"{path}: {name} is not known there: a file has the tables [node], [basis] and [broker]")
+    return told
+
+
+def settings_of(sort: Sort, tables: Mapping[str, Mapping[str, Any]]) -> Settings:
+    """The settings that the tables `node`, `basis` and `broker` tell. Raises BadSettings."""
+    node = dict(tables.get("node", {}))
+    node.setdefault("live", os.environ.get(LIVE_VARIABLE) or "live")
+    basis = _made(Basis, tables.get("basis", {}), "basis")
+    broker = _made(BrokerSettings, tables.get("broker", {}), "broker")
+    if {"sort", "basis", "broker"} & node.keys():
+        raise BadSettings("node has a member sort, basis or broker: the command says the sort, and the others are tables")
+    return cast(Settings, _made(Settings, {**node, "sort": sort, "basis": basis, "broker": broker}, "node"))
+
+
+def _made(kind: type[Any], table: Mapping[str, Any], name: str) -> Any:
+    """The value of a dataclass that a table tells."""
+    known = {it.name: str(it.type) for it in fields(kind)}
+    for member, value in table.items():
+        if member not in known:
+            raise BadSettings(f"{name}.{member} is not known: {', '.join(sorted(known))} are")
+        _require_type(f"{name}.{member}", value, known[member])
+    try:
+        return kind(**table)
+    except TypeError as error:
+        lacking = ", ".join(f"{name}.{it}" for it in known if f"'{it}'" in str(error))
+        raise BadSettings(f"{lacking or error} is missing") from None
+
+
+_WORDS = {"str": "a text", "int": "a whole number", "float": "a number", "bool": "true or false"}
+
+
+def _require_type(name: str, value: object, due: str) -> None:
+    """Raises BadSettings if a value is not of the type that a field's annotation names."""
+    word = due.partition(" ")[0]
+    if word not in _WORDS:
+        return
+    kinds: dict[str, tuple[type, ...]] = {"str": (str,), "int": (int,), "float": (int, float), "bool": (bool,)}
+    if value is None and "None" in due:
+        return
+    if not isinstance(value, kinds[word]) or (isinstance(value, bool) and word != "bool"):
+        raise BadSettings(f"{name} is {value!r}: give {_WORDS[word]}")

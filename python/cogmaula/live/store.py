@@ -1,0 +1,122 @@
+"""A node's Resume on disk: one file for each session of the auctioneer, replaced as a whole, checked when it is read.
+
+A file has a line that says what it is, the SHA-256 of all behind it, a line of JSON, and the bytes of the Resume or ResumeGone.
+The JSON has the node, its sort, the session and the basis that the Resume is of, the time it was stored, the frame's length in
+bytes, and the newest setpoint of a device.
+"""
+
+from __future__ import annotations
+
+import fcntl
+import hashlib
+import json
+import os
+from dataclasses import dataclass
+from pathlib import Path
+
+from ..cluster import Basis
+from .errors import BadMessage, BadStore
+from .frames import Sort
+from .sessions import Session
+
+FIRST_LINE = b"cogmaula resume 1\n"
+SUFFIX = ".resume"
+
+
+@dataclass(frozen=True)
+class Stored:
+    """A Resume that was read.
+
+    frame:    the bytes of the Resume or ResumeGone, empty if the node has given none in this session
+    time:     when it was stored (RFC 3339, UTC)
+    setpoint: the newest setpoint of a device as its control was told it, in JSON, "" without one
+    """
+
+    session: Session
+    basis: Basis
+    frame: bytes
+    time: str
+    setpoint: str = ""
+
+
+class Store:
+    """The folder of one node's Resumes. One process alone has it at a time."""
+
+    def __init__(self, folder: str | os.PathLike[str], node: str, sort: Sort) -> None:
+        """Makes the folder if it is missing, and takes it. Raises BadStore if another process has it, and OSError."""
+        self.folder = Path(folder)
+        self.node = node
+        self.sort = sort
+        self.folder.mkdir(mode=0o700, parents=True, exist_ok=True)
+        self._lock = os.open(self.folder / "lock", os.O_RDWR | os.O_CREAT | os.O_CLOEXEC, 0o600)
+        try:
+            fcntl.flock(self._lock, fcntl.LOCK_EX | fcntl.LOCK_NB)
+        except OSError:
+            os.close(self._lock)
+            raise BadStore(f"{self.folder} is in use by another process: end it first, since a node runs once") from None
+
+    def close(self) -> None:
+        """Lets go of the folder."""
+        os.close(self._lock)
+
+    def path(self, session: Session) -> Path:
+        """The file of a session."""
+        return self.folder / f"{session.id}{SUFFIX}"
+
+    def save(self, stored: Stored) -> None:
+        """Replaces the session's file, safely: once this returns, a crash of the machine leaves the new Resume. Raises OSError."""
+        fresh = self.folder / "fresh"
+        with open(fresh, "wb") as file:
+            file.write(self._bytes_of(stored))
+            file.flush()
+            os.fsync(file.fileno())
+        os.replace(fresh, self.path(stored.session))
+        folder = os.open(self.folder, os.O_RDONLY | os.O_DIRECTORY)
+        try:
+            os.fsync(folder)
+        finally:
+            os.close(folder)
+
+    def load(self, session: Session) -> Stored | None:
+        """The Resume of a session, or None if there is no file. Raises BadStore if it is damaged, and OSError."""
+        return self._read(self.path(session)) if self.path(session).exists() else None
+
+    def newest(self) -> Stored | None:
+        """The Resume of the newest session, or None if there is no file. Raises BadStore and OSError."""
+        found = [self._read(it) for it in sorted(self.folder.glob(f"*{SUFFIX}"))]
+        return max(found, key=lambda it: it.session.order) if found else None
+
+    def _bytes_of(self, stored: Stored) -> bytes:
+        told = {
+            "node": self.node,
+            "sort": self.sort,
+            "session": stored.session.id,
+            "begun": stored.session.begun,
+            "min": stored.basis.min,
+            "max": stored.basis.max,
+            "steps": stored.basis.steps,
+            "time": stored.time,
+            "length": len(stored.frame),
+            "setpoint": stored.setpoint,
+        }
+        behind = json.dumps(told).encode() + b"\n" + stored.frame
+        return FIRST_LINE + hashlib.sha256(behind).hexdigest().encode() + b"\n" + behind
+
+    def _read(self, path: Path) -> Stored:
+        first, checksum, behind = (path.read_bytes().split(b"\n", 2) + [b"", b""])[:3]
+        line, _, frame = behind.partition(b"\n")
+        damaged = BadStore(f"{path} is damaged: bring it back as it was, or move it away, and the broker's copy counts")
+        if first + b"\n" != FIRST_LINE or checksum != hashlib.sha256(behind).hexdigest().encode():
+            raise damaged
+        try:
+            told = json.loads(line)
+            session = Session(str(told["session"]), str(told["begun"]))
+            basis = Basis(int(told["min"]), int(told["max"]), int(told["steps"]))
+            length, node, sort, time, setpoint = (told[it] for it in ("length", "node", "sort", "time", "setpoint"))
+        except (ValueError, KeyError, TypeError, BadMessage):
+            raise damaged from None
+        if length != len(frame):
+            raise damaged
+        if (node, sort) != (self.node, self.sort):
+            raise BadStore(f"{path} is of the {sort} {node}, and this is the {self.sort} {self.node}: give another folder")
+        return Stored(session, basis, frame, str(time), str(setpoint))

@@ -1,0 +1,60 @@
+"""The topics of a market at its broker. docs/LIVE.md has them in a table."""
+
+from __future__ import annotations
+
+import re
+from dataclasses import dataclass
+
+from .errors import BadSettings
+from .frames import CHILDREN
+
+_NAME = re.compile(r"[A-Za-z0-9_-]{1,64}")
+_CHILD = re.compile(r"[1-9][0-9]{0,2}")
+# Names that stand for something else in a topic.
+_TAKEN = {"basis"}
+
+
+def require_name(text: str, what: str) -> str:
+    """The name of a node. Raises BadSettings if it is no name."""
+    if not _NAME.fullmatch(text) or text in _TAKEN:
+        raise BadSettings(f"{what} is {text!r}: give 1 to 64 letters, digits, _ and -, and not {' or '.join(sorted(_TAKEN))}")
+    return text
+
+
+def require_prefix(text: str) -> str:
+    """The prefix of a market's topics, such as `market` or `towns/delft`. Raises BadSettings if it is none."""
+    if not all(_NAME.fullmatch(it) for it in text.split("/")):
+        raise BadSettings(f"the prefix is {text!r}: give names of letters, digits, _ and -, with / between them")
+    return text
+
+
+@dataclass(frozen=True)
+class Topics:
+    """The topics below a prefix."""
+
+    prefix: str
+
+    @property
+    def basis(self) -> str:
+        """The basis and the session, published by the auctioneer."""
+        return f"{self.prefix}/basis"
+
+    def of(self, node: str, what: str) -> str:
+        """A topic of one node: its `state`, `resume`, `offer` or `setpoint`."""
+        return f"{self.prefix}/{node}/{what}"
+
+    def bid(self, parent: str, child: int | str) -> str:
+        """The newest Bid or Gone of a child, for its parent. The child + stands for all."""
+        return f"{self.prefix}/{parent}/bid/{child}"
+
+    def price(self, parent: str, child: int | str) -> str:
+        """The newest Price for a child, of its parent. The child + stands for all."""
+        return f"{self.prefix}/{parent}/price/{child}"
+
+    def child_of(self, topic: str, node: str, what: str) -> int | None:
+        """The child that a topic of this node's bids or prices is of, or None if it is no such topic."""
+        above, _, name = topic.rpartition("/")
+        if above != f"{self.prefix}/{node}/{what}" or not _CHILD.fullmatch(name):
+            return None
+        child = int(name)
+        return child if child <= CHILDREN else None
