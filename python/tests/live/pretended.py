@@ -1,0 +1,209 @@
+"""A pretended connection and a pretended service, which tests drive by hand, and the small market that the tests have."""
+
+from __future__ import annotations
+
+import time
+
+from cogmaula.cluster import Basis
+from cogmaula.live.broker import Arrived, Confirmed, Message, Settled
+from cogmaula.live.frames import Bid, Gone
+from cogmaula.live.messages import BasisMessage, StateMessage
+from cogmaula.live.service import Came, Ended
+from cogmaula.live.sessions import Session
+from cogmaula.live.node import Node
+from cogmaula.live.settings import Settings
+from cogmaula.live.store import Store, Stored
+
+BASIS, BASIS_TOPIC = Basis(0, 9, steps=2), "market/basis"
+SESSION = Session("0123456789abcdef", "2026-01-31T06:00:00.000Z")
+LATER = Session("fedcba9876543210", "2026-01-31T07:00:00.000Z")
+MOMENT = "2026-01-31T06:30:00.000Z"
+MARKED = (("time", MOMENT), ("session", SESSION.id))
+
+
+def settings(sort, folder, **more):
+    """Settings of a node: the auctioneer `auctioneer`, its child 3, the relay `street`, and child 2 of that, the device `house`."""
+    place = {
+        "auctioneer": {"name": "auctioneer"},
+        "relay": {"name": "street", "parent": "auctioneer", "child": 3, "floor": -1000, "ceiling": 1000},
+        "device": {"name": "house", "parent": "street", "child": 2},
+    }[sort]
+    return Settings(**{"sort": sort, "state": str(folder), "basis": BASIS, "pause": 0.01, **place, **more})
+
+
+class PretendedLink:
+    """A connection that the test settles, loses and lets messages come by. `sent` has all publications in their order."""
+
+    def __init__(self, notify, say):
+        self.notify, self.say = notify, say
+        self.sent, self.newest, self.held, self.inbox = [], {}, set(), {}
+        self.is_settled = self.confirms = False
+        self.closed = self.will = self.topics = None
+
+    def start(self, topics, will, marker):
+        self.topics, self.will, self.marker = topics, will, marker
+
+    def publish(self, publication):
+        self.newest[publication.topic] = publication
+        self.sent.append(publication)
+        if not self.confirms:
+            self.held.add(publication.topic)
+
+    def publish_all(self):
+        for it in list(self.newest.values()):
+            self.publish(it)
+
+    def kept(self, topic):
+        return self.newest.get(topic)
+
+    def is_unconfirmed(self, topics):
+        return bool(self.held & set(topics))
+
+    def taken(self):
+        found, self.inbox = list(self.inbox.values()), {}
+        return found
+
+    def tick(self):
+        pass
+
+    def close(self, last, seconds):
+        self.closed = last
+
+    # What the test does.
+
+    def comes(self, topic, payload, properties=MARKED, **more):
+        self.inbox[topic] = Message(topic, payload, dict(properties), **more)
+        self.notify(Arrived())
+
+    def settles(self):
+        self.is_settled = True
+        self.notify(Settled())
+
+    def confirm(self):
+        self.held.clear()
+        self.notify(Confirmed())
+
+    def of(self, topic):
+        """The payloads that were published under a topic, in their order."""
+        return [it.payload for it in self.sent if it.topic == topic]
+
+
+class PretendedService:
+    """A service that the test lets write. `read` has all that it was fed, the Resume first."""
+
+    made = []
+
+    def __init__(self, command, sort, basis, resume, notify):
+        self.command, self.sort, self.basis, self.notify = command, sort, basis, notify
+        self.read, self.is_killed, self.is_closed = [resume], False, False
+        PretendedService.made.append(self)
+
+    def feed(self, data):
+        if data:
+            self.read.append(data)
+
+    def kill(self):
+        self.is_killed = True
+
+    def close(self, seconds):
+        self.is_closed = True
+
+    def writes(self, *frames):
+        for it in frames:
+            self.notify(Came(self, it))
+
+    def ends(self, why="status 4"):
+        self.notify(Ended(self, why))
+
+
+class PretendedControl:
+    """A control of which the test sees the setpoints."""
+
+    def __init__(self):
+        self.told = []
+
+    def start(self, notify, say):
+        self.offer = notify
+
+    def write(self, setpoint):
+        self.told.append(setpoint)
+
+
+class Joined:
+    """A node of a sort, with all its pretended parts. What it says is in `said`."""
+
+    def __init__(self, sort, folder, **more):
+        self.said = []
+        self.control = PretendedControl() if sort == "device" else None
+        self.node = Node(settings(sort, folder, **more), self.control, self.said.append, self._linked)
+        self.link.start(self.node._subscriptions(), None, self.node._marker)
+        if self.control is not None:
+            self.control.start(lambda data: self.node.serving.offers.take(data, time.monotonic()), self.said.append)
+
+    def _linked(self, notify, say):
+        self.link = PretendedLink(notify, say)
+        return self.link
+
+    def begun(self, *retained):
+        """Lets the connection settle, with the basis and these topics and payloads retained."""
+        if self.node.settings.sort != "auctioneer":
+            self.link.comes(BASIS_TOPIC, basis_payload())
+        for topic, payload in retained:
+            self.link.comes(topic, payload, retained=True)
+        self.link.settles()
+        return self.turned()
+
+    def turned(self):
+        turn(self.node)
+        return self
+
+    def writes(self, *frames):
+        self.service.writes(*frames)
+        return self.turned()
+
+    @property
+    def service(self):
+        return self.node.serving.service
+
+    def stored(self, session=SESSION):
+        """The bytes of the Resume on disk."""
+        found = self.node._store.load(session)
+        return None if found is None else found.frame
+
+
+def saved(folder, sort, name, frame, session=SESSION, basis=BASIS, setpoint=""):
+    """Puts a Resume on a node's disk."""
+    store = Store(folder / sort, name, sort)
+    store.save(Stored(session, basis, frame.to_bytes(), MOMENT, setpoint))
+    store.close()
+
+
+def turn(node):
+    """Lets a node take all that has come, and then look at the clock once."""
+    while not node._events.empty():
+        node._take(node._events.get())
+        node.serving.tick(time.monotonic())
+    node.serving.tick(time.monotonic())
+    node._tell_state()
+
+
+def basis_payload(session=SESSION, basis=BASIS):
+    return BasisMessage(basis, session).to_bytes()
+
+
+def state_payload(run, started, state="up", why=""):
+    return StateMessage(state, run, started, SESSION.id, MOMENT, why).to_bytes()
+
+
+def bid(child, number, *demands):
+    return Bid(child, number, demands)
+
+
+def gone(child, number):
+    return Gone(child, number)
+
+
+def numbers(*pairs):
+    """The numbers of 256 children, 0 for one that is not given."""
+    found = dict(pairs)
+    return tuple(found.get(it, 0) for it in range(1, 257))

@@ -1,0 +1,272 @@
+"""The connection to a real mosquitto: logins, TLS, rights, a broker that is away, and what is published again."""
+
+from __future__ import annotations
+
+import queue
+import subprocess
+import time
+
+import pytest
+from brokers import SECONDS, Certificates, Mosquitto, Onlooker, free_port, passwords, require_broker, wait_until
+
+from cogmaula.live.broker import Broker, Confirmed, Publication, Settled, _words_of
+from cogmaula.live.settings import BrokerSettings
+
+STATE, WILL = "market/house/state", Publication("market/house/state", b"down")
+TOPICS = [STATE, "market/house/setpoint", "market/street/price/2"]
+
+
+@pytest.fixture(autouse=True)
+def needs():
+    require_broker()
+
+
+class Connected:
+    """A connection of a test, with all events and lines of it."""
+
+    def __init__(self, port, topics=TOPICS, **more):
+        self.events, self.said, self.marks = queue.Queue(), [], 0
+        settings = BrokerSettings(port=port, **more)
+        self.broker = Broker(settings, "cogmaula.market.house", self.events.put, self.said.append, pauses=(0.1, 0.4), patience=0.5)
+        self.broker.start(topics, WILL, self.mark)
+
+    def mark(self):
+        self.marks += 1
+        return Publication(STATE, f"up {self.marks}".encode())
+
+    def settled(self):
+        """Waits until the connection is settled."""
+        while not isinstance(self.events.get(timeout=SECONDS), Settled):
+            pass
+        self.broker.publish_all()
+        return self
+
+    def says(self, words, seconds=SECONDS):
+        wait_until(lambda: self.ticked() and any(words in it for it in self.said), words, seconds)
+
+    def ticked(self):
+        self.broker.tick()
+        self.broker.taken()
+        return True
+
+    def __enter__(self):
+        return self
+
+    def __exit__(self, *_):
+        self.broker.close(Publication(STATE, b"ended"), 1.0)
+
+
+def test_it_settles_publishes_confirms_and_reads(tmp_path):
+    with Mosquitto(tmp_path) as broker, Onlooker(broker.port) as onlooker:
+        onlooker.publish("market/street/price/2", b"old", UserProperty=[("time", "t"), ("session", "s")], MessageExpiryInterval=600)
+        with Connected(broker.port).settled() as one:
+            (found,) = [it for it in one.broker.taken() if it.topic == "market/street/price/2"]
+            assert (found.payload, found.properties, found.retained) == (b"old", {"time": "t", "session": "s"}, True)
+            assert 590 <= found.expiry <= 600
+            one.broker.publish(Publication("market/house/setpoint", b"5", (("time", "now"),)))
+            assert one.broker.is_unconfirmed(["market/house/setpoint"])
+            while not isinstance(one.events.get(timeout=SECONDS), Confirmed) or one.broker.is_unconfirmed(["market/house/setpoint"]):
+                pass
+            wait_until(lambda: onlooker.newest.get("market/house/setpoint") == (b"5", {"time": "now"}), "the setpoint")
+            onlooker.publish("market/street/price/2", b"new")
+            wait_until(lambda: any(it.payload == b"new" and not it.retained for it in one.broker.taken()), "the message")
+            assert one.broker.kept("market/house/setpoint").payload == b"5"
+            assert one.broker.is_settled
+        wait_until(lambda: onlooker.payload(STATE) == b"ended", "the last message")
+        assert one.said == []
+
+
+def test_the_newest_alone_of_a_topic_waits(tmp_path):
+    with Mosquitto(tmp_path) as broker, Onlooker(broker.port) as onlooker, Connected(broker.port).settled() as one:
+        for number in range(50):
+            onlooker.publish("market/street/price/2", str(number).encode())
+        onlooker.publish(STATE, b"of somebody else")
+        time.sleep(0.3)
+        found = one.broker.taken()
+        assert [it.payload for it in found] == [b"49", b"of somebody else"]
+        assert one.broker.taken() == []
+
+
+def test_a_lost_process_is_told_by_its_last_will(tmp_path):
+    with Mosquitto(tmp_path) as broker, Onlooker(broker.port) as onlooker:
+        one = Connected(broker.port).settled()
+        one.broker._closing.set()
+        one.broker._client._sock_close()
+        wait_until(lambda: onlooker.payload(STATE) == b"down", "the last will")
+
+
+def test_a_broker_that_is_away_is_waited_for_with_growing_pauses(tmp_path):
+    port = free_port()
+    with Connected(port) as one:
+        one.broker.publish(Publication("market/house/setpoint", b"first"))
+        one.says("The next try is in 0.4 s")
+        assert [it.rpartition(" in ")[2] for it in one.said[:4]] == ["0.1 s", "0.2 s", "0.4 s", "0.4 s"][: len(one.said[:4])]
+        assert one.said[0].startswith(f"127.0.0.1:{port}: the broker cannot be reached (Connection refused)")
+        one.broker.publish(Publication("market/house/setpoint", b"second"))
+        assert one.broker.is_unconfirmed(["market/house/setpoint"])
+        with Mosquitto(tmp_path, port=port) as broker, Onlooker(port) as onlooker:
+            one.settled()
+            wait_until(lambda: onlooker.payload("market/house/setpoint") == b"second", "the newest")
+            assert (b"first" not in [it[1] for it in onlooker.all])
+            broker.kill()
+            one.says("the connection was lost")
+            assert not one.broker.is_settled
+            one.broker.publish(Publication("market/house/setpoint", b"third"))
+            broker.start()
+            one.settled()
+            wait_until(lambda: onlooker.payload("market/house/setpoint") == b"third", "the newest again")
+            wait_until(lambda: not one.broker.is_unconfirmed(["market/house/setpoint"]), "the confirmation")
+
+
+def test_a_login(tmp_path, monkeypatch):
+    file = passwords(tmp_path, house="right word")
+    (tmp_path / "password").write_text("right word\n")
+    with Mosquitto(tmp_path, f"password_file {file}") as broker:
+        with Connected(broker.port, user="house", password_file=str(tmp_path / "password")).settled():
+            pass
+        monkeypatch.setenv("COGMAULA_PASSWORD", "right word")
+        with Connected(broker.port, user="house").settled():
+            pass
+        monkeypatch.setenv("COGMAULA_PASSWORD", "wrong")
+        with Connected(broker.port, user="house") as one:
+            one.says("the broker refuses the login of house")
+            monkeypatch.setenv("COGMAULA_PASSWORD", "right word")
+            one.settled()
+        with Connected(broker.port) as one:
+            one.says("the broker refuses a login without a user")
+        with Connected(broker.port, user="house", password_file="/nowhere/password") as one:
+            one.says("/nowhere/password cannot be read: No such file or directory")
+
+
+@pytest.fixture(scope="module")
+def certificates(tmp_path_factory):
+    return Certificates(tmp_path_factory.mktemp("certificates"))
+
+
+def tls_lines(certificates, host, *more):
+    certificate, key = certificates.make(f"server-{host}", host)
+    return [f"cafile {certificates.ca}", f"certfile {certificate}", f"keyfile {key}", *more]
+
+
+def test_tls_with_the_ca_that_signed(tmp_path, certificates):
+    with Mosquitto(tmp_path, *tls_lines(certificates, "127.0.0.1")) as broker:
+        with Connected(broker.port, ca=certificates.ca).settled() as one:
+            assert one.said == []
+        other = Certificates(tmp_path / "other", "other")
+        with Connected(broker.port, ca=other.ca) as one:
+            one.says("the broker's certificate is not trusted (")
+            one.says("give the CA that signed it by ca")
+        with Connected(broker.port, tls=True) as one:
+            one.says("the broker's certificate is not trusted")
+        with Connected(broker.port) as one:
+            one.says("does the broker want TLS, or a certificate of the node?")
+        with Connected(broker.port, ca="/nowhere/ca.crt") as one:
+            one.says("a file of the settings cannot be read")
+
+
+def test_tls_of_another_host(tmp_path, certificates):
+    with Mosquitto(tmp_path, *tls_lines(certificates, "elsewhere.example")) as broker, Connected(broker.port, ca=certificates.ca) as one:
+        one.says("is not valid for '127.0.0.1'")
+
+
+def test_tls_to_a_broker_without_it(tmp_path, certificates):
+    with Mosquitto(tmp_path) as broker, Connected(broker.port, ca=certificates.ca) as one:
+        one.says("TLS")
+
+
+def test_a_certificate_of_the_node(tmp_path, certificates):
+    lines = tls_lines(certificates, "127.0.0.1", "require_certificate true", "use_identity_as_username true", "allow_anonymous false")
+    certificate, key = certificates.make("house")
+    with Mosquitto(tmp_path, *lines) as broker:
+        with Connected(broker.port, ca=certificates.ca, certificate=certificate, key=key).settled():
+            pass
+        with Connected(broker.port, ca=certificates.ca) as one:
+            one.says("The next try is in")
+            assert any("certificate" in it for it in one.said)
+
+
+def rights(tmp_path, text):
+    (tmp_path / "rights").write_text(text)
+    return [f"password_file {passwords(tmp_path, house='word')}", f"acl_file {tmp_path / 'rights'}"]
+
+
+def test_a_node_that_may_not_write_or_read_its_own_topics(tmp_path, monkeypatch):
+    monkeypatch.setenv("COGMAULA_PASSWORD", "word")
+    lines = rights(tmp_path, "user house\ntopic read market/house/#\n")
+    with Mosquitto(tmp_path, *lines) as broker, Connected(broker.port, user="house") as one:
+        one.says("does not give market/house/state back: let house write and read this topic")
+        marks = one.marks
+        one.says("does not give")
+        wait_until(lambda: one.ticked() and one.marks > marks, "the next marker")
+        assert not one.broker.is_settled
+        assert len([it for it in one.said if "market/house/state" in it]) == 1
+
+
+def test_a_topic_that_is_not_allowed(tmp_path, monkeypatch):
+    monkeypatch.setenv("COGMAULA_PASSWORD", "word")
+    lines = rights(tmp_path, "user house\ntopic readwrite market/house/#\ntopic read market/street/bid/2\n")
+    topics = [*TOPICS, "market/street/bid/2"]
+    with Mosquitto(tmp_path, *lines) as broker, Connected(broker.port, topics, user="house").settled() as one:
+        one.broker.publish(Publication("market/house/setpoint", b"1"))
+        one.broker.publish(Publication("market/street/bid/2", b"2"))
+        one.says("does not give market/street/bid/2 back: let house write and read this topic")
+        wait_until(lambda: not one.broker.is_unconfirmed(["market/street/bid/2"]), "what is refused holds nothing up")
+        assert not any("setpoint" in it for it in one.said)
+
+
+class Code:
+    """A reason of MQTT 5, as paho tells one."""
+
+    def __init__(self, value):
+        self.value = value
+
+    def __str__(self):
+        return f"reason {self.value}"
+
+
+def test_other_reasons_have_their_lines():
+    """Those that mosquitto gives no cause for: a busy server, a topic that may not be read, an end with a reason."""
+    said = []
+    broker = Broker(BrokerSettings(), "nobody", lambda _: None, said.append)
+    broker._topics = ["market/basis", "market/x"]
+    words = []
+    broker._on_connect(None, Code(137), words)
+    assert words == ["the broker refuses the connection: reason 137"]
+    broker._on_subscribe([Code(1), Code(135)])
+    assert said == ["127.0.0.1:1883 does not let this node read market/x (reason 135)"]
+    assert broker._words_of_end(Code(139)) == "the broker ends the connection: reason 139"
+    assert _words_of(ValueError("no host"), broker.settings) == "the settings of the broker are refused: no host"
+
+
+def test_two_connections_of_one_name_take_it_from_each_other(tmp_path):
+    with Mosquitto(tmp_path) as broker, Connected(broker.port).settled() as one, Connected(broker.port).settled():
+        one.says("The next try is in")
+
+
+def test_closing_takes_less_than_a_second(tmp_path):
+    with Mosquitto(tmp_path) as broker:
+        one = Connected(broker.port).settled()
+        begin = time.monotonic()
+        one.broker.close(Publication(STATE, b"ended"), 0.5)
+        assert time.monotonic() - begin < 0.6
+        one = Connected(broker.port).settled()
+        broker.process.send_signal(19)
+        begin = time.monotonic()
+        one.broker.close(Publication(STATE, b"ended"), 0.5)
+        assert time.monotonic() - begin < 1
+        broker.process.send_signal(18)
+
+
+def test_a_flood_takes_no_memory(tmp_path):
+    with Mosquitto(tmp_path, "max_queued_messages 0") as broker, Connected(broker.port, [*TOPICS, "flood/+"]).settled() as one:
+        sizes = "x" * 30_000
+        subprocess.run(["mosquitto_pub", "-p", str(broker.port), "-t", "flood/long", "-m", 2 * sizes], check=True)
+        with Onlooker(broker.port, "nothing") as other:
+            for number in range(3_000):
+                other.client.publish(f"flood/{number}", b"x", 1)
+            other.publish("flood/0", b"last")
+        wait_until(lambda: len(one.broker._inbox) == 2_048, "as many topics as may wait")
+        time.sleep(0.3)
+        found = one.broker.taken()
+        assert len(found) == 2_048
+        assert not any(it.topic == "flood/long" for it in found)

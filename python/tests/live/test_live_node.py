@@ -1,0 +1,457 @@
+"""A node over a pretended connection and a pretended service: what it stores, publishes and feeds, and in which order."""
+
+from __future__ import annotations
+
+import json
+import time
+
+import pytest
+from pretended import BASIS_TOPIC, LATER, MARKED, MOMENT, SESSION, basis_payload, bid, gone, numbers, saved, state_payload
+
+from cogmaula.cluster import Basis
+from cogmaula.live import NodeRefused, serving
+from cogmaula.live.frames import (
+    AuctioneerResume,
+    Clear,
+    DeviceResume,
+    Dropped,
+    Fault,
+    Leave,
+    NotCaughtUp,
+    NotChanged,
+    Offer,
+    Old,
+    OutOfNumbers,
+    Price,
+    RelayResume,
+    ResumeGone,
+    Send,
+    Setpoint,
+    WindowFull,
+)
+
+RELAY_RESUME = RelayResume(1, 0, 0, numbers((1, 1), (2, 4)))
+
+
+# The order of storing and publishing.
+
+
+def test_a_resume_is_on_disk_and_at_the_broker_before_the_bid_behind_it(joined):
+    one = joined("relay").begun()
+    one.service.writes(RELAY_RESUME)
+    one.service.writes(bid(3, 1, 21, -3))
+    topics = len(one.link.sent)
+    assert one.stored() is None
+    one.turned()
+    assert one.stored() == RELAY_RESUME.to_bytes()
+    behind = one.link.sent[topics:]
+    assert [it.topic for it in behind] == ["market/street/resume", "market/auctioneer/bid/3"]
+    assert behind[1].payload == bid(3, 1, 21, -3).to_bytes()
+    assert dict(behind[1].properties)["session"] == SESSION.id
+
+
+def test_nothing_behind_a_resume_that_cannot_be_stored_is_published(joined, monkeypatch):
+    one = joined("relay").begun()
+
+    def full(_):
+        raise OSError(28, "No space left on device")
+
+    monkeypatch.setattr(one.node._store, "save", full)
+    with pytest.raises(OSError, match="No space left"):
+        one.writes(RELAY_RESUME, bid(3, 1, 21, -3))
+    assert one.link.of("market/auctioneer/bid/3") == []
+    assert one.link.of("market/street/resume") == []
+
+
+def test_a_relays_resume_waits_until_the_broker_has_the_prices_before_it(joined):
+    one = joined("relay").begun(("market/street/bid/1", bid(1, 1, 5, -3).to_bytes()), ("market/street/bid/2", bid(2, 4, 16, 0).to_bytes()))
+    one.writes(RELAY_RESUME, bid(3, 1, 21, -3))
+    one.link.confirm()
+    one.turned()
+    passed = RelayResume(1, 1, 7, RELAY_RESUME.numbers)
+    one.writes(Price(1, 1, 7, 1), Price(2, 4, 7, 1), passed)
+    assert one.link.of("market/street/price/2") == [Price(2, 4, 7, 1).to_bytes()]
+    assert one.stored() == RELAY_RESUME.to_bytes(), "the prices are not at the broker"
+    one.link.confirm()
+    one.turned()
+    assert one.stored() == passed.to_bytes()
+
+
+def test_a_devices_resume_waits_until_the_broker_has_the_setpoint_before_it(joined):
+    one = joined("device").begun()
+    one.writes(DeviceResume(1, 0, (500, -300)), bid(2, 1, 500, -300), Setpoint(1, 7, 1, -300), DeviceResume(1, 7, (500, -300)))
+    assert one.stored() == DeviceResume(1, 0, (500, -300)).to_bytes()
+    one.link.confirm()
+    one.turned()
+    assert one.stored() == DeviceResume(1, 7, (500, -300)).to_bytes()
+
+
+def test_what_a_service_wrote_and_was_not_handled_is_lost_with_it(joined):
+    one = joined("relay").begun(("market/street/bid/1", bid(1, 1, 5, -3).to_bytes()))
+    one.writes(Price(1, 1, 7, 1), RELAY_RESUME, bid(3, 1, 21, -3))
+    before = one.service
+    before.ends()
+    one.turned()
+    one.link.confirm()
+    before.writes(bid(3, 9, 0, 0))
+    one.turned()
+    assert one.stored() is None
+    assert one.link.of("market/auctioneer/bid/3") == []
+
+
+# A service that ends.
+
+
+def test_a_service_that_ends_starts_anew_from_its_newest_resume_with_all_that_it_hears(joined):
+    one = joined("relay").begun(("market/street/bid/1", bid(1, 1, 5, -3).to_bytes()))
+    one.link.comes("market/auctioneer/price/3", Price(3, 1, 7, 1).to_bytes())
+    one.turned()
+    assert one.service.read == [b"", bid(1, 1, 5, -3).to_bytes(), Send().to_bytes(), Price(3, 1, 7, 1).to_bytes()]
+    one.writes(RELAY_RESUME, bid(3, 1, 21, -3))
+    before = one.service
+    before.ends("a signal ended it: SIGKILL")
+    one.turned()
+    assert one.service is None
+    assert "a signal ended it: SIGKILL; it starts anew from its newest Resume in 0.5 s" in one.said[-1]
+    assert json.loads(one.link.of("market/street/state")[-1])["state"] == "down"
+    time.sleep(0.6)
+    one.turned()
+    assert one.service is not before
+    assert one.service.read[:3] == [RELAY_RESUME.to_bytes(), bid(1, 1, 5, -3).to_bytes(), Price(3, 1, 7, 1).to_bytes()]
+    assert json.loads(one.link.of("market/street/state")[-1])["state"] == "up"
+
+
+def test_a_service_that_lived_starts_anew_at_once(joined, monkeypatch):
+    one = joined("auctioneer").begun()
+    one.node.serving._born -= 60
+    one.service.ends()
+    one.turned()
+    assert one.service is not None
+    one.service.ends()
+    one.turned()
+    assert one.node.serving._pause == 0.5
+    monkeypatch.setattr(one.node.serving, "_restart_at", 0)
+    one.turned()
+    one.service.ends()
+    one.turned()
+    assert one.node.serving._pause == 1.0
+
+
+def test_a_service_that_cannot_be_started_is_told(joined, monkeypatch):
+    from cogmaula.live import LiveError
+
+    def missing(*_):
+        raise LiveError("live cannot be started: No such file or directory")
+
+    monkeypatch.setattr(serving, "Service", missing)
+    one = joined("auctioneer").begun()
+    assert "live cannot be started" in one.said[-1]
+    assert json.loads(one.link.of("market/auctioneer/state")[-1])["state"] == "down"
+
+
+@pytest.mark.parametrize("sort", ["auctioneer", "device"])
+def test_a_service_that_does_not_answer_is_ended(joined, monkeypatch, sort):
+    one = joined(sort).begun()
+    if sort == "auctioneer":
+        one.link.comes("market/auctioneer/bid/1", bid(1, 1, 5, -3).to_bytes(), [("session", one.node.session.id)])
+    else:
+        one.control.offer(b'{"power": [5, -3]}')
+    one.turned()
+    assert one.service.read[-1] in (Clear().to_bytes(), Offer((5, -3)).to_bytes())
+    monkeypatch.setattr(serving, "PATIENCE", 0.05)
+    one.turned()
+    assert not one.service.is_killed
+    time.sleep(0.1)
+    one.turned()
+    assert one.service.is_killed
+    assert "has not answered" in one.said[-1]
+
+
+def test_a_fault_of_the_service_is_told(joined):
+    one = joined("auctioneer").begun()
+    one.writes(Fault(11))
+    assert one.said[-1] == "the service refused the frame at byte 11"
+
+
+# What a relay and an auctioneer hear, ask and tell.
+
+
+def test_an_auctioneer_clears_after_news_and_tells_prices_with_time_and_session(joined):
+    one = joined("auctioneer").begun()
+    session = one.node.session
+    own = [("session", session.id)]
+    one.link.comes("market/auctioneer/bid/3", bid(3, 1, 21, -3).to_bytes(), own)
+    one.turned()
+    assert one.service.read == [b"", bid(3, 1, 21, -3).to_bytes(), Clear().to_bytes()]
+    resume = AuctioneerResume(1, numbers((3, 1)))
+    one.writes(resume, Price(3, 1, 1, 1))
+    price = one.link.newest["market/auctioneer/price/3"]
+    assert price.payload == Price(3, 1, 1, 1).to_bytes()
+    assert dict(price.properties) == {"time": one.node._store.load(session).time, "session": session.id}
+    assert one.stored(session) == resume.to_bytes()
+
+
+def test_answers_that_ask_for_patience(joined):
+    one = joined("relay").begun(("market/street/bid/1", bid(1, 1, 5, -3).to_bytes()))
+    sends = [it for it in one.service.read if it == Send().to_bytes()]
+    assert len(sends) == 1
+    for frame, is_again in ((NotChanged(), False), (WindowFull(), True), (NotCaughtUp(), True), (Old(1, 1), False)):
+        one.node.serving._asking.asked(time.monotonic())
+        count = len(one.service.read)
+        one.writes(frame)
+        time.sleep(0.02)
+        one.turned()
+        assert (len(one.service.read) > count) == is_again, frame
+        one.node.serving._asking.answered()
+    one.writes(Dropped(1, 1))
+
+
+def test_who_is_awaited_is_told_once_in_a_while(joined, tmp_path):
+    saved(tmp_path, "relay", "street", RELAY_RESUME)
+    one = joined("relay").begun(("market/street/bid/1", bid(1, 1, 5, -3).to_bytes()))
+    one.writes(NotCaughtUp(), NotCaughtUp())
+    told = [it for it in one.said if "waits for the bids of children 2," in it]
+    assert len(told) == 1
+
+
+def test_no_number_is_left(joined):
+    one = joined("auctioneer").begun()
+    one.writes(OutOfNumbers())
+    assert "begin a new session" in one.said[-1]
+
+
+def test_a_child_that_left_is_told_no_price_and_its_retained_price_is_cleared(joined):
+    one = joined("relay").begun(("market/street/bid/1", bid(1, 1, 5, -3).to_bytes()))
+    one.writes(Price(1, 1, 7, 1))
+    one.link.comes("market/street/bid/1", gone(1, 2).to_bytes())
+    one.turned()
+    one.writes(Price(1, 1, 8, 1))
+    assert one.link.of("market/street/price/1") == [Price(1, 1, 7, 1).to_bytes(), b""]
+    one.link.comes("market/street/bid/1", bid(1, 3, 5, -3).to_bytes())
+    one.turned()
+    one.writes(Price(1, 3, 9, 0))
+    assert one.link.of("market/street/price/1")[-1] == Price(1, 3, 9, 0).to_bytes()
+
+
+def test_an_older_price_does_not_take_the_place_of_a_newer_one(joined):
+    one = joined("relay").begun(("market/street/bid/1", bid(1, 1, 5, -3).to_bytes()))
+    one.writes(Price(1, 1, 7, 1), Price(1, 1, 6, 0), Price(1, 1, 7, 1))
+    assert one.link.of("market/street/price/1") == [Price(1, 1, 7, 1).to_bytes()] * 2
+
+
+def test_prices_that_the_broker_retains_are_kept_if_the_child_is_there(joined):
+    one = joined("relay").begun(
+        ("market/street/price/1", Price(1, 1, 7, 1).to_bytes()),
+        ("market/street/price/2", Price(2, 4, 7, 1).to_bytes()),
+        ("market/street/bid/2", gone(2, 5).to_bytes()),
+    )
+    assert one.link.newest["market/street/price/1"].payload == Price(1, 1, 7, 1).to_bytes()
+    assert dict(one.link.newest["market/street/price/1"].properties) == dict(MARKED)
+    assert one.link.newest["market/street/price/2"].payload == b""
+    one.link.comes("market/street/price/1", b"")
+    one.link.comes("market/street/price/9", Price(9, 1, 7, 1).to_bytes(), [("session", LATER.id)])
+    one.turned()
+    assert one.link.newest["market/street/price/1"].payload == Price(1, 1, 7, 1).to_bytes()
+    assert one.link.newest["market/street/price/9"].payload == b""
+
+
+WRONG_BIDS = [
+    (b"", MARKED, None),
+    (b"hello", MARKED, "is no bid, and is not taken"),
+    (bid(1, 1, 5, 6).to_bytes(), MARKED, "a demand is above the one of the step before"),
+    (bid(2, 1, 5, -3).to_bytes(), MARKED, "names child 2"),
+    (bid(1, 1, 5, -3).to_bytes(), (), "is of session (none)"),
+    (bid(1, 1, 5, -3).to_bytes(), (("session", LATER.id),), f"is of session {LATER.id}"),
+]
+
+
+@pytest.mark.parametrize(("payload", "properties", "why"), WRONG_BIDS)
+def test_a_bid_that_would_end_the_service_never_reaches_it(joined, payload, properties, why):
+    one = joined("relay").begun()
+    for _ in range(2):
+        one.link.comes("market/street/bid/1", payload, properties)
+        one.turned()
+    assert one.service.read == [b""]
+    assert [it for it in one.said if "market/street/bid/1" in it] == ([] if why is None else [it for it in one.said[-1:] if why in it])
+
+
+def test_a_child_behind_its_number_is_told_and_not_fed(joined):
+    one = joined("relay").begun(("market/street/bid/1", bid(1, 9, 5, -3).to_bytes()))
+    count = len(one.service.read)
+    one.link.comes("market/street/bid/1", bid(1, 4, 5, -3).to_bytes())
+    one.turned()
+    assert len(one.service.read) == count
+    assert "number 4 behind 9: the child came back with an older Resume" in one.said[-1]
+
+
+def test_topics_of_nobody_are_dropped(joined):
+    one = joined("relay").begun()
+    for topic in ("market/street/bid/x", "market/street/bid/257"):
+        one.link.comes(topic, bid(1, 1, 5, -3).to_bytes())
+    one.turned()
+    assert one.service.read == [b""]
+
+
+WRONG_PRICES = [
+    (b"", MARKED, False),
+    (Price(3, 1, 7, 1).to_bytes(), (), False),
+    (Price(3, 1, 7, 2).to_bytes(), MARKED, True),
+    (Price(4, 1, 7, 1).to_bytes(), MARKED, True),
+]
+
+
+@pytest.mark.parametrize(("payload", "properties", "is_told"), WRONG_PRICES)
+def test_a_price_that_would_end_the_service_never_reaches_it(joined, payload, properties, is_told):
+    one = joined("relay").begun()
+    one.link.comes("market/auctioneer/price/3", payload, properties)
+    one.turned()
+    assert one.service.read == [b""]
+    assert any("market/auctioneer/price/3 is not taken" in it for it in one.said) == is_told
+
+
+def test_a_relay_passes_the_time_of_the_clearing_on(joined):
+    one = joined("relay").begun(("market/street/bid/1", bid(1, 1, 5, -3).to_bytes()))
+    for index in (7, 8, 6):
+        one.link.comes("market/auctioneer/price/3", Price(3, 1, index, 1).to_bytes(), [("time", f"time {index}"), ("session", SESSION.id)])
+        one.turned()
+    assert Price(3, 1, 6, 1).to_bytes() not in one.service.read, "a newer one came"
+    one.writes(Price(1, 1, 7, 1))
+    assert dict(one.link.newest["market/street/price/1"].properties)["time"] == "time 7"
+    one.writes(Price(1, 1, 9, 1))
+    assert dict(one.link.newest["market/street/price/1"].properties)["time"] == ""
+    for index in range(10, 90):
+        one.link.comes("market/auctioneer/price/3", Price(3, 1, index, 1).to_bytes(), [("time", "t"), ("session", SESSION.id)])
+        one.turned()
+    assert len(one.node.serving._times) == 64
+
+
+# A device and its control.
+
+
+def test_offers_become_bids_and_prices_become_setpoints(joined):
+    one = joined("device").begun()
+    one.control.offer(b'{"power": [500, -300]}')
+    one.turned()
+    assert one.service.read == [b"", Offer((500, -300)).to_bytes()]
+    one.writes(DeviceResume(1, 0, (500, -300)), bid(2, 1, 500, -300))
+    one.link.comes("market/street/price/2", Price(2, 1, 7, 1).to_bytes())
+    one.turned()
+    assert one.service.read[-1] == Price(2, 1, 7, 1).to_bytes()
+    one.writes(Setpoint(1, 7, 1, -300))
+    due = {"power": -300, "step": 1, "price": 9, "bid": 1, "clearing": 7, "time": MOMENT}
+    assert [json.loads(it) for it in one.control.told] == [due]
+    assert json.loads(one.link.newest["market/house/setpoint"].payload) == due
+
+
+def test_offers_come_by_the_topic_too(joined):
+    one = joined("device").begun(("market/house/offer", b'{"power": [500, -300]}'))
+    assert one.service.read == [b"", Offer((500, -300)).to_bytes()]
+    one.writes(DeviceResume(1, 0, (500, -300)), bid(2, 1, 500, -300))
+    one.link.comes("market/house/offer", b"")
+    one.link.comes("market/house/offer", b'{"leave": true}')
+    one.turned()
+    assert one.service.read[-1] == Leave().to_bytes()
+    one.writes(ResumeGone(2, 0), gone(2, 2))
+    assert one.link.of("market/street/bid/2")[-1] == gone(2, 2).to_bytes()
+    assert one.link.newest["market/house/setpoint"].payload == b""
+
+
+def test_an_offer_that_the_broker_sends_again_does_not_say_that_the_control_lives(joined):
+    one = joined("device", validity=100).begun(("market/house/offer", b'{"power": [500, -300]}'))
+    until = one.node.serving.offers._until
+    one.link.comes("market/house/offer", b'{"power": [500, -300]}', retained=True)
+    one.turned()
+    assert one.node.serving.offers._until == until
+    one.link.comes("market/house/offer", b'{"power": [500, -300]}')
+    one.turned()
+    assert one.node.serving.offers._until > until
+
+
+SETPOINT = b'{"power": -300, "clearing": 7, "time": "2026-01-31T06:30:00.000Z"}'
+
+
+def test_a_device_that_comes_back_tells_the_control_its_stored_setpoint_and_not_the_brokers(joined, tmp_path):
+    saved(tmp_path, "device", "house", DeviceResume(1, 6, (500, -300)), setpoint=SETPOINT.decode())
+    one = joined("device").begun(("market/house/setpoint", b'{"power": 500, "clearing": 6, "time": "t"}'))
+    assert one.control.told == [SETPOINT]
+    assert set(one.link.of("market/house/setpoint")) == {SETPOINT}
+    assert one.service.read == [DeviceResume(1, 6, (500, -300)).to_bytes()]
+
+
+def test_a_setpoint_is_stored_before_it_is_told(joined, monkeypatch):
+    one = joined("device").begun()
+    one.writes(DeviceResume(1, 0, (500, -300)), bid(2, 1, 500, -300))
+    done = []
+    save, write = one.node._store.save, one.control.write
+    monkeypatch.setattr(one.node._store, "save", lambda it: (done.append(it.setpoint), save(it)))
+    monkeypatch.setattr(one.control, "write", lambda it: (done.append("told"), write(it)))
+    one.writes(Setpoint(1, 7, 1, -300))
+    assert done == [one.control.told[0].decode(), "told"]
+    assert one.stored() == DeviceResume(1, 0, (500, -300)).to_bytes()
+    one.link.confirm()
+    one.writes(DeviceResume(1, 7, (500, -300)))
+    assert one.node._store.newest().setpoint == one.control.told[0].decode()
+    one.writes(ResumeGone(2, 7), gone(2, 2))
+    assert one.node._store.newest().setpoint == ""
+
+
+@pytest.mark.parametrize(
+    ("payload", "session", "told"),
+    [(SETPOINT, SESSION, [SETPOINT]), (SETPOINT, LATER, []), (b"nonsense", SESSION, []), (b'{"power": 3}', SESSION, []), (b"", SESSION, [])],
+)
+def test_a_device_without_a_disk_takes_the_brokers_setpoint_of_its_session(joined, payload, session, told):
+    one = joined("device")
+    one.link.comes("market/house/setpoint", payload, [("session", session.id)])
+    one.begun(("market/house/resume", DeviceResume(1, 7, (500, -300)).to_bytes()))
+    assert one.control.told == told
+
+
+def test_the_full_window_lets_an_offer_wait(joined):
+    one = joined("device").begun()
+    one.control.offer(b'{"power": [500, -300]}')
+    one.turned()
+    one.writes(WindowFull())
+    assert one.service.read == [b"", Offer((500, -300)).to_bytes()]
+    one.node.serving.offers._not_before = 0
+    one.turned()
+    assert one.service.read == [b"", Offer((500, -300)).to_bytes(), Offer((500, -300)).to_bytes()]
+
+
+def test_a_device_told_to_leave_ends_once_the_broker_knows(joined, tmp_path):
+    saved(tmp_path, "device", "house", DeviceResume(4, 2, (5, -3)))
+    one = joined("device", leave=True).begun(("market/house/offer", b'{"power": [500, -300]}'))
+    assert one.service.read == [DeviceResume(4, 2, (5, -3)).to_bytes(), Leave().to_bytes()]
+    one.writes(bid(2, 4, 5, -3), ResumeGone(5, 2))
+    one.link.confirm()
+    assert not one.node.serving.has_left, "its Gone is not there yet"
+    one.writes(gone(2, 5))
+    assert not one.node.serving.has_left
+    one.link.confirm()
+    assert one.node.serving.has_left
+
+
+def test_the_parents_state_is_told_when_it_changes(joined):
+    one = joined("device").begun()
+    topic = "market/street/state"
+    for payload in (
+        state_payload("a" * 16, MOMENT),
+        state_payload("a" * 16, MOMENT, "down", "the connection was lost"),
+        state_payload("a" * 16, MOMENT, "down", "the connection was lost"),
+        b"nonsense",
+        b"",
+        state_payload("a" * 16, MOMENT, "down", "stopped"),
+        state_payload("b" * 16, MOMENT),
+    ):
+        one.link.comes(topic, payload)
+        one.turned()
+    told = [it for it in one.said if it.startswith("street")]
+    assert told == ["street is down: the connection was lost", "street is down: stopped", "street is up again"]
+    assert any(it.startswith(topic) for it in one.said)
+
+
+def test_another_basis_is_refused(joined):
+    one = joined("device")
+    one.link.comes(BASIS_TOPIC, basis_payload(basis=Basis(0, 99, 100)))
+    one.link.settles()
+    with pytest.raises(NodeRefused, match="the market's basis is .*steps=100.*, and this node has .*steps=2"):
+        one.turned()

@@ -1,0 +1,358 @@
+"""The parts of a node by themselves: when it asks, what it makes of offers, its sessions, its messages, and its control."""
+
+from __future__ import annotations
+
+import json
+import os
+import queue
+import time
+from datetime import datetime, timedelta, timezone
+
+import pytest
+from pretended import BASIS, LATER, MOMENT, SESSION
+
+from cogmaula.live.asking import Asking
+from cogmaula.live.control import StandardControl
+from cogmaula.live.errors import BadMessage
+from cogmaula.live.frames import DeviceResume, Leave, Offer, ResumeGone, Setpoint
+from cogmaula.live.messages import BasisMessage, OfferMessage, StateMessage, setpoint_bytes
+from cogmaula.live.offers import Offers
+from cogmaula.live.sessions import Session, new_session, time_of, time_text
+
+# When to ask.
+
+
+def test_after_news_not_faster_than_the_pause():
+    asking = Asking(None, 2.0)
+    assert not asking.is_due(0)
+    asking.has_news()
+    assert asking.is_due(0)
+    asking.asked(0)
+    asking.has_news()
+    assert not asking.is_due(5), "what was asked is not answered"
+    asking.answered()
+    assert not asking.is_due(1.9)
+    assert asking.is_due(2)
+
+
+def test_by_the_clock_whether_there_is_news_or_not():
+    asking = Asking(60, 1.0)
+    assert asking.is_due(0)
+    asking.asked(0)
+    asking.answered()
+    asking.has_news()
+    assert not asking.is_due(59)
+    assert asking.is_due(60)
+
+
+@pytest.mark.parametrize("period", [None, 60])
+def test_what_was_refused_is_asked_again_after_the_pause(period):
+    asking = Asking(period, 1.0)
+    asking.has_news()
+    asking.asked(10)
+    asking.answered(again=True)
+    assert not asking.is_due(10.9)
+    assert asking.is_due(11)
+    asking.asked(11)
+    asking.answered()
+    assert not asking.is_due(12)
+
+
+def test_a_service_that_starts_anew_is_asked_again():
+    asking = Asking(60, 1.0)
+    asking.asked(0)
+    asking.forget()
+    assert asking.since is None
+    assert asking.is_due(1)
+    asking.asked(1)
+    asking.answered()
+    asking.forget()
+    assert not asking.is_due(30), "by the clock, with nothing unanswered"
+
+
+# Offers.
+
+
+def offers(validity=None):
+    said = []
+    one = Offers(2, validity, said.append)
+    one.begin(None, 0)
+    return one, said
+
+
+def power(*watts, **more):
+    return json.dumps({"power": watts, **more}).encode()
+
+
+def test_an_offer_is_fed_once_and_the_newest_alone_waits():
+    one, _ = offers()
+    assert one.due(0) is None
+    one.take(power(5, -3), 0)
+    assert one.due(0) == Offer((5, -3))
+    one.take(power(4, -3), 1)
+    one.take(power(3, -3), 2)
+    assert one.due(2) is None, "the first is not answered"
+    one.resumed(DeviceResume(1, 0, (5, -3)))
+    assert one.due(3) == Offer((3, -3))
+    one.resumed(DeviceResume(2, 0, (3, -3)))
+    assert one.due(4) is None
+    assert one.current == (3, -3)
+
+
+def test_a_resume_after_a_price_answers_no_offer():
+    one, _ = offers()
+    one.take(power(5, -3), 0)
+    one.due(0)
+    one.resumed(DeviceResume(1, 0, (5, -3)))
+    one.take(power(4, -3), 1)
+    assert one.due(1) == Offer((4, -3))
+    one.resumed(DeviceResume(1, 9, (5, -3)))
+    assert one.since == 1
+    one.resumed(DeviceResume(2, 9, (4, -3)))
+    assert one.since is None
+    assert one.due(2) is None
+
+
+def test_the_same_offer_again_is_no_new_bid():
+    one, _ = offers()
+    one.take(power(5, -3), 0)
+    one.due(0)
+    one.take(power(5, -3), 0)
+    one.resumed(DeviceResume(1, 0, (5, -3)))
+    one.take(power(5, -3), 0)
+    assert one.due(1) is None
+
+
+def test_an_offer_that_the_full_window_refused_is_made_again_later():
+    one, _ = offers()
+    one.take(power(5, -3), 0)
+    one.due(0)
+    one.refused(0)
+    assert one.due(0.9) is None
+    assert one.due(1) == Offer((5, -3))
+
+
+def test_a_service_that_ended_is_asked_again():
+    one, _ = offers()
+    one.take(power(5, -3), 0)
+    one.due(0)
+    one.forget()
+    assert one.due(0) == Offer((5, -3))
+
+
+def test_a_silent_control_lets_its_device_leave_once():
+    one, said = offers(validity=10)
+    one.take(power(5, -3), 0)
+    one.due(0)
+    one.resumed(DeviceResume(1, 0, (5, -3)))
+    one.take(power(5, -3), 8)
+    assert one.due(18) is None
+    assert one.due(18.1) == Leave()
+    one.resumed(ResumeGone(2, 0))
+    assert one.due(30) is None
+    assert len(said) == 1
+    assert "silent" in said[0]
+    assert one.is_out
+    one.take(power(5, -3), 40)
+    assert one.due(40) == Offer((5, -3))
+
+
+def test_an_agent_that_comes_back_has_the_validity_anew():
+    one, _ = offers(validity=10)
+    one.begin(DeviceResume(4, 2, (5, -3)), 100)
+    assert one.due(110) is None
+    assert one.due(110.1) == Leave()
+
+
+def test_a_message_may_say_for_how_long_it_holds():
+    one, _ = offers()
+    one.take(power(5, -3), 0, expiry=7)
+    one.due(0)
+    one.resumed(DeviceResume(1, 0, (5, -3)))
+    assert one.due(7) is None
+    assert one.due(7.1) == Leave()
+
+
+def test_an_offer_is_as_old_as_it_says():
+    now = datetime.now(timezone.utc)
+    one, said = offers(validity=60)
+    one.take(power(5, -3, time=time_text(now - timedelta(seconds=61))), 0)
+    assert one.due(0) is None
+    assert "older than its validity" in said[0]
+    one.take(power(5, -3, time=time_text(now - timedelta(seconds=50))), 0)
+    assert one.due(0) == Offer((5, -3))
+    one.resumed(DeviceResume(1, 0, (5, -3)))
+    assert one.due(5) is None
+    assert one.due(11) == Leave()
+
+
+def test_leaving_twice_is_leaving_once():
+    one, _ = offers()
+    one.take(b'{"leave": true}', 0)
+    assert one.due(0) is None, "it never offered"
+    one.take(power(5, -3), 0)
+    one.due(0)
+    one.take(b'{"leave": true}', 0)
+    one.resumed(DeviceResume(1, 0, (5, -3)))
+    assert one.due(0) == Leave()
+    one.resumed(ResumeGone(2, 0))
+    one.take(b'{"leave": true}', 0)
+    assert one.due(0) is None
+    assert one.is_out
+
+
+def test_a_wanted_leave_without_an_offer_is_done():
+    one, _ = offers()
+    one._wanted = Leave()
+    assert one.due(0) is None
+    assert one.is_out
+
+
+def test_without_numbers_an_offer_is_let_go():
+    one, _ = offers()
+    one.take(power(5, -3), 0)
+    one.due(0)
+    one.ended()
+    assert one.due(5) is None
+
+
+# Messages.
+
+WRONG_OFFERS = [
+    (b"", "no JSON"),
+    (b"[" * 100_000, "no JSON"),
+    (b"[1, 2]", "no JSON object"),
+    (b"{}", "an offer is"),
+    (b'{"power": [1, 0], "leave": true}', "an offer is"),
+    (b'{"leave": false}', "an offer is"),
+    (b'{"power": 7}', "an offer is"),
+    (b'{"power": [1.5, 0]}', "no whole number"),
+    (b'{"power": [true, false]}', "no whole number"),
+    (b'{"power": [1, 0, 0]}', "3 demands are there, and 2 are due"),
+    (b'{"power": [0, 1]}', "above the one of the step before"),
+    (b'{"power": [1000000001, 0]}', "outside"),
+    (b'{"power": [1, 0], "time": 7}', "the offer has no text time"),
+    (b'{"power": [1, 0], "time": "today"}', "is no time"),
+    (b'{"power": [1, 0], "time": "2026-01-31T06:30:00"}', "has no zone"),
+]
+
+
+@pytest.mark.parametrize(("data", "why"), WRONG_OFFERS)
+def test_a_message_that_is_no_offer(data, why):
+    with pytest.raises(BadMessage, match=why):
+        OfferMessage.of(data, 2)
+    one, said = offers()
+    one.take(data, 0)
+    assert one.due(0) is None
+    assert len(said) == 1
+
+
+def test_messages_come_back():
+    basis = BasisMessage(BASIS, SESSION)
+    assert BasisMessage.of(basis.to_bytes()) == basis
+    state = StateMessage("down", "0" * 16, MOMENT, SESSION.id, MOMENT, "stopped")
+    assert StateMessage.of(state.to_bytes()) == state
+    assert OfferMessage.of(b'{"leave": true, "time": "2026-01-31T06:30:00Z"}', 2) == OfferMessage(Leave(), "2026-01-31T06:30:00Z")
+
+
+@pytest.mark.parametrize(
+    ("kind", "change", "why"),
+    [
+        (BasisMessage, {"min": "0"}, "no whole number min"),
+        (BasisMessage, {"session": 3}, "no text session"),
+        (BasisMessage, {"session": "../../x"}, "is no session"),
+        (BasisMessage, {"begun": "yesterday"}, "is no time"),
+        (StateMessage, {"state": "asleep"}, "neither up nor down"),
+        (StateMessage, {"started": "then"}, "is no time"),
+        (StateMessage, {"why": None}, "no text why"),
+    ],
+)
+def test_a_message_of_another_form(kind, change, why):
+    made = BasisMessage(BASIS, SESSION) if kind is BasisMessage else StateMessage("up", "0" * 16, MOMENT, "", MOMENT)
+    with pytest.raises(BadMessage, match=why):
+        kind.of(json.dumps(json.loads(made.to_bytes()) | change).encode())
+
+
+def test_a_setpoint_has_its_price():
+    assert json.loads(setpoint_bytes(Setpoint(3, 7, 1, -300), BASIS, MOMENT)) == {
+        "power": -300,
+        "step": 1,
+        "price": 9,
+        "bid": 3,
+        "clearing": 7,
+        "time": MOMENT,
+    }
+
+
+# Sessions.
+
+
+def test_sessions_rise_whatever_the_clock_says():
+    ahead = Session("0" * 16, time_text(datetime.now(timezone.utc) + timedelta(days=1)))
+    assert new_session(ahead).order > ahead.order
+    assert new_session(None).order < ahead.order
+    assert new_session(None) != new_session(None)
+    assert SESSION.order < LATER.order
+
+
+def test_times_are_of_a_zone():
+    assert time_of("2026-01-31T07:30:00+01:00") == time_of(MOMENT)
+    assert time_text(time_of("2026-01-31T07:30:00+01:00")) == MOMENT
+
+
+# The control at standard input and output.
+
+
+class Ends:
+    """Both ends of a control's input and output, and what it said."""
+
+    def __init__(self):
+        self.reads, self.into = os.pipe()
+        self.out_of, self.writes = os.pipe()
+        self.offered, self.said = queue.Queue(), queue.Queue()
+        self.control = StandardControl(self.reads, self.writes)
+        self.control.start(self.offered.put, self.said.put)
+
+
+def test_lines_come_in_and_go_out():
+    ends = Ends()
+    for piece in (b'{"power"', b': [1]}\n\n{"leave"', b": true}\nlast"):
+        os.write(ends.into, piece)
+        time.sleep(0.02)
+    os.close(ends.into)
+    assert [ends.offered.get(timeout=5) for _ in range(3)] == [b'{"power": [1]}', b'{"leave": true}', b"last"]
+    ends.control.write(b"one")
+    ends.control.write(b"two")
+    found = b""
+    while len(found) < 8:
+        found += os.read(ends.out_of, 100)
+    assert found == b"one\ntwo\n"
+
+
+def test_a_line_without_end_takes_no_memory():
+    ends = Ends()
+    os.write(ends.into, b"x" * 40_000)
+    assert "is above 32768 bytes" in ends.said.get(timeout=5)
+    os.write(ends.into, b"\n{}\n")
+    assert ends.offered.get(timeout=5) == b"{}"
+
+
+def test_a_reader_that_has_gone_is_told():
+    ends = Ends()
+    os.close(ends.out_of)
+    ends.control.write(b"one")
+    assert "setpoints go to the topic alone" in ends.said.get(timeout=5)
+
+
+def test_a_reader_that_does_not_read_holds_nobody_up():
+    ends = Ends()
+    for _ in range(3_000):
+        ends.control.write(b"x" * 1_000)
+    assert "nobody reads standard output" in ends.said.get(timeout=5)
+
+
+def test_an_input_that_cannot_be_read_is_told():
+    reads = os.open(os.curdir, os.O_RDONLY)
+    said = queue.Queue()
+    StandardControl(reads, 1).start(lambda _: None, said.put)
+    assert "standard input cannot be read" in said.get(timeout=5)
