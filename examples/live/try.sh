@@ -1,0 +1,74 @@
+#!/usr/bin/env bash
+# Runs the example on this machine: a broker with TLS, logins and rights, an auctioneer, a relay and two devices. Prints the
+# setpoints, and what the nodes say.
+#
+#     bash try.sh COGMAULA ..
+#
+# The words are the command line of the package, such as `cogmaula`, or `python3 -m cogmaula` beside a checkout. COGMAULA_LIVE names
+# the program live, unless the installed command does. It needs Debian's mosquitto, mosquitto-clients, openssl and python3-paho-mqtt.
+set -euo pipefail
+here="$(cd "$(dirname "$0")" && pwd)"
+PATH="$PATH:/usr/sbin"
+[ $# != 0 ] || set -- cogmaula
+work="$(mktemp -d)"
+started=()
+
+finish() {
+    for one in "${started[@]}"; do kill "$one" 2>/dev/null || true; done
+    for one in "${started[@]}"; do wait "$one" || true; done
+    rm -rf "$work"
+}
+trap finish EXIT
+
+# A file of the example for this machine alone.
+here_alone() {
+    sed "s#/etc/market#$work#; s#/var/lib/m[a-z]*#$work/state#; s#\"broker.example\"#\"127.0.0.1\"\nport = $port#
+        s#^listener .*#listener $port 127.0.0.1#" "$here/$1" >"$work/$1"
+}
+
+# Waits until a file has so many lines.
+wait_for_lines() {
+    for _ in $(seq 600); do
+        [ "$(wc -l <"$1")" -lt "$2" ] || return 0
+        sleep 0.1
+    done
+    echo "$1 has no $2 lines after a minute" >&2
+    cat "$work"/*.said "$work/broker.said" >&2
+    exit 1
+}
+
+port="$(python3 -c 'import socket; one = socket.socket(); one.bind(("127.0.0.1", 0)); print(one.getsockname()[1])')"
+bash "$here/keys.sh" "$work" 127.0.0.1 auctioneer street house store storecontrol operator
+for file in mosquitto.conf mosquitto.acl auctioneer.toml street.toml house.toml store.toml; do here_alone "$file"; done
+mkdir -p "$work/state"
+[ "$(id -u)" != 0 ] || echo "user root" >>"$work/mosquitto.conf"
+mosquitto -c "$work/mosquitto.conf" >"$work/broker.said" 2>&1 &
+started+=($!)
+
+# Starts a node, whose input comes from a pipe that stays open: SORT NAME.
+mkfifo "$work/house.offers"
+exec 3<>"$work/house.offers"
+"$@" node auctioneer --config "$work/auctioneer.toml" 2>"$work/auctioneer.said" &
+started+=($!)
+"$@" node relay --config "$work/street.toml" 2>"$work/street.said" &
+started+=($!)
+"$@" node device --config "$work/house.toml" <&3 >"$work/house.out" 2>"$work/house.said" &
+started+=($!)
+"$@" node device --config "$work/store.toml" </dev/null >"$work/store.out" 2>"$work/store.said" &
+started+=($!)
+
+# The house offers at its standard input. The control of the store offers by a topic.
+echo '{"power": [100, 100, 100, 100, 100, 100, 100, 100, 100, 100]}' >&3
+login=(-h 127.0.0.1 -p "$port" --cafile "$work/ca.crt" -u storecontrol -P "$(cat "$work/storecontrol.password")")
+for _ in $(seq 100); do
+    mosquitto_pub "${login[@]}" -q 1 -r -t market/store/offer -m '{"power": [0, 0, 0, 0, -150, -150, -150, -150, -150, -150]}' && break
+    sleep 0.2
+done
+wait_for_lines "$work/house.out" 1
+wait_for_lines "$work/store.out" 1
+before="$(wc -l <"$work/store.out")"
+echo '{"power": [200, 200, 200, 200, 200, 200, 200, 200, 100, 100]}' >&3
+wait_for_lines "$work/store.out" $((before + 1))
+sleep 1
+for name in house store; do sed "s/^/$name /" "$work/$name.out"; done
+cat "$work"/*.said | grep '^cogmaula' || true
