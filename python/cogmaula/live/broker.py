@@ -225,7 +225,8 @@ class Broker:
         """See Link."""
         end = time.monotonic() + seconds
         self.publish(last)
-        while self._settled is not None and self.is_unconfirmed([last.topic]) and time.monotonic() < end:
+        # Half of the time is for the confirmation, and the other for what ends the connection.
+        while self._settled is not None and self.is_unconfirmed([last.topic]) and time.monotonic() < end - seconds / 2:
             time.sleep(0.01)
         self._closing.set()
         client = self._client

@@ -102,7 +102,7 @@ class Node:
             why = str(error)
             raise
         finally:
-            self._link.close(self._state("down", why), LAST_SECONDS)
+            self._link.close(self._state("down", why), 2 * LAST_SECONDS)
             self.serving.end(why)
             self._store.close()
 
