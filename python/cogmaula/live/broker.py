@@ -315,7 +315,22 @@ class Broker:
         client.on_message = lambda it, _data, message: self._on_message(it, message)
         client.on_publish = lambda it, _data, mid: self._on_publish(it, mid)
         client.on_disconnect = lambda _it, _data, code, _more: self._on_disconnect(code, ended, words)
+        client.loop_forever = self._ending(client.loop_forever, ended, words)
         return client
+
+    def _ending(self, loop: Callable[..., Any], ended: threading.Event, words: list[str]) -> Callable[..., Any]:
+        """The loop of a client, which also ends the connection at what TLS raises: paho 1 does not catch that."""
+
+        def run(*arguments: object, **named: object) -> Any:
+            try:
+                return loop(*arguments, **named)
+            except OSError as error:
+                words.append(_words_of(error, self.settings))
+                return self._mqtt.MQTT_ERR_CONN_LOST
+            finally:
+                ended.set()
+
+        return run
 
     def _on_connect(self, client: Any, code: Any, words: list[str]) -> None:
         if code.value >= REFUSED:
@@ -378,7 +393,7 @@ def _words_of(error: Exception, settings: BrokerSettings) -> str:
     if isinstance(error, ssl.SSLCertVerificationError):
         return f"the broker's certificate is not trusted ({error.verify_message}): give the CA that signed it by ca, and its own host name"
     if isinstance(error, ssl.SSLError):
-        return f"TLS fails ({error.reason or error}): look at tls, ca, certificate, key and the port"
+        return f"TLS fails ({getattr(error, 'reason', None) or error}): look at tls, ca, certificate, key and the port"
     if isinstance(error, FileNotFoundError | PermissionError):
         return f"{error.filename or 'a file of the settings'} cannot be read: {error.strerror}"
     if isinstance(error, ConnectionResetError) and settings.with_tls:

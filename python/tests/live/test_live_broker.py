@@ -3,6 +3,7 @@
 from __future__ import annotations
 
 import queue
+import ssl
 import subprocess
 import time
 
@@ -183,6 +184,17 @@ def test_a_certificate_of_the_node(tmp_path, certificates):
         with Connected(broker.port, ca=certificates.ca) as one:
             one.says("The next try is in")
             assert any("certificate" in it for it in one.said)
+
+
+def test_what_tls_raises_behind_the_handshake_ends_a_connection(tmp_path, monkeypatch):
+    import paho.mqtt.client
+
+    def loop(*_arguments, **_named):
+        raise ssl.SSLError(1, "the certificate is required")
+
+    monkeypatch.setattr(paho.mqtt.client.Client, "loop_forever", loop)
+    with Mosquitto(tmp_path) as broker, Connected(broker.port) as one:
+        one.says("TLS fails (the certificate is required): look at tls, ca, certificate, key and the port. The next try is in")
 
 
 def rights(tmp_path, text):
