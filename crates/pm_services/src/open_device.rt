@@ -1,7 +1,7 @@
 //! A device's agent behind Hello: what it makes of each frame, and the bytes of its answers.
 
-ghost use Rattle.std.specs.Prelude.{◌≡◌, ◌+◌, ◌<◌, ◌≤◌, ◌^◌, ◌++◌, length, vec_len, vec_capacity, IfOk, IfSome};
-ghost use Rattle.std.specs.Prelude.{OnOk, OnErr};
+ghost use Rattle.std.specs.Prelude.{◌≡◌, ◌+◌, ◌<◌, ◌≤◌, ◌^◌, ◌++◌, length, vec_len, vec_capacity, IfOk};
+ghost use Rattle.std.specs.Prelude.{OnOk, OnErr, MatchOption};
 ghost use Rattle.std.specs.Option.{option_copied};
 ghost use Rattle.pm_base.specs.Limits.{demand_limit, most_steps};
 ghost use Rattle.pm_bid.specs.Bids.{AllWithinLimit};
@@ -67,7 +67,8 @@ fn copy_if_some(alloc: Global, demand: Option<&ArrayBid>) -> Result<Option<Array
 
 /// How many steps a bid has, at most 1000, and 0 where there is none.
 fn steps_if_some(demand: Option<&ArrayBid>) -> usize
-    ensures steps { IfSome (option_copied demand.entry) (λ bid. result ≡ length bid) }
+    ensures steps { MatchOption (option_copied demand.entry) (result ≡ 0)
+        (λ bid. result ≡ length bid) }
     ensures few { result ≤ most_steps }
 {
     match demand {

@@ -3,7 +3,7 @@ use Rattle.std.proofs.Common.{ap, length, ◌≤◌, arith, length-append}
 use Rattle.pm_base.specs.Limits.{most_steps}
 use Rattle.pm_wire.specs.Frames.{frame_bytes}
 use Rattle.pm_wire.specs.declared.frame.Frame.TheVariants.{Bid}
-use Rattle.pm_services.proofs.DeviceReplies.{bid_few}
+use Rattle.pm_services.proofs.RelayReplies.{bid_few}
 use Rattle.pm_services.proofs.open_device.send_again.Goals as goal
 
 pub returns-in-Some-clause-few : goal.returns-in-Some-clause-few

@@ -2,7 +2,7 @@
 use Rattle.std.proofs.Common.{ap, length, arith, length-append}
 use Rattle.pm_wire.specs.Frames.{frame_bytes}
 use Rattle.pm_wire.specs.declared.frame.Frame.TheVariants.{Bid}
-use Rattle.pm_services.proofs.DeviceReplies.{bid_few}
+use Rattle.pm_services.proofs.RelayReplies.{bid_few}
 use Rattle.pm_services.proofs.open_device.OpenDevice.send_offer.Goals as goal
 
 pub returns-in-Ok-clause-few : goal.returns-in-Ok-clause-few
