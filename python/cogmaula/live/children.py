@@ -62,7 +62,7 @@ class Children:
             return None
         before = self._newest.get(child)
         if before is not None and frame.number < before.number:
-            self._say_once(child, f"has number {frame.number} behind {before.number}: the child came back with an older Resume")
+            self._say_once(child, f"has number {frame.number}, below its last, {before.number}: the child came back with an older Resume")
             return None
         heard: Bid | Gone = frame
         self._newest[child] = heard

@@ -281,7 +281,7 @@ def test_a_child_behind_its_number_is_told_and_not_fed(joined):
     one.link.comes("market/street/bid/1", bid(1, 4, 5, -3).to_bytes())
     one.turned()
     assert len(one.service.read) == count
-    assert "number 4 behind 9: the child came back with an older Resume" in one.said[-1]
+    assert "number 4, below its last, 9: the child came back with an older Resume" in one.said[-1]
 
 
 def test_topics_of_nobody_are_dropped(joined):
