@@ -30,6 +30,8 @@ SCHEMA = "cluster.schema.json"
 MANUAL = "market.1"
 PAGE = "docs/CLUSTER_FILE.md"
 TERMS = "docs/DEFINITIONS.md"
+RELAY = "docs/RELAY.md"
+CLASSES = "docs/PYTHON.md"
 SCENE = "checks/oracle/scene.py"
 ORACLE = "checks/oracle/oracle.py"
 JUDGE = "checks/oracle/judge.py"
@@ -42,10 +44,14 @@ LARGE = "checks/make/limits.py"
 JOURNALS = "checks/make/journals.py"
 AUCTION = "checks/oracle/auction.py"
 PACKAGE = "python/cogmaula/limits.py"
+NAMES = "python/cogmaula/__init__.py"
 NODES = "python/cogmaula/nodes.py"
 STATES = "python/cogmaula/states.py"
 VILLAGE = "examples/village.json"
 GUIDE = "CONTRIBUTING.md"
+
+# Limits that pages write as a word.
+WORDS = {6: "six", 7: "seven", 8: "eight", 9: "nine", 10: "ten", 12: "twelve", 16: "sixteen"}
 
 HEATED = ("freezer", "heat_pump", "cogeneration")
 
@@ -137,13 +143,14 @@ def forms() -> Iterator[tuple[str, dict[str, Any]]]:
 
 @dataclass(frozen=True)
 class Said:
-    """A sentence or a row of a page that has the number and matches these words."""
+    """A sentence or a row of a page that has the number, or its word, and matches these words."""
 
     path: str
     words: str
 
     def findings(self, limit: str, number: int) -> Iterator[str]:
-        written = re.compile(rf"(?<![\d,.]){number:,}(?![\d]|,\d)|(?<![\d,.]){number}(?![\d]|,\d)")
+        digits = rf"(?<![\d,.])({number:,}|{number})(?![\d]|,\d)"
+        written = re.compile(rf"{digits}|\b{WORDS[number]}\b" if number in WORDS else digits)
         said = [it for it in sentences(self.path) if re.search(self.words, it)]
         if not any(written.search(it) for it in said):
             yield f"{self.path} does not say {number:,} where it speaks of /{self.words}/, and {limit} is {number:,}"
@@ -193,7 +200,9 @@ LIMITS: dict[str, list[Place]] = {
     ],
     "WINDOW_SIZE": [
         Constant(JUDGE, "WINDOW"), Constant(JOURNALS, "WINDOW"), Constant(LIVE, "WINDOW"), Constant(CUTS, "WINDOW"),
-        Said("docs/PROTOCOL.md", "numbers"), Said(TERMS, "unanswered"),
+        Said("docs/PROTOCOL.md", "numbers"), Said(TERMS, "unanswered"), Said(RELAY, "numbers or more are unanswered"),
+        Said(RELAY, "offers are unanswered"), Said(RELAY, r"up to \w+ unanswered"), Said("docs/LIVE.md", "offers are unanswered"),
+        Said("docs/PROOF.md", r"refused exactly if \w+ are unanswered"),
     ],
     "PRICE_LIMIT": [
         *both(f"{BASIS}/min"), *both(f"{BASIS}/max"), *both(f"{POINT}/0"), Constant(SCENE, "MOST"), Constant(FRAMES, "MOST"),
@@ -414,6 +423,10 @@ def package_places(kind: Kind, ticks: bool) -> Iterator[str]:
         yield f"{NODES} has another word than the code on whether {kind.word} is a device, and whether it changes at a tick"
     if ticks and f"case {known.__name__}():" not in text_of(STATES):
         yield f"{STATES} has no tick of {kind.word}"
+    if f'"{known.__name__}"' not in text_of(NAMES):
+        yield f"{NAMES} does not give the class {known.__name__} of the kind {kind.word}"
+    if f"`{known.__name__}`" not in text_of(CLASSES):
+        yield f"{CLASSES} has no class {known.__name__} of the kind {kind.word}"
 
 
 def page_places(kind: Kind, ticks: bool) -> Iterator[str]:
@@ -458,7 +471,7 @@ def wrong_kinds() -> Iterator[tuple[str, list[str]]]:
 # The checklists.
 
 CHECKLISTS = {
-    "To add a kind of device": [SCHEMA, MANUAL, PAGE, TERMS, SCENE, MEMBERS, AUCTION, NODES, STATES, VILLAGE],
+    "To add a kind of device": [SCHEMA, MANUAL, PAGE, TERMS, SCENE, MEMBERS, AUCTION, NODES, NAMES, CLASSES, STATES, VILLAGE],
     "To change a limit": sorted(
         {SCHEMA if isinstance(it, Bound) else it.path for places in LIMITS.values() for it in places}
     ),
