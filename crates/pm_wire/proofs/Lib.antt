@@ -6,6 +6,7 @@ pub mod ReadFrames
 pub mod Fed
 pub mod Replies
 pub mod Markets
+mod Falling
 pub mod Known
 pub mod OneReading
 pub mod Taking

@@ -10,10 +10,11 @@ use Rattle.std.proofs.lemmas.List.Elements.{All-replicate}
 use Rattle.pm_base.specs.Limits.{AreSteps, most_nodes, demand_limit, IsWithin}
 use Rattle.pm_base.proofs.Lists.{get_or-replicate_same}
 use Rattle.std.proofs.lemmas.Int.{ints}
-use Rattle.pm_bid.specs.Bids.{AllWithinLimit, zeros}
+use Rattle.pm_bid.specs.Bids.{AllWithinLimit, NeverRises, zeros}
 use Rattle.pm_bid.specs.Checks.{checked_bid, first_rising, first_too_large}
 use Rattle.pm_bid.specs.declared.head.BidHead.{BidHead}
 use Rattle.pm_bid.proofs.EachStep.{all_small}
+use Rattle.pm_bid.proofs.FoundStep.{never_rises}
 use Rattle.pm_cache.specs.Cache.{Cache, IsCache, empty_cache}
 use Rattle.pm_cache.specs.Learning.{HasSingleBids}
 use Rattle.pm_cache.proofs.Entries.{empty_sound}
@@ -68,6 +69,13 @@ else_ok false fault rest value h = (refl, h)
 then_ok : {A E : Type 0} (test : Bool) (fault : E) (rest : Result A E) (value : A) → (if test then rest else Err fault) ≡ Ok value → rest ≡ Ok value
 then_ok true fault rest value h = h
 then_ok false fault rest value h = absurd (cc h)
+
+-- an accepted bid never rises
+pub accepted_falls : (steps : ℕ) (demand : List ℤ) → checked_bid steps demand ≡ Ok demand → NeverRises demand
+accepted_falls steps demand h =
+    let falls = then_ok (length demand == steps) _ _ demand h in
+    let large = else_ok (nat_lt (first_rising demand) (length demand)) _ _ demand falls in
+    never_rises demand (grind (arith, nat_tests, large.0))
 
 -- an accepted bid has small demands
 pub accepted_small : (steps : ℕ) (demand : List ℤ) → checked_bid steps demand ≡ Ok demand → AllWithinLimit demand_limit demand

@@ -1,14 +1,17 @@
 //! Reads the frames of a stream of bids.
 
-ghost use Rattle.std.specs.Prelude.{◌≡◌, ◌+◌, ◌∷◌, ◌≤◌, ◌*◌, length, IsTrue, ◌↔◌, IfOk, IfSome, Some, None};
+ghost use Rattle.std.specs.Prelude.{◌≡◌, ◌+◌, ◌∷◌, ◌≤◌, ◌*◌, length, IsTrue, ◌↔◌, IfOk, IfSome, Some, None, FitsSigned};
+ghost use Rattle.std.specs.Int.{w32};
+ghost use Rattle.std.specs.List.{AllByRecursion};
 ghost use Rattle.pm_base.specs.Limits.{AreSteps};
-ghost use Rattle.pm_wire.specs.Frames.{size_at, place_after, hello_kind, bid_kind, gone_kind, IsSender, MayStand, bid_framing};
+ghost use Rattle.pm_bid.specs.Checks.{checked_bid};
+ghost use Rattle.pm_wire.specs.Frames.{size_at, place_after, hello_kind, bid_kind, gone_kind, demand_bytes, IsSender, MayStand, bid_framing};
 ghost use Rattle.pm_wire.specs.Spelling.{IsOne};
 
-use crate::fields::{read_demands, read_i32, read_u16, read_u32};
+use crate::fields::{read_i32, read_u16, read_u32};
 use crate::frame::Frame;
 use crate::framing::StreamFrame;
-use pm_base::MOST_NODES;
+use pm_base::{DEMAND_LIMIT, MOST_NODES};
 use pm_basis::Basis;
 use pm_bid::{ArrayBid, Steps};
 use std::alloc::{AllocError, Global};
@@ -70,6 +73,32 @@ fn read_hello(body: &[u8]) -> Option<Frame>
     }
 }
 
+/// Makes the bid the demands that these bytes are, four bytes each, and tells whether they may be
+/// one: no demand is above the one before, and each is within the limit of a demand.
+///
+/// One pass finds both: where no demand is above the one before, the first is the greatest and the
+/// last the least.
+fn fill(bid: &mut ArrayBid, bytes: &[u8]) -> bool
+    requires { length bytes.now ≡ 4 * length bid.old }
+    ensures bytes { bytes.now ≡ demand_bytes bid.new }
+    ensures fit { AllByRecursion (λ z. FitsSigned w32 z) bid.new }
+    ensures steps { length bid.new ≡ length bid.old }
+    ensures bid { IsTrue result ↔ (checked_bid (length bid.new) bid.new ≡ Ok bid.new) }
+{
+    let mut counter = Steps::<Brand>::start();
+    let mut rest = bytes;
+    let mut before = DEMAND_LIMIT;
+    let mut falls = true;
+    for step in 0..bid.steps() {
+        let (demand, behind) = read_i32(rest);
+        falls &= demand <= before;
+        bid.set(step, demand, &mut counter);
+        before = demand;
+        rest = behind;
+    }
+    falls && -DEMAND_LIMIT <= before
+}
+
 /// Reads the fields of a bid of so many steps.
 fn read_bid(alloc: Global, steps: usize, body: &[u8]) -> Result<Option<Frame>, AllocError>
     requires steps { AreSteps steps }
@@ -78,19 +107,18 @@ fn read_bid(alloc: Global, steps: usize, body: &[u8]) -> Result<Option<Frame>, A
 {
     let (child, rest) = read_u16(body);
     let (number, rest) = read_u32(rest);
-    let demands = read_demands(alloc, steps, rest)?;
-    let demand = ArrayBid::new(demands, steps, &mut Steps::<Brand>::start());
+    let mut demand = ArrayBid::zero(alloc, steps, &mut Steps::<Brand>::start())?;
+    if !fill(&mut demand, rest) {
+        return Ok(None);
+    }
     if !is_sender(child, number) {
         return Ok(None);
     }
-    match demand {
-        Ok(demand) => Ok(Some(Frame::Bid {
-            child,
-            number,
-            demand,
-        })),
-        Err(_) => Ok(None),
-    }
+    Ok(Some(Frame::Bid {
+        child,
+        number,
+        demand,
+    }))
 }
 
 /// Reads the fields of Gone, behind a Hello of so many steps.

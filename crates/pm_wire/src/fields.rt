@@ -42,11 +42,11 @@ pub fn read_demands(alloc: Global, count: usize, bytes: &[u8]) -> Result<Vec<i64
     ensures fit { IfOk result (λ demands. AllByRecursion (λ z. FitsSigned w32 z) demands.items) }
     ensures count { IfOk result (λ demands. length demands.items ≡ count) }
 {
-    let mut demands = Vec::with_capacity(alloc, count)?;
+    let mut demands = vec![in alloc; 0; count]?;
     let mut rest = bytes;
-    for _step in 0..count {
+    for place in demands.iter_mut() {
         let (demand, behind) = read_i32(rest);
-        demands.push(demand)?;
+        *place = demand;
         rest = behind;
     }
     Ok(demands)
