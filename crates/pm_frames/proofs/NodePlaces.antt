@@ -1,5 +1,5 @@
 -- Where frames lead to in the stream to a node.
-use Rattle.std.proofs.Common.{◌≡◌, subst, ℕ, Some}
+use Rattle.std.proofs.Common.{◌≡◌, subst, refl, ℕ, Some}
 use Rattle.std.specs.Prelude.{IfSome}
 use Rattle.pm_base.specs.Limits.{AreSteps}
 use Rattle.pm_wire.specs.declared.frame.Frame.{Frame}
@@ -16,6 +16,12 @@ pub behind_is : (stage : Stage) → IsStage stage → IsStage (stage_behind stag
 behind_is Start is = is
 behind_is (Opened steps) is = is
 behind_is (Running steps) is = is
+
+-- and its place in a stream of bids is the one before it
+pub same_bid_place : (stage : Stage) → bid_place (stage_behind stage) ≡ bid_place stage
+same_bid_place Start = refl
+same_bid_place (Opened steps) = refl
+same_bid_place (Running steps) = refl
 
 -- a Hello brings a basis
 pub after_is : (stage : Stage) (frame : Frame) → IsStage stage → MayStand bid_framing (bid_place stage) frame → IsStage (stage_after stage frame)

@@ -25,12 +25,12 @@ length-number_bytes [] = refl
 length-number_bytes (n ∷ numbers) = omega (arith, length-append (to_be_bytes w32 n) (number_bytes numbers), length-number_bytes numbers)
 
 -- one more number
-pub numbers_more : (bytes rest behind numbers : List ℕ) (n : ℕ) → bytes ≡ number_bytes numbers ++ rest → rest ≡ to_be_bytes w32 n ++ behind →
-    bytes ≡ number_bytes (numbers ++ n ∷ []) ++ behind
-numbers_more bytes rest behind numbers n e e' =
+pub numbers_more : (bytes rest after numbers : List ℕ) (n : ℕ) → bytes ≡ number_bytes numbers ++ rest → rest ≡ to_be_bytes w32 n ++ after →
+    bytes ≡ number_bytes (numbers ++ n ∷ []) ++ after
+numbers_more bytes rest after numbers n e e' =
     let one : number_bytes (numbers ++ n ∷ []) ≡ number_bytes numbers ++ to_be_bytes w32 n = flat_map-append (to_be_bytes w32) numbers (n ∷ []) in
-    e ∙ ap (λ l. number_bytes numbers ++ l) e' ∙ sym (append_assoc (number_bytes numbers) (to_be_bytes w32 n) behind)
-    ∙ ap (λ l. l ++ behind) (sym one)
+    e ∙ ap (λ l. number_bytes numbers ++ l) e' ∙ sym (append_assoc (number_bytes numbers) (to_be_bytes w32 n) after)
+    ∙ ap (λ l. l ++ after) (sym one)
 
 -- where numbers have 32 bits and one more has, all of them have, with this one at the end
 pub fit_more : (numbers : List ℕ) (n : ℕ) → AllByRecursion (λ z. z < 2 ^ 32) numbers → n < 2 ^ 32 →

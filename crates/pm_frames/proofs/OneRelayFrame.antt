@@ -78,7 +78,7 @@ sized child (Running steps) (Parent (parents.TheVariants.Old own kept)) more is 
 sized child (Running steps) Send more is = refl
 sized child (Running steps) (Resume stored) more is = absurd is.0
 
--- what holds of each size holds of those behind Hello
+-- what holds of each size holds of those after Hello
 size_open : (P : ℕ → Type 0) (steps kind : ℕ) → P 1 → P 7 → P 13 → P (7 + 4 * steps) → IfSome (relay_size_open steps kind) P
 size_open P steps kind one seven thirteen bid =
     let Q : Option ℕ → Type 0 = λ o. IfSome o P in

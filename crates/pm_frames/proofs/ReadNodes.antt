@@ -11,7 +11,7 @@ use Rattle.pm_wire.specs.Spelling.{IsOne, IsRefusedFrame, IsFrameAt}
 use Rattle.pm_wire.proofs.OneFrame.{parts_same}
 use Rattle.pm_frames.specs.Kinds.{offer_kind, resume_kind}
 use Rattle.pm_frames.specs.Places.{bid_place, steps_at, IsOpen, IsFresh}
-use Rattle.pm_frames.specs.ParentFrames.{parent_bytes, IsParentFormed, IsParentAccepted}
+use Rattle.pm_frames.specs.ParentFrames.{IsRefusedParentFrame}
 use Rattle.pm_frames.specs.Stored.{StoredRelay, relay_resume_bytes, IsRelayStored}
 use Rattle.pm_frames.specs.Offers.{IsOffer, IsRefusedOffer, AreDemands, IsOfferOf}
 use Rattle.pm_frames.specs.RelayFrames.{relay_framing, IsOfChild}
@@ -20,7 +20,6 @@ use Rattle.pm_frames.specs.DeviceFrames.{device_framing}
 use Rattle.pm_frames.specs.declared.place.NodePlace.{NodePlace}
 use Rattle.pm_frames.specs.declared.place.Stage.{Stage}
 use Rattle.pm_frames.specs.declared.place.Stage.TheVariants.{Start}
-use Rattle.pm_frames.specs.declared.parent.ParentFrame.{ParentFrame}
 use Rattle.pm_frames.specs.declared.relay.RelayFrame.TheVariants as relays
 use Rattle.pm_frames.specs.declared.root.RootFrame.TheVariants as roots
 use Rattle.pm_frames.specs.declared.device.DeviceFrame.TheVariants as devices
@@ -78,23 +77,24 @@ hello_refused place bytes start at = hello_as place bytes at.frame start at.form
 
 -- ---- frames of a parent
 
-pub relay_parent_refused : (place : NodePlace) (bytes : List ℕ) (frame : ParentFrame) → IsOpen place.stage → IsParentFormed frame →
-    bytes ≡ parent_bytes frame → ¬ IsParentAccepted place.child (steps_at place.stage) frame → IsRefusedFrame relay_framing place bytes
-relay_parent_refused place bytes frame is_open formed spelled refused = record {
-  frame = relays.Parent frame;
-  formed = (is_open, formed);
-  refused = refused;
-  spelled = spelled;
+-- a parent's frame that is not accepted is refused by a relay
+pub relay_parent_refused : (place : NodePlace) (bytes : List ℕ) → IsOpen place.stage →
+    IsRefusedParentFrame place.child (steps_at place.stage) bytes → IsRefusedFrame relay_framing place bytes
+relay_parent_refused place bytes is_open at = record {
+  frame = relays.Parent at.frame;
+  formed = (is_open, at.formed);
+  refused = at.refused;
+  spelled = at.spelled;
 }
 
--- so is a parent's frame that is not accepted
-pub device_parent_refused : (place : NodePlace) (bytes : List ℕ) (frame : ParentFrame) → IsOpen place.stage → IsParentFormed frame →
-    bytes ≡ parent_bytes frame → ¬ IsParentAccepted place.child (steps_at place.stage) frame → IsRefusedFrame device_framing place bytes
-device_parent_refused place bytes frame is_open formed spelled refused = record {
-  frame = devices.Parent frame;
-  formed = (is_open, formed);
-  refused = refused;
-  spelled = spelled;
+-- and by a device's agent
+pub device_parent_refused : (place : NodePlace) (bytes : List ℕ) → IsOpen place.stage →
+    IsRefusedParentFrame place.child (steps_at place.stage) bytes → IsRefusedFrame device_framing place bytes
+device_parent_refused place bytes is_open at = record {
+  frame = devices.Parent at.frame;
+  formed = (is_open, at.formed);
+  refused = at.refused;
+  spelled = at.spelled;
 }
 
 -- ---- what nodes come back with, and offers

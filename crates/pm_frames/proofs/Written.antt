@@ -1,9 +1,9 @@
--- What a list of fields is, written one behind the other.
+-- What a list of fields is, written one after the other.
 use Rattle.std.proofs.Common.{◌≡◌, ◌∙◌, sym, ap, ℕ, ◌+◌, ◌<◌, List, ◌++◌, length, take, get_or, append_assoc}
 use Rattle.std.specs.List.{flat_map}
 use Rattle.std.proofs.lemmas.List.{take_more, flat_map_more}
 
--- one more field behind those of the first elements
+-- one more field after those of the first elements
 pub field_more : {A : Type 0} (field : A → List ℕ) (elements : List A) (default : A) (at : ℕ) (start old new : List ℕ) → at < length elements →
     old ≡ start ++ flat_map field (take at elements) → new ≡ old ++ field (get_or elements at default) →
     new ≡ start ++ flat_map field (take (at + 1) elements)

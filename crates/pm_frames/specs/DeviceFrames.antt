@@ -28,14 +28,14 @@ device_frame_bytes Leave = leave_kind ∷ []
 device_frame_bytes (Parent frame) = parent_bytes frame
 device_frame_bytes (Resume stored) = agent_resume_bytes stored
 
--- how many bytes a frame of this kind has behind Hello
+-- how many bytes a frame of this kind has after Hello
 abbrev pub device_size_open : ℕ → ℕ → Option ℕ
 device_size_open steps kind =
     if kind == offer_kind
     then Some (1 + 4 * steps)
     else (if kind == leave_kind then Some 1 else (if kind == price_kind then Some 13 else (if kind == old_kind then Some 7 else None)))
 
--- Hello stands first and only there, and what the agent comes back with directly behind it
+-- Hello stands first and only there, and what the agent comes back with directly after it
 abbrev pub device_size : Stage → ℕ → Option ℕ
 device_size Start kind = if kind == hello_kind then Some 11 else None
 device_size (Opened steps) kind =

@@ -24,3 +24,21 @@ IsParentFormed (Old child kept) = (child < 2 ^ 16) × (kept < 2 ^ 32)
 abbrev pub IsParentAccepted : ℕ → ℕ → ParentFrame → Type 0
 IsParentAccepted own steps (Price child number index step) = (child ≡ own) × (1 ≤ number) × (step < steps)
 IsParentAccepted own steps (Old child kept) = child ≡ own
+
+-- the bytes of a frame that is accepted
+pub record IsParentFrameOf (own steps : ℕ) (bytes : List ℕ) (frame : ParentFrame) : Type 0 where
+  pub formed : IsParentFormed frame
+  pub accepted : IsParentAccepted own steps frame
+  pub spelled : bytes ≡ parent_bytes frame
+
+-- the bytes of a frame that is refused
+pub record IsRefusedParentFrame (own steps : ℕ) (bytes : List ℕ) : Type 0 where
+  pub frame : ParentFrame
+  pub formed : IsParentFormed frame
+  pub refused : ¬ IsParentAccepted own steps frame
+  pub spelled : bytes ≡ parent_bytes frame
+
+-- the bytes are those of one frame of a parent: of this one, or of one that is refused
+abbrev pub IsParentFrame : ℕ → ℕ → List ℕ → Option ParentFrame → Type 0
+IsParentFrame own steps bytes (Some frame) = IsParentFrameOf own steps bytes frame
+IsParentFrame own steps bytes None = IsRefusedParentFrame own steps bytes

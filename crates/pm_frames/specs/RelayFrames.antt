@@ -21,7 +21,7 @@ relay_frame_bytes (Parent frame) = parent_bytes frame
 relay_frame_bytes Send = send_kind ∷ []
 relay_frame_bytes (Resume stored) = relay_resume_bytes stored
 
--- how many bytes a frame of this kind has behind Hello
+-- how many bytes a frame of this kind has after Hello
 abbrev pub relay_size_open : ℕ → ℕ → Option ℕ
 relay_size_open steps kind =
     if kind == bid_kind
@@ -30,7 +30,7 @@ relay_size_open steps kind =
     then Some 7
     else (if kind == price_kind then Some 13 else (if kind == old_kind then Some 7 else (if kind == send_kind then Some 1 else None))))
 
--- Hello stands first and only there, and Resume directly behind it
+-- Hello stands first and only there, and Resume directly after it
 abbrev pub relay_size : Stage → ℕ → Option ℕ
 relay_size Start kind = if kind == hello_kind then Some 11 else None
 relay_size (Opened steps) kind = if kind == resume_kind then Some relay_resume_size else relay_size_open steps kind

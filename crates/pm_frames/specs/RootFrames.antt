@@ -1,4 +1,4 @@
--- The frames of the stream to an auctioneer that may restart: those of a stream of bids, and Resume directly behind Hello.
+-- The frames of the stream to an auctioneer that may restart: those of a stream of bids, and Resume directly after Hello.
 use Rattle.std.specs.Prelude.{ℕ, ◌==◌, if◌then◌else◌, List, Option, Some, None, ⊤}
 use Rattle.pm_wire.specs.Frames.{size_at, frame_bytes, IsFormed, IsAccepted}
 use Rattle.pm_wire.specs.Framing.{Framing}

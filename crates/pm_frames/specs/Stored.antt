@@ -22,7 +22,7 @@ pub record StoredRoot : Type 0 where
   pub last : ℕ
   pub numbers : List ℕ
 
--- the numbers of the children, one behind the other
+-- the numbers of the children, one after the other
 abbrev pub number_bytes : List ℕ → List ℕ
 number_bytes numbers = flat_map (to_be_bytes w32) numbers
 

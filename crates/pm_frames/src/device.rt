@@ -11,7 +11,7 @@ ghost use Rattle.pm_frames.specs.Offers.{IsOffer};
 ghost use Rattle.pm_frames.specs.DeviceFrames.{device_size, device_size_open, device_framing};
 
 use crate::kinds::{HELLO, LEAVE, OFFER, OLD, PRICE, RESUME, RESUME_GONE};
-use crate::parent::{ParentFrame, read_parent};
+use crate::parent::{ParentFrame, read_accepted};
 use crate::place::{NodePlace, Stage};
 use crate::stored::StoredAgent;
 use pm_basis::Basis;
@@ -35,7 +35,7 @@ pub enum DeviceFrame {
     Resume(StoredAgent),
 }
 
-/// How many bytes a frame of this kind has behind a Hello of so many steps.
+/// How many bytes a frame of this kind has after a Hello of so many steps.
 fn size_open(steps: usize, kind: u8) -> Option<usize>
     requires { AreSteps steps }
     ensures { result ≡ device_size_open steps kind }
@@ -159,10 +159,7 @@ fn read_from_parent(place: NodePlace, kind: u8, body: &[u8]) -> Option<DeviceFra
     requires size { parent_size kind ≡ Some (length body.now + 1) }
     ensures { IsOne device_framing place (kind ∷ body.now) result }
 {
-    let frame = read_parent(kind, body);
-    if !frame.is_accepted(place.child, place.stage.steps()) {
-        return None;
-    }
+    let frame = read_accepted(place, kind, body)?;
     Some(DeviceFrame::Parent(frame))
 }
 

@@ -3,7 +3,7 @@
 //! There are three streams: to a relay, to an auctioneer that may restart, and to a device's agent. Each has a sort of frames of
 //! its own, which is a [`StreamFrame`](pm_wire::StreamFrame) of pm_wire. A relay and the auctioneer read their children's bids
 //! as they stand in a stream of bids; a relay and a device read their parent's prices as the parent writes them. So a carrier
-//! passes bytes and changes none. All three read directly behind Hello what they gave to be kept over a restart.
+//! passes bytes and changes none. All three read directly after Hello what they gave to be kept over a restart.
 //!
 //! The definitions stand in `specs/`: `Kinds` (the first byte of each frame), `Places` (where in its stream a frame stands),
 //! `ParentFrames`, `Stored` (what is kept over a restart), `RelayFrames`, `RootFrames`, `DeviceFrames` (which frame may stand

@@ -1,9 +1,11 @@
 //! The frames that a relay or a device has from its parent.
 
 ghost use Rattle.std.specs.Prelude.{◌≡◌, ◌+◌, ◌∷◌, ◌↔◌, IsTrue, length, Some};
-ghost use Rattle.pm_frames.specs.ParentFrames.{parent_bytes, parent_size, IsParentFormed, IsParentAccepted};
+ghost use Rattle.pm_frames.specs.Places.{steps_at};
+ghost use Rattle.pm_frames.specs.ParentFrames.{parent_bytes, parent_size, IsParentFormed, IsParentAccepted, IsParentFrame};
 
 use crate::kinds::PRICE;
+use crate::place::NodePlace;
 use pm_wire::{read_u16, read_u32};
 
 /// A frame from the parent of a node.
@@ -24,8 +26,8 @@ pub enum ParentFrame {
     },
 }
 
-/// The frame of this kind that the bytes behind the first one are.
-pub(crate) fn read_parent(kind: u8, body: &[u8]) -> ParentFrame
+/// The frame of this kind that the bytes after the first one are.
+fn read_parent(kind: u8, body: &[u8]) -> ParentFrame
     requires { parent_size kind ≡ Some (length body.now + 1) }
     ensures formed { IsParentFormed result }
     ensures spelled { kind ∷ body.now ≡ parent_bytes result }
@@ -48,9 +50,21 @@ pub(crate) fn read_parent(kind: u8, body: &[u8]) -> ParentFrame
     }
 }
 
+/// Reads the fields of a frame of this kind, or None where it is not accepted at this place.
+pub(crate) fn read_accepted(place: NodePlace, kind: u8, body: &[u8]) -> Option<ParentFrame>
+    requires { parent_size kind ≡ Some (length body.now + 1) }
+    ensures { IsParentFrame place.child (steps_at place.stage) (kind ∷ body.now) result }
+{
+    let frame = read_parent(kind, body);
+    if !frame.is_accepted(place.child, place.stage.steps()) {
+        return None;
+    }
+    Some(frame)
+}
+
 impl ParentFrame {
     /// Whether the frame is for this child, and of a price whether it answers a number and has one of so many steps.
-    pub(crate) fn is_accepted(&self, own: u16, steps: usize) -> bool
+    fn is_accepted(&self, own: u16, steps: usize) -> bool
         ensures { IsTrue result ↔ IsParentAccepted own steps self.now }
     {
         match self {

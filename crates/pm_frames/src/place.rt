@@ -10,9 +10,9 @@ use pm_wire::Frame;
 pub enum Stage {
     /// Before Hello.
     Start,
-    /// Directly behind Hello, whose basis has so many steps. What the node comes back with may stand here.
+    /// Directly after Hello, whose basis has so many steps. What the node comes back with may stand here.
     Opened { steps: usize },
-    /// Further behind Hello.
+    /// Further after Hello.
     Running { steps: usize },
 }
 
@@ -26,7 +26,7 @@ pub struct NodePlace {
 }
 
 impl Stage {
-    /// The place in a stream of bids: None before Hello, and behind it the steps of its basis.
+    /// The place in a stream of bids: None before Hello, and after it the steps of its basis.
     pub(crate) fn bid_place(self) -> Option<usize>
         ensures { result ≡ bid_place self }
     {
@@ -46,7 +46,7 @@ impl Stage {
         }
     }
 
-    /// The stage behind a frame that is no Hello.
+    /// The stage after a frame that is no Hello.
     pub(crate) fn behind(self) -> Stage
         ensures { result ≡ stage_behind self }
     {
@@ -56,7 +56,7 @@ impl Stage {
         }
     }
 
-    /// The stage behind a frame of a stream of bids.
+    /// The stage after a frame of a stream of bids.
     pub(crate) fn after(self, frame: &Frame) -> Stage
         ensures { result ≡ stage_after self frame.now }
     {

@@ -11,7 +11,7 @@ ghost use Rattle.pm_frames.specs.Stored.{relay_resume_size};
 ghost use Rattle.pm_frames.specs.RelayFrames.{relay_size, relay_size_open, relay_framing};
 
 use crate::kinds::{BID, GONE, HELLO, OLD, PRICE, RESUME, SEND};
-use crate::parent::{ParentFrame, read_parent};
+use crate::parent::{ParentFrame, read_accepted};
 use crate::place::{NodePlace, Stage};
 use crate::stored::{StoredRelay, read_stored_relay};
 use pm_base::MOST_NODES;
@@ -31,7 +31,7 @@ pub enum RelayFrame {
     Resume(StoredRelay),
 }
 
-/// How many bytes a frame of this kind has behind a Hello of so many steps.
+/// How many bytes a frame of this kind has after a Hello of so many steps.
 fn size_open(steps: usize, kind: u8) -> Option<usize>
     requires { steps ≤ most_steps }
     ensures { result ≡ relay_size_open steps kind }
@@ -82,10 +82,7 @@ fn read_from_parent(place: NodePlace, kind: u8, body: &[u8]) -> Option<RelayFram
     requires size { parent_size kind ≡ Some (length body.now + 1) }
     ensures { IsOne relay_framing place (kind ∷ body.now) result }
 {
-    let frame = read_parent(kind, body);
-    if !frame.is_accepted(place.child, place.stage.steps()) {
-        return None;
-    }
+    let frame = read_accepted(place, kind, body)?;
     Some(RelayFrame::Parent(frame))
 }
 

@@ -108,14 +108,14 @@ fn read_numbers(alloc: Global, bytes: &[u8]) -> Result<Vec<u32>, AllocError>
     let mut numbers = Vec::with_capacity(alloc, MOST_NODES)?;
     let mut rest = bytes;
     for _child in 0..MOST_NODES {
-        let (number, behind) = read_u32(rest);
+        let (number, after) = read_u32(rest);
         numbers.push(number)?;
-        rest = behind;
+        rest = after;
     }
     Ok(numbers)
 }
 
-/// What a relay comes back with, by the bytes behind the kind.
+/// What a relay comes back with, by the bytes after the kind.
 pub(crate) fn read_stored_relay(alloc: Global, body: &[u8]) -> Result<StoredRelay, AllocError>
     requires { length body.now ≡ 12 + 4 * most_nodes }
     ensures spelled { IfOk result (λ stored. 12 ∷ body.now ≡ relay_resume_bytes stored) }
@@ -133,7 +133,7 @@ pub(crate) fn read_stored_relay(alloc: Global, body: &[u8]) -> Result<StoredRela
     })
 }
 
-/// What an auctioneer comes back with, by the bytes behind the kind.
+/// What an auctioneer comes back with, by the bytes after the kind.
 pub(crate) fn read_stored_root(alloc: Global, body: &[u8]) -> Result<StoredRoot, AllocError>
     requires { length body.now ≡ 4 + 4 * most_nodes }
     ensures spelled { IfOk result (λ stored. 12 ∷ body.now ≡ root_resume_bytes stored) }

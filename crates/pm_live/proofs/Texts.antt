@@ -22,7 +22,7 @@ no_minus : (n : ℕ) (text : List ℕ) → n < 2 ^ 64 → text ≡ decimal n →
 no_minus zero text fits is minus = omega (arith, ap (λ l. get_or l 0 0) (is ∙ decimal_digit 0 (omega arith)), minus)
 no_minus (suc n) text fits is minus = omega (arith, first_decimal (suc n) (omega arith) fits, sym (ap (λ l. get_or l 0 0) is) ∙ minus)
 
--- a text that begins with a minus sign, behind which no number from 1 on stands, writes no number
+-- a text that begins with a minus sign, after which no number from 1 on stands, writes no number
 pub no_number : (limit : ℕ) (z : ℤ) (text : List ℕ) → limit < 2 ^ 32 → IsWithin limit z → get_or text 0 0 ≡ 45 →
     ((n : ℕ) → 1 ≤ n → n ≤ limit → drop 1 text ≡ decimal n → ⊥) → text ≡ signed_decimal z → ⊥
 no_number limit (pos n) text few within minus never is = no_minus n text (omega (arith, ints, within.high)) is minus

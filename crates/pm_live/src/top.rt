@@ -80,7 +80,7 @@ fn serve_named<S: Source, K: Sink>(
 ///
 /// A relay reads the frames of its children and of its parent, and writes its own bids and the prices down. An auctioneer reads its
 /// children's bids, and writes the prices of each clearing. A device's agent reads the offers of the device's control and its parent's
-/// prices, and writes bids and setpoints. Each reads what it comes back with directly behind Hello, and writes what it is to come back
+/// prices, and writes bids and setpoints. Each reads what it comes back with directly after Hello, and writes what it is to come back
 /// with. The answers to a piece of the stream are written before the next piece is read. All other arguments name no node, and the usage
 /// line is appended.
 pub fn live<S: Source, K: Sink>(

@@ -1,4 +1,4 @@
--- An auctioneer behind Hello keeps its steps and its children, and clears at a step of its basis.
+-- An auctioneer after Hello keeps its steps and its children, and clears at a step of its basis.
 use Rattle.std.proofs.Common.{◌≡◌, ◌∙◌, ap, refl, ℕ, ◌<◌, ◌≤◌, ℤ, ◌+ℤ◌, Bool, true, false, List, []}
 use Rattle.std.proofs.Common.{◌∷◌, length, Option, None, Some, arith}
 use Rattle.std.proofs.Common.{inl, inr}
@@ -48,7 +48,7 @@ learnt_shape : (cache : Cache) (child number : ℕ) (demand : Option (List ℤ))
 learnt_shape cache child number demand =
     either_shape (nat_le number (kept_number cache child)) cache (with_newer_bid cache child number demand) (newer_shape cache child number demand)
 
--- the cache of an auctioneer that looks for its clearing behind a bid
+-- the cache of an auctioneer that looks for its clearing after a bid
 looks_cache : (old new : RootValue) (child number : ℕ) (demand : Option (List ℤ)) → LooksForClearing (with_root_bid old child number demand) new →
     new.auction.cache ≡ after_learning old.auction.cache child number demand
 looks_cache old new child number demand (inl found) = found.1.cleared.cache

@@ -24,9 +24,10 @@ use Rattle.pm_frames.specs.declared.place.Stage.TheVariants.{Start, Opened, Runn
 use Rattle.pm_wire.proofs.Known.{learnt_steps}
 use Rattle.pm_frames.specs.declared.relay.RelayFrame.{RelayFrame}
 use Rattle.pm_frames.specs.declared.relay.RelayFrame.TheVariants.{Child, Parent, Send, Resume}
+use Rattle.pm_frames.proofs.NodePlaces.{same_bid_place}
 use Rattle.pm_services.specs.RelayAnswers.{OpenRelay, RelayServiceValue, TriesWaiting, AnswersAsked}
 use Rattle.pm_services.specs.RelayAnswers.{AnswersNow, AnswersRelay, IsRelayStart}
-use Rattle.pm_services.specs.RelayStands.{steps_known, MayStandBehind}
+use Rattle.pm_services.specs.RelayStands.{steps_known, MayStandWithSteps}
 
 -- ---- the steps of a relay stay
 
@@ -63,11 +64,6 @@ asked_steps child old new reply (inr stays) = ap (λ (r : RelayValue). r.gathere
 
 -- ---- the place
 
-behind_same : (stage : Stage) → bid_place (stage_behind stage) ≡ bid_place stage
-behind_same Start = refl
-behind_same (Opened steps) = refl
-behind_same (Running steps) = refl
-
 open_known : (stage : Stage) → IsOpen stage → bid_place stage ≡ None → ⊥
 open_known Start is none = is
 open_known (Opened steps) is none = cc none
@@ -78,10 +74,10 @@ fresh_open Start is = is
 fresh_open (Opened steps) is = tt
 fresh_open (Running steps) is = absurd is
 
--- behind a frame that is no Hello the place has the steps of the relay as it is then
+-- after a frame that is no Hello the place has the steps of the relay as it is then
 goes_on : (stage : Stage) (old : OpenRelay) (new : Option OpenRelay) (after : OpenRelay) → bid_place stage ≡ Some old.relay.gathered.cache.steps →
     new ≡ Some after → after.relay.gathered.cache.steps ≡ old.relay.gathered.cache.steps → bid_place (stage_behind stage) ≡ steps_known new
-goes_on stage old new after is same steps = behind_same stage ∙ is ∙ ap Some (sym steps) ∙ ap steps_known (sym same)
+goes_on stage old new after is same steps = same_bid_place stage ∙ is ∙ ap Some (sym steps) ∙ ap steps_known (sym same)
 
 -- a frame that may stand leads to the place that the service knows then
 steps_after : (place : NodePlace) (child : ℕ) (limits : Limits) (old : Option OpenRelay) (frame : RelayFrame) (new : Option OpenRelay) (reply : List ℕ) →
@@ -101,10 +97,10 @@ steps_after place child limits None (Resume stored) new reply is stands answers 
 steps_after place child limits (Some old) (Child (Hello basis)) new reply is stands answers =
     absurd (subst (λ p. IsFormed p (Hello basis)) is stands.formed.0)
 steps_after place child limits (Some old) (Child (Bid sender number demand)) new reply is stands answers =
-    goes_on place.stage old new answers.0 is answers.1 (tries_steps old.waiting answers.2.learnt answers.0 answers.2.behind answers.2.tries
+    goes_on place.stage old new answers.0 is answers.1 (tries_steps old.waiting answers.2.learnt answers.0 answers.2.waiting_reply answers.2.tries
     ∙ bid_steps old.relay answers.2.learnt _ number (Some demand) answers.2.looks)
 steps_after place child limits (Some old) (Child (Gone sender number)) new reply is stands answers =
-    goes_on place.stage old new answers.0 is answers.1 (tries_steps old.waiting answers.2.learnt answers.0 answers.2.behind answers.2.tries
+    goes_on place.stage old new answers.0 is answers.1 (tries_steps old.waiting answers.2.learnt answers.0 answers.2.waiting_reply answers.2.tries
     ∙ bid_steps old.relay answers.2.learnt _ number None answers.2.looks)
 steps_after place child limits (Some old) (Child Clear) new reply is stands answers = absurd stands.formed.1
 steps_after place child limits (Some old) (Parent (Price own number index step)) new reply is stands answers =
@@ -112,31 +108,31 @@ steps_after place child limits (Some old) (Parent (Price own number index step))
 steps_after place child limits (Some old) (Parent (Old own kept)) new reply is stands answers =
     goes_on place.stage old new old is answers.0 refl
 steps_after place child limits (Some old) Send new reply is stands answers =
-    goes_on place.stage old new answers.0 is answers.1 (tries_steps old.waiting answers.2.asked answers.0 answers.2.behind answers.2.tries
+    goes_on place.stage old new answers.0 is answers.1 (tries_steps old.waiting answers.2.asked answers.0 answers.2.waiting_reply answers.2.tries
     ∙ asked_steps child old.relay answers.2.asked answers.2.first answers.2.answers)
 steps_after place child limits (Some old) (Resume stored) new reply is stands answers =
     goes_on place.stage old new _ is answers.0.opened (ap (λ (k : Cache). k.steps) answers.0.back.gathered.cache)
 
 -- so do frames
-steps_behind : (frames : List RelayFrame) (place : NodePlace) (service after : RelayServiceValue) (reply : List ℕ) →
+steps_after_frames : (frames : List RelayFrame) (place : NodePlace) (service after : RelayServiceValue) (reply : List ℕ) →
     bid_place place.stage ≡ steps_known service.relay → AllStand relay_framing place frames → Runs AnswersRelay service frames after reply →
     bid_place (place_behind relay_framing place frames).stage ≡ steps_known after.relay
-steps_behind [] place service after reply is stand runs = is ∙ ap (λ (s : RelayServiceValue). steps_known s.relay) (sym runs.0)
-steps_behind (frame ∷ frames) place service after reply is stand runs =
-    steps_behind frames (relay_place_after place frame) runs.0 after runs.2
+steps_after_frames [] place service after reply is stand runs = is ∙ ap (λ (s : RelayServiceValue). steps_known s.relay) (sym runs.0)
+steps_after_frames (frame ∷ frames) place service after reply is stand runs =
+    steps_after_frames frames (relay_place_after place frame) runs.0 after runs.2
     (steps_after place service.child service.limits service.relay frame runs.0.relay runs.1 is stand.0 runs.3.answers) stand.1 runs.4
 
 -- a frame that may be taken may stand at a place with the steps that the service knows
 pub relay_stands : (service : RelayServiceValue) (frame : RelayFrame) → CanTake relay_framing IsRelayStart AnswersRelay service frame →
-    MayStandBehind (steps_known service.relay) frame
+    MayStandWithSteps (steps_known service.relay) frame
 relay_stands service frame can = record {
   place = place_behind relay_framing can.start can.frames;
-  steps = steps_behind can.frames can.start can.first service can.reply
+  steps = steps_after_frames can.frames can.start can.first service can.reply
       (ap bid_place can.begins.before_hello ∙ ap steps_known (sym can.begins.closed)) can.stand can.runs;
   stands = can.stands;
 }
 
--- ---- what is known of a Bid behind Hello
+-- ---- what is known of a Bid after Hello
 
 -- its sender is a child, and it is a bid over the basis
 pub record IsBidOver (steps' sender : ℕ) (demand : List ℤ) : Type 0 where
@@ -148,7 +144,7 @@ pub record IsBidOver (steps' sender : ℕ) (demand : List ℤ) : Type 0 where
   pub small : AllWithinLimit demand_limit demand
 
 -- a Bid that may be taken is a bid over the basis
-pub bid_stands : (steps sender number : ℕ) (demand : List ℤ) → MayStandBehind (Some steps) (Child (Bid sender number demand)) →
+pub bid_stands : (steps sender number : ℕ) (demand : List ℤ) → MayStandWithSteps (Some steps) (Child (Bid sender number demand)) →
     IsBidOver steps sender demand
 bid_stands steps sender number demand may =
     let formed = subst (λ p. IsFormed p (Bid sender number demand)) may.steps may.stands.formed.0 in

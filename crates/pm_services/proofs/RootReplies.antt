@@ -43,7 +43,7 @@ kept_prices_few r all = few_either (has_prices r) (clearing_bytes r) reply_limit
 -- `lost` and `lost_still` say that it had no clearing since it came up, `learnt` and `learns` that it learnt something since
 again_rebuilt : (lost learnt lost_still learns : Bool) (bytes : List ℕ) → lost ≡ true → lost_still ≡ false → learns ≡ false →
     (if not lost && not learnt then [] else (if not lost_still && not learns then bytes else [])) ≡ (if lost && not lost_still then bytes else [])
-again_rebuilt lost learnt lost_still learns bytes before behind nothing = rw (before, behind, nothing) refl
+again_rebuilt lost learnt lost_still learns bytes before after nothing = rw (before, after, nothing) refl
 
 again_same : (lost learnt lost_still learns : Bool) (bytes : List ℕ) → lost_still ≡ lost → (learnt ≡ true → learns ≡ true) →
     (if not lost && not learnt then [] else (if not lost_still && not learns then bytes else [])) ≡ (if lost && not lost_still then bytes else [])
@@ -51,7 +51,7 @@ again_same true learnt lost_still learns bytes same keeps = rw same refl
 again_same false false lost_still learns bytes same keeps = refl
 again_same false true lost_still learns bytes same keeps = rw (same, keeps refl) refl
 
--- the prices that are had behind a bid and were not before are those of a clearing that is had again
+-- the prices that are had after a bid and were not before are those of a clearing that is had again
 pub sent_again : (old new : RootValue) (child number : ℕ) (demand : Option (List ℤ)) → LooksForClearing (with_root_bid old child number demand) new →
     (if has_prices old then [] else kept_prices_bytes new) ≡ clearing_again old new
 sent_again old new child number demand (inl found) =

@@ -49,7 +49,7 @@ leave_reply child agent =
 
 -- ---- a price
 
--- a setpoint with what is kept over a restart behind it, or that the price was dropped
+-- a setpoint with what is kept over a restart after it, or that the price was dropped
 abbrev pub told_reply : DeviceAgent → PriceMessage → List Setpoint → List ℕ
 told_reply after price [] = dropped_bytes price.number price.index
 told_reply after price (setpoint ∷ more) =
@@ -67,13 +67,13 @@ sent_again child number None = if number == 0 then [] else frame_bytes (Gone chi
 
 -- ---- all frames
 
-abbrev pub agent_behind : DeviceAgent → DeviceFrame → DeviceAgent
-agent_behind agent (Hello basis) = agent
-agent_behind agent (Offer demand) = after_asking agent demand
-agent_behind agent Leave = after_asking_to_leave agent
-agent_behind agent (Parent (Price own number index step)) = after_price agent (price_message number index step)
-agent_behind agent (Parent (Old own kept)) = agent
-agent_behind agent (Resume stored) = agent_stored stored.number stored.newest stored.index
+abbrev pub open_agent_after : DeviceAgent → DeviceFrame → DeviceAgent
+open_agent_after agent (Hello basis) = agent
+open_agent_after agent (Offer demand) = after_asking agent demand
+open_agent_after agent Leave = after_asking_to_leave agent
+open_agent_after agent (Parent (Price own number index step)) = after_price agent (price_message number index step)
+open_agent_after agent (Parent (Old own kept)) = agent
+open_agent_after agent (Resume stored) = agent_stored stored.number stored.newest stored.index
 
 abbrev pub agent_reply : ℕ → DeviceAgent → DeviceFrame → List ℕ
 agent_reply child agent (Hello basis) = []
@@ -87,7 +87,7 @@ agent_reply child agent (Resume stored) = sent_again child stored.number stored.
 abbrev pub agent_after : Option DeviceAgent → DeviceFrame → Option DeviceAgent
 agent_after None (Hello basis) = Some new_agent
 agent_after None frame = None
-agent_after (Some agent) frame = Some (agent_behind agent frame)
+agent_after (Some agent) frame = Some (open_agent_after agent frame)
 
 abbrev pub reply_to : ℕ → Option DeviceAgent → DeviceFrame → List ℕ
 reply_to child None frame = []

@@ -1,4 +1,4 @@
--- What the fields of a relay behind Hello stand for, and what they keep.
+-- What the fields of a relay after Hello stand for, and what they keep.
 use Rattle.std.specs.Prelude.{◌<◌, IfSome}
 use Rattle.pm_base.specs.Limits.{AreSteps}
 use Rattle.pm_services.specs.RelayAnswers.{OpenRelay}

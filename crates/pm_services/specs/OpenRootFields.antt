@@ -1,4 +1,4 @@
--- What the fields of an auctioneer behind Hello keep.
+-- What the fields of an auctioneer after Hello keep.
 use Rattle.std.specs.Prelude.{◌≡◌, ℕ, ◌<◌, length}
 use Rattle.pm_base.specs.Limits.{AreSteps, most_nodes}
 use Rattle.pm_relay.specs.Roots.{RootValue}

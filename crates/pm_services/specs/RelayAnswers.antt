@@ -25,7 +25,7 @@ use Rattle.pm_frames.specs.declared.relay.RelayFrame.{RelayFrame}
 use Rattle.pm_frames.specs.declared.relay.RelayFrame.TheVariants.{Child, Parent, Send, Resume}
 use Rattle.pm_services.specs.Receipts.{sender_place, receipt_bytes}
 
--- a relay behind Hello, and the price that waits until the relay has its record again
+-- a relay after Hello, and the price that waits until the relay has its record again
 pub record OpenRelay : Type 0 where
   pub relay : RelayValue
   pub waiting : Option PriceUpdate
@@ -71,13 +71,13 @@ dropped_with None price = []
 dropped_with (Some first) price =
     if nat_lt first.index price.index then dropped_bytes first.number first.index else dropped_bytes price.number price.index
 
-abbrev pub waiting_behind : Option PriceUpdate → PriceUpdate → PriceOutcome → Option PriceUpdate
-waiting_behind waiting price PassedOn = waiting
-waiting_behind waiting price Alone = waiting
-waiting_behind waiting price Waits = waiting_with waiting price
-waiting_behind waiting price Dropped = waiting
+abbrev pub waiting_after : Option PriceUpdate → PriceUpdate → PriceOutcome → Option PriceUpdate
+waiting_after waiting price PassedOn = waiting
+waiting_after waiting price Alone = waiting
+waiting_after waiting price Waits = waiting_with waiting price
+waiting_after waiting price Dropped = waiting
 
--- what is answered to a price, by what the relay did with it: `r` is the relay behind it
+-- what is answered to a price, by what the relay did with it: `r` is the relay after it
 abbrev pub price_reply : Option PriceUpdate → RelayValue → PriceUpdate → PriceOutcome → List ℕ
 price_reply waiting r price PassedOn = down_bytes r price ++ own_resume_bytes r
 price_reply waiting r price Alone = own_resume_bytes r
@@ -88,7 +88,7 @@ price_reply waiting r price Dropped = dropped_bytes price.number price.index
 pub record AnswersPrice (old : OpenRelay) (price : PriceUpdate) (new : OpenRelay) (reply : List ℕ) : Type 0 where
   pub outcome : PriceOutcome
   pub takes : TakesPrice old.relay new.relay price outcome
-  pub waits : new.waiting ≡ waiting_behind old.waiting price outcome
+  pub waits : new.waiting ≡ waiting_after old.waiting price outcome
   pub replied : reply ≡ price_reply old.waiting new.relay price outcome
 
 -- the price that waits, if there is one, is tried again as if it came now
@@ -108,10 +108,10 @@ pub record AnswersBid (child : ℕ) (old : OpenRelay) (sender number : ℕ) (dem
   pub learnt : RelayValue
   pub looks : LooksForRecord (with_child_bid old.relay (sender_place sender) number demand) learnt
   -- what is answered to the price that waited
-  pub behind : List ℕ
-  pub tries : TriesWaiting old.waiting learnt new behind
+  pub waiting_reply : List ℕ
+  pub tries : TriesWaiting old.waiting learnt new waiting_reply
   pub replied : reply ≡
-      receipt_bytes (kept_number old.relay.gathered.cache (sender_place sender)) sender number ++ (bid_again child old.relay learnt ++ behind)
+      receipt_bytes (kept_number old.relay.gathered.cache (sender_place sender)) sender number ++ (bid_again child old.relay learnt ++ waiting_reply)
 
 -- ---- Send
 
@@ -132,9 +132,9 @@ pub record AnswersSend (child : ℕ) (old new : OpenRelay) (reply : List ℕ) : 
   pub asked : RelayValue
   pub first : List ℕ
   pub answers : AnswersAsked child old.relay asked first
-  pub behind : List ℕ
-  pub tries : TriesWaiting old.waiting asked new behind
-  pub replied : reply ≡ first ++ behind
+  pub waiting_reply : List ℕ
+  pub tries : TriesWaiting old.waiting asked new waiting_reply
+  pub replied : reply ≡ first ++ waiting_reply
 
 -- ---- all frames
 

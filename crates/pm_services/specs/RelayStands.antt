@@ -13,7 +13,7 @@ steps_known None = None
 steps_known (Some r) = Some r.relay.gathered.cache.steps
 
 -- the frame may stand at some place of the stream with so many steps, None before Hello
-pub record MayStandBehind (steps' : Option ℕ) (frame : RelayFrame) : Type 0 where
+pub record MayStandWithSteps (steps' : Option ℕ) (frame : RelayFrame) : Type 0 where
   pub place : NodePlace
   pub steps : bid_place place.stage ≡ steps'
   pub stands : MayStand relay_framing place frame

@@ -13,7 +13,7 @@ steps_known None = None
 steps_known (Some r) = Some r.auction.cache.steps
 
 -- the frame may stand at some place of the stream with so many steps, None before Hello
-pub record MayStandBehind (steps' : Option ℕ) (frame : RootFrame) : Type 0 where
+pub record MayStandWithSteps (steps' : Option ℕ) (frame : RootFrame) : Type 0 where
   pub stage : Stage
   pub steps : bid_place stage ≡ steps'
   pub stands : MayStand root_framing stage frame

@@ -2,7 +2,7 @@
 //!
 //! Each is a [`Service`](pm_wire::Service) of its own sort of frames (pm_frames), over the value that pm_relay and pm_control have
 //! of the node. So [`serve_frames`](pm_wire::serve_frames) runs it over a source and a sink. What the node gives to be kept over a
-//! restart stands before the bid or the prices that must not be sent without it, and behind the prices that a relay passes down:
+//! restart stands before the bid or the prices that must not be sent without it, and after the prices that a relay passes down:
 //! a carrier that handles the frames in their order stores and sends in the right order.
 //!
 //! The definitions stand in `specs/`: `Receipts`, `RelayAnswers`, `RootAnswers` and `DeviceAnswers` (what is answered to each

@@ -1,4 +1,4 @@
-//! A device's agent behind Hello: what it makes of each frame, and the bytes of its answers.
+//! A device's agent after Hello: what it makes of each frame, and the bytes of its answers.
 
 ghost use Rattle.std.specs.Prelude.{◌≡◌, ◌+◌, ◌<◌, ◌≤◌, ◌^◌, ◌++◌, length, vec_len, vec_capacity, IfOk};
 ghost use Rattle.std.specs.Prelude.{OnOk, OnErr, MatchOption};
@@ -10,7 +10,7 @@ ghost use Rattle.pm_control.specs.Control.{message_of, agent_stored};
 ghost use Rattle.pm_frames.specs.DeviceFrames.{device_frame_limit};
 ghost use Rattle.pm_services.specs.Limits.{device_reply_limit};
 ghost use Rattle.pm_services.specs.DeviceAnswers.{own_resume_bytes, after_asking, offer_reply, after_asking_to_leave, leave_reply};
-ghost use Rattle.pm_services.specs.DeviceAnswers.{price_reply, sent_again, agent_behind, agent_reply};
+ghost use Rattle.pm_services.specs.DeviceAnswers.{price_reply, sent_again, open_agent_after, agent_reply};
 ghost use Rattle.pm_services.specs.DeviceServiceFields.{HasSmallDemand, IsSmall};
 
 use pm_bid::{ArrayBid, Steps};
@@ -103,7 +103,7 @@ impl OpenDevice {
         Ok(OpenDevice { agent })
     }
 
-    /// Takes a frame behind Hello, and appends the answers to it. Where an allocation fails nothing changes and nothing is
+    /// Takes a frame after Hello, and appends the answers to it. Where an allocation fails nothing changes and nothing is
     /// appended.
     pub(crate) fn take(
         &mut self,
@@ -114,7 +114,7 @@ impl OpenDevice {
     ) -> Result<(), AllocError>
         requires small { HasSmallDemand frame.now }
         requires room { vec_len out.old + device_reply_limit ≤ vec_capacity out.old }
-        ensures taken { OnOk result (self.new ≡ agent_behind self.old frame.now) }
+        ensures taken { OnOk result (self.new ≡ open_agent_after self.old frame.now) }
         ensures answered { OnOk result (out.new.items ≡ out.old.items
             ++ agent_reply child self.old frame.now) }
         ensures unchanged { OnErr result ((self.new ≡ self.old) × (out.new.items ≡ out.old.items)) }
@@ -217,7 +217,7 @@ impl OpenDevice {
         write_gone(child, number, out);
     }
 
-    /// Takes a price of the parent, and appends the setpoint with what the agent keeps over a restart behind it, or that the
+    /// Takes a price of the parent, and appends the setpoint with what the agent keeps over a restart after it, or that the
     /// price was dropped.
     fn take_price(&mut self, price: PriceUpdate, out: &mut Vec<u8>)
         requires step { price.step < 2 ^ 16 }

@@ -1,4 +1,4 @@
-//! A relay behind Hello, with the price that waits until the relay has its record again.
+//! A relay after Hello, with the price that waits until the relay has its record again.
 
 ghost use Rattle.std.specs.Prelude.{◌≡◌, ◌+◌, ◌≤◌, ◌<◌, ◌++◌, [], length, replicate, vec_len, vec_capacity, IfOk};
 ghost use Rattle.std.specs.Prelude.{OnOk, OnErr, Some};
@@ -15,7 +15,7 @@ ghost use Rattle.pm_services.specs.Limits.{relay_reply_limit, price_reply_limit}
 ghost use Rattle.pm_services.specs.Receipts.{Appended, sender_place, receipt_bytes};
 ghost use Rattle.pm_services.specs.RelayAnswers.{AnswersOpen, AnswersPrice, AnswersBid, AnswersAsked, AnswersSend, Opens};
 ghost use Rattle.pm_services.specs.RelayAnswers.{TriesWaiting, kept_bid_bytes, dropped_with, waiting_with};
-ghost use Rattle.pm_services.specs.RelayStands.{MayStandBehind};
+ghost use Rattle.pm_services.specs.RelayStands.{MayStandWithSteps};
 
 use crate::relay_bytes::{write_down, write_own_bid, write_resume, write_sent};
 use pm_base::Limits;
@@ -99,7 +99,7 @@ impl OpenRelay {
         })
     }
 
-    /// Takes a frame behind Hello, and appends what is answered, for which there is room. The relay is this child of its parent,
+    /// Takes a frame after Hello, and appends what is answered, for which there is room. The relay is this child of its parent,
     /// and has these limits if it comes back. Where an allocation fails nothing changes and nothing is appended.
     pub(crate) fn take(
         &mut self,
@@ -110,7 +110,7 @@ impl OpenRelay {
         out: &mut Vec<u8>,
     ) -> Result<(), AllocError>
         requires limits { AreRelayLimits limits }
-        requires stands { MayStandBehind (Some self.old.relay.gathered.cache.steps) frame.now }
+        requires stands { MayStandWithSteps (Some self.old.relay.gathered.cache.steps) frame.now }
         requires room { vec_len out.old + relay_reply_limit ≤ vec_capacity out.old }
         ensures answered { OnOk result (Appended (AnswersOpen own limits self.old frame.now
             (Some self.new)) relay_reply_limit out.old.items out.new.items) }
@@ -251,7 +251,7 @@ impl OpenRelay {
         }
     }
 
-    /// Takes a price of the parent, and appends the prices for the children with what the relay keeps over a restart behind them,
+    /// Takes a price of the parent, and appends the prices for the children with what the relay keeps over a restart after them,
     /// or that the price was dropped. A price whose record the relay may have again waits.
     fn take_price(&mut self, price: PriceUpdate, out: &mut Vec<u8>)
         requires step { price.step < self.old.relay.gathered.cache.steps }

@@ -1,4 +1,4 @@
-//! An auctioneer behind Hello: what it makes of each frame, and the bytes of its answers.
+//! An auctioneer after Hello: what it makes of each frame, and the bytes of its answers.
 
 ghost use Rattle.std.specs.Prelude.{◌≡◌, ◌+◌, ◌≤◌, ◌++◌, length, replicate, vec_len, vec_capacity, IfOk, OnOk, OnErr};
 ghost use Rattle.std.specs.Prelude.{Some, if◌then◌else◌, []};
@@ -13,7 +13,7 @@ ghost use Rattle.pm_services.specs.Limits.{root_reply_limit};
 ghost use Rattle.pm_services.specs.Receipts.{sender_place, receipt_bytes, Appended};
 ghost use Rattle.pm_services.specs.RootAnswers.{AnswersRootBid, AnswersClear, AnswersOpenRoot, stored_root, not_cleared_reply, kept_prices_bytes};
 ghost use Rattle.pm_frames.specs.Stored.{root_resume_bytes, root_resume_size};
-ghost use Rattle.pm_services.specs.RootStands.{MayStandBehind};
+ghost use Rattle.pm_services.specs.RootStands.{MayStandWithSteps};
 
 use pm_bid::ArrayBid;
 use pm_cache::CacheFault;
@@ -83,7 +83,7 @@ impl OpenRoot {
         })
     }
 
-    /// Takes a frame behind Hello, and appends the answers to it. Where an allocation fails nothing changes and nothing is
+    /// Takes a frame after Hello, and appends the answers to it. Where an allocation fails nothing changes and nothing is
     /// appended.
     pub(crate) fn take(
         &mut self,
@@ -91,7 +91,7 @@ impl OpenRoot {
         frame: &RootFrame,
         out: &mut Vec<u8>,
     ) -> Result<(), AllocError>
-        requires stands { MayStandBehind (Some self.old.auction.cache.steps) frame.now }
+        requires stands { MayStandWithSteps (Some self.old.auction.cache.steps) frame.now }
         requires room { vec_len out.old + root_reply_limit ≤ vec_capacity out.old }
         ensures answered { OnOk result (Appended
             (AnswersOpenRoot self.old frame.now (Some self.new)) root_reply_limit out.old.items
@@ -207,7 +207,7 @@ impl OpenRoot {
         }
     }
 
-    /// Appends what the auctioneer keeps over a restart, and behind it the prices of its newest clearing, if it has them.
+    /// Appends what the auctioneer keeps over a restart, and after it the prices of its newest clearing, if it has them.
     fn write_cleared(&self, out: &mut Vec<u8>)
         requires room { vec_len out.old + (root_resume_size + reply_limit) ≤ vec_capacity out.old }
         ensures written { out.new.items ≡ out.old.items

@@ -11,13 +11,13 @@ use Rattle.pm_frames.proofs.stored.read_numbers.Goals as goal
 pub loop-child-preserved : goal.loop-child-preserved
 loop-child-preserved c =
     let number = c.read_u32-number.result.0 in
-    let behind = c.read_u32-number.result.1.now in
+    let after = c.read_u32-number.result.1.now in
     let pushed : c.push.new.self.items ≡ c.loop-child.numbers.items ++ number ∷ [] = c.in_ok-push.ensures.items in
     let P : List ℕ → Type 0 = λ l. AllByRecursion (λ n. n < 2 ^ 32) l in
     let small : number < 2 ^ 32 = omega arith in
     record {
-      bytes = numbers_more _ _ behind _ number c.loop-child.invariant.bytes c.read_u32-number.ensures ∙ ap (λ l. number_bytes l ++ behind) (sym pushed);
-      left = omega (arith, c.loop-child.invariant.left, ap length c.read_u32-number.ensures, length-append (to_be_bytes w32 number) behind);
+      bytes = numbers_more _ _ after _ number c.loop-child.invariant.bytes c.read_u32-number.ensures ∙ ap (λ l. number_bytes l ++ after) (sym pushed);
+      left = omega (arith, c.loop-child.invariant.left, ap length c.read_u32-number.ensures, length-append (to_be_bytes w32 number) after);
       fit = subst P (sym pushed) (fit_more _ number c.loop-child.invariant.fit small);
       count = ap length pushed ∙ omega (arith, length-append c.loop-child.numbers.items (number ∷ []), c.loop-child.invariant.count);
     }

@@ -5,7 +5,7 @@ use Rattle.std.proofs.lemmas.List.{append-nil}
 use Rattle.pm_frames.specs.declared.relay.RelayFrame.{RelayFrame}
 use Rattle.pm_frames.specs.declared.relay.RelayFrame.TheVariants.{Child}
 use Rattle.pm_services.specs.RelayAnswers.{AnswersOpen}
-use Rattle.pm_services.specs.RelayStands.{MayStandBehind}
+use Rattle.pm_services.specs.RelayStands.{MayStandWithSteps}
 use Rattle.pm_services.proofs.RelayPlaces.{bid_stands}
 use Rattle.pm_services.proofs.open_relay.OpenRelay.take.Goals as goal
 
@@ -14,7 +14,7 @@ take_bid-requires-clause-small c =
     let h : c.in-Child-Bid.field-0 ≡ Bid c.in-Child-Bid.child c.in-Child-Bid.number c.in-Child-Bid.demand =
     rw c.in-Child-Bid.is at c.in-Child-Bid.field-0-is in
     let steps = c.args.self.now.relay.gathered.cache.steps in
-    let may = subst (λ (frame : RelayFrame). MayStandBehind (Some steps) frame) (c.in-Child-Bid.is ∙ ap Child h) c.requires.stands in
+    let may = subst (λ (frame : RelayFrame). MayStandWithSteps (Some steps) frame) (c.in-Child-Bid.is ∙ ap Child h) c.requires.stands in
     (bid_stands steps _ _ _ may).small
 
 pub returns-in_ok-self-in-Resume-clause-answered : goal.returns-in_ok-self-in-Resume-clause-answered

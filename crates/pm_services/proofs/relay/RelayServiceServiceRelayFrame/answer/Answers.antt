@@ -7,7 +7,7 @@ use Rattle.pm_wire.specs.declared.frame.Frame.TheVariants.{Hello}
 use Rattle.pm_frames.specs.declared.relay.RelayFrame.{RelayFrame}
 use Rattle.pm_frames.specs.declared.relay.RelayFrame.TheVariants.{Child}
 use Rattle.pm_services.specs.RelayAnswers.{OpenRelay, RelayServiceValue, AnswersRelay, AnswersNow, AnswersClosed, Opens}
-use Rattle.pm_services.specs.RelayStands.{MayStandBehind, steps_known}
+use Rattle.pm_services.specs.RelayStands.{MayStandWithSteps, steps_known}
 use Rattle.pm_services.proofs.RelayPlaces.{relay_stands}
 use Rattle.pm_services.proofs.relay.RelayServiceServiceRelayFrame.answer.Goals as goal
 
@@ -23,7 +23,7 @@ answered_before service frame child new closed is answers = record {
 
 pub take-requires-clause-stands : goal.take-requires-clause-stands
 take-requires-clause-stands c =
-    subst (λ known. MayStandBehind (steps_known known) c.args.frame.now)
+    subst (λ known. MayStandWithSteps (steps_known known) c.args.frame.now)
     (sym (ap (λ (service : RelayServiceValue). service.relay) c.self.view_is) ∙ c.in-Some.is) (relay_stands c.args.self.now c.args.frame.now c.requires)
 
 pub returns-in_ok-new-clause-taken : goal.returns-in_ok-new-clause-taken

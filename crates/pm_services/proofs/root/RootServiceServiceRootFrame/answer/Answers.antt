@@ -8,13 +8,13 @@ use Rattle.pm_relay.specs.Roots.{RootValue, RootComesBack}
 use Rattle.pm_frames.specs.declared.root.RootFrame.{RootFrame}
 use Rattle.pm_frames.specs.declared.root.RootFrame.TheVariants.{Market}
 use Rattle.pm_services.specs.RootAnswers.{AnswersRoot, AnswersClosedRoot}
-use Rattle.pm_services.specs.RootStands.{steps_known, MayStandBehind}
+use Rattle.pm_services.specs.RootStands.{steps_known, MayStandWithSteps}
 use Rattle.pm_services.proofs.RootPlaces.{known_stands}
 use Rattle.pm_services.proofs.root.RootServiceServiceRootFrame.answer.Goals as goal
 
 pub take-requires-clause-stands : goal.take-requires-clause-stands
 take-requires-clause-stands c =
-    subst (λ (known : Option RootValue). MayStandBehind (steps_known known) c.args.frame.now) (sym c.self.view_is ∙ c.in-Some.is)
+    subst (λ (known : Option RootValue). MayStandWithSteps (steps_known known) c.args.frame.now) (sym c.self.view_is ∙ c.in-Some.is)
     (known_stands c.args.self.now c.args.frame.now c.requires)
 
 -- before Hello a frame of the market is answered so
