@@ -1,6 +1,6 @@
 -- Lists of demands that fall from a number: what one pass over the demands of a bid tells.
-use Rattle.std.proofs.Common.{◌≡◌, ◌∙◌, sym, ap, refl, ℕ, zero, suc, ◌+◌, ◌<◌, ◌≤◌, ℤ, pos, neg_ℤ, ◌≤ℤ◌, Bool, true, false}
-use Rattle.std.proofs.Common.{List, [], ◌∷◌, ◌++◌, length, Ok, arith, add-one}
+use Rattle.std.proofs.Common.{◌≡◌, ◌∙◌, sym, ap, refl, ℕ, zero, suc, ◌+◌, ◌<◌, ◌≤◌, ℤ, pos, neg_ℤ, ◌≤ℤ◌, Bool, true}
+use Rattle.std.proofs.Common.{false, List, [], ◌∷◌, ◌++◌, length, Ok, arith, add-one}
 use Rattle.std.specs.Prelude.{int_le, int_lt, ◌&&◌}
 use Rattle.std.specs.Bool.{Decides}
 use Rattle.std.proofs.Math.Bool.{and-true, and_assoc}
