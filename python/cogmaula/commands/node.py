@@ -9,7 +9,8 @@ from typing import Any
 
 from .. import cli
 from ..live.errors import BadSettings, NodeRefused
-from ..live.settings import LIVE_VARIABLE, PASSWORD_VARIABLE, SORTS, read_toml, settings_of
+from ..live.frames import SORTS
+from ..live.settings import LIVE_VARIABLE, PASSWORD_VARIABLE, read_toml, settings_of
 
 CALLS_PROGRAM = False
 HELP = "runs a node of a market across machines, joined to an MQTT broker"

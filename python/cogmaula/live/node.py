@@ -17,7 +17,7 @@ from .broker import Arrived, Broker, Confirmed, Event, Link, Message, Publicatio
 from .children import SESSION, TIME
 from .control import Control, StandardControl
 from .errors import BadFrame, BadMessage, LiveError, NodeRefused
-from .frames import PRICES, Leave, Price, frame_of
+from .frames import MOST, PRICES, Leave, Price, frame_of
 from .messages import BasisMessage, StateMessage
 from .service import Came, Ended
 from .serving import LAST_SECONDS, Serving
@@ -145,9 +145,13 @@ class Node:
     # The node's state.
 
     def _state(self, state: Literal["up", "down"], why: str) -> Publication:
+        settings = self.settings
         session = "" if self.session is None else self.session.id
-        message = StateMessage(state, self._run_id, self._started, session, now_text(), why)
-        return Publication(self.settings.own_topic("state"), message.to_bytes())
+        floor = settings.floor if settings.floor > -MOST else None
+        ceiling = settings.ceiling if settings.ceiling < MOST else None
+        place = (settings.sort, settings.parent, settings.child, floor, ceiling)
+        message = StateMessage(state, self._run_id, self._started, session, now_text(), why, *place)
+        return Publication(settings.own_topic("state"), message.to_bytes())
 
     def _marker(self) -> Publication:
         """The state as it is, told anew for each connection."""

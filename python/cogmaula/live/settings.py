@@ -14,7 +14,6 @@ from .errors import BadSettings
 from .frames import CHILDREN, MOST, Sort
 from .topics import Topics, require_name, require_prefix
 
-SORTS: tuple[Sort, ...] = ("auctioneer", "relay", "device")
 PASSWORD_VARIABLE, LIVE_VARIABLE = "COGMAULA_PASSWORD", "COGMAULA_LIVE"
 
 
