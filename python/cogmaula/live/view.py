@@ -136,15 +136,11 @@ def view_of(prefix: str, messages: Mapping[str, Message], own: str | None = None
         basis=None if heard.basis is None else heard.basis.basis,
         session=heard.session,
         begun=None if heard.basis is None else heard.basis.session.begun,
-        price=max(clearings, key=_clearing_of, default=None),
+        price=max(clearings, key=lambda it: it.clearing) if clearings else None,
         clearing=max((price.index for price, _ in heard.prices.values()), default=None),
         nodes=tuple(nodes),
         not_taken=tuple(heard.not_taken),
     )
-
-
-def _clearing_of(price: PriceView) -> int:
-    return price.clearing
 
 
 class _Nodes:
