@@ -23,6 +23,7 @@ from .service import Came, Ended
 from .serving import LAST_SECONDS, Serving
 from .sessions import Session, now_text
 from .settings import Settings
+from .showing import Showing
 from .store import Store
 
 # The seconds between looks at the clock.
@@ -68,6 +69,7 @@ class Node:
         self._control = control
         self._link: Link = (make_link or self._broker)(self._events.put, self._say)
         self._store = Store(settings.state, settings.name, settings.sort)
+        self.showing = Showing(settings, self._say)
         self.serving = Serving(settings, self._store, self._link, control, self._say, self._events.put)
 
     def _broker(self, notify: Callable[[Event], None], say: Callable[[str], None]) -> Link:
@@ -87,6 +89,7 @@ class Node:
         why = "it failed"
         try:
             self._link.start(self._subscriptions(), self._state("down", "the connection was lost"), self._marker)
+            self.showing.start()
             if self._control is not None:
                 self._control.start(lambda data: self._events.put(_Offered(data)), self._say)
             while not (self.settings.leave and self.serving.has_left):
@@ -95,6 +98,7 @@ class Node:
                     break
                 self._take(event)
                 self._link.tick()
+                self.showing.tick(self._link.is_settled)
                 self.serving.tick(time.monotonic())
                 self._tell_state()
             why = "stopped"
@@ -105,6 +109,7 @@ class Node:
             self._link.close(self._state("down", why), 2 * LAST_SECONDS)
             self.serving.end(why)
             self._store.close()
+            self.showing.close(LAST_SECONDS)
 
     def stop(self) -> None:
         """Ends `run`, from any thread or from the handler of a signal."""
@@ -169,6 +174,7 @@ class Node:
 
     def _take_messages(self) -> None:
         found = self._link.taken()
+        self.showing.take(found)
         self._seen.update({it.topic: it for it in found})
         if self.session is not None:
             for message in found:

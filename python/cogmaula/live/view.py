@@ -206,7 +206,8 @@ class _Nodes:
             return ("its version does not tell its place",)
         if state.session and self._heard.session is not None and state.session != self._heard.session:
             return (f"it is in session {state.session}, and not in that of the market",)
-        return (f"its child number is also that of {', '.join(others)}",) if others else ()
+        more = f" and {len(others) - 1} more" if len(others) > 1 else ""
+        return (f"its child number is also that of {others[0]}{more}",) if others else ()
 
     def _at_place(self, node: NodeView, place: Place) -> NodeView:
         """The node that has a place, with the bid and the price of it."""

@@ -212,6 +212,8 @@ def test_of_two_nodes_with_one_child_number_neither_has_the_bid():
     assert [told.node(it).bid for it in ("house", "twin")] == [None, None]
     assert told.node("house").notes == ("its child number is also that of twin",)
     assert len(told.view().nodes) == 6
+    told.state("third", "device", "street", 1)
+    assert told.node("third").notes == ("its child number is also that of house and 1 more",)
 
 
 def test_a_node_of_the_version_before_has_no_place():
