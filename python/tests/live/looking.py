@@ -5,6 +5,7 @@ from __future__ import annotations
 import http.client
 import json
 import os
+import re
 import shutil
 import subprocess
 
@@ -85,5 +86,13 @@ def dom_of(port, folder, milliseconds=4_000):
     """The page as a browser has it after so long."""
     words = ["--headless", "--no-sandbox", "--disable-gpu", "--dump-dom", f"--virtual-time-budget={milliseconds}"]
     words += [f"--user-data-dir={folder / 'browser'}", f"http://127.0.0.1:{port}/"]
-    found = subprocess.run([CHROMIUM, *words], capture_output=True, timeout=SECONDS, check=True, env={**os.environ, "HOME": str(folder)})
+    found = subprocess.run([CHROMIUM, *words], capture_output=True, timeout=4 * SECONDS, check=True, env={**os.environ, "HOME": str(folder)})
     return found.stdout.decode()
+
+
+def cells_of(dom, name):
+    """The texts of a node's row, without those that are hidden."""
+    dom = dom.replace("&nbsp;", " ").replace("\u2212", "-")
+    (row,) = [it for it in re.findall(r"<tr.*?</tr>", dom, re.DOTALL) if f'<span class="main">{name}</span>' in it]
+    shown = re.sub(r'<(\w+)[^>]* hidden="">.*?</\1>', "", row)
+    return re.findall(r">([^<]+)<", shown)

@@ -12,7 +12,7 @@ import time
 
 import pytest
 from brokers import wait_until
-from looking import Served, dom_of, get, require_browser, require_page
+from looking import Served, cells_of, dom_of, get, require_browser, require_page
 from pretended import settings
 from told import Told, village
 
@@ -385,14 +385,6 @@ def test_the_login_that_reads():
 
 
 LOST = '<p class="alert" id="lost" role="alert">No connection since'
-
-
-def cells_of(dom, name):
-    """The texts of a node's row, without those that are hidden."""
-    dom = dom.replace("&nbsp;", " ").replace("\u2212", "-")
-    (row,) = [it for it in re.findall(r"<tr.*?</tr>", dom, re.DOTALL) if f'<span class="main">{name}</span>' in it]
-    shown = re.sub(r'<(\w+)[^>]* hidden="">.*?</\1>', "", row)
-    return [it for it in re.findall(r">([^<]+)<", shown)]
 
 
 @pytest.fixture
