@@ -53,8 +53,8 @@ OFFERS = {
     "bakery": [5_000] * 7 + [0] * 3,
     "panels": [-6_000] * 10,
 }
-# The width of each picture in pixels, and for how many pixels of the screen one of the page stands.
-SIZES = {"page_wide.png": (1280, 1.0), "page_narrow.png": (390, 1.5)}
+# The width and the greatest height of each picture, in pixels of the page.
+SIZES = {"page_wide.png": (1280, 1000), "page_narrow.png": (390, 1400)}
 
 
 async def draw(address: str) -> None:
@@ -86,12 +86,14 @@ async def take(port: int) -> None:
                 pass
             return answer["result"]
 
-        for file, (wide, scale) in SIZES.items():
+        while "store" not in str(await ask("Runtime.evaluate", expression="document.body?.innerText")):
+            await asyncio.sleep(0.5)
+        for file, (wide, most) in SIZES.items():
             high = 800
             for _ in range(2):
-                await ask("Emulation.setDeviceMetricsOverride", width=wide, height=high, deviceScaleFactor=scale, mobile=False)
-                await asyncio.sleep(3)
-                high = (await ask("Page.getLayoutMetrics"))["cssContentSize"]["height"]
+                await ask("Emulation.setDeviceMetricsOverride", width=wide, height=high, deviceScaleFactor=1, mobile=False)
+                await asyncio.sleep(2)
+                high = min(most, (await ask("Page.getLayoutMetrics"))["cssContentSize"]["height"])
             found = await ask("Page.captureScreenshot", format="png")
             (PICTURES / file).write_bytes(base64.b64decode(found["data"]))
 

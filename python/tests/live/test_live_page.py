@@ -233,7 +233,7 @@ def test_connections_that_ask_for_nothing_are_ended(served, monkeypatch):
 
 def test_a_client_that_never_reads_is_ended_and_holds_nobody_up(monkeypatch):
     """Its view is larger than all that the system keeps for a connection."""
-    monkeypatch.setattr(page_file, "PATIENCE", 3.0)
+    monkeypatch.setattr(page_file, "PATIENCE", 8.0)
     told = village()
     for number in range(400):
         told.state(f"device{number}", "device", "street", 9, why="y" * 30_000)
@@ -249,9 +249,11 @@ def test_a_client_that_never_reads_is_ended_and_holds_nobody_up(monkeypatch):
         assert b"101" in await reader.readline()
         reader._transport.pause_reading()
         async with served.socket(max_size=None) as other:
-            assert json.loads(await asyncio.wait_for(other.recv(), 20))["clearing"] == 7
-        await asyncio.sleep(4)
-        assert served.page._sockets == 0
+            assert json.loads(await asyncio.wait_for(other.recv(), 100))["clearing"] == 7
+        end = time.monotonic() + 100
+        while served.page._sockets:
+            assert time.monotonic() < end, "the client that never reads is still there"
+            await asyncio.sleep(0.1)
         writer.close()
 
     with Served(told) as served:
