@@ -121,6 +121,13 @@ def test_above_the_ceiling():
     assert told.node("street").is_within is False
 
 
+def test_each_relay_has_the_sum_of_its_own():
+    told = village().state("lane", "relay", "auctioneer", 3).bid("auctioneer", 3, 1, *[5] * 10).price("auctioneer", 3, 1, 7, 2)
+    told.state("shop", "device", "lane", 1).bid("lane", 1, 1, *[5] * 10).price("lane", 1, 1, 7, 2).setpoint("shop", 5, 1, 7, 2)
+    powers = {it.name: it.power.power for it in told.view().nodes}
+    assert powers == {"auctioneer": -105, "street": -50, "house": 100, "store": -150, "mill": -60, "lane": 5, "shop": 5}
+
+
 def test_a_page_of_a_relay_shows_its_children_by_their_numbers():
     told = village().without("house/state", "store/state", "mill/state", "auctioneer/bid/2", "auctioneer/price/2")
     told.without("house/setpoint", "store/setpoint", "mill/setpoint")
