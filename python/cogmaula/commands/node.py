@@ -9,7 +9,8 @@ from typing import Any
 
 from .. import cli
 from ..live.errors import BadSettings, NodeRefused
-from ..live.settings import LIVE_VARIABLE, PASSWORD_VARIABLE, SORTS, read_toml, settings_of
+from ..live.frames import SORTS
+from ..live.settings import LIVE_VARIABLE, PASSWORD_VARIABLE, read_toml, settings_of
 
 CALLS_PROGRAM = False
 HELP = "runs a node of a market across machines, joined to an MQTT broker"
@@ -43,10 +44,14 @@ _OPTIONS: list[tuple[str, str, type, str, str]] = [
     ("broker", "ca", str, "FILE", "the CA that signed the broker's certificate; makes the connection by TLS"),
     ("broker", "certificate", str, "FILE", "the node's own certificate, if the broker asks for one"),
     ("broker", "key", str, "FILE", "its key"),
+    ("page", "listen", str, "ADDRESS:PORT", "serves a page of what the node sees; default 127.0.0.1:8080, if the file has a page"),
+    ("page", "origin", str, "URL", "the address that browsers have for the page, if a proxy stands before it"),
     ("broker", "keepalive", int, "SECONDS", "a connection that is silent for 1.5 times as long is lost; default 10"),
 ]
 _FLAGS = [
     ("broker", "tls", "connects by TLS, with the CAs of the system if no CA is given"),
+    ("page", "whole", "the page shows the whole market, by a connection that reads all of its topics"),
+    ("page", "insecure", "the page may be served at an address that others reach, though it has no login"),
     ("node", "new_session", "an auctioneer begins a new session, in which all nodes count from 1"),
     ("node", "leave", "a device leaves the market, and the command ends"),
 ]
@@ -59,7 +64,7 @@ def _option(member: str) -> str:
 def add_arguments(parser: argparse.ArgumentParser) -> None:
     """Adds the arguments of node."""
     parser.add_argument("sort", choices=SORTS, help="what the node is")
-    parser.add_argument("--config", metavar="FILE", help="a TOML file with the tables [node], [basis] and [broker]")
+    parser.add_argument("--config", metavar="FILE", help="a TOML file with the tables [node], [basis], [broker] and [page]")
     for table, member, kind, word, what in _OPTIONS:
         parser.add_argument(_option(member), dest=f"{table}.{member}", type=kind, metavar=word, help=what)
     for table, member, what in _FLAGS:

@@ -10,6 +10,7 @@ What is proved is the service, the program `live` (docs/RELAY.md). This package 
 from .control import Control, StandardControl
 from .errors import BadFrame, BadMessage, BadSettings, BadStore, LiveError, NodeRefused
 from .node import Node, make_node
+from .page_settings import PageSettings
 from .settings import BrokerSettings, Settings, read_toml, settings_of
 
 __all__ = [
@@ -22,6 +23,7 @@ __all__ = [
     "LiveError",
     "Node",
     "NodeRefused",
+    "PageSettings",
     "Settings",
     "StandardControl",
     "make_node",

@@ -8,24 +8,31 @@ on all that it retains, and lets the node write and read its own topics.
 from __future__ import annotations
 
 import queue
-import ssl
 import threading
 import time
 from collections.abc import Callable, Iterable, Sequence
 from dataclasses import dataclass, field
 from typing import Any, Protocol
 
-from ..errors import NoPackage
+from .connection import (
+    FIRST_PAUSE,
+    LONGEST_PAUSE,
+    REFUSED,
+    connect,
+    keep_connected,
+    new_client,
+    paho,
+    properties_of,
+    words_of,
+    words_of_end,
+    words_of_refusal,
+)
 from .settings import BrokerSettings
 
-# The pauses between tries in seconds: the first, and the longest; each is twice the one before.
-FIRST_PAUSE, LONGEST_PAUSE = 1.0, 60.0
 # The seconds after which a message that did not come back is told.
 PATIENCE = 10.0
-# The longest message taken, in bytes, and the most topics of which messages wait.
-LONGEST, WAITING = 32_768, 2_048
-REFUSED = 128
-NO_LOGIN = {134, 135, 138, 140}
+# The most topics of which messages wait.
+WAITING = 2_048
 
 
 @dataclass(frozen=True)
@@ -100,26 +107,6 @@ class Link(Protocol):
 
     def close(self, last: Publication, seconds: float) -> None:
         """Publishes this last and ends the connection, within so many seconds."""
-
-
-def paho() -> Any:
-    """The module paho.mqtt.client. Raises NoPackage if it is not installed."""
-    try:
-        import paho.mqtt.client
-    except ImportError:
-        raise NoPackage("a node needs the package paho-mqtt (Debian: python3-paho-mqtt)") from None
-    return paho.mqtt.client
-
-
-def _properties(kind: str, **members: object) -> Any:
-    """Properties of MQTT 5 for a packet of this kind."""
-    from paho.mqtt.packettypes import PacketTypes
-    from paho.mqtt.properties import Properties
-
-    found = Properties(getattr(PacketTypes, kind))
-    for name, value in members.items():
-        setattr(found, name, value)
-    return found
 
 
 class Broker:
@@ -243,7 +230,7 @@ class Broker:
                 del self._unconfirmed[topic]
 
     def _send(self, client: Any, publication: Publication) -> None:
-        properties = _properties("PUBLISH")
+        properties = properties_of("PUBLISH")
         if publication.properties:
             properties.UserProperty = list(publication.properties)
         told = client.publish(publication.topic, publication.payload, 1, True, properties)
@@ -255,7 +242,7 @@ class Broker:
         """Publishes the marker."""
         marked = self._marker()
         self._marked, self._marked_at = marked, time.monotonic()
-        client.publish(marked.topic, marked.payload, 1, True, _properties("PUBLISH"))
+        client.publish(marked.topic, marked.payload, 1, True, properties_of("PUBLISH"))
 
     def _say_no_echo(self, topic: str) -> None:
         if topic not in self._told:
@@ -268,32 +255,23 @@ class Broker:
     # One connection after the other, in a thread of its own.
 
     def _run(self) -> None:
-        pause = self._pauses[0]
-        while not self._closing.is_set():
-            was_there, why = self._connection()
-            self._client = self._settled = None
-            if self._closing.is_set():
-                return
-            pause = self._pauses[0] if was_there else pause
-            self._say(f"{self.settings.address}: {why}. The next try is in {pause:g} s")
-            self._closing.wait(pause)
-            pause = min(2 * pause, self._pauses[1])
+        keep_connected(self._connection, self._closing, self._say, self.settings.address, self._pauses)
 
     def _connection(self) -> tuple[bool, str]:
         """Makes one connection, and waits for its end: whether it was there, and why it ended."""
+        try:
+            return self._worked_connection()
+        finally:
+            self._client = self._settled = None
+
+    def _worked_connection(self) -> tuple[bool, str]:
         ended = threading.Event()
         words: list[str] = []
         try:
             client = self._made(ended, words)
-            client.connect(
-                self.settings.host,
-                self.settings.port_due,
-                self.settings.keepalive,
-                clean_start=True,
-                properties=_properties("CONNECT", MaximumPacketSize=LONGEST),
-            )
+            connect(client, self.settings)
         except (OSError, ValueError) as error:
-            return False, _words_of(error, self.settings)
+            return False, words_of(error, self.settings)
         client.loop_start()
         ended.wait()
         client.loop_stop()
@@ -301,52 +279,24 @@ class Broker:
 
     def _made(self, ended: threading.Event, words: list[str]) -> Any:
         """A client of paho. Raises OSError if a file cannot be read."""
-        mqtt, settings = self._mqtt, self.settings
-        version = getattr(mqtt, "CallbackAPIVersion", None)
-        first = () if version is None else (version.VERSION1,)
-        client = mqtt.Client(*first, client_id=self._client_id, protocol=mqtt.MQTTv5, reconnect_on_failure=False)
-        if settings.user is not None:
-            client.username_pw_set(settings.user, settings.password())
-        if settings.with_tls:
-            client.tls_set(settings.ca, settings.certificate, settings.key)
+        client = new_client(self.settings, self._client_id, ended, words)
         client.will_set(self._will.topic, self._will.payload, 1, True)
         client.on_connect = lambda it, _data, _flags, code, _more: self._on_connect(it, code, words)
         client.on_subscribe = lambda _it, _data, _mid, codes, _more: self._on_subscribe(codes)
         client.on_message = lambda it, _data, message: self._on_message(it, message)
         client.on_publish = lambda it, _data, mid: self._on_publish(it, mid)
         client.on_disconnect = lambda _it, _data, code, _more: self._on_disconnect(code, ended, words)
-        client.loop_forever = self._ending(client.loop_forever, ended, words)
         return client
-
-    def _ending(self, loop: Callable[..., Any], ended: threading.Event, words: list[str]) -> Callable[..., Any]:
-        """The loop of a client, which also ends the connection at what TLS raises: paho 1 does not catch that."""
-
-        def run(*arguments: object, **named: object) -> Any:
-            try:
-                return loop(*arguments, **named)
-            except OSError as error:
-                words.append(_words_of(error, self.settings))
-                return self._mqtt.MQTT_ERR_CONN_LOST
-            finally:
-                ended.set()
-
-        return run
 
     def _on_connect(self, client: Any, code: Any, words: list[str]) -> None:
         if code.value >= REFUSED:
-            words.append(self._words_of_refusal(code))
+            words.append(words_of_refusal(code, self.settings))
             return
         self._marked_at = time.monotonic()
         self._client = client
         options = self._mqtt.SubscribeOptions(qos=1)
         client.subscribe([(it, options) for it in self._topics])
         self._mark(client)
-
-    def _words_of_refusal(self, code: Any) -> str:
-        if code.value not in NO_LOGIN:
-            return f"the broker refuses the connection: {code}"
-        user = f"the login of {self.settings.user}" if self.settings.user else "a login without a user"
-        return f"the broker refuses {user} ({code}): look at user, password_file and the broker's list of users"
 
     def _on_subscribe(self, codes: Any) -> None:
         for topic, code in zip(self._topics, codes, strict=False):
@@ -376,28 +326,5 @@ class Broker:
 
     def _on_disconnect(self, code: Any, ended: threading.Event, words: list[str]) -> None:
         if not words:
-            words.append(self._words_of_end(code))
+            words.append(words_of_end(code, self._client is not None))
         ended.set()
-
-    def _words_of_end(self, code: Any) -> str:
-        if not isinstance(code, int):
-            return f"the broker ends the connection: {code}"
-        if self._client is None:
-            return "the connection ended before a login: does the broker want TLS, or a certificate of the node?"
-        more = "" if code == self._mqtt.MQTT_ERR_CONN_LOST else f": {self._mqtt.error_string(code)}"
-        return f"the connection was lost{more}"
-
-
-def _words_of(error: Exception, settings: BrokerSettings) -> str:
-    """Why no connection was made, in words, and what to do."""
-    if isinstance(error, ssl.SSLCertVerificationError):
-        return f"the broker's certificate is not trusted ({error.verify_message}): give the CA that signed it by ca, and its own host name"
-    if isinstance(error, ssl.SSLError):
-        return f"TLS fails ({getattr(error, 'reason', None) or error}): look at tls, ca, certificate, key and the port"
-    if isinstance(error, FileNotFoundError | PermissionError):
-        return f"{error.filename or 'a file of the settings'} cannot be read: {error.strerror}"
-    if isinstance(error, ConnectionResetError) and settings.with_tls:
-        return "the broker ended the connection before TLS was there: does it speak TLS at this port?"
-    if isinstance(error, OSError):
-        return f"the broker cannot be reached ({error.strerror or error})"
-    return f"the settings of the broker are refused: {error}"

@@ -15,6 +15,7 @@ from typing import ClassVar, Literal
 from .errors import BadFrame
 
 Sort = Literal["relay", "auctioneer", "device"]
+SORTS: tuple[Sort, ...] = ("auctioneer", "relay", "device")
 
 # The most children of a node, the greatest demand in watts, and the greatest number and index.
 CHILDREN, MOST, LAST_NUMBER = 256, 1_000_000_000, 4_294_967_295

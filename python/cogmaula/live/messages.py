@@ -8,7 +8,7 @@ from typing import Any, Literal
 
 from ..cluster import Basis
 from .errors import BadFrame, BadMessage
-from .frames import Leave, Offer, Setpoint
+from .frames import CHILDREN, SORTS, Leave, Offer, Setpoint, Sort
 from .sessions import Session, time_of
 
 
@@ -35,6 +35,10 @@ def _text(told: dict[str, Any], name: str, what: str) -> str:
     if not isinstance(value, str):
         raise BadMessage(f"{what} has no text {name}")
     return value
+
+
+def _whole_or_none(told: dict[str, Any], name: str, what: str) -> int | None:
+    return None if told.get(name) is None else _whole(told, name, what)
 
 
 @dataclass(frozen=True)
@@ -67,6 +71,9 @@ class StateMessage:
     session: the id of the auctioneer's session that the node is in, "" before it knows one
     time:    when the state was told; of a last will, when the connection was made
     why:     in words, "" if there is nothing to say
+    sort:    what the node is; None of a node of an earlier version, which tells nothing of what follows either
+    parent:  the name of the node above, and `child` the own number there; None of the auctioneer
+    floor:   the least power that a relay announces, in watts, and `ceiling` the greatest; None without a limit
     """
 
     state: Literal["up", "down"]
@@ -75,6 +82,11 @@ class StateMessage:
     session: str
     time: str
     why: str = ""
+    sort: Sort | None = None
+    parent: str | None = None
+    child: int | None = None
+    floor: int | None = None
+    ceiling: int | None = None
 
     def to_bytes(self) -> bytes:
         """The message."""
@@ -89,7 +101,15 @@ class StateMessage:
             raise BadMessage("the state is neither up nor down")
         run, started, session, time, why = (_text(told, it, what) for it in ("run", "started", "session", "time", "why"))
         time_of(started)
-        return StateMessage(told["state"], run, started, session, time, why)
+        sort, parent = told.get("sort"), told.get("parent")
+        if sort is not None and sort not in SORTS:
+            raise BadMessage("the state has a sort that is no auctioneer, relay or device")
+        if parent is not None:
+            parent = _text(told, "parent", what)
+        child, floor, ceiling = (_whole_or_none(told, it, what) for it in ("child", "floor", "ceiling"))
+        if child is not None and not 1 <= child <= CHILDREN:
+            raise BadMessage(f"the state has the child {child}, and not 1 to {CHILDREN}")
+        return StateMessage(told["state"], run, started, session, time, why, sort, parent, child, floor, ceiling)
 
 
 @dataclass(frozen=True)
@@ -123,6 +143,32 @@ class OfferMessage:
         except BadFrame as error:
             raise BadMessage(f"the offer is no bid: {error}") from None
         return OfferMessage(offer, time)
+
+
+@dataclass(frozen=True)
+class SetpointMessage:
+    """What a device is told to take.
+
+    power:    in watts
+    step:     the step of the clearing at the device, and `price` its price in price units
+    bid:      the number of the offer that the power is of
+    clearing: the index of the clearing, and `time` when that was (RFC 3339), "" if that was not told
+    """
+
+    power: int
+    step: int
+    price: int
+    bid: int
+    clearing: int
+    time: str
+
+    @staticmethod
+    def of(data: bytes) -> SetpointMessage:
+        """The setpoint that a message tells. Raises BadMessage."""
+        what = "the setpoint"
+        told = _object_of(data, what)
+        power, step, price, bid, clearing = (_whole(told, it, what) for it in ("power", "step", "price", "bid", "clearing"))
+        return SetpointMessage(power, step, price, bid, clearing, _text(told, "time", what))
 
 
 def is_setpoint(data: bytes) -> bool:

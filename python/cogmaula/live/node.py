@@ -17,12 +17,13 @@ from .broker import Arrived, Broker, Confirmed, Event, Link, Message, Publicatio
 from .children import SESSION, TIME
 from .control import Control, StandardControl
 from .errors import BadFrame, BadMessage, LiveError, NodeRefused
-from .frames import PRICES, Leave, Price, frame_of
+from .frames import MOST, PRICES, Leave, Price, frame_of
 from .messages import BasisMessage, StateMessage
 from .service import Came, Ended
 from .serving import LAST_SECONDS, Serving
 from .sessions import Session, now_text
 from .settings import Settings
+from .showing import Showing
 from .store import Store
 
 # The seconds between looks at the clock.
@@ -68,6 +69,7 @@ class Node:
         self._control = control
         self._link: Link = (make_link or self._broker)(self._events.put, self._say)
         self._store = Store(settings.state, settings.name, settings.sort)
+        self.showing = Showing(settings, self._say)
         self.serving = Serving(settings, self._store, self._link, control, self._say, self._events.put)
 
     def _broker(self, notify: Callable[[Event], None], say: Callable[[str], None]) -> Link:
@@ -87,6 +89,7 @@ class Node:
         why = "it failed"
         try:
             self._link.start(self._subscriptions(), self._state("down", "the connection was lost"), self._marker)
+            self.showing.start()
             if self._control is not None:
                 self._control.start(lambda data: self._events.put(_Offered(data)), self._say)
             while not (self.settings.leave and self.serving.has_left):
@@ -95,6 +98,7 @@ class Node:
                     break
                 self._take(event)
                 self._link.tick()
+                self.showing.tick(self._link.is_settled)
                 self.serving.tick(time.monotonic())
                 self._tell_state()
             why = "stopped"
@@ -105,6 +109,7 @@ class Node:
             self._link.close(self._state("down", why), 2 * LAST_SECONDS)
             self.serving.end(why)
             self._store.close()
+            self.showing.close(LAST_SECONDS)
 
     def stop(self) -> None:
         """Ends `run`, from any thread or from the handler of a signal."""
@@ -145,9 +150,13 @@ class Node:
     # The node's state.
 
     def _state(self, state: Literal["up", "down"], why: str) -> Publication:
+        settings = self.settings
         session = "" if self.session is None else self.session.id
-        message = StateMessage(state, self._run_id, self._started, session, now_text(), why)
-        return Publication(self.settings.own_topic("state"), message.to_bytes())
+        floor = settings.floor if settings.floor > -MOST else None
+        ceiling = settings.ceiling if settings.ceiling < MOST else None
+        place = (settings.sort, settings.parent, settings.child, floor, ceiling)
+        message = StateMessage(state, self._run_id, self._started, session, now_text(), why, *place)
+        return Publication(settings.own_topic("state"), message.to_bytes())
 
     def _marker(self) -> Publication:
         """The state as it is, told anew for each connection."""
@@ -165,6 +174,7 @@ class Node:
 
     def _take_messages(self) -> None:
         found = self._link.taken()
+        self.showing.take(found)
         self._seen.update({it.topic: it for it in found})
         if self.session is not None:
             for message in found:

@@ -12,9 +12,9 @@ from typing import Any, cast
 from ..cluster import Basis
 from .errors import BadSettings
 from .frames import CHILDREN, MOST, Sort
+from .page_settings import PageSettings
 from .topics import Topics, require_name, require_prefix
 
-SORTS: tuple[Sort, ...] = ("auctioneer", "relay", "device")
 PASSWORD_VARIABLE, LIVE_VARIABLE = "COGMAULA_PASSWORD", "COGMAULA_LIVE"
 
 
@@ -89,6 +89,7 @@ class Settings:
     validity: the seconds after which a device whose control is silent leaves; None keeps its bid
     new_session: whether an auctioneer begins a new session
     leave:    whether a device leaves and the node then ends
+    page:     the page that the node serves, None for no page
     """
 
     sort: Sort
@@ -106,6 +107,7 @@ class Settings:
     new_session: bool = False
     leave: bool = False
     broker: BrokerSettings = field(default_factory=BrokerSettings)
+    page: PageSettings | None = None
 
     def __post_init__(self) -> None:
         """Raises BadSettings."""
@@ -168,7 +170,7 @@ class Settings:
 
 
 # The settings by the names of the tables of a TOML file.
-_TABLES = ("node", "basis", "broker")
+_TABLES = ("node", "basis", "broker", "page")
 
 
 def read_toml(path: str | os.PathLike[str]) -> dict[str, dict[str, Any]]:
@@ -179,19 +181,20 @@ def read_toml(path: str | os.PathLike[str]) -> dict[str, dict[str, Any]]:
         raise BadSettings(f"{path}: {error}") from None
     for name, table in told.items():
         if name not in _TABLES or not isinstance(table, dict):
-            raise BadSettings(f"{path}: {name} is not known there: a file has the tables [node], [basis] and [broker]")
+            raise BadSettings(f"{path}: {name} is not known there: a file has the tables [node], [basis], [broker] and [page]")
     return told
 
 
 def settings_of(sort: Sort, tables: Mapping[str, Mapping[str, Any]]) -> Settings:
-    """The settings that the tables `node`, `basis` and `broker` tell. Raises BadSettings."""
+    """The settings that the tables `node`, `basis`, `broker` and `page` tell. Raises BadSettings."""
     node = dict(tables.get("node", {}))
     node.setdefault("live", os.environ.get(LIVE_VARIABLE) or "live")
     basis = _made(Basis, tables.get("basis", {}), "basis")
     broker = _made(BrokerSettings, tables.get("broker", {}), "broker")
-    if {"sort", "basis", "broker"} & node.keys():
-        raise BadSettings("node has a member sort, basis or broker: the command says the sort, and the others are tables")
-    return cast(Settings, _made(Settings, {**node, "sort": sort, "basis": basis, "broker": broker}, "node"))
+    page = _made(PageSettings, tables["page"], "page") if "page" in tables else None
+    if {"sort", "basis", "broker", "page"} & node.keys():
+        raise BadSettings("node has a member sort, basis, broker or page: the command says the sort, and the others are tables")
+    return cast(Settings, _made(Settings, {**node, "sort": sort, "basis": basis, "broker": broker, "page": page}, "node"))
 
 
 def _made(kind: type[Any], table: Mapping[str, Any], name: str) -> Any:

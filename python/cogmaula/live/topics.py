@@ -51,6 +51,18 @@ class Topics:
         """The newest Price for a child, of its parent. The child + stands for all."""
         return f"{self.prefix}/{parent}/price/{child}"
 
+    def parts_of(self, topic: str) -> tuple[str, str, int | None] | None:
+        """The node of a topic, its word such as `state` or `bid`, and of bids and prices the child. None if it is no such topic."""
+        below = topic.removeprefix(f"{self.prefix}/")
+        node, _, rest = below.partition("/")
+        word, has_child, _ = rest.partition("/")
+        if below == topic or not _NAME.fullmatch(node) or node in _TAKEN:
+            return None
+        if not has_child:
+            return node, word, None
+        child = self.child_of(topic, node, word) if word in ("bid", "price") else None
+        return None if child is None else (node, word, child)
+
     def child_of(self, topic: str, node: str, what: str) -> int | None:
         """The child that a topic of this node's bids or prices is of, or None if it is no such topic."""
         above, _, name = topic.rpartition("/")

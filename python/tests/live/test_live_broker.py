@@ -10,7 +10,8 @@ import time
 import pytest
 from brokers import SECONDS, Certificates, Mosquitto, Onlooker, free_port, passwords, require_broker, wait_until
 
-from cogmaula.live.broker import Broker, Confirmed, Publication, Settled, _words_of
+from cogmaula.live.broker import Broker, Confirmed, Publication, Settled
+from cogmaula.live.connection import words_of, words_of_end
 from cogmaula.live.settings import BrokerSettings
 
 STATE, WILL = "market/house/state", Publication("market/house/state", b"down")
@@ -246,8 +247,8 @@ def test_other_reasons_have_their_lines():
     assert words == ["the broker refuses the connection: reason 137"]
     broker._on_subscribe([Code(1), Code(135)])
     assert said == ["127.0.0.1:1883 does not let this node read market/x (reason 135)"]
-    assert broker._words_of_end(Code(139)) == "the broker ends the connection: reason 139"
-    assert _words_of(ValueError("no host"), broker.settings) == "the settings of the broker are refused: no host"
+    assert words_of_end(Code(139), was_there=True) == "the broker ends the connection: reason 139"
+    assert words_of(ValueError("no host"), broker.settings) == "the settings of the broker are refused: no host"
 
 
 def test_two_connections_of_one_name_take_it_from_each_other(tmp_path):

@@ -102,6 +102,21 @@ def test_what_a_service_wrote_and_was_not_handled_is_lost_with_it(joined):
 # A service that ends.
 
 
+@pytest.mark.parametrize(
+    ("sort", "more", "due"),
+    [
+        ("auctioneer", {}, ("auctioneer", None, None, None, None)),
+        ("relay", {}, ("relay", "auctioneer", 3, -1000, 1000)),
+        ("relay", {"floor": -1_000_000_000}, ("relay", "auctioneer", 3, None, 1000)),
+        ("device", {}, ("device", "street", 2, None, None)),
+    ],
+)
+def test_the_state_tells_the_place_and_the_limits(joined, sort, more, due):
+    one = joined(sort, **more).begun()
+    told = json.loads(one.link.of(one.node.settings.own_topic("state"))[-1])
+    assert tuple(told[it] for it in ("sort", "parent", "child", "floor", "ceiling")) == due
+
+
 def test_a_service_that_ends_starts_anew_from_its_newest_resume_with_all_that_it_hears(joined):
     one = joined("relay").begun(("market/street/bid/1", bid(1, 1, 5, -3).to_bytes()))
     one.link.comes("market/auctioneer/price/3", Price(3, 1, 7, 1).to_bytes())

@@ -15,7 +15,7 @@ from cogmaula.live.asking import Asking
 from cogmaula.live.control import StandardControl
 from cogmaula.live.errors import BadMessage
 from cogmaula.live.frames import DeviceResume, Leave, Offer, ResumeGone, Setpoint
-from cogmaula.live.messages import BasisMessage, OfferMessage, StateMessage, setpoint_bytes
+from cogmaula.live.messages import BasisMessage, OfferMessage, SetpointMessage, StateMessage, setpoint_bytes
 from cogmaula.live.offers import Offers
 from cogmaula.live.sessions import Session, new_session, time_of, time_text
 
@@ -252,6 +252,8 @@ def test_messages_come_back():
     assert BasisMessage.of(basis.to_bytes()) == basis
     state = StateMessage("down", "0" * 16, MOMENT, SESSION.id, MOMENT, "stopped")
     assert StateMessage.of(state.to_bytes()) == state
+    placed = StateMessage("up", "0" * 16, MOMENT, SESSION.id, MOMENT, "", "relay", "auctioneer", 3, -1000, None)
+    assert StateMessage.of(placed.to_bytes()) == placed
     assert OfferMessage.of(b'{"leave": true, "time": "2026-01-31T06:30:00Z"}', 2) == OfferMessage(Leave(), "2026-01-31T06:30:00Z")
 
 
@@ -265,12 +267,28 @@ def test_messages_come_back():
         (StateMessage, {"state": "asleep"}, "neither up nor down"),
         (StateMessage, {"started": "then"}, "is no time"),
         (StateMessage, {"why": None}, "no text why"),
+        (StateMessage, {"sort": "hub"}, "no auctioneer, relay or device"),
+        (StateMessage, {"parent": 3}, "no text parent"),
+        (StateMessage, {"child": "3"}, "no whole number child"),
+        (StateMessage, {"child": 257}, "the child 257, and not 1 to 256"),
+        (StateMessage, {"ceiling": 2.5}, "no whole number ceiling"),
     ],
 )
 def test_a_message_of_another_form(kind, change, why):
     made = BasisMessage(BASIS, SESSION) if kind is BasisMessage else StateMessage("up", "0" * 16, MOMENT, "", MOMENT)
     with pytest.raises(BadMessage, match=why):
         kind.of(json.dumps(json.loads(made.to_bytes()) | change).encode())
+
+
+def test_a_state_of_the_version_before_has_no_place():
+    told = {"state": "up", "run": "0" * 16, "started": MOMENT, "session": SESSION.id, "time": MOMENT, "why": ""}
+    assert StateMessage.of(json.dumps(told).encode()) == StateMessage("up", "0" * 16, MOMENT, SESSION.id, MOMENT)
+
+
+def test_a_setpoint_comes_back():
+    assert SetpointMessage.of(setpoint_bytes(Setpoint(3, 7, 1, -300), BASIS, MOMENT)) == SetpointMessage(-300, 1, 9, 3, 7, MOMENT)
+    with pytest.raises(BadMessage, match="no whole number price"):
+        SetpointMessage.of(b'{"power": 1, "step": 1, "price": null, "bid": 3, "clearing": 7, "time": ""}')
 
 
 def test_a_setpoint_has_its_price():

@@ -97,7 +97,7 @@ MISTAKES = [
     ("ceiling = -1", "", "floor and ceiling are"),
     ("colour = 1", "", "node.colour is not known: basis, broker, ceiling, child"),
     ("new_session = true", "", "new_session is for an auctioneer, and leave for a device"),
-    ('sort = "relay"', "", "node has a member sort, basis or broker"),
+    ('sort = "relay"', "", "node has a member sort, basis, broker or page"),
     ("", "steps = 1", "give 2 to 1000 steps"),
     ("", "max = 0", "from min to a greater max"),
     ("", "min = 1\nsteps = 4", "max - min has to be a multiple of steps - 1"),

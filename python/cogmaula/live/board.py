@@ -1,0 +1,71 @@
+"""The newest messages of a market, which one thread takes and another shows."""
+
+from __future__ import annotations
+
+import threading
+from collections.abc import Callable, Iterable
+
+from .broker import Message
+from .sessions import now_text
+
+# The most topics that are kept.
+MOST_TOPICS = 100_000
+
+
+class Board:
+    """The newest message of each topic. All calls may come from any thread.
+
+    After a connection was lost, what is there stays. Once the broker has told all that it retains, what it no longer has goes.
+    """
+
+    def __init__(self, say: Callable[[str], None], most: int = MOST_TOPICS) -> None:
+        """Takes a call for lines, and the most topics that are kept."""
+        self._say = say
+        self._most = most
+        self._lock = threading.Lock()
+        # Of each topic the message, and how many connections had been lost when it came.
+        self._kept: dict[str, tuple[Message, int]] = {}
+        self._losses = 0
+        self._lost_since: str | None = now_text()
+        self._is_full_told = False
+        # Is called after each change, by the thread that made it.
+        self.on_change: Callable[[], None] = lambda: None
+
+    def take(self, messages: Iterable[Message]) -> None:
+        """Takes messages that came. An empty payload clears its topic."""
+        is_full = False
+        with self._lock:
+            for it in messages:
+                if not it.payload:
+                    self._kept.pop(it.topic, None)
+                elif it.topic in self._kept or len(self._kept) < self._most:
+                    self._kept[it.topic] = it, self._losses
+                else:
+                    is_full = True
+            is_news, self._is_full_told = is_full and not self._is_full_told, is_full or self._is_full_told
+        if is_news:
+            self._say(f"the page keeps {self._most} topics, and shows no further ones")
+        self.on_change()
+
+    def lost(self) -> None:
+        """The connection was lost, or is not there yet."""
+        with self._lock:
+            if self._lost_since is not None:
+                return
+            self._lost_since = now_text()
+            self._losses += 1
+        self.on_change()
+
+    def settled(self) -> None:
+        """A connection is there, and the broker has told all that it retains."""
+        with self._lock:
+            if self._lost_since is None:
+                return
+            self._lost_since = None
+            self._kept = {topic: it for topic, it in self._kept.items() if it[1] == self._losses}
+        self.on_change()
+
+    def copy(self) -> tuple[dict[str, Message], str | None]:
+        """The messages, and since when there is no connection, None if one is there."""
+        with self._lock:
+            return {topic: it for topic, (it, _) in self._kept.items()}, self._lost_since

@@ -1,0 +1,140 @@
+"""What all connections to an MQTT 5 broker share: the client of paho by the settings, and what is wrong, in words."""
+
+from __future__ import annotations
+
+import ssl
+import threading
+from collections.abc import Callable
+from typing import Any
+
+from ..errors import NoPackage
+from .settings import BrokerSettings
+
+# The pauses between tries in seconds: the first, and the longest; each is twice the one before.
+FIRST_PAUSE, LONGEST_PAUSE = 1.0, 60.0
+# The longest message taken, in bytes.
+LONGEST = 32_768
+REFUSED = 128
+NO_LOGIN = {134, 135, 138, 140}
+
+
+def paho() -> Any:
+    """The module paho.mqtt.client. Raises NoPackage if it is not installed."""
+    try:
+        import paho.mqtt.client
+    except ImportError:
+        raise NoPackage("a node needs the package paho-mqtt (Debian: python3-paho-mqtt)") from None
+    return paho.mqtt.client
+
+
+def properties_of(kind: str, **members: object) -> Any:
+    """Properties of MQTT 5 for a packet of this kind."""
+    from paho.mqtt.packettypes import PacketTypes
+    from paho.mqtt.properties import Properties
+
+    found = Properties(getattr(PacketTypes, kind))
+    for name, value in members.items():
+        setattr(found, name, value)
+    return found
+
+
+def new_client(settings: BrokerSettings, client_id: str, ended: threading.Event, words: list[str]) -> Any:
+    """A client of paho with the login and the TLS of the settings, for one connection.
+
+    ended: is set when the connection has ended
+    words: get the reason, if it is known
+
+    Raises OSError if a file cannot be read.
+    """
+    mqtt = paho()
+    version = getattr(mqtt, "CallbackAPIVersion", None)
+    first = () if version is None else (version.VERSION1,)
+    client = mqtt.Client(*first, client_id=client_id, protocol=mqtt.MQTTv5, reconnect_on_failure=False)
+    if settings.user is not None:
+        client.username_pw_set(settings.user, settings.password())
+    if settings.with_tls:
+        client.tls_set(settings.ca, settings.certificate, settings.key)
+    client.loop_forever = _ending(client.loop_forever, settings, ended, words)
+    return client
+
+
+def connect(client: Any, settings: BrokerSettings) -> None:
+    """Connects a client. Raises OSError or ValueError, which `words_of` tells in words."""
+    client.connect(
+        settings.host,
+        settings.port_due,
+        settings.keepalive,
+        clean_start=True,
+        properties=properties_of("CONNECT", MaximumPacketSize=LONGEST),
+    )
+
+
+def _ending(loop: Callable[..., Any], settings: BrokerSettings, ended: threading.Event, words: list[str]) -> Callable[..., Any]:
+    """The loop of a client, which also ends the connection at what TLS raises: paho 1 does not catch that."""
+
+    def run(*arguments: object, **named: object) -> Any:
+        try:
+            return loop(*arguments, **named)
+        except OSError as error:
+            words.append(words_of(error, settings))
+            return paho().MQTT_ERR_CONN_LOST
+        finally:
+            ended.set()
+
+    return run
+
+
+def keep_connected(
+    connection: Callable[[], tuple[bool, str]],
+    closing: threading.Event,
+    say: Callable[[str], None],
+    address: str,
+    pauses: tuple[float, float],
+) -> None:
+    """Makes one connection after the other until `closing` is set, and says why each ended.
+
+    connection: makes one and waits for its end: whether it was there, and why it ended
+    pauses:     the seconds between tries, the first and the longest
+    """
+    pause = pauses[0]
+    while not closing.is_set():
+        was_there, why = connection()
+        if closing.is_set():
+            return
+        pause = pauses[0] if was_there else pause
+        say(f"{address}: {why}. The next try is in {pause:g} s")
+        closing.wait(pause)
+        pause = min(2 * pause, pauses[1])
+
+
+def words_of_refusal(code: Any, settings: BrokerSettings) -> str:
+    """Why a broker refuses a connection, and what to do."""
+    if code.value not in NO_LOGIN:
+        return f"the broker refuses the connection: {code}"
+    user = f"the login of {settings.user}" if settings.user else "a login without a user"
+    return f"the broker refuses {user} ({code}): look at user, password_file and the broker's list of users"
+
+
+def words_of_end(code: Any, was_there: bool) -> str:
+    """Why a connection ended, that was there or was not."""
+    if not isinstance(code, int):
+        return f"the broker ends the connection: {code}"
+    if not was_there:
+        return "the connection ended before a login: does the broker want TLS, or a certificate of the node?"
+    more = "" if code == paho().MQTT_ERR_CONN_LOST else f": {paho().error_string(code)}"
+    return f"the connection was lost{more}"
+
+
+def words_of(error: Exception, settings: BrokerSettings) -> str:
+    """Why no connection was made, in words, and what to do."""
+    if isinstance(error, ssl.SSLCertVerificationError):
+        return f"the broker's certificate is not trusted ({error.verify_message}): give the CA that signed it by ca, and its own host name"
+    if isinstance(error, ssl.SSLError):
+        return f"TLS fails ({getattr(error, 'reason', None) or error}): look at tls, ca, certificate, key and the port"
+    if isinstance(error, FileNotFoundError | PermissionError):
+        return f"{error.filename or 'a file of the settings'} cannot be read: {error.strerror}"
+    if isinstance(error, ConnectionResetError) and settings.with_tls:
+        return "the broker ended the connection before TLS was there: does it speak TLS at this port?"
+    if isinstance(error, OSError):
+        return f"the broker cannot be reached ({error.strerror or error})"
+    return f"the settings of the broker are refused: {error}"

@@ -1,0 +1,294 @@
+"""A page that shows a market as it lives, read-only, over HTTP and a WebSocket. docs/LIVE.md says what it shows.
+
+It works in a thread of its own, from copies of messages. What goes wrong in it is a line, and the node goes on.
+"""
+
+from __future__ import annotations
+
+import asyncio
+import base64
+import contextlib
+import hashlib
+import json
+import logging
+import os
+import re
+import threading
+import time
+from collections.abc import Callable
+from http import HTTPStatus
+from importlib.resources import files
+from typing import Any
+from urllib.parse import urlsplit
+
+from ..errors import NoPackage
+from .board import Board
+from .page_settings import PageSettings
+from .sessions import now_text
+from .view import view_of
+
+# The least seconds between two views, and the greatest part of a processor that making them may take.
+BETWEEN, MOST_WORK = 0.5, 0.1
+# The most WebSockets, and the most connections with those that ask for something.
+MOST_SOCKETS, MOST_CONNECTIONS = 64, 128
+# The longest message of a client in bytes, and the seconds within which a client has to say what it wants.
+LONGEST, PATIENCE = 1_024, 5.0
+# The seconds after which a view is told again, so that a client notices a connection that is lost.
+SILENCE = 10.0
+# The seconds between tries to listen.
+PAUSE = 10.0
+
+HTML, JSON, TEXT = "text/html; charset=utf-8", "application/json", "text/plain; charset=utf-8"
+Answer = tuple[HTTPStatus, list[tuple[str, str]], bytes]
+COMMON = [
+    ("X-Content-Type-Options", "nosniff"),
+    ("Cache-Control", "no-store"),
+    ("Referrer-Policy", "no-referrer"),
+    ("Cross-Origin-Resource-Policy", "same-origin"),
+]
+
+
+def websockets_package() -> Any:
+    """The package websockets, with its server. Raises NoPackage if it is not installed."""
+    try:
+        import websockets.exceptions
+        import websockets.legacy.server
+    except ImportError:
+        raise NoPackage("a page needs the package websockets (Debian: python3-websockets)") from None
+    return websockets
+
+
+def page_bytes() -> bytes:
+    """The page's one file."""
+    return files("cogmaula.live").joinpath("page.html").read_bytes()
+
+
+def policy_of(page: bytes) -> str:
+    """The Content-Security-Policy of the page: its own style, its own script, its own server, and nothing else."""
+
+    def hashes(tag: str) -> str:
+        found = re.findall(rf"<{tag}>(.*?)</{tag}>".encode(), page, re.DOTALL)
+        return " ".join(f"'sha256-{base64.b64encode(hashlib.sha256(it).digest()).decode()}'" for it in found)
+
+    return (
+        f"default-src 'none'; script-src {hashes('script')}; style-src {hashes('style')}; connect-src 'self'; "
+        "base-uri 'none'; form-action 'none'; frame-ancestors 'none'"
+    )
+
+
+class Page:
+    """Serves a page of what a board holds, from `start` to `close`."""
+
+    def __init__(
+        self,
+        settings: PageSettings,
+        prefix: str,
+        board: Board,
+        say: Callable[[str], None],
+        own: str | None = None,
+        pause: float = PAUSE,
+    ) -> None:
+        """Takes the settings, the market's prefix, the board and a call for lines. Raises NoPackage if websockets is missing.
+
+        own:   the node whose messages alone the board holds, None if it holds all of the market
+        pause: the seconds between tries to listen
+        """
+        self._websockets = websockets_package()
+        self.settings = settings
+        self._prefix, self._own = prefix, own
+        self._board = board
+        self._say = say
+        self._said: set[str] = set()
+        self._pause = pause
+        self._html = page_bytes()
+        self._policy = policy_of(self._html)
+        # The port that is listened at, 0 before that.
+        self.port = 0
+        self._closing = threading.Event()
+        self._loop: asyncio.AbstractEventLoop | None = None
+        # Whether the page's thread was told that something changed.
+        self._is_told = False
+        self._thread = threading.Thread(target=self._run, daemon=True)
+        # Of the page's thread alone: the newest view as JSON, when it was made, and the seconds that this took.
+        self._text = ""
+        self._made_at = self._work = 0.0
+        self._is_old = True
+        self._sockets = 0
+
+    # The calls of other threads.
+
+    def start(self) -> None:
+        """Serves from now on."""
+        self._board.on_change = self._on_change
+        self._thread.start()
+
+    def close(self, seconds: float) -> None:
+        """Ends all connections and the thread, within so many seconds."""
+        self._closing.set()
+        self._call(lambda: self._ending.set())
+        self._thread.join(seconds)
+
+    def _on_change(self) -> None:
+        if not self._is_told:
+            self._is_told = True
+            self._call(lambda: self._changed.set())
+
+    def _call(self, work: Callable[[], None]) -> None:
+        """Lets the page's thread do something, if it works."""
+        loop = self._loop
+        if loop is not None and not loop.is_closed():
+            with contextlib.suppress(RuntimeError):
+                loop.call_soon_threadsafe(work)
+
+    def _say_once(self, text: str) -> None:
+        if text not in self._said:
+            self._said.add(text)
+            self._say(text)
+
+    # The thread.
+
+    def _run(self) -> None:
+        """Serves until the page is closed. No fault gets out of here, since the node has to go on."""
+        while not self._closing.is_set():
+            try:
+                asyncio.run(self._serve())
+            except OSError as error:
+                why = os.strerror(error.errno) if error.errno else str(error)
+                self._say_once(f"the page cannot be served at {self.settings.listen} ({why}): it is tried again each {self._pause:g} s")
+            except Exception as error:
+                self._say_once(f"the page has failed ({error!r}): it is tried again each {self._pause:g} s")
+            self._loop = None
+            self._closing.wait(self._pause)
+
+    async def _serve(self) -> None:
+        self._ending, self._changed, self._news = asyncio.Event(), asyncio.Event(), asyncio.Event()
+        self._sockets, self._is_old, self._is_told = 0, True, False
+        server = await self._websockets.legacy.server.serve(
+            self._serve_socket,
+            self.settings.host,
+            self.settings.port,
+            create_protocol=self._new_connection,
+            process_request=self._answer,
+            logger=logging.Logger("page", logging.CRITICAL + 1),
+            compression=None,
+            server_header=None,
+            max_size=LONGEST,
+            max_queue=1,
+            close_timeout=1,
+        )
+        async with server:
+            self.port = server.sockets[0].getsockname()[1]
+            self._loop = asyncio.get_running_loop()
+            telling = asyncio.create_task(self._tell_news())
+            if not self._closing.is_set():
+                await self._ending.wait()
+            telling.cancel()
+
+    def _new_connection(self, *arguments: Any, **named: Any) -> Any:
+        """A connection that is ended if there are too many, or if its client asks for nothing."""
+        made = self._websockets.legacy.server.WebSocketServerProtocol(*arguments, **named)
+        connections = made.ws_server.websockets
+        loop = asyncio.get_running_loop()
+        loop.call_later(0, lambda: made.transport.abort() if len(connections) > MOST_CONNECTIONS else None)
+        loop.call_later(PATIENCE, lambda: made.transport.abort() if made.state.name == "CONNECTING" else None)
+        return made
+
+    # The view.
+
+    def _newest(self, is_due: bool = False) -> str:
+        """The newest view as JSON. It is made anew if something has changed and it is due, or if it may be."""
+        now = time.monotonic()
+        if self._is_old and (is_due or now >= self._made_at + self._gap):
+            self._is_old = self._is_told = False
+            self._text, self._made_at = self._made(), now
+            self._work = time.monotonic() - now
+        return self._text
+
+    @property
+    def _gap(self) -> float:
+        """The least seconds between two views."""
+        return max(BETWEEN, self._work / MOST_WORK) if self._text else 0.0
+
+    def _made(self) -> str:
+        """A view as JSON, with the time when it was made and since when there is no connection to the broker."""
+        messages, lost_since = self._board.copy()
+        told = {"time": now_text(), "own": self._own, "lost_since": lost_since}
+        try:
+            return json.dumps({**told, **view_of(self._prefix, messages, self._own).to_json()})
+        except Exception as error:
+            self._say_once(f"the page cannot show the market: {error!r}")
+            return json.dumps({**told, "fault": repr(error)})
+
+    async def _tell_news(self) -> None:
+        """Tells all who look that there is a newer view, as often as that may be."""
+        while True:
+            await self._changed.wait()
+            self._changed.clear()
+            self._is_old = True
+            await asyncio.sleep(max(0.0, self._made_at + self._gap - time.monotonic()))
+            if self._sockets:
+                self._newest(is_due=True)
+            else:
+                # Nobody looks: the view is made when somebody asks.
+                self._is_told = False
+            news, self._news = self._news, asyncio.Event()
+            news.set()
+
+    # The clients.
+
+    async def _serve_socket(self, socket: Any) -> None:
+        """Sends the view at each change, and after a silence, to one who looks, until that one goes. What it sends is dropped."""
+        self._sockets += 1
+        reading = asyncio.ensure_future(self._drop_all(socket))
+        try:
+            while not reading.done():
+                news = asyncio.ensure_future(self._news.wait())
+                await asyncio.wait_for(socket.send(self._newest()), PATIENCE)
+                await asyncio.wait({reading, news}, timeout=SILENCE, return_when=asyncio.FIRST_COMPLETED)
+                news.cancel()
+        except asyncio.TimeoutError:
+            # It does not read what it is sent.
+            socket.transport.abort()
+        except self._websockets.exceptions.ConnectionClosed:
+            pass
+        finally:
+            reading.cancel()
+            self._sockets -= 1
+
+    async def _drop_all(self, socket: Any) -> None:
+        """Reads all that a client sends, and drops it, until the connection ends."""
+        with contextlib.suppress(self._websockets.exceptions.ConnectionClosed):
+            async for _ in socket:
+                pass
+
+    async def _answer(self, path: str, headers: Any) -> Answer | None:
+        """What a request is answered by, None if it goes on as a WebSocket."""
+        path = urlsplit(path).path
+        if not self._is_own_host(headers.get("Host", "")):
+            return _words(HTTPStatus.FORBIDDEN, "this name is not the page's: give page.origin, the address that browsers have for it")
+        if path == "/":
+            return HTTPStatus.OK, [*COMMON, ("Content-Security-Policy", self._policy), ("Content-Type", HTML)], self._html
+        if path == "/view":
+            return HTTPStatus.OK, [*COMMON, ("Content-Type", JSON)], self._newest().encode()
+        if path != "/live":
+            return _words(HTTPStatus.NOT_FOUND, "there are /, /view and /live")
+        if not self._is_own_origin(headers.get("Origin", ""), headers.get("Host", "")):
+            return _words(HTTPStatus.FORBIDDEN, "only the page itself may connect: read /view, or give page.origin")
+        if self._sockets >= MOST_SOCKETS:
+            return _words(HTTPStatus.SERVICE_UNAVAILABLE, f"{MOST_SOCKETS} are looking, and no more may")
+        return None
+
+    def _is_own_host(self, host: str) -> bool:
+        """Whether a request names this page. So no other name leads a browser of this machine here."""
+        if not self.settings.is_loopback:
+            return True
+        name = urlsplit(f"//{host}").hostname or ""
+        origin = urlsplit(self.settings.origin or "").hostname
+        return name in ("localhost", "127.0.0.1", "::1", self.settings.host, origin)
+
+    def _is_own_origin(self, origin: str, host: str) -> bool:
+        return origin == self.settings.origin or (bool(host) and urlsplit(origin).netloc == host)
+
+
+def _words(status: HTTPStatus, text: str) -> Answer:
+    return status, [*COMMON, ("Content-Type", TEXT)], f"{text}\n".encode()

@@ -1,0 +1,74 @@
+"""How a node shows its market on a page: what it hears, or the whole market by a connection that reads all."""
+
+from __future__ import annotations
+
+from collections.abc import Callable, Iterable
+from dataclasses import replace
+
+from ..errors import MarketError
+from .board import Board
+from .broker import Message
+from .page import Page
+from .page_settings import PageSettings
+from .reader import Reader
+from .settings import BrokerSettings, Settings
+
+
+def reading_settings(page: PageSettings, broker: BrokerSettings) -> BrokerSettings:
+    """How a connection that reads the whole market reaches the broker: by its own login, or else by that of the node."""
+    return broker if page.user is None else replace(broker, user=page.user, password_file=page.password_file)
+
+
+class Showing:
+    """The page of a node. No call raises or waits for long: what is wrong with the page is a line."""
+
+    def __init__(self, settings: Settings, say: Callable[[str], None]) -> None:
+        """Takes the settings of the node, and a call for lines. Without a page in them there is none."""
+        self._say = say
+        self._board = Board(say)
+        self._page: Page | None = None
+        self._reader: Reader | None = None
+        page, broker = settings.page, settings.broker
+        if page is None:
+            return
+        try:
+            own = None if page.whole else settings.name
+            self._page = Page(page, broker.prefix, self._board, self._say_of_page, own)
+            if page.whole:
+                client_id = f"cogmaula.{broker.prefix.replace('/', '.')}.{settings.name}.page"
+                self._reader = Reader(reading_settings(page, broker), client_id, self._board, self._say_of_page)
+        except (MarketError, OSError) as error:
+            self._page = None
+            self._say_of_page(str(error))
+
+    def _say_of_page(self, text: str) -> None:
+        self._say(f"page: {text}")
+
+    def start(self) -> None:
+        """Serves from now on, if there is a page."""
+        if self._page is not None:
+            self._page.start()
+        if self._reader is not None:
+            self._reader.start()
+
+    def take(self, messages: Iterable[Message]) -> None:
+        """Takes what the node has heard."""
+        if self._page is not None and self._reader is None:
+            self._board.take(messages)
+
+    def tick(self, is_settled: bool) -> None:
+        """Takes whether the node's own connection is there."""
+        if self._page is not None and self._reader is None:
+            (self._board.settled if is_settled else self._board.lost)()
+
+    def close(self, seconds: float) -> None:
+        """Ends the page, within so many seconds."""
+        if self._reader is not None:
+            self._reader.close(seconds / 2)
+        if self._page is not None:
+            self._page.close(seconds / 2)
+
+    @property
+    def port(self) -> int:
+        """The port that the page is served at, 0 before that and without a page."""
+        return 0 if self._page is None else self._page.port
