@@ -103,8 +103,10 @@ class Node:
             raise
         finally:
             self._link.close(self._state("down", why), 2 * LAST_SECONDS)
-            self.serving.end(why)
-            self._store.close()
+            try:
+                self.serving.end(why)
+            finally:
+                self._store.close()
 
     def stop(self) -> None:
         """Ends `run`, from any thread or from the handler of a signal."""
