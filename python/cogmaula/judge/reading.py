@@ -1,0 +1,194 @@
+"""Reads the recordings of a folder: which nodes and sessions are there, in which files, and line by line what was done.
+
+A file is read as it is judged, so its length does not matter. docs/JUDGE.md has the lines.
+"""
+
+from __future__ import annotations
+
+import json
+import os
+import re
+from collections.abc import Iterator
+from dataclasses import dataclass, field
+from pathlib import Path
+from typing import Any
+
+from ..cluster import Basis
+from ..live.errors import BadMessage
+from ..live.frames import Sort
+from ..live.recording import END, IN, OUT, START, STORED, SUFFIX
+from ..live.sessions import Session
+from ..live.settings import SORTS
+from .faults import Fault, Faulty, NoRecording
+
+_NAME = re.compile(r"([A-Za-z0-9_-]{1,64})\.([0-9a-f]{16})\.([0-9]{6,})\.frames")
+_HEX = re.compile(r"(?:[0-9a-f]{2})+")
+# The members of each line behind `at` and `what`, in their order.
+MEMBERS: dict[str, list[str]] = {
+    START: ["node", "sort", "arguments", "parent", "child", "min", "max", "steps", "session", "begun", "resume"],
+    IN: ["frame"],
+    OUT: ["frame"],
+    STORED: [],
+    END: ["why"],
+}
+
+
+@dataclass(frozen=True)
+class Start:
+    """What a service was started with: the arguments behind the program's name, and the bytes of its Resume, empty without one."""
+
+    node: str
+    sort: Sort
+    arguments: tuple[str, ...]
+    parent: str | None
+    child: int | None
+    basis: Basis
+    session: Session
+    resume: bytes
+
+
+@dataclass(frozen=True, slots=True)
+class Event:
+    """A line: where it is, what it tells, and the frame of an `in` or `out`, or what a `start` says."""
+
+    file: str
+    line: int
+    what: str
+    frame: bytes = b""
+    start: Start | None = None
+
+
+@dataclass
+class Recorded:
+    """The recording of one node in one session.
+
+    lacking: in words, what of it is not there, "" if it is whole
+    begin:   its first start, None if its service was never started
+    """
+
+    node: str
+    session: str
+    files: list[tuple[int, Path]] = field(default_factory=list)
+    lacking: str = ""
+    begin: Event | None = None
+
+    @property
+    def first(self) -> Start | None:
+        """What its service was started with first."""
+        return None if self.begin is None else self.begin.start
+
+    def fault(self, event: Event, why: str) -> Faulty:
+        """The error that a line is wrong."""
+        return Faulty(Fault(self.node, event.file, event.line, why))
+
+    def events(self) -> Iterator[Event]:
+        """What the lines tell, from the first start on. Raises Faulty at a line that is none, and OSError."""
+        begun, torn = False, None
+        for _, path in self.files:
+            for event in self._events_in(path):
+                if torn is not None and event.what != START:
+                    raise self.fault(torn, "the line has no end, and the life of the service goes on behind it")
+                torn = event if event.what == "" else None
+                begun = begun or event.what == START
+                if not begun and torn is None and not self.lacking:
+                    raise self.fault(event, "a recording begins with a start, and this is none")
+                if begun and torn is None:
+                    yield event
+
+    def _events_in(self, path: Path) -> Iterator[Event]:
+        """What the lines of a file tell. A part of a line at its end is an event without a word."""
+        with open(path, "rb") as lines:
+            for number, line in enumerate(lines, 1):
+                if not line.endswith(b"\n"):
+                    yield Event(path.name, number, "")
+                    return
+                event = event_of(line, path.name, number)
+                if event is None:
+                    raise self.fault(Event(path.name, number, ""), "it is no line of a recording")
+                if event.start is not None and (event.start.node, event.start.session.id) != (self.node, self.session):
+                    raise self.fault(event, "it is of another node or session than its file's name says")
+                yield event
+
+
+def event_of(line: bytes, file: str, number: int) -> Event | None:
+    """What a line tells, None if it is no line of a recording."""
+    try:
+        told = json.loads(line)
+    except (ValueError, RecursionError):
+        return None
+    if not isinstance(told, dict) or list(told)[:2] != ["at", "what"] or not all(isinstance(told[it], str) for it in ("at", "what")):
+        return None
+    what: str = told["what"]
+    if list(told)[2:] != MEMBERS.get(what):
+        return None
+    if what in (IN, OUT):
+        data = _bytes_of(told["frame"])
+        return None if data is None else Event(file, number, what, data)
+    if what == START:
+        start = _start_of(told)
+        return None if start is None else Event(file, number, what, start=start)
+    return Event(file, number, what)
+
+
+def _bytes_of(text: object) -> bytes | None:
+    return bytes.fromhex(text) if isinstance(text, str) and _HEX.fullmatch(text) else None
+
+
+def _start_of(told: dict[str, Any]) -> Start | None:
+    """What a line of a start says, None if a member is of another form."""
+    resume = b"" if told["resume"] is None else _bytes_of(told["resume"])
+    arguments = told["arguments"]
+    is_right = (
+        resume is not None
+        and told["sort"] in SORTS
+        and isinstance(arguments, list)
+        and all(isinstance(it, str) for it in [told["node"], told["session"], told["begun"], *arguments])
+        and all(type(told[it]) is int for it in ("min", "max", "steps"))
+        and (isinstance(told["parent"], str) and type(told["child"]) is int or told["parent"] is told["child"] is None)
+    )
+    if not is_right or resume is None:
+        return None
+    try:
+        session = Session(told["session"], told["begun"])
+    except BadMessage:
+        return None
+    basis = Basis(told["min"], told["max"], told["steps"])
+    return Start(told["node"], told["sort"], tuple(arguments), told["parent"], told["child"], basis, session, resume)
+
+
+def recordings_in(folder: str | os.PathLike[str]) -> list[Recorded]:
+    """The recordings of a folder, by session and node.
+
+    Raises NoRecording if there is none, Faulty if one has no right beginning, and OSError.
+    """
+    if not Path(folder).is_dir():
+        raise NoRecording(f"{folder} is no folder: give the one that has the recordings of all nodes")
+    found: dict[tuple[str, str], Recorded] = {}
+    numbers: dict[str, list[int]] = {}
+    for path in Path(folder).iterdir():
+        name = _NAME.fullmatch(path.name)
+        if name:
+            one = found.setdefault((name[2], name[1]), Recorded(name[1], name[2]))
+            one.files.append((int(name[3]), path))
+            numbers.setdefault(name[1], []).append(int(name[3]))
+    if not found:
+        raise NoRecording(f"{folder} has no recording, which is a file NODE.SESSION.NUMBER{SUFFIX}")
+    for one in found.values():
+        one.files.sort()
+        one.lacking = _lacking(one, sorted(numbers[one.node]))
+        one.begin = next(one.events(), None)
+        if not one.lacking and (one.first is None or one.first.resume):
+            one.lacking = "it begins with a Resume, so the begin of the session is not there" if one.first else "no service was started"
+    return [found[it] for it in sorted(found)]
+
+
+def _lacking(one: Recorded, numbers: list[int]) -> str:
+    """Which files of a session's recording are not there, in words, by the numbers of all files of the node."""
+    first, last = one.files[0][0], one.files[-1][0]
+    due = sorted(set(range(first, last + 1)) - set(numbers))
+    if due:
+        return f"its file {due[0]:06} is not there"
+    before = [it for it in numbers if it < first]
+    if (before[-1] if before else 0) != first - 1:
+        return f"its file {first - 1:06} is not there"
+    return ""
