@@ -42,7 +42,7 @@ def markets_of(recordings: list[Recorded]) -> list[Market]:
         else:
             sessions.setdefault(one.session, []).append((one, one.first))
     ordered = sorted(sessions.values(), key=lambda them: them[0][1].session.order)
-    markets = [_market_of(them) for them in ordered]
+    markets = [_market_of(them, {it.node for it in unstarted}) for them in ordered]
     for market in markets:
         for one in unstarted:
             if one.session == market.session:
@@ -66,8 +66,8 @@ def _require_rising(recordings: list[Recorded]) -> None:
                 raise after.fault(after.begin, f"it goes back from session {before.session}, or to it: a node is in one after the other")
 
 
-def _market_of(them: list[tuple[Recorded, Start]]) -> Market:
-    """The market of one session."""
+def _market_of(them: list[tuple[Recorded, Start]], unstarted: set[str]) -> Market:
+    """The market of one session. What nodes without a start lack is told elsewhere."""
     them = sorted(them, key=lambda it: (it[1].sort != "auctioneer", it[0].node))
     market = Market(them[0][0].session)
     first = them[0][1]
@@ -79,7 +79,7 @@ def _market_of(them: list[tuple[Recorded, Start]]) -> Market:
             raise one.fault(one.begin, wrong)
         if start.parent is not None and start.child is not None:
             market.children[start.parent, start.child] = one.node
-            if start.parent not in parents:
+            if start.parent not in parents and start.parent not in unstarted:
                 market.misses(f"{start.parent}, the parent of {one.node}, has no recording")
         if one.lacking:
             market.misses(f"{one.node}: {one.lacking}")

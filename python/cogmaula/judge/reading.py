@@ -9,7 +9,7 @@ import json
 import os
 import re
 from collections.abc import Iterator
-from dataclasses import dataclass, field
+from dataclasses import dataclass, field, replace
 from pathlib import Path
 from typing import Any
 
@@ -49,26 +49,32 @@ class Start:
 
 @dataclass(frozen=True, slots=True)
 class Event:
-    """A line: where it is, what it tells, and the frame of an `in` or `out`, or what a `start` says."""
+    """A line: where it is, what it tells, and the frame of an `in` or `out`, or what a `start` says.
+
+    is_late: of a start, whether what was before it is not there
+    """
 
     file: str
     line: int
     what: str
     frame: bytes = b""
     start: Start | None = None
+    is_late: bool = False
 
 
 @dataclass
 class Recorded:
     """The recording of one node in one session.
 
+    gaps:    the numbers of the files in front of which one is not there
     lacking: in words, what of it is not there, "" if it is whole
-    begin:   its first start, None if its service was never started
+    begin:   its first start, None if there is none
     """
 
     node: str
     session: str
     files: list[tuple[int, Path]] = field(default_factory=list)
+    gaps: set[int] = field(default_factory=set)
     lacking: str = ""
     begin: Event | None = None
 
@@ -82,17 +88,27 @@ class Recorded:
         return Faulty(Fault(self.node, event.file, event.line, why))
 
     def events(self) -> Iterator[Event]:
-        """What the lines tell, from the first start on. Raises Faulty at a line that is none, and OSError."""
-        begun, torn = False, None
-        for _, path in self.files:
+        """What the lines tell. Behind a file that is not there they are left out, up to the next start.
+
+        Raises Faulty at a line that is none, and OSError.
+        """
+        has_begun = is_lost = False
+        torn: Event | None = None
+        for number, path in self.files:
+            if number in self.gaps:
+                is_lost, torn = True, None
             for event in self._events_in(path):
-                if torn is not None and event.what != START:
+                if event.what == "":
+                    torn = event
+                elif event.start is not None:
+                    is_late = is_lost or (not has_begun and event.start.resume != b"")
+                    has_begun, is_lost, torn = True, False, None
+                    yield replace(event, is_late=is_late)
+                elif torn is not None:
                     raise self.fault(torn, "the line has no end, and the life of the service goes on behind it")
-                torn = event if event.what == "" else None
-                begun = begun or event.what == START
-                if not begun and torn is None and not self.lacking:
+                elif not is_lost and not has_begun:
                     raise self.fault(event, "a recording begins with a start, and this is none")
-                if begun and torn is None:
+                elif not is_lost:
                     yield event
 
     def _events_in(self, path: Path) -> Iterator[Event]:
@@ -175,20 +191,17 @@ def recordings_in(folder: str | os.PathLike[str]) -> list[Recorded]:
         raise NoRecording(f"{folder} has no recording, which is a file NODE.SESSION.NUMBER{SUFFIX}")
     for one in found.values():
         one.files.sort()
-        one.lacking = _lacking(one, sorted(numbers[one.node]))
+        there = {0, *numbers[one.node]}
+        one.gaps = {number for number, _ in one.files if number - 1 not in there}
         one.begin = next(one.events(), None)
-        if not one.lacking and (one.first is None or one.first.resume):
-            one.lacking = "it begins with a Resume, so the begin of the session is not there" if one.first else "no service was started"
+        one.lacking = _lacking(one)
     return [found[it] for it in sorted(found)]
 
 
-def _lacking(one: Recorded, numbers: list[int]) -> str:
-    """Which files of a session's recording are not there, in words, by the numbers of all files of the node."""
-    first, last = one.files[0][0], one.files[-1][0]
-    due = sorted(set(range(first, last + 1)) - set(numbers))
-    if due:
-        return f"its file {due[0]:06} is not there"
-    before = [it for it in numbers if it < first]
-    if (before[-1] if before else 0) != first - 1:
-        return f"its file {first - 1:06} is not there"
-    return ""
+def _lacking(one: Recorded) -> str:
+    """What of a recording is not there, in words, "" if it is whole."""
+    if one.gaps:
+        return f"its file {min(one.gaps) - 1:06} is not there"
+    if one.begin is None:
+        return "no service was started"
+    return "it begins with a Resume, so the begin of the session is not there" if one.begin.is_late else ""

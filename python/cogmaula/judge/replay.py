@@ -69,7 +69,7 @@ class _Replay:
 
     def __init__(self, recorded: Recorded, live: str, patience: float) -> None:
         self._recorded, self._live, self._patience = recorded, live, patience
-        self._keeping = Keeping(not recorded.lacking)
+        self._keeping = Keeping()
         self._running: Running | None = None
         self._has_ended = False
         self._begin: Event | None = None
@@ -105,7 +105,8 @@ class _Replay:
         self._end_life()
         self._begin, self._start = event, start
         self._require(event, wrong_place(start, self._recorded.first))
-        self._require(event, self._keeping.starts(self._resume(event, start.resume) if start.resume else None))
+        resume = self._resume(event, start.resume) if start.resume else None
+        self._require(event, self._keeping.starts(resume, event.is_late))
         self._running = Running(self._live, start, self._patience)
         self._counts.lives += 1
 

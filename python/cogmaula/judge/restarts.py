@@ -37,26 +37,26 @@ def _price(resume: Resume) -> tuple[int, int]:
 class Keeping:
     """The Resumes of one node in one session, in the order of its recording. A call gives what is wrong in words, "" if nothing is."""
 
-    def __init__(self, is_whole: bool) -> None:
-        """Takes whether the recording begins with the session."""
-        self._is_known = is_whole
+    def __init__(self) -> None:
+        """Nothing is stored."""
         self._stored: Resume | None = None
         self._waits: Resume | None = None
         self._prices = {(0, 0)}
 
-    def starts(self, resume: Resume | None) -> str:
-        """A service starts from a Resume, or from none."""
-        stored, waits = self._stored, self._waits
-        allowed = [None if it is None else _exact(it) for it in ([stored] if waits is None else [stored, waits])]
-        is_known, self._is_known = self._is_known, True
+    def starts(self, resume: Resume | None, is_late: bool = False) -> str:
+        """A service starts from a Resume, or from none. If it is late, what was before it is not known."""
+        allowed = [self._stored] if self._waits is None else [self._stored, self._waits]
         self._stored, self._waits = resume, None
-        if not is_known:
+        if resume is not None and is_late:
+            self._prices.add(_price(resume))
+        if is_late:
             return ""
-        if (None if resume is None else _exact(resume)) not in allowed:
-            due = " or ".join("none" if it is None else words_of(it) for it in ([stored] if waits is None else [stored, waits]))
-            return f"it starts with {'no Resume' if resume is None else words_of(resume)}, and stored was {due}: its newest has to come back"
+        told = "no Resume" if resume is None else words_of(resume)
+        if (None if resume is None else _exact(resume)) not in [None if it is None else _exact(it) for it in allowed]:
+            due = " or ".join("none" if it is None else words_of(it) for it in allowed)
+            return f"it starts with {told}, and stored was {due}: its newest has to come back"
         if resume is not None and _price(resume) not in self._prices:
-            return f"it starts with {words_of(resume)}, and no Resume before had this price"
+            return f"it starts with {told}, and no Resume before had this price"
         return ""
 
     def writes(self, resume: Resume | None) -> str:
