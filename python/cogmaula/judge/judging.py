@@ -53,7 +53,8 @@ def _judged(market: Market, live: str) -> tuple[list[Counts], Merge]:
         try:
             counts.append(replayed(one, live))
         except Faulty as error:
-            faulty[name] = error
+            # Without what was open where it was raised.
+            faulty[name] = error.with_traceback(None)
     merge = Merge(market, faulty)
     merge.run()
     return counts, merge

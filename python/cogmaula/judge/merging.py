@@ -8,7 +8,7 @@ from __future__ import annotations
 
 import hashlib
 from collections import deque
-from collections.abc import Iterator, Mapping
+from collections.abc import Generator, Mapping
 from dataclasses import dataclass, field
 
 from ..live.frames import Bid, Gone, Old, Price
@@ -33,7 +33,7 @@ class _Walk:
     """How far a node has come. `event` is the next line, None at the end; `sent` has what it sent so far."""
 
     recorded: Recorded
-    events: Iterator[Event]
+    events: Generator[Event, None, None]
     event: Event | None = None
     sent: set[bytes] = field(default_factory=set)
 
@@ -52,6 +52,13 @@ class Merge:
 
     def run(self) -> None:
         """Goes through all recordings. Raises the first Faulty at which no node can go on."""
+        try:
+            self._go_all()
+        finally:
+            for walk in self._walks.values():
+                walk.events.close()
+
+    def _go_all(self) -> None:
         going = deque(self._walks)
         for name in self._walks:
             self._read(name)

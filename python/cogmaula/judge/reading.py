@@ -8,7 +8,7 @@ from __future__ import annotations
 import json
 import os
 import re
-from collections.abc import Iterator
+from collections.abc import Generator, Iterator
 from dataclasses import dataclass, field, replace
 from pathlib import Path
 from typing import Any
@@ -87,7 +87,7 @@ class Recorded:
         """The error that a line is wrong."""
         return Faulty(Fault(self.node, event.file, event.line, why))
 
-    def events(self) -> Iterator[Event]:
+    def events(self) -> Generator[Event, None, None]:
         """What the lines tell. Behind a file that is not there they are left out, up to the next start.
 
         Raises Faulty at a line that is none, and OSError.
