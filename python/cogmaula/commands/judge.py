@@ -13,8 +13,9 @@ from ..live.settings import LIVE_VARIABLE
 CALLS_PROGRAM = False
 HELP = "judges the recordings of the nodes of a market across machines"
 MORE = (
-    "FOLDER has the recordings of all nodes, which [node] record makes. It prints `valid` with what was judged, `incomplete` with what"
-    " was not recorded, or `invalid` with the first line that is wrong. The exit status is 0, 1 and 5. docs/JUDGE.md says what is shown."
+    "FOLDER has the recordings of all nodes, which [node] record makes. It prints `valid` with what was judged, `incomplete` with"
+    " what was not recorded, or `invalid` with the first line that is wrong. The exit status is 0, 1 or 5. docs/JUDGE.md says"
+    " what a verdict shows."
 )
 
 

@@ -63,7 +63,8 @@ def _require_rising(recordings: list[Recorded]) -> None:
             assert after.first is not None
             assert after.begin is not None
             if before.files[-1][0] > after.files[0][0] or before.first.session.order > after.first.session.order:
-                raise after.fault(after.begin, f"it goes back from session {before.session}, or to it: a node is in one after the other")
+                why = f"it goes back from session {before.session}, or to it: a node is in one after the other"
+                raise after.fault(after.begin, why)
 
 
 def _market_of(them: list[tuple[Recorded, Start]], unstarted: set[str]) -> Market:

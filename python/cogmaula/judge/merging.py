@@ -145,7 +145,8 @@ class Merge:
                 raise recorded.fault(event, f"{told} is taken, and {sender} never sent just this")
             if late is None:
                 where = f"{found.file}:{found.line}"
-                late = recorded.fault(event, f"{told} is taken, and {sender} sends it only at {where}, for which this has to be taken first")
+                why = f"{sender} sends it only at {where}, for which this has to be taken first"
+                late = recorded.fault(event, f"{told} is taken, and {why}")
         if late is not None:
             raise late
 

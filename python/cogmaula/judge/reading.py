@@ -35,7 +35,7 @@ MEMBERS: dict[str, list[str]] = {
 
 @dataclass(frozen=True)
 class Start:
-    """What a service was started with: the arguments behind the program's name, and the bytes of its Resume, empty without one."""
+    """What a service was started with: its arguments behind the program's name, and its Resume, empty without one."""
 
     node: str
     sort: Sort
@@ -132,10 +132,10 @@ def event_of(line: bytes, file: str, number: int) -> Event | None:
         told = json.loads(line)
     except (ValueError, RecursionError):
         return None
-    if not isinstance(told, dict) or list(told)[:2] != ["at", "what"] or not all(isinstance(told[it], str) for it in ("at", "what")):
+    if not isinstance(told, dict) or list(told)[:2] != ["at", "what"]:
         return None
-    what: str = told["what"]
-    if list(told)[2:] != MEMBERS.get(what):
+    what = told["what"]
+    if not isinstance(what, str) or not isinstance(told["at"], str) or list(told)[2:] != MEMBERS.get(what):
         return None
     if what in (IN, OUT):
         data = _bytes_of(told["frame"])

@@ -179,10 +179,18 @@ def wrong_place(start: Start, first: Start | None) -> str:
     """What is wrong with the place that a service is started in, in words, "" if nothing is."""
     arguments: list[str] = [start.sort] if start.sort == "auctioneer" else [start.sort, str(start.child)]
     if list(start.arguments[: len(arguments)]) != arguments or (start.parent is None) != (start.sort == "auctioneer"):
-        return f"the arguments {' '.join(start.arguments)} are not of its place, {' '.join(arguments)} below {start.parent or 'nobody'}"
-    if first is not None and (start.arguments, start.parent) != (first.arguments, first.parent):
-        before = f"{' '.join(first.arguments)} below {first.parent or 'nobody'}"
-        return f"it starts as {' '.join(start.arguments)} below {start.parent or 'nobody'}, and before in this session as {before}"
-    if first is not None and (start.basis, start.session) != (first.basis, first.session):
-        return f"it starts with {start.basis} and {start.session}, and before in this session with {first.basis} and {first.session}"
+        told = " ".join(start.arguments)
+        return f"the arguments {told} are not of its place, {' '.join(arguments)} below {start.parent or 'nobody'}"
+    for now, before in [] if first is None else zip(_place_of(start), _place_of(first), strict=True):
+        if now != before:
+            return f"it starts {now}, and before in this session {before}"
     return ""
+
+
+def _place_of(start: Start) -> list[str]:
+    """What has to be the same at all starts of a node in a session, in words."""
+    return [
+        f"as {' '.join(start.arguments)} below {start.parent or 'nobody'}",
+        f"with {start.basis}",
+        f"in {start.session}",
+    ]

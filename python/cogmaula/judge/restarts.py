@@ -35,7 +35,7 @@ def _price(resume: Resume) -> tuple[int, int]:
 
 
 class Keeping:
-    """The Resumes of one node in one session, in the order of its recording. A call gives what is wrong in words, "" if nothing is."""
+    """The Resumes of one node in one session. Calls come in the order of the recording, and give what is wrong, "" if nothing."""
 
     def __init__(self) -> None:
         """Nothing is stored."""

@@ -25,8 +25,8 @@ class Late(Exception):
 class Running:
     """A process of `live`, from a recorded start on. It is written to and read from in turn, so a life may have any length.
 
-    A frame that does not come within `patience` seconds is asked for by the end of the input: then the program answers all that it
-    was fed, and ends. So that it has no further answer is known without a doubt, and that it has one may need more patience.
+    A frame that does not come within `patience` seconds is asked for by the end of the input: then the program answers all that
+    it was fed, and ends. So it is sure that there is no further answer. If there is one, more patience is needed.
     """
 
     def __init__(self, live: str, start: Start, patience: float) -> None:
@@ -89,7 +89,8 @@ class Running:
             return None
         kind = self._kinds.get(self._came[0])
         if kind is None:
-            raise LiveError(f"{self.live} wrote the byte {self._came[0]}, which begins no frame: is it the program live of this version?")
+            why = f"the byte {self._came[0]}, which begins no frame: is it the program live of this version?"
+            raise LiveError(f"{self.live} wrote {why}")
         size = size_of(kind, self._steps)
         return size if len(self._came) >= size else None
 

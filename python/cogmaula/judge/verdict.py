@@ -46,8 +46,9 @@ class Verdict:
         if self.fault is not None:
             return f"invalid {self.fault}\n"
         lines = [
-            f"{self.verdict} sessions {self.sessions} nodes {self.nodes} lives {self.lives} in {self.frames_in} out {self.frames_out} "
-            f"taken {self.taken} unmatched {self.unmatched} clearings {self.clearings} setpoints {self.setpoints}",
+            f"{self.verdict} sessions {self.sessions} nodes {self.nodes} lives {self.lives} in {self.frames_in} "
+            f"out {self.frames_out} taken {self.taken} unmatched {self.unmatched} clearings {self.clearings} "
+            f"setpoints {self.setpoints}",
             *(f"missing {it}" for it in self.missing),
         ]
         return "\n".join(lines) + "\n"

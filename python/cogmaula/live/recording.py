@@ -1,4 +1,4 @@
-"""What a node records: each frame that its service was fed and each that it handled, in files of JSON lines. docs/JUDGE.md has them.
+"""What a node records: each frame that its service was fed or wrote, in files of JSON lines. docs/JUDGE.md has the lines.
 
 A line is written before what it tells of is done, by one write, so that a killed process leaves whole lines and at most a part of
 the last. All lines are safe on disk before a Resume is stored: a recording holds all that a stored Resume stands on.

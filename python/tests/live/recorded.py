@@ -1,4 +1,4 @@
-"""Markets of real nodes and real services that record, over a connection in memory; and recordings that a test changes line by line."""
+"""Markets of real nodes and services that record, over a connection in memory; and recordings that a test changes by lines."""
 
 from __future__ import annotations
 
@@ -75,7 +75,8 @@ class RecordedMarket:
             settings = Settings(**{**told, "parent": parent, "child": child, "record": str(self.recordings), **more})
             control = self.controls[name] = Control() if sort == "device" else None
             links = []
-            node = self.nodes[name] = Node(settings, control, self.said.append, lambda *it: links.append(PostLink(self.post, *it)) or links[0])
+            make_link = lambda *it, made=links: made.append(PostLink(self.post, *it)) or made[0]  # noqa: E731
+            node = self.nodes[name] = Node(settings, control, self.said.append, make_link)
             links[0].start(node._subscriptions(), None, node._marker)
             if control is not None:
                 control.start(lambda data, node=node: node.serving.offers.take(data, time.monotonic()), self.said.append)
@@ -98,7 +99,10 @@ class RecordedMarket:
             self.controls[name].offers(it)
 
     def settles_at(self, step, **powers):
-        self.until(lambda: all(self.controls[it].has(step=step, power=power) for it, power in powers.items()), f"step {step}, {powers}")
+        def holds():
+            return all(self.controls[it].has(step=step, power=power) for it, power in powers.items())
+
+        self.until(holds, f"step {step}, {powers}")
 
     def leaves(self, name):
         """Lets a device leave, until its parent has heard that."""
@@ -135,14 +139,15 @@ class Lines:
 
     def of(self, node, what, name="", **fields):
         """The places of a node's lines of this word, and if a name is given of frames of this name with these fields."""
-        return [
-            (file, at)
-            for file, lines in self.files.items()
-            for at in range(len(lines))
-            if file.startswith(f"{node}.")
-            and self.told(file, at)["what"] == what
-            and (not name or (type(it := self.frame(file, at)).__name__ == name and all(getattr(it, of) == due for of, due in fields.items())))
-        ]
+
+        def is_one(file, at):
+            if self.told(file, at)["what"] != what or not name:
+                return self.told(file, at)["what"] == what
+            frame = self.frame(file, at)
+            return type(frame).__name__ == name and all(getattr(frame, of) == due for of, due in fields.items())
+
+        files = [it for it in self.files if it.startswith(f"{node}.")]
+        return [(file, at) for file in files for at in range(len(self.files[file])) if is_one(file, at)]
 
     def told(self, file, at):
         return json.loads(self.files[file][at])

@@ -1,7 +1,7 @@
 """Any single change of a valid recording is found, or leaves a recording that is by itself a run.
 
-Which of the two it is, `is_run` works out by rules of its own: services are those of checks/oracle/nodes.py, which were written from
-docs/RELAY.md, and the order is looked for by going round the nodes until nothing moves. A change that leaves a run is such as these:
+Which of the two it is, `is_run` works out by rules of its own: services are those of checks/oracle/nodes.py, which were written
+from docs/RELAY.md, and the order is looked for by going round the nodes until nothing moves. These changes leave a run:
 
 - an `end` that is not there; a `stored` behind which nothing is written before the next start
 - the last frames out of a life that nobody took, since a life may end before they are handled
@@ -120,8 +120,10 @@ def has_an_order(told):
                 it = them[at[name]]
                 if it["what"] == "out":
                     sent[name].add(it["frame"])
-                elif it["what"] == "in" and (sender := sender_of(name, bytes.fromhex(it["frame"]))) and it["frame"] not in sent[sender]:
-                    break
+                elif it["what"] == "in":
+                    sender = sender_of(name, bytes.fromhex(it["frame"]))
+                    if sender is not None and it["frame"] not in sent[sender]:
+                        break
                 at[name] += 1
                 moved = True
     return all(at[name] == len(them) for name, them in told.items())
@@ -214,7 +216,9 @@ def test_the_changes_that_leave_a_run(recorded, live, quick, tmp_path):
             lambda file, at: whole.told(file, at)["what"] == "out" and is_last_word(whole, file, at)
             and type(whole.frame(file, at)).__name__ in ("Old", "NotChanged", "Dropped", "Setpoint"),
         ),
-        "a frame in at the end": places_of(whole, lambda file, at: whole.told(file, at)["what"] == "in" and is_last_word(whole, file, at)),
+        "a frame in at the end": places_of(
+            whole, lambda file, at: whole.told(file, at)["what"] == "in" and is_last_word(whole, file, at)
+        ),
     }  # fmt: skip
     seen = Counter()
     for what, places in cases.items():
@@ -226,6 +230,6 @@ def test_the_changes_that_leave_a_run(recorded, live, quick, tmp_path):
 
 
 def is_last_word(lines, file, at):
-    """Whether no frame is fed, written or stored behind a line in its life. Lives of these recordings do not go on in another file."""
+    """Whether nothing is done behind a line in its life. Lives of these recordings do not go on in another file."""
     behind = [lines.told(file, it)["what"] for it in range(at + 1, len(lines.files[file]))]
     return not behind or behind[0] in ("end", "start")

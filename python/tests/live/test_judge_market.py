@@ -1,4 +1,4 @@
-"""Markets over a real broker record while services, nodes and the broker are killed: what they recorded is a run of the network."""
+"""Markets over a real broker record while services, nodes and the broker are killed. What they recorded is a run of the network."""
 
 from __future__ import annotations
 
@@ -22,7 +22,8 @@ def live():
 @pytest.mark.parametrize("keeps", [False, True], ids=["forgets", "keeps"])
 def test_a_storm_is_a_run(live, tmp_path, keeps):
     """Over a broker that loses all that it retains when it is killed, and over one that keeps it."""
-    lines = ["persistence true", f"persistence_location {tmp_path}/", "autosave_on_changes true", "autosave_interval 10"] if keeps else []
+    kept = ["persistence true", f"persistence_location {tmp_path}/", "autosave_on_changes true", "autosave_interval 10"]
+    lines = kept if keeps else []
     folder = tmp_path / "recordings"
     with Mosquitto(tmp_path / "broker", *lines) as broker:
         options = {"record": folder, "record_size": 32_768}

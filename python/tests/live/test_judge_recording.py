@@ -96,7 +96,8 @@ class Noted:
         monkeypatch.setattr(recording.os, "write", lambda file, data: (file == files() and self.note(data), write(file, data))[1])
         monkeypatch.setattr(recording.os, "fsync", lambda file: (file == files() and self.done.append("safe"), fsync(file))[1])
         monkeypatch.setattr(one.node._store, "save", lambda it: (self.done.append("store"), save(it))[1])
-        monkeypatch.setattr(one.link, "publish", lambda it: (self.done.append(f"publish {it.topic.rpartition('market/')[2]}"), publish(it))[1])
+        published = lambda it: self.done.append(f"publish {it.topic.rpartition('market/')[2]}")  # noqa: E731
+        monkeypatch.setattr(one.link, "publish", lambda it: (published(it), publish(it))[1])
         monkeypatch.setattr(one.service, "feed", lambda it: (it and self.done.append("feed"), feed(it))[1])
 
     def note(self, data):
