@@ -91,6 +91,7 @@ share/doc/market/COMMANDS.md
 share/doc/market/COOKBOOK.md
 share/doc/market/GLOSSARY.md
 share/doc/market/LICENSE
+share/doc/market/JUDGE.md
 share/doc/market/LIVE.md
 share/doc/market/NOTICE
 share/doc/market/PROTOCOL.md

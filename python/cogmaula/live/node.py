@@ -107,9 +107,11 @@ class Node:
             raise
         finally:
             self._link.close(self._state("down", why), 2 * LAST_SECONDS)
-            self.serving.end(why)
-            self._store.close()
-            self.showing.close(LAST_SECONDS)
+            try:
+                self.serving.end(why)
+            finally:
+                self._store.close()
+                self.showing.close(LAST_SECONDS)
 
     def stop(self) -> None:
         """Ends `run`, from any thread or from the handler of a signal."""

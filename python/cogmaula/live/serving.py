@@ -1,7 +1,8 @@
 """What a node does with its service: starts it, feeds it, starts it anew, and handles what it writes, frame by frame.
 
 A Resume is stored, on disk and then at the broker, before a frame behind it is published. A relay's or a device's Resume is not
-stored before the broker has confirmed the prices or the setpoint before it. So a crash between the two gives them again.
+stored before the broker has confirmed the prices or the setpoint before it. So a crash between the two gives them again. What is
+recorded is recorded first: a frame before it is fed or handled, and all on disk before a Resume is stored.
 """
 
 from __future__ import annotations
@@ -38,6 +39,7 @@ from .frames import (
 )
 from .messages import setpoint_bytes
 from .offers import Offers
+from .recording import Recording
 from .service import Came, Ended, Service
 from .sessions import now_text
 from .settings import Settings
@@ -73,6 +75,7 @@ class Serving:
         self.children = Children(settings.name, settings.topics, settings.basis.steps, link, say)
         self.offers = Offers(settings.basis.steps, settings.validity, say)
         self._asking = Asking(settings.period, settings.pause)
+        self._recording = Recording(settings)
         self.service: Service | None = None
         self.stored: Stored | None = None
         self.resume: Resume | None = None
@@ -107,6 +110,8 @@ class Serving:
         self._bid = 0
         self._times.clear()
         self._pending.clear()
+        self._recording.ends(why)
+        self._recording.close()
 
     @property
     def last(self) -> int:
@@ -138,7 +143,8 @@ class Serving:
         self._feed(price.to_bytes())
 
     def _feed(self, data: bytes) -> None:
-        if self.service is not None:
+        if self.service is not None and data:
+            self._recording.fed(data)
             self.service.feed(data)
 
     # The process.
@@ -178,6 +184,7 @@ class Serving:
         assert self.stored is not None
         self._born = self._came_at = now
         settings = self._settings
+        self._recording.starts(self.stored)
         try:
             self.service = Service(settings.command, settings.sort, settings.basis, self.stored.frame, self._notify)
         except LiveError as error:
@@ -195,6 +202,7 @@ class Serving:
         now = time.monotonic()
         self.service = None
         self._pending.clear()
+        self._recording.ends(why)
         self._pause = 0.0 if now > self._born + LIVED else min(max(FIRST_PAUSE, 2 * self._pause), LONGEST_PAUSE)
         self._restart_at = now + self._pause
         self.why_down = f"the service has ended, {why}"
@@ -209,6 +217,7 @@ class Serving:
             if isinstance(frame, RelayResume | DeviceResume | ResumeGone) and self._link.is_unconfirmed(self._told_below()):
                 return
             self._pending.popleft()
+            self._recording.wrote(frame.to_bytes())
             self._handle(frame)
 
     def _told_below(self) -> list[str]:
@@ -251,7 +260,9 @@ class Serving:
         assert self.stored is not None
         setpoint = "" if isinstance(resume, ResumeGone) else self.stored.setpoint
         self.stored = Stored(self.stored.session, self._settings.basis, resume.to_bytes(), now_text(), setpoint)
+        self._recording.make_safe()
         self._store.save(self.stored)
+        self._recording.stored()
         self.resume = resume
         self._publish(self._settings.own_topic("resume"), self.stored.frame, self.stored.time)
         if isinstance(resume, DeviceResume | ResumeGone):

@@ -16,6 +16,8 @@ from .page_settings import PageSettings
 from .topics import Topics, require_name, require_prefix
 
 PASSWORD_VARIABLE, LIVE_VARIABLE = "COGMAULA_PASSWORD", "COGMAULA_LIVE"
+# The least size of a file of a recording, in bytes.
+LEAST_SIZE = 1_024
 
 
 @dataclass(frozen=True)
@@ -90,6 +92,9 @@ class Settings:
     new_session: whether an auctioneer begins a new session
     leave:    whether a device leaves and the node then ends
     page:     the page that the node serves, None for no page
+    record:   the folder of the node's recording; None records nothing
+    record_size:  the bytes after which a file of the recording ends and the next begins
+    record_files: how many files of the node are kept there, the newest; None keeps all
     """
 
     sort: Sort
@@ -106,6 +111,9 @@ class Settings:
     validity: float | None = None
     new_session: bool = False
     leave: bool = False
+    record: str | None = None
+    record_size: int = 67_108_864
+    record_files: int | None = None
     broker: BrokerSettings = field(default_factory=BrokerSettings)
     page: PageSettings | None = None
 
@@ -119,6 +127,10 @@ class Settings:
             raise BadSettings(f"floor and ceiling are {self.floor} and {self.ceiling}: give -{MOST} to 0 and 0 to {MOST} watts")
         if (self.new_session and self.sort != "auctioneer") or (self.leave and self.sort != "device"):
             raise BadSettings("new_session is for an auctioneer, and leave for a device")
+        if self.record_size < LEAST_SIZE:
+            raise BadSettings(f"record_size is {self.record_size}: give {LEAST_SIZE} bytes or more")
+        if self.record_files is not None and self.record_files < 1:
+            raise BadSettings(f"record_files is {self.record_files}: give 1 or more")
 
     def _require_place(self) -> None:
         if self.sort == "auctioneer":

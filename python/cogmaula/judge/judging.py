@@ -1,0 +1,60 @@
+"""Judges the recordings of a folder: each service is run again, and the frames between nodes are put into one order."""
+
+from __future__ import annotations
+
+import os
+
+from .faults import Faulty
+from .market import Market, markets_of
+from .merging import Merge
+from .reading import recordings_in
+from .replay import Counts, replayed
+from .verdict import Verdict
+
+
+def judge(folder: str | os.PathLike[str], live: str = "live") -> Verdict:
+    """Decides whether the recordings of a folder are those of a run of the network. docs/JUDGE.md says what that shows.
+
+    folder: has the recordings of all nodes of a market, over any number of sessions
+    live:   the proved program `live`, which runs each service again
+
+    Raises NoRecording if there is nothing to judge, LiveError if the program cannot be run, and OSError.
+    """
+    try:
+        recordings = recordings_in(folder)
+        markets = markets_of(recordings)
+        merges, counts = [], []
+        for market in markets:
+            done, merge = _judged(market, live)
+            counts += done
+            merges.append(merge)
+    except Faulty as error:
+        return Verdict("invalid", fault=error.fault)
+    missing = tuple(it for market in markets for it in market.missing)
+    return Verdict(
+        verdict="incomplete" if missing else "valid",
+        sessions=len(markets),
+        nodes=len(recordings),
+        lives=sum(it.lives for it in counts),
+        frames_in=sum(it.fed.total() for it in counts),
+        frames_out=sum(it.handled.total() for it in counts),
+        taken=sum(it.taken for it in merges),
+        unmatched=sum(it.unmatched for it in merges),
+        clearings=sum(it.clearings for it in counts),
+        setpoints=sum(it.handled["Setpoint"] for it in counts),
+        missing=missing,
+    )
+
+
+def _judged(market: Market, live: str) -> tuple[list[Counts], Merge]:
+    """Judges one session. What is wrong within a node's recording is told only if the node comes so far in the order of all."""
+    counts, faulty = [], {}
+    for name, one in market.nodes.items():
+        try:
+            counts.append(replayed(one, live))
+        except Faulty as error:
+            # Without what was open where it was raised.
+            faulty[name] = error.with_traceback(None)
+    merge = Merge(market, faulty)
+    merge.run()
+    return counts, merge

@@ -1,0 +1,162 @@
+"""Finds an order of all that was recorded in which each frame is sent before it is taken.
+
+A frame that a node took from its parent or its child has to be among those that this node sent before, byte for byte. It may come
+any number of times, late, in any order, or never. The order keeps that of each node; times count for nothing.
+"""
+
+from __future__ import annotations
+
+import hashlib
+from collections import deque
+from collections.abc import Generator, Mapping
+from dataclasses import dataclass, field
+
+from ..live.frames import Bid, Gone, Old, Price
+from ..live.recording import IN, OUT
+from .faults import Faulty
+from .market import Market
+from .reading import Event, Recorded
+from .words import words_of_bytes
+
+# What a node takes from a child, and from its parent.
+FROM_CHILD, FROM_PARENT = {Bid.KIND, Gone.KIND}, {Price.KIND, Old.KIND}
+LONGEST_KEY = 32
+
+
+def _key(data: bytes) -> bytes:
+    """What stands for a frame in memory: the frame, or if it is long its digest."""
+    return data if len(data) <= LONGEST_KEY else b"#" + hashlib.blake2b(data, digest_size=LONGEST_KEY).digest()
+
+
+@dataclass
+class _Walk:
+    """How far a node has come. `event` is the next line, None at the end; `sent` has what it sent so far."""
+
+    recorded: Recorded
+    events: Generator[Event, None, None]
+    event: Event | None = None
+    sent: set[bytes] = field(default_factory=set)
+
+
+class Merge:
+    """The search for an order in one market."""
+
+    def __init__(self, market: Market, faulty: Mapping[str, Faulty]) -> None:
+        """Takes the market, and of nodes what is wrong within their own recordings: there they stop."""
+        self._market = market
+        self._faulty = dict(faulty)
+        self._walks = {name: _Walk(one, one.events()) for name, one in market.nodes.items()}
+        self._waiting: dict[tuple[str, bytes], list[str]] = {}
+        # How many frames were taken from another node, and how many of them its recording lacks.
+        self.taken = self.unmatched = 0
+
+    def run(self) -> None:
+        """Goes through all recordings. Raises the first Faulty at which no node can go on."""
+        try:
+            self._go_all()
+        finally:
+            for walk in self._walks.values():
+                walk.events.close()
+
+    def _go_all(self) -> None:
+        going = deque(self._walks)
+        for name in self._walks:
+            self._read(name)
+        while going:
+            going.extend(self._go(going.popleft()))
+        for name, walk in self._walks.items():
+            if walk.event is not None and self._is_at_fault(name, walk.event):
+                raise self._faulty[name]
+        self._require_end()
+
+    def _read(self, name: str) -> None:
+        """Reads the next line of a node. A line that cannot be read is a place at which it stops."""
+        walk = self._walks[name]
+        try:
+            walk.event = next(walk.events, None)
+        except Faulty as error:
+            self._faulty[name] = error
+            walk.event = Event(error.fault.file, error.fault.line, "")
+
+    def _go(self, name: str) -> list[str]:
+        """Lets a node go as far as it can. Gives the nodes that waited for what it sent."""
+        walk, woken = self._walks[name], list[str]()
+        while walk.event is not None and not self._is_at_fault(name, walk.event):
+            event = walk.event
+            if event.what == OUT:
+                key = _key(event.frame)
+                walk.sent.add(key)
+                woken += self._waiting.pop((name, key), [])
+            elif event.what == IN and self._is_waiting(name, event):
+                self._waiting.setdefault((self._sender(name, event) or "", _key(event.frame)), []).append(name)
+                break
+            elif event.what == IN:
+                self._count(name, event)
+            self._read(name)
+        return woken
+
+    def _is_at_fault(self, name: str, event: Event) -> bool:
+        fault = self._faulty[name].fault if name in self._faulty else None
+        return fault is not None and (fault.file, fault.line) == (event.file, event.line)
+
+    def _sender(self, name: str, event: Event) -> str | None:
+        """The node that a frame was taken from: "" if that has no recording, None if the frame is of no other node."""
+        if event.what != IN or not event.frame:
+            return None
+        if event.frame[0] in FROM_CHILD:
+            return self._market.children.get((name, int.from_bytes(event.frame[1:3], "big")), "")
+        if event.frame[0] in FROM_PARENT:
+            first = self._walks[name].recorded.first
+            parent = None if first is None else first.parent
+            return parent if parent in self._walks else ""
+        return None
+
+    def _is_waiting(self, name: str, event: Event) -> bool:
+        """Whether a frame was taken that its sender, whose recording is whole, has not yet sent."""
+        sender = self._sender(name, event)
+        if not sender or not self._market.is_known(sender):
+            return False
+        return _key(event.frame) not in self._walks[sender].sent
+
+    def _count(self, name: str, event: Event) -> None:
+        sender = self._sender(name, event)
+        if sender is None:
+            return
+        self.taken += 1
+        if not sender or not self._market.is_known(sender):
+            self.unmatched += 1
+            if not sender and event.frame[0] in FROM_CHILD:
+                self._market.misses(f"child {int.from_bytes(event.frame[1:3], 'big')} of {name} has no recording")
+
+    # Where no node can go on.
+
+    def _require_end(self) -> None:
+        """Raises Faulty if a node waits: for a frame that is never sent, or else for one that is sent only later."""
+        waits = [(name, walk.event) for name, walk in self._walks.items() if walk.event is not None]
+        late = None
+        for name, event in waits:
+            sender = self._sender(name, event)
+            assert sender
+            recorded = self._walks[name].recorded
+            assert recorded.first is not None
+            told = words_of_bytes(event.frame, recorded.first.sort, recorded.first.basis.steps)
+            found = self._later(sender, event.frame)
+            if found is None:
+                raise recorded.fault(event, f"{told} is taken, and {sender} never sent just this")
+            if late is None:
+                where = f"{found.file}:{found.line}"
+                why = f"{sender} sends it only at {where}, for which this has to be taken first"
+                late = recorded.fault(event, f"{told} is taken, and {why}")
+        if late is not None:
+            raise late
+
+    def _later(self, sender: str, frame: bytes) -> Event | None:
+        """The first line at which a node sends a frame, None if it never does."""
+        try:
+            for event in self._walks[sender].recorded.events():
+                if event.what == OUT and event.frame == frame:
+                    return event
+        except Faulty:
+            # What is behind a line that cannot be read is not known.
+            pass
+        return None

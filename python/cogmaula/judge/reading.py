@@ -1,0 +1,206 @@
+"""Reads the recordings of a folder: which nodes and sessions are there, in which files, and line by line what was done.
+
+A file is read as it is judged, so its length does not matter. docs/JUDGE.md has the lines.
+"""
+
+from __future__ import annotations
+
+import json
+import os
+import re
+from collections.abc import Generator, Iterator
+from dataclasses import dataclass, field, replace
+from pathlib import Path
+from typing import Any
+
+from ..cluster import Basis
+from ..live.errors import BadMessage
+from ..live.frames import SORTS, Sort
+from ..live.recording import END, IN, OUT, START, STORED, SUFFIX
+from ..live.sessions import Session
+from .faults import Fault, Faulty, NoRecording
+
+_NAME = re.compile(r"([A-Za-z0-9_-]{1,64})\.([0-9a-f]{16})\.([0-9]{6,})\.frames")
+_HEX = re.compile(r"(?:[0-9a-f]{2})+")
+# The members of each line behind `at` and `what`, in their order.
+MEMBERS: dict[str, list[str]] = {
+    START: ["node", "sort", "arguments", "parent", "child", "min", "max", "steps", "session", "begun", "resume"],
+    IN: ["frame"],
+    OUT: ["frame"],
+    STORED: [],
+    END: ["why"],
+}
+
+
+@dataclass(frozen=True)
+class Start:
+    """What a service was started with: its arguments behind the program's name, and its Resume, empty without one."""
+
+    node: str
+    sort: Sort
+    arguments: tuple[str, ...]
+    parent: str | None
+    child: int | None
+    basis: Basis
+    session: Session
+    resume: bytes
+
+
+@dataclass(frozen=True, slots=True)
+class Event:
+    """A line: where it is, what it tells, and the frame of an `in` or `out`, or what a `start` says.
+
+    is_late: of a start, whether what was before it is not there
+    """
+
+    file: str
+    line: int
+    what: str
+    frame: bytes = b""
+    start: Start | None = None
+    is_late: bool = False
+
+
+@dataclass
+class Recorded:
+    """The recording of one node in one session.
+
+    gaps:    the numbers of the files in front of which one is not there
+    lacking: in words, what of it is not there, "" if it is whole
+    begin:   its first start, None if there is none
+    """
+
+    node: str
+    session: str
+    files: list[tuple[int, Path]] = field(default_factory=list)
+    gaps: set[int] = field(default_factory=set)
+    lacking: str = ""
+    begin: Event | None = None
+
+    @property
+    def first(self) -> Start | None:
+        """What its service was started with first."""
+        return None if self.begin is None else self.begin.start
+
+    def fault(self, event: Event, why: str) -> Faulty:
+        """The error that a line is wrong."""
+        return Faulty(Fault(self.node, event.file, event.line, why))
+
+    def events(self) -> Generator[Event, None, None]:
+        """What the lines tell. Behind a file that is not there they are left out, up to the next start.
+
+        Raises Faulty at a line that is none, and OSError.
+        """
+        has_begun = is_lost = False
+        torn: Event | None = None
+        for number, path in self.files:
+            if number in self.gaps:
+                is_lost, torn = True, None
+            for event in self._events_in(path):
+                if event.what == "":
+                    torn = event
+                elif event.start is not None:
+                    is_late = is_lost or (not has_begun and event.start.resume != b"")
+                    has_begun, is_lost, torn = True, False, None
+                    yield replace(event, is_late=is_late)
+                elif torn is not None:
+                    raise self.fault(torn, "the line has no end, and the life of the service goes on behind it")
+                elif not is_lost and not has_begun:
+                    raise self.fault(event, "a recording begins with a start, and this is none")
+                elif not is_lost:
+                    yield event
+
+    def _events_in(self, path: Path) -> Iterator[Event]:
+        """What the lines of a file tell. A part of a line at its end is an event without a word."""
+        with open(path, "rb") as lines:
+            for number, line in enumerate(lines, 1):
+                if not line.endswith(b"\n"):
+                    yield Event(path.name, number, "")
+                    return
+                event = event_of(line, path.name, number)
+                if event is None:
+                    raise self.fault(Event(path.name, number, ""), "it is no line of a recording")
+                if event.start is not None and (event.start.node, event.start.session.id) != (self.node, self.session):
+                    raise self.fault(event, "it is of another node or session than its file's name says")
+                yield event
+
+
+def event_of(line: bytes, file: str, number: int) -> Event | None:
+    """What a line tells, None if it is no line of a recording."""
+    try:
+        told = json.loads(line)
+    except (ValueError, RecursionError):
+        return None
+    if not isinstance(told, dict) or list(told)[:2] != ["at", "what"]:
+        return None
+    what = told["what"]
+    if not isinstance(what, str) or not isinstance(told["at"], str) or list(told)[2:] != MEMBERS.get(what):
+        return None
+    if what in (IN, OUT):
+        data = _bytes_of(told["frame"])
+        return None if data is None else Event(file, number, what, data)
+    if what == START:
+        start = _start_of(told)
+        return None if start is None else Event(file, number, what, start=start)
+    return Event(file, number, what)
+
+
+def _bytes_of(text: object) -> bytes | None:
+    return bytes.fromhex(text) if isinstance(text, str) and _HEX.fullmatch(text) else None
+
+
+def _start_of(told: dict[str, Any]) -> Start | None:
+    """What a line of a start says, None if a member is of another form."""
+    resume = b"" if told["resume"] is None else _bytes_of(told["resume"])
+    arguments = told["arguments"]
+    is_right = (
+        resume is not None
+        and told["sort"] in SORTS
+        and isinstance(arguments, list)
+        and all(isinstance(it, str) for it in [told["node"], told["session"], told["begun"], *arguments])
+        and all(type(told[it]) is int for it in ("min", "max", "steps"))
+        and (isinstance(told["parent"], str) and type(told["child"]) is int or told["parent"] is told["child"] is None)
+    )
+    if not is_right or resume is None:
+        return None
+    try:
+        session = Session(told["session"], told["begun"])
+    except BadMessage:
+        return None
+    basis = Basis(told["min"], told["max"], told["steps"])
+    return Start(told["node"], told["sort"], tuple(arguments), told["parent"], told["child"], basis, session, resume)
+
+
+def recordings_in(folder: str | os.PathLike[str]) -> list[Recorded]:
+    """The recordings of a folder, by session and node.
+
+    Raises NoRecording if there is none, Faulty if one has no right beginning, and OSError.
+    """
+    if not Path(folder).is_dir():
+        raise NoRecording(f"{folder} is no folder: give the one that has the recordings of all nodes")
+    found: dict[tuple[str, str], Recorded] = {}
+    numbers: dict[str, list[int]] = {}
+    for path in Path(folder).iterdir():
+        name = _NAME.fullmatch(path.name)
+        if name:
+            one = found.setdefault((name[2], name[1]), Recorded(name[1], name[2]))
+            one.files.append((int(name[3]), path))
+            numbers.setdefault(name[1], []).append(int(name[3]))
+    if not found:
+        raise NoRecording(f"{folder} has no recording, which is a file NODE.SESSION.NUMBER{SUFFIX}")
+    for one in found.values():
+        one.files.sort()
+        there = {0, *numbers[one.node]}
+        one.gaps = {number for number, _ in one.files if number - 1 not in there}
+        one.begin = next(one.events(), None)
+        one.lacking = _lacking(one)
+    return [found[it] for it in sorted(found)]
+
+
+def _lacking(one: Recorded) -> str:
+    """What of a recording is not there, in words, "" if it is whole."""
+    if one.gaps:
+        return f"its file {min(one.gaps) - 1:06} is not there"
+    if one.begin is None:
+        return "no service was started"
+    return "it begins with a Resume, so the begin of the session is not there" if one.begin.is_late else ""

@@ -1,0 +1,76 @@
+"""What a node may come back with, by the law of the network: docs/NETWORK.md, "What must be stored".
+
+The last number, with the offer or the numbers of the children, is exact: it is what was stored last, or was written since and not
+yet noted as stored. The price that was taken may be of any age, or none.
+"""
+
+from __future__ import annotations
+
+from ..live.frames import AuctioneerResume, DeviceResume, RelayResume, Resume, ResumeGone
+from .words import words_of
+
+
+def _exact(resume: Resume) -> Resume:
+    """A Resume without the price that was taken."""
+    match resume:
+        case RelayResume():
+            return RelayResume(resume.last, 0, 0, resume.numbers)
+        case DeviceResume():
+            return DeviceResume(resume.last, 0, resume.demands)
+        case ResumeGone():
+            return ResumeGone(resume.last, 0)
+        case AuctioneerResume():
+            return resume
+
+
+def _price(resume: Resume) -> tuple[int, int]:
+    """The number answered, of a relay alone, and the index of the price that was taken."""
+    match resume:
+        case RelayResume():
+            return resume.answered, resume.index
+        case DeviceResume() | ResumeGone():
+            return 0, resume.index
+        case AuctioneerResume():
+            return 0, 0
+
+
+class Keeping:
+    """The Resumes of one node in one session. Calls come in the order of the recording, and give what is wrong, "" if nothing."""
+
+    def __init__(self) -> None:
+        """Nothing is stored."""
+        self._stored: Resume | None = None
+        self._waits: Resume | None = None
+        self._prices = {(0, 0)}
+
+    def starts(self, resume: Resume | None, is_late: bool = False) -> str:
+        """A service starts from a Resume, or from none. If it is late, what was before it is not known."""
+        allowed = [self._stored] if self._waits is None else [self._stored, self._waits]
+        self._stored, self._waits = resume, None
+        if resume is not None and is_late:
+            self._prices.add(_price(resume))
+        if is_late:
+            return ""
+        told = "no Resume" if resume is None else words_of(resume)
+        if (None if resume is None else _exact(resume)) not in [None if it is None else _exact(it) for it in allowed]:
+            due = " or ".join("none" if it is None else words_of(it) for it in allowed)
+            return f"it starts with {told}, and stored was {due}: its newest has to come back"
+        if resume is not None and _price(resume) not in self._prices:
+            return f"it starts with {told}, and no Resume before had this price"
+        return ""
+
+    def writes(self, resume: Resume | None) -> str:
+        """The node handles a Resume, or a frame that is none."""
+        if self._waits is not None:
+            return f"it is handled before the {words_of(self._waits)} is stored"
+        if resume is not None:
+            self._waits = resume
+            self._prices.add(_price(resume))
+        return ""
+
+    def stores(self) -> str:
+        """The Resume that was handled last is stored."""
+        if self._waits is None:
+            return "a Resume is stored, and none was handled since the one that was stored before"
+        self._stored, self._waits = self._waits, None
+        return ""

@@ -1,0 +1,235 @@
+"""Any single change of a valid recording is found, or leaves a recording that is by itself a run.
+
+Which of the two it is, `is_run` works out by rules of its own: services are those of checks/oracle/nodes.py, which were written
+from docs/RELAY.md, and the order is looked for by going round the nodes until nothing moves. These changes leave a run:
+
+- an `end` that is not there; a `stored` behind which nothing is written before the next start
+- the last frames out of a life that nobody took, since a life may end before they are handled
+- a frame in that changes no answer of its life, and was sent
+- two neighbours that change places, of which neither answers or lets send the other
+"""
+
+from __future__ import annotations
+
+import json
+import shutil
+import tempfile
+from collections import Counter
+from pathlib import Path
+
+import pytest
+from hypothesis import HealthCheck, given, settings
+from hypothesis import strategies as some
+from markets import PLACES, STEPS
+from recorded import Lines
+
+from checks.oracle import frames
+from checks.oracle.nodes import RESUME, RESUME_GONE, node_of
+from cogmaula.judge import judge, replay
+from cogmaula.live.frames import Hello
+
+PARENTS = {name: parent for name, (_, parent, _) in PLACES.items()}
+CHILDREN = {(parent, child): name for name, (_, parent, child) in PLACES.items()}
+BIDS, PRICES = {2, 3}, {5, 7}
+
+
+def lives_of(told):
+    """The lives of a node, each a list of its lines. None if a line is outside a life."""
+    lives, has_ended = [], True
+    for it in told:
+        if it["what"] == "start":
+            lives.append([])
+        elif has_ended:
+            return None
+        has_ended = it["what"] == "end"
+        lives[-1].append(it)
+    return lives
+
+
+def answers_as_recorded(life):
+    """Whether the model of the service answers a life's frames in by its frames out, so far as these go."""
+    start = life[0]
+    service = node_of(start["arguments"])
+    if service is None:
+        return False
+    stream, due = frames.Stream(service), b""
+    due += stream.feed(Hello(start["min"], start["max"], start["steps"]).to_bytes() + bytes.fromhex(start["resume"] or ""))
+    for it in life[1:]:
+        if it["what"] == "in":
+            data = bytes.fromhex(it["frame"])
+            if data[0] in (1, RESUME, RESUME_GONE):
+                return False
+            due += stream.feed(data)
+            if stream.is_bad or stream.kept:
+                return False
+        elif it["what"] == "out":
+            data = bytes.fromhex(it["frame"])
+            if not due.startswith(data):
+                return False
+            due = due[len(data) :]
+    return not stream.is_bad
+
+
+def exact(data):
+    """A Resume without the price that it has, and that price."""
+    if not data:
+        return b"", b""
+    if data[0] == RESUME_GONE:
+        return data[:5], data[5:]
+    if len(data) == 1037:
+        return data[:5] + data[13:], data[5:13]
+    return (data, b"") if len(data) == 1029 else (data[:5] + data[9:], data[5:9])
+
+
+def comes_back_with_newest(lives):
+    """Whether each start comes back with what was stored last, or written since; and nothing is written before it is stored."""
+    stored, waits, prices = b"", None, {b"", bytes(4), bytes(8)}
+    for life in lives:
+        begin = bytes.fromhex(life[0]["resume"] or "")
+        if exact(begin)[0] not in [exact(it)[0] for it in (stored, waits) if it is not None] or exact(begin)[1] not in prices:
+            return False
+        stored, waits = begin, None
+        for it in life[1:]:
+            if it["what"] == "out":
+                data = bytes.fromhex(it["frame"])
+                if waits is not None:
+                    return False
+                if data[0] in (RESUME, RESUME_GONE):
+                    waits = data
+                    prices.add(exact(data)[1])
+            elif it["what"] == "stored":
+                if waits is None:
+                    return False
+                stored, waits = waits, None
+    return True
+
+
+def sender_of(name, data):
+    if data[0] in BIDS:
+        return CHILDREN.get((name, int.from_bytes(data[1:3], "big")))
+    return PARENTS[name] if data[0] in PRICES else None
+
+
+def has_an_order(told):
+    """Whether all lines have an order in which each frame is sent before it is taken."""
+    at, sent, moved = dict.fromkeys(told, 0), {it: set() for it in told}, True
+    while moved:
+        moved = False
+        for name, them in told.items():
+            while at[name] < len(them):
+                it = them[at[name]]
+                if it["what"] == "out":
+                    sent[name].add(it["frame"])
+                elif it["what"] == "in":
+                    sender = sender_of(name, bytes.fromhex(it["frame"]))
+                    if sender is not None and it["frame"] not in sent[sender]:
+                        break
+                at[name] += 1
+                moved = True
+    return all(at[name] == len(them) for name, them in told.items())
+
+
+def is_run(lines):
+    """Whether recordings are those of a run, by the rules of this file."""
+    told = {name: [] for name in PLACES}
+    for file in sorted(lines.files):
+        told[file.split(".")[0]] += [json.loads(it) for it in lines.files[file]]
+    for them in told.values():
+        lives = lives_of(them)
+        if lives is None or not all(answers_as_recorded(it) for it in lives) or not comes_back_with_newest(lives):
+            return False
+    return has_an_order(told)
+
+
+@some.composite
+def changes(draw, lines):
+    """A change of one line: what is done, and a call that does it."""
+    file = draw(some.sampled_from(sorted(lines.files)))
+    them = lines.files[file]
+    at = draw(some.integers(0, len(them) - 1))
+    what = draw(some.sampled_from(["drop", "exchange", "double", "move", "alter", "turn"]))
+    told = json.loads(them[at])
+    if what == "drop":
+        return f"drop {told['what']}", lambda: them.pop(at)
+    if what in ("exchange", "move"):
+        other = min(at + 1, len(them) - 1) if what == "exchange" else draw(some.integers(0, len(them) - 1))
+        return f"{what} {told['what']}", lambda: them.insert(other, them.pop(at))
+    if what == "double":
+        return f"double {told['what']}", lambda: them.insert(at, them[at])
+    if what == "turn" and told["what"] in ("in", "out"):
+        told["what"] = "out" if told["what"] == "in" else "in"
+        return f"turn {told['what']}", lambda: them.__setitem__(at, json.dumps(told).encode())
+    member = "frame" if told["what"] in ("in", "out") else "resume"
+    if not told.get(member):
+        return f"drop {told['what']}", lambda: them.pop(at)
+    data = bytearray.fromhex(told[member])
+    # The first fields of a frame have its kind, its numbers and its step.
+    place = draw(some.integers(0, min(len(data), 20) - 1))
+    data[place] ^= draw(some.sampled_from([1, 2, 4, 255]))
+    told[member] = data.hex()
+    return f"alter {told['what']}", lambda: them.__setitem__(at, json.dumps(told).encode())
+
+
+SEEN = Counter()
+
+
+@pytest.fixture
+def quick(monkeypatch):
+    """Asks soon by the end of the input whether a service has an answer, and is patient if it has."""
+    monkeypatch.setattr(replay, "PATIENCE", (0.05, 2.0, 60.0))
+
+
+def require_as_worked_out(lines, live):
+    """Judges lines, and compares."""
+    with tempfile.TemporaryDirectory() as folder:
+        lines.folder = Path(folder)
+        verdict = judge(lines.write(), live)
+    due = "valid" if is_run(lines) else "invalid"
+    assert verdict.verdict == due, verdict
+    return due
+
+
+@settings(max_examples=60, deadline=None, suppress_health_check=[HealthCheck.function_scoped_fixture, HealthCheck.too_slow])
+@given(data=some.data())
+def test_any_single_change_is_found_or_leaves_a_run(recorded, live, quick, data):
+    lines = Lines(recorded)
+    what, change = data.draw(changes(lines))
+    change()
+    SEEN[what, require_as_worked_out(lines, live)] += 1
+
+
+def places_of(lines, holds):
+    return [(file, at) for file, them in lines.files.items() for at in range(len(them)) if holds(file, at)]
+
+
+def test_the_changes_that_leave_a_run(recorded, live, quick, tmp_path):
+    """Each of them by hand: they are valid, and `is_run` says so."""
+    whole = Lines(recorded)
+    assert require_as_worked_out(whole, live) == "valid"
+    cases = {
+        "an end": [(file, at) for file, at in places_of(whole, lambda *it: whole.told(*it)["what"] == "end")],
+        "a stored before a start": places_of(
+            whole, lambda file, at: whole.told(file, at)["what"] == "stored" and is_last_word(whole, file, at)
+        ),
+        "a frame out at the end that nobody takes": places_of(
+            whole,
+            lambda file, at: whole.told(file, at)["what"] == "out" and is_last_word(whole, file, at)
+            and type(whole.frame(file, at)).__name__ in ("Old", "NotChanged", "Dropped", "Setpoint"),
+        ),
+        "a frame in at the end": places_of(
+            whole, lambda file, at: whole.told(file, at)["what"] == "in" and is_last_word(whole, file, at)
+        ),
+    }  # fmt: skip
+    seen = Counter()
+    for what, places in cases.items():
+        for file, at in places:
+            lines = Lines(shutil.copytree(recorded, tmp_path / f"{what} {file} {at}")).drop(file, at)
+            assert require_as_worked_out(lines, live) == "valid", (what, file, at)
+            seen[what] += 1
+    assert seen["an end"] > 4 and seen["a stored before a start"] + seen["a frame in at the end"] > 2, seen
+
+
+def is_last_word(lines, file, at):
+    """Whether nothing is done behind a line in its life. Lives of these recordings do not go on in another file."""
+    behind = [lines.told(file, it)["what"] for it in range(at + 1, len(lines.files[file]))]
+    return not behind or behind[0] in ("end", "start")

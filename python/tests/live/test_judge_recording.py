@@ -1,0 +1,288 @@
+"""What a node records: each frame in and out in lines, in an order that holds over a crash, in files that end and begin anew."""
+
+from __future__ import annotations
+
+import errno
+import json
+import os
+import re
+
+import pytest
+from markets import falls_at
+from pretended import BASIS_TOPIC, LATER, SESSION, basis_payload, bid, numbers, saved
+from recorded import Lines, RecordedMarket, files_of
+
+from cogmaula.judge import judge
+from cogmaula.live import BadSettings, recording
+from cogmaula.live.frames import AuctioneerResume, Clear, Price, RelayResume, Send
+from cogmaula.live.settings import settings_of
+
+FIRST = RelayResume(1, 0, 0, numbers((1, 1)))
+
+
+def told_in(folder):
+    """All lines of a folder's recordings, without their times."""
+    found = [json.loads(line) for path in sorted(folder.iterdir()) for line in path.read_text().splitlines()]
+    for it in found:
+        assert re.fullmatch(r"\d{4}-\d\d-\d\dT\d\d:\d\d:\d\d\.\d{6}Z", it.pop("at"))
+    return found
+
+
+def frames_in(folder, *words):
+    return [(it["what"], it["frame"]) for it in told_in(folder) if it["what"] in (words or ("in", "out"))]
+
+
+def test_a_node_records_its_start_and_each_frame(joined, tmp_path):
+    folder = tmp_path / "recordings"
+    one = joined("relay", record=str(folder)).begun(("market/street/bid/1", bid(1, 1, 5, -3).to_bytes()))
+    sent = bid(3, 1, 5, -3)
+    one.writes(FIRST, sent)
+    one.link.comes("market/auctioneer/price/3", Price(3, 1, 7, 1).to_bytes())
+    one.turned()
+    one.node.serving.end("stopped")
+    assert [it.name for it in folder.iterdir()] == [f"street.{SESSION.id}.000001.frames"]
+    place = {"node": "street", "sort": "relay", "arguments": ["relay", "3", "-1000", "1000"], "parent": "auctioneer", "child": 3}
+    basis = {"min": 0, "max": 9, "steps": 2}
+    assert told_in(folder) == [
+        {"what": "start", **place, **basis, "session": SESSION.id, "begun": SESSION.begun, "resume": None},
+        {"what": "in", "frame": bid(1, 1, 5, -3).to_bytes().hex()},
+        {"what": "in", "frame": Send().to_bytes().hex()},
+        {"what": "out", "frame": FIRST.to_bytes().hex()},
+        {"what": "stored"},
+        {"what": "out", "frame": sent.to_bytes().hex()},
+        {"what": "in", "frame": Price(3, 1, 7, 1).to_bytes().hex()},
+        {"what": "end", "why": "stopped"},
+    ]
+    lines = next(folder.iterdir()).read_text().splitlines()
+    assert list(json.loads(lines[0]))[:4] == ["at", "what", "node", "sort"]
+
+
+def test_a_node_without_a_folder_records_nothing(joined, tmp_path):
+    one = joined("relay").begun(("market/street/bid/1", bid(1, 1, 5, -3).to_bytes()))
+    one.writes(FIRST)
+    one.node.serving.end("stopped")
+    assert sorted(it.name for it in tmp_path.iterdir()) == ["relay"]
+
+
+def test_a_start_has_the_resume_that_it_goes_on_from(joined, tmp_path):
+    saved(tmp_path, "relay", "street", FIRST)
+    joined("relay", record=str(tmp_path / "recordings")).begun()
+    assert [it["resume"] for it in told_in(tmp_path / "recordings")] == [FIRST.to_bytes().hex()]
+
+
+def test_a_service_that_ends_and_comes_back_is_recorded_in_one_file(joined, tmp_path, monkeypatch):
+    folder = tmp_path / "recordings"
+    one = joined("auctioneer", record=str(folder)).begun()
+    one.service.ends("status 4")
+    one.turned()
+    monkeypatch.setattr(one.node.serving, "_restart_at", 0)
+    one.turned()
+    assert [it["what"] for it in told_in(folder)] == ["start", "end", "start"]
+    assert told_in(folder)[1]["why"] == "status 4"
+    assert len(list(folder.iterdir())) == 1
+
+
+# The order of what is done.
+
+
+class Noted:
+    """Notes in their order: what is written and made safe of the recording, what is stored, published, and fed."""
+
+    def __init__(self, one, monkeypatch):
+        self.done, self.one = [], one
+        serving = one.node.serving
+        write, fsync, save, publish, feed = os.write, os.fsync, one.node._store.save, one.link.publish, one.service.feed
+        files = lambda: serving._recording._file  # noqa: E731
+        monkeypatch.setattr(recording.os, "write", lambda file, data: (file == files() and self.note(data), write(file, data))[1])
+        monkeypatch.setattr(recording.os, "fsync", lambda file: (file == files() and self.done.append("safe"), fsync(file))[1])
+        monkeypatch.setattr(one.node._store, "save", lambda it: (self.done.append("store"), save(it))[1])
+        published = lambda it: self.done.append(f"publish {it.topic.rpartition('market/')[2]}")  # noqa: E731
+        monkeypatch.setattr(one.link, "publish", lambda it: (published(it), publish(it))[1])
+        monkeypatch.setattr(one.service, "feed", lambda it: (it and self.done.append("feed"), feed(it))[1])
+
+    def note(self, data):
+        told = json.loads(data)
+        self.done.append(f"{told['what']} {told.get('frame', '')[:2]}".strip())
+
+
+def test_all_is_safe_before_a_resume_is_stored_and_recorded_before_it_is_published(joined, tmp_path, monkeypatch):
+    one = joined("auctioneer", record=str(tmp_path / "recordings")).begun()
+    noted = Noted(one, monkeypatch)
+    one.link.comes("market/auctioneer/bid/3", bid(3, 1, 21, -3).to_bytes(), [("session", one.node.session.id)])
+    one.turned()
+    one.writes(AuctioneerResume(1, numbers((3, 1))), Price(3, 1, 1, 1))
+    assert noted.done == [
+        "in 02", "feed", "in 04", "feed",
+        "out 0c", "safe", "store", "stored", "publish auctioneer/resume",
+        "out 05", "publish auctioneer/price/3",
+    ]  # fmt: skip
+    assert one.service.read[-1] == Clear().to_bytes()
+
+
+def test_a_resume_that_waits_for_the_broker_is_not_yet_recorded(joined, tmp_path):
+    folder = tmp_path / "recordings"
+    saved(tmp_path, "relay", "street", FIRST)
+    one = joined("relay", record=str(folder)).begun(("market/street/bid/1", bid(1, 1, 5, -3).to_bytes()))
+    price, resume = Price(1, 1, 7, 1), RelayResume(1, 1, 7, numbers((1, 1)))
+    one.writes(price, resume)
+    assert frames_in(folder, "out") == [("out", price.to_bytes().hex())]
+    one.link.confirm()
+    one.turned()
+    assert frames_in(folder, "out") == [("out", it.to_bytes().hex()) for it in (price, resume)]
+
+
+# A disk that takes no more.
+
+
+def fails_at(monkeypatch, name, count):
+    """Lets a call of the system on a recording fail from a count on: of a write a part may have been made."""
+    call, left = getattr(os, name), [count]
+
+    def failing(file, *data):
+        if "recordings" not in os.readlink(f"/proc/self/fd/{file}"):
+            return call(file, *data)
+        left[0] -= 1
+        if left[0] > 0:
+            return call(file, *data)
+        if name == "write" and left[0] == 0:
+            return call(file, data[0][:10])
+        raise OSError(errno.ENOSPC, os.strerror(errno.ENOSPC))
+
+    monkeypatch.setattr(recording.os, name, failing)
+
+
+def test_a_full_disk_ends_the_node_before_anything_is_sent(joined, tmp_path, monkeypatch):
+    folder = tmp_path / "recordings"
+    one = joined("auctioneer", record=str(folder)).begun()
+    one.link.comes("market/auctioneer/bid/3", bid(3, 1, 21, -3).to_bytes(), [("session", one.node.session.id)])
+    one.turned()
+    count = len(one.link.sent)
+    fails_at(monkeypatch, "write", 1)
+    with pytest.raises(OSError, match="No space left"):
+        one.writes(AuctioneerResume(1, numbers((3, 1))), Price(3, 1, 1, 1))
+    assert one.stored(one.node.session) == b"", "the Resume is not stored"
+    assert len(one.link.sent) == count
+    monkeypatch.undo()
+    one.node.serving.end("No space left on device")
+    data = next(folder.iterdir()).read_bytes()
+    assert data.endswith(b'{"at": "20'), "behind a part of a line nothing is written"
+
+
+def test_a_recording_that_is_not_safe_stores_no_resume(joined, tmp_path, monkeypatch):
+    one = joined("auctioneer", record=str(tmp_path / "recordings")).begun()
+    fails_at(monkeypatch, "fsync", 1)
+    with pytest.raises(OSError, match="No space left"):
+        one.writes(AuctioneerResume(1, numbers((3, 1))))
+    assert one.stored(one.node.session) == b""
+    monkeypatch.undo()
+    one.node.serving.end("No space left on device")
+
+
+def test_a_run_over_a_full_disk_ends_with_the_error_and_lets_go(tmp_path, live, monkeypatch):
+    market = RecordedMarket(tmp_path, live).start("auctioneer")
+    node = market.nodes["auctioneer"]
+    fails_at(monkeypatch, "write", 1)
+    node.stop()
+    with pytest.raises(OSError, match="No space left"):
+        node.run()
+    monkeypatch.undo()
+    market.nodes.clear()
+    market.start("auctioneer").stop()
+
+
+# Files.
+
+
+def test_a_file_ends_at_its_size_and_the_next_begins(tmp_path, live):
+    market = RecordedMarket(tmp_path, live)
+    market.start("auctioneer", "street", "house", "store", record_size=4_096)
+    market.offers(house=[100] * 10)
+    for step in range(1, 9):
+        market.offers(store=falls_at(step, 0, -150))
+        market.settles_at(step, house=100, store=-150)
+    market.stop()
+    for name in ("auctioneer", "street", "house", "store"):
+        files = files_of(market.recordings, name)
+        assert len(files) > 1
+        assert [it.split(".")[2] for it in files] == [f"{number:06}" for number in range(1, len(files) + 1)]
+        assert all((market.recordings / it).stat().st_size <= 4_096 for it in files)
+    verdict = judge(market.recordings, live)
+    assert (verdict.verdict, verdict.lives) == ("valid", 4)
+    lines = Lines(market.recordings)
+    middle = files_of(market.recordings, "street")[2]
+    del lines.files[middle]
+    verdict = judge(lines.write(), live)
+    assert verdict.missing == ("street: its file 000003 is not there",)
+
+
+def test_only_the_newest_files_are_kept(tmp_path, live):
+    market = RecordedMarket(tmp_path, live)
+    market.start("auctioneer", "house", "store").start("street", record_size=4_096, record_files=2)
+    market.offers(house=[100] * 10)
+    for step in range(1, 9):
+        market.offers(store=falls_at(step, 0, -150))
+        market.settles_at(step, house=100, store=-150)
+    market.stop()
+    first, second = (int(it.split(".")[2]) for it in files_of(market.recordings, "street"))
+    assert second == first + 1 > 4
+    verdict = judge(market.recordings, live)
+    assert verdict.verdict == "incomplete"
+    assert verdict.missing == (f"street: its file {first - 1:06} is not there", "child 1 of auctioneer has no recording")
+
+
+def test_a_new_process_begins_a_new_file_behind_those_there(joined, tmp_path):
+    folder = tmp_path / "recordings"
+    folder.mkdir()
+    for name in (f"street.{SESSION.id}.000007.frames", "street.frames", "street.x.y.frames", f"house.{SESSION.id}.000009.frames"):
+        (folder / name).touch()
+    joined("relay", record=str(folder)).begun()
+    assert (folder / f"street.{SESSION.id}.000008.frames").stat().st_size > 0
+
+
+def test_a_session_has_files_of_its_own(joined, tmp_path):
+    folder = tmp_path / "recordings"
+    one = joined("relay", record=str(folder)).begun()
+    one.link.comes(BASIS_TOPIC, basis_payload(LATER))
+    one.turned()
+    assert sorted(it.name for it in folder.iterdir()) == [f"street.{SESSION.id}.000001.frames", f"street.{LATER.id}.000002.frames"]
+    assert [it["what"] for it in told_in(folder)] == ["start", "end", "start"]
+
+
+def test_a_recording_can_only_be_read_by_its_owner(joined, tmp_path):
+    folder = tmp_path / "recordings"
+    joined("relay", record=str(folder)).begun()
+    assert folder.stat().st_mode & 0o777 == 0o700
+    assert next(folder.iterdir()).stat().st_mode & 0o777 == 0o600
+
+
+# Settings.
+
+NODE = {"name": "auctioneer", "state": "state", "record": "recordings"}
+TABLES = {"basis": {"min": 0, "max": 9, "steps": 10}}
+
+
+def test_the_settings_of_a_recording():
+    told = settings_of("auctioneer", {**TABLES, "node": NODE})
+    assert (told.record, told.record_size, told.record_files) == ("recordings", 67_108_864, None)
+    told = settings_of("auctioneer", {**TABLES, "node": {**NODE, "record_size": 1024, "record_files": 1}})
+    assert (told.record_size, told.record_files) == (1024, 1)
+
+
+@pytest.mark.parametrize(
+    ("member", "value", "why"),
+    [
+        ("record", 5, "node.record is 5: give a text"),
+        ("record_size", 1023, "record_size is 1023: give 1024 bytes or more"),
+        ("record_size", "64M", "node.record_size is '64M': give a whole number"),
+        ("record_files", 0, "record_files is 0: give 1 or more"),
+    ],
+)
+def test_wrong_settings_of_a_recording_are_told(member, value, why):
+    with pytest.raises(BadSettings, match=why):
+        settings_of("auctioneer", {**TABLES, "node": {**NODE, member: value}})
+
+
+def test_a_node_whose_service_never_started_has_no_recording(joined, tmp_path):
+    one = joined("relay", record=str(tmp_path / "recordings"))
+    one.node.serving.end("stopped")
+    assert not (tmp_path / "recordings").exists()
