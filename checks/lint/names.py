@@ -24,7 +24,6 @@ TOOLS = {"measure", "trials"}
 # Functions of code that have one name in two crates, and the one thing that the name says in both.
 SAME_IN_CODE = {
     "arguments_of": "the arguments of a program",
-    "are_limits": "whether two powers are a floor and a ceiling",
     "change": "makes a change of a device",
     "clear": "the auctioneer clears",
     "close": "closes the open phase",
@@ -32,7 +31,6 @@ SAME_IN_CODE = {
     "find_rise": "the first place of a list that rises",
     "find_too_large": "the first place of a list whose number is too large",
     "group_of": "the group of a node",
-    "limits_of": "the limits of a node",
     "make_change": "makes a change of a device",
     "make_changes": "makes the changes of a phase",
     "make_phases": "makes the phases",

@@ -1,5 +1,5 @@
 -- The numbers of nodes, as the nodes change in their places.
-use Rattle.std.proofs.Common.{◌≡◌, ℕ, zero, suc, ◌<◌, List, [], ◌∷◌, ◌++◌, length, get_or, set, refl, sym, ap, ◌∙◌, arith}
+use Rattle.std.proofs.Common.{◌≡◌, ℕ, zero, suc, ◌<◌, List, [], ◌∷◌, ◌++◌, length, get_or, set, refl, ap, ◌∙◌, arith}
 use Rattle.pm_phase.specs.Nodes.{numbers_of_parts, numbers_of_nodes}
 use Rattle.pm_phase.specs.declared.node.FreeNode.{FreeNode}
 use Rattle.pm_phase.specs.declared.node.NodePart.{NodePart}

@@ -1,8 +1,7 @@
 -- What a device's part keeps, and what each of its calls does.
-use Rattle.std.specs.Prelude.{◌≡◌, ℕ, ◌+◌, ℤ, Bool, true, false, nat_lt, IsTrue, if◌then◌else◌, List, Option, Some, None}
+use Rattle.std.specs.Prelude.{◌≡◌, ◌+◌, ℤ, Bool, false, nat_lt, IsTrue, if◌then◌else◌, List, Option, Some, None}
 use Rattle.pm_agent.specs.Agents.{Agent}
 use Rattle.pm_agent.specs.MadeBids.{demand_after_change}
-use Rattle.pm_cells.specs.declared.message.UpMessage.{UpMessage}
 use Rattle.pm_device.specs.Kinds.{state_fits}
 use Rattle.pm_device.specs.declared.state.Next.{Next}
 use Rattle.pm_plan.specs.Plans.{PlanData}

@@ -1,17 +1,31 @@
--- What a node with children learns, bids and passes on.
+-- What a node with children starts from, learns, bids and passes on.
 use Rattle.std.specs.Prelude.{◌≡◌, ◌⊎◌, ℕ, ◌+◌, ◌<◌, ◌≤◌, ◌^◌, true, List, length, Option, Some, None, slice_index_or}
 use Rattle.pm_base.specs.Limits.{window_size}
-use Rattle.pm_auctioneer.specs.Auctions.{Auction}
+use Rattle.pm_auctioneer.specs.Auctions.{new_auction}
 use Rattle.pm_bid.specs.declared.head.BidHead.{BidHead}
 use Rattle.pm_cache.specs.Cache.{Cache, kept_number}
 use Rattle.pm_cache.specs.Learning.{CanLearn, after_learning}
 use Rattle.pm_cells.specs.declared.message.UpMessage.{UpMessage}
-use Rattle.pm_concentrator.specs.Concentrators.{Gathered, published_heads}
+use Rattle.pm_concentrator.specs.Concentrators.{Gathered, IsNewConcentrator, published_heads}
+use Rattle.pm_plan.specs.Plans.{PlanData, limits_of}
+use Rattle.pm_plan.specs.Plans as plans
 use Rattle.pm_session.specs.Prices.{price_to}
 use Rattle.pm_session.specs.Windows.{Keeps, unanswered_count}
 use Rattle.pm_session.specs.declared.price.PriceUpdate.{PriceUpdate}
+use Rattle.pm_tree.specs.Entries.{children_of}
 use Rattle.pm_phase.specs.declared.matcher.Matcher.{Matcher}
 use Rattle.pm_phase.specs.declared.matcher.Matcher.TheVariants.{Concentrator, Auctioneer}
+
+-- how many children a node of a plan has
+abbrev pub child_count : PlanData → ℕ → ℕ
+child_count plan node = length (children_of plan.entries node)
+
+-- what a node of a plan is before anybody sent anything: node 0 a new auctioneer, any other node a new concentrator with its
+-- limits, each of as many children as the node has, over the steps of the plan
+abbrev pub IsNewMatcher : PlanData → ℕ → Matcher → Type 0
+IsNewMatcher plan node (Auctioneer auctioneer) = (node ≡ 0) × (auctioneer ≡ new_auction (child_count plan node) plan.basis.steps)
+IsNewMatcher plan node (Concentrator concentrator) = (node ≡ 0 → ⊥)
+    × IsNewConcentrator (child_count plan node) plan.basis.steps (limits_of (plans.node plan node)) concentrator
 
 -- the newest bids of the children
 abbrev pub cache_of_matcher : Matcher → Cache

@@ -1,11 +1,21 @@
--- What is seen of a node from outside its turns.
-use Rattle.std.specs.Prelude.{ℕ, List, map, Option, None}
+-- What a node starts from, and what is seen of it from outside its turns.
+use Rattle.std.specs.Prelude.{◌≡◌, ℕ, true, List, map, Option, None}
+use Rattle.pm_nodes.specs.DeviceAgents.{IsAgentOf}
+use Rattle.pm_plan.specs.Plans.{PlanData, is_leaf}
 use Rattle.pm_session.specs.Ports.{held_by}
 use Rattle.pm_session.specs.declared.price.Held.{Held}
+use Rattle.pm_phase.specs.Devices.{new_device}
+use Rattle.pm_phase.specs.Parents.{IsNewParent}
 use Rattle.pm_phase.specs.declared.node.Duty.{Duty}
 use Rattle.pm_phase.specs.declared.node.Duty.TheVariants.{Device, Parent}
 use Rattle.pm_phase.specs.declared.node.NodePart.{NodePart}
 use Rattle.pm_phase.specs.declared.node.FreeNode.{FreeNode}
+
+-- what a node does before the first phase: a device made no change, and has the agent of the plan's device; any other node is
+-- one with children to which nobody sent anything
+abbrev pub IsNewDuty : PlanData → ℕ → Duty → Type 0
+IsNewDuty plan node (Device device) = IsAgentOf plan node device.agent × (device ≡ new_device device.agent)
+IsNewDuty plan node (Parent parent) = (is_leaf plan node ≡ true → ⊥) × IsNewParent plan node parent
 
 -- the price that a device holds; none of another node
 abbrev pub held_by_duty : Duty → Option Held

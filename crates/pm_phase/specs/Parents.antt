@@ -1,15 +1,24 @@
--- What the part of a node with children keeps, and what each of its calls does.
-use Rattle.std.specs.Prelude.{◌≡◌, ◌⊎◌, ℕ, ◌+◌, ◌^◌, false, Option, Some, None, set}
+-- What the part of a node with children starts from and keeps, and what each of its calls does.
+use Rattle.std.specs.Prelude.{◌≡◌, ◌⊎◌, ℕ, ◌+◌, ◌^◌, false, Some, None, replicate, set}
 use Rattle.pm_auctioneer.specs.Auctions.{Auction, MarketCleared}
 use Rattle.pm_cells.specs.declared.message.UpMessage.{UpMessage}
 use Rattle.pm_concentrator.specs.Concentrators.{Gathered, BidMade, Passed, own_demand}
 use Rattle.pm_concentrator.specs.Limited.{local_step_of_record}
+use Rattle.pm_plan.specs.Plans.{PlanData}
 use Rattle.pm_session.specs.Windows.{record_of}
 use Rattle.pm_session.specs.declared.price.PriceUpdate.{PriceUpdate}
-use Rattle.pm_phase.specs.Matchers.{after_bid, HasNoBid, MayPassOn, PricesWait}
+use Rattle.pm_phase.specs.Matchers.{child_count, IsNewMatcher, after_bid, HasNoBid, MayPassOn, PricesWait}
 use Rattle.pm_phase.specs.declared.parent.ParentPart.{ParentPart}
 use Rattle.pm_phase.specs.declared.matcher.Matcher.{Matcher}
 use Rattle.pm_phase.specs.declared.matcher.Matcher.TheVariants.{Concentrator, Auctioneer}
+
+-- a node to which nobody sent anything: nothing waits, and no child has a bid or a price
+pub record IsNewParent (plan : PlanData) (node : ℕ) (part : ParentPart) : Type 0 where
+  pub matcher : IsNewMatcher plan node part.matcher
+  pub waiting : part.waiting ≡ None
+  pub pending : part.pending ≡ None
+  pub prices : part.prices.items ≡ replicate (child_count plan node) None
+  pub learnt : part.learnt.items ≡ replicate (child_count plan node) None
 
 -- a child's bid was learnt, and is kept as the newest
 pub record LearnsBid (child : ℕ) (bid : UpMessage) (old new : ParentPart) : Type 0 where

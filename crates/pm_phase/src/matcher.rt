@@ -1,24 +1,25 @@
 //! What a node with children is, and what it sends: its next bid, and the prices of a clearing.
 
-ghost use Rattle.std.specs.Prelude.{◌≡◌, ◌⊎◌, ℕ, ◌+◌, ◌<◌, ◌≤◌, ◌^◌, IsTrue, true, false};
+ghost use Rattle.std.specs.Prelude.{◌≡◌, ◌⊎◌, ℕ, ◌+◌, ◌<◌, ◌≤◌, ◌^◌, true, false};
 ghost use Rattle.std.specs.Prelude.{IfOk, IfSome, OnErr, length, Some, None};
-ghost use Rattle.pm_base.specs.Limits.{AreLimits};
-ghost use Rattle.pm_concentrator.specs.Concentrators.{BidMade, Passed, own_demand};
+ghost use Rattle.pm_base.specs.Limits.{AreLimits, most_nodes};
+ghost use Rattle.pm_plan.specs.Plans.{node as planned_node, limits_of};
+ghost use Rattle.pm_concentrator.specs.Concentrators.{BidMade, Passed, own_demand, IsNewConcentrator};
 ghost use Rattle.pm_concentrator.specs.Limited.{local_step_of_record};
 ghost use Rattle.pm_auctioneer.specs.Auctions.{MarketCleared};
 ghost use Rattle.pm_session.specs.Windows.{record_of};
-ghost use Rattle.pm_phase.specs.Matchers.{cache_of_matcher, MayLearnBid, after_bid, HasNoBid};
+ghost use Rattle.pm_phase.specs.Matchers.{child_count, IsNewMatcher, cache_of_matcher, MayLearnBid, after_bid, HasNoBid};
 ghost use Rattle.pm_phase.specs.Matchers.{MayPassOn, PricesWait, waiting_at, newer_price};
 
 use pm_auctioneer::Auctioneer;
-use pm_base::{MOST_NODES, SUM_LIMIT};
+use pm_base::Limits;
 use pm_bid::{ArrayBid, Steps};
 use pm_cache::BidCache;
 use pm_cells::UpMessage;
 use pm_concentrator::Concentrator;
 use pm_plan::Plan;
 use pm_session::{PriceUpdate, Prices};
-use pm_tree::{NodeId, Tree};
+use pm_tree::NodeId;
 use std::alloc::{AllocError, Global};
 use std::marker::Brand;
 
@@ -31,19 +32,15 @@ pub(crate) enum Matcher {
 
 impl Matcher {
     /// The matcher of a node that is no device, before anybody sent anything.
-    pub(crate) fn of(alloc: Global, plan: &Plan, node: u32) -> Result<Matcher, AllocError> {
-        let children = children_of(plan, node).min(MOST_NODES);
-        let steps = plan.basis().steps();
+    pub(crate) fn of(alloc: Global, plan: &Plan, node: u32) -> Result<Matcher, AllocError>
+        ensures new { IfOk result (IsNewMatcher plan.now node) }
+    {
         if node == 0 {
-            return Ok(Matcher::Auctioneer(Auctioneer::new(alloc, children, steps)?));
+            let children = count_children(plan, node);
+            let auctioneer = Auctioneer::new(alloc, children, plan.basis().steps())?;
+            return Ok(Matcher::Auctioneer(auctioneer));
         }
-        let made = match limits_of(plan, node) {
-            Some((floor, ceiling)) if are_limits(floor, ceiling) => {
-                Concentrator::limited(alloc, children, steps, floor, ceiling)?
-            }
-            _ => Concentrator::new(alloc, children, steps)?,
-        };
-        Ok(Matcher::Concentrator(made))
+        Ok(Matcher::Concentrator(planned_concentrator(alloc, plan, node)?))
     }
 
     /// The newest bids of the children.
@@ -79,35 +76,41 @@ impl Matcher {
     }
 }
 
-/// How many children a node of a plan has.
-fn children_of(plan: &Plan, node: u32) -> usize {
+/// The concentrator of a node, with the plan's limits.
+fn planned_concentrator(alloc: Global, plan: &Plan, node: u32) -> Result<Concentrator, AllocError>
+    ensures new { IfOk result (IsNewConcentrator (child_count plan.now node)
+        plan.now.basis.steps (limits_of (planned_node plan.now node))) }
+{
+    let children = count_children(plan, node);
+    let steps = plan.basis().steps();
+    let Some(limits) = read_limits(plan, node) else {
+        return Concentrator::new(alloc, children, steps);
+    };
+    Concentrator::limited(alloc, children, steps, limits.floor, limits.ceiling)
+}
+
+/// How many children a node of a plan has; none past the last node.
+fn count_children(plan: &Plan, node: u32) -> usize
+    ensures children { result ≡ child_count plan.now node }
+    ensures few { result ≤ most_nodes }
+{
     let tree = plan.tree();
     if node > tree.len() {
         return 0;
     }
-    children_in(tree, NodeId(node))
+    tree.children(NodeId(node)).len()
 }
 
-/// How many children a node of a tree has.
-fn children_in(tree: &Tree, node: NodeId) -> usize
-    requires { node.0 ≤ length tree.now }
+/// The limits of a node of a plan; none of a node that is no limited concentrator, and none past the last node.
+fn read_limits(plan: &Plan, node: u32) -> Option<Limits>
+    ensures limits { result ≡ limits_of (planned_node plan.now node) }
+    ensures are_limits { IfSome result AreLimits }
 {
-    tree.children(node).len()
-}
-
-/// The limits of a node of a plan, in watts.
-fn limits_of(plan: &Plan, node: u32) -> Option<(i64, i64)> {
     if node > plan.tree().len() {
         return None;
     }
-    plan.limits(NodeId(node))
-}
-
-/// Whether power 0 lies between a floor and a ceiling, both within the limit of a sum.
-fn are_limits(floor: i64, ceiling: i64) -> bool
-    ensures { IsTrue result → AreLimits (record { floor = floor; ceiling = ceiling }) }
-{
-    -SUM_LIMIT <= floor && floor <= 0 && 0 <= ceiling && ceiling <= SUM_LIMIT
+    let (floor, ceiling) = plan.limits(NodeId(node))?;
+    Some(Limits { floor, ceiling })
 }
 
 /// The next bid of a concentrator, with its demand; none if nothing changed, the window is full, or the numbers are used up.
@@ -163,8 +166,8 @@ pub(crate) fn pass(
     true
 }
 
-/// ClearsMarket the market, if something was learnt since the last clearing: the prices of the children wait to be put then. Whether
-/// it cleared.
+/// Clears the market, if something was learnt since the last clearing: the prices of the children wait to be put then. Whether it
+/// cleared.
 pub(crate) fn clear(auctioneer: &mut Auctioneer, waiting: &mut Vec<Option<PriceUpdate>>) -> bool
     ensures cleared { result ≡ true →
         MarketCleared auctioneer.old auctioneer.new auctioneer.new.index auctioneer.new.step }

@@ -1,7 +1,7 @@
 //! A node of a phase: its part of the market, and its ends of the links.
 
 ghost use Rattle.std.specs.Prelude.{◌≡◌, IfOk};
-ghost use Rattle.pm_phase.specs.Nodes.{held_by_node};
+ghost use Rattle.pm_phase.specs.Nodes.{IsNewDuty, held_by_node};
 
 use crate::device::DevicePart;
 use crate::ends::{DownEnd, UpEnd};
@@ -45,12 +45,10 @@ pub(crate) enum Duty {
 impl NodePart {
     /// A node before the first phase.
     pub fn new(alloc: Global, plan: &Plan, number: u32) -> Result<NodePart, AllocError>
-        ensures { IfOk result (λ part. part.number ≡ number) }
+        ensures number { IfOk result (λ part. part.number ≡ number) }
+        ensures duty { IfOk result (λ part. IsNewDuty plan.now number part.duty) }
     {
-        let duty = match agent_of(alloc, plan, number)? {
-            Some(agent) => Duty::Device(DevicePart::new(agent)),
-            None => Duty::Parent(ParentPart::new(alloc, plan, number)?),
-        };
+        let duty = new_duty(alloc, plan, number)?;
         Ok(NodePart { number, duty })
     }
 
@@ -93,4 +91,15 @@ impl NodePart {
             *newest = bid;
         }
     }
+}
+
+/// What a node does, before the first phase.
+#[tactic(auto, using(pm_plan::proofs::LeafTests::leaf_is))]
+fn new_duty(alloc: Global, plan: &Plan, node: u32) -> Result<Duty, AllocError>
+    ensures new { IfOk result (IsNewDuty plan.now node) }
+{
+    let Some(agent) = agent_of(alloc, plan, node)? else {
+        return Ok(Duty::Parent(ParentPart::new(alloc, plan, node)?));
+    };
+    Ok(Duty::Device(DevicePart::new(agent)))
 }

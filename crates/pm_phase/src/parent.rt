@@ -1,8 +1,8 @@
 //! The part of a node with children in a phase: bids learnt, the bid that waits, and prices that wait for the children.
 
-ghost use Rattle.std.specs.Prelude.{◌≡◌, true, false, None, OnErr, if◌then◌else◌, nat_lt, Some, IfOk};
+ghost use Rattle.std.specs.Prelude.{◌≡◌, true, false, None, OnErr, if◌then◌else◌, nat_lt, Some, IfOk, replicate};
 ghost use Rattle.pm_phase.specs.Matchers.{cache_of_matcher, MayLearnBid};
-ghost use Rattle.pm_phase.specs.Parents.{LearnsBid, MakesBid, HasNoBidToMake, PassesOn, DropsPending, ClearsMarket, HasNoClearing};
+ghost use Rattle.pm_phase.specs.Parents.{IsNewParent, LearnsBid, MakesBid, HasNoBidToMake, PassesOn, DropsPending, ClearsMarket, HasNoClearing};
 
 use crate::matcher::{Matcher, clear, next_bid, pass};
 use pm_cells::UpMessage;
@@ -38,7 +38,9 @@ impl Drop for ParentPart {
 
 impl ParentPart {
     /// A node to which nobody sent anything.
-    pub(crate) fn new(alloc: Global, plan: &Plan, node: u32) -> Result<ParentPart, AllocError> {
+    pub(crate) fn new(alloc: Global, plan: &Plan, node: u32) -> Result<ParentPart, AllocError>
+        ensures new { IfOk result (IsNewParent plan.now node) }
+    {
         let matcher = Matcher::of(alloc, plan, node)?;
         let children = matcher.cache().heads().len();
         Ok(ParentPart {
@@ -124,9 +126,11 @@ impl ParentPart {
 }
 
 /// Nothing for each of so many children.
-fn nothing_each<T: Drop>(alloc: Global, children: usize) -> Result<Vec<Option<T>>, AllocError> {
+fn nothing_each<T: Drop>(alloc: Global, children: usize) -> Result<Vec<Option<T>>, AllocError>
+    ensures { IfOk result (λ each. each.items ≡ replicate children None) }
+{
     let mut each = Vec::with_capacity(alloc, children)?;
-    for _ in 0..children {
+    for _child in 0..children {
         each.push(None)?;
     }
     Ok(each)
