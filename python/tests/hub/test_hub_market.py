@@ -200,7 +200,7 @@ def test_a_bad_bid_has_its_line_and_the_connection_goes_on(hub):
 
 
 def test_a_slow_reader_holds_up_nobody(hub):
-    """The slow agent fills its connection with errors and reads nothing, while others bid. Once it reads, it ends at the newest."""
+    """The slow agent fills its connection with errors and reads nothing, while others bid. It then ends at the newest."""
     slow = TcpAgent(hub.port, is_slow=True).login("mill", hub.tokens["mill"]).bids([0] * STEPS, 1)
     house = hub.agent("house").bids(CONSTANT, 1)
     store = hub.agent("store")
@@ -323,7 +323,7 @@ def test_a_new_session(live, tmp_path):
 
 
 def test_a_killed_hub_goes_back_on_nothing(live, tmp_path):
-    """Two agents bid while the hub is killed six times. No agent is told an older clearing than before.
+    """Two agents bid while the hub is killed five times. No agent is told an older clearing than before.
 
     Each priceUpdate has the bidNumber of the bid whose demands gave its power. No two bids of an agent have a demand in common.
     """
@@ -333,31 +333,29 @@ def test_a_killed_hub_goes_back_on_nothing(live, tmp_path):
     number = 0
 
     def connect(name):
+        if name in agents:
+            seen[name] += agents[name].prices
         agents[name] = process.agent(name)
-        agents[name].prices_before = seen[name]
 
     def bid(name, demands):
         bids[name][number] = demands
         agents[name].bids(demands, number)
 
     try:
-        for _ in range(6):
-            for name in agents:
-                seen[name] += agents[name].prices
-            for name in ("house", "store"):
-                connect(name)
-            end = time.monotonic() + 0.5 + drawn.random()
-            while time.monotonic() < end:
+        for _ in range(5):
+            connect("house")
+            connect("store")
+            end = time.monotonic() + 60
+            while min(len(it.prices) for it in agents.values()) < 4:
+                assert time.monotonic() < end, "too few prices came"
                 number += 1
-                step = drawn.randrange(1, STEPS)
-                bid("house", falls_at(step, 1_000_000 + number, number))
+                bid("house", falls_at(drawn.randrange(1, STEPS), 1_000_000 + number, number))
                 bid("store", falls_at(drawn.randrange(1, STEPS), -number, -10_000_000 - number))
                 time.sleep(drawn.random() / 20)
             process.kill()
             process.start()
-        for name in agents:
-            seen[name] += agents[name].prices
-            connect(name)
+        connect("house")
+        connect("store")
         number += 1
         bid("house", falls_at(6, 20_000_000, number))
         bid("store", falls_at(3, -number, -10_000_000 - number))
@@ -369,7 +367,7 @@ def test_a_killed_hub_goes_back_on_nothing(live, tmp_path):
         process.stop()
     for name, agent in agents.items():
         told = seen[name] + agent.prices
-        assert len({it["clearing"] for it in told}) > 10, "too few clearings to say anything"
+        assert len({it["clearing"] for it in told}) > 10
         indices = [it["clearing"] for it in told]
         assert indices == sorted(indices)
         offers = [it["offer"] for it in told]
