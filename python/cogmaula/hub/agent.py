@@ -64,11 +64,10 @@ class Agent:
 
     # The node.
 
-    def ended(self) -> None:
-        """Notes that the node has ended."""
+    def lose_node(self) -> None:
+        """Notes that the node has ended: what the agent offers waits for another one."""
         with self._lock:
             self._notify = None
-        self.end("its node has ended: log in again")
 
     def offer(self, data: bytes) -> None:
         """Hands an offer to the node, now or once it starts."""

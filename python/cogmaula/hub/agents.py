@@ -132,6 +132,7 @@ class Agents:
             raise
         agent = self._agents.get(entry.agent) or self._agent(entry.agent, entry.child)
         if agent.running is None or not agent.running.is_alive:
+            agent.child = entry.child
             self._start(agent)
             if agent.running is None:
                 raise BadMessage(f"the node of {agent.name} does not start: the hub's log says why")
@@ -153,6 +154,7 @@ class Agents:
     def _start(self, agent: Agent) -> None:
         """Starts an agent's node. What is wrong is said, and then the agent has no node."""
         agent.running = None
+        agent.lose_node()
         try:
             settings = self._settings.of_agent(agent.name, agent.child)
             place = Place(agent.child, self._session.id)
@@ -163,13 +165,14 @@ class Agents:
         except (LiveError, OSError) as error:
             self._say(f"{agent.name}: {error}")
             return
-        agent.running = Running(node, lambda: self._loop.call_soon_threadsafe(self._ended, agent))
+        agent.running = Running(node, lambda running: self._loop.call_soon_threadsafe(self._ended, agent, running))
 
-    def _ended(self, agent: Agent) -> None:
-        running = agent.running
-        if running is not None and running.error is not None:
+    def _ended(self, agent: Agent, running: Running) -> None:
+        if running.error is not None:
             self._say(f"{agent.name}: its node has ended, {running.error}")
-        agent.ended()
+        if agent.running is running:
+            agent.lose_node()
+            agent.end(f"the node of {agent.name} has ended: log in again")
 
     def _take_message(self, message: Message) -> None:
         """Lets an agent forget its newest priceUpdate if its device has left. It is called in the node's thread."""

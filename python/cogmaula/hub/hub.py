@@ -53,7 +53,9 @@ class Hub:
         self.is_up = False
 
     def _say_at_standard_error(self, text: str) -> None:
-        print(f"cogmaula hub: {text}", file=sys.stderr, flush=True)
+        # In one piece, since lines come from many threads.
+        sys.stderr.write(f"cogmaula hub: {text}\n")
+        sys.stderr.flush()
 
     @property
     def addresses(self) -> list[Address]:
@@ -87,7 +89,7 @@ class Hub:
         if self._is_stopped:
             return
         node = Node(self.settings.of_auctioneer(), None, self._say, self.exchange.link)
-        auctioneer = self._auctioneer = Running(node, lambda: loop.call_soon_threadsafe(stopping.set))
+        auctioneer = self._auctioneer = Running(node, lambda _: loop.call_soon_threadsafe(stopping.set))
         try:
             await self._begin(auctioneer, stopping)
             while not stopping.is_set():

@@ -12,8 +12,8 @@ from ..live.node import Node
 class Running:
     """A node from its start to its end."""
 
-    def __init__(self, node: Node, at_end: Callable[[], object]) -> None:
-        """Starts the node. `at_end` is called in the node's thread once it has ended."""
+    def __init__(self, node: Node, at_end: Callable[[Running], object]) -> None:
+        """Starts the node. `at_end` is called with this in the node's thread once it has ended."""
         self.node = node
         # Why the node ended, None if it was stopped.
         self.error: LiveError | OSError | None = None
@@ -27,7 +27,7 @@ class Running:
         except (LiveError, OSError) as error:
             self.error = error
         finally:
-            self._at_end()
+            self._at_end(self)
 
     @property
     def is_alive(self) -> bool:

@@ -114,6 +114,7 @@ def test_the_newest_price_comes_after_the_welcome_and_once():
         channel = await table.logged_in()
         await until(lambda: clearings(channel))
         table.agent.write(price(7))
+        await asyncio.sleep(0.05)
         table.agent.write(price(8))
         await until(lambda: 8 in clearings(channel))
         assert channel.written[0] == {"welcome": "house"}
@@ -157,7 +158,7 @@ def test_an_offer_waits_for_its_node():
         assert table.offers == []
         agent.start(table.offers.append, None)
         assert table.offers == [b"new"]
-        agent.ended()
+        agent.lose_node()
         agent.offer(b"newer")
         agent.start(table.offers.append, None)
         assert table.offers == [b"new", b"newer"]
