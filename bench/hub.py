@@ -23,6 +23,8 @@ sys.path[:0] = [str(TOP / it) for it in ("python", "python/tests/hub", "python/t
 from brokers import live_program, wait_until  # noqa: E402
 from hubs import STEPS, HubProcess, tokens_in  # noqa: E402
 
+from cogmaula.live.serving import LIVED  # noqa: E402
+
 PROCESSOR_TICKS = os.sysconf("SC_CLK_TCK")
 
 
@@ -64,7 +66,7 @@ def rest(folder, agents=256, seconds=60):
         print(f"at rest for {seconds} s: the hub uses {own:.2%} of a processor, its services {sum(used.values()):.2%}")
         services = sum(map(megabytes, every[1:]))
         print(f"memory: the hub {megabytes(every[0]):.0f} MB, its {len(every) - 1} services {services:.0f} MB")
-        took = []
+        took, begun = [], sum(map(processor_seconds, every))
         for number in range(2, 12):
             step = 3 + number % 2
             begin = time.monotonic()
@@ -74,6 +76,7 @@ def rest(folder, agents=256, seconds=60):
             time.sleep(0.5)
         median = statistics.median(took)
         print(f"from a bid to its price at all {agents}: median {median:.2f} s, greatest {max(took):.2f} s, pause 0.2 s")
+        print(f"processor time of a clearing for all: {(sum(map(processor_seconds, every)) - begun) / len(took):.2f} s")
 
 
 class Flow:
@@ -128,6 +131,7 @@ class Flow:
 
 
 def failures(folder, times=20):
+    """A service that ended soon is started anew after a pause, so each is let live before it is killed."""
     hub = HubProcess(folder, live_program(), gone=600)
 
     def kill_service(words):
@@ -154,7 +158,7 @@ def failures(folder, times=20):
         for name, fail in cases.items():
             took = []
             for _ in range(times):
-                time.sleep(0.5)
+                time.sleep(LIVED + 1 if "service" in name else 0.5)
                 begin = time.monotonic()
                 fail()
                 # What the failure itself takes counts too, as the start of another hub.

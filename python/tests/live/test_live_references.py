@@ -172,3 +172,15 @@ def test_a_file_of_before_has_none(joined):
     path.write_bytes(first + b"\n" + hashlib.sha256(behind).hexdigest().encode() + b"\n" + behind)
     found = one.node._store.newest()
     assert (found.references, found.basis, found.frame) == ({}, BASIS, frame)
+
+
+def test_the_resume_and_the_reference_are_stored_in_one_piece(joined, monkeypatch):
+    """A crash between the two would leave a number of which nobody knows the reference."""
+    one = joined("device").begun()
+    one.link.confirms = True
+    saved = []
+    monkeypatch.setattr(one.node._store, "save", saved.append)
+    one.control.offer(offer(HIGH, 17))
+    one.turned().writes(DeviceResume(1, 0, HIGH), Setpoint(1, 7, 1, -300), DeviceResume(1, 7, HIGH))
+    assert [it.references for it in saved] == [{1: 17}] * 3
+    assert saved[0].frame == DeviceResume(1, 0, HIGH).to_bytes()
