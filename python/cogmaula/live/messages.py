@@ -11,8 +11,11 @@ from .errors import BadFrame, BadMessage
 from .frames import CHILDREN, SORTS, Leave, Offer, Setpoint, Sort
 from .sessions import Session, time_of
 
+# The greatest reference: each reader of JSON takes whole numbers up to it exactly.
+LAST_REFERENCE = 9_007_199_254_740_991
 
-def _object_of(data: bytes, what: str) -> dict[str, Any]:
+
+def object_of(data: bytes, what: str) -> dict[str, Any]:
     """The JSON object that a message is. Raises BadMessage."""
     try:
         told = json.loads(data)
@@ -57,7 +60,7 @@ class BasisMessage:
     def of(data: bytes) -> BasisMessage:
         """The basis that a message tells. Raises BadMessage."""
         what = "the basis"
-        told = _object_of(data, what)
+        told = object_of(data, what)
         numbers = [_whole(told, it, what) for it in ("min", "max", "steps")]
         return BasisMessage(Basis(*numbers), Session(_text(told, "session", what), _text(told, "begun", what)))
 
@@ -96,7 +99,7 @@ class StateMessage:
     def of(data: bytes) -> StateMessage:
         """The state that a message tells. Raises BadMessage."""
         what = "the state"
-        told = _object_of(data, what)
+        told = object_of(data, what)
         if told.get("state") not in ("up", "down"):
             raise BadMessage("the state is neither up nor down")
         run, started, session, time, why = (_text(told, it, what) for it in ("run", "started", "session", "time", "why"))
@@ -114,24 +117,32 @@ class StateMessage:
 
 @dataclass(frozen=True)
 class OfferMessage:
-    """What a device's control offers: a frame for the agent, and when that was (RFC 3339), None if the control does not say."""
+    """What a device's control offers: a frame for the agent.
+
+    time:      when that was (RFC 3339), None if the control does not say
+    reference: a number of the control's own for the offer, None without one
+    """
 
     frame: Offer | Leave
     time: str | None = None
+    reference: int | None = None
 
     @staticmethod
     def of(data: bytes, steps: int) -> OfferMessage:
         """The offer that a message tells, `{"power": [WATTS, ..]}` or `{"leave": true}`, each also with `"time"`.
 
-        Raises BadMessage.
+        An offer of powers may have a `"reference"`. Raises BadMessage.
         """
         what = "the offer"
-        told = _object_of(data, what)
+        told = object_of(data, what)
         time = told.pop("time", None)
         if time is not None:
             time_of(_text({"time": time}, "time", what))
         if told == {"leave": True}:
             return OfferMessage(Leave(), time)
+        reference = told.pop("reference", None)
+        if reference is not None:
+            require_reference(reference, "the reference")
         power = told.get("power")
         if len(told) != 1 or not isinstance(power, list):
             raise BadMessage('an offer is {"power": [WATTS, ..]} or {"leave": true}, and may have a "time"')
@@ -142,7 +153,14 @@ class OfferMessage:
             offer.require_right(steps)
         except BadFrame as error:
             raise BadMessage(f"the offer is no bid: {error}") from None
-        return OfferMessage(offer, time)
+        return OfferMessage(offer, time, reference)
+
+
+def require_reference(value: object, what: str) -> int:
+    """The reference that a value is. Raises BadMessage if it is none."""
+    if type(value) is not int or not 0 <= value <= LAST_REFERENCE:
+        raise BadMessage(f"{what} is no whole number from 0 to {LAST_REFERENCE}")
+    return value
 
 
 @dataclass(frozen=True)
@@ -174,14 +192,14 @@ class SetpointMessage:
 def is_setpoint(data: bytes) -> bool:
     """Whether a message is a setpoint."""
     try:
-        return isinstance(_object_of(data, "the setpoint").get("time"), str)
+        return isinstance(object_of(data, "the setpoint").get("time"), str)
     except BadMessage:
         return False
 
 
-def setpoint_bytes(setpoint: Setpoint, basis: Basis, time: str) -> bytes:
-    """A setpoint as the control reads it: watts, the step and its price, the numbers of the offer and the clearing, and when the
-    market cleared."""
+def setpoint_bytes(setpoint: Setpoint, basis: Basis, time: str, reference: int | None = None) -> bytes:
+    """A setpoint as the control reads it: watts, the step and its price, the numbers of the offer and the clearing, when the
+    market cleared, and the offer's reference if it has one."""
     told = {
         "power": setpoint.power,
         "step": setpoint.step,
@@ -190,4 +208,13 @@ def setpoint_bytes(setpoint: Setpoint, basis: Basis, time: str) -> bytes:
         "clearing": setpoint.index,
         "time": time,
     }
-    return json.dumps(told).encode()
+    return json.dumps(told if reference is None else {**told, "reference": reference}).encode()
+
+
+def with_reference(setpoint: str, number: int, reference: int | None) -> str:
+    """A setpoint with another reference, if it answers the offer of this number; else as it is."""
+    told = json.loads(setpoint) if setpoint else {}
+    if told.get("bid") != number:
+        return setpoint
+    told.pop("reference", None)
+    return json.dumps(told if reference is None else {**told, "reference": reference})

@@ -26,7 +26,7 @@ from .settings import Settings
 from .showing import Showing
 from .store import Store
 
-# The seconds between looks at the clock.
+# The seconds between looks at the clock, if nothing else happens.
 TICK = 0.05
 
 
@@ -54,9 +54,15 @@ class Node:
         control: Control | None = None,
         say: Callable[[str], None] | None = None,
         make_link: MakeLink | None = None,
+        tick: float = TICK,
     ) -> None:
-        """Takes the node's place on disk. `make_node` has the arguments; `make_link` makes another connection than a broker's."""
+        """Takes the node's place on disk. `make_node` has the arguments.
+
+        make_link: makes another connection than a broker's
+        tick:      the seconds between looks at the clock, if nothing else happens
+        """
         self.settings = settings
+        self._tick = tick
         self._say = say or self._say_at_standard_error
         self._events: queue.SimpleQueue[Event | Came | Ended | _Offered | _Stop] = queue.SimpleQueue()
         self._run_id, self._started = secrets.token_hex(8), now_text()
@@ -119,7 +125,7 @@ class Node:
 
     def _next_event(self) -> Event | Came | Ended | _Offered | _Stop | None:
         try:
-            return self._events.get(timeout=TICK)
+            return self._events.get(timeout=self._tick)
         except queue.Empty:
             return None
 

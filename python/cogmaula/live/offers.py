@@ -2,7 +2,7 @@
 
 from __future__ import annotations
 
-from collections.abc import Callable
+from collections.abc import Callable, Mapping
 from datetime import datetime, timezone
 
 from .errors import BadMessage
@@ -27,12 +27,18 @@ class Offers:
         self._not_before = 0.0
         self._until: float | None = None
         self._last = 0
+        # The control's own number of what is wanted, and of what was asked.
+        self._reference: int | None = None
+        self._asked_reference: int | None = None
+        # The reference of each offer that a setpoint may still answer, by the offer's number.
+        self.references: dict[int, int] = {}
         # The demands of the agent's last offer, None if it has left or never offered.
         self.current: tuple[int, ...] | None = None
         self.since: float | None = None
 
-    def begin(self, resume: DeviceResume | ResumeGone | None, now: float) -> None:
-        """Goes by the Resume that the agent begins with, None for an agent that never offered."""
+    def begin(self, resume: DeviceResume | ResumeGone | None, now: float, references: Mapping[int, int] | None = None) -> None:
+        """Goes by the Resume that the agent begins with, None for an agent that never offered, and the references kept with it."""
+        self.references = dict(references or {})
         self._last = 0 if resume is None else resume.last
         self.current = resume.demands if isinstance(resume, DeviceResume) else None
         self._until = None if self._validity is None else now + self._validity
@@ -54,12 +60,20 @@ class Offers:
             self._say(f"an offer of {message.time} is not taken: it is older than its validity")
             return
         self._until = until
-        self.want(message.frame)
+        self.want(message.frame, message.reference)
 
-    def want(self, frame: Offer | Leave) -> None:
-        """Wants a frame, in place of one that was not yet asked. What the agent already does is not asked again."""
+    def want(self, frame: Offer | Leave, reference: int | None = None) -> None:
+        """Wants a frame, in place of one that was not yet asked. What the agent already does is not asked again.
+
+        Then the reference is that of the offer which the agent has.
+        """
         newest = self._wanted if self._wanted is not None else self._standing()
-        self._wanted = self._wanted if frame == newest else frame
+        if frame != newest:
+            self._wanted = frame
+        if self._wanted is not None:
+            self._reference = reference
+        elif isinstance(frame, Offer):
+            self.references = _noted(self.references, self._last, reference)
 
     def _standing(self) -> Offer | Leave:
         return Leave() if self.current is None else Offer(self.current)
@@ -88,12 +102,26 @@ class Offers:
         if isinstance(self._wanted, Leave) and self.current is None:
             self._wanted = None
             return None
-        self._asked, self.since = self._wanted, now
+        self._asked, self._asked_reference, self.since = self._wanted, self._reference, now
         return self._asked
+
+    def references_with(self, resume: DeviceResume | ResumeGone) -> dict[int, int]:
+        """The references once this Resume counts. One with a greater number has that of what was asked."""
+        if isinstance(resume, ResumeGone):
+            return {}
+        if resume.last <= self._last:
+            return self.references
+        is_newest = self._wanted == self._asked
+        return _noted(self.references, resume.last, self._reference if is_newest else self._asked_reference)
+
+    def forget_before(self, number: int) -> None:
+        """Lets go of the references of offers before this one: a setpoint answers this one, and none before it any more."""
+        self.references = {it: reference for it, reference in self.references.items() if it >= number}
 
     def resumed(self, resume: DeviceResume | ResumeGone) -> None:
         """Goes by a Resume that was stored. One with a greater number answers what was asked."""
         is_answer = resume.last > self._last
+        self.references = self.references_with(resume)
         self._last = resume.last
         self.current = resume.demands if isinstance(resume, DeviceResume) else None
         if is_answer:
@@ -111,3 +139,9 @@ class Offers:
         if self._wanted == self._asked:
             self._wanted = None
         self._asked, self.since = None, None
+
+
+def _noted(references: Mapping[int, int], number: int, reference: int | None) -> dict[int, int]:
+    """References in which that of this number is another one, or none."""
+    others = {it: its for it, its in references.items() if it != number}
+    return others if reference is None else {**others, number: reference}

@@ -37,7 +37,7 @@ from .frames import (
     Setpoint,
     WindowFull,
 )
-from .messages import setpoint_bytes
+from .messages import setpoint_bytes, with_reference
 from .offers import Offers
 from .recording import Recording
 from .service import Came, Ended, Service
@@ -94,7 +94,7 @@ class Serving:
         """Begins a session with what is stored of it."""
         self.stored, self.resume = stored, resume
         self.children.begin(stored.session.id)
-        self.offers.begin(resume if isinstance(resume, DeviceResume | ResumeGone) else None, now)
+        self.offers.begin(resume if isinstance(resume, DeviceResume | ResumeGone) else None, now, stored.references)
         if stored.frame:
             self._publish(self._settings.own_topic("resume"), stored.frame, stored.time)
         self._tell_setpoint()
@@ -161,8 +161,10 @@ class Serving:
             self.work()
 
     def tick(self, now: float) -> None:
-        """Starts the service anew, asks it, and ends one that does not answer. To be called many times a second."""
+        """Starts the service anew, asks it, and ends one that does not answer. To be called after each event, and by a clock."""
         self.work()
+        if self.stored is not None and self.offers.references != self.stored.references:
+            self._keep_references()
         if self.stored is not None and self.service is None and now >= self._restart_at:
             self._start(now)
         if self.service is None:
@@ -259,7 +261,8 @@ class Serving:
         """Stores a Resume, before any frame behind it is handled. Raises OSError, and then the node has to end."""
         assert self.stored is not None
         setpoint = "" if isinstance(resume, ResumeGone) else self.stored.setpoint
-        self.stored = Stored(self.stored.session, self._settings.basis, resume.to_bytes(), now_text(), setpoint)
+        references = self.offers.references_with(resume) if isinstance(resume, DeviceResume | ResumeGone) else {}
+        self.stored = Stored(self.stored.session, self._settings.basis, resume.to_bytes(), now_text(), setpoint, references)
         self._recording.make_safe()
         self._store.save(self.stored)
         self._recording.stored()
@@ -284,10 +287,23 @@ class Serving:
     def _tell_control(self, setpoint: Setpoint) -> None:
         """Stores a setpoint and then tells it, so that after a restart the control is told none that is older."""
         assert self.stored is not None
-        told = setpoint_bytes(setpoint, self._settings.basis, self._time_of(setpoint.index))
-        self.stored = replace(self.stored, setpoint=told.decode())
+        reference = self.offers.references.get(setpoint.number)
+        told = setpoint_bytes(setpoint, self._settings.basis, self._time_of(setpoint.index), reference)
+        self.offers.forget_before(setpoint.number)
+        self.stored = replace(self.stored, setpoint=told.decode(), references=self.offers.references)
         self._store.save(self.stored)
         self._tell_setpoint()
+
+    def _keep_references(self) -> None:
+        """Stores the reference of an offer that the control made again, and tells the setpoint that answers that offer again."""
+        assert self.stored is not None
+        references = self.offers.references
+        setpoint = with_reference(self.stored.setpoint, self.last, references.get(self.last))
+        is_told = setpoint == self.stored.setpoint
+        self.stored = replace(self.stored, setpoint=setpoint, references=references)
+        self._store.save(self.stored)
+        if not is_told:
+            self._tell_setpoint()
 
     def _tell_setpoint(self) -> None:
         """Tells the control the stored setpoint, if there is one."""

@@ -4,7 +4,7 @@ from __future__ import annotations
 
 import os
 import tomllib
-from collections.abc import Mapping
+from collections.abc import Mapping, Sequence
 from dataclasses import dataclass, field, fields
 from pathlib import Path
 from typing import Any, cast
@@ -185,15 +185,16 @@ class Settings:
 _TABLES = ("node", "basis", "broker", "page")
 
 
-def read_toml(path: str | os.PathLike[str]) -> dict[str, dict[str, Any]]:
-    """The tables of a file. Raises BadSettings if it is no TOML or has another table, and OSError."""
+def read_toml(path: str | os.PathLike[str], tables: Sequence[str] = _TABLES) -> dict[str, dict[str, Any]]:
+    """The tables of a file. Raises BadSettings if it is no TOML or has another table than these, and OSError."""
     try:
         told = tomllib.loads(Path(path).read_text())
     except (tomllib.TOMLDecodeError, UnicodeDecodeError) as error:
         raise BadSettings(f"{path}: {error}") from None
     for name, table in told.items():
-        if name not in _TABLES or not isinstance(table, dict):
-            raise BadSettings(f"{path}: {name} is not known there: a file has the tables [node], [basis], [broker] and [page]")
+        if name not in tables or not isinstance(table, dict):
+            words = [f"[{it}]" for it in tables]
+            raise BadSettings(f"{path}: {name} is not known there: a file has the tables {', '.join(words[:-1])} and {words[-1]}")
     return told
 
 
@@ -201,16 +202,16 @@ def settings_of(sort: Sort, tables: Mapping[str, Mapping[str, Any]]) -> Settings
     """The settings that the tables `node`, `basis`, `broker` and `page` tell. Raises BadSettings."""
     node = dict(tables.get("node", {}))
     node.setdefault("live", os.environ.get(LIVE_VARIABLE) or "live")
-    basis = _made(Basis, tables.get("basis", {}), "basis")
-    broker = _made(BrokerSettings, tables.get("broker", {}), "broker")
-    page = _made(PageSettings, tables["page"], "page") if "page" in tables else None
+    basis = value_of(Basis, tables.get("basis", {}), "basis")
+    broker = value_of(BrokerSettings, tables.get("broker", {}), "broker")
+    page = value_of(PageSettings, tables["page"], "page") if "page" in tables else None
     if {"sort", "basis", "broker", "page"} & node.keys():
         raise BadSettings("node has a member sort, basis, broker or page: the command says the sort, and the others are tables")
-    return cast(Settings, _made(Settings, {**node, "sort": sort, "basis": basis, "broker": broker, "page": page}, "node"))
+    return cast(Settings, value_of(Settings, {**node, "sort": sort, "basis": basis, "broker": broker, "page": page}, "node"))
 
 
-def _made(kind: type[Any], table: Mapping[str, Any], name: str) -> Any:
-    """The value of a dataclass that a table tells."""
+def value_of(kind: type[Any], table: Mapping[str, Any], name: str) -> Any:
+    """The value of a dataclass that a table of this name tells. Raises BadSettings."""
     known = {it.name: str(it.type) for it in fields(kind)}
     for member, value in table.items():
         if member not in known:

@@ -2,7 +2,7 @@
 
 A file has a line that says what it is, the SHA-256 of all behind it, a line of JSON, and the bytes of the Resume or ResumeGone.
 The JSON has the node, its sort, the session and the basis that the Resume is of, the time it was stored, the frame's length in
-bytes, and the newest setpoint of a device.
+bytes, and of a device the newest setpoint and the references of its offers.
 """
 
 from __future__ import annotations
@@ -11,7 +11,8 @@ import fcntl
 import hashlib
 import json
 import os
-from dataclasses import dataclass
+from collections.abc import Mapping
+from dataclasses import dataclass, field
 from pathlib import Path
 
 from ..cluster import Basis
@@ -30,6 +31,7 @@ class Stored:
     frame:    the bytes of the Resume or ResumeGone, empty if the node has given none in this session
     time:     when it was stored (RFC 3339, UTC)
     setpoint: the newest setpoint of a device as its control was told it, in JSON, "" without one
+    references: the control's own number of each offer that a setpoint may still answer, by the offer's number
     """
 
     session: Session
@@ -37,6 +39,7 @@ class Stored:
     frame: bytes
     time: str
     setpoint: str = ""
+    references: Mapping[int, int] = field(default_factory=dict)
 
 
 class Store:
@@ -98,6 +101,7 @@ class Store:
             "time": stored.time,
             "length": len(stored.frame),
             "setpoint": stored.setpoint,
+            "references": dict(stored.references),
         }
         behind = json.dumps(told).encode() + b"\n" + stored.frame
         return FIRST_LINE + hashlib.sha256(behind).hexdigest().encode() + b"\n" + behind
@@ -113,10 +117,12 @@ class Store:
             session = Session(str(told["session"]), str(told["begun"]))
             basis = Basis(int(told["min"]), int(told["max"]), int(told["steps"]))
             length, node, sort, time, setpoint = (told[it] for it in ("length", "node", "sort", "time", "setpoint"))
-        except (ValueError, KeyError, TypeError, BadMessage):
+            # Files of before have none.
+            references = {int(number): int(it) for number, it in told.get("references", {}).items()}
+        except (ValueError, KeyError, TypeError, AttributeError, BadMessage):
             raise damaged from None
         if length != len(frame):
             raise damaged
         if (node, sort) != (self.node, self.sort):
             raise BadStore(f"{path} is of the {sort} {node}, and this is the {self.sort} {self.node}: give another folder")
-        return Stored(session, basis, frame, str(time), str(setpoint))
+        return Stored(session, basis, frame, str(time), str(setpoint), references)

@@ -1,0 +1,115 @@
+"""`cogmaula hub`: one whole market in one process, for agents that connect by WebSocket or TCP."""
+
+from __future__ import annotations
+
+import argparse
+import resource
+import signal
+import sys
+from typing import Any
+
+from .. import cli
+from ..hub.settings import HubSettings, hub_settings_of, read_hub_toml
+from ..hub.tokens import TokenFile, child_of
+from ..live.errors import BadSettings, NodeRefused
+from ..live.settings import LIVE_VARIABLE
+from ..live.topics import require_name
+
+CALLS_PROGRAM = False
+HELP = "runs one whole market in one process, for agents that connect by WebSocket or TCP"
+MORE = (
+    "The settings come from the file of --config, and options go before them; docs/HUB.md has the file, and what agents say and"
+    " are told. The exit status is 0 after SIGTERM or SIGINT, 2 for settings that are wrong, and 5 if a person has to look before"
+    " the hub may go on."
+)
+
+# Of each option the member of [hub] that it sets, its type, its word in the help, and what it is.
+_OPTIONS: list[tuple[str, type, str, str]] = [
+    ("name", str, "NAME", "the auctioneer in topics; default hub"),
+    ("state", str, "FOLDER", "what the nodes keep over a restart; of this hub alone"),
+    ("agents", str, "FILE", "the file of tokens"),
+    ("live", str, "PROGRAM", f"the program live; else ${LIVE_VARIABLE}, or live on the PATH"),
+    ("certificate", str, "FILE", "the hub's certificate: all connections are by TLS"),
+    ("key", str, "FILE", "its key"),
+    ("gone", float, "SECONDS", "an agent that is disconnected for so long leaves the market; default 60"),
+    ("period", float, "SECONDS", "clears by the clock; without it after news"),
+    ("pause", float, "SECONDS", "after news, not faster than this; default 1"),
+]
+_ADDRESSES = [
+    ("listen", "an address for WebSocket; may be given again"),
+    ("listen_tcp", "an address for lines over TCP; may be given again"),
+]
+_FLAGS = [
+    ("insecure", "lets the hub listen without TLS where other machines reach it"),
+    ("new_session", "begins a new session, in which all agents count from 1"),
+]
+# The open files that 256 agents need: four each for their nodes, one for their connection, and those of the rest.
+FILES = 4_096
+
+
+def _option(member: str) -> str:
+    return f"--{member.replace('_', '-')}"
+
+
+def add_arguments(parser: argparse.ArgumentParser) -> None:
+    """Adds the arguments of hub."""
+    parser.add_argument("--config", metavar="FILE", required=True, help="a TOML file with the tables [hub] and [basis]")
+    told = "draws a token for an agent of this child number, prints it once, writes its line to the file of tokens, and ends"
+    parser.add_argument("--new-token", nargs=2, metavar=("AGENT", "CHILD"), help=told)
+    for member, kind, word, what in _OPTIONS:
+        parser.add_argument(_option(member), type=kind, metavar=word, help=what)
+    for member, what in _ADDRESSES:
+        parser.add_argument(_option(member), action="append", metavar="HOST:PORT", help=what)
+    for member, what in _FLAGS:
+        parser.add_argument(_option(member), action="store_true", default=None, help=what)
+
+
+def _tables_of(arguments: argparse.Namespace) -> dict[str, dict[str, Any]]:
+    """The tables of the settings: those of the file, with the options in them."""
+    tables = read_hub_toml(arguments.config)
+    for member in [it[0] for it in _OPTIONS] + [it[0] for it in _ADDRESSES + _FLAGS]:
+        value = getattr(arguments, member)
+        if value is not None:
+            tables.setdefault("hub", {})[member] = value
+    return tables
+
+
+def main(arguments: argparse.Namespace) -> int:
+    """Runs the hub until a signal ends it, or draws a token."""
+    try:
+        settings = hub_settings_of(_tables_of(arguments))
+        if arguments.new_token is not None:
+            return _draw_token(settings, *arguments.new_token)
+        return _run(settings)
+    except BadSettings as error:
+        print(f"cogmaula: {error}", file=sys.stderr)
+        return 2
+    except NodeRefused as error:
+        print(f"cogmaula: {error}", file=sys.stderr)
+        return cli.REFUSED
+
+
+def _draw_token(settings: HubSettings, agent: str, child: str) -> int:
+    if require_name(agent, "the agent") == settings.name:
+        raise BadSettings(f"{agent} is the hub's own name: give the agent another one")
+    print(TokenFile(settings.agents).add(agent, child_of(child, "--new-token")))
+    return 0
+
+
+def _run(settings: HubSettings) -> int:
+    from ..hub.hub import Hub
+
+    _allow_files()
+    hub = Hub(settings)
+    for number in (signal.SIGTERM, signal.SIGINT):
+        signal.signal(number, lambda *_: hub.stop())
+    hub.run()
+    return 0
+
+
+def _allow_files() -> None:
+    """Lets the process open as many files as 256 agents need, if the system allows it."""
+    least, most = resource.getrlimit(resource.RLIMIT_NOFILE)
+    due = FILES if most == resource.RLIM_INFINITY else min(FILES, most)
+    if least != resource.RLIM_INFINITY and least < due:
+        resource.setrlimit(resource.RLIMIT_NOFILE, (due, most))

@@ -1,0 +1,182 @@
+"""All agents of a hub: who may log in, and the node of each. All calls are of the thread of the hub's loop."""
+
+from __future__ import annotations
+
+import asyncio
+from collections.abc import Callable
+
+from ..live.broker import Message
+from ..live.errors import BadMessage, BadSettings, LiveError
+from ..live.node import Node
+from ..live.sessions import Session
+from .agent import Agent
+from .exchange import Exchange
+from .places import Place, keep_place, places_in, require_places
+from .running import Running
+from .settings import HubSettings
+from .tokens import Entries, Entry, FailedLogins, TokenFile, hash_of
+from .words import LEAVE_OFFER, Login, quoted
+
+# The seconds between looks at the clock of an agent's node, if nothing else happens. 256 of them would be dear at the usual rate.
+TICK = 1.0
+# The seconds in which all nodes have to end.
+LAST_SECONDS = 5.0
+
+
+class Agents:
+    """The agents of a hub in one session."""
+
+    def __init__(
+        self,
+        settings: HubSettings,
+        exchange: Exchange,
+        session: Session,
+        loop: asyncio.AbstractEventLoop,
+        say: Callable[[str], None],
+    ) -> None:
+        """Takes what the hub has. `say` takes lines."""
+        self._settings = settings
+        self._exchange = exchange
+        self._session = session
+        self._loop = loop
+        self._say = say
+        self._file = TokenFile(settings.agents)
+        self._entries: Entries = {}
+        self._places: dict[str, Place] = {}
+        self._agents: dict[str, Agent] = {}
+        self._failed = FailedLogins()
+        self._said = ""
+        # An agent that is not known takes as long as one whose token is wrong.
+        self._nobody = Entry("", 0, hash_of(""))
+
+    def begin(self) -> None:
+        """Reads the file of tokens, and starts the node of each agent that has bid in this session, also if it is barred by now.
+
+        Raises BadSettings if the file is wrong, BadStore and OSError.
+        """
+        self._places = places_in(self._settings.folder_of_agents, self._session.id)
+        try:
+            self._entries = self._right(self._file.changed() or {})
+        except FileNotFoundError:
+            raise BadSettings(f"there is no {self._settings.agents}: --new-token AGENT CHILD makes it") from None
+        self._exchange.watch(self._take_message)
+        for name, place in self._places.items():
+            agent = self._agent(name, place.child)
+            self._start(agent)
+            self._wait_or_leave(agent)
+
+    def stop(self) -> None:
+        """Ends all nodes. It waits for them, and may be called from another thread."""
+        running = [it.running for it in self._agents.values() if it.running is not None]
+        for it in running:
+            it.stop()
+        for it in running:
+            it.join(LAST_SECONDS)
+
+    def end_connections(self, why: str) -> None:
+        """Ends the connection of each agent, and tells it why."""
+        for agent in self._agents.values():
+            agent.end(why)
+
+    # The file of tokens.
+
+    def look(self) -> None:
+        """Reads the file of tokens again if it has changed. One that is wrong is not taken."""
+        try:
+            found = self._file.changed()
+            if found is None:
+                return
+            entries = self._right(found)
+        except (BadSettings, OSError) as error:
+            self._say_once(f"the file of tokens is not taken, and the agents are those of before: {error}")
+            return
+        self._said = ""
+        before, self._entries = self._entries, entries
+        self._say(f"{self._settings.agents} has changed: {len(entries)} agents may log in")
+        for name in [it for it in before if entries.get(it) != before[it]]:
+            self._bar(name, "has another token: log in with the new one" if name in entries else "is barred")
+
+    def _bar(self, name: str, why: str) -> None:
+        agent = self._agents.get(name)
+        if agent is None:
+            return
+        agent.end(f"{name} {why}")
+        if name not in self._entries:
+            agent.offer(LEAVE_OFFER)
+
+    def _right(self, entries: Entries) -> Entries:
+        """Entries that this market can have. Raises BadSettings."""
+        if self._settings.name in entries:
+            raise BadSettings(f"{self._settings.name} is the hub's own name: give the agent another one")
+        require_places(entries, self._places)
+        return entries
+
+    def _say_once(self, text: str) -> None:
+        if text != self._said:
+            self._said = text
+            self._say(text)
+
+    # Logins.
+
+    def login(self, data: bytes, address: str) -> Agent:
+        """The agent that logs in by this line from this address, with its node at work. Raises LiveError."""
+        if self._failed.are_too_many(address):
+            raise BadMessage(f"too many logins of {address} failed: try again in a second")
+        try:
+            login = Login.of(data)
+            entry = self._entries.get(login.agent, self._nobody)
+            if not entry.takes(login.token) or entry is self._nobody:
+                raise BadMessage(f"the login of {quoted(login.agent)} is refused: look at agentId and token")
+        except BadMessage:
+            self._failed.note(address)
+            raise
+        agent = self._agents.get(entry.agent) or self._agent(entry.agent, entry.child)
+        if agent.running is None or not agent.running.is_alive:
+            agent.child = entry.child
+            self._start(agent)
+            if agent.running is None:
+                raise BadMessage(f"the node of {agent.name} does not start: the hub's log says why")
+        return agent
+
+    # The nodes.
+
+    def _agent(self, name: str, child: int) -> Agent:
+        agent = self._agents[name] = Agent(name, child, self._settings.gone, self._loop)
+        return agent
+
+    def _wait_or_leave(self, agent: Agent) -> None:
+        """Lets an agent of before the hub's start leave: after its time, or at once if it is barred."""
+        if agent.name in self._entries:
+            agent.wait()
+        else:
+            agent.offer(LEAVE_OFFER)
+
+    def _start(self, agent: Agent) -> None:
+        """Starts an agent's node. What is wrong is said, and then the agent has no node."""
+        agent.running = None
+        agent.lose_node()
+        try:
+            settings = self._settings.of_agent(agent.name, agent.child)
+            place = Place(agent.child, self._session.id)
+            if self._places.get(agent.name) != place:
+                keep_place(self._settings.folder_of_agents / agent.name, place)
+                self._places[agent.name] = place
+            node = Node(settings, agent, lambda text: self._say(f"{agent.name}: {text}"), self._exchange.link, TICK)
+        except (LiveError, OSError) as error:
+            self._say(f"{agent.name}: {error}")
+            return
+        agent.running = Running(node, lambda running: self._loop.call_soon_threadsafe(self._ended, agent, running))
+
+    def _ended(self, agent: Agent, running: Running) -> None:
+        if running.error is not None:
+            self._say(f"{agent.name}: its node has ended, {running.error}")
+        if agent.running is running:
+            agent.lose_node()
+            agent.end(f"the node of {agent.name} has ended: log in again")
+
+    def _take_message(self, message: Message) -> None:
+        """Lets an agent forget its newest priceUpdate if its device has left. It is called in the node's thread."""
+        above, _, what = message.topic.rpartition("/")
+        agent = self._agents.get(above.rpartition("/")[2]) if what == "setpoint" and not message.payload else None
+        if agent is not None:
+            agent.forget()

@@ -1,0 +1,171 @@
+"""A hub: one whole market in one process, for agents that connect by WebSocket or TCP. docs/HUB.md says how to run one.
+
+It is a carrier, and no market of its own. It runs a node of sort auctioneer, and one of sort device for each agent. Each node has
+its own process of `live` and its own folder. So a proved service numbers each bid, clears each price and gives each setpoint.
+"""
+
+from __future__ import annotations
+
+import asyncio
+import sys
+from collections.abc import Callable
+from typing import Any
+
+from ..live.errors import LiveError
+from ..live.messages import BasisMessage
+from ..live.node import Node
+from ..live.sessions import Session, now_text
+from .agent import Agent
+from .agents import Agents
+from .connection import Channel, Connection
+from .exchange import Exchange
+from .running import Running
+from .server import Server
+from .settings import Address, HubSettings
+from .words import error_line, welcome
+
+# The seconds between looks at the files of tokens and of the certificate, and those in which connections have to end.
+LOOK, LAST_SECONDS = 1.0, 3.0
+# The most connections, of agents and of those that have not logged in.
+CONNECTIONS = 1_024
+
+
+class Hub:
+    """A hub, from its start to its end. `run` does the work, and `stop` ends it from anywhere."""
+
+    def __init__(self, settings: HubSettings, say: Callable[[str], None] | None = None) -> None:
+        """Takes the settings, and a call for lines about what is wrong, by default to standard error.
+
+        Raises LiveError if the certificate cannot be used, NoPackage if websockets is missing and needed, and OSError.
+        """
+        self.settings = settings
+        self.exchange = Exchange()
+        self._say = say or self._say_at_standard_error
+        self._server = Server(settings, self._serve, self._say)
+        self._connections: dict[Connection, asyncio.Task[Any] | None] = {}
+        self._loop: asyncio.AbstractEventLoop | None = None
+        self._stopping: asyncio.Event | None = None
+        self._is_stopped = False
+        self._auctioneer: Running | None = None
+        self._agents: Agents | None = None
+        self._session: Session | None = None
+        # Whether agents can connect.
+        self.is_up = False
+
+    def _say_at_standard_error(self, text: str) -> None:
+        # In one piece, since lines come from many threads.
+        sys.stderr.write(f"cogmaula hub: {text}\n")
+        sys.stderr.flush()
+
+    @property
+    def addresses(self) -> list[Address]:
+        """Where the hub listens for WebSocket, once it is up."""
+        return self._server.addresses
+
+    @property
+    def addresses_tcp(self) -> list[Address]:
+        """Where the hub listens for lines over TCP, once it is up."""
+        return self._server.addresses_tcp
+
+    def run(self) -> None:
+        """Works until `stop` is called.
+
+        Raises BadSettings if the file of tokens is wrong, NodeRefused if a person has to look first, another LiveError, or
+        OSError, such as that of a full disk.
+        """
+        asyncio.run(self._run())
+
+    def stop(self) -> None:
+        """Ends `run`, from any thread or from the handler of a signal."""
+        self._is_stopped = True
+        loop, stopping = self._loop, self._stopping
+        if loop is not None and stopping is not None:
+            loop.call_soon_threadsafe(stopping.set)
+
+    async def _run(self) -> None:
+        loop = self._loop = asyncio.get_running_loop()
+        loop.set_exception_handler(self._say_error)
+        stopping = self._stopping = asyncio.Event()
+        if self._is_stopped:
+            return
+        node = Node(self.settings.of_auctioneer(), None, self._say, self.exchange.link)
+        auctioneer = self._auctioneer = Running(node, lambda _: loop.call_soon_threadsafe(stopping.set))
+        try:
+            await self._begin(auctioneer, stopping)
+            while not stopping.is_set():
+                self._look()
+                await _wait(stopping, LOOK)
+        finally:
+            self.is_up = False
+            await self._end(auctioneer)
+        if auctioneer.error is not None:
+            raise auctioneer.error
+        if not self._is_stopped:
+            raise LiveError("the auctioneer's node has failed: the lines above say why")
+
+    async def _begin(self, auctioneer: Running, stopping: asyncio.Event) -> None:
+        """Starts what stands on the auctioneer's session, once that has begun."""
+        loop = asyncio.get_running_loop()
+        while (basis := self.exchange.message(self.settings.topics.basis)) is None:
+            await _wait(stopping, 0.01)
+            if stopping.is_set():
+                return
+        self._session = BasisMessage.of(basis.payload).session
+        self._agents = Agents(self.settings, self.exchange, self._session, loop, self._say)
+        self._agents.begin()
+        await self._server.start()
+        for how, found in (("WebSocket", self.addresses), ("TCP", self.addresses_tcp)):
+            for address in found:
+                self._say(f"listens at {address} for {how}{' by TLS' if self.settings.certificate else ''}")
+        self.is_up = True
+
+    def _look(self) -> None:
+        assert self._agents is not None
+        self._agents.look()
+        self._server.look()
+
+    async def _end(self, auctioneer: Running) -> None:
+        """Tells the agents, and ends all: first the connections, then the nodes of agents, and then the auctioneer."""
+        for connection in self._connections:
+            connection.end("the hub ends: connect again later")
+        tasks = [it for it in self._connections.values() if it is not None]
+        if tasks:
+            await asyncio.wait(tasks, timeout=LAST_SECONDS)
+        await self._server.stop()
+        if self._agents is not None:
+            await asyncio.to_thread(self._agents.stop)
+        auctioneer.stop()
+        await asyncio.to_thread(auctioneer.join, LAST_SECONDS)
+
+    # Connections.
+
+    async def _serve(self, channel: Channel) -> None:
+        """Works one connection."""
+        assert self._agents is not None
+        if len(self._connections) >= CONNECTIONS or not self.is_up:
+            await channel.write(error_line(f"the hub has {CONNECTIONS} connections or ends: try again later"))
+            await channel.close()
+            return
+        connection = Connection(channel, self._agents.login, self._welcome, self.settings.basis, self._say)
+        self._connections[connection] = asyncio.current_task()
+        try:
+            await connection.run()
+        finally:
+            del self._connections[connection]
+
+    def _welcome(self, agent: Agent) -> bytes:
+        assert self._session is not None
+        return welcome(agent.name, self.settings.cluster, self.settings.basis, self._session.id, now_text())
+
+    def _say_error(self, _loop: asyncio.AbstractEventLoop, told: dict[str, Any]) -> None:
+        """Says what the loop finds wrong, such as a handshake of TLS that fails."""
+        error = told.get("exception")
+        self._say(f"{told.get('message', 'a connection failed')}{'' if error is None else f': {error}'}")
+
+
+async def _wait(event: asyncio.Event, seconds: float) -> None:
+    """Waits for an event, at most so many seconds."""
+    try:
+        await asyncio.wait_for(event.wait(), seconds)
+    except asyncio.TimeoutError:
+        pass

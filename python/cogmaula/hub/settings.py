@@ -1,0 +1,158 @@
+"""The settings of a hub, from a TOML file or from options. docs/HUB.md has them in a table."""
+
+from __future__ import annotations
+
+import ipaddress
+import os
+import re
+from collections.abc import Mapping
+from dataclasses import dataclass, field
+from pathlib import Path
+from typing import Any, cast
+
+from ..cluster import Basis
+from ..live.errors import BadSettings
+from ..live.settings import LIVE_VARIABLE, Settings, read_toml, value_of
+from ..live.topics import Topics, require_name
+from .words import Cluster
+
+TABLES = ("hub", "basis")
+_ADDRESS = re.compile(r"(?:\[([0-9A-Fa-f:.]+)\]|([^\[\]:]+)):([0-9]{1,5})")
+
+
+@dataclass(frozen=True)
+class Address:
+    """Where the hub listens. The port 0 takes a free one."""
+
+    host: str
+    port: int
+
+    def __str__(self) -> str:
+        return f"[{self.host}]:{self.port}" if ":" in self.host else f"{self.host}:{self.port}"
+
+    @staticmethod
+    def of(text: str) -> Address:
+        """The address that a text such as 127.0.0.1:8443 or [::1]:8443 is. Raises BadSettings."""
+        found = _ADDRESS.fullmatch(text)
+        if found is None or int(found[3]) > 65_535:
+            raise BadSettings(f"the address is {text!r}: write HOST:PORT, such as 127.0.0.1:8443 or [::1]:8443")
+        return Address(found[1] or found[2], int(found[3]))
+
+    @property
+    def is_loopback(self) -> bool:
+        """Whether this machine alone reaches it."""
+        try:
+            return ipaddress.ip_address(self.host).is_loopback
+        except ValueError:
+            return self.host == "localhost"
+
+
+@dataclass(frozen=True)
+class HubSettings:
+    """One hub.
+
+    state:       the folder of what its nodes keep over a restart
+    agents:      the file of tokens
+    basis:       the market's prices
+    name:        the auctioneer in topics
+    live:        the program `live`
+    listen:      the addresses for WebSocket
+    listen_tcp:  those for lines over TCP
+    certificate: the file of the hub's certificate and those above it, and `key` that of its key; with them all is by TLS
+    insecure:    whether to listen without TLS where other machines reach it
+    gone:        the seconds after which an agent that is disconnected leaves the market
+    period:      the seconds from one clearing to the next, by the clock; None clears after news
+    pause:       the least seconds between two clearings after news
+    clusterId, commodity, currency: how the market names itself to agents; the first is by default the hub's name
+    new_session: whether the market begins a new session
+    """
+
+    state: str
+    agents: str
+    basis: Basis
+    name: str = "hub"
+    live: str = "live"
+    listen: tuple[str, ...] = ()
+    listen_tcp: tuple[str, ...] = ()
+    certificate: str | None = None
+    key: str | None = None
+    insecure: bool = False
+    gone: float = 60.0
+    period: float | None = None
+    pause: float = 1.0
+    clusterId: str = ""
+    commodity: str = "electricity"
+    currency: str = "EUR"
+    new_session: bool = False
+    addresses: tuple[Address, ...] = field(init=False)
+    addresses_tcp: tuple[Address, ...] = field(init=False)
+
+    def __post_init__(self) -> None:
+        """Raises BadSettings."""
+        object.__setattr__(self, "addresses", tuple(map(Address.of, self.listen)))
+        object.__setattr__(self, "addresses_tcp", tuple(map(Address.of, self.listen_tcp)))
+        if not (self.listen or self.listen_tcp):
+            raise BadSettings('the hub listens nowhere: give listen or listen_tcp, such as listen = ["127.0.0.1:8443"]')
+        if (self.certificate is None) != (self.key is None):
+            raise BadSettings("hub.certificate and hub.key go together: give both or neither")
+        for address in self.addresses + self.addresses_tcp:
+            if not (self.certificate or self.insecure or address.is_loopback):
+                raise BadSettings(
+                    f"the hub would listen at {address} without TLS, where other machines reach it: give certificate and key, "
+                    "or say insecure = true"
+                )
+        if not 0 <= self.gone <= 1e9:
+            raise BadSettings(f"hub.gone is {self.gone}: give 0 seconds or more")
+        # Those of the nodes are refused here, and not when the first agent comes.
+        self.of_auctioneer()
+
+    @property
+    def topics(self) -> Topics:
+        """The topics of the market."""
+        return self.of_auctioneer().topics
+
+    @property
+    def cluster(self) -> Cluster:
+        """How the market names itself to agents."""
+        return Cluster(self.clusterId or self.name, self.commodity, self.currency)
+
+    @property
+    def folder_of_agents(self) -> Path:
+        """The folder that has a folder of each agent."""
+        return Path(self.state) / "agents"
+
+    def of_auctioneer(self) -> Settings:
+        """The settings of the auctioneer's node."""
+        folder = str(Path(self.state) / "auctioneer")
+        times: dict[str, Any] = {"period": self.period, "pause": self.pause, "new_session": self.new_session}
+        return Settings("auctioneer", self.name, folder, self.basis, self.live, **times)
+
+    def of_agent(self, agent: str, child: int) -> Settings:
+        """The settings of an agent's node. Raises BadSettings."""
+        folder = str(self.folder_of_agents / agent)
+        return Settings("device", require_name(agent, "the agent"), folder, self.basis, self.live, parent=self.name, child=child)
+
+
+def hub_settings_of(tables: Mapping[str, Mapping[str, Any]]) -> HubSettings:
+    """The settings that the tables `hub` and `basis` tell. Raises BadSettings."""
+    hub = dict(tables.get("hub", {}))
+    hub.setdefault("live", os.environ.get(LIVE_VARIABLE) or "live")
+    for name in ("listen", "listen_tcp"):
+        hub[name] = _texts(hub.get(name, []), f"hub.{name}")
+    if {"basis", "addresses", "addresses_tcp"} & hub.keys():
+        raise BadSettings("hub has a member basis, addresses or addresses_tcp: the basis is a table, and addresses are in listen")
+    basis = value_of(Basis, tables.get("basis", {}), "basis")
+    return cast(HubSettings, value_of(HubSettings, {**hub, "basis": basis}, "hub"))
+
+
+def read_hub_toml(path: str | os.PathLike[str]) -> dict[str, dict[str, Any]]:
+    """The tables of a hub's file. Raises BadSettings and OSError."""
+    return read_toml(path, TABLES)
+
+
+def _texts(value: object, name: str) -> tuple[str, ...]:
+    """A text, or a list of them."""
+    found = [value] if isinstance(value, str) else value
+    if not isinstance(found, list | tuple) or not all(isinstance(it, str) for it in found):
+        raise BadSettings(f"{name} is {value!r}: give a list of addresses")
+    return tuple(found)

@@ -1,0 +1,189 @@
+"""The file of tokens: a line an agent, `AGENT CHILD SHA256-OF-TOKEN`. A blank line, or one that begins with #, does not count.
+
+A token is drawn from 256 random bits. The file has its SHA-256 alone, from which nobody gets it back.
+"""
+
+from __future__ import annotations
+
+import fcntl
+import hashlib
+import hmac
+import os
+import re
+import secrets
+import time
+from collections import deque
+from collections.abc import Iterator, Mapping
+from contextlib import contextmanager
+from dataclasses import dataclass
+from pathlib import Path
+
+from ..live.errors import BadSettings
+from ..live.frames import CHILDREN
+from ..live.topics import require_name
+
+_CHILD = re.compile(r"[1-9][0-9]{0,2}")
+_HASH = re.compile(r"[0-9a-f]{64}")
+TOKEN_BYTES = 32
+# The most failed logins of one address within so many seconds, and the most addresses that are remembered.
+FAILED, WITHIN, ADDRESSES = 8, 1.0, 4_096
+
+
+@dataclass(frozen=True)
+class Entry:
+    """An agent that may log in: its name, its child number at the auctioneer, and the SHA-256 of its token in hexadecimal."""
+
+    agent: str
+    child: int
+    hash: str
+
+    def takes(self, token: str) -> bool:
+        """Whether this is the agent's token. It takes the same time for each wrong one."""
+        return hmac.compare_digest(hash_of(token), self.hash)
+
+    def to_line(self) -> str:
+        """The entry as a line of the file."""
+        return f"{self.agent} {self.child} {self.hash}\n"
+
+
+Entries = Mapping[str, Entry]
+
+
+def hash_of(token: str) -> str:
+    """The SHA-256 of a token, in hexadecimal. A token that is no text of Unicode has one too."""
+    return hashlib.sha256(token.encode(errors="surrogatepass")).hexdigest()
+
+
+def entries_of(text: str, name: str) -> dict[str, Entry]:
+    """The entries of a file of this name, by agent. Raises BadSettings, which names the line."""
+    found: dict[str, Entry] = {}
+    children: dict[int, str] = {}
+    for number, line in enumerate(text.splitlines(), 1):
+        words = line.split()
+        if not words or words[0].startswith("#"):
+            continue
+        where = f"{name} line {number}"
+        if len(words) != 3:
+            raise BadSettings(f"{where} has {len(words)} words: write AGENT CHILD SHA256-OF-TOKEN")
+        require_name(words[0], f"{where}: the agent")
+        child = child_of(words[1], where)
+        if not _HASH.fullmatch(words[2]):
+            raise BadSettings(f"{where}: the last word is no SHA-256, which has 64 hexadecimal digits: use --new-token")
+        if words[0] in found:
+            raise BadSettings(f"{where}: {words[0]} has a line already: take one out")
+        if child in children:
+            raise BadSettings(f"{where}: child {child} is {children[child]}'s already: give another number")
+        found[words[0]] = Entry(words[0], child, words[2])
+        children[child] = words[0]
+    return found
+
+
+def child_of(text: str, where: str) -> int:
+    """The child number that a text is. Raises BadSettings."""
+    if not _CHILD.fullmatch(text) or int(text) > CHILDREN:
+        raise BadSettings(f"{where}: the child is {text!r}: give 1 to {CHILDREN}")
+    return int(text)
+
+
+class TokenFile:
+    """The file of tokens, which is read again when it changes."""
+
+    def __init__(self, path: str | os.PathLike[str]) -> None:
+        """Takes the path. Nothing is read yet."""
+        self.path = Path(path)
+        self._mark: tuple[int, ...] | None = None
+
+    def changed(self) -> dict[str, Entry] | None:
+        """The entries if the file is another than at the last call, else None. Raises BadSettings and OSError."""
+        found = os.stat(self.path)
+        mark = (found.st_ino, found.st_size, found.st_mtime_ns)
+        if mark == self._mark:
+            return None
+        # What is wrong is told once, and not again until the file changes.
+        self._mark = mark
+        return self.read()
+
+    def read(self) -> dict[str, Entry]:
+        """The entries now. Raises BadSettings and OSError."""
+        try:
+            return entries_of(self.path.read_text(), str(self.path))
+        except UnicodeDecodeError:
+            raise BadSettings(f"{self.path} is no text") from None
+
+    def add(self, agent: str, child: int) -> str:
+        """Draws a token for an agent, and writes its line: a new one, or in place of its own. Gives the token.
+
+        Raises BadSettings if the child number is another agent's, or the agent has another number, and OSError.
+        """
+        token = secrets.token_urlsafe(TOKEN_BYTES)
+        entry = Entry(agent, child, hash_of(token))
+        with self._alone():
+            entries = self.read() if self.path.exists() else {}
+            before = entries.get(agent)
+            if before is not None and before.child != child:
+                raise BadSettings(f"{agent} is child {before.child} in {self.path}: give that number")
+            for other in entries.values():
+                if other.child == child and other.agent != agent:
+                    raise BadSettings(f"child {child} is {other.agent}'s in {self.path}: give another number")
+            text = self.path.read_text() if self.path.exists() else ""
+            if before is not None:
+                text = text.replace(_line_of(text, agent), entry.to_line())
+            else:
+                text += "" if not text or text.endswith("\n") else "\n"
+                text += entry.to_line()
+            self._replace(text)
+        return token
+
+    @contextmanager
+    def _alone(self) -> Iterator[None]:
+        """Lets one process alone write the file."""
+        folder = os.open(self.path.parent, os.O_RDONLY | os.O_DIRECTORY)
+        try:
+            fcntl.flock(folder, fcntl.LOCK_EX)
+            yield
+        finally:
+            os.close(folder)
+
+    def _replace(self, text: str) -> None:
+        """Replaces the file as a whole, and safely. It keeps its owner and its rights."""
+        fresh = self.path.with_name(f"{self.path.name}.fresh")
+        with open(fresh, "w") as file:
+            if self.path.exists():
+                found = os.stat(self.path)
+                os.fchmod(file.fileno(), found.st_mode & 0o777)
+                os.fchown(file.fileno(), found.st_uid, found.st_gid)
+            file.write(text)
+            file.flush()
+            os.fsync(file.fileno())
+        os.replace(fresh, self.path)
+        folder = os.open(self.path.parent, os.O_RDONLY | os.O_DIRECTORY)
+        try:
+            os.fsync(folder)
+        finally:
+            os.close(folder)
+
+
+def _line_of(text: str, agent: str) -> str:
+    """The line of an agent, with its end."""
+    return next(it for it in text.splitlines(keepends=True) if it.split()[:1] == [agent])
+
+
+class FailedLogins:
+    """How many logins of each address failed a short while ago. Times are seconds of a clock that only rises."""
+
+    def __init__(self) -> None:
+        """Remembers none yet."""
+        self._times: dict[str, deque[float]] = {}
+
+    def note(self, address: str, now: float | None = None) -> None:
+        """Notes a failed login of an address."""
+        moment = time.monotonic() if now is None else now
+        self._times.setdefault(address, deque(maxlen=FAILED)).append(moment)
+        if len(self._times) > ADDRESSES:
+            self._times = {it: times for it, times in self._times.items() if times[-1] > moment - WITHIN}
+
+    def are_too_many(self, address: str, now: float | None = None) -> bool:
+        """Whether no further login of this address is looked at now."""
+        moment = time.monotonic() if now is None else now
+        times = self._times.get(address, deque())
+        return len(times) == FAILED and times[0] > moment - WITHIN

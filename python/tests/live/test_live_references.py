@@ -1,0 +1,186 @@
+"""The references of a device's control: which setpoint has which, over offers that are made again, a window and restarts."""
+
+from __future__ import annotations
+
+import hashlib
+import json
+import shutil
+
+import pytest
+from pretended import BASIS, Joined
+
+from cogmaula.live import BadMessage
+from cogmaula.live.frames import DeviceResume, Leave, Offer, ResumeGone, Setpoint
+from cogmaula.live.messages import LAST_REFERENCE, OfferMessage, with_reference
+from cogmaula.live.offers import Offers
+
+HIGH, LOW = (500, -300), (100, -700)
+SETPOINT = '{"power": -300, "bid": 4, "time": "2026-01-31T06:30:00.000Z"}'
+
+
+def offer(demands, reference=None):
+    told = {"power": list(demands)}
+    return json.dumps(told if reference is None else {**told, "reference": reference}).encode()
+
+
+@pytest.mark.parametrize("reference", [0, 17, LAST_REFERENCE])
+def test_an_offer_may_have_a_reference(reference):
+    assert OfferMessage.of(offer(HIGH, reference), 2) == OfferMessage(Offer(HIGH), None, reference)
+
+
+@pytest.mark.parametrize("reference", [-1, LAST_REFERENCE + 1, 1.0, True, "17", [17]])
+def test_a_reference_that_is_none(reference):
+    with pytest.raises(BadMessage, match="the reference is no whole number from 0 to 9007199254740991"):
+        OfferMessage.of(offer(HIGH, reference), 2)
+
+
+def test_a_leave_has_none():
+    with pytest.raises(BadMessage, match="an offer is"):
+        OfferMessage.of(b'{"leave": true, "reference": 1}', 2)
+
+
+def test_a_setpoint_gets_the_reference_of_its_own_offer_alone():
+    assert json.loads(with_reference(SETPOINT, 4, 9)) == {**json.loads(SETPOINT), "reference": 9}
+    assert json.loads(with_reference(with_reference(SETPOINT, 4, 9), 4, None)) == json.loads(SETPOINT)
+    assert with_reference(SETPOINT, 5, 9) == SETPOINT
+    assert with_reference("", 5, 9) == ""
+
+
+class Made:
+    """Offers of a market of two steps, which the test asks and answers."""
+
+    def __init__(self):
+        self.offers = Offers(2, None, lambda _: None)
+        self.offers.begin(None, 0.0)
+
+    def takes(self, demands, reference=None):
+        self.offers.take(offer(demands, reference), 0.0)
+        return self
+
+    def asks(self):
+        assert self.offers.due(1.0) is not None
+        return self
+
+    def has(self, number, demands):
+        self.offers.resumed(DeviceResume(number, 0, demands))
+        return self.offers.references
+
+
+def test_the_reference_goes_with_what_was_asked():
+    made = Made().takes(HIGH, 1).asks().takes(LOW, 2)
+    assert made.has(1, HIGH) == {1: 1}
+    assert made.asks().has(2, LOW) == {1: 1, 2: 2}
+
+
+def test_the_newest_reference_of_the_same_powers_counts():
+    assert Made().takes(HIGH, 1).asks().takes(HIGH, 2).has(1, HIGH) == {1: 2}
+    made = Made().takes(HIGH, 1).asks().takes(LOW, 2).takes(HIGH, 3)
+    assert made.has(1, HIGH) == {1: 3}
+    assert made.offers.due(2.0) is None
+    made.takes(HIGH, 4)
+    assert made.offers.references == {1: 4}
+    made.takes(HIGH)
+    assert made.offers.references == {}
+
+
+def test_a_full_window_keeps_the_newest():
+    made = Made().takes(HIGH, 1).asks()
+    made.offers.refused(1.0)
+    made.takes(LOW, 2)
+    assert isinstance(made.offers.due(5.0), Offer)
+    assert made.has(1, LOW) == {1: 2}
+
+
+def test_a_resume_without_a_new_number_changes_none():
+    made = Made().takes(HIGH, 1).asks()
+    made.has(1, HIGH)
+    made.takes(LOW, 2).asks()
+    assert made.has(1, HIGH) == {1: 1}
+
+
+def test_what_is_before_the_answered_one_is_let_go():
+    made = Made().takes(HIGH, 1).asks()
+    made.has(1, HIGH)
+    made.takes(LOW, 2).asks()
+    made.has(2, LOW)
+    made.offers.forget_before(2)
+    assert made.offers.references == {2: 2}
+    made.offers.resumed(ResumeGone(3, 0))
+    assert made.offers.references == {}
+
+
+def setpoints(one: Joined):
+    return [json.loads(it) for it in one.control.told]
+
+
+def test_a_device_tells_and_stores_the_reference(joined):
+    one = joined("device").begun()
+    one.link.confirms = True
+    one.control.offer(offer(HIGH, 17))
+    one.turned().writes(DeviceResume(1, 0, HIGH))
+    assert one.node._store.newest().references == {1: 17}
+    one.writes(Setpoint(1, 7, 1, -300), DeviceResume(1, 7, HIGH))
+    assert [it["reference"] for it in setpoints(one)] == [17]
+    # The same offer under another number: the setpoint comes again with that, and both are on disk.
+    one.control.offer(offer(HIGH, 18))
+    one.turned()
+    assert [it["reference"] for it in setpoints(one)] == [17, 18]
+    assert one.service.read[1:] == [Offer(HIGH).to_bytes()]
+    stored = one.node._store.newest()
+    assert (stored.references, json.loads(stored.setpoint)["reference"]) == ({1: 18}, 18)
+    # An offer that is not answered yet does not change the setpoint of the one before.
+    one.control.offer(offer(LOW, 19))
+    one.turned().writes(DeviceResume(2, 7, LOW))
+    assert len(one.control.told) == 2
+    one.writes(Setpoint(1, 8, 0, 500), DeviceResume(2, 8, LOW), Setpoint(2, 9, 1, -700), DeviceResume(2, 9, LOW))
+    assert [it["reference"] for it in setpoints(one)] == [17, 18, 18, 19]
+    assert one.node._store.newest().references == {2: 19}
+
+
+def test_the_reference_holds_over_a_restart(joined, tmp_path):
+    first = joined("device").begun()
+    first.control.offer(offer(HIGH, 17))
+    first.turned().writes(DeviceResume(1, 0, HIGH))
+    shutil.copytree(tmp_path / "device", tmp_path / "again")
+    second = Joined("device", tmp_path / "again").begun()
+    assert second.service.read == [DeviceResume(1, 0, HIGH).to_bytes()]
+    second.writes(Setpoint(1, 7, 1, -300))
+    assert [it["reference"] for it in setpoints(second)] == [17]
+    second.node._store.close()
+
+
+def test_a_device_that_leaves_has_none(joined):
+    one = joined("device").begun()
+    one.control.offer(offer(HIGH, 17))
+    one.turned().writes(DeviceResume(1, 0, HIGH))
+    one.control.offer(b'{"leave": true}')
+    one.turned()
+    assert one.service.read[-1] == Leave().to_bytes()
+    one.writes(ResumeGone(2, 0))
+    assert one.node._store.newest().references == {}
+
+
+def test_a_file_of_before_has_none(joined):
+    one = joined("device").begun()
+    one.control.offer(offer(HIGH, 17))
+    one.turned().writes(DeviceResume(1, 0, HIGH))
+    path = one.node._store.path(one.node.session)
+    first, _, line, frame = path.read_bytes().split(b"\n", 3)
+    told = json.loads(line)
+    assert told.pop("references") == {"1": 17}
+    behind = json.dumps(told).encode() + b"\n" + frame
+    path.write_bytes(first + b"\n" + hashlib.sha256(behind).hexdigest().encode() + b"\n" + behind)
+    found = one.node._store.newest()
+    assert (found.references, found.basis, found.frame) == ({}, BASIS, frame)
+
+
+def test_the_resume_and_the_reference_are_stored_in_one_piece(joined, monkeypatch):
+    """A crash between the two would leave a number of which nobody knows the reference."""
+    one = joined("device").begun()
+    one.link.confirms = True
+    saved = []
+    monkeypatch.setattr(one.node._store, "save", saved.append)
+    one.control.offer(offer(HIGH, 17))
+    one.turned().writes(DeviceResume(1, 0, HIGH), Setpoint(1, 7, 1, -300), DeviceResume(1, 7, HIGH))
+    assert [it.references for it in saved] == [{1: 17}] * 3
+    assert saved[0].frame == DeviceResume(1, 0, HIGH).to_bytes()
