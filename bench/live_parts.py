@@ -16,12 +16,15 @@ def children_of(number):
 
 
 def processor_seconds(numbers):
-    """The processor seconds of these processes up to now."""
-    found = 0
+    """The processor seconds of these processes up to now, by their numbers. One that has ended is left out."""
+    found = {}
     for number in numbers:
-        fields = Path(f"/proc/{number}/stat").read_text().rpartition(") ")[2].split()
-        found += int(fields[11]) + int(fields[12])
-    return found / TICKS
+        try:
+            fields = Path(f"/proc/{number}/stat").read_text().rpartition(") ")[2].split()
+        except OSError:
+            continue
+        found[number] = (int(fields[11]) + int(fields[12])) / TICKS
+    return found
 
 
 def resident(number):
@@ -44,11 +47,14 @@ def times_text(seconds):
     if not seconds:
         return "none"
     found = sorted(seconds)
-    return f"median {statistics.median(found):.2f} s, 95 % {found[95 * len(found) // 100 - 1]:.2f} s, most {found[-1]:.2f} s"
+    return f"median {statistics.median(found):.2f} s, 95 % {found[-(-95 * len(found) // 100) - 1]:.2f} s, most {found[-1]:.2f} s"
 
 
 class Spent:
-    """Processor seconds by part, from one look to the next. `parts` gives the numbers of the processes by name."""
+    """Processor seconds by part, from one look to the next. `parts` gives the numbers of the processes by name.
+
+    What a process took that ends between two looks is not counted.
+    """
 
     def __init__(self, parts):
         self._parts = parts
@@ -60,7 +66,10 @@ class Spent:
     def since(self, seconds):
         """The processors that each part took since the last look, in words."""
         now = self._now()
-        found = {name: (now[name] - self._before[name]) / seconds for name in now}
+        found = {}
+        for name, spent in now.items():
+            before = self._before[name]
+            found[name] = sum(it - before.get(number, 0.0) for number, it in spent.items()) / seconds
         self._before = now
         return ", ".join(f"{name} {it:.2f}" for name, it in found.items()) + f", together {sum(found.values()):.2f}"
 
