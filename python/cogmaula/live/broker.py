@@ -7,7 +7,6 @@ on all that it retains, and lets the node write and read its own topics.
 
 from __future__ import annotations
 
-import queue
 import threading
 import time
 from collections.abc import Callable, Iterable, Sequence
@@ -138,7 +137,7 @@ class Broker:
         # Of both threads; the locks are never held in a call of paho.
         self._lock = threading.Lock()
         self._inbox: dict[str, Message] = {}
-        self._confirms: queue.SimpleQueue[tuple[object, int]] = queue.SimpleQueue()
+        self._confirms: set[tuple[object, int]] = set()
         self._client: Any = None
         self._settled: Any = None
         self._marked: Publication | None = None
@@ -224,10 +223,12 @@ class Broker:
     # Publishing.
 
     def _take_confirms(self) -> None:
-        while not self._confirms.empty():
-            found = self._confirms.get()
-            for topic in [it for it, due in self._unconfirmed.items() if due == found]:
-                del self._unconfirmed[topic]
+        if not self._confirms:
+            return
+        with self._lock:
+            found, self._confirms = self._confirms, set()
+        for topic in [it for it, due in self._unconfirmed.items() if due in found]:
+            del self._unconfirmed[topic]
 
     def _send(self, client: Any, publication: Publication) -> None:
         properties = properties_of("PUBLISH")
@@ -321,8 +322,11 @@ class Broker:
             self._notify(Arrived())
 
     def _on_publish(self, client: Any, mid: int) -> None:
-        self._confirms.put((client, mid))
-        self._notify(Confirmed())
+        with self._lock:
+            is_first = not self._confirms
+            self._confirms.add((client, mid))
+        if is_first:
+            self._notify(Confirmed())
 
     def _on_disconnect(self, code: Any, ended: threading.Event, words: list[str]) -> None:
         if not words:

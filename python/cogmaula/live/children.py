@@ -2,7 +2,7 @@
 
 from __future__ import annotations
 
-from collections.abc import Callable
+from collections.abc import Callable, Collection
 
 from .broker import Link, Message, Publication
 from .errors import BadFrame
@@ -24,12 +24,15 @@ class Children:
         self._say = say
         self._session = ""
         self._newest: dict[int, Bid | Gone] = {}
+        # The topics of the prices for the children that were heard: they are looked at after each confirmation.
+        self._price_topics: dict[int, str] = {}
         self._told: set[tuple[int, str]] = set()
 
     def begin(self, session: str) -> None:
         """Forgets all of an earlier session."""
         self._session = session
         self._newest.clear()
+        self._price_topics.clear()
         self._told.clear()
 
     @property
@@ -38,9 +41,9 @@ class Children:
         return [self._newest[it] for it in sorted(self._newest)]
 
     @property
-    def price_topics(self) -> list[str]:
+    def price_topics(self) -> Collection[str]:
         """The topics of the prices for the children that were heard."""
-        return [self._topics.price(self._node, it) for it in self._newest]
+        return self._price_topics.values()
 
     def taken(self, child: int, message: Message) -> Bid | Gone | None:
         """The frame of a message on the topic of a child's bids, or None if it is not to be fed to the service."""
@@ -66,6 +69,7 @@ class Children:
             return None
         heard: Bid | Gone = frame
         self._newest[child] = heard
+        self._price_topics.setdefault(child, self._topics.price(self._node, child))
         if isinstance(heard, Gone):
             self._clear(child)
         return heard

@@ -9,7 +9,7 @@ from __future__ import annotations
 
 import struct
 from collections.abc import Callable, Iterator
-from dataclasses import astuple, dataclass
+from dataclasses import dataclass
 from typing import ClassVar, Literal
 
 from .errors import BadFrame
@@ -34,7 +34,8 @@ class Frame:
 
     def to_bytes(self) -> bytes:
         """The bytes of the frame. Raises struct.error if a number does not fit into its field."""
-        fields = astuple(self)
+        # Not by astuple, which copies a list of demands one by one.
+        fields = tuple(vars(self).values())
         listed = fields[-1] if self.LIST else ()
         fixed = fields[:-1] if self.LIST else fields
         return struct.pack(f">B{self.FIELDS}{len(listed)}{_item(self.LIST)}", self.KIND, *fixed, *listed)

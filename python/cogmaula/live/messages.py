@@ -184,7 +184,7 @@ class SetpointMessage:
     def of(data: bytes) -> SetpointMessage:
         """The setpoint that a message tells. Raises BadMessage."""
         what = "the setpoint"
-        told = _object_of(data, what)
+        told = object_of(data, what)
         power, step, price, bid, clearing = (_whole(told, it, what) for it in ("power", "step", "price", "bid", "clearing"))
         return SetpointMessage(power, step, price, bid, clearing, _text(told, "time", what))
 

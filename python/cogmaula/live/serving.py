@@ -10,7 +10,7 @@ from __future__ import annotations
 import json
 import time
 from collections import deque
-from collections.abc import Callable
+from collections.abc import Callable, Collection
 from dataclasses import replace
 
 from .asking import Asking
@@ -222,7 +222,7 @@ class Serving:
             self._recording.wrote(frame.to_bytes())
             self._handle(frame)
 
-    def _told_below(self) -> list[str]:
+    def _told_below(self) -> Collection[str]:
         """The topics that the broker has to confirm before a Resume behind them is stored."""
         is_relay = self._settings.sort == "relay"
         return self.children.price_topics if is_relay else [self._settings.own_topic("setpoint")]

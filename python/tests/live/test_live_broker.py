@@ -78,6 +78,20 @@ def test_it_settles_publishes_confirms_and_reads(tmp_path):
         assert one.said == []
 
 
+def test_many_confirmations_wake_the_node_once():
+    """None is lost: one that comes after the node has looked wakes it anew."""
+    events, topics = [], [f"market/street/price/{child}" for child in range(1, 4)]
+    broker = Broker(BrokerSettings(), "cogmaula.market.street", events.append, print)
+    broker._unconfirmed = {topic: (None, number) for number, topic in enumerate(topics)}
+    broker._on_publish(None, 0)
+    broker._on_publish(None, 2)
+    assert events == [Confirmed()]
+    assert [broker.is_unconfirmed([it]) for it in topics] == [False, True, False]
+    broker._on_publish(None, 1)
+    assert events == [Confirmed(), Confirmed()]
+    assert not broker.is_unconfirmed(topics)
+
+
 def test_the_newest_alone_of_a_topic_waits(tmp_path):
     with Mosquitto(tmp_path) as broker, Onlooker(broker.port) as onlooker, Connected(broker.port).settled() as one:
         for number in range(50):

@@ -1,0 +1,217 @@
+#!/usr/bin/env python3
+"""Simulates devices of a market over an MQTT broker, thousands in one process. live_scale.py starts it.
+
+    live_devices.py SETTINGS
+
+SETTINGS is JSON: the broker's `host` and `port`, the market's `prefix` and `steps`, the `relays` that the devices are below, how
+many `children` each has, and a `seed`. Lines at standard input say what to do:
+
+    first RATE    each device bids once, so many bids a second
+    rate RATE     one device after the other bids anew, by chance, so many a second; 0 ends that, and -1 is as fast as it goes
+    figures       prints what came since the last time, in JSON
+    state         prints what the devices hold, in JSON
+    clear         clears the retained bids of the devices
+
+Each device numbers its bids, and stores nothing. It knows the power of its bids that are not answered, and so its setpoint.
+"""
+
+import json
+import os
+import random
+import selectors
+import struct
+import sys
+import time
+from datetime import datetime, timezone
+
+from live_mqtt import Connection, text, user_properties
+
+BID, PRICE = 2, 5
+PRICE_BYTES = 13
+# The most messages that the broker has not confirmed, and the greatest power of a device in watts.
+UNCONFIRMED, MOST = 1_000, 5_000
+# The seconds between looks at standard input.
+LOOK = 0.05
+
+
+class Device:
+    """A device: its newest bid, those before it that may still be answered, and its setpoint."""
+
+    __slots__ = ("answered", "bids", "index", "number", "power", "step", "topic")
+
+    def __init__(self, topic):
+        self.topic = topic
+        self.number = self.index = self.step = self.answered = 0
+        self.power = None
+        # By number: the step at which the demand falls, before and behind it, and when the bid was made.
+        self.bids = {}
+
+    def takes(self, number, index, step):
+        """Takes a price. Gives when the bids that it answers were made, or None if it is older than one before, or of no bid."""
+        if index < self.index or number not in self.bids:
+            return None
+        falls, before, behind, _ = self.bids[number]
+        self.index, self.step, self.power = index, step, before if step < falls else behind
+        made = [self.bids[it][3] for it in range(self.answered + 1, number + 1)]
+        for it in range(max(1, self.answered), number):
+            del self.bids[it]
+        self.answered = number
+        return made
+
+
+class Devices:
+    """All devices of the process, and their connection."""
+
+    def __init__(self, told):
+        self._steps, self._chance = told["steps"], random.Random(told["seed"])
+        self._link = Connection(told["host"], told["port"], f"devices.{told['seed']}")
+        prefix = told["prefix"]
+        places = [(relay, child) for relay in told["relays"] for child in range(1, told["children"] + 1)]
+        self._devices = [Device(text(f"{prefix}/{relay}/bid/{child}")) for relay, child in places]
+        self._children = [child for _, child in places]
+        topics = [f"{prefix}/{relay}/price/{child}".encode() for relay, child in places]
+        self._by_topic = dict(zip(topics, self._devices, strict=True))
+        self._basis = f"{prefix}/basis".encode()
+        self._session = ""
+        self._link.subscribe([self._basis.decode()])
+        self._link.subscribe([f"{prefix}/{it}/price/+" for it in told["relays"]])
+        self._rate, self._due, self._waiting = 0.0, 0.0, []
+        self._behind = self._foreign = 0
+        self._format = struct.Struct(f">BHI{self._steps}i")
+        self._begin()
+
+    def _begin(self):
+        self._began, self._made, self._prices, self._seconds = time.monotonic(), 0, 0, []
+        self._confirmed = self._link.confirmed
+
+    # Bids.
+
+    def _bid(self, at, now, properties):
+        device = self._devices[at]
+        device.number += 1
+        falls = self._chance.randrange(self._steps + 1)
+        before, behind = self._chance.randrange(1, MOST), -self._chance.randrange(1, MOST)
+        device.bids[device.number] = falls, before, behind, now
+        demands = [before] * falls + [behind] * (self._steps - falls)
+        self._link.publish(device.topic, self._format.pack(BID, self._children[at], device.number, *demands), properties)
+        self._made += 1
+
+    def _bid_all_due(self):
+        """Makes the bids that are due now, as far as the broker confirms them."""
+        if not self._rate or not self._session:
+            return
+        now = time.monotonic()
+        room = UNCONFIRMED - self._link.unconfirmed
+        due = room if self._rate < 0 else min(room, int((now - self._due) * self._rate))
+        if due <= 0:
+            return
+        self._due += 0 if self._rate < 0 else due / self._rate
+        moment = datetime.now(timezone.utc).isoformat(timespec="milliseconds").replace("+00:00", "Z")
+        properties = user_properties(time=moment, session=self._session)
+        for _ in range(due):
+            if self._waiting:
+                at = self._waiting.pop()
+                if not self._waiting:
+                    self._rate = 0
+                self._bid(at, now, properties)
+            elif self._rate:
+                self._bid(self._chance.randrange(len(self._devices)), now, properties)
+
+    # Prices.
+
+    def _take_all(self):
+        now = time.monotonic()
+        for topic, payload in self._link.messages():
+            device = self._by_topic.get(topic)
+            if device is not None and len(payload) == PRICE_BYTES:
+                self._prices += 1
+                _, _, number, index, step = struct.unpack(">BHIIH", payload)
+                made = device.takes(number, index, step)
+                if made is not None:
+                    self._seconds += [now - it for it in made]
+                elif index < device.index:
+                    self._behind += 1
+                else:
+                    self._foreign += 1
+            elif topic == self._basis and payload:
+                self._session = json.loads(payload)["session"]
+
+    # What is asked.
+
+    def do(self, line):
+        """Does what a line of standard input says. Gives the answer, or None."""
+        word, _, rate = line.partition(" ")
+        if word in ("first", "rate"):
+            self._rate, self._due = float(rate), time.monotonic()
+            self._waiting = list(range(len(self._devices)))[::-1] if word == "first" else []
+            return None
+        if word == "clear":
+            for device in self._devices:
+                self._link.publish(device.topic, b"", user_properties())
+            return None
+        return self._figures() if word == "figures" else self._state()
+
+    def _figures(self):
+        told = {
+            "seconds": time.monotonic() - self._began,
+            "bids": self._made,
+            "confirmed": self._link.confirmed - self._confirmed,
+            "prices": self._prices,
+            "waited": [round(it, 4) for it in self._seconds],
+        }
+        self._begin()
+        return told
+
+    def _state(self):
+        sums = [0] * self._steps
+        held = {}
+        for it in self._devices:
+            if it.number:
+                falls, before, behind, _ = it.bids[it.number]
+                for step in range(self._steps):
+                    sums[step] += before if step < falls else behind
+            key = f"{it.index} {it.step}"
+            held[key] = held.get(key, 0) + 1
+        return {
+            "devices": len(self._devices),
+            "bids": sum(1 for it in self._devices if it.number),
+            "unconfirmed": self._link.unconfirmed,
+            "sums": sums,
+            "held": held,
+            "old": [it.topic[2:].decode() for it in self._devices if it.answered != it.number],
+            "power": sum(it.power or 0 for it in self._devices),
+            "behind": self._behind,
+            "foreign": self._foreign,
+        }
+
+    # The work.
+
+    def work(self):
+        """Works until standard input ends."""
+        selector = selectors.DefaultSelector()
+        selector.register(0, selectors.EVENT_READ)
+        selector.register(self._link, selectors.EVENT_READ)
+        kept = b""
+        while True:
+            self._bid_all_due()
+            self._link.write()
+            events = selectors.EVENT_READ | (selectors.EVENT_WRITE if self._link.waits_to_write else 0)
+            selector.modify(self._link, events)
+            wait = LOOK if self._rate <= 0 else min(LOOK, max(0.001, 1 / self._rate))
+            for key, found in selector.select(wait):
+                if key.fileobj is self._link:
+                    if found & selectors.EVENT_READ:
+                        self._take_all()
+                    continue
+                piece = os.read(0, 4_096)
+                if not piece:
+                    return
+                *lines, kept = (kept + piece).split(b"\n")
+                for line in lines:
+                    answer = self.do(line.decode())
+                    if answer is not None:
+                        print(json.dumps(answer), flush=True)
+
+
+if __name__ == "__main__":
+    Devices(json.loads(sys.argv[1])).work()

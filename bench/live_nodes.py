@@ -1,0 +1,77 @@
+#!/usr/bin/env python3
+"""Runs several nodes of a market in one process, a thread for each, each with a process of `live`. live_scale.py starts it.
+
+    live_nodes.py
+
+The first line of standard input is JSON: a list of `{"sort", "node", "basis", "broker"}`, the tables as a file of settings has
+them. Standard output has `up` once each node has its service. Then each line `figures` is answered by JSON: how many bids the
+nodes have given to their services, and which nodes have ended, and why. The nodes end when standard input does.
+"""
+
+import json
+import sys
+import threading
+import time
+from pathlib import Path
+
+sys.path.insert(0, str(Path(__file__).resolve().parent.parent / "python"))
+
+from cogmaula.live import LiveError, make_node, settings_of  # noqa: E402
+
+LAST_SECONDS = 20
+
+
+class Nodes:
+    """The nodes of the process, and what became of them."""
+
+    def __init__(self, tables):
+        self.heard, self.ended = 0, {}
+        self._nodes = {it["node"]["name"]: make_node(settings_of(it["sort"], it)) for it in tables}
+        for node in self._nodes.values():
+            self._count(node.serving)
+        self._threads = [threading.Thread(target=self._run, args=it, daemon=True) for it in self._nodes.items()]
+        for it in self._threads:
+            it.start()
+
+    def _count(self, serving):
+        """Counts the bids that a service is fed."""
+        hear = serving.hear_bid
+
+        def counted(data):
+            self.heard += 1
+            hear(data)
+
+        serving.hear_bid = counted
+
+    def _run(self, name, node):
+        try:
+            node.run()
+            self.ended[name] = "it was stopped"
+        except (LiveError, OSError) as error:
+            self.ended[name] = str(error)
+
+    def are_up(self):
+        """Whether each node has a service, or has ended."""
+        return all(it.serving.service is not None or name in self.ended for name, it in self._nodes.items())
+
+    def stop(self):
+        """Ends all nodes."""
+        for it in self._nodes.values():
+            it.stop()
+        for it in self._threads:
+            it.join(LAST_SECONDS)
+
+
+def main():
+    nodes = Nodes(json.loads(sys.stdin.readline()))
+    while not nodes.are_up():
+        time.sleep(0.1)
+    print("up", flush=True)
+    for line in sys.stdin:
+        if line.strip() == "figures":
+            print(json.dumps({"heard": nodes.heard, "ended": nodes.ended}), flush=True)
+    nodes.stop()
+
+
+if __name__ == "__main__":
+    main()

@@ -1,0 +1,331 @@
+#!/usr/bin/env python3
+"""Measures a market of nodes over MQTT: an auctioneer, R relays below it, R below each, and 256 devices below each of these.
+
+    live_scale.py [--relays 1 4 16] [--low 5] [--high 500] [--seconds 30] ..
+
+Broker, nodes and devices are in network namespaces of this machine, joined by a bridge. A node is what `cogmaula node` runs, with
+a process of `live` of its own; several share a process of Python, a thread each. Devices are simulated, thousands in a process.
+It prints, at a low and at a high rate of bids: bids, clearings and prices a second, the time from a device's bid to its
+setpoint, messages at the broker, and the processors that each part took. Then it prints the memory of each part.
+
+In the end all is quiet, and each device has to have the price of the last clearing for its newest bid, at the step that adding
+up all bids gives. No price may ever go back. The status is 1 if one does, or if a part ends too early.
+
+It needs root, iproute2, mosquitto, mosquitto-clients and python3-paho-mqtt.
+"""
+
+import argparse
+import json
+import os
+import queue
+import re
+import shutil
+import signal
+import sys
+import tempfile
+import threading
+import time
+from pathlib import Path
+
+from live_network import PORT, Mosquitto, Network
+from live_parts import Spent, children_of, load, memory_line, times_text
+
+HERE = Path(__file__).resolve().parent
+PREFIX, CHILDREN = "market", 256
+# The seconds after which a part that does not answer has failed, and those within which a market has to come to rest.
+PATIENCE, REST = 300, 300
+# A broker whose limits are not those of one device: the connection of the simulation has thousands.
+LINES = ("sys_interval 1", "max_inflight_messages 0", "max_queued_messages 0", "set_tcp_nodelay true")
+COUNTS = "$SYS/broker/messages/"
+
+
+class Failed(Exception):
+    """The measurement cannot go on, or the market is wrong."""
+
+
+class Part:
+    """A process in a namespace, told by lines and answering by lines."""
+
+    def __init__(self, network, name, command, log):
+        self.name = name
+        environment = {**os.environ, "PYTHONPATH": str(HERE.parent / "python"), "PYTHONDONTWRITEBYTECODE": "1"}
+        self.process = network.start(
+            name, command, stdin=-1, stdout=-1, stderr=log, text=True, bufsize=1, env=environment
+        )
+        self._lines = queue.SimpleQueue()
+        threading.Thread(target=self._read, daemon=True).start()
+
+    def _read(self):
+        for line in self.process.stdout:
+            self._lines.put(line)
+        self._lines.put(None)
+
+    def tell(self, line):
+        """Writes a line."""
+        try:
+            self.process.stdin.write(line + "\n")
+        except OSError:
+            raise Failed(f"{self.name} has ended") from None
+
+    def answer(self):
+        """The next line that it writes."""
+        try:
+            line = self._lines.get(timeout=PATIENCE)
+        except queue.Empty:
+            raise Failed(f"{self.name} has not answered for {PATIENCE} s") from None
+        if line is None:
+            raise Failed(f"{self.name} has ended")
+        return line
+
+
+class Looker:
+    """How many packets the broker counts, and the index of the last clearing: the newest payload of each topic."""
+
+    def __init__(self, network, address):
+        network.add("looker")
+        words = ["mosquitto_sub", "-h", address, "-p", str(PORT), "-F", "%t %x"]
+        topics = [f"{COUNTS}received", f"{COUNTS}sent", f"{PREFIX}/auctioneer/resume"]
+        process = network.start("looker", [*words, *(it for topic in topics for it in ("-t", topic))], stdout=-1, text=True)
+        self.newest = {}
+        threading.Thread(target=self._read, args=(process.stdout,), daemon=True).start()
+
+    def _read(self, lines):
+        for line in lines:
+            topic, _, payload = line.strip().partition(" ")
+            self.newest[topic] = bytes.fromhex(payload)
+
+    def counts(self):
+        """How many packets of MQTT the broker has taken and given, confirmations among them."""
+        return [int(self.newest.get(COUNTS + it, b"0")) for it in ("received", "sent")]
+
+    def clearing(self):
+        """The index of the last clearing, by the auctioneer's Resume."""
+        return int.from_bytes(self.newest.get(f"{PREFIX}/auctioneer/resume", bytes(5))[1:5], "big")
+
+
+def tables_of(arguments, state, address, sort, name, parent=None, child=None):
+    """The settings of a node, as the tables of a file."""
+    place = {} if parent is None else {"parent": parent, "child": child}
+    node = {"name": name, "state": str(state / name), "live": arguments.live, "pause": arguments.pause, **place}
+    basis = {"min": 0, "max": arguments.steps - 1, "steps": arguments.steps}
+    return {"sort": sort, "node": node, "basis": basis, "broker": {"host": address, "port": PORT, "prefix": PREFIX}}
+
+
+def pieces(items, size):
+    """Items in lists of at most so many."""
+    return [items[at : at + size] for at in range(0, len(items), size)]
+
+
+class Market:
+    """All parts of a market with R relays below the auctioneer."""
+
+    def __init__(self, arguments, relays, network, folder, log):
+        self.arguments, self._network, self._log = arguments, network, log
+        self.broker = Mosquitto(network, folder / "broker", *LINES).start()
+        self.looker = Looker(network, self.broker.address)
+        above = [f"relay{it}" for it in range(1, relays + 1)]
+        self.lowest = [f"{name}-{it}" for name in above for it in range(1, relays + 1)]
+        make = lambda *words: tables_of(arguments, folder / "state", self.broker.address, *words)  # noqa: E731
+        settings = [make("relay", name, "auctioneer", it) for it, name in enumerate(above, 1)]
+        settings += [make("relay", name, name.split("-")[0], int(name.split("-")[1])) for name in self.lowest]
+        told = [] if arguments.broker_alone else [[make("auctioneer", "auctioneer")], *pieces(settings, arguments.nodes)]
+        self.nodes = [self._started(f"nodes{it}", ["live_nodes.py"]) for it in range(len(told))]
+        for part, tables in zip(self.nodes, told, strict=True):
+            part.tell(json.dumps(tables))
+        for it in self.nodes:
+            it.answer()
+        batches = pieces(self.lowest, max(1, arguments.devices // CHILDREN))
+        broker = {"host": self.broker.address, "port": PORT, "prefix": PREFIX, "steps": arguments.steps, "children": CHILDREN}
+        self.devices = [
+            self._started(f"devices{it}", ["live_devices.py", json.dumps({**broker, "relays": them, "seed": it})])
+            for it, them in enumerate(batches)
+        ]
+
+    def _started(self, name, words):
+        self._network.add(name)
+        return Part(self._network, name, [sys.executable, "-B", str(HERE / words[0]), *words[1:]], self._log)
+
+    def parts(self):
+        """The numbers of the processes by part."""
+        nodes = [it.process.pid for it in self.nodes]
+        return {
+            "broker": [self.broker.process.pid],
+            "nodes": nodes,
+            "live": [it for number in nodes for it in children_of(number)],
+            "simulation": [it.process.pid for it in self.devices],
+        }
+
+    def asked(self, parts, line):
+        """The answers of some parts to a line."""
+        for it in parts:
+            it.tell(line)
+        return [json.loads(it.answer()) for it in parts]
+
+    def rate(self, word, rate):
+        """Lets the devices bid, so many bids a second in all."""
+        for it in self.devices:
+            it.tell(f"{word} {rate if rate <= 0 else rate / len(self.devices)}")
+
+    def phase(self, name, rate, seconds):
+        """Lets bids flow for so many seconds, and prints what came."""
+        self.asked(self.devices, "figures")
+        heard = sum(it["heard"] for it in self.asked(self.nodes, "figures"))
+        counts, clearing = self.looker.counts(), self.looker.clearing()
+        spent, began = Spent(self.parts()), time.monotonic()
+        self.rate("rate", rate)
+        time.sleep(seconds)
+        processors = spent.since(time.monotonic() - began)
+        took = time.monotonic() - began
+        clearings = self.looker.clearing() - clearing
+        came, gone = (after - before for before, after in zip(counts, self.looker.counts(), strict=True))
+        heard = sum(it["heard"] for it in self.asked(self.nodes, "figures")) - heard
+        told = self.asked(self.devices, "figures")
+        bids, confirmed, prices = (sum(it[word] for it in told) for word in ("bids", "confirmed", "prices"))
+        waited = [it for one in told for it in one["waited"]]
+        print(f"  {name}, {took:.0f} s, {load()}")
+        print(f"    bids a second: made {bids / took:.1f}, confirmed by the broker {confirmed / took:.1f}, "
+              f"given to services {heard / took:.1f}")
+        print(f"    clearings {clearings}; a second: prices to devices {prices / took:.1f}, "
+              f"packets to the broker {came / took:.0f}, from it {gone / took:.0f}")
+        print(f"    from a bid to its setpoint, {len(waited):,} bids: {times_text(waited)}")
+        print(f"    processors: {processors}", flush=True)
+
+    def require_nodes(self):
+        """Raises Failed if a node has ended."""
+        for it in self.asked(self.nodes, "figures"):
+            for name, why in it["ended"].items():
+                raise Failed(f"the node {name} has ended: {why}")
+
+    def rests(self):
+        """Waits until each device has the newest price for its newest bid. Gives what the devices hold then, and the seconds."""
+        began, quiet = time.monotonic(), 0
+        while True:
+            told = self.asked(self.devices, "state")
+            wrong = self.wrong(told)
+            quiet = 0 if wrong else quiet + 1
+            if quiet == 3 or time.monotonic() > began + self.arguments.rest:
+                return wrong, told, time.monotonic() - began
+            self.require_nodes()
+            time.sleep(1)
+
+    def wrong(self, told):
+        """What is wrong with what the devices hold, a line each."""
+        steps, last = self.arguments.steps, self.looker.clearing()
+        sums = [sum(it["sums"][step] for it in told) for step in range(steps)]
+        due = next((step for step, it in enumerate(sums) if it <= 0), steps - 1)
+        found, held = [], {}
+        for it in told:
+            for key, count in it["held"].items():
+                held[key] = held.get(key, 0) + count
+            found += [f"{name} has no price for its newest bid" for name in it["old"]]
+            if it["bids"] < it["devices"]:
+                found.append(f"{it['devices'] - it['bids']} devices have not bid")
+            if it["behind"] or it["foreign"]:
+                found.append(f"{it['behind']} prices went back, and {it['foreign']} were for no bid")
+        found += [f"{count} devices have the clearing and the step {key}, and {last} {due} is due" for key, count in held.items()
+                  if key != f"{last} {due}"]
+        return found
+
+    def memory(self):
+        """Prints the memory of each part."""
+        parts, services = self.parts(), [it for one in self.nodes[1:] for it in children_of(one.process.pid)]
+        print("  resident memory:")
+        print(memory_line("mosquitto", parts["broker"]))
+        if self.nodes:
+            print(memory_line("live auctioneer", children_of(self.nodes[0].process.pid)))
+            print(memory_line("live relay", services))
+            print(memory_line("Python of the auctioneer's node", parts["nodes"][:1]))
+            print(memory_line(f"Python of at most {self.arguments.nodes} relays", parts["nodes"][1:]))
+        print(memory_line(f"simulation of at most {self.arguments.devices} devices", parts["simulation"]), flush=True)
+
+
+def measured(arguments, relays, folder, log):
+    """Brings up a market of this size, measures it, and takes it down. Gives whether all was right."""
+    with Network() as network:
+        began = time.monotonic()
+        market = Market(arguments, relays, network, folder, log)
+        count = CHILDREN * len(market.lowest)
+        print(f"R = {relays}: {1 + relays + len(market.lowest)} nodes in {len(market.nodes)} processes, {count:,} devices in "
+              f"{len(market.devices)}, {arguments.steps} steps, pause {arguments.pause} s; "
+              f"up after {time.monotonic() - began:.0f} s", flush=True)
+        if arguments.broker_alone:
+            return broker_alone(market, arguments, network)
+        market.rate("first", min(count, arguments.first))
+        wrong, _, seconds = market.rests()
+        if wrong:
+            raise Failed("\n".join([f"the first bids have no price after {seconds:.0f} s:", *wrong[:20]]))
+        print(f"  {market.looker.clearing()} clearings and {seconds:.0f} s until the first bids of all devices have a price")
+        market.phase("at rest", 0, arguments.seconds)
+        market.phase(f"low rate, {arguments.low} bids a second", arguments.low, arguments.seconds)
+        market.phase("as fast as it goes" if arguments.high < 0 else f"high rate, {arguments.high} bids a second",
+                     arguments.high, arguments.seconds)
+        market.rate("rate", 0)
+        wrong, told, seconds = market.rests()
+        market.memory()
+        power, clearing = sum(it["power"] for it in told), market.looker.clearing()
+        print(f"  in the end: {len(wrong)} wrong of {count:,} devices after {seconds:.0f} s; clearing {clearing}, "
+              f"all setpoints together {power:,} W", flush=True)
+        for line in wrong[:20]:
+            print(f"    {line}")
+        return not wrong
+
+
+def print_said(lines):
+    """Prints what the nodes have said, each kind of line once: those that differ in numbers alone are of one kind."""
+    kinds = {}
+    for line in lines:
+        kinds.setdefault(re.sub(r"[0-9]+", "N", re.sub(r"relay[0-9-]+", "R", line)), []).append(line)
+    print(f"  the nodes have said {len(lines)} lines{', as:' if lines else ''}")
+    for them in sorted(kinds.values(), key=len, reverse=True)[:20]:
+        print(f"    {len(them)} times: {them[0]}")
+
+
+def broker_alone(market, arguments, network):
+    """Measures devices and broker without nodes: what the nodes' part is."""
+    told = {"min": 0, "max": arguments.steps - 1, "steps": arguments.steps, "session": "0" * 16, "begun": "2026-01-01T00:00:00Z"}
+    basis = json.dumps(told)
+    words = ["mosquitto_pub", "-h", market.broker.address, "-p", str(PORT), "-r", "-q", "1", "-t", f"{PREFIX}/basis", "-m", basis]
+    network.start("looker", words).wait()
+    time.sleep(1)
+    market.phase("devices and broker alone, as fast as it goes", -1, arguments.seconds)
+    return True
+
+
+def words():
+    parser = argparse.ArgumentParser(description=__doc__.splitlines()[0])
+    parser.add_argument("--relays", type=int, nargs="+", default=[1, 4, 16], metavar="R", help="the sizes, each 1 to 16")
+    parser.add_argument("--steps", type=int, default=20, help="steps of the basis")
+    parser.add_argument("--low", type=float, default=5, help="the low rate, bids a second of all devices together")
+    parser.add_argument("--high", type=float, default=500, help="the high rate; -1 is as fast as it goes")
+    parser.add_argument("--first", type=float, default=2_000, help="the rate of the first bids")
+    parser.add_argument("--seconds", type=float, default=30, help="how long each phase takes")
+    parser.add_argument("--pause", type=float, default=1.0, help="the pause of each node in seconds")
+    parser.add_argument("--rest", type=float, default=REST, help="the seconds within which the market has to come to rest")
+    parser.add_argument("--nodes", type=int, default=16, help="the most nodes in a process of Python")
+    parser.add_argument("--devices", type=int, default=8_192, help="the most devices in a process")
+    parser.add_argument("--folder", default="/dev/shm", help="where the nodes keep their Resumes; /dev/shm is memory")
+    parser.add_argument("--live", default=os.environ.get("COGMAULA_LIVE", "live"), help="the program live")
+    parser.add_argument("--broker-alone", action="store_true", help="leave the nodes out, and measure devices and broker")
+    return parser.parse_args()
+
+
+def main():
+    arguments = words()
+    signal.signal(signal.SIGTERM, lambda *_: sys.exit(1))
+    statuses = []
+    print(f"{os.cpu_count()} processors, {load()}, Resumes in {arguments.folder}", flush=True)
+    for relays in arguments.relays:
+        folder = Path(tempfile.mkdtemp(prefix="live_scale.", dir=arguments.folder))
+        try:
+            with open(folder / "log", "wb") as log:
+                statuses.append(0 if measured(arguments, relays, folder, log) else 1)
+        except (Failed, OSError) as error:
+            print(error)
+            statuses.append(1)
+        print_said((folder / "log").read_text(errors="replace").splitlines())
+        shutil.rmtree(folder)
+    return max(statuses)
+
+
+if __name__ == "__main__":
+    sys.exit(main())
