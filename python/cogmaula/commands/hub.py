@@ -34,6 +34,7 @@ _OPTIONS: list[tuple[str, type, str, str]] = [
     ("gone", float, "SECONDS", "an agent that is disconnected for so long leaves the market; default 60"),
     ("period", float, "SECONDS", "clears by the clock; without it after news"),
     ("pause", float, "SECONDS", "after news, not faster than this; default 1"),
+    ("record", str, "FOLDER", "records all frames of all nodes there, for cogmaula judge"),
 ]
 _ADDRESSES = [
     ("listen", "an address for WebSocket; may be given again"),
@@ -53,7 +54,7 @@ def _option(member: str) -> str:
 
 def add_arguments(parser: argparse.ArgumentParser) -> None:
     """Adds the arguments of hub."""
-    parser.add_argument("--config", metavar="FILE", required=True, help="a TOML file with the tables [hub] and [basis]")
+    parser.add_argument("--config", metavar="FILE", required=True, help="a TOML file with the tables [hub], [basis] and [page]")
     told = "draws a token for an agent of this child number, prints it once, writes its line to the file of tokens, and ends"
     parser.add_argument("--new-token", nargs=2, metavar=("AGENT", "CHILD"), help=told)
     for member, kind, word, what in _OPTIONS:

@@ -6,7 +6,8 @@ import asyncio
 from collections.abc import Callable
 
 from ..live.broker import Message
-from ..live.errors import BadMessage, BadSettings, LiveError
+from ..live.errors import BadMessage, BadSettings, LiveError, NodeRefused
+from ..live.frames import RESUMES, AuctioneerResume, frame_of
 from ..live.node import Node
 from ..live.sessions import Session
 from .agent import Agent
@@ -159,6 +160,7 @@ class Agents:
             settings = self._settings.of_agent(agent.name, agent.child)
             place = Place(agent.child, self._session.id)
             if self._places.get(agent.name) != place:
+                self._require_unused(agent)
                 keep_place(self._settings.folder_of_agents / agent.name, place)
                 self._places[agent.name] = place
             node = Node(settings, agent, lambda text: self._say(f"{agent.name}: {text}"), self._exchange.link, TICK)
@@ -166,6 +168,18 @@ class Agents:
             self._say(f"{agent.name}: {error}")
             return
         agent.running = Running(node, lambda running: self._loop.call_soon_threadsafe(self._ended, agent, running))
+
+    def _require_unused(self, agent: Agent) -> None:
+        """Raises NodeRefused if somebody has bid under the number of an agent whose folder has nothing of this session."""
+        message = self._exchange.message(self._settings.topics.of(self._settings.name, "resume"))
+        if message is None:
+            return
+        resume = frame_of(message.payload, RESUMES["auctioneer"], self._settings.basis.steps)
+        if isinstance(resume, AuctioneerResume) and resume.numbers[agent.child - 1]:
+            raise NodeRefused(
+                f"child {agent.child} has bid in this session, and {self._settings.folder_of_agents / agent.name} has no Resume "
+                "of it: bring the folder back, give another child number, or begin a new session by --new-session"
+            )
 
     def _ended(self, agent: Agent, running: Running) -> None:
         if running.error is not None:

@@ -22,6 +22,7 @@ from .exchange import Exchange
 from .running import Running
 from .server import Server
 from .settings import Address, HubSettings
+from .showing import Showing
 from .words import error_line, welcome
 
 # The seconds between looks at the files of tokens and of the certificate, and those in which connections have to end.
@@ -42,6 +43,7 @@ class Hub:
         self.exchange = Exchange()
         self._say = say or self._say_at_standard_error
         self._server = Server(settings, self._serve, self._say)
+        self.showing = Showing(settings.page, settings.topics.prefix, self.exchange, self._say)
         self._connections: dict[Connection, asyncio.Task[Any] | None] = {}
         self._loop: asyncio.AbstractEventLoop | None = None
         self._stopping: asyncio.Event | None = None
@@ -88,6 +90,7 @@ class Hub:
         stopping = self._stopping = asyncio.Event()
         if self._is_stopped:
             return
+        self.showing.start()
         node = Node(self.settings.of_auctioneer(), None, self._say, self.exchange.link)
         auctioneer = self._auctioneer = Running(node, lambda _: loop.call_soon_threadsafe(stopping.set))
         try:
@@ -136,6 +139,7 @@ class Hub:
             await asyncio.to_thread(self._agents.stop)
         auctioneer.stop()
         await asyncio.to_thread(auctioneer.join, LAST_SECONDS)
+        await asyncio.to_thread(self.showing.close)
 
     # Connections.
 

@@ -12,11 +12,12 @@ from typing import Any, cast
 
 from ..cluster import Basis
 from ..live.errors import BadSettings
+from ..live.page_settings import PageSettings
 from ..live.settings import LIVE_VARIABLE, Settings, read_toml, value_of
 from ..live.topics import Topics, require_name
 from .words import Cluster
 
-TABLES = ("hub", "basis")
+TABLES = ("hub", "basis", "page")
 _ADDRESS = re.compile(r"(?:\[([0-9A-Fa-f:.]+)\]|([^\[\]:]+)):([0-9]{1,5})")
 
 
@@ -65,6 +66,8 @@ class HubSettings:
     pause:       the least seconds between two clearings after news
     clusterId, commodity, currency: how the market names itself to agents; the first is by default the hub's name
     new_session: whether the market begins a new session
+    record:      the folder of the recordings of all nodes; None records nothing
+    page:        the page of the market, None for no page
     """
 
     state: str
@@ -84,6 +87,8 @@ class HubSettings:
     commodity: str = "electricity"
     currency: str = "EUR"
     new_session: bool = False
+    record: str | None = None
+    page: PageSettings | None = None
     addresses: tuple[Address, ...] = field(init=False)
     addresses_tcp: tuple[Address, ...] = field(init=False)
 
@@ -103,6 +108,8 @@ class HubSettings:
                 )
         if not 0 <= self.gone <= 1e9:
             raise BadSettings(f"hub.gone is {self.gone}: give 0 seconds or more")
+        if self.page is not None and (self.page.whole or self.page.user is not None):
+            raise BadSettings("page.whole and page.user are for a node at a broker: a hub shows its whole market")
         # Those of the nodes are refused here, and not when the first agent comes.
         self.of_auctioneer()
 
@@ -124,25 +131,27 @@ class HubSettings:
     def of_auctioneer(self) -> Settings:
         """The settings of the auctioneer's node."""
         folder = str(Path(self.state) / "auctioneer")
-        times: dict[str, Any] = {"period": self.period, "pause": self.pause, "new_session": self.new_session}
-        return Settings("auctioneer", self.name, folder, self.basis, self.live, **times)
+        more: dict[str, Any] = {"period": self.period, "pause": self.pause, "new_session": self.new_session, "record": self.record}
+        return Settings("auctioneer", self.name, folder, self.basis, self.live, **more)
 
     def of_agent(self, agent: str, child: int) -> Settings:
         """The settings of an agent's node. Raises BadSettings."""
         folder = str(self.folder_of_agents / agent)
-        return Settings("device", require_name(agent, "the agent"), folder, self.basis, self.live, parent=self.name, child=child)
+        more: dict[str, Any] = {"parent": self.name, "child": child, "record": self.record}
+        return Settings("device", require_name(agent, "the agent"), folder, self.basis, self.live, **more)
 
 
 def hub_settings_of(tables: Mapping[str, Mapping[str, Any]]) -> HubSettings:
-    """The settings that the tables `hub` and `basis` tell. Raises BadSettings."""
+    """The settings that the tables `hub`, `basis` and `page` tell. Raises BadSettings."""
     hub = dict(tables.get("hub", {}))
     hub.setdefault("live", os.environ.get(LIVE_VARIABLE) or "live")
     for name in ("listen", "listen_tcp"):
         hub[name] = _texts(hub.get(name, []), f"hub.{name}")
-    if {"basis", "addresses", "addresses_tcp"} & hub.keys():
-        raise BadSettings("hub has a member basis, addresses or addresses_tcp: the basis is a table, and addresses are in listen")
+    if {"basis", "page", "addresses", "addresses_tcp"} & hub.keys():
+        raise BadSettings("hub has a member basis, page, addresses or addresses_tcp: the first two are tables, and addresses are in listen")
     basis = value_of(Basis, tables.get("basis", {}), "basis")
-    return cast(HubSettings, value_of(HubSettings, {**hub, "basis": basis}, "hub"))
+    page = value_of(PageSettings, tables["page"], "page") if "page" in tables else None
+    return cast(HubSettings, value_of(HubSettings, {**hub, "basis": basis, "page": page}, "hub"))
 
 
 def read_hub_toml(path: str | os.PathLike[str]) -> dict[str, dict[str, Any]]:

@@ -282,6 +282,22 @@ def test_an_address_that_is_in_use(hub, live, tmp_path):
     assert str(other.raised) == f"the hub cannot listen at 127.0.0.1:{hub.port}: Address already in use"
 
 
+def test_an_agent_whose_folder_is_lost_does_not_count_anew(live, tmp_path):
+    """Else two bids of one number would be about. Once the folder is back, the market goes on."""
+    with HubInThread(tmp_path, live) as hub:
+        hub.agent("house").bids(CONSTANT, 1)
+        hub.agent("store").bids(falls_at(4, 0, -150), 1).waits_for(step=4)
+    folder = tmp_path / "state" / "agents" / "store"
+    folder.rename(tmp_path / "lost")
+    with HubInThread(tmp_path, live, tokens=hub.tokens) as hub:
+        hub.agent("store").waits_for_error("the node of store does not start").waits_for_end()
+        assert any("store: child 2 has bid in this session" in it for it in hub.said)
+        wait_until(lambda: any("waits for the bids of children 2" in it for it in hub.said), "the auctioneer waits")
+    (tmp_path / "lost").rename(folder)
+    with HubInThread(tmp_path, live, tokens=hub.tokens) as hub:
+        hub.agent("store").bids(falls_at(6, 0, -150), 2).waits_for(step=6, power=-150, bidNumber=2)
+
+
 # A hub in a process of its own.
 
 

@@ -1,0 +1,47 @@
+"""The page of a hub: the whole market, as the hub's exchange has it. docs/LIVE.md says what it shows."""
+
+from __future__ import annotations
+
+from collections.abc import Callable
+
+from ..errors import NoPackage
+from ..live.board import Board
+from ..live.page import Page
+from ..live.page_settings import PageSettings
+from .exchange import Exchange
+
+# The seconds in which the page has to end.
+LAST_SECONDS = 1.0
+
+
+class Showing:
+    """Shows the market of an exchange. No call raises or waits for long: what is wrong with the page is a line."""
+
+    def __init__(self, settings: PageSettings | None, prefix: str, exchange: Exchange, say: Callable[[str], None]) -> None:
+        """Takes the settings, the prefix of the market's topics, the exchange and a call for lines. Without settings there is no page."""
+        self._exchange = exchange
+        self._page: Page | None = None
+        if settings is None:
+            return
+        self._board = Board(lambda text: say(f"page: {text}"))
+        try:
+            self._page = Page(settings, prefix, self._board, lambda text: say(f"page: {text}"))
+        except NoPackage as error:
+            say(f"page: {error}")
+
+    def start(self) -> None:
+        """Serves from now on, if there is a page. To be called before the first message."""
+        if self._page is not None:
+            self._page.start()
+            self._exchange.watch(lambda message: self._board.take([message]))
+            self._board.settled()
+
+    def close(self) -> None:
+        """Ends the page."""
+        if self._page is not None:
+            self._page.close(LAST_SECONDS)
+
+    @property
+    def port(self) -> int:
+        """The port that the page is served at, 0 before that and without a page."""
+        return 0 if self._page is None else self._page.port
