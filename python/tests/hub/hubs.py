@@ -25,6 +25,10 @@ STEPS = 10
 BASIS = Basis(0, STEPS - 1, STEPS)
 CONSTANT = [100] * STEPS
 CHILDREN = {"house": 1, "store": 2, "mill": 3}
+TABLES_OF_PAGE = {
+    "hub": {"state": "state", "agents": "agents", "listen_tcp": ["127.0.0.1:0"], "record": "recorded"},
+    "basis": {"min": 0, "max": 9, "steps": 10},
+}
 
 
 def falls_at(step, before, behind):

@@ -1,0 +1,91 @@
+"""The page of a hub's market, and the recordings of its nodes, with the real `live`. Prices are worked out by hand."""
+
+from __future__ import annotations
+
+import json
+
+import pytest
+from brokers import wait_until
+from hubs import CONSTANT, TABLES_OF_PAGE, HubInThread, falls_at
+from looking import get, require_page
+
+from cogmaula.hub import hub_settings_of
+from cogmaula.judge import judge
+from cogmaula.live import BadSettings
+from cogmaula.live.page_settings import PageSettings
+
+
+def viewed(hub):
+    """The nodes of the hub's page by their names, and the clearing."""
+    told = json.loads(get(hub.hub.showing.port, "/view")[2])
+    return {it["name"]: it for it in told["nodes"]}, told["clearing"]
+
+
+def test_the_page_shows_what_the_agents_are_told(live, tmp_path):
+    """House takes 100 W at each price, and store gives 150 W from price 4 on: the sum is -50 W there, and the price is 4."""
+    require_page()
+    with HubInThread(tmp_path, live, page=PageSettings("127.0.0.1:0")) as hub:
+        house = hub.agent("house").bids(CONSTANT)
+        store = hub.agent("store").bids(falls_at(4, 0, -150))
+        store.waits_for(price=4, power=-150)
+        house.waits_for(price=4, power=100)
+        clearing = store.prices[-1]["clearing"]
+        wait_until(lambda: viewed(hub)[1] == clearing and viewed(hub)[0]["house"]["power"], "the page has the clearing")
+        nodes, _ = viewed(hub)
+        assert {it: nodes[it]["power"]["power"] for it in nodes} == {"hub": -50, "house": 100, "store": -150}
+        assert {it: nodes[it]["price"]["price"] for it in nodes} == {"hub": 4, "house": 4, "store": 4}
+        assert [nodes[it]["parent"] for it in ("house", "store")] == ["hub", "hub"]
+        assert [nodes[it]["child"] for it in ("house", "store")] == [1, 2]
+        port = hub.hub.showing.port
+    with pytest.raises(ConnectionRefusedError):
+        get(port, "/view")
+
+
+def test_a_hub_without_a_page_serves_none(live, tmp_path):
+    with HubInThread(tmp_path, live) as hub:
+        assert hub.hub.showing.port == 0
+
+
+def test_what_the_nodes_of_a_hub_record_is_a_run(live, tmp_path):
+    """Also over a kill of each service. A recording of which a price is changed is none."""
+    folder = tmp_path / "recorded"
+    with HubInThread(tmp_path, live, record=str(folder)) as hub:
+        house, store = hub.agent("house").bids(CONSTANT), hub.agent("store").bids(falls_at(4, 0, -150))
+        for name, agent in (("auctioneer", store), ("house", house)):
+            agent.waits_for(price=4)
+            hub.running(name).node.serving.service.kill()
+        house.bids([200] * 10).waits_for(price=9, power=200)
+    verdict = judge(folder, live)
+    assert (verdict.verdict, verdict.nodes, verdict.unmatched) == ("valid", 3, 0)
+    assert verdict.lives >= 5
+    assert verdict.setpoints >= 3
+    path = next(folder.glob("hub.*.frames"))
+    lines = path.read_text().splitlines(keepends=True)
+    at = next(it for it, line in enumerate(lines) if '"out"' in line and '"frame": "05' in line)
+    step = '0004"}' if lines[at].endswith('0009"}\n') else '0009"}'
+    lines[at] = f"{lines[at][: -len(step) - 1]}{step}\n"
+    path.write_text("".join(lines))
+    fault = judge(folder, live).fault
+    assert fault is not None
+    assert (fault.node, fault.file, fault.line) == ("hub", path.name, at + 1)
+
+
+@pytest.mark.parametrize(
+    ("page", "words"),
+    [
+        ({"whole": True}, "a hub shows its whole market"),
+        ({"whole": True, "user": "operator", "password_file": "password"}, "a hub shows its whole market"),
+        ({"listen": "0.0.0.0:8080"}, "the page has no login"),
+        ({"listen": "nowhere"}, "page.listen"),
+        ({"port": 80}, "page"),
+    ],
+)
+def test_pages_that_a_hub_cannot_have(page, words):
+    with pytest.raises(BadSettings, match=words):
+        hub_settings_of({**TABLES_OF_PAGE, "page": page})
+
+
+def test_the_settings_of_a_page_and_of_recordings():
+    found = hub_settings_of({**TABLES_OF_PAGE, "page": {"listen": "127.0.0.1:8080"}})
+    assert found.page == PageSettings("127.0.0.1:8080")
+    assert (found.of_auctioneer().record, found.of_agent("house", 1).record) == ("recorded", "recorded")
