@@ -86,7 +86,17 @@ class Beginning:
             found = Stored(told.session, told.basis, b"", now_text())
         if found.basis != told.basis:
             raise NodeRefused(f"{self.store.path(told.session)} is of another basis, {found.basis}: bring back that of this market")
+        self._require_limits(found)
         return found
+
+    def _require_limits(self, found: Stored) -> None:
+        """Raises NodeRefused if a relay has bid in this session within other limits: it would send that bid again within its own."""
+        if found.limits is not None and found.limits != self.settings.limits:
+            before, now = (f"{floor} to {ceiling} watts" for floor, ceiling in (found.limits, self.settings.limits or (0, 0)))
+            raise NodeRefused(
+                f"the limits are {now}, and in session {found.session.id} they were {before}: bring them back, or begin a new session at "
+                "the auctioneer"
+            )
 
     def require_basis(self, told: BasisMessage) -> None:
         """Raises NodeRefused if the market's basis is not the node's."""
@@ -156,7 +166,8 @@ class Beginning:
             return stored
         self.say(f"goes on from the broker's Resume with number {resume.last}, which is newer than the one on disk")
         setpoint = self._setpoint(session) if isinstance(resume, DeviceResume) else ""
-        return Stored(session, self.settings.basis, message.payload, message.properties.get(TIME, now_text()), setpoint)
+        time = message.properties.get(TIME, now_text())
+        return Stored(session, self.settings.basis, message.payload, time, setpoint, limits=None if stored is None else stored.limits)
 
     def _setpoint(self, session: Session) -> str:
         """The setpoint of this session that the broker retains, "" without one."""

@@ -262,7 +262,10 @@ class Serving:
         assert self.stored is not None
         setpoint = "" if isinstance(resume, ResumeGone) else self.stored.setpoint
         references = self.offers.references_with(resume) if isinstance(resume, DeviceResume | ResumeGone) else {}
-        self.stored = Stored(self.stored.session, self._settings.basis, resume.to_bytes(), now_text(), setpoint, references)
+        settings = self._settings
+        self.stored = Stored(
+            self.stored.session, settings.basis, resume.to_bytes(), now_text(), setpoint, references, settings.limits
+        )
         self._recording.make_safe()
         self._store.save(self.stored)
         self._recording.stored()

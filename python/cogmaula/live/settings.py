@@ -132,6 +132,11 @@ class Settings:
         if self.record_files is not None and self.record_files < 1:
             raise BadSettings(f"record_files is {self.record_files}: give 1 or more")
 
+    @property
+    def limits(self) -> tuple[int, int] | None:
+        """The floor and the ceiling of a relay in watts, None of another node."""
+        return (self.floor, self.ceiling) if self.sort == "relay" else None
+
     def _require_place(self) -> None:
         if self.sort == "auctioneer":
             if self.parent is not None or self.child is not None:

@@ -2,7 +2,7 @@
 
 A file has a line that says what it is, the SHA-256 of all behind it, a line of JSON, and the bytes of the Resume or ResumeGone.
 The JSON has the node, its sort, the session and the basis that the Resume is of, the time it was stored, the frame's length in
-bytes, and of a device the newest setpoint and the references of its offers.
+bytes, of a device the newest setpoint and the references of its offers, and of a relay its limits.
 """
 
 from __future__ import annotations
@@ -32,6 +32,7 @@ class Stored:
     time:     when it was stored (RFC 3339, UTC)
     setpoint: the newest setpoint of a device as its control was told it, in JSON, "" without one
     references: the control's own number of each offer that a setpoint may still answer, by the offer's number
+    limits:     of a relay, the floor and the ceiling in watts with which its bids were made; None if that was not stored
     """
 
     session: Session
@@ -40,6 +41,7 @@ class Stored:
     time: str
     setpoint: str = ""
     references: Mapping[int, int] = field(default_factory=dict)
+    limits: tuple[int, int] | None = None
 
 
 class Store:
@@ -102,6 +104,7 @@ class Store:
             "length": len(stored.frame),
             "setpoint": stored.setpoint,
             "references": dict(stored.references),
+            "limits": stored.limits,
         }
         behind = json.dumps(told).encode() + b"\n" + stored.frame
         return FIRST_LINE + hashlib.sha256(behind).hexdigest().encode() + b"\n" + behind
@@ -119,10 +122,11 @@ class Store:
             length, node, sort, time, setpoint = (told[it] for it in ("length", "node", "sort", "time", "setpoint"))
             # Files of before have none.
             references = {int(number): int(it) for number, it in told.get("references", {}).items()}
-        except (ValueError, KeyError, TypeError, AttributeError, BadMessage):
+            limits = None if told.get("limits") is None else (int(told["limits"][0]), int(told["limits"][1]))
+        except (ValueError, KeyError, IndexError, TypeError, AttributeError, BadMessage):
             raise damaged from None
         if length != len(frame):
             raise damaged
         if (node, sort) != (self.node, self.sort):
             raise BadStore(f"{path} is of the {sort} {node}, and this is the {self.sort} {self.node}: give another folder")
-        return Stored(session, basis, frame, str(time), str(setpoint), references)
+        return Stored(session, basis, frame, str(time), str(setpoint), references, limits)

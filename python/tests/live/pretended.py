@@ -171,10 +171,10 @@ class Joined:
         return None if found is None else found.frame
 
 
-def saved(folder, sort, name, frame, session=SESSION, basis=BASIS, setpoint=""):
+def saved(folder, sort, name, frame, session=SESSION, basis=BASIS, setpoint="", limits=None):
     """Puts a Resume on a node's disk."""
     store = Store(folder / sort, name, sort)
-    store.save(Stored(session, basis, frame.to_bytes(), MOMENT, setpoint))
+    store.save(Stored(session, basis, frame.to_bytes(), MOMENT, setpoint, limits=limits))
     store.close()
 
 

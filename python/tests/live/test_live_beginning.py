@@ -241,6 +241,36 @@ def test_a_stored_resume_of_another_basis_is_refused(joined, tmp_path):
         one.turned()
 
 
+@pytest.mark.parametrize("limits", [(-1000, 999), (-999, 1000), None])
+def test_a_relay_keeps_its_limits_in_a_session(joined, tmp_path, limits):
+    """Within other limits it would send its last bid again with other demands. A Resume of an earlier version tells no limits."""
+    saved(tmp_path, "relay", "street", RelayResume(2, 1, 1, numbers((1, 1))), limits=limits)
+    one = joined("relay")
+    one.link.comes(BASIS_TOPIC, basis_payload())
+    one.link.settles()
+    if limits is None:
+        one.turned()
+        assert (one.node.session, one.node.serving.last) == (SESSION, 2)
+        return
+    with pytest.raises(NodeRefused, match=rf"-1000 to 1000 watts, .* {limits[0]} to {limits[1]} watts: bring them back"):
+        one.turned()
+
+
+def test_a_relay_may_change_its_limits_in_a_later_session(joined, tmp_path):
+    saved(tmp_path, "relay", "street", RelayResume(2, 1, 1, numbers((1, 1))), limits=(-1000, 999))
+    one = joined("relay")
+    one.link.comes(BASIS_TOPIC, basis_payload(LATER))
+    one.link.settles()
+    one.turned()
+    assert (one.node.session, one.node.serving.last) == (LATER, 0)
+
+
+def test_a_relay_stores_its_limits_with_its_resume(joined):
+    one = joined("relay", floor=-7).begun(("market/street/bid/1", bid(1, 1, *OFFER).to_bytes()))
+    one.writes(RelayResume(1, 0, 0, numbers((1, 1))))
+    assert one.node._store.load(SESSION).limits == (-7, 1000)
+
+
 def test_a_stored_frame_that_is_no_resume_is_refused(joined, tmp_path):
     saved(tmp_path, "device", "house", bid(2, 1, *OFFER))
     one = joined("device")
