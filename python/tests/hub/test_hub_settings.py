@@ -83,7 +83,7 @@ def test_no_address(text):
         ({"pause": 0}, "pause is 0"),
         ({"name": "a/b"}, "name is 'a/b'"),
         ({"agent": "x"}, "hub.agent is not known"),
-        ({"basis": 1}, "the basis is a table"),
+        ({"basis": 1}, "the first two are tables"),
         ({"state": 5}, "hub.state is 5: give a text"),
     ],
 )
@@ -105,12 +105,12 @@ def test_another_address_needs_tls_or_a_word():
     assert hub_settings_of(with_hub(**open_address, certificate="hub.crt", key="hub.key")).certificate == "hub.crt"
 
 
-def test_a_file_has_two_tables(tmp_path):
+def test_a_file_has_the_tables_of_a_hub(tmp_path):
     path = tmp_path / "hub.toml"
     path.write_text(TEXT.format(tmp_path))
     assert hub_settings_of(read_hub_toml(path)).state == f"{tmp_path}/state"
     path.write_text("[broker]\nhost = 'x'\n")
-    with pytest.raises(BadSettings, match=r"broker is not known there: a file has the tables \[hub\] and \[basis\]"):
+    with pytest.raises(BadSettings, match=r"broker is not known there: a file has the tables \[hub\], \[basis\] and \[page\]"):
         read_hub_toml(path)
 
 
