@@ -91,8 +91,12 @@ class DrawnMarket:
             self.handle(name)
 
     def kill(self, name):
-        """A node stops, and starts with its newest Resume, or with an older one that differs in the price alone."""
+        """A node stops, maybe before it has done all, and starts with its newest Resume, or an older one of another price alone."""
         node = self.nodes[name]
+        if self.random.random() < 0.5:
+            self.asks(name)
+        for _ in range(self.random.randint(0, 3)):
+            self.handle(name)
         newest = self.random.choice([node.stored] if node.waits is None else [node.stored, node.waits])
         self.start(name, self.random.choice([it for it in node.resumes if exact(it)[0] == exact(newest)[0]]))
 

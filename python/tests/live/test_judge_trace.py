@@ -268,6 +268,38 @@ def test_the_proved_program_takes_drawn_markets(program):
         drawn_into(places, seed, 150, program)
 
 
+@pytest.mark.parametrize("is_stored", [False, True])
+def test_an_offer_whose_service_stops_before_it_is_sent(tmp_path, is_stored):
+    """If its Resume was stored, though no line says so, it is a change. Else the next offer has its number."""
+    market = DrawnMarket(nodes_of(("a", "device", "auctioneer")), 0)
+    first, second = (300, 100, 0, -200), (200, 0, 0, 0)
+    market.feed("a", Offer(first).to_bytes())
+    market.handle("a")
+    resume = market.nodes["a"].waits
+    market.start("a", resume if is_stored else b"")
+    market.feed("a", Offer(second).to_bytes())
+    market.handle_all("a")
+    following = followed(market, tmp_path / "recordings")
+    demands = [following.script.devices["a"].start, *(it.demand for it in following.script.events[1:])]
+    assert demands == ([first, second] if is_stored else [second])
+    require_trace(following, Plain())
+
+
+def test_a_bid_whose_relay_stops_before_it_is_sent(tmp_path):
+    """It is published, and nobody takes it: its number is stored, and the next bid has the next one."""
+    market = DrawnMarket(nodes_of(("r", "relay", "auctioneer"), ("a", "device", "r")), 0)
+    for it in ((300, 100, 0, -200), (200, 0, 0, 0)):
+        market.feed("a", Offer(it).to_bytes())
+        market.handle_all("a")
+        market.feed("r", market.nodes["a"].sent[-1])
+        market.feed("r", Send().to_bytes())
+        market.handle("r")
+        market.start("r", market.nodes["r"].waits)
+    following = followed(market, tmp_path / "recordings")
+    assert [it for it in following.journal.lines if it.startswith("publish ")] == ["publish r 1", "publish r 2"]
+    require_trace(following, Plain())
+
+
 # What has no cluster file.
 
 
