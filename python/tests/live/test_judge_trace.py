@@ -12,6 +12,7 @@ from collections import Counter
 from pathlib import Path
 
 import pytest
+from brokers import live_program
 from conftest import CONSTANT
 from hypothesis import given, settings
 from hypothesis import strategies as some
@@ -56,8 +57,6 @@ def judges(request):
 @pytest.fixture(scope="module")
 def long(tmp_path_factory):
     """The recordings of a market whose relay has limits and is killed, and loses prices, and whose mill leaves and comes back."""
-    from brokers import live_program
-
     post = Losing()
     market = RecordedMarket(tmp_path_factory.mktemp("long"), live_program(), post=post)
     limits = {"floor": -100, "ceiling": 150}
