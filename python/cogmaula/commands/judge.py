@@ -10,11 +10,11 @@ import sys
 from .. import cli
 from ..live.settings import LIVE_VARIABLE
 
-CALLS_PROGRAM = False
 HELP = "judges the recordings of the nodes of a market across machines"
 MORE = (
     "FOLDER has the recordings of all nodes, which [node] record makes. It prints `valid` with what was judged, `incomplete` with"
-    " what was not recorded, or `invalid` with the first line that is wrong. The exit status is 0, 1 or 5. docs/JUDGE.md says"
+    " what was not recorded, or `invalid` with the first line that is wrong. The exit status is 0, 1 or 5. With --trace it makes"
+    " of valid recordings a cluster file and a trace, which market check has to take; else the status is 1. docs/JUDGE.md says"
     " what a verdict shows."
 )
 
@@ -24,12 +24,20 @@ def add_arguments(parser: argparse.ArgumentParser) -> None:
     parser.add_argument("folder", metavar="FOLDER", help="the folder of the recordings")
     parser.add_argument("--json", action="store_true", help="writes an object of JSON")
     parser.add_argument("--live", metavar="PROGRAM", help=f"the program live; else ${LIVE_VARIABLE}, or live on the PATH")
+    parser.add_argument("--trace", metavar="PREFIX", help="writes PREFIX.json and PREFIX.trace if the recordings are valid")
 
 
 def main(arguments: argparse.Namespace) -> int:
     """Judges the folder."""
-    from ..judge import judge
+    from ..judge import judge, judge_and_trace
 
-    verdict = judge(arguments.folder, arguments.live or os.environ.get(LIVE_VARIABLE) or "live")
-    sys.stdout.write(json.dumps(verdict.members()) + "\n" if arguments.json else verdict.text())
+    live = arguments.live or os.environ.get(LIVE_VARIABLE) or "live"
+    traced = None
+    if arguments.trace is None:
+        verdict = judge(arguments.folder, live)
+    else:
+        verdict, traced = judge_and_trace(arguments.folder, arguments.trace, live, cli.program_of(arguments))
+    members = verdict.members() | ({} if arguments.trace is None else {"trace": None if traced is None else traced.members()})
+    text = verdict.text() + ("" if traced is None else traced.text())
+    sys.stdout.write(json.dumps(members) + "\n" if arguments.json else text)
     return {"valid": 0, "incomplete": cli.FAILED}.get(verdict.verdict, cli.REFUSED)

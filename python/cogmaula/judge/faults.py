@@ -33,3 +33,7 @@ class Faulty(LiveError):
 
 class NoRecording(LiveError):
     """There is nothing to judge: no folder, or no recording in it. The message says which."""
+
+
+class NoTrace(LiveError):
+    """No trace of a cluster file can be made of recordings that are valid. The message says which rule is in the way."""

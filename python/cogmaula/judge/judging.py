@@ -3,20 +3,24 @@
 from __future__ import annotations
 
 import os
+from collections.abc import Callable
 
 from .faults import Faulty
 from .market import Market, markets_of
-from .merging import Merge
+from .merging import Merge, Visit
 from .reading import recordings_in
 from .replay import Counts, replayed
 from .verdict import Verdict
 
 
-def judge(folder: str | os.PathLike[str], live: str = "live") -> Verdict:
+def judge(
+    folder: str | os.PathLike[str], live: str = "live", follow: Callable[[Market], Visit | None] | None = None
+) -> Verdict:
     """Decides whether the recordings of a folder are those of a run of the network. docs/JUDGE.md says what that shows.
 
     folder: has the recordings of all nodes of a market, over any number of sessions
     live:   the proved program `live`, which runs each service again
+    follow: gives for each session what is called with its lines, in an order in which each frame is sent before it is taken
 
     Raises NoRecording if there is nothing to judge, LiveError if the program cannot be run, and OSError.
     """
@@ -25,7 +29,7 @@ def judge(folder: str | os.PathLike[str], live: str = "live") -> Verdict:
         markets = markets_of(recordings)
         merges, counts = [], []
         for market in markets:
-            done, merge = _judged(market, live)
+            done, merge = _judged(market, live, follow(market) if follow is not None else None)
             counts += done
             merges.append(merge)
     except Faulty as error:
@@ -46,7 +50,7 @@ def judge(folder: str | os.PathLike[str], live: str = "live") -> Verdict:
     )
 
 
-def _judged(market: Market, live: str) -> tuple[list[Counts], Merge]:
+def _judged(market: Market, live: str, visit: Visit | None) -> tuple[list[Counts], Merge]:
     """Judges one session. What is wrong within a node's recording is told only if the node comes so far in the order of all."""
     counts, faulty = [], {}
     for name, one in market.nodes.items():
@@ -55,6 +59,6 @@ def _judged(market: Market, live: str) -> tuple[list[Counts], Merge]:
         except Faulty as error:
             # Without what was open where it was raised.
             faulty[name] = error.with_traceback(None)
-    merge = Merge(market, faulty)
+    merge = Merge(market, faulty, visit)
     merge.run()
     return counts, merge

@@ -2,13 +2,15 @@
 
 A frame that a node took from its parent or its child has to be among those that this node sent before, byte for byte. It may come
 any number of times, late, in any order, or never. The order keeps that of each node; times count for nothing.
+
+Whoever wants the order gives a `Visit`, which is called with each line in it.
 """
 
 from __future__ import annotations
 
 import hashlib
 from collections import deque
-from collections.abc import Generator, Mapping
+from collections.abc import Callable, Generator, Mapping
 from dataclasses import dataclass, field
 
 from ..live.frames import Bid, Gone, Old, Price
@@ -21,6 +23,8 @@ from .words import words_of_bytes
 # What a node takes from a child, and from its parent.
 FROM_CHILD, FROM_PARENT = {Bid.KIND, Gone.KIND}, {Price.KIND, Old.KIND}
 LONGEST_KEY = 32
+# A call with a node and its next line, in the order that was found.
+Visit = Callable[[str, Event], None]
 
 
 def _key(data: bytes) -> bytes:
@@ -41,9 +45,13 @@ class _Walk:
 class Merge:
     """The search for an order in one market."""
 
-    def __init__(self, market: Market, faulty: Mapping[str, Faulty]) -> None:
-        """Takes the market, and of nodes what is wrong within their own recordings: there they stop."""
+    def __init__(self, market: Market, faulty: Mapping[str, Faulty], visit: Visit | None = None) -> None:
+        """Takes the market, and of nodes what is wrong within their own recordings: there they stop.
+
+        visit: is called with each line in the order that is found
+        """
         self._market = market
+        self._visit = visit
         self._faulty = dict(faulty)
         self._walks = {name: _Walk(one, one.events()) for name, one in market.nodes.items()}
         self._waiting: dict[tuple[str, bytes], list[str]] = {}
@@ -92,6 +100,8 @@ class Merge:
                 break
             elif event.what == IN:
                 self._count(name, event)
+            if self._visit is not None:
+                self._visit(name, event)
             self._read(name)
         return woken
 

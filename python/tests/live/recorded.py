@@ -62,15 +62,15 @@ class PostLink(PretendedLink):
 
 
 class RecordedMarket:
-    """The nodes of `markets.PLACES`, worked by the test's one thread. Their recordings are in `recordings`."""
+    """Nodes at their places, worked by the test's one thread. Their recordings are in `recordings`."""
 
-    def __init__(self, folder, live):
-        self.folder, self.live, self.recordings = folder, live, folder / "recordings"
-        self.post, self.nodes, self.controls, self.said = Post(), {}, {}, []
+    def __init__(self, folder, live, places=PLACES, post=None):
+        self.folder, self.live, self.places, self.recordings = folder, live, places, folder / "recordings"
+        self.post, self.nodes, self.controls, self.said = post or Post(), {}, {}, []
 
     def start(self, *names, **more):
         for name in names:
-            sort, parent, child = PLACES[name]
+            sort, parent, child = self.places[name]
             told = {"sort": sort, "name": name, "state": str(self.folder / name), "basis": BASIS, "live": self.live, "pause": 0.01}
             settings = Settings(**{**told, "parent": parent, "child": child, "record": str(self.recordings), **more})
             control = self.controls[name] = Control() if sort == "device" else None

@@ -1,0 +1,432 @@
+"""Recordings as a cluster file and a trace: over kills, losses, limits and levels `market check` takes it, and no changed one.
+
+Each trace is judged by the plain judge of checks/oracle, which was written apart from the program, and by the proved program.
+Without one the second half is skipped.
+"""
+
+from __future__ import annotations
+
+import json
+import tempfile
+from collections import Counter
+from pathlib import Path
+
+import pytest
+from brokers import live_program
+from conftest import CONSTANT
+from hypothesis import given, settings
+from hypothesis import strategies as some
+from markets import STEPS, falls_at
+from modelled import BASIS as DRAWN_BASIS
+from modelled import DrawnMarket, nodes_of
+from recorded import Lines, Post, RecordedMarket
+
+from checks.oracle.judge import answer, plan_of
+from cogmaula import Cluster, Invalid, Program, check
+from cogmaula.calls import envelope
+from cogmaula.cli import main
+from cogmaula.commands import judge as command
+from cogmaula.judge import NoTrace, judge_and_trace
+from cogmaula.judge.cluster_file import cluster_of
+from cogmaula.judge.following import EVENTS, Following
+from cogmaula.judge.market import markets_of
+from cogmaula.judge.merging import Merge
+from cogmaula.judge.reading import recordings_in
+from cogmaula.judge.tracing import trace_of
+from cogmaula.live.frames import MOST, Leave, Offer, Send
+
+
+class Plain:
+    """Answers `run` and `check` as the program does, by the plain auction and the plain judge."""
+
+    def answer(self, command, data, timeout=None):
+        if command == "run":
+            return b"".join(it + b"\n" for it in plan_of(data).report)
+        status, line = answer(data)
+        if status == 1:
+            raise Invalid(int(line.split()[2]))
+        return line.encode()
+
+
+@pytest.fixture(params=["plain", "proved"])
+def judges(request):
+    """What judges a trace."""
+    return Plain() if request.param == "plain" else request.getfixturevalue("program")
+
+
+@pytest.fixture(scope="module")
+def long(tmp_path_factory):
+    """The recordings of a market whose relay has limits and is killed, and loses prices, and whose mill leaves and comes back."""
+    post = Losing()
+    market = RecordedMarket(tmp_path_factory.mktemp("long"), live_program(), post=post)
+    limits = {"floor": -100, "ceiling": 150}
+    try:
+        market.start("auctioneer", "mill", "house", "store").start("street", **limits)
+        market.offers(house=falls_at(4, 400, 100), store=falls_at(5, 0, -60), mill=CONSTANT)
+        market.settles_at(9, mill=100, house=100)
+        # The price is the least one for the mill, and a higher one below the street, which takes at most 150 W.
+        market.offers(mill=[-200] * STEPS)
+        market.settles_at(0, mill=-200)
+        market.settles_at(4, house=100)
+        market.leaves("mill")
+        market.offers(mill=falls_at(2, 60, -60))
+        market.settles_at(5, house=100, store=-60)
+        post.loses = "market/auctioneer/price/1"
+        for step in (6, 8, 7):
+            market.offers(mill=falls_at(step, 60, -60))
+            market.settles_at(step, mill=-60)
+        market.kill("street")
+        post.loses = None
+        market.start("street", **limits)
+        market.offers(store=falls_at(8, 0, -150))
+        market.settles_at(8, house=100, store=-150)
+        market.leaves("mill")
+        told = len(market.controls["mill"].told)
+        market.offers(mill=falls_at(7, 60, -60))
+        market.until(lambda: len(market.controls["mill"].told) > told, "the mill is back")
+    finally:
+        market.stop()
+    return market.recordings
+
+
+class Losing(Post):
+    """A post that loses all messages under one topic."""
+
+    loses = None
+
+    def deliver(self, link, publication, retained):
+        if publication.topic != self.loses:
+            super().deliver(link, publication, retained)
+
+
+def lines_in(traced):
+    return Path(traced.trace).read_text().splitlines()
+
+
+def setpoints_in(lines):
+    """Of each device the Setpoints whose clearing is newer than all before."""
+    for name in ("house", "store", "mill"):
+        newest = 0
+        for it in (lines.frame(*at) for at in lines.of(name, "out", "Setpoint")):
+            if it.index > newest:
+                newest = it.index
+                yield name, it
+
+
+@pytest.mark.parametrize("market", ["recorded", "long"])
+def test_recordings_over_kills_and_losses_are_a_trace(request, judges, live, tmp_path, market):
+    folder = request.getfixturevalue(market)
+    verdict, traced = judge_and_trace(folder, tmp_path / "street", live, judges)
+    assert verdict.verdict == "valid"
+    lines, told = lines_in(traced), Lines(folder)
+    assert lines[-1] == f"moves {traced.moves}"
+    passes = [it.split() for it in lines[: traced.settling - 1] if it.startswith("pass ") and "price" in it]
+    due = Counter((name, str(it.index), str(it.step)) for name, it in setpoints_in(told))
+    assert sum(due.values()) > 10
+    # Prices are 0 to 9 in ten steps. Each Setpoint is a pass with its price. A restarted device may have dropped one.
+    assert not due - Counter((name, index, price) for _, name, index, _, price, *_ in passes)
+    assert sum(it.startswith("clear ") for it in lines[: traced.settling - 1]) == verdict.clearings
+    assert Cluster.load(traced.cluster).devices
+
+
+def test_a_device_that_comes_back_with_another_offer_joins_and_changes(live, long, tmp_path):
+    _, traced = judge_and_trace(long, tmp_path / "street", live, Plain())
+    events = [it.members() for it in Cluster.load(traced.cluster).phases[0].events]
+    mills = [it for it in events if "mill" in it.values()]
+    assert [next(iter(it)) for it in mills[:5]] == ["join", "state", "leave", "join", "state"]
+    assert list(mills[4]["demand"]) == falls_at(2, 60, -60)
+    # It came back a second time with the offer that it had: this is one change.
+    assert [next(iter(it)) for it in mills[-2:]] == ["leave", "join"]
+    last = Lines(long).frame(*Lines(long).of("mill", "out", "Bid")[-1]).number
+    assert f"change mill {last + 1}" in lines_in(traced) and f"change mill {last + 2}" not in lines_in(traced)
+
+
+def test_limits_at_work_are_those_of_a_limited_node(live, long, tmp_path):
+    _, traced = judge_and_trace(long, tmp_path / "street", live, Plain())
+    street = Cluster.load(traced.cluster).node("street")
+    assert (street.kind, street.floor, street.ceiling) == ("limited", -100, 150)
+    told = Lines(long)
+    steps = {name: {it.index: it.step for at, it in
+             ((at, told.frame(*at)) for at in told.of(name, "out", "Price"))} for name in ("auctioneer", "street")}
+    assert any(steps["auctioneer"][it] != step for it, step in steps["street"].items()), "limits moved a price"
+    missed = set(steps["auctioneer"]) - {told.frame(*at).index for at in told.of("street", "in", "Price")}
+    passed = {int(it.split()[2]) for it in lines_in(traced)[: traced.settling - 1] if it.startswith("pass street ")}
+    assert missed & passed, "a price that the relay missed is passed in its place"
+
+
+PLACES = {
+    "root": ("auctioneer", None, None),
+    "area": ("relay", "root", 1),
+    "street": ("relay", "area", 1),
+    "mill": ("device", "root", 2),
+    "house": ("device", "street", 1),
+    "store": ("device", "area", 2),
+}
+
+
+def test_two_levels_of_relays_are_a_trace(judges, live, tmp_path):
+    market = RecordedMarket(tmp_path, live, PLACES)
+    try:
+        market.start("root", "area", "street", "mill", "house", "store")
+        for step, name in ((4, "area"), (6, "street"), (3, "house")):
+            market.offers(house=CONSTANT, store=falls_at(step, 0, -150), mill=falls_at(2, 60, -60))
+            market.settles_at(step, house=100, store=-150)
+            market.kill_service(name)
+    finally:
+        market.stop()
+    verdict, traced = judge_and_trace(market.recordings, tmp_path / "levels", live, judges)
+    cluster = Cluster.load(traced.cluster)
+    relays = [(it.name, it.kind, it.above) for it in cluster.nodes if not it.is_device]
+    assert relays == [("area", "concentrator", "auctioneer"), ("street", "concentrator", "area")]
+    assert verdict.verdict == "valid" and any(it.startswith("learn auctioneer area ") for it in lines_in(traced))
+
+
+# Changes of one line.
+
+
+def changes_of(lines, first):
+    """Of each form of a move the last line of it, and what is put in its place."""
+    for word in ("change", "learn", "publish", "clear", "pass", "close", "moves"):
+        at = max(it for it in range(first, len(lines)) if lines[it].startswith(f"{word} "))
+        yield at, " ".join([*lines[at].split()[:-1], str(int(lines[at].split()[-1]) + 1)])
+    prices = [it for it in range(first, len(lines)) if " price " in lines[it]]
+    words = lines[prices[0]].split()
+    yield prices[0], " ".join([*words[:4], str(int(words[4]) + 1), *words[5:]])
+
+
+def test_a_trace_of_which_a_line_is_changed_is_refused(judges, live, long, tmp_path):
+    _, traced = judge_and_trace(long, tmp_path / "street", live, judges)
+    lines, file = lines_in(traced), Path(traced.cluster).read_bytes()
+    first = next(it for it in range(len(lines)) if lines[it].startswith("end ")) + 1
+    assert check(file, Path(traced.trace).read_bytes(), program=judges) == traced.moves
+    changes = list(changes_of(lines, first))
+    assert len(changes) == 8
+    for at, line in [*changes, *((it, None) for it in range(first, len(lines)))]:
+        changed = [*lines[:at], *([] if line is None else [line]), *lines[at + 1 :]]
+        with pytest.raises(Invalid) as error:
+            check(file, "".join(f"{it}\n" for it in changed).encode(), program=judges)
+        assert error.value.line >= at + 1
+
+
+# Drawn markets.
+
+LIMITS = (-150, 100)
+TREES = [
+    [("a", "device", "auctioneer"), ("b", "device", "auctioneer")],
+    [("r", "relay", "auctioneer"), ("a", "device", "r"), ("b", "device", "r"), ("c", "device", "auctioneer")],
+    [("r", "relay", "auctioneer", LIMITS), ("a", "device", "r"), ("b", "device", "r"), ("c", "device", "auctioneer")],
+    [("r", "relay", "auctioneer"), ("q", "relay", "r"), ("a", "device", "q"), ("b", "device", "r"), ("c", "device", "q")],
+    [("r", "relay", "auctioneer", LIMITS), ("q", "relay", "r"), ("a", "device", "q"), ("b", "device", "r")],
+    [("r", "relay", "auctioneer"), ("q", "relay", "r", LIMITS), ("a", "device", "q"), ("b", "device", "r")],
+]
+SEEN = Counter()
+
+
+def followed(market, folder):
+    """What the recordings of a drawn market come to."""
+    [one] = markets_of(recordings_in(market.write(folder)))
+    following = Following(one)
+    Merge(one, {}, following.visit).run()
+    assert not one.missing
+    return following
+
+
+def require_trace(following, judge):
+    """Has the trace judged, and counts its moves."""
+    cluster = cluster_of(following)
+    text, moves, settling = trace_of(following, cluster, judge.answer("run", cluster.to_bytes()))
+    assert judge.answer("check", envelope(cluster.to_bytes(), text)) == b"valid moves %d\n" % moves
+    recorded = text.splitlines()[: settling - 1]
+    SEEN.update(it.split()[0].decode() for it in recorded)
+    SEEN["none"] += sum(it.endswith(b" none") for it in recorded)
+    SEEN["window"] += any(it.startswith(b"publish ") and int(it.split()[2]) > 8 for it in recorded)
+
+
+def drawn_into(places, seed, steps, judge):
+    market = DrawnMarket(nodes_of(*places), seed)
+    for _ in range(steps):
+        market.step()
+    with tempfile.TemporaryDirectory() as folder:
+        require_trace(followed(market, Path(folder) / "recordings"), judge)
+
+
+@settings(max_examples=80, deadline=None)
+@given(places=some.sampled_from(TREES), seed=some.integers(0, 2**32), steps=some.sampled_from([10, 40, 150, 300]))
+def test_any_drawn_market_is_a_trace(places, seed, steps):
+    drawn_into(places, seed, steps, Plain())
+
+
+def test_drawn_markets_made_all_moves():
+    for seed, places in enumerate(TREES * 2):
+        drawn_into(places, seed, 300, Plain())
+    assert all(SEEN[it] > 20 for it in ("change", "learn", "publish", "clear", "pass", "none")) and SEEN["window"] > 1, SEEN
+
+
+def test_the_proved_program_takes_drawn_markets(program):
+    for seed, places in enumerate(TREES * 5):
+        drawn_into(places, seed, 150, program)
+
+
+@pytest.mark.parametrize("is_stored", [False, True])
+def test_an_offer_whose_service_stops_before_it_is_sent(tmp_path, is_stored):
+    """If its Resume was stored, though no line says so, it is a change. Else the next offer has its number."""
+    market = DrawnMarket(nodes_of(("a", "device", "auctioneer")), 0)
+    first, second = (300, 100, 0, -200), (200, 0, 0, 0)
+    market.feed("a", Offer(first).to_bytes())
+    market.handle("a")
+    resume = market.nodes["a"].waits
+    market.start("a", resume if is_stored else b"")
+    market.feed("a", Offer(second).to_bytes())
+    market.handle_all("a")
+    following = followed(market, tmp_path / "recordings")
+    demands = [following.script.devices["a"].start, *(it.demand for it in following.script.events[1:])]
+    assert demands == ([first, second] if is_stored else [second])
+    require_trace(following, Plain())
+
+
+def test_a_bid_whose_relay_stops_before_it_is_sent(tmp_path):
+    """It is published, and nobody takes it: its number is stored, and the next bid has the next one."""
+    market = DrawnMarket(nodes_of(("r", "relay", "auctioneer"), ("a", "device", "r")), 0)
+    for it in ((300, 100, 0, -200), (200, 0, 0, 0)):
+        market.feed("a", Offer(it).to_bytes())
+        market.handle_all("a")
+        market.feed("r", market.nodes["a"].sent[-1])
+        market.feed("r", Send().to_bytes())
+        market.handle("r")
+        market.start("r", market.nodes["r"].waits)
+    following = followed(market, tmp_path / "recordings")
+    assert [it for it in following.journal.lines if it.startswith("publish ")] == ["publish r 1", "publish r 2"]
+    require_trace(following, Plain())
+
+
+# What has no cluster file.
+
+
+def refusal(*places, feeds=()):
+    """Why no cluster file is made of a market in which these nodes are fed these frames."""
+    market = DrawnMarket(nodes_of(*places), 0)
+    for name, frame in feeds:
+        market.feed(name, frame.to_bytes())
+        for it in market.nodes:
+            market.handle_all(it)
+    with tempfile.TemporaryDirectory() as folder, pytest.raises(NoTrace) as error:
+        cluster_of(followed(market, Path(folder) / "recordings"))
+    return str(error.value)
+
+
+def chain_of(count):
+    return [(f"r{it}", "relay", f"r{it - 1}" if it else "auctioneer") for it in range(count)]
+
+
+@pytest.mark.parametrize(
+    ("places", "found", "rule"),
+    [
+        ([(f"d{it}", "device", "r" if it % 2 else "auctioneer") for it in range(256)], "256 nodes", None),
+        ([("9a", "device", "auctioneer")], "9a is the name", "a letter first"),
+        ([("a" * 33, "device", "auctioneer")], "a is the name", "1 to 32 bytes"),
+        (chain_of(7), "r6 is a relay below 6 others", "at most 6 on a path"),
+        ([("r", "relay", "auctioneer", LIMITS), ("q", "relay", "r", (0, 50))], "is below r, which", "no limited node below"),
+    ],
+)
+def test_a_tree_that_is_none_of_a_cluster_file(places, found, rule):
+    if rule is None:
+        places, found, rule = [("r", "relay", "auctioneer"), *places], "257 nodes are below", "at most 256"
+    told = refusal(*places)
+    assert found in told and rule in told
+
+
+def test_more_changes_than_a_phase_has_events():
+    """A device that says again that it is gone joins and leaves."""
+    told = refusal(("a", "device", "auctioneer"), feeds=[("a", Leave())] * (EVENTS // 2 + 1))
+    assert f"more than {EVENTS} changes" in told
+
+
+def test_as_many_changes_as_a_phase_has_events(tmp_path):
+    market = DrawnMarket(nodes_of(("a", "device", "auctioneer")), 0)
+    for _ in range(EVENTS // 2):
+        market.feed("a", Leave().to_bytes())
+        market.handle_all("a")
+    require_trace(followed(market, tmp_path / "recordings"), Plain())
+
+
+def test_a_relay_whose_greatest_power_was_reached_is_limited(tmp_path):
+    """It announces at most 1,000,000,000 W, and a concentrator would announce the whole sum."""
+    places = [("r", "relay", "auctioneer"), ("a", "device", "r"), ("b", "device", "r")]
+    market = DrawnMarket(nodes_of(*places), 0)
+    for name in ("a", "b"):
+        market.feed(name, Offer((MOST,) * DRAWN_BASIS.steps).to_bytes())
+        market.handle_all(name)
+        market.feed("r", market.nodes[name].sent[-1])
+    market.feed("r", Send().to_bytes())
+    market.handle_all("r")
+    following = followed(market, tmp_path / "recordings")
+    assert cluster_of(following).node("r").members() == {
+        "name": "r", "kind": "limited", "parent": "auctioneer", "floor": -MOST, "ceiling": MOST
+    }  # fmt: skip
+    require_trace(following, Plain())
+
+
+def test_recordings_of_two_sessions_are_no_trace(live, tmp_path):
+    market = DrawnMarket(nodes_of(("a", "device", "auctioneer")), 0)
+    folder = market.write(tmp_path / "recordings")
+    for path in list(folder.iterdir()):
+        name, session, _, end = path.name.split(".")
+        text = path.read_bytes().replace(session.encode(), b"f" * 16).replace(b"T06:00", b"T07:00")
+        (folder / f"{name}.{'f' * 16}.000002.{end}").write_bytes(text)
+    with pytest.raises(NoTrace, match="of one session, and the recordings are of 2"):
+        judge_and_trace(folder, tmp_path / "two", live, Plain())
+
+
+# The command.
+
+
+@pytest.fixture
+def plain(monkeypatch):
+    """The command finds the plain judge."""
+    monkeypatch.setattr(command.cli, "program_of", lambda arguments: Plain())
+
+
+def test_the_command_writes_both_files_and_says_where_the_recording_ends(live, recorded, tmp_path, capsys, plain):
+    words = ["judge", str(recorded), "--live", live, "--trace", str(tmp_path / "street")]
+    assert main(words) == 0
+    valid, trace, *rest = capsys.readouterr().out.splitlines()
+    assert valid.startswith("valid sessions 1 ") and not rest
+    lines = (tmp_path / "street.trace").read_text().splitlines()
+    moves, line = int(lines[-1].split()[1]), int(trace.split()[-1])
+    assert trace == f"trace {tmp_path}/street.trace of {tmp_path}/street.json moves {moves} settling from line {line}"
+    assert main([*words, "--json"]) == 0
+    told = json.loads(capsys.readouterr().out)["trace"]
+    assert told == {"cluster": f"{tmp_path}/street.json", "trace": f"{tmp_path}/street.trace", "moves": moves, "settling": line}
+
+
+def test_recordings_that_are_not_valid_have_no_trace(lines, live, tmp_path, capsys, plain):
+    words = ["judge", str(lines.folder), "--live", live, "--trace", str(tmp_path / "street")]
+    for path in lines.folder.glob("mill.*"):
+        path.unlink()
+    assert main(words) == 1
+    assert capsys.readouterr().out.startswith("incomplete ")
+    at = lines.of("street", "out", "Price")[0]
+    lines.change_frame(*at, lines.frame(*at).__class__(1, 1, 1, 9)).write()
+    assert main([*words, "--json"]) == 5
+    assert json.loads(capsys.readouterr().out)["trace"] is None
+    assert not list(tmp_path.glob("street.*"))
+
+
+def test_a_trace_that_check_refuses_is_said(live, recorded, tmp_path, capsys, monkeypatch):
+    class Refusing(Plain):
+        def answer(self, command, data, timeout=None):
+            if command == "check":
+                raise Invalid(17)
+            return super().answer(command, data)
+
+    monkeypatch.setattr(command.cli, "program_of", lambda arguments: Refusing())
+    assert main(["judge", str(recorded), "--live", live, "--trace", str(tmp_path / "street")]) == 1
+    said = capsys.readouterr()
+    assert "street.trace: line 17 is wrong or missing" in said.err and "report this" in said.err and not said.out
+
+
+def test_without_a_program_the_command_says_what_to_do(live, recorded, tmp_path, capsys):
+    words = ["judge", str(recorded), "--live", live, "--trace", str(tmp_path / "street"), "--program", "/no/such"]
+    assert main(words) == 1
+    assert "/no/such does not exist" in capsys.readouterr().err
+    assert main(words[:4]) == 0
