@@ -193,6 +193,7 @@ LIMITS: dict[str, list[Place]] = {
     ],
     "MOST_NODES": [
         Bound("properties/nodes/maxItems"), Constant(SCENE, "NODES"), Constant(FRAMES, "CHILDREN"), Constant(LARGE, "NODES"),
+        Constant(PACKAGE, "MOST_NODES"),
         Said(PAGE, "nodes"), Said("docs/SERVE.md", "child"), Said(TERMS, "nodes of a cluster"),
     ],
     "MOST_DEPTH": [
@@ -200,6 +201,7 @@ LIMITS: dict[str, list[Place]] = {
     ],
     "WINDOW_SIZE": [
         Constant(JUDGE, "WINDOW"), Constant(JOURNALS, "WINDOW"), Constant(LIVE, "WINDOW"), Constant(CUTS, "WINDOW"),
+        Constant(PACKAGE, "WINDOW"),
         Said("docs/PROTOCOL.md", "numbers"), Said(TERMS, "unanswered"), Said(RELAY, "numbers or more are unanswered"),
         Said(RELAY, "offers are unanswered"), Said(RELAY, r"up to \w+ unanswered"), Said("docs/LIVE.md", "offers are unanswered"),
         Said("docs/PROOF.md", r"refused exactly if \w+ are unanswered"),
@@ -225,6 +227,7 @@ LIMITS: dict[str, list[Place]] = {
     ],
     "MOST_EVENTS": [
         Bound("$defs/events/properties/events/maxItems"), Constant(SCENE, "EVENTS"), Constant(LARGE, "EVENTS"),
+        Constant(PACKAGE, "MOST_EVENTS"),
         Said(PAGE, "events"), Said(TERMS, "events of a phase"),
     ],
     "MOST_CHANGES": [

@@ -8,6 +8,7 @@ a lost message and a price that comes again are no moves.
 from __future__ import annotations
 
 from ..cluster import Basis
+from ..limits import MOST_EVENTS
 from ..live.frames import (
     MOST,
     RESUMES,
@@ -28,9 +29,6 @@ from .journal import Journal
 from .market import Market
 from .reading import Event, Start
 from .script import Script
-
-# The most events of a phase in a cluster file. Behind them nothing is followed any more.
-EVENTS = 4_096
 
 
 class Following:
@@ -55,7 +53,8 @@ class Following:
 
     def visit(self, name: str, event: Event) -> None:
         """Takes the next line."""
-        if len(self.script.events) > EVENTS:
+        # A cluster file has no more, and then nothing is followed any more.
+        if len(self.script.events) > MOST_EVENTS:
             return
         if event.start is not None:
             self._waits.pop(name, None)

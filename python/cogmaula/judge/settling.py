@@ -9,11 +9,9 @@ from __future__ import annotations
 
 from collections.abc import Mapping
 
+from ..limits import WINDOW
 from .journal import Journal
 from .script import Script
-
-# How many numbers of a concentrator may be unanswered.
-WINDOW = 8
 
 
 def settle(journal: Journal, script: Script, prices: Mapping[str, int]) -> None:

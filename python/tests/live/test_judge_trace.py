@@ -28,11 +28,12 @@ from cogmaula.cli import main
 from cogmaula.commands import judge as command
 from cogmaula.judge import NoTrace, judge_and_trace
 from cogmaula.judge.cluster_file import cluster_of
-from cogmaula.judge.following import EVENTS, Following
+from cogmaula.judge.following import Following
 from cogmaula.judge.market import markets_of
 from cogmaula.judge.merging import Merge
 from cogmaula.judge.reading import recordings_in
 from cogmaula.judge.tracing import trace_of
+from cogmaula.limits import MOST_EVENTS
 from cogmaula.live.frames import MOST, Leave, Offer, Send
 
 
@@ -337,13 +338,13 @@ def test_a_tree_that_is_none_of_a_cluster_file(places, found, rule):
 
 def test_more_changes_than_a_phase_has_events():
     """A device that says again that it is gone joins and leaves."""
-    told = refusal(("a", "device", "auctioneer"), feeds=[("a", Leave())] * (EVENTS // 2 + 1))
-    assert f"more than {EVENTS} changes" in told
+    told = refusal(("a", "device", "auctioneer"), feeds=[("a", Leave())] * (MOST_EVENTS // 2 + 1))
+    assert f"more than {MOST_EVENTS} changes" in told
 
 
 def test_as_many_changes_as_a_phase_has_events(tmp_path):
     market = DrawnMarket(nodes_of(("a", "device", "auctioneer")), 0)
-    for _ in range(EVENTS // 2):
+    for _ in range(MOST_EVENTS // 2):
         market.feed("a", Leave().to_bytes())
         market.handle_all("a")
     require_trace(followed(market, tmp_path / "recordings"), Plain())
