@@ -119,6 +119,9 @@ class DrawnMarket:
         sort = self.nodes[name].sort
         if sort == "device":
             powers = sorted((self.random.randint(-3, 3) * 100 for _ in range(BASIS.steps)), reverse=True)
+            if self.random.random() < 0.4:
+                # An offer that it may have made before.
+                powers = [200, 100, -100, -200]
             self.feed(name, (Leave() if self.random.random() < 0.2 else Offer(tuple(powers))).to_bytes())
         else:
             self.feed(name, (Clear() if sort == "auctioneer" else Send()).to_bytes())
