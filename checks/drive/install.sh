@@ -90,6 +90,7 @@ share/doc/market/CLUSTER_FILE.md
 share/doc/market/COMMANDS.md
 share/doc/market/COOKBOOK.md
 share/doc/market/GLOSSARY.md
+share/doc/market/HUB.md
 share/doc/market/LICENSE
 share/doc/market/JUDGE.md
 share/doc/market/LIVE.md
@@ -108,16 +109,17 @@ share/market/cluster.schema.json
 share/market/installed
 share/market/run.sh
 share/market/units/market-bridge.service
+share/market/units/market-hub.service
 share/market/units/market-node@.service
 share/market/units/market-serve.socket
 share/market/units/market-serve@.service
 share/market/words.sh
 share/zsh/site-functions/_market
 FILES
-    for file in examples/*.json examples/*.txt examples/serve/*.py examples/live/[!m]* examples/live/mosquitto.* examples/cookbook/* examples/neighbourhood/* pictures/*.svg; do
+    for file in examples/*.json examples/*.txt examples/serve/*.py examples/live/[!m]* examples/live/mosquitto.* examples/hub/[!m]* examples/cookbook/* examples/neighbourhood/* pictures/*.svg pictures/*.png; do
         echo "share/doc/market/$file"
     done
-    for file in python/cogmaula/*.py python/cogmaula/*/*.py python/cogmaula/py.typed python/cogmaula/*.json; do
+    for file in python/cogmaula/*.py python/cogmaula/*/*.py python/cogmaula/py.typed python/cogmaula/*.json python/cogmaula/*/*.html; do
         echo "share/market/$file"
     done
 }
@@ -266,6 +268,7 @@ explains_on_terminal() {
 # The units name programs that are installed, as the program and not as a script around it.
 units_are_installed() {
     [ "$(grep -h '^ExecStart=' "$1"/share/market/units/*)" = "ExecStart=/usr/bin/python3 $1/libexec/market/bridge.py 127.0.0.1:1883 0 99 100 1 /run/market.socket
+ExecStart=$1/bin/cogmaula hub --config /etc/market/hub.toml --key %d/key
 ExecStart=$1/bin/cogmaula node %j --config /etc/market/%i.toml --password-file %d/password
 ExecStart=$1/libexec/market/market serve" ]
 }
