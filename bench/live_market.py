@@ -4,6 +4,7 @@ An auctioneer has two relays, and each relay three devices. Offers are made by c
 which offer it answers.
 """
 
+import contextlib
 import json
 import os
 import random
@@ -90,8 +91,10 @@ class Node:
     def kill_service(self):
         """Ends the process of the service at once."""
         for path in Path(f"/proc/{self.process.pid}/task").glob("*/children"):
-            for number in map(int, path.read_text().split()):
-                os.kill(number, signal.SIGKILL)
+            # A thread or a service may end meanwhile.
+            with contextlib.suppress(FileNotFoundError, ProcessLookupError):
+                for number in map(int, path.read_text().split()):
+                    os.kill(number, signal.SIGKILL)
 
     def answered(self):
         """The serial number of the offer that the newest setpoint answers, 0 without one."""
