@@ -3,8 +3,10 @@
 from __future__ import annotations
 
 import asyncio
+import contextlib
 import json
 import os
+import select
 import signal
 import socket
 import ssl
@@ -24,6 +26,8 @@ from cogmaula.live import LiveError
 STEPS = 10
 BASIS = Basis(0, STEPS - 1, STEPS)
 CONSTANT = [100] * STEPS
+# What a socket raises that would have to wait.
+WAITS = (BlockingIOError, ssl.SSLWantReadError, ssl.SSLWantWriteError)
 CHILDREN = {"house": 1, "store": 2, "mill": 3}
 TABLES_OF_PAGE = {
     "hub": {"state": "state", "agents": "agents", "listen_tcp": ["127.0.0.1:0"], "record": "recorded"},
@@ -209,7 +213,10 @@ class TcpAgent(Told):
         one.connect(("127.0.0.1", port))
         if ca is not None:
             one = ssl.create_default_context(cafile=ca).wrap_socket(one, server_hostname="127.0.0.1")
+        one.setblocking(False)
         self.socket = one
+        # One thread alone may use a TLS connection at a time, and nobody waits with the lock.
+        self.lock = threading.Lock()
         if not is_slow:
             self.reads()
 
@@ -217,11 +224,25 @@ class TcpAgent(Told):
         threading.Thread(target=self._read_all, daemon=True).start()
         return self
 
+    def _pieces(self):
+        """The bytes that come, piece by piece."""
+        while self.socket.fileno() >= 0:
+            try:
+                with self.lock:
+                    piece = self.socket.recv(65_536)
+            except WAITS:
+                select.select([self.socket], [], [], 1)
+                continue
+            if not piece:
+                return
+            yield piece
+
     def _read_all(self):
+        kept = b""
         try:
-            with self.socket.makefile("rb") as lines:
-                for line in lines:
-                    self.told.append(json.loads(line))
+            for piece in self._pieces():
+                *lines, kept = (kept + piece).split(b"\n")
+                self.told += [json.loads(it) for it in lines]
         except OSError:
             pass
         self.is_over = True
@@ -231,18 +252,20 @@ class TcpAgent(Told):
 
     def says_bytes(self, data):
         try:
-            self.socket.sendall(data)
+            while data:
+                try:
+                    with self.lock:
+                        data = data[self.socket.send(data) :]
+                except WAITS:
+                    select.select([], [self.socket], [], 1)
         except OSError:
             pass
         return self
 
     def close(self):
         """Ends the connection, also if a thread reads."""
-        try:
+        with self.lock, contextlib.suppress(OSError):
             self.socket.shutdown(socket.SHUT_RDWR)
-        except OSError:
-            pass
-        self.socket.close()
 
 
 class WebSocketAgent(Told):
