@@ -100,9 +100,11 @@ class ExchangeLink:
         self._lock = threading.Lock()
         self._inbox: dict[str, Message] = {}
 
-    def start(self, topics: Sequence[str], will: Publication, marker: Callable[[], Publication]) -> None:
+    def start(
+        self, topics: Sequence[str], will: Publication, marker: Callable[[], Publication], written: Sequence[str] = ()
+    ) -> None:
         """See Link. The last will is never due: a node of this process always closes its link."""
-        self._exchange.join(self, topics)
+        self._exchange.join(self, [*topics, *written])
         self._exchange.publish(marker())
         self._settled = True
         self._notify(Settled())

@@ -79,8 +79,14 @@ Event = Settled | Arrived | Confirmed
 class Link(Protocol):
     """What a node needs of its connection. All calls are of the node's one thread."""
 
-    def start(self, topics: Sequence[str], will: Publication, marker: Callable[[], Publication]) -> None:
-        """Connects, now and again, with this last will, and reads these topics. The marker is told anew for each connection."""
+    def start(
+        self, topics: Sequence[str], will: Publication, marker: Callable[[], Publication], written: Sequence[str] = ()
+    ) -> None:
+        """Connects, now and again, with this last will, and reads these topics. The marker is told anew for each connection.
+
+        written: topics, each with + at its end, that this node alone writes. They are read too: what the broker retains, and then
+                 up to the first message that comes back, which shows that the node may write them
+        """
 
     @property
     def is_settled(self) -> bool:
@@ -132,7 +138,14 @@ class Broker:
         # Of the node's thread alone.
         self._newest: dict[str, Publication] = {}
         self._unconfirmed: dict[str, tuple[object, int]] = {}
+        self._sent: dict[tuple[object, int], str] = {}
         self._echoes: dict[str, float] = {}
+        self._written: list[str] = []
+        # The connection that has given back one of what this node alone writes, and reads these topics no more.
+        self._shown: object = None
+        # The properties that were made last, and for which: all prices of a clearing have the same.
+        self._properties: Any = None
+        self._properties_of: tuple[tuple[str, str], ...] = ()
         self._told: set[str] = set()
         # Of both threads; the locks are never held in a call of paho.
         self._lock = threading.Lock()
@@ -145,9 +158,12 @@ class Broker:
 
     # The calls of a Link.
 
-    def start(self, topics: Sequence[str], will: Publication, marker: Callable[[], Publication]) -> None:
+    def start(
+        self, topics: Sequence[str], will: Publication, marker: Callable[[], Publication], written: Sequence[str] = ()
+    ) -> None:
         """See Link."""
-        self._topics, self._will, self._marker = list(topics), will, marker
+        self._topics, self._will, self._marker = [*topics, *written], will, marker
+        self._written = list(written)
         self._thread = threading.Thread(target=self._run, daemon=True)
         self._thread.start()
 
@@ -170,6 +186,7 @@ class Broker:
     def publish_all(self) -> None:
         """See Link."""
         client = self._settled
+        self._sent.clear()
         self._echoes.clear()
         self._told.clear()
         if client is not None:
@@ -183,7 +200,7 @@ class Broker:
     def is_unconfirmed(self, topics: Iterable[str]) -> bool:
         """See Link."""
         self._take_confirms()
-        return any(it in self._unconfirmed for it in topics)
+        return not self._unconfirmed.keys().isdisjoint(topics)
 
     def taken(self) -> list[Message]:
         """See Link."""
@@ -193,6 +210,8 @@ class Broker:
             kept = self._newest.get(it.topic)
             if it.topic in self._echoes and (not it.retained or (kept is not None and kept.payload == it.payload)):
                 del self._echoes[it.topic]
+                if not it.retained and self._is_written(it.topic):
+                    self._read_no_more()
         return found
 
     def tick(self) -> None:
@@ -227,17 +246,37 @@ class Broker:
             return
         with self._lock:
             found, self._confirms = self._confirms, set()
-        for topic in [it for it, due in self._unconfirmed.items() if due in found]:
-            del self._unconfirmed[topic]
+        for it in found:
+            topic = self._sent.pop(it, "")
+            if self._unconfirmed.get(topic) == it:
+                del self._unconfirmed[topic]
 
     def _send(self, client: Any, publication: Publication) -> None:
-        properties = properties_of("PUBLISH")
-        if publication.properties:
-            properties.UserProperty = list(publication.properties)
-        told = client.publish(publication.topic, publication.payload, 1, True, properties)
+        told = client.publish(publication.topic, publication.payload, 1, True, self._properties_due(publication))
         self._unconfirmed[publication.topic] = (client, told.mid)
+        self._sent[client, told.mid] = publication.topic
         # What clears a topic comes back to a reader too, as every message does.
-        self._echoes.setdefault(publication.topic, time.monotonic())
+        if self._shown is not client or not self._is_written(publication.topic):
+            self._echoes.setdefault(publication.topic, time.monotonic())
+
+    def _properties_due(self, publication: Publication) -> Any:
+        """The properties of MQTT 5 for a publication. Those of the one before serve again if they are the same."""
+        if self._properties_of != publication.properties:
+            self._properties = properties_of("PUBLISH", UserProperty=list(publication.properties)) if publication.properties else None
+            self._properties_of = publication.properties
+        return self._properties
+
+    def _is_written(self, topic: str) -> bool:
+        """Whether this node alone writes the topic."""
+        return any(topic.startswith(it[:-1]) for it in self._written)
+
+    def _read_no_more(self) -> None:
+        """Lets the broker give back no more of what this node alone writes."""
+        client = self._settled
+        if client is not None and self._shown is not client:
+            self._shown = client
+            client.unsubscribe(self._written)
+            self._echoes = {topic: since for topic, since in self._echoes.items() if not self._is_written(topic)}
 
     def _mark(self, client: Any) -> None:
         """Publishes the marker."""

@@ -94,7 +94,7 @@ class Node:
         """
         why = "it failed"
         try:
-            self._link.start(self._subscriptions(), self._state("down", "the connection was lost"), self._marker)
+            self._link.start(self._subscriptions(), self._state("down", "the connection was lost"), self._marker, self._written())
             self.showing.start()
             if self._control is not None:
                 self._control.start(lambda data: self._events.put(_Offered(data)), self._say)
@@ -150,10 +150,15 @@ class Node:
         if settings.sort == "device":
             found += [settings.own_topic("offer"), settings.own_topic("setpoint")]
         else:
-            found += [topics.bid(settings.name, "+"), topics.price(settings.name, "+")]
+            found.append(topics.bid(settings.name, "+"))
         if settings.parent is not None:
             found += [settings.own_topic("bid"), settings.own_topic("price"), topics.of(settings.parent, "state")]
         return found
+
+    def _written(self) -> list[str]:
+        """The topics of the prices for the node's children, which it alone writes."""
+        settings = self.settings
+        return [] if settings.sort == "device" else [settings.topics.price(settings.name, "+")]
 
     # The node's state.
 

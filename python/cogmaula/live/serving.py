@@ -81,7 +81,9 @@ class Serving:
         self.resume: Resume | None = None
         # Why there is no service, "" if there is one.
         self.why_down = "it waits for its session"
+        # The newest Price of the parent, and whether the service has still to be fed it.
         self._price: Price | None = None
+        self._is_price_due = False
         # The number of the Bid or Gone that was published last.
         self._bid = 0
         self._times: dict[int, str] = {}
@@ -106,6 +108,7 @@ class Serving:
         if service is not None:
             service.close(LAST_SECONDS)
         self.stored = self.resume = self._price = None
+        self._is_price_due = False
         self.why_down = why
         self._bid = 0
         self._times.clear()
@@ -133,14 +136,20 @@ class Serving:
         self._feed(data)
 
     def hear_price(self, price: Price, moment: str) -> None:
-        """Feeds a Price of the parent, unless a newer one came. `moment` is when its clearing was, "" if that was not told."""
+        """Takes a Price of the parent, unless a newer one came. `moment` is when its clearing was, "" if that was not told."""
         if self._price is not None and price.index < self._price.index:
             return
         self._times[price.index] = moment
         while len(self._times) > TIMES:
             del self._times[min(self._times)]
-        self._price = price
-        self._feed(price.to_bytes())
+        self._price, self._is_price_due = price, True
+        self._feed_price()
+
+    def _feed_price(self) -> None:
+        """Feeds the newest Price once the broker has all that answers the one before. Prices between the two are passed over."""
+        if self._is_price_due and self._price is not None and self.service is not None and not self._pending:
+            self._is_price_due = False
+            self._feed(self._price.to_bytes())
 
     def _feed(self, data: bytes) -> None:
         if self.service is not None and data:
@@ -169,10 +178,11 @@ class Serving:
             self._start(now)
         if self.service is None:
             return
+        self._feed_price()
         if self._settings.sort == "device":
             frame = self.offers.due(now)
             self._feed(b"" if frame is None else frame.to_bytes())
-        elif self._asking.is_due(now):
+        elif not self._pending and self._asking.is_due(now):
             self._asking.asked(now)
             self._feed((Clear() if self._settings.sort == "auctioneer" else Send()).to_bytes())
         since = self.offers.since if self._settings.sort == "device" else self._asking.since
@@ -196,7 +206,8 @@ class Serving:
         self._asking.forget()
         for frame in self.children.newest:
             self.hear_bid(frame.to_bytes())
-        self._feed(b"" if self._price is None else self._price.to_bytes())
+        self._is_price_due = self._price is not None
+        self._feed_price()
         self.offers.forget()
 
     def _ended(self, why: str) -> None:
@@ -238,7 +249,6 @@ class Serving:
                 if isinstance(frame, Gone):
                     self._link.publish(Publication(self._settings.own_topic("setpoint"), b""))
             case Price():
-                self._asking.answered()
                 self.children.pass_on(frame, self._time_of(frame.index))
             case Setpoint():
                 self._tell_control(frame)

@@ -10,7 +10,7 @@ import time
 import pytest
 from brokers import SECONDS, Certificates, Mosquitto, Onlooker, free_port, passwords, require_broker, wait_until
 
-from cogmaula.live.broker import Broker, Confirmed, Publication, Settled
+from cogmaula.live.broker import Broker, Confirmed, Message, Publication, Settled
 from cogmaula.live.connection import words_of, words_of_end
 from cogmaula.live.settings import BrokerSettings
 
@@ -26,11 +26,11 @@ def needs():
 class Connected:
     """A connection of a test, with all events and lines of it."""
 
-    def __init__(self, port, topics=TOPICS, **more):
+    def __init__(self, port, topics=TOPICS, written=(), **more):
         self.events, self.said, self.marks = queue.Queue(), [], 0
         settings = BrokerSettings(port=port, **more)
         self.broker = Broker(settings, "cogmaula.market.house", self.events.put, self.said.append, pauses=(0.1, 0.4), patience=0.5)
-        self.broker.start(topics, WILL, self.mark)
+        self.broker.start(topics, WILL, self.mark, written)
 
     def mark(self):
         self.marks += 1
@@ -78,18 +78,105 @@ def test_it_settles_publishes_confirms_and_reads(tmp_path):
         assert one.said == []
 
 
+class Numbering:
+    """A client of paho that gives each message the next number, and keeps what it was to read no more."""
+
+    def __init__(self):
+        self.mid, self.let_go = 0, []
+
+    def publish(self, *_):
+        self.mid += 1
+        return self
+
+    def unsubscribe(self, topics):
+        self.let_go.append(list(topics))
+
+
 def test_many_confirmations_wake_the_node_once():
     """None is lost: one that comes after the node has looked wakes it anew."""
     events, topics = [], [f"market/street/price/{child}" for child in range(1, 4)]
     broker = Broker(BrokerSettings(), "cogmaula.market.street", events.append, print)
-    broker._unconfirmed = {topic: (None, number) for number, topic in enumerate(topics)}
-    broker._on_publish(None, 0)
-    broker._on_publish(None, 2)
+    broker._settled = client = Numbering()
+    for it in topics:
+        broker.publish(Publication(it, b"5"))
+    broker._on_publish(client, 1)
+    broker._on_publish(client, 3)
     assert events == [Confirmed()]
     assert [broker.is_unconfirmed([it]) for it in topics] == [False, True, False]
-    broker._on_publish(None, 1)
+    broker._on_publish(client, 2)
     assert events == [Confirmed(), Confirmed()]
     assert not broker.is_unconfirmed(topics)
+
+
+def test_the_confirmation_of_an_older_message_or_connection_does_not_count():
+    broker = Broker(BrokerSettings(), "cogmaula.market.street", lambda _: None, print)
+    topic = "market/street/price/1"
+    broker._settled = before = Numbering()
+    broker.publish(Publication(topic, b"5"))
+    broker.publish(Publication(topic, b"6"))
+    broker._on_publish(before, 1)
+    assert broker.is_unconfirmed([topic])
+    broker._settled = now = Numbering()
+    broker.publish_all()
+    broker._on_publish(before, 2)
+    assert broker.is_unconfirmed([topic])
+    broker._on_publish(now, 1)
+    assert not broker.is_unconfirmed([topic])
+
+
+PRICES = ["market/street/price/+"]
+
+
+def prices(found):
+    """The numbers of the children and the payloads of the prices among some messages."""
+    return [(it.topic.rpartition("/")[2], it.payload) for it in found if "/price/" in it.topic]
+
+
+def test_what_a_node_alone_writes_comes_back_until_one_message_shows_its_rights(tmp_path):
+    with Mosquitto(tmp_path) as broker, Onlooker(broker.port) as onlooker:
+        onlooker.publish("market/street/price/9", b"kept")
+        with Connected(broker.port, [STATE], PRICES).settled() as one:
+            assert prices(one.broker.taken()) == [("9", b"kept")]
+            one.broker.publish(Publication("market/street/price/1", b"first"))
+            wait_until(lambda: ("1", b"first") in prices(one.broker.taken()), "the first price")
+            assert one.broker._echoes.keys() <= {STATE}
+            one.broker.publish(Publication("market/street/price/2", b"second"))
+            wait_until(lambda: onlooker.payload("market/street/price/2") == b"second", "the second price")
+            time.sleep(0.6)
+            one.broker.tick()
+            assert prices(one.broker.taken()) == []
+            assert one.said == []
+            broker.kill()
+            one.says("the connection was lost")
+            broker.start()
+            one.settled()
+            wait_until(lambda: onlooker.payload("market/street/price/2") == b"second", "the price again")
+            wait_until(lambda: prices(one.broker.taken()), "one that shows the rights anew")
+
+
+def test_each_connection_has_to_show_the_rights_anew():
+    """Of prices that wait to come back none is missed once one came."""
+    broker = Broker(BrokerSettings(), "cogmaula.market.street", lambda _: None, print)
+    broker._written = PRICES
+    for client in (Numbering(), Numbering()):
+        broker._settled = client
+        broker.publish_all()
+        for child in (1, 2, 3):
+            broker.publish(Publication(f"market/street/price/{child}", b"5"))
+        broker._inbox["market/street/price/1"] = Message("market/street/price/1", b"5", retained=True)
+        broker.taken()
+        assert client.let_go == [], "one that the broker had kept does not show that the node may write"
+        broker._inbox["market/street/price/2"] = Message("market/street/price/2", b"5")
+        broker.taken()
+        assert (client.let_go, broker._echoes) == ([PRICES], {})
+
+
+def test_a_node_that_may_not_write_what_it_alone_writes(tmp_path, monkeypatch):
+    monkeypatch.setenv("COGMAULA_PASSWORD", "word")
+    lines = rights(tmp_path, "user house\ntopic readwrite market/house/#\ntopic read market/street/#\n")
+    with Mosquitto(tmp_path, *lines) as broker, Connected(broker.port, [STATE], PRICES, user="house").settled() as one:
+        one.broker.publish(Publication("market/street/price/1", b"5"))
+        one.says("does not give market/street/price/1 back: let house write and read this topic")
 
 
 def test_the_newest_alone_of_a_topic_waits(tmp_path):

@@ -86,6 +86,56 @@ def test_a_devices_resume_waits_until_the_broker_has_the_setpoint_before_it(join
     assert one.stored() == DeviceResume(1, 7, (500, -300)).to_bytes()
 
 
+def test_prices_that_come_meanwhile_are_passed_over_for_the_newest(joined):
+    """A service is fed a price, and asked to send, only once the broker has all that answers the price before."""
+    one = joined("relay").begun(("market/street/bid/1", bid(1, 1, 5, -3).to_bytes()))
+    passed = RelayResume(1, 1, 7, numbers((1, 1)))
+    one.writes(NotChanged(), Price(1, 1, 7, 1), passed)
+    fed = len(one.service.read)
+    time.sleep(0.02)
+    for index in (8, 9):
+        one.link.comes("market/auctioneer/price/3", Price(3, 1, index, 1).to_bytes())
+        one.turned()
+    one.link.comes("market/street/bid/1", bid(1, 2, 6, -3).to_bytes())
+    one.turned()
+    assert one.service.read[fed:] == [bid(1, 2, 6, -3).to_bytes()]
+    one.link.confirm()
+    one.turned()
+    assert one.stored() == passed.to_bytes()
+    assert one.service.read[fed + 1 :] == [Price(3, 1, 9, 1).to_bytes(), Send().to_bytes()]
+    one.turned()
+    assert len(one.service.read) == fed + 3, "each once"
+
+
+def test_the_price_that_was_passed_over_is_fed_to_a_service_that_starts_anew(joined, monkeypatch):
+    one = joined("relay").begun(("market/street/bid/1", bid(1, 1, 5, -3).to_bytes()))
+    one.writes(Price(1, 1, 7, 1), RELAY_RESUME)
+    one.link.comes("market/auctioneer/price/3", Price(3, 1, 8, 1).to_bytes())
+    one.turned()
+    assert Price(3, 1, 8, 1).to_bytes() not in one.service.read
+    one.service.ends()
+    monkeypatch.setattr(one.node.serving, "_born", -60)
+    one.turned()
+    monkeypatch.setattr(one.node.serving, "_restart_at", 0)
+    one.turned()
+    assert one.service.read.count(Price(3, 1, 8, 1).to_bytes()) == 1
+
+
+def test_a_price_is_no_answer_to_a_relay_that_was_asked_to_send(joined):
+    one = joined("relay").begun(("market/street/bid/1", bid(1, 1, 5, -3).to_bytes()))
+    assert one.service.read[-1] == Send().to_bytes()
+    one.link.confirms = True
+    one.writes(Price(1, 1, 7, 1), RELAY_RESUME)
+    one.link.comes("market/street/bid/1", bid(1, 2, 6, -3).to_bytes())
+    time.sleep(0.02)
+    one.turned()
+    assert one.service.read.count(Send().to_bytes()) == 1
+    one.writes(bid(3, 1, 21, -3))
+    time.sleep(0.02)
+    one.turned()
+    assert one.service.read.count(Send().to_bytes()) == 2
+
+
 def test_what_a_service_wrote_and_was_not_handled_is_lost_with_it(joined):
     one = joined("relay").begun(("market/street/bid/1", bid(1, 1, 5, -3).to_bytes()))
     one.writes(Price(1, 1, 7, 1), RELAY_RESUME, bid(3, 1, 21, -3))
