@@ -18,7 +18,7 @@ CRATES = TOP / "crates"
 OF_PLAN_AND_LISTS = {"is_leaf", "is_member", "parent", "phases"}
 
 # The crates of tests alone, and the programs that measure and try, whose names no crate uses.
-TESTS = {"pm_played", "pm_threaded", "pm_whole", "pm_worked"}
+TESTS = {"pm_parts", "pm_played", "pm_threaded", "pm_whole", "pm_worked"}
 TOOLS = {"measure", "trials"}
 
 # Functions of code that have one name in two crates, and the one thing that the name says in both.

@@ -1,7 +1,7 @@
 -- Of `new_links`: what its loop over `link` keeps.
 use Rattle.std.proofs.Common.{◌≡◌, ℕ, ◌<◌, length}
 use Rattle.pm_session.specs.Prices.{session_at}
-use Rattle.pm_played.proofs.concentrator.new_links.Given as goal
+use Rattle.pm_parts.proofs.concentrator.new_links.Given as goal
 
 abbrev pub invariant-loop-link : goal.invariant-loop-link
 invariant-loop-link l = record {

@@ -1,6 +1,6 @@
 -- Of `steps_of_a_newer_bid`: what the call of `replace` requires.
 use Rattle.pm_bid.proofs.SumLaws.{sum_of_one}
-use Rattle.pm_played.proofs.cache.steps_of_a_newer_bid.Goals as goal
+use Rattle.pm_parts.proofs.cache.steps_of_a_newer_bid.Goals as goal
 
 pub replace-requires-clause-within : goal.replace-requires-clause-within
 replace-requires-clause-within c =

@@ -1,7 +1,7 @@
 -- Of `fills_the_window`: what its loop over `number` keeps.
 use Rattle.std.proofs.Common.{◌≡◌, ◌+◌, length}
 use Rattle.pm_cache.specs.Learning.{HasSingleBids}
-use Rattle.pm_played.proofs.concentrator.fills_the_window.Given as goal
+use Rattle.pm_parts.proofs.concentrator.fills_the_window.Given as goal
 
 abbrev pub invariant-loop-number : goal.invariant-loop-number
 invariant-loop-number g l = record {

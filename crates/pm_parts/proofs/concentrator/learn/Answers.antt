@@ -2,7 +2,7 @@
 use Rattle.std.proofs.Common.{◌∙◌, sym, subst}
 use Rattle.pm_cache.specs.Cache.{Cache, IsCache}
 use Rattle.pm_cache.proofs.SingleBids.{single_within}
-use Rattle.pm_played.proofs.concentrator.learn.Goals as goal
+use Rattle.pm_parts.proofs.concentrator.learn.Goals as goal
 
 pub learn-requires : goal.learn-requires
 learn-requires c =

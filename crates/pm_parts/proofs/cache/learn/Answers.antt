@@ -2,7 +2,7 @@
 use Rattle.std.specs.Option.{option_copied}
 use Rattle.pm_cache.specs.Learning.{demand_of_offer}
 use Rattle.pm_cache.proofs.SingleBids.{single_within}
-use Rattle.pm_played.proofs.cache.learn.Goals as goal
+use Rattle.pm_parts.proofs.cache.learn.Goals as goal
 
 pub learn-requires : goal.learn-requires
 learn-requires c = record {
