@@ -1,11 +1,11 @@
 #!/usr/bin/env python3
 """Measures ways to run a cluster side by side on the files of `make_files.py`, and prints times, memory, ratios and counts.
 
-    compare.py RUNS MARKET MEASURE PLAIN PLAIN_SERVE COUNTER FOLDER
+    compare.py RUNS MARKET MEASURE PLAIN PLAIN_THREADS PLAIN_SERVE COUNTER FOLDER
 
-MARKET and MEASURE are the programs, PLAIN and PLAIN_SERVE are the plain programs of `bench/plain` and `bench/plain_serve`, and
-COUNTER is the library of `bench/count.c`; each of these three may be `-`, and then what needs it is left out. FOLDER has the
-files, the stream of bids and the long trace of `make_trace.py`.
+MARKET and MEASURE are the programs, PLAIN, PLAIN_THREADS and PLAIN_SERVE are the plain programs of `bench/plain`,
+`bench/plain_threads` and `bench/plain_serve`, and COUNTER is the library of `bench/count.c`; each of these four may be `-`, and
+then what needs it is left out. FOLDER has the files, the stream of bids and the long trace of `make_trace.py`.
 
 Each way runs RUNS times on a file, in turn with the others, and the least time of the whole process counts. The time of the
 processors is told beside it, which other work on the machine disturbs less. A run before these gives the memory and the
@@ -38,12 +38,15 @@ MARKET = "market run"
 FREE = "market free"
 PLAIN = "plain"
 PLAIN_READING = "plain read"
+PLAIN_THREADS = "plain threads"
 WALK = "measure walk"
 DRIVE = "measure drive"
 READING = "measure read"
 
 # How often longer than the plain program `market run` may take, by the file.
 MARKET_GOALS = {"demo": 12, "wide": 5.5, "deep": 2, "bursts": 2, "calm": 2}
+# How often longer than the plain program with a thread a node `market run` may take, in time and in time of processors.
+THREADS_GOAL = 1.0
 # How often longer than `market run` `market free` may take, by the file.
 FREE_GOALS = {"demo": 3, "wide": 3, "deep": 10, "chain": 3, "calm": 3}
 # How many targets are asked of the total of a file, how often longer than `market run` that may take, and by how much.
@@ -117,7 +120,7 @@ def peak(command, path):
 
 def compare_texts(texts):
     """Fails if a text is not the one due: the report is the same, and the other ways tell the lines of its phases."""
-    for way in (PLAIN, FREE):
+    for way in (PLAIN, PLAIN_THREADS, FREE):
         if way in texts and texts[way] != texts[MARKET]:
             raise Failed(f"the texts of {MARKET} and {way} differ")
     phases = b"".join(line for line in texts[MARKET].splitlines(True) if line.startswith(b"phase "))
@@ -167,6 +170,9 @@ def ratio_lines(name, least, processors, peaks):
         computing = told(quotient(processors[MARKET], processors[PLAIN]))
         lines.append(f"{MARKET} / {PLAIN}: time {whole}, without the reading {told(quotient(market, plain))}, "
                      f"time of processors {computing}")
+    if PLAIN_THREADS in least:
+        time_taken, computing = (told(quotient(it[MARKET], it[PLAIN_THREADS]), THREADS_GOAL) for it in (least, processors))
+        lines.append(f"{MARKET} / {PLAIN_THREADS}: time {time_taken}, time of processors {computing}")
     free = told(quotient(least[FREE], least[MARKET]), FREE_GOALS.get(name))
     lines.append(f"{FREE} / {MARKET}: time {free}, time of processors {told(quotient(processors[FREE], processors[MARKET]))}, "
                  f"memory {told(quotient(peaks[FREE], peaks[MARKET]))}")
@@ -197,12 +203,19 @@ def counted(command, counter, path, due):
     return ", ".join(f"{what} {int(number):,}" for what, number in lines)
 
 
-def count_lines(command, counter, taken, path, due):
-    """The lines of the counts of `market run`."""
+def switches_of(taken):
+    """How often the threads of a way were switched, in the median of its runs."""
     left = statistics.median_low(it.left for it in taken)
     forced = statistics.median_low(it.forced for it in taken)
+    return f"{left:,} given up and {forced:,} forced"
+
+
+def count_lines(command, counter, taken, path, due):
+    """The lines of the counts of `market run`, and of the switches of the plain program with threads beside its own."""
     moves = moves_of(text_of([command[0], "trace"], path))
-    lines = [f"moves {moves:,}, switches of threads {left:,} given up and {forced:,} forced (medians)"]
+    lines = [f"moves {moves:,}, switches of threads {switches_of(taken[MARKET])} (medians)"]
+    if PLAIN_THREADS in taken:
+        lines.append(f"{PLAIN_THREADS}: switches of threads {switches_of(taken[PLAIN_THREADS])} (medians)")
     if counter:
         text = "counted in one more run: " + counted(command, counter, path, due)
         lines += textwrap.wrap(text, 110, subsequent_indent="    ", break_on_hyphens=False)
@@ -227,7 +240,7 @@ def measured(ways, runs, counter, path):
         lines.append(f"    {way:<13} {1000 * least[way]:8.1f} ms, {1000 * processors[way]:8.1f} ms of processors, "
                      f"{peaks[way]:5.1f} MB")
     told, missed = ratio_lines(name_of(path), least, processors, peaks)
-    told += count_lines(ways[MARKET], counter, taken[MARKET], path, texts[MARKET])
+    told += count_lines(ways[MARKET], counter, taken, path, texts[MARKET])
     return lines + [f"    {line}" for line in told], missed
 
 
@@ -331,11 +344,13 @@ def measured_stream(market, plain, runs, path):
     return [f"{name_of(path)}: {times}, {os.path.getsize(path):,} bytes read, {len(texts['market serve']):,} bytes written"], False
 
 
-def ways_of(market, measure, plain):
+def ways_of(market, measure, plain, plain_threads):
     """The commands of the ways."""
     ways = {MARKET: [market, "run"], FREE: [market, "free"]}
     if plain:
         ways |= {PLAIN: [plain], PLAIN_READING: [plain, "read"]}
+    if plain_threads:
+        ways[PLAIN_THREADS] = [plain_threads]
     return ways | {way: [measure, way.split()[1]] for way in (WALK, DRIVE, READING)}
 
 
@@ -354,10 +369,10 @@ def tried(measure, *arguments):
     return 2 if missed else 0
 
 
-def main(runs, market, measure, plain, plain_serve, counter, folder):
-    ways = ways_of(market, measure, None if plain == "-" else plain)
-    plain_serve = None if plain_serve == "-" else plain_serve
-    counter = None if counter == "-" else counter
+def main(runs, market, measure, plain, plain_threads, plain_serve, counter, folder):
+    optional = (plain, plain_threads, plain_serve, counter)
+    plain, plain_threads, plain_serve, counter = (None if it == "-" else it for it in optional)
+    ways = ways_of(market, measure, plain, plain_threads)
     print(f"{os.cpu_count()} processors, {load()}, least of {runs} runs", flush=True)
     largest = sorted(glob.glob(os.path.join(folder, "largest", "*.json")))
     statuses = [tried(measured_largest, ways, int(runs), path) for path in largest]

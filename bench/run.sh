@@ -1,6 +1,6 @@
 #!/usr/bin/env bash
 # Makes cluster files and measures on them the ways to run a cluster (compare.py): `market run`, the ways of `measure`, and the
-# plain program of `bench/plain`. It also counts what `market run` does. Further it measures
+# plain programs of `bench/plain` and `bench/plain_threads`. It also counts what `market run` does. Further it measures
 #
 #   - `market ask` on many targets;
 #   - `market check` on a trace and on one of 4,000,000 moves (make_trace.py), the latter beside `measure judge`;
@@ -43,12 +43,12 @@ build_with() {
     fi
 }
 
-# Whether the plain program prints the texts that were worked out by hand.
+# Whether a plain program prints the texts that were worked out by hand.
 check_plain() {
     for due in checks/cases/run/*.stdout; do
         file="${due%.stdout}.json"
         [ -f "$file" ] || file="$(cat "${due%.stdout}.input")"
-        "$plain" < "$file" | cmp -s - "$due" || { echo "the plain program prints another text of $file" >&2; return 1; }
+        "$1" < "$file" | cmp -s - "$due" || { echo "${1##*/} prints another text of $file" >&2; return 1; }
     done
 }
 
@@ -65,12 +65,15 @@ python3 bench/make_stream.py > "$folder/stream" || exit 1
 python3 bench/make_relay_stream.py "$folder" || exit 1
 build market && build measure && build live || exit 1
 plain="$(build_with rustc "$folder/plain" -O --edition 2021 bench/plain/plain.rs)" || exit 1
-[ "$plain" = - ] || check_plain || exit 1
+[ "$plain" = - ] || check_plain "$plain" || exit 1
+plain_threads="$(build_with rustc "$folder/plain_threads" -O --edition 2021 bench/plain_threads/plain_threads.rs)" || exit 1
+[ "$plain_threads" = - ] || check_plain "$plain_threads" || exit 1
 plain_serve="$(build_with rustc "$folder/plain_serve" -O --edition 2021 bench/plain_serve/plain_serve.rs)" || exit 1
 plain_relay="$(build_with rustc "$folder/plain_relay" -O --edition 2021 bench/plain_relay/plain_relay.rs)" || exit 1
 [ "$plain_relay" = - ] || check_plain_relay || exit 1
 counter="$(build_with gcc "$folder/count.so" -O2 -shared -fPIC bench/count.c)" || exit 1
-python3 bench/compare.py "${1:-7}" crates/market/out/market crates/measure/out/measure "$plain" "$plain_serve" "$counter" "$folder"
+python3 bench/compare.py "${1:-7}" crates/market/out/market crates/measure/out/measure "$plain" "$plain_threads" "$plain_serve" \
+    "$counter" "$folder"
 compared=$?
 python3 bench/relay.py "${1:-7}" crates/live/out/live "$plain_relay" "$folder"
 relayed=$?

@@ -1,7 +1,10 @@
 //! The market: bids go up the tree and prices down it, by messages on links, as `docs/PROTOCOL.md` has it.
+//!
+//! Here are its moves; in which order they are made is the caller's choice.
 
-use crate::plan::{Event, Part, Phase, Plan, What};
+use crate::plan::{Part, Plan};
 use std::fmt::Write;
+use std::hint::black_box;
 
 /// One move of the run.
 #[derive(Clone, Copy)]
@@ -28,7 +31,7 @@ const _: () = assert!(size_of::<Line>() == 24);
 
 /// The number of a bid, and whether its sender is gone.
 #[derive(Clone, Copy)]
-struct Head {
+pub struct Head {
     number: u32,
     gone: bool,
 }
@@ -40,17 +43,17 @@ const NOTHING_SENT: Head = Head {
 
 /// The price at a step of a clearing, with the number of the bid that it answers.
 #[derive(Clone, Copy)]
-struct Price {
+pub struct Price {
     step: usize,
     number: u32,
-    index: u32,
+    pub index: u32,
 }
 
 /// The link between a node and its parent: the newest bid and the newest price, until they are taken.
-struct Link {
-    bid: Option<Head>,
-    demand: Vec<i64>,
-    price: Option<Price>,
+pub struct Link {
+    pub bid: Option<Head>,
+    pub demand: Vec<i64>,
+    pub price: Option<Price>,
 }
 
 /// What a concentrator sent under a number: the heads of its children, and if it is limited the sum of their bids.
@@ -62,43 +65,43 @@ struct Record {
 const WINDOW: u32 = 8;
 
 /// The auctioneer or a concentrator.
-struct Parent {
+pub struct Parent {
     /// The newest bids of the children, and their sum.
     heads: Vec<Head>,
     demands: Vec<Vec<i64>>,
     sum: Vec<i64>,
     /// Whether something was learnt that was not sent.
-    changed: bool,
+    pub changed: bool,
     /// The number of the newest bid, or of the newest clearing.
-    last: u32,
+    pub last: u32,
     /// The number of its own that the last price names, and the records of this one and those after it.
     answered: u32,
     records: Vec<Record>,
 }
 
-struct Device {
-    count: u32,
-    member: bool,
-    state: i64,
+pub struct Device {
+    pub count: u32,
+    pub member: bool,
+    pub state: i64,
     /// The number of the join that began the membership.
     joined: u32,
     /// The price that was passed to it last.
-    given: Option<Price>,
+    pub given: Option<Price>,
     /// The power at the end of the phase closed last.
-    power: i64,
+    pub power: i64,
 }
 
 pub struct Cluster<'p> {
-    plan: &'p Plan,
+    pub plan: &'p Plan,
     /// By the nodes; the auctioneer's own link stays empty.
-    links: Vec<Link>,
-    parents: Vec<Option<Parent>>,
-    devices: Vec<Option<Device>>,
+    pub links: Vec<Link>,
+    pub parents: Vec<Option<Parent>>,
+    pub devices: Vec<Option<Device>>,
     /// The step of the last clearing.
     step: usize,
-    closed: u32,
-    pub journal: Vec<Line>,
-    pub report: String,
+    pub closed: u32,
+    journal: Vec<Line>,
+    report: String,
 }
 
 impl Parent {
@@ -116,6 +119,11 @@ impl Parent {
             answered: 0,
             records: (0..records).map(|_| record()).collect(),
         }
+    }
+
+    /// Whether a concentrator has something to send and room for its record.
+    pub fn may_publish(&self) -> bool {
+        self.changed && self.last - self.answered < WINDOW
     }
 
     /// Takes the bid in the place of the one before, which is then in its place.
@@ -186,61 +194,8 @@ impl<'p> Cluster<'p> {
         cluster
     }
 
-    /// Runs all phases, and writes the report.
-    pub fn run(&mut self) {
-        let plan = self.plan;
-        for phase in &plan.phases {
-            self.make_changes(phase);
-            while !self.is_idle() {
-                self.send_bids();
-                self.clear();
-                self.pass_prices();
-            }
-            self.close();
-        }
-        let _ = writeln!(
-            self.report,
-            "end phases {} changes {}",
-            plan.phases.len(),
-            plan.changes
-        );
-    }
-
-    fn make_changes(&mut self, phase: &Phase) {
-        match phase {
-            Phase::Events(events) => {
-                for Event { device, what } in events {
-                    let now = self.devices[*device].as_ref().unwrap();
-                    match what {
-                        What::Join => self.change(*device, true, now.state),
-                        What::Leave => self.change(*device, false, now.state),
-                        What::Set(state) => self.change(*device, now.member, *state),
-                    }
-                }
-            }
-            Phase::Tick(minutes) => {
-                for (number, node) in self.plan.nodes.iter().enumerate() {
-                    let Part::Device { kind, .. } = &node.part else {
-                        continue;
-                    };
-                    let now = self.devices[number].as_ref().unwrap();
-                    if now.member && kind.ticks() {
-                        self.change(
-                            number,
-                            true,
-                            kind.after_tick(now.state, now.power, *minutes),
-                        );
-                    }
-                }
-            }
-        }
-    }
-
-    /// A device makes its next change, and offers its bid.
-    fn change(&mut self, number: usize, member: bool, state: i64) {
-        let Part::Device { kind, .. } = &self.plan.nodes[number].part else {
-            unreachable!()
-        };
+    /// A device makes its next change, and offers the bid that lies in its link.
+    pub fn change(&mut self, number: usize, member: bool, state: i64) {
         let device = self.devices[number].as_mut().unwrap();
         device.count += 1;
         if member && !device.member {
@@ -248,16 +203,10 @@ impl<'p> Cluster<'p> {
         }
         (device.member, device.state) = (member, state);
         let count = device.count;
-        let link = &mut self.links[number];
-        link.bid = Some(Head {
+        self.links[number].bid = Some(Head {
             number: count,
             gone: !member,
         });
-        if member {
-            kind.fill_bid(state, &self.plan.arrays, &mut link.demand);
-        } else {
-            link.demand.fill(0);
-        }
         self.note(
             Move::Change {
                 device: number as u32,
@@ -271,26 +220,12 @@ impl<'p> Cluster<'p> {
         self.journal.push(Line { what, held });
     }
 
-    /// Whether nothing waits on a link, and no parent has something to send.
-    fn is_idle(&self) -> bool {
-        let waits = |link: &Link| link.bid.is_some() || link.price.is_some();
-        !self.links.iter().any(waits) && !self.parents.iter().flatten().any(|parent| parent.changed)
-    }
-
-    /// Each concentrator publishes, and each parent learns what its children sent. A parent stands before its children.
-    fn send_bids(&mut self) {
-        for node in (1..self.plan.nodes.len()).rev() {
-            self.publish(node);
-            self.learn(node);
-        }
-    }
-
-    /// A concentrator publishes if it has something to send and room for its record.
-    fn publish(&mut self, node: usize) {
+    /// A concentrator publishes if it may.
+    pub fn publish(&mut self, node: usize) {
         let Some(parent) = &mut self.parents[node] else {
             return;
         };
-        if !parent.changed || parent.last - parent.answered == WINDOW {
+        if !parent.may_publish() {
             return;
         }
         parent.changed = false;
@@ -323,7 +258,7 @@ impl<'p> Cluster<'p> {
     }
 
     /// A parent learns the bid of a child if one waits.
-    fn learn(&mut self, child: usize) {
+    pub fn learn(&mut self, child: usize) {
         let node = &self.plan.nodes[child];
         let link = &mut self.links[child];
         let Some(head) = link.bid.take() else { return };
@@ -339,7 +274,7 @@ impl<'p> Cluster<'p> {
     }
 
     /// The auctioneer clears if it has something to clear: at the first step at which the sum is not positive.
-    fn clear(&mut self) {
+    pub fn clear(&mut self) {
         let parent = self.parents[0].as_mut().unwrap();
         if !parent.changed {
             return;
@@ -362,16 +297,11 @@ impl<'p> Cluster<'p> {
         self.note(Move::Clear { index }, None);
     }
 
-    /// Each node takes the price that waits for it. A parent stands before its children.
-    fn pass_prices(&mut self) {
-        for node in 1..self.plan.nodes.len() {
-            if let Some(price) = self.links[node].price.take() {
-                self.pass(node, price);
-            }
-        }
-    }
-
-    fn pass(&mut self, number: usize, price: Price) {
+    /// A node takes the price if one waits for it, and a concentrator passes it on.
+    pub fn pass(&mut self, number: usize) {
+        let Some(price) = self.links[number].price.take() else {
+            return;
+        };
         let mut held = None;
         if let Some(device) = &mut self.devices[number] {
             device.given = Some(price);
@@ -405,7 +335,7 @@ impl<'p> Cluster<'p> {
     }
 
     /// Closes the phase: each device keeps its power, and the report gets its lines.
-    fn close(&mut self) {
+    pub fn close(&mut self) {
         let plan = self.plan;
         self.closed += 1;
         let total = self.parents[0].as_ref().unwrap().sum[self.step];
@@ -451,6 +381,29 @@ impl<'p> Cluster<'p> {
             );
         }
         self.note(Move::Close { phase }, None);
+    }
+
+    /// Ends the report, and gives it.
+    pub fn into_report(mut self) -> String {
+        let (phases, changes) = (self.plan.phases.len(), self.plan.changes);
+        let _ = writeln!(self.report, "end phases {phases} changes {changes}");
+        // The journal is kept, though no text of this program shows it.
+        for line in &black_box(&self.journal)[self.journal.len().saturating_sub(1)..] {
+            black_box((line.what, line.held));
+        }
+        self.report
+    }
+}
+
+/// Writes the bid of a device: nothing is its demand once it is gone.
+pub fn fill_demand(plan: &Plan, number: usize, member: bool, state: i64, demand: &mut [i64]) {
+    let Part::Device { kind, .. } = &plan.nodes[number].part else {
+        unreachable!()
+    };
+    if member {
+        kind.fill_bid(state, &plan.arrays, demand);
+    } else {
+        demand.fill(0);
     }
 }
 

@@ -11,47 +11,24 @@ mod cluster;
 mod device;
 mod json;
 mod plan;
+mod program;
+mod rounds;
 
-use std::hint::black_box;
-use std::io::{Read, Write};
+use cluster::Cluster;
+use plan::Plan;
 use std::process::ExitCode;
 
-const LIMIT: u64 = 4_194_304;
-
-/// The text of a cluster file; no text if the file is refused.
-fn text_of(bytes: Vec<u8>, only_read: bool) -> Option<String> {
-    let text = String::from_utf8(bytes)
-        .ok()
-        .filter(|text| text.len() as u64 <= LIMIT)?;
-    let plan = plan::read(&text)?;
+fn text_of(plan: &Plan, only_read: bool) -> String {
     if only_read {
-        return Some(format!(
-            "phases {} nodes {}\n",
-            plan.phases.len(),
-            plan.nodes.len() - 1
-        ));
+        let (phases, nodes) = (plan.phases.len(), plan.nodes.len() - 1);
+        return format!("phases {phases} nodes {nodes}\n");
     }
-    let mut cluster = cluster::Cluster::new(&plan);
+    let mut cluster = Cluster::new(plan);
     cluster.run();
-    // The journal is kept, though no text of this program shows it.
-    for line in &black_box(&cluster.journal)[cluster.journal.len().saturating_sub(1)..] {
-        black_box((line.what, line.held));
-    }
-    Some(cluster.report)
+    cluster.into_report()
 }
 
 fn main() -> ExitCode {
     let only_read = std::env::args().nth(1).is_some_and(|word| word == "read");
-    let mut bytes = Vec::new();
-    if std::io::stdin()
-        .take(LIMIT + 1)
-        .read_to_end(&mut bytes)
-        .is_err()
-    {
-        return ExitCode::FAILURE;
-    }
-    match text_of(bytes, only_read) {
-        Some(text) if std::io::stdout().write_all(text.as_bytes()).is_ok() => ExitCode::SUCCESS,
-        _ => ExitCode::FAILURE,
-    }
+    program::answer(|plan| text_of(plan, only_read))
 }
