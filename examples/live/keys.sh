@@ -26,4 +26,6 @@ for user in "$@"; do
     openssl rand -hex 24 >"$folder/$user.password"
     mosquitto_passwd -b "$folder/passwords" "$user" "$(cat "$folder/$user.password")"
 done
+# The broker and the nodes run as users of their own. Certificates are no secrets.
+chmod 644 "$folder"/*.crt
 rm -f "$folder/broker.csr"
