@@ -1,0 +1,427 @@
+#!/usr/bin/env python3
+"""Tries the units of the nodes and of the hub under systemd, in a machine of its own, by the words of the installed pages.
+
+    live_units.py PACKAGE [--root FOLDER] [--only nodes|hub]
+
+PACKAGE is what `make deb` makes. The machine is a Debian 12 in a temporary folder, booted by systemd-nspawn, and removed in
+the end. With --root its files are copied from that folder, which is made first if it is missing, and kept. All nodes of the
+example are on this one machine.
+
+Each line is what was tried, and what was seen. The status is 1 if something failed. It needs root, debootstrap and
+systemd-container, and takes about five minutes.
+"""
+
+import argparse
+import json
+import os
+import re
+import shutil
+import signal
+import subprocess
+import sys
+import tempfile
+import threading
+import time
+from pathlib import Path
+
+from live_found import Failed, Found, need, require, steps_of, wait_for
+from live_machine import Machine, make_root
+
+PACKAGES = ["systemd-sysv", "dbus", "python3", "python3-paho-mqtt", "python3-websockets"]
+PACKAGES += ["mosquitto", "mosquitto-clients", "openssl", "socat"]
+DOCS = "/usr/share/doc/market"
+NODES = {"auctioneer": "auctioneer", "street": "relay", "house": "device", "store": "device"}
+# Where a Resume has the index of the newest clearing.
+INDEX = {"auctioneer": 1, "relay": 9, "device": 5}
+PATIENCE = 60
+LOGIN = "-h broker.example -p 8883 --cafile market/ca.crt -u {0} -P \"$(cat market/{0}.password)\""
+
+
+class Market:
+    """The market of the example on one machine, and what an operator hears at its broker."""
+
+    def __init__(self, machine):
+        self.machine, self.heard, self._serial = machine, {}, 0
+
+    def set_up(self):
+        """Does what the page says. All four nodes are on this machine."""
+        steps = steps_of(self.machine.run(f"cat {DOCS}/LIVE.md").stdout, "Deploy it on three machines")
+        self.run(f"cp {DOCS}/examples/live/* .")
+        # The packages are there.
+        self.run(re.sub("^apt-get.*", "", steps[1]))
+        for name, sort in NODES.items():
+            self.run(f"cp market/{name}.password /etc/market")
+            self.run(steps[3].replace("street", name).replace("relay", sort))
+        self.listen()
+        self.all_are_up()
+        took = self._since_start()
+        told = self.run(steps[5]).strip()
+        return f"all states are up {took:.1f} s after the first unit began; the store is told {told}"
+
+    def run(self, command):
+        """Runs a command line in the operator's folder."""
+        return self.machine.run(f"set -e; mkdir -p /root/market && cd /root/market\n{command}").stdout
+
+    def _since_start(self):
+        began = self.machine.run(f"systemctl show -P ActiveEnterTimestampMonotonic {unit_of('auctioneer')}").stdout
+        return time.clock_gettime(time.CLOCK_MONOTONIC) - int(began) / 1e6
+
+    def listen(self):
+        """Hears all topics from now on."""
+        self.heard = {}
+        words = f"cd /root/market; exec mosquitto_sub {LOGIN.format('operator')} -F '%t %x' -t 'market/#'"
+        process = self.machine.start("operator", words, stdout=-1)
+        threading.Thread(target=self._read, args=(process.stdout,), daemon=True).start()
+
+    def _read(self, lines):
+        for line in lines:
+            topic, _, payload = line.strip().partition(" ")
+            self.heard[topic] = bytes.fromhex(payload)
+
+    def told(self, topic):
+        """The newest JSON of a topic, {} without one."""
+        return json.loads(self.heard.get(f"market/{topic}") or b"{}")
+
+    def is_up(self, name, other=""):
+        """Whether a node is up, in another process than that of the run."""
+        told = self.told(f"{name}/state")
+        return told.get("state") == "up" and told["run"] != other
+
+    def all_are_up(self):
+        """Waits until all are up."""
+        for name in NODES:
+            wait_for(lambda it=name: self.is_up(it), PATIENCE, f"{name} is not up")
+
+    def index(self, name):
+        """The index of the newest clearing that a node's Resume has."""
+        at = INDEX[NODES[name]]
+        return int.from_bytes(self.heard.get(f"market/{name}/resume", b"")[at : at + 4], "big")
+
+    def offer(self):
+        """Lets the store offer another power, and waits until it is told that. Gives the setpoint."""
+        self._serial += 1
+        power = -100 - self._serial
+        house = self.told("house/setpoint").get("clearing", 0)
+        for user, topic, demands in (("house", "house", [100] * 10), ("storecontrol", "store", [0] * 4 + [power] * 6)):
+            text = json.dumps({"power": demands, "reference": self._serial})
+            self.run(f"mosquitto_pub {LOGIN.format(user)} -q 1 -r -t market/{topic}/offer -m '{text}'")
+        wait_for(lambda: self.told("store/setpoint").get("power") == power, PATIENCE, f"the store is not told {power} W")
+        told = self.told("store/setpoint")
+        wait_for(lambda: self.told("house/setpoint").get("clearing", 0) > house, PATIENCE, "the house is told nothing")
+        require(told["step"] == 4, f"the clearing is not at step 4: {told}")
+        return told
+
+
+def unit_of(name):
+    """The unit of a node or of the hub."""
+    return "market-hub" if name == "hub" else f"market-{NODES[name]}@{name}"
+
+
+class Units:
+    """What systemd says of the units, and does with them."""
+
+    def __init__(self, machine):
+        self._machine = machine
+
+    def do(self, command, name, check=True):
+        """Lets systemctl do something with a unit, and gives what it says."""
+        return self._machine.run(f"systemctl {command} {unit_of(name)}", check).stdout.strip()
+
+    def show(self, name, what):
+        """A property of a unit."""
+        return self.do(f"show -P {what}", name)
+
+    def service_of(self, name):
+        """The number of the process of live, below that of the unit."""
+        return self._machine.run(f"cat /proc/{self.show(name, 'MainPID')}/task/*/children", False).stdout.partition(" ")[0]
+
+    def journal(self, name):
+        """The lines of a unit in the journal."""
+        return self._machine.run(f"journalctl --no-pager -o cat -u {unit_of(name)}").stdout
+
+    def cgroup(self, name, *files):
+        """The words of those of these files that a unit's cgroup has."""
+        group = self.show(name, "ControlGroup")
+        paths = " ".join(f"'/sys/fs/cgroup/{it[0]}{group}/{it[1]}'" for it in files)
+        return self._machine.run(f"cat {paths} 2>/dev/null", False).stdout.split()
+
+
+def killed(market, units, name):
+    """Kills all of a unit."""
+    run, index, restarts = market.told(f"{name}/state")["run"], market.index(name), int(units.show(name, "NRestarts"))
+    began = time.monotonic()
+    units.do("kill -s KILL", name)
+    wait_for(lambda: market.is_up(name, run), PATIENCE, "it is not up again")
+    took = time.monotonic() - began
+    require(int(units.show(name, "NRestarts")) == restarts + 1, "systemd did not start it once")
+    return f"up again after {took:.1f} s; {goes_on(market, name, index)}"
+
+
+def service_killed(market, units, name):
+    """Kills the service of a node alone."""
+    main, old, index = units.show(name, "MainPID"), units.service_of(name), market.index(name)
+    began = time.monotonic()
+    market.machine.run(f"kill -9 {old}")
+    wait_for(lambda: units.service_of(name) not in ("", old) and market.is_up(name), PATIENCE, "it is not up again")
+    took = time.monotonic() - began
+    require(units.show(name, "MainPID") == main, "the node was started anew too")
+    require("a signal ended it" in units.journal(name), "the journal has no line")
+    return f"a new one answers after {took:.1f} s; {goes_on(market, name, index)}"
+
+
+def goes_on(market, name, index):
+    """That a node goes on from its Resume, in words."""
+    market.all_are_up()
+    before = market.index(name)
+    require(before >= index, f"its index fell from {index} to {before}")
+    return f"it goes on from index {before}, and the next clearing is {market.offer()['clearing']}"
+
+
+def stopped(market, units, name):
+    """Stops a node, and starts it again."""
+    run, index = market.told(f"{name}/state")["run"], market.index(name)
+    began = time.monotonic()
+    units.do("stop", name)
+    took = time.monotonic() - began
+    wait_for(lambda: market.told(f"{name}/state")["state"] == "down", 1, "the broker does not say down")
+    told = market.told(f"{name}/state")
+    require(told["why"] == "stopped" and units.show(name, "Result") == "success", f"{told['why']}, {units.show(name, 'Result')}")
+    began = time.monotonic()
+    units.do("start", name)
+    wait_for(lambda: market.is_up(name, run), PATIENCE, "it is not up again")
+    again = time.monotonic() - began
+    require("is newer than the one on disk" not in units.journal(name), "it went on from the broker's Resume")
+    return f"down after {took:.1f} s, and up {again:.1f} s after the start; {goes_on(market, name, index)}"
+
+
+def password_wrong(market, units, name):
+    """Gives a node a wrong password, and then the right one."""
+    market.run(f"echo wrong >/etc/market/{name}.password")
+    units.do("restart", name)
+    wait_for(lambda: f"refuses the login of {name}" in units.journal(name), PATIENCE, "the journal has no line")
+    require(units.show(name, "ActiveState") == "active", "it does not go on trying")
+    market.run(f"cp market/{name}.password /etc/market")
+    units.do("restart", name)
+    market.all_are_up()
+    return "it says so and tries on, and is up after a restart with the right one"
+
+
+def refused(market, units, name, edit, status):
+    """Gives a node wrong settings, and then the right ones."""
+    market.run(f"sed -i '{edit}' /etc/market/{name}.toml")
+    units.do("restart", name, False)
+    wait_for(lambda: units.show(name, "ActiveState") == "failed", PATIENCE, "it does not fail")
+    ended, restarts = units.show(name, "ExecMainStatus"), units.show(name, "NRestarts")
+    time.sleep(6)
+    is_left = units.show(name, "ActiveState") == "failed" and units.show(name, "NRestarts") == restarts
+    line = units.journal(name).strip().splitlines()
+    market.run(f"cp {name}.toml /etc/market")
+    units.do("restart", name)
+    market.all_are_up()
+    require(is_left and ended == str(status), f"it ended with {ended}, and was started again")
+    return next(it for it in reversed(line) if it.startswith("cogmaula"))
+
+
+def booted_again(market, units):
+    """Stops the machine, and boots it again."""
+    session, before = market.told("basis")["session"], {name: market.index(name) for name in NODES}
+    began = time.monotonic()
+    market.machine.stop()
+    market.machine.boot()
+    market.listen()
+    market.all_are_up()
+    took = time.monotonic() - began
+    require(market.told("basis")["session"] == session, "another session has begun")
+    fallen = [name for name in NODES if market.index(name) < before[name]]
+    require(not fallen, f"the index fell at {fallen}")
+    lines = [it for name in NODES for it in units.journal(name).splitlines() if "is newer than the one on disk" in it]
+    require(not lines, f"a Resume on disk was lost: {lines}")
+    return f"all are up {took:.1f} s after the order, in the same session; the next clearing is {market.offer()['clearing']}"
+
+
+def limits(units, name):
+    """Whether a unit came to its limits."""
+    peak = units.cgroup(name, ("memory", "memory.max_usage_in_bytes"), ("", "memory.peak"))
+    files = [("memory", "memory.failcnt"), ("pids", "pids.events"), ("", "memory.events"), ("", "pids.events")]
+    refusals = units.cgroup(name, *files)
+    require(peak and refusals, "there is no controller of memory and of tasks")
+    most = int(units.show(name, "MemoryMax")), int(units.show(name, "TasksMax"))
+    require(not any(int(it) for it in refusals if it.isdigit()), f"it was refused memory or tasks: {refusals}")
+    tasks = units.show(name, "TasksCurrent")
+    return f"{int(peak[0]) / 2**20:.0f} MB at most of {most[0] / 2**20:.0f}, and {tasks} tasks now of {most[1]}"
+
+
+def exposure(machine, name):
+    """What systemd-analyze says."""
+    return machine.run(f"systemd-analyze security --no-pager {unit_of(name)}").stdout.strip().splitlines()[-1].strip("→ ")
+
+
+def hides(machine, units):
+    """That a node sees neither the password nor the folder of another of the same machine."""
+    main = units.show("house", "MainPID")
+    seen = machine.run(f"nsenter --target {main} --mount ls /var/lib/private/market /run/credentials").stdout
+    users = {name: machine.run(f"stat -c %u /proc/{units.show(name, 'MainPID')}").stdout.strip() for name in NODES}
+    require("house" in seen and "store" not in seen, f"it sees {seen.split()}")
+    require("0" not in users.values(), f"it runs as root: {users}")
+    return f"house sees {', '.join(sorted(it for it in seen.split() if ':' not in it))}; users are {users}"
+
+
+def try_nodes(found, machine):
+    """The units of nodes."""
+    market, units = Market(machine), Units(machine)
+    found.part("the market, by the words of LIVE.md", market.set_up)
+    found.part("offers", lambda: f"told {json.dumps(market.offer())}")
+    found.part("a node does not see what is another's", lambda: hides(machine, units))
+    for name in NODES:
+        found.part(f"{unit_of(name)} is killed", lambda it=name: killed(market, units, it))
+    for name in NODES:
+        found.part(f"the service of {name} is killed", lambda it=name: service_killed(market, units, it))
+    for name in NODES:
+        found.part(f"{unit_of(name)} is stopped and started", lambda it=name: stopped(market, units, it))
+    found.part("a wrong password", lambda: password_wrong(market, units, "house"))
+    found.part("status 2 is for good", lambda: refused(market, units, "house", "s/^child.*/child = 0/", 2))
+    found.part("status 5 is for good", lambda: refused(market, units, "house", "s/^max.*/max = 18/", 5))
+    for name in ("auctioneer", "street", "house"):
+        found.part(f"limits of {unit_of(name)}", lambda it=name: limits(units, it))
+        found.part(f"exposure of {unit_of(name)}", lambda it=name: exposure(machine, it))
+    found.part("the machine is stopped and booted", lambda: booted_again(market, units))
+    for name in NODES:
+        units.do("disable --now", name)
+
+
+class Hub:
+    """The hub of the example, and its two agents: one by WebSocket, and one by lines over TCP."""
+
+    def __init__(self, machine, units):
+        self.machine, self._units, self.lines, self.agents, self._number = machine, units, {}, {}, 0
+
+    def set_up(self):
+        """Does what the page says."""
+        steps = steps_of(self.machine.run(f"cat {DOCS}/HUB.md").stdout, "Start one in five minutes")
+        self.run(f"cp {DOCS}/examples/hub/* .")
+        for number in (1, 2, 3, 4):
+            self.run(steps[number])
+        self._commands = steps[5].splitlines()
+        return self.begin(0)
+
+    def run(self, command):
+        """Runs a command line in the operator's folder."""
+        return self.machine.run(f"set -e; mkdir -p /root/hub && cd /root/hub\n{command}").stdout
+
+    def starts(self):
+        """How often the hub has begun to listen."""
+        return self._units.journal("hub").count("for TCP")
+
+    def begin(self, starts):
+        """Waits until the hub listens once more, starts the agents, and lets them bid. Gives what they are told."""
+        began = time.monotonic()
+        wait_for(lambda: self.starts() > starts, PATIENCE, "the hub does not listen")
+        took = time.monotonic() - began
+        for name in self.agents:
+            self.machine.end(name)
+        for command in self._commands:
+            name = re.search("house|store", command)[0]
+            self.lines[name] = []
+            self.agents[name] = self.machine.start(name, f"cd /root/hub; exec {command}", stdin=-1, stdout=-1, stderr=-2)
+            threading.Thread(target=self._read, args=(self.lines[name], self.agents[name].stdout), daemon=True).start()
+        for name in self.agents:
+            wait_for(lambda it=name: self.lines[it], PATIENCE, f"{name} is told nothing")
+        clearing = self.bid()
+        return f"listens after {took:.1f} s; the next clearing is {clearing}; house is told {self.lines['house'][-1]}"
+
+    @staticmethod
+    def _read(lines, pipe):
+        for line in pipe:
+            lines.append(line.strip())
+
+    def bid(self):
+        """Lets the store bid another power by TCP, and waits until it is told that. Gives the index of the clearing."""
+        self._number += 1
+        power = -200 - self._number
+        points = [{"price": 3, "demand": 0}, {"price": 4, "demand": power}]
+        pipe = self.agents["store"].stdin
+        pipe.write(json.dumps({"bidUpdate": {"bidNumber": self._number, "pricePoints": points}}) + "\n")
+        pipe.flush()
+        wait_for(lambda: f'"power": {power},' in self.lines["store"][-1], PATIENCE, f"no {power} W: {self.lines}")
+        return json.loads(self.lines["store"][-1])["priceUpdate"]["clearing"]
+
+    def killed(self):
+        """Kills all of the unit."""
+        before, starts = self.bid(), self.starts()
+        self._units.do("kill -s KILL", "hub")
+        told = self.begin(starts)
+        require(self.bid() > before, "the index fell")
+        return told
+
+    def stopped(self):
+        """Stops the unit, and starts it again."""
+        before, starts = self.bid(), self.starts()
+        began = time.monotonic()
+        self._units.do("stop", "hub")
+        took = time.monotonic() - began
+        require(self._units.show("hub", "Result") == "success", f"it ended by {self._units.show('hub', 'Result')}")
+        last = wait_for(lambda: "error" in self.lines["store"][-1] and self.lines["store"][-1], 5, "the store is told nothing")
+        self._units.do("start", "hub")
+        told = self.begin(starts)
+        require(self.bid() > before, "the index fell")
+        return f"ended after {took:.1f} s, and the store was told {last}; {told}"
+
+    def booted_again(self):
+        """Stops the machine, and boots it again."""
+        before, starts = self.bid(), self.starts()
+        self.machine.stop()
+        self.machine.boot()
+        told = self.begin(starts)
+        require(self.bid() > before, "the index fell")
+        return told
+
+
+def try_hub(found, machine):
+    """The unit of the hub."""
+    units = Units(machine)
+    hub = Hub(machine, units)
+    found.part("the hub, by the words of HUB.md", hub.set_up)
+    found.part("market-hub is killed", hub.killed)
+    found.part("market-hub is stopped and started", hub.stopped)
+    found.part("limits of market-hub", lambda: limits(units, "hub"))
+    found.part("exposure of market-hub", lambda: exposure(machine, "hub"))
+    found.part("the machine of the hub is stopped and booted", hub.booted_again)
+
+
+def main():
+    parser = argparse.ArgumentParser(description=__doc__.splitlines()[0])
+    parser.add_argument("package", help="the Debian package of make deb")
+    parser.add_argument("--only", choices=["nodes", "hub"], help="these units alone")
+    parser.add_argument("--root", help="a folder with the root of the machine, made if it is missing, and kept")
+    arguments = parser.parse_args()
+    need(
+        (os.getuid() == 0, "root: run it as root"),
+        (Path(arguments.package).is_file(), f"{arguments.package}: make deb makes it"),
+        (shutil.which("debootstrap"), "debootstrap: install the package debootstrap"),
+        (shutil.which("systemd-nspawn"), "systemd-nspawn: install the package systemd-container"),
+    )
+    signal.signal(signal.SIGTERM, lambda *_: sys.exit(1))
+    found = Found()
+    with tempfile.TemporaryDirectory(prefix="live_units.") as folder:
+        root = Path(arguments.root or Path(folder) / "made")
+        if not root.exists():
+            make_root(root, *PACKAGES)
+        machine = Machine(Path(folder) / "machine")
+        subprocess.run(["cp", "-a", str(root), str(machine.root)], check=True)
+        shutil.copy(arguments.package, machine.root / "root/market.deb")
+        try:
+            machine.boot()
+            machine.run("dpkg -i /root/market.deb && echo 127.0.0.1 broker.example market.example >>/etc/hosts")
+            if arguments.only != "hub":
+                try_nodes(found, machine)
+            if arguments.only != "nodes":
+                try_hub(found, machine)
+        except Failed as error:
+            found("the machine", False, str(error))
+        finally:
+            machine.stop()
+    return min(found.failed, 1)
+
+
+if __name__ == "__main__":
+    sys.exit(main())
