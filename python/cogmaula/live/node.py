@@ -151,14 +151,20 @@ class Node:
             found += [settings.own_topic("offer"), settings.own_topic("setpoint")]
         else:
             found.append(topics.bid(settings.name, "+"))
+        if settings.shows_itself:
+            found += self._prices()
         if settings.parent is not None:
             found += [settings.own_topic("bid"), settings.own_topic("price"), topics.of(settings.parent, "state")]
         return found
 
-    def _written(self) -> list[str]:
+    def _prices(self) -> list[str]:
         """The topics of the prices for the node's children, which it alone writes."""
         settings = self.settings
         return [] if settings.sort == "device" else [settings.topics.price(settings.name, "+")]
+
+    def _written(self) -> list[str]:
+        """The topics that need not all be read back: the prices, unless the node's page shows what it hears."""
+        return [] if self.settings.shows_itself else self._prices()
 
     # The node's state.
 

@@ -162,6 +162,11 @@ class Settings:
             raise BadSettings(f"the basis is {basis}: max - min has to be a multiple of steps - 1")
 
     @property
+    def shows_itself(self) -> bool:
+        """Whether the node has a page that shows what the node itself hears."""
+        return self.page is not None and not self.page.whole
+
+    @property
     def topics(self) -> Topics:
         """The topics of the market."""
         return Topics(self.broker.prefix)

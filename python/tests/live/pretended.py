@@ -40,8 +40,8 @@ class PretendedLink:
         self.is_settled = self.confirms = False
         self.closed = self.will = self.topics = None
 
-    def start(self, topics, will, marker):
-        self.topics, self.will, self.marker = topics, will, marker
+    def start(self, topics, will, marker, written=()):
+        self.topics, self.will, self.marker = [*topics, *written], will, marker
 
     def publish(self, publication):
         self.newest[publication.topic] = publication
@@ -136,7 +136,7 @@ class Joined:
         self.said = []
         self.control = PretendedControl() if sort == "device" else None
         self.node = Node(settings(sort, folder, **more), self.control, self.said.append, self._linked)
-        self.link.start(self.node._subscriptions(), None, self.node._marker)
+        self.link.start(self.node._subscriptions(), None, self.node._marker, self.node._written())
         if self.control is not None:
             self.control.start(lambda data: self.node.serving.offers.take(data, time.monotonic()), self.said.append)
 

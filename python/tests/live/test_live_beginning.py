@@ -7,6 +7,7 @@ import threading
 import time
 
 import pytest
+from brokers import wait_until
 from pretended import (
     BASIS,
     BASIS_TOPIC,
@@ -407,8 +408,7 @@ def test_run_ends_with_the_state_down_and_why(tmp_path, how):
 
     thread = threading.Thread(target=work)
     thread.start()
-    while not links[0].topics:
-        time.sleep(0.01)
+    wait_until(lambda: links[0].topics, "the start of the connection")
     begin = time.monotonic()
     if how == "stopped":
         node._events.put(None)

@@ -29,6 +29,7 @@ from cogmaula.live.frames import (
     Setpoint,
     WindowFull,
 )
+from cogmaula.live.page_settings import PageSettings
 
 RELAY_RESUME = RelayResume(1, 0, 0, numbers((1, 1), (2, 4)))
 
@@ -239,6 +240,19 @@ def test_a_fault_of_the_service_is_told(joined):
 
 
 # What a relay and an auctioneer hear, ask and tell.
+
+
+WHERE = "127.0.0.1:0"
+PRICES_FOR_CHILDREN = [("auctioneer", ["market/auctioneer/price/+"]), ("relay", ["market/street/price/+"]), ("device", [])]
+
+
+@pytest.mark.parametrize(("sort", "due"), PRICES_FOR_CHILDREN)
+@pytest.mark.parametrize(("page", "are_all_read"), [(None, False), (PageSettings(WHERE, whole=True), False), (PageSettings(WHERE), True)])
+def test_which_topics_need_not_all_be_read_back(joined, sort, due, page, are_all_read):
+    """They are the prices for the node's children, unless its page shows what it hears."""
+    one = joined(sort, page=page)
+    assert one.node._written() == ([] if are_all_read else due)
+    assert [it for it in one.link.topics if it.endswith("/price/+")] == due
 
 
 def test_an_auctioneer_clears_after_news_and_tells_prices_with_time_and_session(joined):
