@@ -85,7 +85,7 @@ class Link(Protocol):
         """Connects, now and again, with this last will, and reads these topics. The marker is told anew for each connection.
 
         written: topics, each with + at its end, that this node alone writes. They are read too: what the broker retains, and then
-                 up to the first message that comes back, which shows that the node may write them
+                 at least up to the first message that comes back, which shows that the node may write them
         """
 
     @property
