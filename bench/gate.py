@@ -4,9 +4,9 @@
     python3 bench/gate.py [WORDS OF rt ci]
 
 Once a second it reads the times of all processes that the gate has started, from /proc, so what begins and ends between two
-looks is not counted. Kinds are told by how `rt` starts its prover: the proof of a crate, that of its tests, and the tries of
-its must-fail edits, with the check of the crate that these begin with. What the gate says is printed on standard error,
-and the table at the end on standard output. The status is that of the gate.
+looks is not counted. Kinds are told by how `rt` starts its prover: the proof of a crate, that of its tests, the check of the
+crate that its must-fail edits begin with, and the tries of these edits. What the gate says is printed on standard error, and
+two tables at the end on standard output: one by crates, and the dearest edits. The status is that of the gate.
 """
 
 import os
@@ -18,7 +18,9 @@ from pathlib import Path
 
 TOP = Path(__file__).resolve().parent.parent
 TICKS = os.sysconf("SC_CLK_TCK")
-KINDS = ("code", "tests", "edits")
+KINDS = ("code", "tests", "base", "edits")
+# How many of the dearest edits are printed.
+DEAREST = 40
 
 
 def processes():
@@ -47,7 +49,7 @@ def descendants(found, root):
 
 
 def work_of(number):
-    """The crate and the kind that a process of the prover works at; nothing for another process."""
+    """The crate, the kind and, for an edit, its file's name that a process of the prover works at; nothing for another process."""
     try:
         words = Path(f"/proc/{number}/cmdline").read_bytes().split(b"\0")
         folder = os.readlink(f"/proc/{number}/cwd")
@@ -56,12 +58,18 @@ def work_of(number):
     if b"--crate-name" not in words:
         return None
     crate = words[words.index(b"--crate-name") + 1].decode()
-    kind = "edits" if "/rt-edit" in folder else "tests" if b"--test" in words else "code"
-    return crate, kind
+    if "/rt-edit" not in folder:
+        return crate, "tests" if b"--test" in words else "code", None
+    # An edit is tried over a folder whose name is the edit's place; what edits begin with is in one named `seed`.
+    over = Path(words[words.index(b"--incremental") + 1].decode()).name if b"--incremental" in words else ""
+    edits = sorted((TOP / "crates" / crate / "must-fail").glob("*.edit"))
+    if over.isdigit() and int(over) < len(edits):
+        return crate, "edits", edits[int(over)].stem
+    return crate, "base" if over == "seed" else "edits", None
 
 
 def run(words):
-    """Runs the gate; gives its status, its minutes, and the seconds of each process with what it worked at."""
+    """Runs the gate; gives its status, its minutes, the seconds by crate and kind, and those of each edit."""
     began = time.monotonic()
     gate = subprocess.Popen(["rt", "ci", *words], cwd=TOP, stdout=sys.stderr)
     works, seconds = {}, {}
@@ -75,22 +83,28 @@ def run(words):
             seconds[key] = spent
         time.sleep(1)
     table = defaultdict(lambda: dict.fromkeys(KINDS, 0.0))
+    edits = defaultdict(float)
     for key, spent in seconds.items():
         if works[key]:
-            crate, kind = works[key]
+            crate, kind, edit = works[key]
             table[crate][kind] += spent
-    return gate.returncode, (time.monotonic() - began) / 60, table
+            if edit:
+                edits[crate, edit] += spent
+    return gate.returncode, (time.monotonic() - began) / 60, table, edits
 
 
 def main():
-    status, minutes, table = run(sys.argv[1:])
+    status, minutes, table, edits = run(sys.argv[1:])
     order = [line.split(":")[0] for line in (TOP / "crates.txt").read_text().split("\n") if ":" in line]
-    print("| Crate | Its proof s | That of its tests s | Its edits s |")
-    print("|---|---|---|---|")
+    print("| Crate | Its proof s | That of its tests s | What its edits begin with s | Its edits s |")
+    print("|---|---|---|---|---|")
     for crate in sorted(table, key=lambda it: order.index(it) if it in order else len(order)):
         print(f"| `{crate}` | " + " | ".join(f"{table[crate][kind]:.0f}" for kind in KINDS) + " |")
     sums = [sum(row[kind] for row in table.values()) for kind in KINDS]
     print("| all | " + " | ".join(f"{it:.0f}" for it in sums) + " |")
+    print("\n| Edit | s |\n|---|---|")
+    for (crate, edit), spent in sorted(edits.items(), key=lambda it: -it[1])[:DEAREST]:
+        print(f"| `{crate}/{edit}` | {spent:.0f} |")
     print(f"\n{sum(sums) / 60:.0f} processor minutes in {minutes:.0f} minutes, status {status}")
     return status
 
