@@ -28,7 +28,7 @@ help: ## lists the targets, and the variables that say where to
 	@echo "PREFIX is $(PREFIX). DESTDIR is put before all places: make install DESTDIR=/tmp/stage PREFIX=/usr"
 	@echo "Also: bindir libexecdir datadir docdir mandir unitdir, and bash-, zsh- and fishcompletiondir."
 
-prove: ## proves and builds the programs: market in about 13 minutes on four processors, then live
+prove: ## proves and builds the programs: market in 13 to 25 minutes on four processors, then live
 	./market prove
 	./market prove live
 

@@ -141,16 +141,16 @@ date: $(date +%Y-%m-%d)
 state: $now"
 }
 
-# Prints about how many minutes the proof of all crates of `market` takes here. On four processors it was measured
-# (docs/measured/PROVE.md); for fewer it is worked out from the 42 processor minutes that it took there.
+# Prints from how many to how many minutes the proof of all crates of `market` takes, by the number of processors here. It took
+# 42 processor minutes on the fastest machine that was measured, and 89 on the slowest (docs/measured/PROVE.md).
 minutes_to_prove() {
     local processors
     processors="$(nproc 2>/dev/null)" || processors=1
     case "$processors" in
-        1) echo 45 ;;
-        2) echo 24 ;;
-        3) echo 17 ;;
-        *) echo 13 ;;
+        1) echo "45 to 90" ;;
+        2) echo "24 to 50" ;;
+        3) echo "17 to 35" ;;
+        *) echo "13 to 25" ;;
     esac
 }
 

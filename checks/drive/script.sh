@@ -175,9 +175,9 @@ prove_live() { ./market prove live 2>/dev/null; }
 
 nproc() { echo 4; }
 export -f nproc
-none="no program is proved here; ./market prove makes one in about 13 minutes"
-stale="the sources changed since they were proved; ./market prove takes at most about 13 minutes"
-other="the program is not the one that was proved; ./market prove takes at most about 13 minutes"
+none="no program is proved here; ./market prove makes one in 13 to 25 minutes"
+stale="the sources changed since they were proved; ./market prove takes 13 to 25 minutes or less"
+other="the program is not the one that was proved; ./market prove takes 13 to 25 minutes or less"
 none_live="live is not proved here; ./market prove live makes it"
 stale_live="the sources of live changed since they were proved; ./market prove live proves them"
 other_live="live is not the program that was proved; ./market prove live makes it again"
@@ -209,8 +209,8 @@ is "from another folder" 0 "tried run: input" "$first ${none/.\//$absolute/}" '(
 is "by a link" 0 "tried run: input" "$first ${none/.\/market/$folder\/link}" '"$folder/link" run'
 is "by a relative path" 0 "tried run: input" "$first ${none/.\//../}" '(cd checks && ../market run)'
 is "by bash" 0 "tried run: input" "$first $none" 'bash market run'
-is "on two processors" 0 "tried run: input" "$first ${none/13/24}" '(nproc() { echo 2; }; ./market run)'
-is "on one processor" 0 "tried run: input" "$first ${none/13/45}" '(nproc() { echo 1; }; ./market run)'
+is "on two processors" 0 "tried run: input" "$first ${none/13 to 25/24 to 50}" '(nproc() { echo 2; }; ./market run)'
+is "on one processor" 0 "tried run: input" "$first ${none/13 to 25/45 to 90}" '(nproc() { echo 1; }; ./market run)'
 is "a demo" 0 "tried demo 1 2: no input" "$first $none" './market demo 1 2'
 is "a demo on a terminal" 0 "$first $none
 tried demo 1 2: no input" "" 'screen "./market demo 1 2"'
