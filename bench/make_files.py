@@ -142,7 +142,7 @@ def largest():
 
 
 def compared():
-    """The files on which the ways to run a cluster are compared, by their names."""
+    """The files on which the ways to run a cluster are compared, by their names; `few` for `load.py` alone."""
     return {
         "demo": scene(1, *demo(200, 7), {"min": 0, "max": 99, "steps": 100}),
         "wide": scene(1, [*concentrators(6, False), *devices(250, 6)], [*ticks(250, 19_750), leaves(150)]),
@@ -150,6 +150,7 @@ def compared():
         "bursts": scene(1, [*chain(6), *devices(240, 6)], toggles(4, 4000, 240)),
         "chain": scene(1, [*chain(6), *devices(6, 6)], toggles(1000, 16, 6)),
         "calm": scene(1, devices(256, 0), [joins(256)] + [{"events": []}] * 999),
+        "few": scene(1, [*chain(1), *devices(3, 1)], [joins(3)] + [{"tick": 15}] * 23),
     }
 
 

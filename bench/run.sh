@@ -7,7 +7,8 @@
 #   - messages over one link by `measure link`;
 #   - `market serve` on a stream of bids of 407 MB, beside the plain program of `bench/plain_serve`;
 #   - `live relay` beside the plain program of `bench/plain_relay` (relay.py): on streams of bids, the time to its own bid, and its
-#     memory.
+#     memory;
+#   - `market run` and `market free` beside ten busy loops for each processor (load.py), five times on each file.
 #
 # Without `rustc` the plain programs are left out, and without `gcc` the counts.
 #
@@ -77,8 +78,10 @@ python3 bench/compare.py "${1:-7}" crates/market/out/market crates/measure/out/m
 compared=$?
 python3 bench/relay.py "${1:-7}" crates/live/out/live "$plain_relay" "$folder"
 relayed=$?
-case "$compared$relayed" in
-    00) exit 0 ;;
-    02 | 20 | 22) exit 2 ;;
-    *) exit 1 ;;
+[ "$plain" = - ] || python3 bench/load.py 5 5 crates/market/out/market "$plain" "$folder"
+loaded=$?
+case "$compared$relayed$loaded" in
+    000) exit 0 ;;
+    *[!02]*) exit 1 ;;
+    *) exit 2 ;;
 esac

@@ -202,7 +202,7 @@ impl StreamFrame for DeviceFrame {
         read_body(alloc, place, kind, body)
     }
 
-    fn place_behind(&self, place: NodePlace) -> NodePlace {
+    fn place_after(&self, place: NodePlace) -> NodePlace {
         let stage = match self {
             DeviceFrame::Hello { basis } => Stage::Opened {
                 steps: basis.steps(),

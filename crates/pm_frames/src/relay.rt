@@ -140,7 +140,7 @@ impl StreamFrame for RelayFrame {
         read_body(alloc, place, kind, body)
     }
 
-    fn place_behind(&self, place: NodePlace) -> NodePlace {
+    fn place_after(&self, place: NodePlace) -> NodePlace {
         let stage = match self {
             RelayFrame::Child(frame) => place.stage.after(frame),
             RelayFrame::Parent(_) | RelayFrame::Send | RelayFrame::Resume(_) => place

@@ -99,7 +99,7 @@ impl StreamFrame for RootFrame {
         read_body(alloc, place, kind, body)
     }
 
-    fn place_behind(&self, place: Stage) -> Stage {
+    fn place_after(&self, place: Stage) -> Stage {
         match self {
             RootFrame::Market(frame) => place.after(frame),
             RootFrame::Resume(_) => place.behind(),

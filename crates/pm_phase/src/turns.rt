@@ -14,8 +14,8 @@ use pm_device::Next;
 use pm_nodes::Gate;
 use pm_plan::Plan;
 use std::alloc::Global;
+use std::hint;
 use std::sync::atomic::{AtomicU64, Ordering};
-use std::thread;
 
 /// What the turns of a phase share.
 #[derive(Drop)]
@@ -31,7 +31,11 @@ pub(crate) struct Phase<'a, G> {
 }
 
 /// A thread ends after so many rounds of its nodes, one after another, during which no thread moved a message.
-const PATIENCE: u32 = 10;
+const PATIENCE: u32 = 30;
+
+/// How often a thread pauses between two rounds in which it moved no message. It does not yield: on a machine that is busy with
+/// other work a yield waits for all of that, and what a thread leaves is taken to its end on the caller's.
+const PAUSES: u32 = 20;
 
 /// Makes rounds of some nodes, as many as it may, or until nothing moves any more.
 pub(crate) fn make_rounds<G: Gate>(
@@ -61,7 +65,14 @@ pub(crate) fn make_rounds<G: Gate>(
         if idle >= PATIENCE {
             break;
         }
-        thread::yield_now();
+        pause();
+    }
+}
+
+/// Passes the time between two rounds.
+fn pause() {
+    for _ in 0..PAUSES {
+        hint::spin_loop();
     }
 }
 

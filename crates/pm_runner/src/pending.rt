@@ -6,7 +6,7 @@
 //! |---|---|---|
 //! | the opening of a phase | which devices change in it, and who owes whom | those devices |
 //! | `Change` | its number waits to be learnt; after its last change it owes no more | that device; its parent |
-//! | `Learn` | one number fewer waits; the parent has something to send | that parent |
+//! | `Learn` | one number fewer waits; the parent has something to send; whether a price may come to the child | that parent |
 //! | `Publish` | all is sent; the number waits to be learnt; it owes no more | the parent above |
 //! | `Clear` | all is sent; a price waits for each child that may be addressed | those children |
 //! | `Pass` to a concentrator | its price is taken; one waits for each child that may be addressed | those children |
@@ -18,9 +18,10 @@
 //! does each concentrator with such a device below it. So a parent learns and sends once a phase, whatever the order in which
 //! its children were served, and its thread is woken once for it.
 //!
-//! A clearing may be passed to a device from the change that makes it a member to the next closing at which it is none, and to
-//! a concentrator that published. The clearing may be of an earlier cut: then the turn of that node finds no move, and
-//! `found_nothing` takes the work away, so that no thread turns in vain twice.
+//! A clearing may be passed to a concentrator from which its parent learnt a bid, and to a device whose bid, as its parent learnt
+//! it last, is not gone: a parent learns all that waits before it sends, so a clearing has what each parent below it learnt last.
+//! Where one does not, as it is of an earlier cut, the turn of a node may find no move. Then `found_nothing` takes the work away,
+//! so that no thread turns in vain twice.
 //!
 //! # Why nothing is missed
 //!
@@ -48,6 +49,9 @@ use pm_tree::NodeId;
 use pm_turns::next_of;
 use std::alloc::{AllocError, Global};
 
+/// From so many devices on that change in a phase, those that wait for its end yield before they sleep.
+const CROWD: u32 = 64;
+
 /// What is pending at each node.
 #[derive(Drop)]
 pub(crate) struct Pending {
@@ -64,6 +68,8 @@ pub(crate) struct Pending {
     unsent: u32,
     /// Whether the open phase has changes.
     pub(crate) active: bool,
+    /// Whether many devices change in the open phase.
+    pub(crate) crowded: bool,
     /// Whether the open phase is the last.
     last: bool,
     /// The bells to ring after this hold, each once. It has room for all bells.
@@ -83,7 +89,7 @@ pub(crate) struct NodePending {
     pub(crate) active: bool,
     /// Of a device: its newest change left it a member.
     pub(crate) member: bool,
-    /// A clearing may be passed to it: the device was a member since the last closing; the concentrator published.
+    /// A clearing may be passed to it: its parent learnt a bid of it, and of a device the newest one that it learnt is not gone.
     addressed: bool,
     /// A clearing may wait to be passed to it.
     price: bool,
@@ -160,6 +166,7 @@ impl Pending {
             offered: 0,
             unsent: 0,
             active: false,
+            crowded: false,
             last: false,
             rings: Vec::with_capacity(alloc, bells.count() as usize)?,
         })
@@ -230,6 +237,7 @@ impl Pending {
                 self.begin(number, changes);
             }
         }
+        self.crowded = self.changing >= CROWD;
     }
 
     /// A phase begins for a device, with changes of it or without.
@@ -240,7 +248,6 @@ impl Pending {
         work.changes = changes;
         work.active = changes;
         work.passed = false;
-        work.addressed = work.member;
         if changes {
             self.active = true;
             self.changing = self.changing.saturating_add(1);
@@ -279,7 +286,6 @@ impl Pending {
             return;
         };
         work.member = made.member;
-        work.addressed = work.addressed || made.member;
         work.changes = more;
         if !more {
             self.changing = self.changing.saturating_sub(1);
@@ -323,6 +329,7 @@ impl Pending {
             return;
         };
         work.offered = false;
+        work.addressed = !work.device || work.member;
         let parent = work.parent;
         self.offered = self.offered.saturating_sub(1);
         let Some(above) = self.nodes.get_mut(parent as usize) else {
@@ -342,7 +349,6 @@ impl Pending {
         };
         let paid = work.owes;
         work.owes = false;
-        work.addressed = true;
         self.sent(node);
         self.offer(node, paid);
     }

@@ -53,7 +53,7 @@ fn close_by<R: Wait>(rt: &R, shared: Shared, served: u32) -> Option<Line> {
         return None;
     };
     let mut own = own.lock(rt);
-    let mut desk = shared.desk.lock(rt);
+    let mut desk = shared.lock(rt);
     let line = desk.close_if_quiet();
     let_go(shared, &mut own.rings, desk);
     line
@@ -67,7 +67,7 @@ fn turn_at_once<'p, R: Wait>(rt: &R, shared: Shared<'_, 'p>, node: u32) -> Turn<
     };
     let mut own = own.lock(rt);
     let worker = &mut *own;
-    let mut desk = shared.desk.lock(rt);
+    let mut desk = shared.lock(rt);
     desk.pending.rise(node);
     if desk.pending.is_quiet() {
         return end_turn(shared, &mut worker.rings, node, desk, None);
@@ -77,7 +77,7 @@ fn turn_at_once<'p, R: Wait>(rt: &R, shared: Shared<'_, 'p>, node: u32) -> Turn<
 
 /// Sleeps until one of the nodes has something to do, or the phase can be closed; whether it can be.
 fn await_any<R: Wait>(rt: &R, shared: Shared, nodes: &[u32]) -> bool {
-    let mut desk = shared.desk.lock(rt);
+    let mut desk = shared.lock(rt);
     for _ in rt.forever() {
         if desk.is_over() || desk.has_any_task(nodes) {
             break;

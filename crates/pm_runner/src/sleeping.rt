@@ -56,8 +56,12 @@ impl Pending {
 
     /// Where a node without work goes to sleep: a device with those that wait for the same thing.
     ///
-    /// A device is near its next work if it awaits the price of a phase in which it changes itself, or the opening of such a phase.
-    /// One that only awaits the price of the changes of others has a whole phase to wait. Its yields would keep the processors
+    /// A device is near its next work if many devices change in the open phase, and it awaits the price of one in which it changes
+    /// itself, or the opening of such a phase. So many sleeps would cost more than all the moves, and a yield lets those go on that
+    /// still move. Where few change, the processors have nobody else to serve, and on a machine that is busy with other work each
+    /// yield waits for all of that.
+    ///
+    /// A device that only awaits the price of the changes of others has a whole phase to wait. Its yields would keep the processors
     /// from those that move, so it sleeps at once, and so does a parent, which waits for all its children. Before the first phase
     /// is closed nobody is near: the caller's thread still starts the others.
     pub(crate) fn berth_of(&self, plan: &Plan, closed: usize, node: u32) -> Berth {
@@ -70,13 +74,17 @@ impl Pending {
             return Berth { bell, near };
         }
         let prices = self.bells.prices(work.parent);
+        let crowded = self.crowded && closed > 0;
         if work.member && self.active && !work.passed {
-            let (bell, near) = (prices, work.active && closed > 0);
-            return Berth { bell, near };
+            let near = crowded && work.active;
+            return Berth { bell: prices, near };
         }
         if changes_after(plan, closed, node) {
-            let (bell, near) = (self.bells.opening(), closed > 0);
-            return Berth { bell, near };
+            let bell = self.bells.opening();
+            return Berth {
+                bell,
+                near: crowded,
+            };
         }
         let bell = if work.member { prices } else { bell };
         Berth { bell, near }

@@ -9,7 +9,7 @@ use pm_agent::DeviceAgent;
 use pm_market::Line;
 use pm_nodes::{Gate, can_work};
 use std::sync::{Condvar, Mutex, MutexGuard, Wait};
-use std::thread;
+use std::{hint, thread};
 
 /// What the threads of a run share.
 #[derive(Clone, Copy)]
@@ -18,6 +18,27 @@ pub(crate) struct Shared<'a, 'p> {
     pub(crate) bells: &'a [Condvar],
     /// By the numbers of the nodes.
     pub(crate) workers: &'a [Mutex<Worker>],
+}
+
+impl<'a, 'p> Shared<'a, 'p> {
+    /// Takes the lock. A hold is shorter than a sleep and its wake-up, so a thread that finds the lock taken looks again for a
+    /// while before it sleeps.
+    pub(crate) fn lock<R: Wait>(self, rt: &R) -> MutexGuard<'a, Desk<'p>> {
+        for _ in 0..LOOKS {
+            if let Some(desk) = self.desk.try_lock() {
+                return desk;
+            }
+            pause();
+        }
+        self.desk.lock(rt)
+    }
+}
+
+/// Passes the time between two looks at the lock.
+fn pause() {
+    for _ in 0..PAUSES {
+        hint::spin_loop();
+    }
 }
 
 /// What serves one node.
@@ -47,6 +68,12 @@ struct Rest {
     bell: u32,
     rung: u64,
 }
+
+/// How often a thread that finds the lock taken looks at it before it sleeps.
+const LOOKS: u32 = 50;
+
+/// How often a thread pauses between two looks at the lock.
+const PAUSES: u32 = 20;
 
 /// How often a device that is near its next work yields the processor before it sleeps. A sleep and its wake-up cost as much as
 /// some ten yields, and the moves of the other nodes that it waits for take about as long.
@@ -98,7 +125,7 @@ pub(crate) fn serve_node<R: Wait, G: Gate>(rt: &R, shared: Shared, gate: &G, nod
 
 /// Gives the run up.
 pub(crate) fn give_up<R: Wait>(rt: &R, shared: Shared) {
-    let mut desk = shared.desk.lock(rt);
+    let mut desk = shared.lock(rt);
     desk.halt();
     drop(desk);
     for bell in shared.bells {
@@ -113,7 +140,7 @@ fn await_turn<'p, R: Wait>(
     worker: &mut Worker,
     node: u32,
 ) -> Turn<'p> {
-    let mut desk = shared.desk.lock(rt);
+    let mut desk = shared.lock(rt);
     for _ in rt.forever() {
         if desk.is_over() || desk.has_task(node) {
             break;
@@ -177,7 +204,7 @@ fn change<'p, R: Wait>(
         return Turn::last();
     }
     let made = agent.work(job.next, job.plan.arrays());
-    let mut desk = shared.desk.lock(rt);
+    let mut desk = shared.lock(rt);
     let line = desk.post(made);
     end_turn(shared, rings, node, desk, line)
 }

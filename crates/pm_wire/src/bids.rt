@@ -175,7 +175,7 @@ impl StreamFrame for Frame {
         read_body(alloc, place, kind, body)
     }
 
-    fn place_behind(&self, place: Option<usize>) -> Option<usize> {
+    fn place_after(&self, place: Option<usize>) -> Option<usize> {
         match self {
             Frame::Hello { basis } => Some(basis.steps()),
             Frame::Bid { .. } | Frame::Gone { .. } | Frame::Clear => place,

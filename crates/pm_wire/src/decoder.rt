@@ -149,7 +149,7 @@ impl<F: StreamFrame> FrameDecoder<F> {
             Reading::Whole { frame, size } => {
                 self.start = drop_given(&mut self.buffer, self.start + size);
                 self.offset += size as u64;
-                self.place = frame.place_behind(self.place);
+                self.place = frame.place_after(self.place);
                 Ok(Some(frame))
             }
             Reading::Unfinished => Ok(None),

@@ -32,8 +32,8 @@ pub trait StreamFrame: Drop {
         requires size { framing.size_at place kind ≡ Some (length body.now + 1) }
         ensures { IfOk result (IsOne framing place (kind ∷ body.now)) };
 
-    /// The place behind the frame, which may stand at this one.
-    fn place_behind(&self, place: Self::Place) -> Self::Place
+    /// The place after the frame, which may stand at this one.
+    fn place_after(&self, place: Self::Place) -> Self::Place
         requires { MayStand framing place self.now }
         ensures { result ≡ framing.place_after place self.now };
 
