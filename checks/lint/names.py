@@ -37,6 +37,7 @@ SAME_IN_CODE = {
     "make_plan": "makes a plan of its parts",
     "no_changes": "no change of any device",
     "pass": "a concentrator passes a price on",
+    "pause": "passes the time between two looks of a thread",
     "power_of": "the power of a device",
     "read_body": "reads the fields of a frame",
     "read_hello": "reads the fields of Hello",
