@@ -19,20 +19,17 @@ import subprocess
 import sys
 import time
 
-COMPARED = ["few", "demo", "wide", "deep", "bursts", "chain", "calm"]
+from compare import COMPARED, LONGEST_SECONDS, Failed, beside, load, name_of, text_of
+
+FILES = ["few", *COMPARED]
 COMMANDS = ["run", "free"]
 LOOPS_OF_A_PROCESSOR = 10
-LONGEST_SECONDS = 60
 # How many times its time at rest a run may take beside the loops.
 GOAL = 20
 
 
-class Failed(Exception):
-    """A run failed or takes too long, or its text differs."""
-
-
-def run(command, data, due=None):
-    """The seconds that a command takes on these bytes, and its text, which must be the one due."""
+def seconds_of_run(command, data, due):
+    """The seconds that a command takes on these bytes; its text must be the one due. It stays in the session of the loops."""
     words = " ".join(os.path.basename(word) for word in command)
     begin = time.perf_counter()
     try:
@@ -41,9 +38,10 @@ def run(command, data, due=None):
         raise Failed(f"{words} takes more than {LONGEST_SECONDS} seconds") from None
     except subprocess.CalledProcessError as error:
         raise Failed(f"{words} ends with status {error.returncode}") from None
-    if due is not None and done.stdout != due:
+    seconds = time.perf_counter() - begin
+    if done.stdout != due:
         raise Failed(f"the text of {words} differs from that of the plain program")
-    return time.perf_counter() - begin, done.stdout
+    return seconds
 
 
 def seconds_of(market, runs, data, due):
@@ -51,7 +49,7 @@ def seconds_of(market, runs, data, due):
     taken = {command: [] for command in COMMANDS}
     for _ in range(runs):
         for command in COMMANDS:
-            taken[command].append(run([market, command], data, due)[0])
+            taken[command].append(seconds_of_run([market, command], data, due))
     return taken
 
 
@@ -72,29 +70,28 @@ def measured(rested, loaded, market, plain, path):
     """Prints the lines of a file; whether the goal is missed."""
     with open(path, "rb") as source:
         data = source.read()
-    _, due = run([plain], data)
+    due = text_of([plain], path)
     at_rest = seconds_of(market, rested, data, due)
     with busy_loops(LOOPS_OF_A_PROCESSOR * os.cpu_count()):
-        beside = seconds_of(market, loaded, data, due)
+        loaded_times = seconds_of(market, loaded, data, due)
     misses = []
     for command in COMMANDS:
-        median, longest = statistics.median(at_rest[command]), max(beside[command])
-        misses.append(longest > GOAL * median)
-        name = os.path.basename(path).removesuffix(".json")
-        print(f"{name:<6} {command:<4} at rest {median:7.3f} s, beside the loops {statistics.median(beside[command]):7.3f} s, the "
-              f"longest {longest:7.3f} s, {longest / median:6.1f} times (goal {GOAL}{', MISSED' if misses[-1] else ''})", flush=True)
+        median, longest = statistics.median(at_rest[command]), max(loaded_times[command])
+        times, missed = beside(longest / median, GOAL)
+        misses.append(missed)
+        print(f"{name_of(path):<6} {command:<4} at rest {median:7.3f} s, beside the loops "
+              f"{statistics.median(loaded_times[command]):7.3f} s, the longest {longest:7.3f} s, times at rest {times}", flush=True)
     return any(misses)
 
 
 def main(rested, loaded, market, plain, folder, *names):
-    names = names or COMPARED
-    print(f"{os.cpu_count()} processors, load {os.getloadavg()[0]:.1f}, {rested} runs at rest and {loaded} beside the loops, of each "
-          "command on each file; medians", flush=True)
+    print(f"{os.cpu_count()} processors, {load()}, {rested} runs at rest and {loaded} beside the loops, of each command on each file; "
+          "medians", flush=True)
     statuses = []
-    for name in names:
+    for name in names or FILES:
+        path = os.path.join(folder, "compared", name + ".json")
         try:
-            missed = measured(int(rested), int(loaded), market, plain, os.path.join(folder, "compared", name + ".json"))
-            statuses.append(2 if missed else 0)
+            statuses.append(2 if measured(int(rested), int(loaded), market, plain, path) else 0)
         except Failed as failure:
             print(f"{name}: {failure}", flush=True)
             statuses.append(1)
