@@ -18,9 +18,6 @@ use std::alloc::{AllocError, Global};
 use std::sync::atomic::AtomicU64;
 use std::thread::Threads;
 
-/// How many rounds a thread makes at most for each change of the phase.
-const ROUNDS_OF_A_CHANGE: u64 = 100;
-
 /// What a phase over links came to.
 #[derive(Drop)]
 pub struct PhaseRun {
@@ -60,8 +57,7 @@ pub fn run_phase<R: Threads + Sync, G: Gate>(
         moved: &moved,
     };
     let mut nodes = nodes;
-    let rounds = ROUNDS_OF_A_CHANGE.saturating_mul(count as u64);
-    run_nodes(rt, &phase, &links, nodes.as_mut_slice(), rounds);
+    run_nodes(rt, &phase, &links, nodes.as_mut_slice(), count);
     take_to_end(&phase, &links, nodes.as_mut_slice());
     close_links(alloc, links, places, nodes)
 }
