@@ -77,6 +77,32 @@ impl Made {
         &self.demand
     }
 
+    /// What the next change makes of a device of this kind, with its demand in a bid that is handed over. It is for one who hands
+    /// each bid on for good. Whoever keeps its bid has a [`crate::DeviceAgent`]. The state fits the kind, and the arrays have as
+    /// many steps as the bid.
+    pub fn new(kind: Kind, next: Next, arrays: &[ArrayBid], bid: ArrayBid) -> Made
+        requires valid { IsTrue (is_valid kind) }
+        requires fits { IsTrue (state_fits kind next.state.0) }
+        requires arrays { HaveSteps (length bid) arrays.now }
+        ensures next { result.next ≡ next }
+        ensures kind { result.kind ≡ kind }
+        ensures demand { result.demand ≡ demand_after_change kind next arrays.now (length bid) }
+        ensures steps { length result.demand ≡ length bid }
+        ensures made { IsMade result }
+    {
+        let mut demand = bid;
+        fill_demand(&kind, next, arrays, &mut demand);
+        Made { next, kind, demand }
+    }
+
+    /// The demand alone.
+    pub fn into_demand(self) -> ArrayBid
+        ensures demand { result ≡ self.demand }
+        ensures made { IsMade self }
+    {
+        self.demand
+    }
+
     /// Makes the demand that of the next change.
     pub(crate) fn follow(&mut self, next: Next, arrays: &[ArrayBid])
         requires valid { IsTrue (is_valid self.old.kind) }
@@ -90,10 +116,21 @@ impl Made {
         ensures made { IsMade self.new }
     {
         self.next = next;
-        if next.member {
-            fill_bid(&self.kind, next.state, arrays, &mut self.demand);
-        } else {
-            self.demand.set_zero(&mut Steps::<Brand>::start());
-        }
+        fill_demand(&self.kind, next, arrays, &mut self.demand);
+    }
+}
+
+/// Makes `out` the demand of a device of this kind after a change.
+fn fill_demand(kind: &Kind, next: Next, arrays: &[ArrayBid], out: &mut ArrayBid)
+    requires valid { IsTrue (is_valid kind.now) }
+    requires fits { IsTrue (state_fits kind.now next.state.0) }
+    requires arrays { HaveSteps (length out.old) arrays.now }
+    ensures demand { out.new ≡ demand_after_change kind.now next arrays.now (length out.old) }
+    ensures steps { length out.new ≡ length out.old }
+{
+    if next.member {
+        fill_bid(kind, next.state, arrays, out);
+    } else {
+        out.set_zero(&mut Steps::<Brand>::start());
     }
 }

@@ -11,6 +11,7 @@ ghost use Rattle.pm_board.specs.Boards.{board_state, AddsLine, ClosesPhase};
 
 use crate::board::Board;
 use pm_agent::Made;
+use pm_bid::ArrayBid;
 use pm_cluster::ChangeFault;
 use pm_market::{Line, Move};
 use pm_tree::NodeId;
@@ -38,6 +39,35 @@ impl<'p> Board<'p> {
         let what = self.cluster.change(made)?;
         let _ = self.journal.push(Line { what, held: None });
         Ok(what)
+    }
+
+    /// Makes the next change of a device as [`Board::post`] does, and copies nothing. The demand is the parent's from then on, and
+    /// another bid of as many steps comes in its place; what that is at its steps is left open. If the change is refused, it is
+    /// the demand itself.
+    pub fn post_owned(&mut self, made: Made) -> (Result<Move, ChangeFault>, ArrayBid)
+        requires steps { length made.demand ≡ self.old.plan.basis.steps }
+        ensures follows { IfOk result.0 (λ what. Follows self.old.plan
+            (board_state self.old).closed (board_state self.old).counts made) }
+        ensures form { IfOk result.0 (λ what. what
+            ≡ Move.Change made.next.device made.next.number) }
+        ensures adds { IfOk result.0 (λ what. AddsLine self.old self.new
+            (record { what = what; held = None })) }
+        ensures ends { self.new.ends ≡ self.old.ends }
+        ensures refused { IfErr result.0
+            (NotChanged self.old.plan (board_state self.old).closed
+            (board_state self.old).counts made) }
+        ensures unchanged { IfErr result.0 (λ fault. self.new ≡ self.old) }
+        ensures back { IfErr result.0 (λ fault. result.1 ≡ made.demand) }
+        ensures same_length { length result.1 ≡ length made.demand }
+    {
+        let (outcome, other) = self.cluster.change_owned(made);
+        match outcome {
+            Ok(what) => {
+                let _ = self.journal.push(Line { what, held: None });
+                (Ok(what), other)
+            }
+            Err(fault) => (Err(fault), other),
+        }
     }
 
     /// Makes one move of a node, if one is legal, and its line joins the journal. A node learns from its children, a

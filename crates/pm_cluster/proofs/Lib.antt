@@ -20,6 +20,7 @@ mod EndsAlike
 pub mod NextChanges
 mod DeviceFields
 mod Making
+mod Noted
 pub mod ActForms
 mod SameNext
 pub mod Runs

@@ -69,14 +69,23 @@ legal_next plan is_plan c s stands next kind follows =
       ),
     )
 
+-- the bid of a member by the arrays of the plan is the demand of the plan
+pub filled_demand : (plan : PlanData) (c : Core) (next : Next) (kind : Kind) (demand : List ℤ) (arrays : List (List ℤ)) (steps : ℕ) →
+    next.member ≡ true → kind_of (node plan next.device) ≡ Some kind → IsNext plan c.closed (count_of c) next.device next →
+    steps ≡ plan.basis.steps → arrays ≡ plan.arrays → demand ≡ bid_of kind next.state.0 arrays steps →
+    demand ≡ device_demand plan next.device next.number
+filled_demand plan c next kind demand arrays steps on kind_is is same arrays_are bid =
+    bid ∙ ap (λ (a : List (List ℤ)). bid_of kind next.state.0 a steps) arrays_are
+    ∙ ap (λ (z : ℤ). bid_of kind z plan.arrays steps) is.state
+    ∙ ap (bid_of kind (state plan next.device next.number) plan.arrays) same
+    ∙ sym (demand_of_member plan next.device next.number kind kind_is (sym is.member ∙ on))
+
 -- what a device agent made of it is the demand of the plan
 pub made_demand : (plan : PlanData) (c : Core) (next : Next) (kind : Kind) (demand : List ℤ) (steps : ℕ) → next.member ≡ true →
     kind_of (node plan next.device) ≡ Some kind → IsNext plan c.closed (count_of c) next.device next → steps ≡ plan.basis.steps →
     ((arrays : List (List ℤ)) → demand ≡ bid_of kind next.state.0 arrays steps) → demand ≡ device_demand plan next.device next.number
 made_demand plan c next kind demand steps on kind_is is same made =
-    made plan.arrays ∙ ap (λ (z : ℤ). bid_of kind z plan.arrays steps) is.state
-    ∙ ap (bid_of kind (state plan next.device next.number) plan.arrays) same
-    ∙ sym (demand_of_member plan next.device next.number kind kind_is (sym is.member ∙ on))
+    filled_demand plan c next kind demand plan.arrays steps on kind_is is same refl (made plan.arrays)
 
 -- its number is new on the device's link
 pub new_number : (plan : PlanData) → IsPlan plan → (c : Core) → ∥ Stands plan c ∥₁ → (next : Next) (kind : Kind) →

@@ -1,5 +1,5 @@
 -- When next changes are the same.
-use Rattle.std.proofs.Common.{◌≡◌, ◌∙◌, sym, ap, ℤ, pos, int_eq, ◌&&◌, Bool, true, false, not, refl, IsTrue, ◌↔◌, Option, Some, None}
+use Rattle.std.proofs.Common.{◌≡◌, ap, Bool, true, false, not, refl, IsTrue, ◌↔◌, Option, Some, None}
 use Rattle.std.specs.Bool.{beq}
 use Rattle.std.specs.Option.{option_eq}
 use Rattle.std.proofs.lemmas.Bool.{false≢true}

@@ -34,6 +34,29 @@ pub(crate) fn offer_bid(
     let _ = up.offer_bid(number, demand);
 }
 
+/// Offers a bid on the link of a child, in exchange for another one of as many steps.
+pub(crate) fn exchange_bid(
+    links: &mut Vec<Vec<Link>>,
+    parent: usize,
+    place: usize,
+    number: u32,
+    demand: &mut ArrayBid,
+)
+    requires parent { parent < length links.old.items }
+    requires place { place < length (row_at (rows_of links.old.items) parent) }
+    requires number { (link_at (rows_of links.old.items) parent place).up.offered < number }
+    requires steps { length demand.old ≡ (link_at (rows_of links.old.items) parent place).steps }
+    ensures one { OneLink (rows_of links.old.items) (rows_of links.new.items) parent place }
+    ensures offered { let old = link_at (rows_of links.old.items) parent place in
+        BidOffered old (link_at (rows_of links.new.items) parent place)
+        (bid_offered old.steps number (Some demand.old)) }
+    ensures same_length { length demand.new ≡ length demand.old }
+{
+    let row = &mut links[parent];
+    let up = &mut row[place];
+    up.exchange_bid(number, demand);
+}
+
 /// Takes the bid that waits on the link of a child, if one does.
 pub(crate) fn take_bid(
     links: &mut Vec<Vec<Link>>,

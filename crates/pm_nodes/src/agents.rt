@@ -1,13 +1,17 @@
 //! Makes the agents of a plan's devices, and tests that a change suits its agent.
 
-ghost use Rattle.std.specs.Prelude.{◌≡◌, ◌+◌, length, true, false, None, IfOk, IfSome, IsTrue};
+ghost use Rattle.std.specs.Prelude.{◌≡◌, ◌+◌, length, true, false, Some, None, IfOk, IfErr, IfSome, IsTrue};
 ghost use Rattle.pm_bid.specs.Bids.{HaveSteps};
 ghost use Rattle.pm_device.specs.Kinds.{state_fits};
+ghost use Rattle.pm_device.specs.declared.kind.Kind.{Kind};
+ghost use Rattle.pm_agent.specs.MadeBids.{demand_after_change};
 ghost use Rattle.pm_market.specs.Lists.{nodes, IsLeaf};
 ghost use Rattle.pm_plan.specs.Market.{plan_lists};
+ghost use Rattle.pm_plan.specs.Plans.{node, kind_of};
 ghost use Rattle.pm_nodes.specs.DeviceAgents.{AreAgents, AreOnlyAgents, IsAgentOf};
 
-use pm_agent::DeviceAgent;
+use pm_agent::{DeviceAgent, Made};
+use pm_bid::ArrayBid;
 use pm_device::Next;
 use pm_plan::{Plan, is_device};
 use pm_tree::NodeId;
@@ -61,4 +65,33 @@ pub fn can_work(agent: &DeviceAgent, next: Next, plan: &Plan) -> bool
         return false;
     }
     agent.kind().fits(next.state)
+}
+
+/// What the next change of a device of the plan makes of it, with its demand in a bid that is handed over. The bid comes back if
+/// the change is of no device of the plan, its state is none of the device's kind, or the bid has not the plan's steps.
+#[tactic(auto, using(pm_plan::proofs::MarketLists::leaf_of_plan, pm_plan::proofs::Fits::kind_valid, crate::proofs::DeviceAgents::plan_arrays))]
+pub fn make_bid(plan: &Plan, next: Next, bid: ArrayBid) -> Result<Made, ArrayBid>
+    ensures next { IfOk result (λ made. made.next ≡ next) }
+    ensures kind { IfOk result (λ made. kind_of (node plan.now next.device) ≡ Some made.kind) }
+    ensures demand { IfOk result (λ made. made.demand
+        ≡ demand_after_change made.kind next plan.now.arrays plan.now.basis.steps) }
+    ensures steps { IfOk result (λ made. length made.demand ≡ plan.now.basis.steps) }
+    ensures back { IfErr result (λ other. other ≡ bid) }
+    ensures refused { IfErr result (λ _. (kind : Kind) →
+        IsLeaf (plan_lists plan.now) next.device →
+        kind_of (node plan.now next.device) ≡ Some kind → IsTrue (state_fits kind next.state.0) →
+        length bid ≡ plan.now.basis.steps → ⊥) }
+{
+    let device = NodeId(next.device);
+    if !is_device(plan, device) {
+        return Err(bid);
+    }
+    if bid.steps() != plan.basis().steps() {
+        return Err(bid);
+    }
+    let kind = plan.kind(device);
+    if !kind.fits(next.state) {
+        return Err(bid);
+    }
+    Ok(Made::new(kind, next, plan.arrays(), bid))
 }

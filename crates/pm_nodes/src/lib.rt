@@ -6,6 +6,8 @@
 
 mod agents;
 mod gate;
+mod waiting;
 
-pub use agents::{agent_of, can_work, make_agents};
+pub use agents::{agent_of, can_work, make_agents, make_bid};
 pub use gate::{Gate, OpenGate};
+pub use waiting::pause;

@@ -52,6 +52,26 @@ fn the_newest_bid_is_given_alone(rt: HostRuntime) -> Result<(), Fail> {
     Ok(())
 }
 
+/// A link that takes the load's bid gives in exchange what it had. A newer bid in its place gives the load's back.
+#[test]
+fn a_bid_is_given_in_exchange(rt: HostRuntime) -> Result<(), Fail> {
+    let alloc = rt.alloc();
+    let mut bid = load(alloc)?;
+    let mut newer = ArrayBid::zero(alloc, 10, &mut Steps::<Brand>::start())?;
+    let mut link = Link::new(alloc, 10)?;
+    link.exchange_bid(1, &mut bid);
+    link.exchange_bid(2, &mut newer);
+    let mut counter = Steps::<Brand>::start();
+    same(&rt, "older", newer.at(9, &mut counter), 100);
+    let newest = BidHead {
+        number: 2,
+        gone: false,
+    };
+    same(&rt, "newest", link.take_bid(&mut newer), Some(newest));
+    same(&rt, "demand", newer.at(9, &mut counter), 0);
+    Ok(())
+}
+
 /// Answers number 1 with its record, after which there is room for 8 more.
 fn gives_the_record(rt: &impl Abort, window: &mut Window, head: BidHead)
     requires kept { Keeps window.old 1 }

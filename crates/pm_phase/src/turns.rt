@@ -11,10 +11,9 @@ use crate::node::{Duty, FreeNode};
 use crate::parent::ParentPart;
 use pm_cells::FreeLink;
 use pm_device::Next;
-use pm_nodes::Gate;
+use pm_nodes::{Gate, pause};
 use pm_plan::Plan;
 use std::alloc::Global;
-use std::hint;
 use std::sync::atomic::{AtomicU64, Ordering};
 
 /// What the turns of a phase share.
@@ -30,12 +29,9 @@ pub(crate) struct Phase<'a, G> {
     pub(crate) moved: &'a AtomicU64,
 }
 
-/// A thread ends after so many rounds of its nodes, one after another, during which no thread moved a message.
+/// A thread ends after so many rounds of its nodes, one after another, during which no thread moved a message. Between two of them
+/// it pauses and does not yield: what it leaves is taken to its end on the caller's thread.
 const PATIENCE: u32 = 30;
-
-/// How often a thread pauses between two rounds in which it moved no message. It does not yield: on a machine that is busy with
-/// other work a yield waits for all of that, and what a thread leaves is taken to its end on the caller's.
-const PAUSES: u32 = 20;
 
 /// Makes rounds of some nodes, as many as it may, or until nothing moves any more.
 pub(crate) fn make_rounds<G: Gate>(
@@ -66,13 +62,6 @@ pub(crate) fn make_rounds<G: Gate>(
             break;
         }
         pause();
-    }
-}
-
-/// Passes the time between two rounds.
-fn pause() {
-    for _ in 0..PAUSES {
-        hint::spin_loop();
     }
 }
 

@@ -3,10 +3,12 @@
 ghost use Rattle.std.specs.Prelude.{◌≡◌, length, IfSome};
 ghost use Rattle.pm_cluster.specs.Next.{IsNext};
 ghost use Rattle.pm_board.specs.Boards.{board_state};
+ghost use Rattle.pm_turns.specs.declared.posting.Posted.TheVariants as outcome;
 
 use crate::pending::Pending;
 use crate::sleeping::Berth;
 use pm_agent::Made;
+use pm_bid::ArrayBid;
 use pm_board::Board;
 use pm_device::Next;
 use pm_market::Line;
@@ -132,21 +134,31 @@ impl<'p> Desk<'p> {
 
     /// Makes the change of a device. Where it is not the device's next one the run goes on: the device's next turn is of the
     /// change that the board then names.
-    pub(crate) fn post(&mut self, made: &Made) -> Option<Line>
+    pub(crate) fn post(&mut self, made: Made) -> (Option<Line>, ArrayBid)
         ensures goes_on { let s = board_state self.old.board in
-            (IsNext self.old.board.plan s.closed s.counts made.now.next.device made.now.next → ⊥) →
-            length made.now.demand ≡ self.old.board.plan.basis.steps →
+            (IsNext self.old.board.plan s.closed s.counts made.next.device made.next → ⊥) →
+            length made.demand ≡ self.old.board.plan.basis.steps →
             self.new.halted ≡ self.old.halted }
+        ensures same_length { length result.1 ≡ length made.demand }
     {
         if self.is_over() {
-            return None;
+            return (None, made.into_demand());
         }
         if made.demand().steps() != self.board.plan().basis().steps() {
             self.halt();
-            return None;
+            return (None, made.into_demand());
         }
-        match post_made(&mut self.board, made) {
-            Posted::Made => self.posted(made.next()),
+        let next = made.next();
+        let (posted, other) = post_made(&mut self.board, made);
+        (self.tell(posted, next), other)
+    }
+
+    /// What is pending follows what came of posting a change, and its line is told.
+    fn tell(&mut self, posted: Posted, made: Next) -> Option<Line>
+        ensures goes_on { (posted ≡ outcome.Unfit → ⊥) → self.new.halted ≡ self.old.halted }
+    {
+        match posted {
+            Posted::Made => self.posted(made),
             Posted::Stale => None,
             Posted::Unfit => {
                 self.halt();

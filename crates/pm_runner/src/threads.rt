@@ -8,12 +8,14 @@ use crate::desk::Desk;
 use crate::pending::Pending;
 use crate::rotation::serve_in_rotation;
 use crate::worker::{Shared, Worker, give_up, serve_node};
+use pm_bid::{ArrayBid, Steps};
 use pm_board::Board;
-use pm_nodes::{Gate, make_agents};
-use pm_plan::Plan;
+use pm_nodes::Gate;
+use pm_plan::{Plan, is_device};
 use pm_tree::NodeId;
 use pm_turns::complete;
 use std::alloc::{AllocError, Global};
+use std::marker::Brand;
 use std::sync::{Mutex, Wait};
 use std::thread;
 use std::thread::{Builder, Threads};
@@ -94,15 +96,25 @@ fn serve_all<R: Threads + Wait + Sync, G: Gate>(
     });
 }
 
-/// A worker for each node, the devices' with their agents.
+/// A worker for each node, the devices' each with a bid.
 fn make_workers(alloc: Global, plan: &Plan, bells: u32) -> Result<Vec<Mutex<Worker>>, AllocError> {
-    let agents = make_agents(alloc, plan)?;
-    let mut workers = Vec::with_capacity(alloc, agents.len())?;
-    for agent in agents {
+    let nodes = plan.tree().len();
+    let mut workers = Vec::with_capacity(alloc, nodes as usize + 1)?;
+    for node in 0..nodes + 1 {
+        let bid = bid_of(alloc, plan, NodeId(node))?;
         let rings = Vec::with_capacity(alloc, bells as usize)?;
-        workers.push(Mutex::new(Worker { agent, rings }))?;
+        workers.push(Mutex::new(Worker { bid, rings }))?;
     }
     Ok(workers)
+}
+
+/// A bid to write in for a device; none for another node.
+fn bid_of(alloc: Global, plan: &Plan, node: NodeId) -> Result<Option<ArrayBid>, AllocError> {
+    if !is_device(plan, node) {
+        return Ok(None);
+    }
+    let bid = ArrayBid::zero(alloc, plan.basis().steps(), &mut Steps::<Brand>::start())?;
+    Ok(Some(bid))
 }
 
 /// The nodes in the order in which their threads start: the devices first, since they have something to do, and a parent

@@ -5,11 +5,12 @@ ghost use Rattle.pm_cluster.specs.Next.{IsNext};
 ghost use Rattle.pm_board.specs.Boards.{board_state};
 
 use crate::desk::{Desk, Job, Task};
-use pm_agent::DeviceAgent;
+use pm_agent::Made;
+use pm_bid::ArrayBid;
 use pm_market::Line;
-use pm_nodes::{Gate, can_work};
+use pm_nodes::{Gate, make_bid, pause};
 use std::sync::{Condvar, Mutex, MutexGuard, Wait};
-use std::{hint, thread};
+use std::thread;
 
 /// What the threads of a run share.
 #[derive(Clone, Copy)]
@@ -34,18 +35,11 @@ impl<'a, 'p> Shared<'a, 'p> {
     }
 }
 
-/// Passes the time between two looks at the lock.
-fn pause() {
-    for _ in 0..PAUSES {
-        hint::spin_loop();
-    }
-}
-
 /// What serves one node.
 #[derive(Drop)]
 pub(crate) struct Worker {
-    /// The agent of a device.
-    pub(crate) agent: Option<DeviceAgent>,
+    /// The bid of a device, in which it makes its demand after its next change.
+    pub(crate) bid: Option<ArrayBid>,
     /// The bells to ring once the lock is free. It has room for all bells.
     pub(crate) rings: Vec<u32>,
 }
@@ -71,9 +65,6 @@ struct Rest {
 
 /// How often a thread that finds the lock taken looks at it before it sleeps.
 const LOOKS: u32 = 50;
-
-/// How often a thread pauses between two looks at the lock.
-const PAUSES: u32 = 20;
 
 /// How often a device that is near its next work yields the processor before it sleeps. A sleep and its wake-up cost as much as
 /// some ten yields, and the moves of the other nodes that it waits for take about as long.
@@ -194,19 +185,20 @@ fn change<'p, R: Wait>(
     node: u32,
     job: Job<'p>,
 ) -> Turn<'p> {
-    let Worker { agent, rings } = worker;
-    let Some(agent) = agent.as_mut() else {
+    let Worker { bid, rings } = worker;
+    let Some(made) = made_in(bid, job) else {
         give_up(rt, shared);
         return Turn::last();
     };
-    if !can_work(agent, job.next, job.plan) {
-        give_up(rt, shared);
-        return Turn::last();
-    }
-    let made = agent.work(job.next, job.plan.arrays());
     let mut desk = shared.lock(rt);
-    let line = desk.post(made);
+    let (line, other) = desk.post(made);
+    *bid = Some(other);
     end_turn(shared, rings, node, desk, line)
+}
+
+/// What a change makes of a device, in the bid that its worker has.
+fn made_in(bid: &mut Option<ArrayBid>, job: Job) -> Option<Made> {
+    make_bid(job.plan, job.next, bid.take()?).ok()
 }
 
 /// Ends the turn of a node. The lock is free afterwards.

@@ -1,14 +1,17 @@
 //! The link of a child to its parent, with at most one bid and one price waiting on it.
 
-ghost use Rattle.std.specs.Prelude.{◌≡◌, ◌<◌, length, None, IfOk, MatchOption, IsFalse, ◌↔◌};
+ghost use Rattle.std.specs.Prelude.{◌≡◌, ◌<◌, length, Some, None, IfOk, MatchOption, IsFalse, ◌↔◌};
 ghost use Rattle.std.specs.Option.{option_copied};
 ghost use Rattle.pm_base.specs.Limits.{AreSteps};
-ghost use Rattle.pm_session.specs.Links.{new_session, bid_offered, demand_offered, BidOffered, BidTaken, PriceOffered, PriceTaken, NothingWaited, IsSession};
+ghost use Rattle.pm_session.specs.Links.{UpBid, new_session, bid_offered, demand_offered, IsSession};
+ghost use Rattle.pm_session.specs.Links.{BidOffered, BidTaken, PriceOffered, PriceTaken, NothingWaited};
+ghost use Rattle.pm_session.specs.Ways.{Waits};
 
 use crate::price::PriceUpdate;
 use pm_bid::{ArrayBid, BidHead, Steps};
 use std::alloc::{AllocError, Global};
 use std::marker::{Brand, Model};
+use std::mem;
 
 /// The session between a child and its parent: the child offers bids, which the parent takes, and
 /// the parent offers prices, which the child takes.
@@ -85,6 +88,25 @@ impl Link {
         Ok(())
     }
 
+    /// Offers a bid as [`Link::offer_bid`] does, and copies nothing: the link keeps the demand, and
+    /// the caller has another bid of as many steps in its place. It is that of an older bid, if one
+    /// still waited. Otherwise it is left open what it is.
+    pub fn exchange_bid(&mut self, number: u32, demand: &mut ArrayBid)
+        requires number { self.old.up.offered < number }
+        requires steps { length demand.old ≡ self.old.steps }
+        ensures offered { BidOffered self.old self.new
+            (bid_offered self.old.steps number (Some demand.old)) }
+        ensures older { (bid : UpBid) → Waits self.old.up bid → demand.new ≡ bid.demand }
+        ensures same_length { length demand.new ≡ length demand.old }
+    {
+        mem::swap(&mut self.demand, demand);
+        self.bid = Some(BidHead {
+            number,
+            gone: false,
+        });
+        self.bid_offered = number;
+    }
+
     /// Takes the bid that waits: its head is the answer, and `into` becomes its demand, zeros if it
     /// is gone. None comes exactly if nothing waits; `into` stays as it was then.
     pub fn take_bid(&mut self, into: &mut ArrayBid) -> Option<BidHead>
@@ -98,7 +120,7 @@ impl Link {
         match self.bid {
             None => None,
             Some(head) => {
-                self.demand.copy_into(into, &mut Steps::<Brand>::start());
+                mem::swap(&mut self.demand, into);
                 self.bid_taken = head.number;
                 self.bid = None;
                 Some(head)

@@ -10,6 +10,7 @@ ghost use Rattle.pm_board.specs.Boards.{board_state, AddsLine};
 ghost use Rattle.pm_turns.specs.declared.posting.Posted.TheVariants as posted;
 
 use pm_agent::Made;
+use pm_bid::ArrayBid;
 use pm_board::Board;
 use pm_cluster::ChangeFault;
 
@@ -24,32 +25,38 @@ pub enum Posted {
     Unfit,
 }
 
-/// Posts what an agent made. Where the board refuses it, nothing changed, and the answer says whether the device's next change
-/// is another one by now.
-pub fn post_made(board: &mut Board, made: &Made) -> Posted
-    requires steps { length made.now.demand ≡ board.old.plan.basis.steps }
+/// Posts what was made of a device's next change. Where the board refuses it, nothing changed, and the answer says whether the
+/// device's next change is another one by now. The second part is a bid of as many steps in exchange for the demand; where the
+/// board refuses the change, it is the demand itself.
+pub fn post_made(board: &mut Board, made: Made) -> (Posted, ArrayBid)
+    requires steps { length made.demand ≡ board.old.plan.basis.steps }
     ensures plan { board.new.plan ≡ board.old.plan }
     ensures ends { board.new.ends ≡ board.old.ends }
-    ensures adds { result ≡ posted.Made →
+    ensures adds { result.0 ≡ posted.Made →
         AddsLine board.old board.new
-        (record { what = Move.Change made.now.next.device made.now.next.number; held = None }) }
+        (record { what = Move.Change made.next.device made.next.number; held = None }) }
     ensures stale { let s = board_state board.old in
-        result ≡ posted.Stale → IsLeaf (plan_lists board.old.plan) made.now.next.device →
-        IsNext board.old.plan s.closed s.counts made.now.next.device made.now.next → ⊥ }
+        result.0 ≡ posted.Stale → IsLeaf (plan_lists board.old.plan) made.next.device →
+        IsNext board.old.plan s.closed s.counts made.next.device made.next → ⊥ }
     ensures unfit { let s = board_state board.old in
-        result ≡ posted.Unfit → IsNext board.old.plan s.closed s.counts made.now.next.device
-        made.now.next
-        × (kind_of (node board.old.plan made.now.next.device) ≡ Some made.now.kind → ⊥) }
-    ensures unchanged { (result ≡ posted.Stale) ⊎ (result ≡ posted.Unfit) → board.new ≡ board.old }
+        result.0 ≡ posted.Unfit → IsNext board.old.plan s.closed s.counts made.next.device made.next
+        × (kind_of (node board.old.plan made.next.device) ≡ Some made.kind → ⊥) }
+    ensures unchanged { (result.0 ≡ posted.Stale) ⊎ (result.0 ≡ posted.Unfit) →
+        board.new ≡ board.old }
+    ensures back { (result.0 ≡ posted.Stale) ⊎ (result.0 ≡ posted.Unfit) →
+        result.1 ≡ made.demand }
+    ensures same_length { length result.1 ≡ length made.demand }
 {
-    let Err(fault) = board.post(made) else {
-        return Posted::Made;
+    let next = made.next();
+    let (outcome, other) = board.post_owned(made);
+    let Err(fault) = outcome else {
+        return (Posted::Made, other);
     };
-    let ChangeFault::NotNext { next } = fault else {
-        return Posted::Unfit;
+    let ChangeFault::NotNext { next: due } = fault else {
+        return (Posted::Unfit, other);
     };
-    if next == Some(made.next()) {
-        return Posted::Unfit;
+    if due == Some(next) {
+        return (Posted::Unfit, other);
     }
-    Posted::Stale
+    (Posted::Stale, other)
 }

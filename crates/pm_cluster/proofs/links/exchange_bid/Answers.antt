@@ -1,0 +1,32 @@
+-- Of `exchange_bid`: its clauses `one` and `offered`; what the call of `exchange_bid` requires.
+use Rattle.std.proofs.Common.{arith, ◌∙◌, ap, refl}
+use Rattle.std.specs.Vec.{with_item}
+use Rattle.pm_session.specs.Links.{Session}
+use Rattle.pm_cluster.proofs.Rows.{IsRead, is_read}
+use Rattle.pm_cluster.proofs.links.exchange_bid.Goals as goal
+use Rattle.pm_cluster.proofs.links.exchange_bid.Goals.{After-index_mut-up}
+
+read : (c : After-index_mut-up) →
+    IsRead (λ row. row.items) c.args.links.now.items c.args.parent c.args.place c.index_mut-row.result.now c.index_mut-up.result.now
+read c =
+    is_read (λ row. row.items) c.args.links.now.items c.args.parent c.args.place c.index_mut-row.result.now c.index_mut-up.result.now
+    c.requires.parent c.requires.place c.index_mut-row.ensures.value c.index_mut-up.ensures.value
+
+pub exchange_bid-requires-clause-number : goal.exchange_bid-requires-clause-number
+exchange_bid-requires-clause-number c =
+    let at = (goal.at.exchange_bid-requires-clause-number c).After-index_mut-up in
+    omega (arith, c.requires.number, ap (λ (z : Session). z.up.offered) (read at).link)
+
+pub exchange_bid-requires-clause-steps : goal.exchange_bid-requires-clause-steps
+exchange_bid-requires-clause-steps c =
+    let at = (goal.at.exchange_bid-requires-clause-steps c).After-index_mut-up in
+    c.requires.steps ∙ ap (λ (z : Session). z.steps) (read at).link
+
+pub returns-clause-one : goal.returns-clause-one
+returns-clause-one c = ((read (goal.at.returns-clause-one c).After-index_mut-up).wrote _ c.exchange_bid.new.self refl).one
+
+pub returns-clause-offered : goal.returns-clause-offered
+returns-clause-offered c =
+    let was = read (goal.at.returns-clause-offered c).After-index_mut-up in
+    let is = was.wrote (with_item c.index_mut-row.result.now c.args.place c.exchange_bid.new.self) c.exchange_bid.new.self refl in
+    rw (was.link, is.at) c.exchange_bid.ensures.offered
