@@ -1,16 +1,16 @@
 //! The auctioneer: it learns its children's bids, clears the market, and has a price for each child.
 
-ghost use Rattle.std.specs.Prelude.{◌≡◌, ◌+◌, ◌<◌, ◌≤◌, ◌^◌, true, false, length, IfOk, IfErr, OnErr, ◌||◌, not, nat_le};
+ghost use Rattle.std.specs.Prelude.{◌≡◌, ◌+◌, ◌<◌, ◌≤◌, ◌^◌, true, false, length, IfOk, IfErr, OnOk, OnErr, ◌||◌, not, nat_le};
 ghost use Rattle.std.specs.Option.{option_copied};
 ghost use Rattle.pm_base.specs.Limits.{AreSteps, most_nodes};
-ghost use Rattle.pm_cache.specs.Cache.{kept_number, answer_to};
-ghost use Rattle.pm_cache.specs.Learning.{CanLearn, after_learning};
+ghost use Rattle.pm_cache.specs.Cache.{kept_number, child_demand, answer_to};
+ghost use Rattle.pm_cache.specs.Learning.{CanLearn, after_learning, bid_demand};
 ghost use Rattle.pm_session.specs.Prices.{IsNewIndex};
 ghost use Rattle.pm_auctioneer.specs.Auctions.{new_auction, MarketCleared, ClearedAt};
 ghost use Rattle.pm_auctioneer.specs.declared.fault.ClearFault.TheVariants.{NotChanged};
 
 use crate::fault::ClearFault;
-use pm_bid::{ArrayBid, Steps};
+use pm_bid::{ArrayBid, BidHead, Steps};
 use pm_cache::{BidCache, CacheFault};
 use pm_session::{Link, Prices};
 use std::alloc::{AllocError, Global};
@@ -83,6 +83,36 @@ impl Auctioneer {
         let answer = self
             .cache
             .learn(child, number, demand, &mut Steps::<Brand>::start());
+        if answer.is_ok() {
+            self.changed = true;
+        }
+        answer
+    }
+
+    /// Learns a child's bid with this head as [`Auctioneer::learn`] does, and copies nothing: the
+    /// caller has the demand of the child's bid before in the place of its own. If the bid is gone, or
+    /// `Old`, the caller's demand stays.
+    pub fn exchange_bid(
+        &mut self,
+        child: usize,
+        head: BidHead,
+        demand: &mut ArrayBid,
+    ) -> Result<(), CacheFault>
+        requires bid { CanLearn self.old.cache child (bid_demand head.gone demand.old) }
+        ensures answer { result ≡ answer_to (kept_number self.old.cache child) head.number }
+        ensures learnt { self.new ≡ record self.old {
+          cache = after_learning self.old.cache child head.number (bid_demand head.gone demand.old);
+          changed = self.old.changed || not (nat_le head.number (kept_number self.old.cache child));
+        } }
+        ensures before { OnOk result
+            (head.gone ≡ false → demand.new ≡ child_demand self.old.cache child) }
+        ensures gone { head.gone ≡ true → demand.new ≡ demand.old }
+        ensures old { OnErr result (demand.new ≡ demand.old) }
+        ensures same_length { length demand.new ≡ length demand.old }
+    {
+        let answer = self
+            .cache
+            .exchange_bid(child, head, demand, &mut Steps::<Brand>::start());
         if answer.is_ok() {
             self.changed = true;
         }

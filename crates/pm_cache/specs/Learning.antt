@@ -1,5 +1,5 @@
 -- A child's bid on its way into the cache of its parent.
-use Rattle.std.specs.Prelude.{◌≡◌, ℕ, ◌<◌, ℤ, pos, ◌+ℤ◌, ◌-ℤ◌, List, length, Option, Some, None, if◌then◌else◌, nat_le, All}
+use Rattle.std.specs.Prelude.{◌≡◌, ℕ, ◌<◌, Bool, ℤ, pos, ◌+ℤ◌, ◌-ℤ◌, List, length, Option, Some, None, if◌then◌else◌, nat_le, All}
 use Rattle.pm_bid.specs.Bids.{AllWithinLimit, demand_at, zeros}
 use Rattle.pm_base.specs.Limits.{demand_limit, sum_limit, IsWithin}
 use Rattle.pm_cache.specs.Cache.{Cache, with_bid, with_gone, kept_number, child_demand, aggregate_of, aggregate_with}
@@ -8,6 +8,10 @@ use Rattle.pm_cache.specs.Cache.{Cache, with_bid, with_gone, kept_number, child_
 abbrev pub demand_of_offer : Cache → Option (List ℤ) → List ℤ
 demand_of_offer cache None = zeros cache.steps
 demand_of_offer cache (Some bid) = bid
+
+-- the demand of a bid, none if it is gone
+abbrev pub bid_demand : Bool → List ℤ → Option (List ℤ)
+bid_demand gone demand = if gone then None else Some demand
 
 -- a bid may be learnt: it is a child's, it has the cache's steps, and all entries with it in the
 -- child's place sum within the limit

@@ -1,16 +1,17 @@
 //! The newest bid of each child of a node, with their running sum.
 
-ghost use Rattle.std.specs.Prelude.{◌≡◌, ◌+◌, ◌*◌, ◌<◌, ◌≤◌, length, IfOk, OnOk, OnErr};
+ghost use Rattle.std.specs.Prelude.{◌≡◌, ◌+◌, ◌*◌, ◌<◌, ◌≤◌, true, false, length, IfOk, OnOk, OnErr};
 ghost use Rattle.pm_bid.specs.Bids.{AllWithinLimit, demand_at, zeros};
 ghost use Rattle.pm_base.specs.Limits.{AreSteps, most_nodes, sum_limit, IsWithin};
 ghost use Rattle.std.specs.Option.{option_copied};
-ghost use Rattle.pm_cache.specs.Learning.{CanLearn, after_learning};
+ghost use Rattle.pm_cache.specs.Learning.{CanLearn, after_learning, bid_demand};
 ghost use Rattle.pm_cache.specs.Cache.{kept_number, aggregate_of, aggregate_with, empty_cache, with_bid, with_gone, answer_to, IsCache, child_demand};
 
 use crate::fault::CacheFault;
 use pm_bid::{ArrayBid, BidHead, Steps};
 use std::alloc::{AllocError, Global};
 use std::marker::Model;
+use std::mem;
 use std::sync::ledger::Ledger;
 
 /// The newest bid of each of up to 256 children, and the sum of these bids.
@@ -160,6 +161,43 @@ impl BidCache {
             Some(bid) => self.replace(child, number, bid, counter),
             None => self.remove(child, number, counter),
         }
+    }
+
+    /// Learns a child's bid with this head as [`BidCache::learn`] does, and copies nothing: the cache
+    /// keeps the demand, and the caller has that of the child's bid before in its place. If the bid is
+    /// gone, or `Old`, the caller's demand stays.
+    pub fn exchange_bid<L: Ledger>(
+        &mut self,
+        child: usize,
+        head: BidHead,
+        demand: &mut ArrayBid,
+        counter: &mut Steps<L>,
+    ) -> Result<(), CacheFault>
+        requires bid { CanLearn self.old child (bid_demand head.gone demand.old) }
+        ensures answer { result ≡ answer_to (kept_number self.old child) head.number }
+        ensures learnt { self.new ≡ after_learning self.old child head.number
+            (bid_demand head.gone demand.old) }
+        ensures before { OnOk result (head.gone ≡ false → demand.new ≡ child_demand self.old child) }
+        ensures gone { head.gone ≡ true → demand.new ≡ demand.old }
+        ensures old { OnErr result (demand.new ≡ demand.old) }
+        ensures same_length { length demand.new ≡ length demand.old }
+        ensures cost { counter.new ≤ counter.old + 3 * self.old.steps }
+        ensures passes { OnOk result (counter.new ≡ counter.old + 2 * self.old.steps) }
+        ensures rises { counter.old ≤ counter.new }
+    {
+        let BidHead { number, gone } = head;
+        if gone {
+            return self.remove(child, number, counter);
+        }
+        check_newer(self.heads[child].number, number)?;
+        let old = &mut self.demands[child];
+        self.aggregate.exchange(old, demand, counter);
+        mem::swap(old, demand);
+        self.heads[child] = BidHead {
+            number,
+            gone: false,
+        };
+        Ok(())
     }
 
     /// The sum of all entries. No element is touched.

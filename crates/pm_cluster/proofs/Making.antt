@@ -31,7 +31,8 @@ use Rattle.pm_stands.specs.Core.{Core, link_at, seat_at}
 use Rattle.pm_stands.specs.Rows.{OneLink}
 use Rattle.pm_laws.specs.Gone.{is_gone}
 use Rattle.pm_stands.specs.Stands.{StandsFor, Stands, MakesMove}
-use Rattle.pm_stands.specs.Made.{bid_demand, seat_after, DidChange, changed_core}
+use Rattle.pm_stands.specs.Made.{seat_after, DidChange, changed_core}
+use Rattle.pm_cache.specs.Learning.{bid_demand}
 use Rattle.pm_plan.proofs.MarketLists.{lawful}
 use Rattle.pm_stands.proofs.Places.{at_node, from_node}
 use Rattle.pm_laws.proofs.Gone.{gone_leaf}

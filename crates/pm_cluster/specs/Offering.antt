@@ -12,7 +12,7 @@ use Rattle.pm_plan.specs.States.{state}
 use Rattle.pm_offer.specs.Offers.{device_demand}
 use Rattle.pm_stands.specs.Core.{row_at, link_at}
 use Rattle.pm_stands.specs.Rows.{OneLink}
-use Rattle.pm_stands.specs.Made.{bid_demand}
+use Rattle.pm_cache.specs.Learning.{bid_demand}
 
 -- the link of a device to its parent, among all links
 abbrev pub device_link : PlanData → List (List Session) → ℕ → Session

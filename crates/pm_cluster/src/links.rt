@@ -6,7 +6,6 @@ ghost use Rattle.pm_base.specs.Rows.{rows_of};
 ghost use Rattle.pm_session.specs.Links.{demand_offered, bid_offered, BidOffered, BidTaken, NothingWaited, PriceTaken};
 ghost use Rattle.pm_stands.specs.Core.{row_at, link_at};
 ghost use Rattle.pm_stands.specs.Rows.{OneLink};
-ghost use Rattle.pm_stands.specs.Made.{bid_demand};
 
 use pm_bid::{ArrayBid, BidHead};
 use pm_session::{Link, PriceUpdate};
@@ -97,11 +96,4 @@ pub(crate) fn take_price(
     let row = &mut links[parent];
     let down = &mut row[place];
     down.take_price()
-}
-
-/// The demand of a bid, None if it is gone.
-pub(crate) fn unless_gone(gone: bool, demand: &ArrayBid) -> Option<&ArrayBid>
-    ensures { option_copied result ≡ bid_demand gone demand.now }
-{
-    if gone { None } else { Some(demand) }
 }

@@ -12,7 +12,7 @@ ghost use Rattle.pm_stands.specs.Actors.{IsMoveOf};
 ghost use Rattle.pm_cluster.specs.Acts.{IsMadeBy, IsMadeOf};
 
 use crate::cluster::Cluster;
-use crate::links::{take_bid, take_price, unless_gone};
+use crate::links::{take_bid, take_price};
 use crate::parts;
 use crate::tree::{parent_of, place_in_row};
 use pm_market::Move;
@@ -30,14 +30,13 @@ impl<'p> Cluster<'p> {
         let Some(head) = take_bid(&mut self.links, parent, place, &mut self.spare) else {
             return None;
         };
-        let demand = unless_gone(head.gone, &self.spare);
         parts::learn(
             &mut self.auctioneer,
             &mut self.concentrators,
             parent,
             place,
-            head.number,
-            demand,
+            head,
+            &mut self.spare,
         );
         Some(Move::Learn {
             child: child.0,

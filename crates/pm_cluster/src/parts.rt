@@ -2,10 +2,9 @@
 
 ghost use Rattle.std.specs.Prelude.{◌≡◌, ℕ, ◌+◌, ◌<◌, ◌≤◌, ◌^◌, length, None, MatchOption, slice_index_or, is_some, true, false};
 ghost use Rattle.std.specs.Prelude.{IsSome};
-ghost use Rattle.std.specs.Option.{option_copied};
 ghost use Rattle.pm_base.specs.Rows.{rows_of};
 ghost use Rattle.pm_cache.specs.Cache.{kept_number};
-ghost use Rattle.pm_cache.specs.Learning.{CanLearn};
+ghost use Rattle.pm_cache.specs.Learning.{CanLearn, bid_demand};
 ghost use Rattle.pm_session.specs.Windows.{Keeps, record_of};
 ghost use Rattle.pm_session.specs.Prices.{PricesOffered, IsNewIndex};
 ghost use Rattle.pm_concentrator.specs.Limited.{local_step_of_record};
@@ -15,37 +14,38 @@ ghost use Rattle.pm_stands.specs.Core.{row_at, link_at, gathered_at, cache_in};
 ghost use Rattle.pm_stands.specs.Rows.{OneLink, OneRow, OneConcentrator, EntryLearnt, CannotPublish};
 
 use pm_auctioneer::{Auctioneer, Cleared};
-use pm_bid::ArrayBid;
+use pm_bid::{ArrayBid, BidHead};
 use pm_concentrator::Concentrator;
 use pm_session::{Link, PriceUpdate};
 
-/// The parent learns a newer bid of the child in a place; None is a bid that is gone.
+/// The parent learns a newer bid of the child in a place, in exchange for another demand of as many steps.
 pub(crate) fn learn(
     auctioneer: &mut Auctioneer,
     concentrators: &mut Vec<Option<Concentrator>>,
     parent: usize,
     place: usize,
-    number: u32,
-    demand: Option<&ArrayBid>,
+    head: BidHead,
+    demand: &mut ArrayBid,
 )
     requires parent { parent < length concentrators.old.items }
     requires there { (parent ≡ 0 → ⊥) → is_some (slice_index_or concentrators.old.items parent None)
         ≡ true }
     requires can { CanLearn (cache_in auctioneer.old concentrators.old.items parent) place
-        (option_copied demand) }
+        (bid_demand head.gone demand.old) }
     requires newer { kept_number (cache_in auctioneer.old concentrators.old.items parent) place
-        < number }
-    ensures { EntryLearnt auctioneer.old auctioneer.new concentrators.old.items
-        concentrators.new.items parent place number (option_copied demand.entry) }
+        < head.number }
+    ensures learnt { EntryLearnt auctioneer.old auctioneer.new concentrators.old.items
+        concentrators.new.items parent place head.number (bid_demand head.gone demand.old) }
+    ensures same_length { length demand.new ≡ length demand.old }
 {
     if parent == 0 {
-        let _ = auctioneer.learn(place, number, demand);
+        let _ = auctioneer.exchange_bid(place, head, demand);
         return;
     }
     match &mut concentrators[parent] {
         None => unreachable!(),
         Some(concentrator) => {
-            let _ = concentrator.learn(place, number, demand);
+            let _ = concentrator.exchange_bid(place, head, demand);
         }
     }
 }

@@ -1,12 +1,12 @@
 //! A concentrator: it learns its children's bids, makes a bid of their sum, and passes prices down.
 
-ghost use Rattle.std.specs.Prelude.{◌≡◌, ◌+◌, ◌-◌, ◌<◌, ◌≤◌, ◌^◌, length, option_map, Some, None, IfOk, IfErr, OnErr, IsTrue};
-ghost use Rattle.std.specs.Prelude.{IsFalse, ◌↔◌, unwrap_or};
+ghost use Rattle.std.specs.Prelude.{◌≡◌, ◌+◌, ◌-◌, ◌<◌, ◌≤◌, ◌^◌, length, option_map, Some, None, IfOk, IfErr, OnOk, OnErr, IsTrue};
+ghost use Rattle.std.specs.Prelude.{IsFalse, ◌↔◌, unwrap_or, true, false};
 ghost use Rattle.std.specs.Option.{option_copied};
 ghost use Rattle.pm_base.specs.Limits.{AreSteps, AreLimits, most_nodes, window_size};
 ghost use Rattle.pm_bid.specs.Limited.{within_limits};
-ghost use Rattle.pm_cache.specs.Cache.{aggregate_of, kept_number, answer_to};
-ghost use Rattle.pm_cache.specs.Learning.{CanLearn, after_learning};
+ghost use Rattle.pm_cache.specs.Cache.{aggregate_of, kept_number, child_demand, answer_to};
+ghost use Rattle.pm_cache.specs.Learning.{CanLearn, after_learning, bid_demand};
 ghost use Rattle.pm_session.specs.Prices.{PricesOffered, IsNewIndex};
 ghost use Rattle.pm_session.specs.Windows.{Keeps, unanswered_count, record_of, RecordSent, IsWindow, steps_of};
 ghost use Rattle.pm_concentrator.specs.Limited.{LimitedValue, sum_kept, sum_steps, local_step_of_record, IsStepOf};
@@ -112,6 +112,31 @@ impl Concentrator {
     {
         self.cache
             .learn(child, number, demand, &mut Steps::<Brand>::start())
+    }
+
+    /// Learns a child's bid with this head as [`Concentrator::learn`] does, and copies nothing: the
+    /// caller has the demand of the child's bid before in the place of its own. If the bid is gone, or
+    /// `Old`, the caller's demand stays.
+    pub fn exchange_bid(
+        &mut self,
+        child: usize,
+        head: BidHead,
+        demand: &mut ArrayBid,
+    ) -> Result<(), CacheFault>
+        requires bid { CanLearn self.old.cache child (bid_demand head.gone demand.old) }
+        ensures answer { result ≡ answer_to (kept_number self.old.cache child) head.number }
+        ensures learnt { self.new ≡ record self.old {
+          cache = after_learning self.old.cache child head.number
+              (bid_demand head.gone demand.old);
+        } }
+        ensures before { OnOk result
+            (head.gone ≡ false → demand.new ≡ child_demand self.old.cache child) }
+        ensures gone { head.gone ≡ true → demand.new ≡ demand.old }
+        ensures old { OnErr result (demand.new ≡ demand.old) }
+        ensures same_length { length demand.new ≡ length demand.old }
+    {
+        self.cache
+            .exchange_bid(child, head, demand, &mut Steps::<Brand>::start())
     }
 
     /// Makes the bid of the next number, which is the answer. Its demand is the sum of the children's

@@ -14,7 +14,7 @@ use Rattle.pm_market.specs.Moves.{step}
 use Rattle.pm_market.specs.declared.moves.Move.TheVariants.{Learn}
 use Rattle.pm_market.proofs.Cuts.{updated_same, updated_other, known_at}
 use Rattle.pm_cache.specs.Cache.{Cache}
-use Rattle.pm_cache.specs.Learning.{CanLearn, demand_of_offer}
+use Rattle.pm_cache.specs.Learning.{CanLearn, demand_of_offer, bid_demand}
 use Rattle.pm_session.specs.Links.{UpBid}
 use Rattle.pm_plan.specs.Kept.{IsPlan}
 use Rattle.pm_plan.specs.Plans.{PlanData}
@@ -22,7 +22,6 @@ use Rattle.pm_plan.specs.Market.{plan_lists}
 use Rattle.pm_offer.specs.Offers.{offer, offers_of}
 use Rattle.pm_stands.specs.Core.{Core, child_at, node_cache}
 use Rattle.pm_stands.specs.Stands.{BidAgrees, StandsFor}
-use Rattle.pm_stands.specs.Made.{bid_demand}
 use Rattle.pm_plan.proofs.MarketLists.{lawful}
 use Rattle.pm_plan.proofs.MarketLists.{child_node}
 use Rattle.pm_stands.proofs.Places.{placed, one_place}

@@ -16,7 +16,7 @@ use Rattle.pm_market.proofs.Cuts.{updated_same, updated_other, part_leaf, newest
 use Rattle.pm_laws.proofs.Kept.{sound_step}
 use Rattle.pm_laws.proofs.Learnt.{is_same_alike, known_elsewhere, learnt_differs}
 use Rattle.pm_cache.specs.Cache.{Cache, with_entry}
-use Rattle.pm_cache.specs.Learning.{with_newer_bid}
+use Rattle.pm_cache.specs.Learning.{with_newer_bid, bid_demand}
 use Rattle.pm_session.specs.Links.{Session, UpBid, BidTaken}
 use Rattle.pm_session.specs.Prices.{head_at}
 use Rattle.pm_session.specs.Windows.{WindowValue, Keeps, record_of, newest_record}
@@ -32,7 +32,6 @@ use Rattle.pm_stands.specs.Rows.{OneLink, EntryLearnt}
 use Rattle.pm_laws.specs.Due.{IsNewestDue}
 use Rattle.pm_laws.specs.Gone.{is_gone}
 use Rattle.pm_stands.specs.Stands.{head_for, BidAgrees, StandsFor, MakesMove}
-use Rattle.pm_stands.specs.Made.{bid_demand}
 use Rattle.pm_plan.specs.Auction.{demand_in_cut, node_bid}
 use Rattle.pm_plan.specs.Plans as plans
 use Rattle.pm_plan.proofs.MarketLists as market_lists

@@ -12,7 +12,7 @@ use Rattle.pm_market.specs.Moves.{Legal, step}
 use Rattle.pm_market.specs.declared.moves.Move.TheVariants.{Learn, Publish, Clear}
 use Rattle.pm_market.proofs.Cuts.{part_inner, newest_inner}
 use Rattle.pm_cache.specs.Cache.{Cache, kept_number}
-use Rattle.pm_cache.specs.Learning.{CanLearn}
+use Rattle.pm_cache.specs.Learning.{CanLearn, bid_demand}
 use Rattle.pm_session.specs.Links.{Session, UpBid, BidTaken, NothingWaited}
 use Rattle.pm_concentrator.specs.Faults.{NotPublished}
 use Rattle.pm_concentrator.specs.declared.fault.PublishFault.{PublishFault}
@@ -25,7 +25,7 @@ use Rattle.pm_plan.specs.Market.{plan_lists}
 use Rattle.pm_stands.specs.Core.{Core, link_at, uplink_of, concentrator_of, node_cache}
 use Rattle.pm_stands.specs.Rows.{CannotPublish}
 use Rattle.pm_stands.specs.Stands.{StandsFor, Stands, MakesMove}
-use Rattle.pm_stands.specs.Made.{bid_demand, DidLearn, learnt_core, DidPublish, published_core, DidClear, cleared_core}
+use Rattle.pm_stands.specs.Made.{DidLearn, learnt_core, DidPublish, published_core, DidClear, cleared_core}
 use Rattle.pm_stands.proofs.Places.{at_node, from_node}
 use Rattle.pm_stands.proofs.Caches.{cache_inner}
 use Rattle.pm_stands.proofs.MayPublish.{may_publish}

@@ -1,5 +1,6 @@
 -- What the calls on a cluster's parts did, for each move.
 use Rattle.std.specs.Prelude.{◌≡◌, ℕ, ◌<◌, ℤ, Bool, pos, if◌then◌else◌, List, length, slice_index_or, Option, Some, None}
+use Rattle.pm_cache.specs.Learning.{bid_demand}
 use Rattle.pm_session.specs.Links.{Session, UpBid, BidOffered, BidTaken, PriceTaken}
 use Rattle.pm_session.specs.Ports.{Seat}
 use Rattle.pm_session.specs.Windows.{Keeps, record_of}
@@ -18,10 +19,6 @@ use Rattle.pm_offer.specs.Offers.{device_demand}
 use Rattle.pm_stands.specs.Core.{Core, row_at, link_at, gathered_at, concentrator_of, seat_at}
 use Rattle.pm_stands.specs.Rows.{OneLink, OneRow, OneConcentrator, EntryLearnt}
 use Rattle.pm_laws.specs.Gone.{is_gone}
-
--- the demand of a bid, none if it is gone
-abbrev pub bid_demand : Bool → List ℤ → Option (List ℤ)
-bid_demand gone demand = if gone then None else Some demand
 
 -- y took the bid that waited on the link of its child in place k, and learnt it
 pub record DidLearn (c : Core) (links : List (List Session)) (auctioneer : Auction) (concentrators : List (Option Gathered))

@@ -3,14 +3,13 @@ use Rattle.std.specs.Prelude.{◌≡◌, ℕ, ◌+◌, ◌<◌, ◌≤◌, lengt
 use Rattle.pm_base.specs.Limits.{most_changes}
 use Rattle.pm_tree.specs.Entries.{place_of}
 use Rattle.pm_cache.specs.Cache.{kept_number}
-use Rattle.pm_cache.specs.Learning.{CanLearn}
+use Rattle.pm_cache.specs.Learning.{CanLearn, bid_demand}
 use Rattle.pm_session.specs.Links.{UpBid}
 use Rattle.pm_session.specs.Prices.{IsNewIndex}
 use Rattle.pm_market.specs.Lists.{parent}
 use Rattle.pm_plan.specs.Plans.{PlanData}
 use Rattle.pm_plan.specs.Market.{plan_lists}
 use Rattle.pm_stands.specs.Core.{Core, row_at, uplink_of, concentrator_of, node_cache}
-use Rattle.pm_stands.specs.Made.{bid_demand}
 
 -- the parent of x may learn a bid that it took from the link of x, and the bid is newer than the one learnt last
 pub record MayLearn (plan : PlanData) (c : Core) (x : ℕ) (bid : UpBid) : Type 0 where

@@ -1,8 +1,10 @@
 -- Levels that stand for a demand.
-use Rattle.std.proofs.Common.{◌≡◌, ℕ, ℤ, pos, ◌+ℤ◌, ◌-ℤ◌, neg_ℤ, Bool, true, false, if◌then◌else◌, int_lt, int_le, arith, refl}
+use Rattle.std.proofs.Common.{◌≡◌, ℕ, ℤ, pos, ◌<ℤ◌, ◌≤ℤ◌, ◌+ℤ◌, ◌-ℤ◌, neg_ℤ, Bool, true, false, if◌then◌else◌, int_lt, int_le, arith, refl}
 use Rattle.std.proofs.lemmas.Int.{ints}
 use Rattle.pm_strategy.specs.Steps.{up_to}
 use Rattle.pm_strategy.specs.Strategies.{around}
+use Rattle.pm_strategy.specs.Levels.{level_at}
+use Rattle.pm_strategy.specs.declared.levels.Levels.{Levels}
 
 -- one level up to a step is one below the next step
 below_next : (step : ℕ) (end : ℤ) → int_lt (pos step) (end +ℤ pos 1) ≡ int_le (pos step) end
@@ -39,3 +41,23 @@ around-levels middle charge discharge spread step =
       choose_swapped (int_lt (pos step) ((middle +ℤ spread) +ℤ pos 1)) (int_lt (middle +ℤ spread) (pos step)) (pos 0) (neg_ℤ discharge)
           (not_above step (middle +ℤ spread)) (is_above step (middle +ℤ spread)),
     )
+
+-- each level at its steps
+pub level_at-first : (levels : Levels) (step : ℕ) → pos step <ℤ levels.first_end → level_at levels step ≡ levels.first
+level_at-first levels step below =
+    let is : int_lt (pos step) levels.first_end ≡ true = grind (arith, ints) in
+    rw is
+
+pub level_at-second : (levels : Levels) (step : ℕ) → levels.first_end ≤ℤ pos step → pos step <ℤ levels.second_end →
+    level_at levels step ≡ levels.second
+level_at-second levels step above below =
+    let is_not : int_lt (pos step) levels.first_end ≡ false = grind (arith, ints) in
+    let is : int_lt (pos step) levels.second_end ≡ true = grind (arith, ints) in
+    rw (is_not, is)
+
+pub level_at-third : (levels : Levels) (step : ℕ) → levels.first_end ≤ℤ pos step → levels.second_end ≤ℤ pos step →
+    level_at levels step ≡ levels.third
+level_at-third levels step above higher =
+    let is_not : int_lt (pos step) levels.first_end ≡ false = grind (arith, ints) in
+    let is_not_second : int_lt (pos step) levels.second_end ≡ false = grind (arith, ints) in
+    rw (is_not, is_not_second)

@@ -1,13 +1,10 @@
 -- Of `Cluster::learn`: what it ensures; what the calls of `learn` and `take_bid` require; what the type keeps.
-use Rattle.std.proofs.Common.{refl, rules, sym, subst, arith}
+use Rattle.std.proofs.Common.{◌∙◌, refl, rules, arith}
 use Rattle.pm_market.specs.State.{State}
 use Rattle.pm_market.specs.Lists.{IsNode}
 use Rattle.pm_market.specs.declared.moves.Move.TheVariants.{Learn}
-use Rattle.pm_cache.specs.Learning.{CanLearn}
 use Rattle.pm_session.specs.Links.{UpBid}
 use Rattle.pm_plan.specs.Market.{plan_lists}
-use Rattle.pm_stands.specs.Core.{cache_in}
-use Rattle.pm_stands.specs.Rows.{EntryLearnt}
 use Rattle.pm_stands.specs.Made.{DidLearn}
 use Rattle.pm_stands.specs.Stands.{StandsFor, MakesMove}
 use Rattle.pm_stands.proofs.Made.{learn_did, can_learn_at, newer_at, cannot_learn}
@@ -18,41 +15,39 @@ use Rattle.pm_market.specs.declared.moves.Act.TheVariants as act
 use Rattle.pm_cluster.proofs.Kept.{parent_there, moved, of_fields}
 use Rattle.std.proofs.lemmas.List.{length-map}
 use Rattle.pm_cluster.proofs.cluster.Cluster.learn.Goals as goal
-use Rattle.pm_cluster.proofs.cluster.Cluster.learn.Goals.{After-unless_gone-demand, After-learn}
+use Rattle.pm_cluster.proofs.cluster.Cluster.learn.Goals.{In-Some, After-learn}
 
-node_at : (c : After-unless_gone-demand) → IsNode (plan_lists c.self.inside.plan.now) c.args.child.0
+node_at : (c : In-Some) → IsNode (plan_lists c.self.inside.plan.now) c.args.child.0
 node_at c = of_fields c.self.inside _ c.self.view_is (λ plan. IsNode (plan_lists plan) c.args.child.0) c.requires.node
 
-abbrev the_bid : (c : After-unless_gone-demand) → UpBid
+abbrev the_bid : (c : In-Some) → UpBid
 the_bid c = record { number = c.in-Some.head.number; gone = c.in-Some.head.gone; demand = c.take_bid.new.into }
 
 pub learn-requires-clause-there : goal.learn-requires-clause-there
 learn-requires-clause-there c =
     parent_there c.self.inside.plan.now c.self.invariant.is_plan (core_of c.self.inside) c.self.invariant.places c.args.child.0 c.parent_of-parent.result
-    (node_at (goal.at.learn-requires-clause-there c).After-unless_gone-demand) c.parent_of-parent.ensures.parent c.parent_of-parent.ensures.inside
+    (node_at (goal.at.learn-requires-clause-there c).In-Some) c.parent_of-parent.ensures.parent c.parent_of-parent.ensures.inside
 
 pub learn-requires-clause-newer : goal.learn-requires-clause-newer
 learn-requires-clause-newer c =
-    let at = (goal.at.learn-requires-clause-newer c).After-unless_gone-demand in
+    let at = (goal.at.learn-requires-clause-newer c).In-Some in
     newer_at c.self.inside.plan.now c.self.invariant.is_plan (core_of c.self.inside) c.self.invariant.stands c.args.child.0
     c.parent_of-parent.result c.place_in_row-place.result (node_at at) c.parent_of-parent.ensures.parent c.place_in_row-place.ensures.place
     (the_bid at) _ c.in-Some.ensures.taken
 
 pub learn-requires-clause-can : goal.learn-requires-clause-can
 learn-requires-clause-can c =
-    let at = (goal.at.learn-requires-clause-can c).After-unless_gone-demand in
-    subst (λ d. CanLearn (cache_in c.self.inside.auctioneer c.self.inside.concentrators.items c.parent_of-parent.result) c.place_in_row-place.result d)
-    (sym c.unless_gone-demand.ensures)
-    (can_learn_at c.self.inside.plan.now c.self.invariant.is_plan (core_of c.self.inside) c.self.invariant.stands c.args.child.0
+    let at = (goal.at.learn-requires-clause-can c).In-Some in
+    can_learn_at c.self.inside.plan.now c.self.invariant.is_plan (core_of c.self.inside) c.self.invariant.stands c.args.child.0
     c.parent_of-parent.result c.place_in_row-place.result (node_at at) c.parent_of-parent.ensures.parent c.place_in_row-place.ensures.place
-    (the_bid at) _ c.in-Some.ensures.taken)
+    (the_bid at) _ c.in-Some.ensures.taken
 
 abbrev after : (c : After-learn) → Inside
 after c = record c.self.inside {
   links = c.take_bid.new.links;
   concentrators = c.learn.new.concentrators;
   auctioneer = c.learn.new.auctioneer;
-  spare = c.take_bid.new.into;
+  spare = c.learn.new.demand;
 }
 
 did : (c : After-learn) → DidLearn (core_of c.self.inside) (core_of (after c)).links c.learn.new.auctioneer c.learn.new.concentrators.items
@@ -61,8 +56,7 @@ did : (c : After-learn) → DidLearn (core_of c.self.inside) (core_of (after c))
 did c = record {
   taken = c.in-Some.ensures.taken;
   one = c.in-Some.ensures.one;
-  learnt = subst (λ d. EntryLearnt c.self.inside.auctioneer c.learn.new.auctioneer c.self.inside.concentrators.items c.learn.new.concentrators.items
-      c.parent_of-parent.result c.place_in_row-place.result c.in-Some.head.number d) c.unless_gone-demand.ensures c.learn.ensures;
+  learnt = c.learn.ensures.learnt;
 }
 
 makes : (c : After-learn) (s : State) → StandsFor c.self.inside.plan.now (core_of c.self.inside) s →
@@ -73,7 +67,8 @@ makes c s stands =
     c.parent_of-parent.result c.place_in_row-place.result node c.parent_of-parent.ensures.parent c.place_in_row-place.ensures.place _ _ _ _ (did c)
 
 pub invariant_of-self-2 : goal.invariant_of-self-2
-invariant_of-self-2 c = moved c.self.inside (after c) _ c.self.invariant c.in-Some.ensures.same_length (makes c)
+invariant_of-self-2 c = moved c.self.inside (after c) _ c.self.invariant
+    (c.learn.ensures.same_length ∙ c.in-Some.ensures.same_length) (makes c)
 
 pub returns : goal.returns
 returns c = made_by c.self.inside (after c) _ (act.Learn c.args.child.0) _ c.self.view_is refl (makes c)
