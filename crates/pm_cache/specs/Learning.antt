@@ -1,5 +1,6 @@
 -- A child's bid on its way into the cache of its parent.
-use Rattle.std.specs.Prelude.{◌≡◌, ℕ, ◌<◌, Bool, ℤ, pos, ◌+ℤ◌, ◌-ℤ◌, List, length, Option, Some, None, if◌then◌else◌, nat_le, All}
+use Rattle.std.specs.Prelude.{◌≡◌, ℕ, ◌<◌, ℤ, pos, ◌+ℤ◌, ◌-ℤ◌, Bool, if◌then◌else◌, nat_le}
+use Rattle.std.specs.Prelude.{List, length, All, Option, Some, None}
 use Rattle.pm_bid.specs.Bids.{AllWithinLimit, demand_at, zeros}
 use Rattle.pm_base.specs.Limits.{demand_limit, sum_limit, IsWithin}
 use Rattle.pm_cache.specs.Cache.{Cache, with_bid, with_gone, kept_number, child_demand, aggregate_of, aggregate_with}

@@ -177,7 +177,8 @@ impl BidCache {
         ensures answer { result ≡ answer_to (kept_number self.old child) head.number }
         ensures learnt { self.new ≡ after_learning self.old child head.number
             (bid_demand head.gone demand.old) }
-        ensures before { OnOk result (head.gone ≡ false → demand.new ≡ child_demand self.old child) }
+        ensures before { OnOk result
+            (head.gone ≡ false → demand.new ≡ child_demand self.old child) }
         ensures gone { head.gone ≡ true → demand.new ≡ demand.old }
         ensures old { OnErr result (demand.new ≡ demand.old) }
         ensures same_length { length demand.new ≡ length demand.old }

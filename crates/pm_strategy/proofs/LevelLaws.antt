@@ -1,5 +1,6 @@
 -- Levels that stand for a demand.
-use Rattle.std.proofs.Common.{◌≡◌, ℕ, ℤ, pos, ◌<ℤ◌, ◌≤ℤ◌, ◌+ℤ◌, ◌-ℤ◌, neg_ℤ, Bool, true, false, if◌then◌else◌, int_lt, int_le, arith, refl}
+use Rattle.std.proofs.Common.{◌≡◌, ℕ, ℤ, pos, ◌<ℤ◌, ◌≤ℤ◌, ◌+ℤ◌, ◌-ℤ◌, neg_ℤ, int_lt, int_le}
+use Rattle.std.proofs.Common.{Bool, true, false, if◌then◌else◌, arith, refl}
 use Rattle.std.proofs.lemmas.Int.{ints}
 use Rattle.pm_strategy.specs.Steps.{up_to}
 use Rattle.pm_strategy.specs.Strategies.{around}
@@ -42,12 +43,13 @@ around-levels middle charge discharge spread step =
           (not_above step (middle +ℤ spread)) (is_above step (middle +ℤ spread)),
     )
 
--- each level at its steps
+-- before the first end the first level holds
 pub level_at-first : (levels : Levels) (step : ℕ) → pos step <ℤ levels.first_end → level_at levels step ≡ levels.first
 level_at-first levels step below =
     let is : int_lt (pos step) levels.first_end ≡ true = grind (arith, ints) in
     rw is
 
+-- from the first end on, and before the second, the second level holds
 pub level_at-second : (levels : Levels) (step : ℕ) → levels.first_end ≤ℤ pos step → pos step <ℤ levels.second_end →
     level_at levels step ≡ levels.second
 level_at-second levels step above below =
@@ -55,6 +57,7 @@ level_at-second levels step above below =
     let is : int_lt (pos step) levels.second_end ≡ true = grind (arith, ints) in
     rw (is_not, is)
 
+-- behind both ends the third level holds
 pub level_at-third : (levels : Levels) (step : ℕ) → levels.first_end ≤ℤ pos step → levels.second_end ≤ℤ pos step →
     level_at levels step ≡ levels.third
 level_at-third levels step above higher =

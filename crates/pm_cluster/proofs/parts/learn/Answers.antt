@@ -16,7 +16,8 @@ found c =
 
 pub exchange_bid-requires : goal.exchange_bid-requires
 exchange_bid-requires c = record {
-  bid = subst (λ (cache : Cache). CanLearn cache c.args.place (bid_demand c.args.head.gone c.args.demand.now)) (cache_root _ _ _ c.if-parent-eq0.true) c.requires.can;
+  bid = subst (λ (cache : Cache). CanLearn cache c.args.place (bid_demand c.args.head.gone c.args.demand.now))
+      (cache_root _ _ _ c.if-parent-eq0.true) c.requires.can;
 }
 
 pub exchange_bid-requires-in-Some : goal.exchange_bid-requires-in-Some

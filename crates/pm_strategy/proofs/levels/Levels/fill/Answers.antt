@@ -1,11 +1,11 @@
 -- Of `Levels::fill`: what it ensures; what its calls of `fill_range` require.
-use Rattle.std.proofs.Common.{◌≡◌, ◌∙◌, sym, ℕ, ◌<◌, ◌≤◌, ℤ, pos, ◌<ℤ◌, ◌≤ℤ◌, length, arith, rules, w64, FitsSigned, inl, inr}
+use Rattle.std.proofs.Common.{◌≡◌, ◌∙◌, sym, ℕ, ◌<◌, ◌≤◌, pos, ◌<ℤ◌, ◌≤ℤ◌, length, inl, inr}
+use Rattle.std.proofs.Common.{arith, rules, w64, FitsSigned}
 use Rattle.std.proofs.lemmas.Bool.{cases_lt}
 use Rattle.std.proofs.lemmas.Int.{to_z-of_z}
 use Rattle.pm_bid.proofs.EachStep.{same_bids}
 use Rattle.pm_bid.specs.Bids.{demand_at}
 use Rattle.pm_strategy.specs.Levels.{level_at}
-use Rattle.pm_strategy.specs.Steps.{by_step}
 use Rattle.pm_strategy.proofs.LevelLaws.{level_at-first, level_at-second, level_at-third}
 use Rattle.pm_strategy.proofs.StepLists.{length-by_step, by_step-at}
 use Rattle.pm_strategy.proofs.levels.Levels.fill.Goals as goal
