@@ -154,6 +154,11 @@ def beside(ratio, goal):
     return f"{ratio:.2f} (goal {goal}{', MISSED' if missed else ''})", missed
 
 
+def without_reading(seconds, plain):
+    """The ratio of `market run` to a plain program, by seconds by the ways, with the reading of the file taken off each."""
+    return quotient(seconds[MARKET] - seconds[READING], seconds[plain] - seconds[PLAIN_READING])
+
+
 def ratio_lines(name, least, processors, peaks):
     """The lines of the ratios, and whether a goal is missed."""
     lines = []
@@ -166,13 +171,16 @@ def ratio_lines(name, least, processors, peaks):
 
     if PLAIN in least:
         whole = told(quotient(least[MARKET], least[PLAIN]), MARKET_GOALS.get(name))
-        market, plain = least[MARKET] - least[READING], least[PLAIN] - least[PLAIN_READING]
         computing = told(quotient(processors[MARKET], processors[PLAIN]))
-        lines.append(f"{MARKET} / {PLAIN}: time {whole}, without the reading {told(quotient(market, plain))}, "
+        lines.append(f"{MARKET} / {PLAIN}: time {whole}, without the reading {told(without_reading(least, PLAIN))}, "
                      f"time of processors {computing}")
     if PLAIN_THREADS in least:
         time_taken, computing = (told(quotient(it[MARKET], it[PLAIN_THREADS]), THREADS_GOAL) for it in (least, processors))
-        lines.append(f"{MARKET} / {PLAIN_THREADS}: time {time_taken}, time of processors {computing}")
+        line = f"{MARKET} / {PLAIN_THREADS}: time {time_taken}, time of processors {computing}"
+        if PLAIN_READING in least:
+            line += f"; without the reading {told(without_reading(least, PLAIN_THREADS))}"
+            line += f", time of processors {told(without_reading(processors, PLAIN_THREADS))}"
+        lines.append(line)
     free = told(quotient(least[FREE], least[MARKET]), FREE_GOALS.get(name))
     lines.append(f"{FREE} / {MARKET}: time {free}, time of processors {told(quotient(processors[FREE], processors[MARKET]))}, "
                  f"memory {told(quotient(peaks[FREE], peaks[MARKET]))}")
