@@ -5,10 +5,13 @@ ghost use Rattle.pm_bid.specs.Bids.{demand_at, pairwise_sum, pairwise_difference
 ghost use Rattle.pm_base.specs.Limits.{AreSteps, most_steps, IsWithin, sum_limit, demand_limit};
 ghost use Rattle.pm_bid.specs.Checks.{checked_bid};
 ghost use Rattle.pm_bid.specs.Limited.{step_within};
+ghost use Rattle.pm_bid.specs.Taken.{settled_in, announced_in};
 ghost use Rattle.pm_bid.specs.Clearing.{clearing_step, first_at_most, last_at_least, Clears, IsFirstAtMost, IsLastAtLeast};
 
 use crate::fault::BidFault;
-use crate::pointwise::{add_each, clamp_each, exchange_each, set_each_zero, take_each};
+use crate::pointwise::{
+    add_each, announce_each, clamp_each, exchange_each, set_each_zero, take_each,
+};
 use crate::search::{find_at_least, find_at_most, find_rising, find_too_large};
 use crate::steps::Steps;
 use pm_base::Limits;
@@ -257,5 +260,45 @@ impl ArrayBid {
         ensures cost { counter.new ≡ counter.old + length self.now }
     {
         clamp_each(&self.demands, floor, ceiling, &mut target.demands, counter);
+    }
+
+    /// The step that a relay of the market across machines passes down, if this is the sum of its children's bids and the
+    /// market above clears at `step`. It is the nearest of the steps from the first at most the ceiling to the last at least
+    /// the floor. If there are none, it is the first at most the ceiling. To settle for a step in this way is this project's
+    /// own profile.
+    pub fn settled_step<L: Ledger>(
+        &self,
+        limits: &Limits,
+        step: usize,
+        counter: &mut Steps<L>,
+    ) -> usize
+        ensures step { result ≡ settled_in limits.now step self.now }
+        ensures inside { result < length self.now }
+        ensures small { result < most_steps }
+        ensures cost { counter.new ≤ counter.old + 2 * length self.now }
+        ensures rises { counter.old ≤ counter.new }
+    {
+        let Limits { floor, ceiling } = *limits;
+        let first = self.first_at_most(ceiling, counter);
+        let last = self.last_at_least(floor, counter);
+        first.max(step.min(last))
+    }
+
+    /// Makes the target, which has as many steps, what a relay with these limits announces of this sum. At each step it is the
+    /// sum at the step for which the relay settles there, moved to the nearest demand that a bid may have.
+    pub fn announce_into<L: Ledger>(
+        &self,
+        limits: &Limits,
+        target: &mut ArrayBid,
+        counter: &mut Steps<L>,
+    )
+        requires equal_lengths { length self.now ≡ length target.old }
+        ensures bid { target.new ≡ announced_in limits.now self.now }
+        ensures cost { counter.new ≤ counter.old + 3 * length self.now }
+    {
+        let Limits { floor, ceiling } = *limits;
+        let first = self.first_at_most(ceiling, counter);
+        let last = self.last_at_least(floor, counter);
+        announce_each(&self.demands, first, last, &mut target.demands, counter);
     }
 }

@@ -1,10 +1,12 @@
 //! Adds, subtracts, clamps and clears demands step by step, and counts each element that it touches.
 
-ghost use Rattle.std.specs.Prelude.{◌≡◌, ◌+◌, ◌*◌, ◌≤ℤ◌, length};
+ghost use Rattle.std.specs.Prelude.{◌≡◌, ◌+◌, ◌*◌, ◌<◌, ◌≤ℤ◌, length};
+ghost use Rattle.pm_bid.specs.Taken.{said_between};
 ghost use Rattle.pm_bid.specs.Bids.{pairwise_sum, pairwise_difference, zeros, clamp, AllWithinLimit};
 ghost use Rattle.pm_base.specs.Limits.{sum_limit, IsWithin};
 
 use crate::steps::Steps;
+use pm_base::DEMAND_LIMIT;
 use std::sync::ledger::Ledger;
 
 /// Adds the others step by step.
@@ -76,6 +78,28 @@ pub(crate) fn clamp_each<L: Ledger>(
 {
     for (step, target) in targets.iter_mut().enumerate() {
         *target = demands[step].clamp(floor, ceiling);
+        counter.tick();
+    }
+}
+
+/// Writes for each step the demand at the nearest step from first to last, moved to the nearest that a bid may have.
+pub(crate) fn announce_each<L: Ledger>(
+    demands: &[i64],
+    first: usize,
+    last: usize,
+    targets: &mut [i64],
+    counter: &mut Steps<L>,
+)
+    requires equal_lengths { length demands.now ≡ length targets.old }
+    requires first { first < length demands.now }
+    requires last { last < length demands.now }
+    ensures said { targets.new ≡ said_between first last demands.now }
+    ensures within { AllWithinLimit sum_limit targets.new }
+    ensures cost { counter.new ≡ counter.old + length demands.now }
+{
+    for (step, target) in targets.iter_mut().enumerate() {
+        let settled = first.max(step.min(last));
+        *target = demands[settled].clamp(-DEMAND_LIMIT, DEMAND_LIMIT);
         counter.tick();
     }
 }

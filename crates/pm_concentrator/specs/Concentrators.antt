@@ -4,6 +4,7 @@ use Rattle.pm_base.specs.Limits.{window_size}
 use Rattle.pm_base.specs.declared.limits.Limits.{Limits}
 use Rattle.pm_bid.specs.Bids.{zeros}
 use Rattle.pm_bid.specs.Limited.{within_limits}
+use Rattle.pm_bid.specs.Taken.{announced}
 use Rattle.pm_bid.specs.declared.head.BidHead.{BidHead}
 use Rattle.pm_cache.specs.Cache.{Cache, aggregate_of, empty_cache}
 use Rattle.pm_session.specs.Links.{Session, BidOffered}
@@ -40,6 +41,16 @@ pub record BidMade (old new : Gathered) (number' : ℕ) : Type 0 where
   pub room : unanswered_count old.window < window_size
   pub number : number' ≡ old.window.last + 1
   pub demand : own_demand new ≡ within_limits old.limits (aggregate_of old.cache)
+  pub sent : RecordSent old.window new.window (record { number = number'; heads = old.cache.heads; sum = sum_kept old.limits (aggregate_of old.cache) })
+  pub cache : new.cache ≡ old.cache
+  pub limits : new.limits ≡ old.limits
+
+-- the same where it settles: its demand is what is taken at the steps for which it settles
+pub record BidSettled (old new : Gathered) (number' : ℕ) : Type 0 where
+  pub changed : old.cache.heads ≡ published_heads old → ⊥
+  pub room : unanswered_count old.window < window_size
+  pub number : number' ≡ old.window.last + 1
+  pub demand : own_demand new ≡ announced old.limits (aggregate_of old.cache)
   pub sent : RecordSent old.window new.window (record { number = number'; heads = old.cache.heads; sum = sum_kept old.limits (aggregate_of old.cache) })
   pub cache : new.cache ≡ old.cache
   pub limits : new.limits ≡ old.limits

@@ -2,6 +2,7 @@
 use Rattle.std.specs.Prelude.{ℕ, ◌<◌, ℤ, List, Option, Some, None}
 use Rattle.pm_base.specs.declared.limits.Limits.{Limits}
 use Rattle.pm_bid.specs.Limited.{local_step}
+use Rattle.pm_bid.specs.Taken.{settled_step}
 
 -- the limits, and the demand of the newest bid
 pub record LimitedValue : Type 0 where
@@ -22,6 +23,11 @@ sum_steps (Some limits) steps = Some steps
 abbrev pub local_step_of_record : Option Limits → ℕ → Option (List ℤ) → ℕ
 local_step_of_record limits k None = k
 local_step_of_record limits k (Some sum) = local_step limits k sum
+
+-- the step that is passed down if it settles for a step at which its limits are kept
+abbrev pub settled_step_of_record : Option Limits → ℕ → Option (List ℤ) → ℕ
+settled_step_of_record limits k None = k
+settled_step_of_record limits k (Some sum) = settled_step limits k sum
 
 -- if there are limits, the step of a price is one of the steps
 abbrev pub IsStepOf : Option Limits → ℕ → ℕ → Type 0

@@ -5,13 +5,14 @@ ghost use Rattle.std.specs.Prelude.{IsFalse, ◌↔◌, unwrap_or, true, false};
 ghost use Rattle.std.specs.Option.{option_copied};
 ghost use Rattle.pm_base.specs.Limits.{AreSteps, AreLimits, most_nodes, window_size};
 ghost use Rattle.pm_bid.specs.Limited.{within_limits};
+ghost use Rattle.pm_bid.specs.Taken.{announced};
 ghost use Rattle.pm_cache.specs.Cache.{aggregate_of, kept_number, child_demand, answer_to};
 ghost use Rattle.pm_cache.specs.Learning.{CanLearn, after_learning, bid_demand};
 ghost use Rattle.pm_session.specs.Prices.{PricesOffered, IsNewIndex};
 ghost use Rattle.pm_session.specs.Windows.{Keeps, unanswered_count, record_of, RecordSent, IsWindow, steps_of};
-ghost use Rattle.pm_concentrator.specs.Limited.{LimitedValue, sum_kept, sum_steps, local_step_of_record, IsStepOf};
+ghost use Rattle.pm_concentrator.specs.Limited.{LimitedValue, sum_kept, sum_steps, local_step_of_record, settled_step_of_record, IsStepOf};
 ghost use Rattle.pm_concentrator.specs.Concentrators.{own_demand, published_heads, IsNewConcentrator};
-ghost use Rattle.pm_concentrator.specs.Concentrators.{BidMade, Published, Passed, IsGathered};
+ghost use Rattle.pm_concentrator.specs.Concentrators.{BidMade, BidSettled, Published, Passed, IsGathered};
 ghost use Rattle.pm_concentrator.specs.Faults.{NotPublished};
 
 use crate::fault::PublishFault;
@@ -163,6 +164,28 @@ impl Concentrator {
         Ok(number)
     }
 
+    /// Makes the bid of the next number as [`Concentrator::next_bid`] does, with its faults, for a node that settles for steps
+    /// within its limits: the demand at a step is what the children take at the step that [`Concentrator::settled_prices`] has
+    /// for it.
+    pub fn next_settled_bid(&mut self) -> Result<u32, PublishFault>
+        requires last { self.old.window.last + 1 < 2 ^ 32 }
+        ensures made { IfOk result (λ number. BidSettled self.old self.new number) }
+        ensures refused { IfErr result (λ fault. NotPublished self.old fault) }
+        ensures unchanged { OnErr result (self.new ≡ self.old) }
+    {
+        if !self.changed() {
+            return Err(PublishFault::NotChanged);
+        }
+        if self.room() == 0 {
+            return Err(PublishFault::WindowFull {
+                unanswered: WINDOW_SIZE,
+            });
+        }
+        let number = self.window.last() + 1;
+        record_settled_bid(&self.cache, &mut self.limited, &mut self.window, number);
+        Ok(number)
+    }
+
     /// The demand of the concentrator, in watts at each step. With limits it is that of its newest
     /// bid, zeros before the first. Without limits it is the sum of the children's bids. So it is
     /// that of its newest bid until the next bid of a child is learnt.
@@ -210,6 +233,26 @@ impl Concentrator {
         Prices {
             heads: record.children(),
             step: step_below(&self.limited, price.step, record),
+            index: price.index,
+        }
+    }
+
+    /// What a price is for each child as [`Concentrator::prices`] has it, for a node that settles for steps within its limits.
+    pub fn settled_prices(&self, price: PriceUpdate) -> Prices<'_>
+        requires kept { Keeps self.now.window price.number }
+        requires step { IsStepOf self.now.limits self.now.cache.steps price.step }
+        ensures heads { result.heads.now ≡ (record_of self.now.window price.number).heads }
+        ensures children { length result.heads.now ≡ length self.now.cache.heads }
+        ensures step { result.step ≡ settled_step_of_record self.now.limits price.step
+            (record_of self.now.window price.number).sum }
+        ensures inside { price.step < self.now.cache.steps → result.step < self.now.cache.steps }
+        ensures index { result.index ≡ price.index }
+    {
+        let record = self.window.record(price.number);
+        let heads = record.children();
+        Prices {
+            heads,
+            step: settled_step_below(&self.limited, price.step, record),
             index: price.index,
         }
     }
@@ -317,6 +360,45 @@ fn record_bid(cache: &BidCache, limited: &mut Option<Limited>, window: &mut Wind
     }
 }
 
+/// The same for a node that settles for steps within its limits.
+fn record_settled_bid(
+    cache: &BidCache,
+    limited: &mut Option<Limited>,
+    window: &mut Window,
+    number: u32,
+)
+    requires limits { (limits : LimitedValue) → limited.old ≡ Some limits →
+        length limits.announced ≡ cache.now.steps }
+    requires room { unanswered_count window.old < window_size }
+    requires number { number ≡ window.old.last + 1 }
+    requires children { window.old.children ≡ length cache.now.heads }
+    requires sum_steps { window.old.steps ≡ sum_steps
+        (option_map (λ l. l.limits) limited.old) cache.now.steps }
+    ensures sent { RecordSent window.old window.new
+        (record {
+          number = number;
+          heads = cache.now.heads;
+          sum = sum_kept (option_map (λ l. l.limits) limited.old) (aggregate_of cache.now);
+        }) }
+    ensures demand { unwrap_or (option_map (λ l. l.announced) limited.new) (aggregate_of cache.now)
+        ≡ announced (option_map (λ l. l.limits) limited.old) (aggregate_of cache.now) }
+    ensures steps { steps_of (option_map (λ l. l.announced) limited.new)
+        ≡ sum_steps (option_map (λ l. l.limits) limited.old) cache.now.steps }
+    ensures limits { option_map (λ l. l.limits) limited.new
+        ≡ option_map (λ l. l.limits) limited.old }
+{
+    let sum = cache.aggregate();
+    match limited {
+        None => {
+            let _ = window.sent(number, cache.heads());
+        }
+        Some(limits) => {
+            limits.settle(sum);
+            window.sent_limited(number, cache.heads(), sum);
+        }
+    }
+}
+
 /// The step that a price of this step has for the children, whose bids have so many steps.
 fn step_below(limited: &Option<Limited>, step: u32, sent: &Record) -> u32
     requires step { (limits : LimitedValue) → limited.now ≡ Some limits →
@@ -335,6 +417,28 @@ fn step_below(limited: &Option<Limited>, step: u32, sent: &Record) -> u32
         Some(limits) => match sent.sum() {
             None => step,
             Some(sum) => limits.local_step(step, sum),
+        },
+    }
+}
+
+/// The same for a node that settles for steps within its limits.
+fn settled_step_below(limited: &Option<Limited>, step: u32, sent: &Record) -> u32
+    requires step { (limits : LimitedValue) → limited.now ≡ Some limits →
+        step < length limits.announced }
+    requires sums { (limits : LimitedValue) → limited.now ≡ Some limits →
+        steps_of sent.now.sum ≡ Some (length limits.announced) }
+    requires no_sums { limited.now ≡ None → sent.now.sum ≡ None }
+    ensures step { result ≡ settled_step_of_record (option_map (λ l. l.limits) limited.now) step
+        sent.now.sum }
+    ensures inside { (limits : LimitedValue) → limited.now ≡ Some limits →
+        result < length limits.announced }
+    ensures same { limited.now ≡ None → result ≡ step }
+{
+    match limited {
+        None => step,
+        Some(limits) => match sent.sum() {
+            None => step,
+            Some(sum) => limits.settled_step(step, sum),
         },
     }
 }

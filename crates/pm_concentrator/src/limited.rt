@@ -4,6 +4,7 @@ ghost use Rattle.std.specs.Prelude.{◌≡◌, ◌<◌, length, IfOk};
 ghost use Rattle.pm_base.specs.Limits.{AreSteps, AreLimits};
 ghost use Rattle.pm_bid.specs.Bids.{zeros, clamp};
 ghost use Rattle.pm_bid.specs.Limited.{step_within};
+ghost use Rattle.pm_bid.specs.Taken.{settled_in, announced_in};
 
 use pm_base::Limits;
 use pm_bid::{ArrayBid, Steps};
@@ -53,6 +54,16 @@ impl Limited {
         sum.clamp_into(floor, ceiling, &mut self.announced, &mut counter);
     }
 
+    /// Makes what is taken of the sum, where the node settles for steps within its limits, the demand of the newest bid.
+    pub(crate) fn settle(&mut self, sum: &ArrayBid)
+        requires steps { length sum.now ≡ length self.old.announced }
+        ensures announced { self.new ≡ record self.old
+            { announced = announced_in self.old.limits sum.now } }
+    {
+        let mut counter = Steps::<Brand>::start();
+        sum.announce_into(&self.limits, &mut self.announced, &mut counter);
+    }
+
     /// The demand of the newest bid.
     pub(crate) fn announced(&self) -> &ArrayBid
         ensures announced { result.now ≡ self.now.announced }
@@ -67,5 +78,14 @@ impl Limited {
         ensures inside { result < length sum.now }
     {
         sum.step_within(&self.limits, step as usize, &mut Steps::<Brand>::start()) as u32
+    }
+
+    /// The step of the nodes below for a price of this step and the children's sum, where the node settles for steps within
+    /// its limits.
+    pub(crate) fn settled_step(&self, step: u32, sum: &ArrayBid) -> u32
+        ensures step { result ≡ settled_in self.now.limits step sum.now }
+        ensures inside { result < length sum.now }
+    {
+        sum.settled_step(&self.limits, step as usize, &mut Steps::<Brand>::start()) as u32
     }
 }

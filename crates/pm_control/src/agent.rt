@@ -5,7 +5,7 @@ ghost use Rattle.std.specs.Option.{option_copied};
 ghost use Rattle.pm_net.specs.Agents.{DeviceAgent, new_agent, may_offer, after_offer, after_leaving, setpoints_for, after_price};
 ghost use Rattle.pm_net.specs.Agents.{after_coming_back, kept_offer, offers_from};
 ghost use Rattle.pm_net.specs.Devices.{IsOfferWindow};
-ghost use Rattle.pm_control.specs.Control.{HasNumber, HasNumbers, NotOffered, message_of, told_setpoints, newest_demand, agent_stored};
+ghost use Rattle.pm_control.specs.Control.{HasNumber, HasNumbers, NotOffered, message_of, told_setpoints, newest_demand, agent_stored, after_old};
 
 use crate::fault::OfferFault;
 use crate::offer::Offer;
@@ -21,6 +21,8 @@ use std::marker::Model;
 const PLACES: usize = WINDOW_SIZE as usize + 1;
 
 /// The agent of a device.
+///
+/// It gives each second number: the one after each is its parent's, which counts the device as gone under it.
 ///
 /// Contracts see the number given last, the number answered last, the offers that are kept, and the index of the last price.
 #[derive(Drop)]
@@ -93,22 +95,22 @@ impl ControlAgent {
         }
     }
 
-    /// Gives the offer of this demand the next number, which is the answer, and keeps it. A fault comes exactly for its
+    /// Gives the offer of this demand the second number after the last, which is the answer, and keeps it. A fault comes exactly for its
     /// cause, and nothing changes then.
     pub fn offer(&mut self, demand: ArrayBid) -> Result<u32, OfferFault>
         ensures may { IfOk result (λ _. (may_offer self.old ≡ true) × HasNumbers self.old) }
-        ensures number { IfOk result (λ number. number ≡ self.old.number + 1) }
+        ensures number { IfOk result (λ number. number ≡ self.old.number + 2) }
         ensures offered { IfOk result (λ _. self.new ≡ after_offer self.old demand) }
         ensures refused { IfErr result (λ fault. NotOffered self.old fault) }
         ensures unchanged { OnErr result (self.new ≡ self.old) }
     {
-        if self.number - self.answered >= WINDOW_SIZE {
+        if self.number - self.answered >= 2 * WINDOW_SIZE {
             return Err(OfferFault::WindowFull);
         }
-        if self.number >= u32::MAX - 1 {
+        if self.number >= u32::MAX - 4 {
             return Err(OfferFault::OutOfNumbers);
         }
-        let number = self.number + 1;
+        let number = self.number + 2;
         let Ok(()) = self.offers.push(Offer::new(number, demand)) else {
             unreachable!()
         };
@@ -116,21 +118,46 @@ impl ControlAgent {
         Ok(number)
     }
 
-    /// Gives leaving the next number, which is the answer. No offer before it counts any more. None comes exactly where the
-    /// last number is 4,294,967,295, the greatest that there is. No offer takes it, so a device can always leave once.
+    /// Gives leaving the second number after the last, which is the answer. No offer before it counts any more. None comes
+    /// exactly where no such number is left with one for the parent after it. No offer takes the last, so a device can always
+    /// leave once.
     pub fn leave(&mut self) -> Option<u32>
         ensures answer { MatchOption result (HasNumber self.old → ⊥)
-            (λ number. HasNumber self.old × (number ≡ self.old.number + 1)) }
+            (λ number. HasNumber self.old × (number ≡ self.old.number + 2)) }
         ensures left { MatchOption result (self.new ≡ self.old)
             (λ _. self.new ≡ after_leaving self.old) }
     {
-        if self.number == u32::MAX {
+        if self.number >= u32::MAX - 2 {
             return None;
         }
-        self.number += 1;
+        self.number += 2;
         self.answered = self.number;
         self.offers.clear();
         Some(self.number)
+    }
+
+    /// Takes it that the parent keeps this number of the device. Where it is above the last one that the agent gave, the parent
+    /// let the device go. Then the agent leaves, of which nothing is sent, and makes its newest offer anew, whose number is the
+    /// answer. None comes if the number is not above the last one, if the device offers nothing, or if no numbers are left;
+    /// nothing changes then.
+    pub fn take_old(&mut self, kept: u32) -> Option<u32>
+        ensures after { self.new ≡ after_old self.old kept }
+        ensures answer { MatchOption result (self.new ≡ self.old) (λ number. (number ≡ self.new.number)
+            × (number ≡ self.old.number + 4)) }
+    {
+        if kept <= self.number || self.number > u32::MAX - 7 {
+            return None;
+        }
+        let offers = &mut self.offers;
+        let newest = offers.pop()?;
+        offers.clear();
+        let number = self.number + 4;
+        let Ok(()) = offers.push(newest.renumbered(number)) else {
+            unreachable!()
+        };
+        self.answered = self.number + 2;
+        self.number = number;
+        Some(number)
     }
 
     /// Takes a price of the parent. A setpoint comes exactly where the price's index is above the last and the offer that it

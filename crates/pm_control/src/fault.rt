@@ -8,7 +8,7 @@ pub enum OfferFault {
     /// Eight offers are unanswered.
     #[error("eight offers are unanswered")]
     WindowFull,
-    /// The last number is 4,294,967,294 or the one after it. The one after it is left for leaving.
+    /// No two numbers of the device are left with one for the parent after each. The last is left for leaving.
     #[error("no number is left")]
     OutOfNumbers,
 }

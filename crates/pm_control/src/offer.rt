@@ -28,6 +28,16 @@ impl Offer {
         Offer { number, demand }
     }
 
+    /// The same offer under another number.
+    pub(crate) fn renumbered(self, number: u32) -> Offer
+        ensures { result ≡ record { number = number; demand = self.demand } }
+    {
+        Offer {
+            number,
+            demand: self.demand,
+        }
+    }
+
     /// The number.
     pub(crate) fn number(&self) -> u32
         ensures { result ≡ self.now.number }

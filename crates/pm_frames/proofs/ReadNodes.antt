@@ -10,6 +10,7 @@ use Rattle.pm_wire.specs.Frames.{bid_framing, frame_bytes, clear_kind, IsFormed,
 use Rattle.pm_wire.specs.Spelling.{IsOne, IsRefusedFrame, IsFrameAt}
 use Rattle.pm_wire.proofs.OneFrame.{parts_same}
 use Rattle.pm_frames.specs.Kinds.{offer_kind, resume_kind}
+use Rattle.pm_frames.specs.Expiries.{expire_bytes, IsExpireFormed, IsExpireAccepted}
 use Rattle.pm_frames.specs.Places.{bid_place, steps_at, IsOpen, IsFresh}
 use Rattle.pm_frames.specs.ParentFrames.{IsRefusedParentFrame}
 use Rattle.pm_frames.specs.Stored.{StoredRelay, relay_resume_bytes, IsRelayStored}
@@ -95,6 +96,28 @@ device_parent_refused place bytes is_open at = record {
   formed = (is_open, at.formed);
   refused = at.refused;
   spelled = at.spelled;
+}
+
+-- ---- a device that is let go
+
+-- an Expire of no child is refused by a relay
+pub relay_expire_refused : (place : NodePlace) (bytes : List ℕ) (child : ℕ) → IsOpen place.stage → IsExpireFormed child →
+    bytes ≡ expire_bytes child → ¬ IsExpireAccepted child → IsRefusedFrame relay_framing place bytes
+relay_expire_refused place bytes child is_open formed spelled refused = record {
+  frame = relays.Expire child;
+  formed = (is_open, formed);
+  refused = refused;
+  spelled = spelled;
+}
+
+-- and by an auctioneer
+pub root_expire_refused : (stage : Stage) (bytes : List ℕ) (child : ℕ) → IsOpen stage → IsExpireFormed child →
+    bytes ≡ expire_bytes child → ¬ IsExpireAccepted child → IsRefusedFrame root_framing stage bytes
+root_expire_refused stage bytes child is_open formed spelled refused = record {
+  frame = roots.Expire child;
+  formed = (is_open, formed);
+  refused = refused;
+  spelled = spelled;
 }
 
 -- ---- what nodes come back with, and offers

@@ -36,3 +36,6 @@ not_caught_up_kind = 17
 
 abbrev pub out_of_numbers_kind : ℕ
 out_of_numbers_kind = 18
+
+abbrev pub expire_kind : ℕ
+expire_kind = 19

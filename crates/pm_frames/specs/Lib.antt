@@ -7,3 +7,4 @@ pub mod RootFrames
 pub mod DeviceFrames
 pub mod Offers
 pub mod Answers
+pub mod Expiries

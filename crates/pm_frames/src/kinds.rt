@@ -29,3 +29,5 @@ pub(crate) const RESUME_GONE: u8 = 16;
 pub(crate) const NOT_CAUGHT_UP: u8 = 17;
 
 pub(crate) const OUT_OF_NUMBERS: u8 = 18;
+
+pub(crate) const EXPIRE: u8 = 19;

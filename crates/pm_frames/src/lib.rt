@@ -12,6 +12,7 @@
 
 mod answers;
 mod device;
+mod expiry;
 mod kinds;
 mod parent;
 mod place;

@@ -4,13 +4,14 @@ ghost use Rattle.std.specs.Prelude.{◌≡◌, ◌≢◌, ◌+◌, ◌≤◌, �
 ghost use Rattle.pm_base.specs.Limits.{most_steps};
 ghost use Rattle.pm_wire.specs.Frames.{clear_kind, size_at as bid_size_at};
 ghost use Rattle.pm_wire.specs.Spelling.{IsOne};
-ghost use Rattle.pm_frames.specs.Kinds.{resume_kind};
+ghost use Rattle.pm_frames.specs.Kinds.{resume_kind, expire_kind};
 ghost use Rattle.pm_frames.specs.Places.{bid_place, IsOpen, IsFresh, IsStage};
 ghost use Rattle.pm_frames.specs.ParentFrames.{parent_size};
 ghost use Rattle.pm_frames.specs.Stored.{relay_resume_size};
 ghost use Rattle.pm_frames.specs.RelayFrames.{relay_size, relay_size_open, relay_framing};
 
-use crate::kinds::{BID, GONE, HELLO, OLD, PRICE, RESUME, SEND};
+use crate::expiry::{is_child, read_expiring};
+use crate::kinds::{BID, EXPIRE, GONE, HELLO, OLD, PRICE, RESUME, SEND};
 use crate::parent::{ParentFrame, read_accepted};
 use crate::place::{NodePlace, Stage};
 use crate::stored::{StoredRelay, read_stored_relay};
@@ -27,6 +28,8 @@ pub enum RelayFrame {
     Parent(ParentFrame),
     /// The relay is to send its bid.
     Send,
+    /// The relay is to let a device go, which is this child.
+    Expire { child: u16 },
     /// What the relay comes back with.
     Resume(StoredRelay),
 }
@@ -41,6 +44,7 @@ fn size_open(steps: usize, kind: u8) -> Option<usize>
         GONE | OLD => Some(7),
         PRICE => Some(13),
         SEND => Some(1),
+        EXPIRE => Some(3),
         _ => None,
     }
 }
@@ -103,6 +107,19 @@ fn read_resume(
     Ok(Some(RelayFrame::Resume(stored)))
 }
 
+/// Reads the fields of Expire.
+fn read_expire(place: NodePlace, body: &[u8]) -> Option<RelayFrame>
+    requires open { IsOpen place.stage }
+    requires size { 3 ≡ length body.now + 1 }
+    ensures { IsOne relay_framing place (expire_kind ∷ body.now) result }
+{
+    let child = read_expiring(body);
+    if !is_child(child) {
+        return None;
+    }
+    Some(RelayFrame::Expire { child })
+}
+
 /// Reads the fields of a frame of this kind.
 fn read_body(
     alloc: Global,
@@ -117,6 +134,7 @@ fn read_body(
     match kind {
         RESUME => read_resume(alloc, place, body),
         SEND => Ok(Some(RelayFrame::Send)),
+        EXPIRE => Ok(read_expire(place, body)),
         PRICE | OLD => Ok(read_from_parent(place, kind, body)),
         _ => read_child(alloc, place, kind, body),
     }
@@ -143,9 +161,10 @@ impl StreamFrame for RelayFrame {
     fn place_after(&self, place: NodePlace) -> NodePlace {
         let stage = match self {
             RelayFrame::Child(frame) => place.stage.after(frame),
-            RelayFrame::Parent(_) | RelayFrame::Send | RelayFrame::Resume(_) => place
-                .stage
-                .behind(),
+            RelayFrame::Parent(_)
+            | RelayFrame::Send
+            | RelayFrame::Expire { .. }
+            | RelayFrame::Resume(_) => place.stage.behind(),
         };
         NodePlace {
             child: place.child,

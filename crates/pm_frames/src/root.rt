@@ -3,12 +3,13 @@
 ghost use Rattle.std.specs.Prelude.{◌≡◌, ◌+◌, ◌∷◌, length, Some, IfOk};
 ghost use Rattle.pm_wire.specs.Frames.{size_at as bid_size_at};
 ghost use Rattle.pm_wire.specs.Spelling.{IsOne};
-ghost use Rattle.pm_frames.specs.Kinds.{resume_kind};
-ghost use Rattle.pm_frames.specs.Places.{bid_place, IsFresh, IsStage};
+ghost use Rattle.pm_frames.specs.Kinds.{resume_kind, expire_kind};
+ghost use Rattle.pm_frames.specs.Places.{bid_place, IsOpen, IsFresh, IsStage};
 ghost use Rattle.pm_frames.specs.Stored.{root_resume_size};
 ghost use Rattle.pm_frames.specs.RootFrames.{root_size, root_framing};
 
-use crate::kinds::RESUME;
+use crate::expiry::{is_child, read_expiring};
+use crate::kinds::{EXPIRE, RESUME};
 use crate::place::Stage;
 use crate::stored::{StoredRoot, read_stored_root};
 use pm_base::MOST_NODES;
@@ -20,6 +21,8 @@ use std::alloc::{AllocError, Global};
 pub enum RootFrame {
     /// A frame of a stream of bids.
     Market(Frame),
+    /// The auctioneer is to let a device go, which is this child.
+    Expire { child: u16 },
     /// What the auctioneer comes back with.
     Resume(StoredRoot),
 }
@@ -31,6 +34,7 @@ fn size_at(stage: Stage, kind: u8) -> Option<usize>
 {
     match stage {
         Stage::Opened { .. } if kind == RESUME => Some(5 + 4 * MOST_NODES),
+        Stage::Opened { .. } | Stage::Running { .. } if kind == EXPIRE => Some(3),
         Stage::Start | Stage::Opened { .. } | Stage::Running { .. } => {
             <Frame as StreamFrame>::size_at(stage.bid_place(), kind)
         }
@@ -64,6 +68,19 @@ fn read_resume(alloc: Global, stage: Stage, body: &[u8]) -> Result<Option<RootFr
     Ok(Some(RootFrame::Resume(stored)))
 }
 
+/// Reads the fields of Expire.
+fn read_expire(stage: Stage, body: &[u8]) -> Option<RootFrame>
+    requires open { IsOpen stage }
+    requires size { 3 ≡ length body.now + 1 }
+    ensures { IsOne root_framing stage (expire_kind ∷ body.now) result }
+{
+    let child = read_expiring(body);
+    if !is_child(child) {
+        return None;
+    }
+    Some(RootFrame::Expire { child })
+}
+
 /// Reads the fields of a frame of this kind.
 fn read_body(
     alloc: Global,
@@ -77,6 +94,9 @@ fn read_body(
 {
     if kind == RESUME {
         return read_resume(alloc, stage, body);
+    }
+    if kind == EXPIRE {
+        return Ok(read_expire(stage, body));
     }
     read_market(alloc, stage, kind, body)
 }
@@ -102,7 +122,7 @@ impl StreamFrame for RootFrame {
     fn place_after(&self, place: Stage) -> Stage {
         match self {
             RootFrame::Market(frame) => place.after(frame),
-            RootFrame::Resume(_) => place.behind(),
+            RootFrame::Expire { .. } | RootFrame::Resume(_) => place.behind(),
         }
     }
 

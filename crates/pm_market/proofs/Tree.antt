@@ -121,6 +121,17 @@ pub up_from_below : (lists : Lists) (x d : ℕ) → is_below lists x d ≡ true 
 unfolding is_below
 up_from_below lists x d h = up_from_below_in lists d x d h
 
+-- d stands at or below itself
+pub below_itself : (lists : Lists) → Lawful lists → (d : ℕ) → is_below lists d d ≡ true
+unfolding up
+below_itself lists law d = below_from_up lists law 0 d
+
+-- what is x or stands below x stands below the parent of x
+pub below_parent : (lists : Lists) → Lawful lists → (x d : ℕ) → is_below lists x d ≡ true → is_below lists (parent lists x) d ≡ true
+below_parent lists law x d below =
+    let at = up_from_below lists x d below in
+    subst (λ (y : ℕ). is_below lists y d ≡ true) (up_more lists at.0 d ∙ ap (parent lists) at.1) (below_from_up lists law (suc at.0) d)
+
 -- the leaves of a node
 
 leaf_of : (lists : Lists) (x d : ℕ) → IsLeaf lists d → is_below lists x d ≡ true → IsLeafOf lists x d

@@ -26,3 +26,4 @@ pub mod Offers
 pub mod Steps
 pub mod Told
 pub mod Membership
+pub mod Flow

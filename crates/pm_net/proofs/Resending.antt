@@ -3,7 +3,7 @@ use Rattle.std.proofs.Common.{◌≡◌, ◌∙◌, sym, ap, subst, ℕ, ◌+◌
 use Rattle.std.proofs.Common.{inl, inr, List, [], ◌∷◌, ◌++◌, length, get_or, arith}
 use Rattle.std.proofs.lemmas.Bool.{and_parts, leb-true, ne_eqb, true≢false}
 use Rattle.std.proofs.lemmas.List.{get_or_append_left, length_push}
-use Rattle.pm_bid.specs.Limited.{within_limits}
+use Rattle.pm_bid.specs.Taken.{announced}
 use Rattle.pm_market.specs.Lists.{Lists, phases, parent, is_leaf, changes, IsNode, IsLeaf, IsInner, IsConcentrator, Lawful}
 use Rattle.pm_market.specs.State.{State, update, cut_at, newest_number_of, part, number}
 use Rattle.pm_market.specs.Legality.{is_node}
@@ -139,14 +139,14 @@ module _ (lists : Lists) (law : Lawful lists) (p : Pricing) (by : GoesByNodes li
           (published_is_part lists law s agrees.sound z n z_node le).0)
           ∙ ap (λ (i : ℕ). p.offer z (cut_at (s.published i) n)) up
 
-      its_relay : IsItsBid lists p s x (bid_message n false (within_limits (p.limits x) (p.add x (λ z. (net.records x n z).demand))))
+      its_relay : IsItsBid lists p s x (bid_message n false (announced (p.limits x) (p.add x (λ z. (net.records x n z).demand))))
       its_relay =
           let gone : is_gone lists x n ≡ false = gone_inner lists x n inner ∙ ne_eqb n 0 (λ e. omega (arith, e, whole.1)) in
-          let demand : within_limits (p.limits x) (p.add x (λ z. (net.records x n z).demand)) ≡ p.offer x (part lists s x n) =
-          ap (within_limits (p.limits x)) (by.sums x (λ z. (net.records x n z).demand) (λ z. p.offer z (cut_at (s.published x) n)) demand_is)
+          let demand : announced (p.limits x) (p.add x (λ z. (net.records x n z).demand)) ≡ p.offer x (part lists s x n) =
+          ap (announced (p.limits x)) (by.sums x (λ z. (net.records x n z).demand) (λ z. p.offer z (cut_at (s.published x) n)) demand_is)
           ∙ sym (by.relay x (cut_at (s.published x) n) conc) ∙ ap (p.offer x) (sym (part_inner lists s.published x n inner)) in (
             omega (arith, newest_inner lists s.counts s.published x inner, agrees.last_number x inner),
-            ap (λ g. bid_message n g (within_limits (p.limits x) (p.add x (λ z. (net.records x n z).demand)))) (sym gone)
+            ap (λ g. bid_message n g (announced (p.limits x) (p.add x (λ z. (net.records x n z).demand)))) (sym gone)
                 ∙ ap (bid_message n (is_gone lists x n)) demand,
           )
 
@@ -155,7 +155,7 @@ module _ (lists : Lists) (law : Lawful lists) (p : Pricing) (by : GoesByNodes li
 
     its : IsItsBid lists p s x bid
     its = either (IsItsBid lists p s x) (is_leaf lists x) (device_bid lists p x (net.counts x))
-        (bid_message (net.last_number x) false (within_limits (p.limits x) (p.add x (λ z. (net.records x (net.last_number x) z).demand)))) its_device its_relay
+        (bid_message (net.last_number x) false (announced (p.limits x) (p.add x (λ z. (net.records x (net.last_number x) z).demand)))) its_device its_relay
 
     -- a bid that is sent again: no move
     pub resending : GoesOn lists p s (after_resending lists p net x)

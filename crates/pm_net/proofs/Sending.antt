@@ -5,7 +5,7 @@ use Rattle.std.proofs.Common.{length, get_or, arith}
 use Rattle.std.proofs.lemmas.Bool.{and_parts, ltb-true, not-true, eq-eqb, ne_eqb}
 use Rattle.pm_base.specs.Cuts.{Cut}
 use Rattle.pm_base.specs.Limits.{window_size}
-use Rattle.pm_bid.specs.Limited.{within_limits}
+use Rattle.pm_bid.specs.Taken.{announced}
 use Rattle.pm_market.specs.Lists.{Lists, nodes, parent, is_leaf, IsNode, IsInner, IsConcentrator, Lawful}
 use Rattle.pm_market.specs.State.{State, update, is_same_on, cut_at, newest_number_of, part, knowledge, last_index}
 use Rattle.pm_market.specs.Legality.{is_node}
@@ -110,11 +110,11 @@ module _ (lists : Lists) (law : Lawful lists) (p : Pricing) (by : GoesByNodes li
   new_bid =
       let gone : is_gone lists c n ≡ false = gone_inner lists c n inner ∙ ne_eqb n 0 (λ e. omega arith) in
       let its_part : part lists next c n ≡ knowledge lists knows c = ap (part lists next c) number_is ∙ has.part_added in
-      let demand : within_limits (p.limits c) (heard_sum p net c) ≡ p.offer c (part lists next c n) =
-      ap (within_limits (p.limits c)) (adding.sum_is lists law p by net s agrees c inner l sound here)
+      let demand : announced (p.limits c) (heard_sum p net c) ≡ p.offer c (part lists next c n) =
+      ap (announced (p.limits c)) (adding.sum_is lists law p by net s agrees c inner l sound here)
       ∙ sym (by.relay c (knowledge lists knows c) conc) ∙ ap (p.offer c) (sym its_part) in (
         omega (arith, number_is, has.newest_added),
-        ap (λ g. bid_message n g (within_limits (p.limits c) (heard_sum p net c))) (sym gone) ∙ ap (bid_message n (is_gone lists c n)) demand,
+        ap (λ g. bid_message n g (announced (p.limits c) (heard_sum p net c))) (sym gone) ∙ ap (bid_message n (is_gone lists c n)) demand,
       )
 
   kept_bid : (x : ℕ) (bid : BidMessage) → IsItsBid lists p s x bid → IsItsBid lists p next x bid

@@ -1,6 +1,6 @@
 -- Each event is some legal moves, and keeps agents and setpoints right.
 use Rattle.std.proofs.Common.{◌≡◌, ◌∙◌, sym, ap, subst, ℕ, ◌+◌, ◌<◌, ◌≤◌, Bool, true, false, cond, not, ltb, leb, ◌&&◌}
-use Rattle.std.proofs.Common.{◌||◌, inl, inr, List, [], ◌∷◌, ◌++◌, length, get_or, Option, Some, None, refl, arith}
+use Rattle.std.proofs.Common.{◌||◌, eqb, inl, inr, List, [], ◌∷◌, ◌++◌, length, get_or, Option, Some, None, refl, arith}
 use Rattle.std.proofs.lemmas.Bool.{cases_eq, cases_lt, cases_Bool, and_parts, cond-true, cond-false, ltb-true, both_ways, true≢false}
 use Rattle.std.proofs.lemmas.List.{append-nil}
 use Rattle.std.specs.List.{All, AllPairs}
@@ -36,7 +36,7 @@ use Rattle.pm_net.proofs.Runs.{event_goes_on}
 use Rattle.pm_net.proofs.Starting.{starting}
 use Rattle.pm_net.specs.Agents.{Offer, Setpoint, DeviceAgent, may_offer, after_offer, after_leaving, kept_offer, setpoints_of, setpoints_for}
 use Rattle.pm_net.specs.Agents.{answered_by, after_price, after_coming_back}
-use Rattle.pm_net.specs.Devices.{Devices, start_devices, may_change, agent_after_change, after_change, after_stop, after_given, devices_step}
+use Rattle.pm_net.specs.Devices.{Devices, start_devices, may_change, agent_after_own, agent_after_change, after_change, after_stop, after_given, devices_step}
 use Rattle.pm_net.specs.Devices.{devices_after, IsRight, AgentIs}
 use Rattle.pm_net.specs.Devices.{DevicesAgree, DevicesGoOn, SetpointsRise}
 use Rattle.pm_net.proofs.Offers.{starts, changes, takes, restarts, gives_right, rising_more}
@@ -107,15 +107,18 @@ module _ (lists : Lists) (law : Lawful lists) (one : phases lists ≡ 1) (p : Pr
     abbrev new_agent_of : DeviceAgent
     new_agent_of = agent_after_change lists p d n (devices.agents d)
 
-    parts : ((is_leaf lists d && ltb (net.counts d) (lists_changes lists d)) ≡ true) × ((not (is_member lists d n) || may_offer (devices.agents d)) ≡ true)
-    parts = and_parts (is_leaf lists d && ltb (net.counts d) (lists_changes lists d)) (not (is_member lists d n) || may_offer (devices.agents d)) may
+    parts : ((is_leaf lists d && ltb (net.counts d) (lists_changes lists d)) ≡ true)
+        × ((eqb (net.counts d) (devices.agents d).number || (not (is_member lists d n) || may_offer (devices.agents d))) ≡ true)
+    parts = and_parts (is_leaf lists d && ltb (net.counts d) (lists_changes lists d)) (eqb (net.counts d) (devices.agents d).number
+        || (not (is_member lists d n) || may_offer (devices.agents d))) may
 
     leaf_is : IsLeaf lists d
     leaf_is = (and_parts (is_leaf lists d) (ltb (net.counts d) (lists_changes lists d)) parts.0).0
 
-    room_of : (a b : Bool) → a ≡ true → (not a || b) ≡ true → b ≡ true
-    room_of true b e h = h
-    room_of false b e h = absurd (true≢false (sym e))
+    room_of : (c a b : Bool) → c ≡ false → a ≡ true → (c || (not a || b)) ≡ true → b ≡ true
+    room_of true a b none e h = absurd (true≢false none)
+    room_of false true b none e h = h
+    room_of false false b none e h = absurd (true≢false (sym e))
 
     agents_changed : (x : ℕ) → IsLeaf lists x →
         AgentIs lists p x (update net.counts d n x) (net.taken x).index (update devices.agents d new_agent_of x)
@@ -126,7 +129,7 @@ module _ (lists : Lists) (law : Lawful lists) (one : phases lists ≡ 1) (p : Pr
           (updated_same devices.agents d new_agent_of))
           (subst (λ (c : ℕ). AgentIs lists p d c (net.taken d).index new_agent_of) (sym (updated_same net.counts d n))
           (changes lists p d (net.counts d) (net.taken d).index (devices.agents d) (agree.agents d leaf_is)
-          (λ member. room_of (is_member lists d n) (may_offer (devices.agents d)) member parts.1))))
+          (λ own member. room_of (eqb (net.counts d) (devices.agents d).number) (is_member lists d n) (may_offer (devices.agents d)) own member parts.1))))
       | inr ne ↦ subst (λ (a : DeviceAgent). AgentIs lists p x (update net.counts d n x) (net.taken x).index a) (sym
           (updated_other devices.agents d new_agent_of x ne))
           (subst (λ (c : ℕ). AgentIs lists p x c (net.taken x).index (devices.agents x)) (sym (updated_other net.counts d n x ne)) (agree.agents x x_leaf))
@@ -367,8 +370,10 @@ within_changed : (lists : Lists) (p : Pricing) (devices : Devices) (d x : ℕ) �
 within_changed lists p devices d x within k o lt =
     let n : ℕ = devices.net.counts x + 1 in
     let new : DeviceAgent = agent_after_change lists p x n (devices.agents x) in
-    let index_same : new.index ≡ (devices.agents x).index = either (λ (a : DeviceAgent). a.index ≡ (devices.agents x).index) (is_member lists x n)
-    (after_offer (devices.agents x) (p.demand x n)) (after_leaving (devices.agents x)) (λ e. refl) (λ e. refl) in
+    let index_same : new.index ≡ (devices.agents x).index = either (λ (a : DeviceAgent). a.index ≡ (devices.agents x).index)
+    (eqb n ((devices.agents x).number + 1)) (devices.agents x) (agent_after_own lists p x n (devices.agents x)) (λ e. refl)
+    (λ e. either (λ (a : DeviceAgent). a.index ≡ (devices.agents x).index) (is_member lists x n)
+    (after_offer (devices.agents x) (p.demand x n)) (after_leaving (devices.agents x)) (λ e. refl) (λ e. refl)) in
     elim (updated_at devices.agents x new d) [
       | inl w ↦ omega (arith, within k o lt, ap (λ (a : DeviceAgent). a.index) w.1, index_same, ap (λ (z : ℕ). (devices.agents z).index) w.0)
       | inr w ↦ omega (arith, within k o lt, ap (λ (a : DeviceAgent). a.index) w.1)

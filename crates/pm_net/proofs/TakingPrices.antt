@@ -4,7 +4,7 @@ use Rattle.std.proofs.Common.{◌≡◌, ◌∙◌, sym, ap, subst, ℕ, ◌<◌
 use Rattle.std.proofs.Common.{inl, inr, List, [], ◌∷◌, ◌++◌, length, get_or, arith, refl}
 use Rattle.std.proofs.lemmas.Bool.{cases_eq, cases_lt, cases_Bool, and_parts, and_from, ltb-true, leb-true, eqb-true, eq-eqb, not_from_false, both_ways}
 use Rattle.std.specs.List.{Contains}
-use Rattle.pm_bid.specs.Limited.{local_step}
+use Rattle.pm_bid.specs.Taken.{settled_step}
 use Rattle.pm_market.specs.Lists.{Lists, parent, is_leaf, IsNode, IsLeaf, IsInner, IsConcentrator, Lawful}
 use Rattle.pm_market.specs.State.{State, update, cut_at, newest_number_of, part, number, last_index, clearings, cleared_cut, addresses}
 use Rattle.pm_market.specs.Legality.{is_node}
@@ -403,9 +403,9 @@ module _ (lists : Lists) (law : Lawful lists) (p : Pricing) (by : GoesByNodes li
         step_is : the_step ≡ p.local (cleared_cut s j) y
         step_is =
             let conc' : IsConcentrator lists (parent lists y) = subst (λ (z : ℕ). IsConcentrator lists z) (sym up) conc in
-            ap (local_step (p.limits x) price.step) sum_is
-            ∙ ap (λ (i : ℕ). local_step (p.limits x) i (p.add x (λ z. p.offer z (cleared_cut s j)))) (ap (λ (q : PriceMessage). q.step) its.1)
-            ∙ ap (λ (z : ℕ). local_step (p.limits z) (p.local (cleared_cut s j) z) (p.add z (λ w. p.offer w (cleared_cut s j)))) (sym up)
+            ap (settled_step (p.limits x) price.step) sum_is
+            ∙ ap (λ (i : ℕ). settled_step (p.limits x) i (p.add x (λ z. p.offer z (cleared_cut s j)))) (ap (λ (q : PriceMessage). q.step) its.1)
+            ∙ ap (λ (z : ℕ). settled_step (p.limits z) (p.local (cleared_cut s j) z) (p.add z (λ w. p.offer w (cleared_cut s j)))) (sym up)
             ∙ sym (by.below y (cleared_cut s j) y_node conc')
 
         price_is : price_message (basis y).number j the_step ≡ price_of_clearing lists p s y j

@@ -1,5 +1,5 @@
 -- While a device does not restart, its control is told the price of its newest bid; so in a settled network it was.
-use Rattle.std.proofs.Common.{◌≡◌, ◌∙◌, sym, ap, subst, ℕ, ◌+◌, ◌<◌, ◌≤◌, true, cond, ltb, ◌&&◌, inl, inr, List, []}
+use Rattle.std.proofs.Common.{◌≡◌, ◌∙◌, sym, ap, subst, ℕ, ◌+◌, ◌-◌, ◌<◌, ◌≤◌, true, cond, ltb, eqb, ◌&&◌, inl, inr, List, []}
 use Rattle.std.proofs.Common.{◌∷◌, ◌++◌, length, get_or, Option, Some, None, refl, arith, pos}
 use Rattle.std.proofs.lemmas.Bool.{cases_eq, cases_Bool, cond-true, cond-false, both_ways}
 use Rattle.std.proofs.lemmas.List.{append-nil, get_or_default}
@@ -27,7 +27,7 @@ use Rattle.pm_net.proofs.Messages.{either, new_push}
 use Rattle.pm_net.proofs.Settled.{all_counted, all_held}
 use Rattle.pm_net.specs.Agents.{Setpoint, Offer, DeviceAgent, after_offer, after_leaving, kept_offer, setpoint_of, setpoints_of, setpoints_for}
 use Rattle.pm_net.specs.Agents.{after_price, after_coming_back, answered_by}
-use Rattle.pm_net.specs.Devices.{Devices, start_devices, may_change, agent_after_change, after_change, after_stop, after_given, devices_step}
+use Rattle.pm_net.specs.Devices.{Devices, start_devices, may_change, agent_after_own, agent_after_change, after_change, after_stop, after_given, devices_step}
 use Rattle.pm_net.specs.Devices.{devices_after, IsRight}
 use Rattle.pm_net.specs.Devices.{DevicesAgree, IsTold, IsToldNow, no_setpoint}
 use Rattle.pm_net.proofs.Offers.{IsThere, there}
@@ -73,27 +73,47 @@ module _ (lists : Lists) (law : Lawful lists) (one : phases lists ≡ 1) (p : Pr
       (k : ℕ) × (k < length (devices.setpoints d)) × ((get_or (devices.setpoints d) k no_setpoint).index ≡ q.index) in
       subst Is (sym same) told
 
+  abbrev Keeps : DeviceAgent → PriceMessage → Type 0
+  Keeps a q = q.number ≡ a.number → is_member lists d a.number ≡ true → 0 < q.index →
+      (k : ℕ) × (k < length (devices.setpoints d)) × ((get_or (devices.setpoints d) k no_setpoint).index ≡ q.index)
+
   -- x makes a change
   changing : (x : ℕ) (after : Network) → after.taken d ≡ net.taken d →
       IsTold lists (record devices { net = after; agents = update devices.agents x (agent_after_change lists p x (net.counts x + 1) (devices.agents x)) }) d
   changing x after same =
       let new : DeviceAgent = agent_after_change lists p x (net.counts x + 1) (devices.agents x) in
       elim (cases_eq d x) [
-        | inl e ↦ λ is member some.
-            let up : new.number ≡ (devices.agents x).number + 1 =
-            either (λ (a : DeviceAgent). a.number ≡ (devices.agents x).number + 1) (is_member lists x (net.counts x + 1))
-            (after_offer (devices.agents x) (p.demand x (net.counts x + 1)))
-            (after_leaving (devices.agents x)) (λ e. refl) (λ e. refl) in
-            absurd (omega (
-              arith,
-              is,
-              ap (λ (q : PriceMessage). q.number) same,
-              ap (λ (a : DeviceAgent). a.number) (ap (λ (z : ℕ). update devices.agents x new z) e ∙ updated_same devices.agents x new),
-              up,
-              ap (λ (z : ℕ). (devices.agents z).number) e,
-              (agree.agents d leaf).number,
-              old_number (omega (arith, some, ap (λ (q : PriceMessage). q.index) same)),
-            ))
+        | inl e ↦
+            let mine : update devices.agents x new d ≡ new = ap (λ (z : ℕ). update devices.agents x new z) e ∙ updated_same devices.agents x new in
+            elim (cases_Bool (eqb (net.counts x + 1) ((devices.agents x).number + 1))) [
+              | inl parents ↦
+                  let kept : update devices.agents x new d ≡ devices.agents d = mine
+                  ∙ cond-true (eqb (net.counts x + 1) ((devices.agents x).number + 1)) (devices.agents x) (agent_after_own lists p x (net.counts x + 1)
+                  (devices.agents x)) parents
+                  ∙ ap devices.agents (sym e) in
+                  subst (λ (a : DeviceAgent). Keeps a (after.taken d)) (sym kept) (quiet after same)
+              | inr own ↦ λ is member some.
+                  let up : new.number ≡ (devices.agents x).number + 2 =
+                  ap (λ (a : DeviceAgent). a.number) (cond-false (eqb (net.counts x + 1) ((devices.agents x).number + 1)) (devices.agents x)
+                  (agent_after_own lists p x (net.counts x + 1) (devices.agents x)) own)
+                  ∙ either (λ (a : DeviceAgent). a.number ≡ (devices.agents x).number + 2) (is_member lists x (net.counts x + 1))
+                  (after_offer (devices.agents x) (p.demand x (net.counts x + 1)))
+                  (after_leaving (devices.agents x)) (λ e. refl) (λ e. refl) in
+                  let within : net.counts d ≤ (devices.agents d).number + 1 = elim (agree.agents d leaf).number [
+                    | inl w ↦ omega (arith, w)
+                    | inr w ↦ omega (arith, w)
+                  ] in
+                  absurd (omega (
+                    arith,
+                    is,
+                    ap (λ (q : PriceMessage). q.number) same,
+                    ap (λ (a : DeviceAgent). a.number) mine,
+                    up,
+                    ap (λ (z : ℕ). (devices.agents z).number) e,
+                    within,
+                    old_number (omega (arith, some, ap (λ (q : PriceMessage). q.index) same)),
+                  ))
+            ]
         | inr ne ↦
             let Is : DeviceAgent → Type 0 = λ a. (after.taken d).number ≡ a.number → is_member lists d a.number ≡ true →
             0 < (after.taken d).index →
@@ -140,8 +160,8 @@ module _ (lists : Lists) (law : Lawful lists) (one : phases lists ≡ 1) (p : Pr
           let at : price.number ≡ agent.number = ap (λ (q : PriceMessage). q.number) (sym taken_is) ∙ is ∙ number_same in
           let own = agree.agents d leaf in
           let from : own.window.first ≤ agent.number = own.newest (ap (is_member lists d) (sym number_same) ∙ member) in
-          let kept : IsThere (kept_offer agent price.number) = there price.number agent.offers own.window.first own.window.are_from
-          (omega (arith, at, from)) (omega (arith, at, own.window.to_last)) in
+          let kept : IsThere (kept_offer agent price.number) = there price.number agent.offers own.window.first
+          (length agent.offers - 1) own.window.are_from (omega (arith, at, from, own.window.to_last)) (omega (arith, at, own.window.to_last)) in
           let got = told_by price (devices.setpoints d) (kept_offer agent price.number) kept in
           let Got : List Setpoint → Type 0 = λ l. (i : ℕ) × (i < length (devices.setpoints d ++ l)) × ((get_or
           (devices.setpoints d ++ l) i no_setpoint).index ≡ (after.taken d).index) in
@@ -249,8 +269,9 @@ pub told_now : (lists : Lists) → Lawful lists → phases lists ≡ 1 → (p : 
     IsLeaf lists d →
     RunsOn d events → IsSettledNetwork lists (devices_after lists p (start_devices p) events).net →
     is_member lists d ((devices_after lists p (start_devices p) events).net.counts d) ≡ true →
+    ((devices_after lists p (start_devices p) events).agents d).number ≡ (devices_after lists p (start_devices p) events).net.counts d →
     IsToldNow p (devices_after lists p (start_devices p) events) d
-told_now lists law one p by events d leaf runs settled member =
+told_now lists law one p by events d leaf runs settled member own =
     let devices : Devices = devices_after lists p (start_devices p) events in
     let goes = run_from_start lists law one p by events in
     let s : State = after_from lists start goes.moves in
@@ -260,13 +281,13 @@ told_now lists law one p by events d leaf runs settled member =
     (agree_at_start lists law p by) d leaf (λ is mem some. absurd (omega (arith, some))) runs in
     let held = all_held lists law p by devices.net s agree.agrees settled d leaf member in
     let number_is : (devices.net.taken d).number ≡ (devices.agents d).number = ap (λ (q : PriceMessage). q.number) held
-    ∙ sym (agree.agents d leaf).number in
+    ∙ sym own in
     let some : 0 < (devices.net.taken d).index = elim (agree.agrees.taken d node) [
       | inl none ↦ absurd (both_ways (is_member lists d 0) (in_zero lists d)
           (ap (is_member lists d) (ap (λ (q : PriceMessage). q.number) (sym none) ∙ ap (λ (q : PriceMessage). q.number) held) ∙ member))
       | inr its ↦ omega (arith, (due_within lists s agree.agrees.sound d (devices.net.taken d).index its.0).0)
     ] in
-    let got = told number_is (ap (is_member lists d) (agree.agents d leaf).number ∙ member) some in
+    let got = told number_is (ap (is_member lists d) own ∙ member) some in
     let setpoint : Setpoint = get_or (devices.setpoints d) got.0 no_setpoint in
     let right : IsRight lists p s d setpoint = agree.setpoints d leaf got.0 no_setpoint got.1 in
     let index_is : setpoint.index ≡ clearings s = got.2 ∙ ap (λ (q : PriceMessage). q.index) held in

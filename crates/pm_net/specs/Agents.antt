@@ -19,7 +19,8 @@ pub record Setpoint : Type 0 where
   pub power : ℤ
 
 -- The number given last; the number answered last, or the one under which the device left, if that is later; the offers
--- since, with that of the number answered, the oldest first; and the index of the last price.
+-- since, with that of the number answered, the oldest first; and the index of the last price. A device gives every second
+-- number, 2, 4, 6, ..: the one after each of them is its parent's, for the one thing that the device is gone.
 pub record DeviceAgent : Type 0 where
   pub number : ℕ
   pub answered : ℕ
@@ -33,18 +34,18 @@ new_agent = record { number = 0; answered = 0; offers = []; index = 0 }
 
 -- it may make an offer while fewer than 8 are unanswered, and leave at any time
 abbrev pub may_offer : DeviceAgent → Bool
-may_offer agent = nat_lt (agent.number - agent.answered) window_size
+may_offer agent = nat_lt (agent.number - agent.answered) (window_size + window_size)
 
--- an offer gets the next number, under which it is sent and kept
+-- an offer gets the second number after the last, under which it is sent and kept
 abbrev pub after_offer : DeviceAgent → List ℤ → DeviceAgent
 after_offer agent demand' = record agent {
-  number = agent.number + 1;
-  offers = agent.offers ++ record { number = agent.number + 1; demand = demand' } ∷ [];
+  number = agent.number + 2;
+  offers = agent.offers ++ record { number = agent.number + 2; demand = demand' } ∷ [];
 }
 
 -- leaving has a number too; no offer before it counts any more
 abbrev pub after_leaving : DeviceAgent → DeviceAgent
-after_leaving agent = record agent { number = agent.number + 1; answered = agent.number + 1; offers = [] }
+after_leaving agent = record agent { number = agent.number + 2; answered = agent.number + 2; offers = [] }
 
 -- ---- what a price does
 

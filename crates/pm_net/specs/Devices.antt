@@ -1,12 +1,11 @@
 -- A network whose devices are agents, and what is to be said of the setpoints that they give.
-use Rattle.std.specs.Prelude.{◌≡◌, ℕ, ◌+◌, ◌<◌, ◌≤◌, ◌&&◌, ◌||◌, not, Bool, true, if◌then◌else◌, pos, List, []}
+use Rattle.std.specs.Prelude.{◌≡◌, ◌⊎◌, ◌==◌, ℕ, ◌+◌, ◌<◌, ◌≤◌, ◌&&◌, ◌||◌, not, Bool, true, if◌then◌else◌, pos, List, []}
 use Rattle.std.specs.Prelude.{◌∷◌}
 use Rattle.std.specs.Prelude.{◌++◌, slice_index_or, length}
 use Rattle.std.specs.List.{All, AllPairs, Contains}
 use Rattle.pm_base.specs.Limits.{window_size}
 use Rattle.pm_market.specs.Lists.{Lists, is_leaf, is_member, IsLeaf}
 use Rattle.pm_market.specs.State.{State, update, clearings, cleared_cut}
-use Rattle.pm_market.specs.Held.{last_join}
 use Rattle.pm_market.specs.Moves.{LegalFrom, after_from}
 use Rattle.pm_market.specs.declared.moves.Move.{Move}
 use Rattle.pm_net.specs.Pricing.{Pricing}
@@ -27,17 +26,26 @@ pub record Devices : Type 0 where
 abbrev pub start_devices : Pricing → Devices
 start_devices p = record { net = start_network p; agents = λ d. new_agent; setpoints = λ d. [] }
 
--- The control of device d makes its next change n: it offers its demand, or leaves, as is given for n. It cannot offer if
--- eight offers are unanswered.
+-- Whether the next change of device d is its parent's: that under the number after the one which d gave last. The agent knows
+-- nothing of it. A bid of it that is gone is what the parent counts for a device that it lets go; if nobody takes it, it is a
+-- bid that was lost.
+abbrev pub is_for_parent : Devices → ℕ → Bool
+is_for_parent devices d = devices.net.counts d == (devices.agents d).number
+
+-- Any other change n the control makes: it offers its demand, or leaves, as is given for n. It cannot offer if eight offers
+-- are unanswered.
 abbrev pub may_change : Lists → Devices → ℕ → Bool
 may_change lists devices d =
     may_bid lists devices.net d
-    && (not (is_member lists d (devices.net.counts d + 1)) || may_offer (devices.agents d))
+    && (is_for_parent devices d || (not (is_member lists d (devices.net.counts d + 1)) || may_offer (devices.agents d)))
 
-abbrev pub agent_after_change : Lists → Pricing → ℕ → ℕ → DeviceAgent → DeviceAgent
-agent_after_change lists p d n agent =
+abbrev pub agent_after_own : Lists → Pricing → ℕ → ℕ → DeviceAgent → DeviceAgent
+agent_after_own lists p d n agent =
     if is_member lists d n then after_offer agent (p.demand d n)
     else after_leaving agent
+
+abbrev pub agent_after_change : Lists → Pricing → ℕ → ℕ → DeviceAgent → DeviceAgent
+agent_after_change lists p d n agent = if n == agent.number + 1 then agent else agent_after_own lists p d n agent
 
 abbrev pub after_change : Lists → Pricing → Devices → ℕ → Devices
 after_change lists p devices d = record devices {
@@ -45,7 +53,7 @@ after_change lists p devices d = record devices {
   agents = update devices.agents d (agent_after_change lists p d (devices.net.counts d + 1) (devices.agents d));
 }
 
--- the control does so, and the device stops before the bid is sent
+-- the same, and the device stops before the bid is sent
 abbrev pub after_stop : Lists → Pricing → Devices → ℕ → Devices
 after_stop lists p devices d = record devices {
   net = device_stopped devices.net d;
@@ -101,29 +109,37 @@ pub record IsKeptOffer (lists : Lists) (p : Pricing) (d : ℕ) (offer : Offer) :
   pub demand : offer.demand ≡ p.demand d offer.number
   pub member : is_member lists d offer.number ≡ true
 
--- an offer of a device that made so many changes is of its present membership: the device is a member, and joined no later
-pub record IsOfThisMembership (lists : Lists) (d count : ℕ) (offer : Offer) : Type 0 where
-  pub member : is_member lists d count ≡ true
-  pub joined : last_join lists d count ≤ offer.number
+-- n is the last number that an agent gave, or one that it gave before: each second one
+pub record IsGivenNumber (number n : ℕ) : Type 0 where
+  pub since : ℕ
+  pub is : n + (since + since) ≡ number
 
--- offers under the numbers from a on
+-- an offer is of the present membership of a device whose agent gave this number last: under each number that the agent gave
+-- since, the device is a member
+abbrev pub IsOfThisMembership : Lists → ℕ → ℕ → Offer → Type 0
+IsOfThisMembership lists d number offer = (n since : ℕ) → n ≡ offer.number + (since + since) → n ≤ number → is_member lists d n ≡ true
+
+-- offers under each second number from a on
 abbrev pub AreFrom : ℕ → List Offer → Type 0
 AreFrom a [] = Unit {0}
-AreFrom a (offer ∷ offers) = (offer.number ≡ a) × AreFrom (a + 1) offers
+AreFrom a (offer ∷ offers) = (offer.number ≡ a) × AreFrom (a + 2) offers
 
--- The offers are under all numbers up to the last one, from the one answered or the next: so no number after the one
--- answered is lacking. At most 8 are unanswered.
+-- The offers are under all numbers that the agent gave up to the last one, from the one answered or the next: so none after the
+-- one answered is lacking. At most 8 are unanswered.
 pub record IsOfferWindow (agent : DeviceAgent) : Type 0 where
   pub first : ℕ
   pub are_from : AreFrom first agent.offers
-  pub to_last : first + length agent.offers ≡ agent.number + 1
+  pub to_last : first + (length agent.offers + length agent.offers) ≡ agent.number + 2
   pub low : agent.answered ≤ first
-  pub high : first ≤ agent.answered + 1
-  pub few : agent.number ≤ agent.answered + window_size
+  pub high : first ≤ agent.answered + 2
+  pub few : agent.number < agent.answered + (window_size + window_size) + 2
 
--- the agent of d, which made so many changes and holds a price of this index
+-- The agent of d, which made so many changes and holds a price of this index. Its last number is even; the last change is that
+-- of this number, or the parent's after it.
 pub record AgentIs (lists : Lists) (p : Pricing) (d count index : ℕ) (agent : DeviceAgent) : Type 0 where
-  pub number : agent.number ≡ count
+  pub half : ℕ
+  pub even : agent.number ≡ half + half
+  pub number : (count ≡ agent.number) ⊎ (count ≡ agent.number + 1)
   pub its_index : agent.index ≡ index
   pub offers : All (IsKeptOffer lists p d) agent.offers
   pub window : IsOfferWindow agent

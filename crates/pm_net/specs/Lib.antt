@@ -12,3 +12,4 @@ pub mod SmallRuns
 pub mod Agents
 pub mod Devices
 pub mod SmallDevices
+pub mod Flow

@@ -1,7 +1,7 @@
 -- Nodes that restart with what they stored, stop between storing and sending, and send again.
 use Rattle.std.specs.Prelude.{ℕ, ◌+◌, Bool, true, false, if◌then◌else◌, ◌==◌, ◌&&◌, ◌||◌, not, nat_lt, nat_le, [], ◌∷◌, ◌++◌}
 use Rattle.pm_bid.specs.Clearing.{clearing_step}
-use Rattle.pm_bid.specs.Limited.{within_limits}
+use Rattle.pm_bid.specs.Taken.{announced}
 use Rattle.pm_market.specs.Lists.{Lists, parent, is_leaf}
 use Rattle.pm_market.specs.State.{update}
 use Rattle.pm_market.specs.Legality.{is_node}
@@ -92,7 +92,7 @@ can_resend lists net x = is_node lists x && (is_leaf lists x || (nat_le (net.who
 abbrev pub newest_bid : Lists → Pricing → Network → ℕ → BidMessage
 newest_bid lists p net x =
     if is_leaf lists x then device_bid lists p x (net.counts x)
-    else bid_message (net.last_number x) false (within_limits (p.limits x) (p.add x (λ z. (net.records x (net.last_number x) z).demand)))
+    else bid_message (net.last_number x) false (announced (p.limits x) (p.add x (λ z. (net.records x (net.last_number x) z).demand)))
 
 abbrev pub after_resending : Lists → Pricing → Network → ℕ → Network
 after_resending lists p net x = record net { bids_sent = update net.bids_sent x (net.bids_sent x ++ newest_bid lists p net x ∷ []) }

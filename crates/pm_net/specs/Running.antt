@@ -4,7 +4,7 @@ use Rattle.std.specs.Prelude.{ℕ, ◌+◌, ◌-◌, Bool, true, false, if◌the
 use Rattle.std.specs.Prelude.{◌∷◌, ◌++◌}
 use Rattle.pm_base.specs.Limits.{window_size}
 use Rattle.pm_bid.specs.Clearing.{clearing_step}
-use Rattle.pm_bid.specs.Limited.{within_limits, local_step}
+use Rattle.pm_bid.specs.Taken.{announced, settled_step}
 use Rattle.pm_market.specs.Lists.{Lists, nodes, parent, is_leaf, is_member}
 use Rattle.pm_market.specs.State.{update, all_to}
 use Rattle.pm_market.specs.Legality.{is_node}
@@ -66,7 +66,7 @@ can_send lists net c =
     && nat_lt (net.last_number c - net.answered c) window_size
 
 abbrev pub relay_bid : Pricing → Network → ℕ → BidMessage
-relay_bid p net c = bid_message (net.last_number c + 1) false (within_limits (p.limits c) (heard_sum p net c))
+relay_bid p net c = bid_message (net.last_number c + 1) false (announced (p.limits c) (heard_sum p net c))
 
 abbrev pub after_sending : Pricing → Network → ℕ → Network
 after_sending p net c = record (with_record net c) { bids_sent = update net.bids_sent c (net.bids_sent c ++ relay_bid p net c ∷ []) }
@@ -106,7 +106,7 @@ after_answer net c price = record net { taken = update net.taken c price; answer
 
 -- the step that a relay passes down for a price: that of the price, moved within its limits for the sum of the record
 abbrev pub relay_step : Pricing → Network → ℕ → PriceMessage → ℕ
-relay_step p net c price = local_step (p.limits c) price.step (p.add c (λ z. (net.records c price.number z).demand))
+relay_step p net c price = settled_step (p.limits c) price.step (p.add c (λ z. (net.records c price.number z).demand))
 
 -- it passes the price on by the record of the number that the price names
 abbrev pub after_passing : Lists → Pricing → Network → ℕ → PriceMessage → Network

@@ -35,9 +35,9 @@ small_demand lists = record {
   add = add_below lists 2;
 }
 
--- the same with a relay 1 that holds its part between -1 and 2 watts
+-- the same with a relay 1 that holds its part between -1 and 6 watts
 abbrev pub limited_demand : Lists → TreeDemand
-limited_demand lists = record (small_demand lists) { limits = λ c. if c == 1 then Some (record { floor = negsuc 0; ceiling = pos 2 }) else None }
+limited_demand lists = record (small_demand lists) { limits = λ c. if c == 1 then Some (record { floor = negsuc 0; ceiling = pos 6 }) else None }
 
 abbrev pub limited_run_of : Lists → List Event → Network
 limited_run_of lists events =

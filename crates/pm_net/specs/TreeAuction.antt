@@ -1,11 +1,12 @@
 -- The auction of a tree by its own definition: any depth, any number of nodes, and limits at every relay, also one below another.
-use Rattle.std.specs.Prelude.{◌≡◌, ◌⊎◌, ℕ, zero, suc, ℤ, if◌then◌else◌, ◌==◌, List, Option, Some, None}
+use Rattle.std.specs.Prelude.{◌≡◌, ◌⊎◌, ℕ, zero, suc, ◌<◌, length, ℤ, if◌then◌else◌, ◌==◌, List, Option, Some, None}
 use Rattle.pm_base.specs.Cuts.{Cut}
 use Rattle.pm_base.specs.Limits.{AreLimits}
 use Rattle.pm_base.specs.declared.limits.Limits.{Limits}
 use Rattle.pm_bid.specs.Bids.{zeros, pairwise_sum}
 use Rattle.pm_bid.specs.Clearing.{clearing_step}
-use Rattle.pm_bid.specs.Limited.{within_limits, local_step, NeverBind}
+use Rattle.pm_bid.specs.Limited.{NeverBind}
+use Rattle.pm_bid.specs.Taken.{announced, settled_step, AreSmall}
 use Rattle.pm_market.specs.Lists.{Lists, nodes, parent, is_leaf, IsNode, IsConcentrator}
 use Rattle.pm_net.specs.Pricing.{Pricing}
 
@@ -41,7 +42,7 @@ add_below lists steps y f = add_to lists steps y f (nodes lists)
 unfoldable pub offer_in : Lists → TreeDemand → Cut → ℕ → ℕ → List ℤ
 offer_in lists a cut zero x = zeros a.steps
 offer_in lists a cut (suc levels) x =
-    if is_leaf lists x then a.demand x (cut x) else within_limits (a.limits x) (a.add x (offer_in lists a cut levels))
+    if is_leaf lists x then a.demand x (cut x) else announced (a.limits x) (a.add x (offer_in lists a cut levels))
 
 -- children have greater numbers, so as many levels as there are nodes, and one, reach every device
 unfoldable pub tree_offer : Lists → TreeDemand → ℕ → Cut → List ℤ
@@ -53,7 +54,7 @@ unfoldable pub step_in : Lists → TreeDemand → Cut → ℕ → ℕ → ℕ
 step_in lists a cut zero x = 0
 step_in lists a cut (suc levels) x =
     if parent lists x == 0 then clearing_step (a.add 0 (λ z. tree_offer lists a z cut))
-    else local_step (a.limits (parent lists x)) (step_in lists a cut levels (parent lists x))
+    else settled_step (a.limits (parent lists x)) (step_in lists a cut levels (parent lists x))
     (a.add (parent lists x) (λ z. tree_offer lists a z cut))
 
 unfoldable pub tree_step : Lists → TreeDemand → Cut → ℕ → ℕ
@@ -71,10 +72,13 @@ tree_pricing lists a = record {
 
 -- ---- limits that never bind
 
--- limits, if there are some, between which each demand of the sum lies that y has of its children, over any cut
+-- limits, if there are some, that a bid may say, and between which each demand of the sum lies that y has of its children, over
+-- any cut, with the step of y one of the sum's
 abbrev pub NeverBindAt : Pricing → ℕ → Option Limits → Type 0
 NeverBindAt p y None = Unit {0}
-NeverBindAt p y (Some limits) = AreLimits limits × ((cut : Cut) → NeverBind limits (p.add y (λ x. p.offer x cut)))
+NeverBindAt p y (Some limits) =
+    AreSmall limits × ((cut : Cut) → NeverBind limits (p.add y (λ x. p.offer x cut)))
+    × ((cut : Cut) → p.local cut y < length (p.add y (λ x. p.offer x cut)))
 
 -- other limits, which are those of the pricing or which never bind, as those of the pricing never do there
 abbrev pub AreAsGood : Lists → Pricing → (ℕ → Option Limits) → Type 0

@@ -27,10 +27,12 @@ ghost use Rattle.pm_net.specs.TreeAuction.{TreeDemand, IsTreeDemand, add_below, 
 ghost use Rattle.pm_net.specs.SmallRuns.{one_relay, run_of, limited_run_of, device_holds, cleared_once, index_held, with_skipped_price, window_sent};
 
 mod devices;
+mod taken;
 
 pub use devices::{
     setpoints_answer_offers, settled_devices_were_told, small_devices_are_as_worked_out,
 };
+pub use taken::devices_take_what_is_announced;
 
 /// Each run of a network, with whatever losses, repetitions and restarts, is a legal journal of the market of cuts. Some
 /// legal moves lead from the start to a state that the network then stands for. An event goes on from whatever state the
@@ -227,11 +229,11 @@ pub fn small_networks_keep_the_rules()
     ensures newest_bid { ((run_of one_relay
         (Event.Bids 2 ∷ Event.Bids 2 ∷ Event.TakesBid 2 1 ∷ Event.TakesBid 2 0 ∷
         [])).heard 2).number ≡ 2 }
-    // A relay between -1 and 2 watts announces 2 and -1. The market clears at the second step, where its device would deliver 3, so
-    // it passes the first step down.
+    // A relay between -1 and 6 watts announces 5 twice, since its device would deliver 3 at the second step. The market clears
+    // there, and it passes the first step down.
     ensures limited { let net = limited_run_of one_relay (cleared_once (Event.TakesPrice 1 0 ∷ []))
         in
-        (net.bids_sent 1 ≡ bid_message 1 false (pos 2 ∷ negsuc 0 ∷ []) ∷ [])
+        (net.bids_sent 1 ≡ bid_message 1 false (pos 5 ∷ pos 5 ∷ []) ∷ [])
         × (net.prices_sent 2 ≡ price_message 1 1 0 ∷ []) }
     // The device left while the price was on its way, and its relay heard so; the price is passed by the record all the same, and
     // at the step that the record's sum gives.

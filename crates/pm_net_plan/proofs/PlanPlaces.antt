@@ -14,7 +14,7 @@ use Rattle.pm_tree.specs.Entries.{parents_of}
 use Rattle.pm_tree.proofs.Named.{length-parents_of}
 use Rattle.pm_tree.proofs.Ranges.{children_among-more}
 use Rattle.pm_bid.specs.Clearing.{clearing_step}
-use Rattle.pm_bid.specs.Limited.{within_limits, local_step}
+use Rattle.pm_bid.specs.Taken.{announced, settled_step}
 use Rattle.pm_base.specs.declared.limits.Limits.{Limits}
 use Rattle.pm_market.specs.Lists.{Lists, nodes, parent}
 use Rattle.pm_offer.specs.Offers.{offer, local_step_at}
@@ -26,7 +26,7 @@ use Rattle.pm_plan.specs.Kept.{IsPlan}
 use Rattle.pm_plan.specs.Plans.{PlanData}
 use Rattle.pm_plan.specs.Market.{plan_lists}
 use Rattle.pm_net.proofs.Messages.{past}
-use Rattle.pm_net_plan.specs.PlanPricing.{plan_pricing}
+use Rattle.pm_net_plan.specs.PlanPricing.{plan_pricing, LimitsNeverBind}
 use Rattle.pm_net_plan.specs.Places.{IsNumbering, children_to, child_in, places_in, HasFewChildren, demand_in, demands_of, added_by_places}
 use Rattle.pm_net_plan.proofs.Children.{small, is_numbering, at_place, one_more, no_more}
 
@@ -113,9 +113,9 @@ module _ (plan : PlanData) (is_plan : IsPlan plan) where
       ∙ sym (ap (sum_of plan.basis.steps) (demands_are y f) ∙ sum_of-append_zeros plan.basis.steps (left y f) (map f (kids y f)))
 
   -- with limits that are as good as the plan's
-  module _ (limits : ℕ → Option Limits) (good : AreAsGood lists (plan_pricing plan) limits) where
+  module _ (never : LimitsNeverBind plan) (limits : ℕ → Option Limits) (good : AreAsGood lists (plan_pricing plan) limits) where
     abbrev by : GoesByNodes lists (with_limits (plan_pricing plan) limits)
-    by = goes_unbound lists (plan_pricing plan) (plan_goes_by_nodes plan is_plan) limits good
+    by = goes_unbound lists (plan_pricing plan) (plan_goes_by_nodes plan is_plan never) limits good
 
     -- a sum by places is the plan's
     at_places : (y : ℕ) (f : ℕ → List ℤ) → (added_by_places (plan_pricing plan) (places_in lists)).add y f ≡ (plan_pricing plan).add y f
@@ -129,9 +129,9 @@ module _ (plan : PlanData) (is_plan : IsPlan plan) where
       steps_alike = by.steps_alike;
       nothing = by.nothing;
       device = by.device;
-      relay = λ c cut conc. by.relay c cut conc ∙ ap (within_limits (limits c)) (sym (at_places c (λ x. offer plan x cut)));
+      relay = λ c cut conc. by.relay c cut conc ∙ ap (announced (limits c)) (sym (at_places c (λ x. offer plan x cut)));
       root = λ x cut node up. by.root x cut node up ∙ ap clearing_step (sym (at_places 0 (λ z. offer plan z cut)));
       below = λ x cut node conc.
-          by.below x cut node conc ∙ ap (local_step (limits (parent lists x)) (local_step_at plan cut (parent lists x)))
+          by.below x cut node conc ∙ ap (settled_step (limits (parent lists x)) (local_step_at plan cut (parent lists x)))
           (sym (at_places (parent lists x) (λ z. offer plan z cut)));
     }

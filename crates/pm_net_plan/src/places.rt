@@ -14,7 +14,7 @@ ghost use Rattle.pm_net.specs.Pricing.{GoesByNodes};
 ghost use Rattle.pm_net.specs.Network.{Network, sent_price};
 ghost use Rattle.pm_net.specs.Agrees.{NetworkAgrees};
 ghost use Rattle.pm_net.specs.TreeAuction.{AreAsGood, with_limits};
-ghost use Rattle.pm_net_plan.specs.PlanPricing.{plan_pricing};
+ghost use Rattle.pm_net_plan.specs.PlanPricing.{plan_pricing, LimitsNeverBind};
 ghost use Rattle.pm_net_plan.specs.Places.{IsNumbering, places_in, HasFewChildren, added_by_places};
 
 /// The places in the order of the nodes are a numbering in each tree in which no node has more than 256 children. So they
@@ -27,12 +27,12 @@ pub fn trees_have_places()
         IsNumbering (plan_lists plan) (places_in (plan_lists plan)) }
 {}
 
-/// A network over the tree of a plan finds the plan's plain auction. It also does so if it adds bids up by places, and if
+/// A network over the tree of a plan whose limits never bind finds the plan's plain auction. It also does so if it adds bids up by places, and if
 /// its relays have limits other than the plan's that never bind. So each price that was ever sent in it has the step of
 /// the node in the plain auction over the cut of its clearing. This is the step that `run` writes.
 pub fn plans_price_networks()
     ensures goes { (plan : PlanData) (limits : ℕ → Option Limits) → IsPlan plan →
-        AreAsGood (plan_lists plan) (plan_pricing plan) limits →
+        LimitsNeverBind plan → AreAsGood (plan_lists plan) (plan_pricing plan) limits →
         GoesByNodes (plan_lists plan)
         (with_limits (added_by_places (plan_pricing plan) (places_in (plan_lists plan))) limits) }
     ensures prices { (plan : PlanData) (limits : ℕ → Option Limits) (net : Network) (s : State)

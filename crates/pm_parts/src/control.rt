@@ -56,15 +56,15 @@ fn to(number: u32, index: u32, step: u32, power: i64) -> Option<Setpoint> {
 fn a_price_tells_the_power_of_the_offer_it_names(rt: HostRuntime) -> Result<(), Fail> {
     let alloc = rt.alloc();
     let mut agent = ControlAgent::new(alloc)?;
-    offers(&rt, alloc, &mut agent, [5, -3], Ok(1))?;
-    offers(&rt, alloc, &mut agent, [4, -2], Ok(2))?;
-    same(&rt, "first", told(&mut agent, 1, 1, 1), to(1, 1, 1, -3));
-    same(&rt, "again", told(&mut agent, 1, 1, 1), None);
-    same(&rt, "second", told(&mut agent, 0, 2, 2), to(2, 2, 0, 4));
-    same(&rt, "let go", told(&mut agent, 0, 1, 3), None);
-    same(&rt, "kept", told(&mut agent, 1, 2, 4), to(2, 4, 1, -2));
-    same(&rt, "left", agent.leave(), Some(3));
-    same(&rt, "gone", told(&mut agent, 0, 2, 5), None);
+    offers(&rt, alloc, &mut agent, [5, -3], Ok(2))?;
+    offers(&rt, alloc, &mut agent, [4, -2], Ok(4))?;
+    same(&rt, "first", told(&mut agent, 1, 2, 1), to(2, 1, 1, -3));
+    same(&rt, "again", told(&mut agent, 1, 2, 1), None);
+    same(&rt, "second", told(&mut agent, 0, 4, 2), to(4, 2, 0, 4));
+    same(&rt, "let go", told(&mut agent, 0, 2, 3), None);
+    same(&rt, "kept", told(&mut agent, 1, 4, 4), to(4, 4, 1, -2));
+    same(&rt, "left", agent.leave(), Some(6));
+    same(&rt, "gone", told(&mut agent, 0, 4, 5), None);
     Ok(())
 }
 
@@ -72,13 +72,13 @@ fn a_price_tells_the_power_of_the_offer_it_names(rt: HostRuntime) -> Result<(), 
 fn eight_offers_are_unanswered_at_most(rt: HostRuntime) -> Result<(), Fail> {
     let alloc = rt.alloc();
     let mut agent = ControlAgent::new(alloc)?;
-    for number in 1..9 {
+    for number in [2, 4, 6, 8, 10, 12, 14, 16] {
         offers(&rt, alloc, &mut agent, [10, 0], Ok(number))?;
     }
     offers(&rt, alloc, &mut agent, [20, 0], Err(OfferFault::WindowFull))?;
-    same(&rt, "third", told(&mut agent, 0, 3, 1), to(3, 1, 0, 10));
-    offers(&rt, alloc, &mut agent, [20, 0], Ok(9))?;
-    same(&rt, "ninth", told(&mut agent, 0, 9, 2), to(9, 2, 0, 20));
+    same(&rt, "third", told(&mut agent, 0, 6, 1), to(6, 1, 0, 10));
+    offers(&rt, alloc, &mut agent, [20, 0], Ok(18))?;
+    same(&rt, "ninth", told(&mut agent, 0, 18, 2), to(18, 2, 0, 20));
     Ok(())
 }
 
@@ -86,24 +86,39 @@ fn eight_offers_are_unanswered_at_most(rt: HostRuntime) -> Result<(), Fail> {
 fn an_agent_comes_back_with_its_newest_offer(rt: HostRuntime) -> Result<(), Fail> {
     let alloc = rt.alloc();
     let mut agent = ControlAgent::new(alloc)?;
-    offers(&rt, alloc, &mut agent, [5, -3], Ok(1))?;
-    offers(&rt, alloc, &mut agent, [4, -2], Ok(2))?;
-    same(&rt, "first", told(&mut agent, 1, 1, 1), to(1, 1, 1, -3));
+    offers(&rt, alloc, &mut agent, [5, -3], Ok(2))?;
+    offers(&rt, alloc, &mut agent, [4, -2], Ok(4))?;
+    same(&rt, "first", told(&mut agent, 1, 2, 1), to(2, 1, 1, -3));
     let resume = agent.resume();
     let stored = (resume.number, resume.newest.is_some(), resume.index);
-    same(&rt, "stored", stored, (2, true, 1));
+    same(&rt, "stored", stored, (4, true, 1));
     let newest = offer_of(alloc, [4, -2])?;
-    let mut back = ControlAgent::resumed(alloc, 2, Some(newest), 0)?;
-    same(&rt, "older", told(&mut back, 1, 1, 1), None);
-    same(&rt, "newest", told(&mut back, 1, 2, 2), to(2, 2, 1, -2));
+    let mut back = ControlAgent::resumed(alloc, 4, Some(newest), 0)?;
+    same(&rt, "older", told(&mut back, 1, 2, 1), None);
+    same(&rt, "newest", told(&mut back, 1, 4, 2), to(4, 2, 1, -2));
+    Ok(())
+}
+
+#[test]
+fn an_agent_that_was_let_go_offers_anew(rt: HostRuntime) -> Result<(), Fail> {
+    let alloc = rt.alloc();
+    let mut agent = ControlAgent::new(alloc)?;
+    offers(&rt, alloc, &mut agent, [5, -3], Ok(2))?;
+    offers(&rt, alloc, &mut agent, [4, -2], Ok(4))?;
+    same(&rt, "its own", agent.take_old(4), None);
+    same(&rt, "anew", agent.take_old(5), Some(8));
+    same(&rt, "before", told(&mut agent, 1, 4, 1), None);
+    same(&rt, "newest", told(&mut agent, 1, 8, 2), to(8, 2, 1, -2));
+    same(&rt, "left", agent.leave(), Some(10));
+    same(&rt, "offers nothing", agent.take_old(11), None);
     Ok(())
 }
 
 #[test]
 fn the_last_number_is_left_for_leaving(rt: HostRuntime) -> Result<(), Fail> {
     let alloc = rt.alloc();
-    let mut agent = ControlAgent::resumed(alloc, 4_294_967_293, None, 0)?;
-    offers(&rt, alloc, &mut agent, [1, 0], Ok(4_294_967_294))?;
+    let mut agent = ControlAgent::resumed(alloc, 4_294_967_290, None, 0)?;
+    offers(&rt, alloc, &mut agent, [1, 0], Ok(4_294_967_292))?;
     offers(
         &rt,
         alloc,
@@ -111,7 +126,7 @@ fn the_last_number_is_left_for_leaving(rt: HostRuntime) -> Result<(), Fail> {
         [2, 0],
         Err(OfferFault::OutOfNumbers),
     )?;
-    same(&rt, "left", agent.leave(), Some(4_294_967_295));
+    same(&rt, "left", agent.leave(), Some(4_294_967_294));
     same(&rt, "left twice", agent.leave(), None);
     offers(
         &rt,

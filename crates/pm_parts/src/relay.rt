@@ -176,14 +176,15 @@ fn stored(relay: &Relay) -> (u32, [u32; 2], u32, u32) {
     )
 }
 
-/// Two children's bids go up as one within the limits, and a price comes down by what was sent.
+/// Two children's bids go up as one, and a price comes down by what was sent. A sum that jumps over the limits is announced as it
+/// is below them, and one that falls below them as it is at the last step within.
 fn gathers(rt: &impl Abort, alloc: Global, relay: &mut Relay) -> Result<(), Fail>
     requires { relay.old.gathered.cache.steps ≡ 2 }
 {
     refuses(rt, relay, SendFault::NotChanged);
     learns(rt, alloc, relay, 0, 1, [100, 40])?;
     learns(rt, alloc, relay, 1, 1, [80, -200])?;
-    sends(rt, relay, 1, [150, -100]);
+    sends(rt, relay, 1, [-160, -160]);
     refuses(rt, relay, SendFault::NotChanged);
     same(rt, "again", relay.resend(), Some(1));
     learns(rt, alloc, relay, 0, 2, [50, 0])?;
@@ -195,7 +196,7 @@ fn gathers(rt: &impl Abort, alloc: Global, relay: &mut Relay) -> Result<(), Fail
         [moved(1, 1), moved(1, 1)],
     );
     leaves(rt, relay, 1, 1, PriceOutcome::Dropped);
-    sends(rt, relay, 2, [130, -100]);
+    sends(rt, relay, 2, [130, 130]);
     same(rt, "stored", stored(relay), (2, [2, 1], 1, 1));
     Ok(())
 }
@@ -250,6 +251,54 @@ fn a_full_window_sends_after_a_price(rt: HostRuntime) -> Result<(), Fail> {
     fills_the_window(&rt, alloc, &mut relay)
 }
 
+/// A child is let go under its parent's number, and comes back by a newer bid of its own.
+fn lets_go(rt: &impl Abort, alloc: Global, relay: &mut Relay) -> Result<(), Fail>
+    requires { relay.old.gathered.cache.steps ≡ 2 }
+{
+    learns(rt, alloc, relay, 0, 2, [100, 40])?;
+    learns(rt, alloc, relay, 1, 2, [80, -200])?;
+    sends(rt, relay, 1, [-160, -160]);
+    same(rt, "let go", relay.expire(1), 3);
+    sends(rt, relay, 2, [100, 40]);
+    let bid = bid_of(alloc, [80, -200])?;
+    let old = Err(CacheFault::Old { kept: 3 });
+    same(rt, "old", relay.learn(1, 2, Some(&bid)), old);
+    same(rt, "twice", relay.expire(1), 3);
+    refuses(rt, relay, SendFault::NotChanged);
+    let price = Some(price_of(2, 1));
+    same(rt, "passed", passes(rt, relay, 2, 1), [price, None]);
+    learns(rt, alloc, relay, 1, 6, [80, -200])?;
+    sends(rt, relay, 3, [-160, -160]);
+    same(rt, "stored", stored(relay), (3, [2, 6], 2, 1));
+    Ok(())
+}
+
+#[test]
+fn a_child_is_let_go_and_comes_back(rt: HostRuntime) -> Result<(), Fail> {
+    let alloc = rt.alloc();
+    let mut relay = new_relay(alloc)?;
+    lets_go(&rt, alloc, &mut relay)
+}
+
+/// A relay that comes back is caught up by letting go again the child that was gone in its record.
+fn lets_go_again(rt: &impl Abort, alloc: Global, relay: &mut Relay) -> Result<(), Fail>
+    requires { relay.old.gathered.cache.steps ≡ 2 }
+{
+    learns(rt, alloc, relay, 0, 2, [100, 40])?;
+    refuses(rt, relay, SendFault::NotCaughtUp);
+    same(rt, "let go", relay.expire(1), 3);
+    same(rt, "again", relay.resend(), Some(4));
+    same(rt, "demands", demands_of(relay), [100, 40]);
+    Ok(())
+}
+
+#[test]
+fn a_relay_that_comes_back_lets_go_again(rt: HostRuntime) -> Result<(), Fail> {
+    let alloc = rt.alloc();
+    let mut relay = back(alloc, 4, [2, 3], 2, 7)?;
+    lets_go_again(&rt, alloc, &mut relay)
+}
+
 /// It hears the record of its bid 4 again: it can send that bid again, and pass the price that waited.
 fn hears_its_record(rt: &impl Abort, alloc: Global, relay: &mut Relay) -> Result<(), Fail>
     requires { relay.old.gathered.cache.steps ≡ 2 }
@@ -261,7 +310,7 @@ fn hears_its_record(rt: &impl Abort, alloc: Global, relay: &mut Relay) -> Result
     same(rt, "not yet", relay.resend(), None);
     learns(rt, alloc, relay, 1, 3, [80, -200])?;
     same(rt, "again", relay.resend(), Some(4));
-    same(rt, "demands", demands_of(relay), [150, -100]);
+    same(rt, "demands", demands_of(relay), [-160, -160]);
     refuses(rt, relay, SendFault::NotChanged);
     same(
         rt,
@@ -270,7 +319,7 @@ fn hears_its_record(rt: &impl Abort, alloc: Global, relay: &mut Relay) -> Result
         [moved(6, 8), moved(3, 8)],
     );
     learns(rt, alloc, relay, 0, 7, [50, 0])?;
-    sends(rt, relay, 5, [130, -100]);
+    sends(rt, relay, 5, [130, 130]);
     same(rt, "stored", stored(relay), (5, [7, 3], 4, 8));
     Ok(())
 }
@@ -292,7 +341,7 @@ fn is_overtaken(rt: &impl Abort, alloc: Global, relay: &mut Relay) -> Result<(),
     leaves(rt, relay, 4, 9, PriceOutcome::Alone);
     learns(rt, alloc, relay, 1, 3, [80, -200])?;
     same(rt, "no record", relay.resend(), None);
-    sends(rt, relay, 5, [130, -100]);
+    sends(rt, relay, 5, [130, 130]);
     leaves(rt, relay, 4, 10, PriceOutcome::Alone);
     leaves(rt, relay, 3, 11, PriceOutcome::Dropped);
     same(

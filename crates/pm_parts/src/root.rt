@@ -123,6 +123,40 @@ fn a_root_clears_what_it_learnt(rt: HostRuntime) -> Result<(), Fail> {
     clears_twice(&rt, alloc, &mut root)
 }
 
+/// A child is let go under its parent's number, and has no price from then on.
+fn lets_go(rt: &impl Abort, alloc: Global, root: &mut Root) -> Result<(), Fail>
+    requires { root.old.auction.cache.steps ≡ 2 }
+{
+    learns(rt, alloc, root, 0, 2, [20, -50])?;
+    learns(rt, alloc, root, 1, 2, [-30, -30])?;
+    clears(rt, root, 1, 0, [2, 2]);
+    same(rt, "let go", root.expire(1), 3);
+    let cleared = Ok(Cleared { index: 2, step: 1 });
+    same(rt, "cleared", root.clear(), cleared);
+    same(rt, "second", root.numbers()[1], 3);
+    let Some(prices) = root.prices() else {
+        panic!(rt; "no prices");
+    };
+    same(rt, "children", prices.children(), MOST_NODES);
+    if 1 < prices.children() {
+        let due = Some(PriceUpdate {
+            step: 1,
+            number: 2,
+            index: 2,
+        });
+        same(rt, "kept", prices.for_child(0), due);
+        same(rt, "gone", prices.for_child(1), None);
+    }
+    Ok(())
+}
+
+#[test]
+fn a_root_lets_a_child_go(rt: HostRuntime) -> Result<(), Fail> {
+    let alloc = rt.alloc();
+    let mut root = Root::new(alloc, 2)?;
+    lets_go(&rt, alloc, &mut root)
+}
+
 /// It hears its clearing 5 again, and tells it again.
 fn hears_its_clearing(rt: &impl Abort, alloc: Global, root: &mut Root) -> Result<(), Fail>
     requires { root.old.auction.cache.steps ≡ 2 }

@@ -6,11 +6,11 @@ use Rattle.pm_base.specs.Limits.{demand_limit, most_nodes}
 use Rattle.pm_bid.specs.Bids.{AllWithinLimit}
 use Rattle.pm_cache.specs.Cache.{Cache, aggregate_of}
 use Rattle.pm_cache.specs.Learning.{HasSingleBids}
-use Rattle.pm_concentrator.specs.Concentrators.{Gathered, IsGathered, BidMade, Passed, own_demand}
+use Rattle.pm_concentrator.specs.Concentrators.{Gathered, IsGathered, BidSettled, Passed, own_demand}
 use Rattle.pm_relay.specs.Relays.{RelayValue}
 use Rattle.pm_relay.specs.RelayFields.{IsRelay, HasRelayLimits}
 use Rattle.pm_relay.proofs.Learnt.{same_demand}
-use Rattle.pm_relay.proofs.Small.{announced_small, demand_announced}
+use Rattle.pm_relay.proofs.Small.{said_small, demand_announced}
 
 -- what a relay keeps of its concentrator, but for its numbers
 pub record GathersRight (g : Gathered) : Type 0 where
@@ -30,7 +30,7 @@ pub parts_of : (r : RelayValue) → IsRelay r → GathersRight r.gathered
 parts_of r is = record { children = is.children; limits = is.limits; single = is.single; announced = is.announced; small = is.small }
 
 -- it stays over a bid
-pub over_bid : (old new : Gathered) (number : ℕ) → GathersRight old → BidMade old new number → IsGathered new → GathersRight new
+pub over_bid : (old new : Gathered) (number : ℕ) → GathersRight old → BidSettled old new number → IsGathered new → GathersRight new
 over_bid old new number was made sound =
     let limits : HasRelayLimits new.limits = subst HasRelayLimits (sym made.limits) was.limits in
     record {
@@ -38,7 +38,7 @@ over_bid old new number was made sound =
       limits = limits;
       single = subst HasSingleBids (sym made.cache) was.single;
       announced = demand_announced new limits sound;
-      small = subst (AllWithinLimit demand_limit) (sym made.demand) (announced_small old.limits (aggregate_of old.cache) was.limits);
+      small = subst (AllWithinLimit demand_limit) (sym made.demand) (said_small old.limits (aggregate_of old.cache) was.limits);
     }
 
 -- and over an answer

@@ -5,9 +5,9 @@ use Rattle.std.proofs.lemmas.Int.{ints, clamps}
 use Rattle.std.proofs.lemmas.List.Elements.{All-replicate}
 use Rattle.pm_base.specs.Limits.{IsWithin, demand_limit}
 use Rattle.pm_base.specs.declared.limits.Limits.{Limits}
-use Rattle.pm_bid.specs.Bids.{AllWithinLimit, demand_at, clamp, nearest_in_range, zeros}
-use Rattle.pm_bid.specs.Limited.{within_limits}
-use Rattle.pm_bid.proofs.EachStep.{clamp-at, length-clamped}
+use Rattle.pm_bid.specs.Bids.{AllWithinLimit, zeros}
+use Rattle.pm_bid.specs.Taken.{announced}
+use Rattle.pm_bid.proofs.Taken.{announced-small}
 use Rattle.pm_bid.proofs.Sums.{zeros-within}
 use Rattle.pm_cache.specs.Cache.{Cache, IsCache, empty_cache, aggregate_of}
 use Rattle.pm_cache.specs.Learning.{CanLearn, HasSingleBids, demand_of_offer}
@@ -17,21 +17,10 @@ use Rattle.pm_concentrator.specs.Concentrators.{Gathered, IsGathered, own_demand
 use Rattle.pm_concentrator.specs.Limited.{sum_steps}
 use Rattle.pm_relay.specs.RelayFields.{HasRelayLimits}
 
-nearest_small : (floor ceiling demand : ℤ) → floor ≤ℤ ceiling → IsWithin demand_limit floor → IsWithin demand_limit ceiling →
-    IsWithin demand_limit (nearest_in_range floor ceiling demand)
-nearest_small floor ceiling demand order low high = record { low = omega (arith, ints, clamps); high = omega (arith, ints, clamps) }
-
-clamped_small : (limits : Limits) (sum : List ℤ) → limits.floor ≤ℤ limits.ceiling → IsWithin demand_limit limits.floor →
-    IsWithin demand_limit limits.ceiling → AllWithinLimit demand_limit (clamp limits.floor limits.ceiling sum)
-clamped_small limits sum order low high = λ step inside.
-    subst (IsWithin demand_limit) (sym (clamp-at limits.floor limits.ceiling sum step (omega (arith, inside, length-clamped limits.floor limits.ceiling sum))))
-    (nearest_small limits.floor limits.ceiling (demand_at sum step) order low high)
-
--- a sum within a relay's limits is small at each step
-pub announced_small : (limits : Option Limits) (sum : List ℤ) → HasRelayLimits limits → AllWithinLimit demand_limit (within_limits limits sum)
-announced_small None sum has = absurd has
-announced_small (Some limits) sum has =
-    clamped_small limits sum (omega (arith, ints, has.around.floor_not_positive, has.around.ceiling_not_negative)) has.floor has.ceiling
+-- what a relay announces is small at each step
+pub said_small : (limits : Option Limits) (sum : List ℤ) → HasRelayLimits limits → AllWithinLimit demand_limit (announced limits sum)
+said_small None sum has = absurd has
+said_small (Some limits) sum has = announced-small limits sum
 
 -- a concentrator with a relay's limits has an announced demand
 demand_there : (limits : Option Limits) (announced : Option (List ℤ)) (sum : List ℤ) (steps : ℕ) → HasRelayLimits limits →

@@ -2,12 +2,12 @@
 use Rattle.std.specs.Prelude.{◌≡◌, ◌⊎◌, ℕ, ◌+◌, ◌-◌, ◌<◌, ◌≤◌, ◌^◌, ℤ, List, length, Option, Some}
 use Rattle.pm_base.specs.Limits.{AreLimits, IsWithin, demand_limit, most_nodes, window_size}
 use Rattle.pm_base.specs.declared.limits.Limits.{Limits}
-use Rattle.pm_bid.specs.Limited.{within_limits}
+use Rattle.pm_bid.specs.Taken.{announced}
 use Rattle.pm_cache.specs.Cache.{aggregate_of}
 use Rattle.pm_cache.specs.Learning.{after_learning}
 use Rattle.pm_session.specs.Windows.{Sent, record_of}
 use Rattle.pm_session.specs.declared.price.PriceUpdate.{PriceUpdate}
-use Rattle.pm_concentrator.specs.Concentrators.{Gathered, published_heads, IsNewConcentrator, BidMade, Passed}
+use Rattle.pm_concentrator.specs.Concentrators.{Gathered, published_heads, IsNewConcentrator, BidSettled, Passed}
 use Rattle.pm_relay.specs.Numbers.{child_number, head_number, AreReached, AreEnough}
 use Rattle.pm_relay.specs.declared.fault.SendFault.{SendFault}
 use Rattle.pm_relay.specs.declared.fault.SendFault.TheVariants.{NotCaughtUp, NotChanged, WindowFull, OutOfNumbers}
@@ -89,7 +89,7 @@ pub record RecordRebuilt (old new : RelayValue) : Type 0 where
   pub window : new.gathered.window.answered ≡ old.answered - new.base
   pub heads : (record_at new old.base).heads ≡ old.gathered.cache.heads
   pub sum : (record_at new old.base).sum ≡ Some (aggregate_of old.gathered.cache)
-  pub announced : new.gathered.announced ≡ Some (within_limits old.gathered.limits (aggregate_of old.gathered.cache))
+  pub announced : new.gathered.announced ≡ Some (announced old.gathered.limits (aggregate_of old.gathered.cache))
   pub cache : new.gathered.cache ≡ old.gathered.cache
   pub limits : new.gathered.limits ≡ old.gathered.limits
   pub answered : new.answered ≡ old.answered
@@ -102,13 +102,13 @@ LooksForRecord old new = (HearsItsRecord old × RecordRebuilt old new) ⊎ ((Hea
 
 -- ---- a bid of its own
 
--- the sum within the limits goes up under the next number, and what went into it is its record
+-- what is taken where it settles goes up under the next number, and what went into it is its record
 pub record BidSent (old new : RelayValue) (number' : ℕ) : Type 0 where
   pub caught_up : IsCaughtUp old
   pub room : unanswered_numbers old < window_size
   pub number : number' ≡ newest_bid_number old + 1
-  pub made : BidMade old.gathered new.gathered (old.gathered.window.last + 1)
-  pub announced : new.gathered.announced ≡ Some (within_limits old.gathered.limits (aggregate_of old.gathered.cache))
+  pub made : BidSettled old.gathered new.gathered (old.gathered.window.last + 1)
+  pub announced : new.gathered.announced ≡ Some (announced old.gathered.limits (aggregate_of old.gathered.cache))
   pub numbers : (child : ℕ) → child < most_nodes → child_number new.recorded child ≡ head_number old.gathered.cache.heads child
   pub children : length new.recorded ≡ length old.recorded
   pub base : new.base ≡ old.base

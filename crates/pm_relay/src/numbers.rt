@@ -1,7 +1,7 @@
 //! Compares the numbers of a record with the numbers that were heard, and notes them.
 
 ghost use Rattle.std.specs.Prelude.{◌≡◌, ℕ, ◌<◌, ◌↔◌, IsTrue, length};
-ghost use Rattle.pm_relay.specs.Numbers.{AreReached, AreEnough, child_number, head_number};
+ghost use Rattle.pm_relay.specs.Numbers.{AreReached, AreEnough, child_number, head_number, known_number, parents_number};
 
 use pm_bid::BidHead;
 
@@ -41,4 +41,20 @@ pub(crate) fn note_numbers(heads: &[BidHead], numbers: &mut Vec<u32>)
     for child in 0..numbers.len() {
         numbers[child] = heads[child].number;
     }
+}
+
+/// The number under which a child, a device, is let go: the odd number that is not below the newest one known of it. The
+/// child gives even numbers alone, so this one is its parent's.
+pub(crate) fn expiry_number(numbers: &[u32], heads: &[BidHead], child: usize) -> u32
+    requires child { child < length numbers.now }
+    requires same { length heads.now ≡ length numbers.now }
+    ensures { result ≡ parents_number (known_number numbers.now heads.now child) }
+{
+    let heard = heads[child].number;
+    let known = if numbers[child] < heard {
+        heard
+    } else {
+        numbers[child]
+    };
+    if known % 2 == 0 { known + 1 } else { known }
 }

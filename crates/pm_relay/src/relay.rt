@@ -9,12 +9,13 @@ ghost use Rattle.pm_bid.specs.Bids.{AllWithinLimit};
 ghost use Rattle.pm_cache.specs.Cache.{kept_number, answer_to};
 ghost use Rattle.pm_cache.specs.Learning.{demand_of_offer};
 ghost use Rattle.pm_concentrator.specs.Concentrators.{own_demand};
-ghost use Rattle.pm_concentrator.specs.Limited.{local_step_of_record};
+ghost use Rattle.pm_concentrator.specs.Limited.{settled_step_of_record};
 ghost use Rattle.pm_relay.specs.Relays.{AreRelayLimits, ComesBack, IsCaughtUp, HearsNothingNewer, newest_bid_number, with_child_bid, LooksForRecord};
+ghost use Rattle.pm_relay.specs.Numbers.{known_number, parents_number};
 ghost use Rattle.pm_relay.specs.Relays.{BidSent, NotSent, HasRecord, record_at, TakesPrice};
 
 use crate::fault::SendFault;
-use crate::numbers::{are_enough, are_reached, note_numbers};
+use crate::numbers::{are_enough, are_reached, expiry_number, note_numbers};
 use crate::outcome::PriceOutcome;
 use crate::resume::Resume;
 use pm_base::{Limits, MOST_NODES, WINDOW_SIZE};
@@ -143,6 +144,21 @@ impl Relay {
         answer
     }
 
+    /// Lets a child go that is a device: it counts as gone from now on, under the number that is the answer. This is the odd
+    /// number that is not below the newest one known of the child, be it heard or in the newest bid. The child gives even
+    /// numbers alone; so it is of no bid, and the child's next bid is newer. A child that is a relay is never let go.
+    pub fn expire(&mut self, child: usize) -> u32
+        requires child { child < most_nodes }
+        ensures number { result ≡ parents_number (known_number self.old.recorded
+            self.old.gathered.cache.heads child) }
+        ensures gone { LooksForRecord (with_child_bid self.old child result None) self.new }
+        ensures steps { self.new.gathered.cache.steps ≡ self.old.gathered.cache.steps }
+    {
+        let number = expiry_number(&self.recorded, self.concentrator.cache().heads(), child);
+        let _old = self.learn(child, number, None);
+        number
+    }
+
     /// Enters a child's bid.
     fn enter(
         &mut self,
@@ -175,7 +191,7 @@ impl Relay {
         if !self.is_caught_up() || !self.hears_nothing_newer() {
             return;
         }
-        if self.concentrator.next_bid().is_err() {
+        if self.concentrator.next_settled_bid().is_err() {
             return;
         }
         self.base -= 1;
@@ -200,7 +216,7 @@ impl Relay {
         are_enough(&self.recorded, self.concentrator.cache().heads())
     }
 
-    /// Makes the relay's next bid, whose number is the answer: its demand is the sum of the children's bids within the limits
+    /// Makes the relay's next bid, whose number is the answer: its demand is what the children take at the steps that [`Relay::prices`] has
     /// (see [`Relay::demand`]), and the heads of the children are its record. A fault comes exactly for its cause, and nothing
     /// changes then.
     pub fn send(&mut self) -> Result<u32, SendFault>
@@ -221,7 +237,7 @@ impl Relay {
         if last == u32::MAX {
             return Err(SendFault::OutOfNumbers);
         }
-        let Ok(_own_number) = self.concentrator.next_bid() else {
+        let Ok(_own_number) = self.concentrator.next_settled_bid() else {
             unreachable!()
         };
         note_numbers(self.concentrator.cache().heads(), &mut self.recorded);
@@ -281,18 +297,18 @@ impl Relay {
     }
 
     /// What a price is for each child that is not gone in the record of the number that the price names: the price with the
-    /// child's number in that record, and the price's step moved within the limits for the record's sum.
+    /// child's number in that record, and the step for which the relay settles by the record's sum.
     pub fn prices(&self, price: PriceUpdate) -> Prices<'_>
         requires record { HasRecord self.now price.number }
         requires step { price.step < self.now.gathered.cache.steps }
         ensures heads { result.heads.now ≡ (record_at self.now price.number).heads }
         ensures children { length result.heads.now ≡ most_nodes }
-        ensures step { result.step ≡ local_step_of_record self.now.gathered.limits price.step
+        ensures step { result.step ≡ settled_step_of_record self.now.gathered.limits price.step
             (record_at self.now price.number).sum }
         ensures inside { result.step < self.now.gathered.cache.steps }
         ensures index { result.index ≡ price.index }
     {
-        self.concentrator.prices(PriceUpdate {
+        self.concentrator.settled_prices(PriceUpdate {
             step: price.step,
             number: price.number - self.base,
             index: price.index,

@@ -1,16 +1,17 @@
 //! An auctioneer that may restart: it learns its children's bids, clears the market, and tells its newest price again.
 
-ghost use Rattle.std.specs.Prelude.{◌≡◌, ◌⊎◌, ◌<◌, length, replicate, true, false, IfOk, IfErr, OnErr, IsTrue, ◌↔◌, MatchOption};
+ghost use Rattle.std.specs.Prelude.{◌≡◌, ◌⊎◌, ◌<◌, length, replicate, true, false, IfOk, IfErr, OnErr, IsTrue, ◌↔◌, MatchOption, None};
 ghost use Rattle.std.specs.Option.{option_copied};
 ghost use Rattle.pm_base.specs.Limits.{AreSteps, demand_limit, most_nodes};
 ghost use Rattle.pm_bid.specs.Bids.{AllWithinLimit};
 ghost use Rattle.pm_cache.specs.Cache.{kept_number, answer_to};
 ghost use Rattle.pm_cache.specs.Learning.{demand_of_offer};
 ghost use Rattle.pm_relay.specs.Roots.{RootComesBack, HearsAll, HearsNoMore, newest_index, with_root_bid, LooksForClearing};
+ghost use Rattle.pm_relay.specs.Numbers.{known_number, parents_number};
 ghost use Rattle.pm_relay.specs.Roots.{RootCleared, NotCleared};
 
 use crate::fault::RootFault;
-use crate::numbers::{are_enough, are_reached, note_numbers};
+use crate::numbers::{are_enough, are_reached, expiry_number, note_numbers};
 use pm_auctioneer::{Auctioneer, Cleared};
 use pm_base::MOST_NODES;
 use pm_bid::ArrayBid;
@@ -110,6 +111,20 @@ impl Root {
         let answer = self.enter(child, number, demand);
         self.look_for_clearing();
         answer
+    }
+
+    /// Lets a child go that is a device: it counts as gone from now on, under the number that is the answer (see
+    /// [`crate::Relay::expire`]).
+    pub fn expire(&mut self, child: usize) -> u32
+        requires child { child < most_nodes }
+        ensures number { result ≡ parents_number (known_number self.old.recorded
+            self.old.auction.cache.heads child) }
+        ensures gone { LooksForClearing (with_root_bid self.old child result None) self.new }
+        ensures steps { self.new.auction.cache.steps ≡ self.old.auction.cache.steps }
+    {
+        let number = expiry_number(&self.recorded, self.auctioneer.cache().heads(), child);
+        let _old = self.learn(child, number, None);
+        number
     }
 
     /// Enters a child's bid.

@@ -5,7 +5,7 @@ use Rattle.std.proofs.Common.{inl, inr, refl, Some, ◌⊎◌, not, [], ◌∷�
 use Rattle.std.proofs.lemmas.Bool.{cases_lt, cond-true, lt-ltb, and_from, not_from_false}
 use Rattle.pm_base.specs.Limits.{most_nodes}
 use Rattle.pm_bid.specs.Bids.{zeros}
-use Rattle.pm_bid.specs.Limited.{within_limits}
+use Rattle.pm_bid.specs.Taken.{announced}
 use Rattle.pm_bid.specs.declared.head.BidHead.{BidHead}
 use Rattle.pm_cache.specs.Cache.{Cache, aggregate_of}
 use Rattle.pm_cache.specs.Learning.{after_learning}
@@ -138,8 +138,8 @@ module _ (lists : Lists) (p : Pricing) (numbering : Numbering) (is : IsNumbering
           opening = λ e. absurd (omega (arith, e, did.last));
           window = omega (arith, did.window, did.answered);
           order = omega (arith, m.order, did.answered, did.base, did.last, hears.lost);
-          demand = λ some. did.announced ∙ ap Some (ap (λ l. within_limits l (aggregate_of old.gathered.cache)) m.limits
-              ∙ ap (within_limits (p.limits c)) (sum_is lists p numbering is net c old m adds
+          demand = λ some. did.announced ∙ ap Some (ap (λ l. announced l (aggregate_of old.gathered.cache)) m.limits
+              ∙ ap (announced (p.limits c)) (sum_is lists p numbering is net c old m adds
               ∙ ap (λ (f : ℕ → BidMessage). p.add c (λ z. (f z).demand)) (sym (heard_is (net.last_number c) refl))));
         };
         rebuilt = λ again. omega (arith, again.lost, did.last);

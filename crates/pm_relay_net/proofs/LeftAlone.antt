@@ -1,7 +1,7 @@
 -- Over what happens elsewhere a relay and a root stay what they are.
 use Rattle.std.proofs.Common.{◌≡◌, ◌∙◌, sym, ap, ℕ, ◌-◌, Some, refl}
 use Rattle.pm_bid.specs.Clearing.{clearing_step}
-use Rattle.pm_bid.specs.Limited.{within_limits}
+use Rattle.pm_bid.specs.Taken.{announced}
 use Rattle.pm_market.specs.Lists.{Lists}
 use Rattle.pm_net.specs.Pricing.{Pricing}
 use Rattle.pm_net.specs.Messages.{BidMessage, PriceMessage}
@@ -42,7 +42,7 @@ relay_stays lists p numbering is net net' c r same was =
         opening = m.opening;
         window = m.window;
         order = m.order;
-        demand = λ some. m.demand some ∙ ap (λ (f : ℕ → BidMessage). Some (within_limits (p.limits c) (p.add c (λ z. (f z).demand))))
+        demand = λ some. m.demand some ∙ ap (λ (f : ℕ → BidMessage). Some (announced (p.limits c) (p.add c (λ z. (f z).demand))))
             (record_of (net.last_number c) (net'.last_number c) same.last_number);
       };
       rebuilt = was.rebuilt;

@@ -9,7 +9,7 @@ use Rattle.std.proofs.lemmas.Bool.{false_from_ne_true, cond-true, cond-false, no
 use Rattle.pm_base.specs.Cuts.{Cut}
 use Rattle.pm_base.specs.Limits.{window_size, most_nodes}
 use Rattle.pm_bid.specs.Heads.{nothing_sent}
-use Rattle.pm_bid.specs.Limited.{within_limits}
+use Rattle.pm_bid.specs.Taken.{announced}
 use Rattle.pm_bid.specs.declared.head.BidHead.{BidHead}
 use Rattle.pm_cache.specs.Cache.{Cache, aggregate_of}
 use Rattle.pm_market.specs.Lists.{Lists, parent, is_leaf, changes, IsNode, IsConcentrator, Lawful}
@@ -271,16 +271,16 @@ module _ (lists : Lists) (law : Lawful lists) (p : Pricing) (numbering : Numberi
         opening = λ e. absurd (omega (arith, e, last_is));
         window = omega (arith, did.made.sent.answered, m.window, did.answered, did.base);
         order = omega (arith, m.order, did.answered, did.base, last_is);
-        demand = λ some. did.announced ∙ ap Some (ap (λ l. within_limits l (aggregate_of r.gathered.cache)) m.limits
-            ∙ ap (within_limits (p.limits c)) (sum_at (net'.last_number c) last_number_is));
+        demand = λ some. did.announced ∙ ap Some (ap (λ l. announced l (aggregate_of r.gathered.cache)) m.limits
+            ∙ ap (announced (p.limits c)) (sum_at (net'.last_number c) last_number_is));
       };
       rebuilt = λ again. omega (arith, again.lost, last_is);
     }
 
     bid_is : relay_bid p net c ≡ bid_message number' false (own_demand new.gathered)
     bid_is =
-        ap (λ l. bid_message n false (within_limits l (heard_sum p net c))) (sym m.limits)
-        ∙ ap (λ v. bid_message n false (within_limits r.gathered.limits v)) (sym (sum_is lists p numbering is net c r m adds))
+        ap (λ l. bid_message n false (announced l (heard_sum p net c))) (sym m.limits)
+        ∙ ap (λ v. bid_message n false (announced r.gathered.limits v)) (sym (sum_is lists p numbering is net c r m adds))
         ∙ ap (bid_message n false) (sym did.made.demand) ∙ ap (λ (k : ℕ). bid_message k false (own_demand new.gathered)) (sym number_is)
 
     step_is : network_step lists p net (Sends c) ≡ net'
@@ -317,7 +317,7 @@ sends_again lists p numbering net c r conc m some =
     (ap (λ (b : Bool). is_leaf lists c || b) (and_from (leb (net.whole_from c) (net.last_number c)) (leb 1 (net.last_number c))
     (le-leb (net.whole_from c) (net.last_number c) (is_whole lists p numbering net c r m some)) (le-leb 1 (net.last_number c) (omega (arith, m.newest, some))))
     ∙ or_true (is_leaf lists c)) in
-    let demand : own_demand r.gathered ≡ within_limits (p.limits c) (p.add c (λ z. (net.records c (net.last_number c) z).demand)) =
+    let demand : own_demand r.gathered ≡ announced (p.limits c) (p.add c (λ z. (net.records c (net.last_number c) z).demand)) =
     ap (λ o. unwrap_or o (aggregate_of r.gathered.cache)) (m.demand some) in
     let bid : newest_bid lists p net c ≡ bid_message (newest_bid_number r) false (own_demand r.gathered) =
     cond-false (is_leaf lists c) _ _ conc.2 ∙ ap (bid_message (net.last_number c) false) (sym demand)

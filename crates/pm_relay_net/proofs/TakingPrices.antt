@@ -6,14 +6,14 @@ use Rattle.std.proofs.lemmas.Bool.{cases_Bool, cond-true, cond-false, and_parts,
 use Rattle.std.proofs.lemmas.Bool.{eqb-true, not_from_false}
 use Rattle.std.proofs.lemmas.Bool.{both_ways, false_from_ne_true, not-true}
 use Rattle.std.proofs.lemmas.List.{append-nil}
-use Rattle.pm_bid.specs.Limited.{local_step}
+use Rattle.pm_bid.specs.Taken.{settled_step}
 use Rattle.pm_cache.specs.Cache.{Cache}
 use Rattle.pm_market.specs.Lists.{Lists, parent, is_leaf, IsNode, IsConcentrator}
 use Rattle.pm_market.specs.Legality.{is_node}
 use Rattle.pm_market.proofs.Legality.{is_node_at}
 use Rattle.pm_market.proofs.Cuts.{updated_same}
 use Rattle.pm_session.specs.Windows.{Sent, Keeps}
-use Rattle.pm_concentrator.specs.Limited.{local_step_of_record}
+use Rattle.pm_concentrator.specs.Limited.{settled_step_of_record}
 use Rattle.pm_net.specs.Pricing.{Pricing}
 use Rattle.pm_net.specs.Messages.{PriceMessage}
 use Rattle.pm_net.specs.Network.{Network, sent_price}
@@ -174,9 +174,9 @@ module _ (lists : Lists) (p : Pricing) (numbering : Numbering) (is : IsNumbering
     sum_is : (record_at old price.number).sum ≡ Some (recorded_sum p net c price.number)
     sum_is = m.record_sum (price.number - old.base) own_kept ∙ ap (λ (n : ℕ). Some (recorded_sum p net c n)) number_is
 
-    step_is : local_step_of_record old.gathered.limits price.step (record_at old price.number).sum ≡ relay_step p net c price
-    step_is = ap (local_step_of_record old.gathered.limits price.step) sum_is
-        ∙ ap (λ l. local_step l price.step (recorded_sum p net c price.number)) m.limits
+    step_is : settled_step_of_record old.gathered.limits price.step (record_at old price.number).sum ≡ relay_step p net c price
+    step_is = ap (settled_step_of_record old.gathered.limits price.step) sum_is
+        ∙ ap (λ l. settled_step l price.step (recorded_sum p net c price.number)) m.limits
 
     older : (n : ℕ) → Keeps new.gathered.window n → Keeps old.gathered.window n
     older n keeps = record {
@@ -219,7 +219,7 @@ module _ (lists : Lists) (p : Pricing) (numbering : Numbering) (is : IsNumbering
         ∙ ap (λ (k : ℕ). net.prices_sent x ++ price_for_bid (net.records c price.number x) price.index k) (sym step_is)
         ∙ sym (ap (λ l. net.prices_sent x ++ l) (price_by_heads lists numbering is (net.records c price.number)
         (record_at old price.number).heads price.index
-        (local_step_of_record old.gathered.limits price.step (record_at old price.number).sum) c x node up heads_are))
+        (settled_step_of_record old.gathered.limits price.step (record_at old price.number).sum) c x node up heads_are))
 
   -- whatever it does
   does : (outcome : PriceOutcome) → relays.TakesPrice old new (update_of price) outcome →

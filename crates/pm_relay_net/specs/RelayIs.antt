@@ -4,12 +4,12 @@ use Rattle.std.specs.Prelude.{replicate, Option, Some, None}
 use Rattle.pm_base.specs.Limits.{most_nodes}
 use Rattle.pm_base.specs.declared.limits.Limits.{Limits}
 use Rattle.pm_bid.specs.Heads.{nothing_sent}
-use Rattle.pm_bid.specs.Limited.{within_limits}
+use Rattle.pm_bid.specs.Taken.{announced}
 use Rattle.pm_session.specs.Windows.{Keeps, record_of}
 use Rattle.pm_session.specs.Prices.{price_to}
 use Rattle.pm_session.specs.declared.price.PriceUpdate.{PriceUpdate}
 use Rattle.pm_concentrator.specs.Concentrators.{published_heads}
-use Rattle.pm_concentrator.specs.Limited.{local_step_of_record}
+use Rattle.pm_concentrator.specs.Limited.{settled_step_of_record}
 use Rattle.pm_net.specs.Pricing.{Pricing}
 use Rattle.pm_net.specs.Messages.{BidMessage, PriceMessage, price_message}
 use Rattle.pm_net.specs.Network.{Network}
@@ -51,7 +51,7 @@ pub record MatchesNode (p : Pricing) (numbering : Numbering) (net : Network) (c 
   pub order : r.answered ≤ newest_bid_number r
   -- its demand is that of its newest bid
   pub demand : 1 ≤ r.gathered.window.last →
-      r.gathered.announced ≡ Some (within_limits (p.limits c) (recorded_sum p net c (net.last_number c)))
+      r.gathered.announced ≡ Some (announced (p.limits c) (recorded_sum p net c (net.last_number c)))
 
 -- the relay is what the network has of node c: a record that it hears it has
 pub record RelayIs (p : Pricing) (numbering : Numbering) (net : Network) (c : ℕ) (r : RelayValue) : Type 0 where
@@ -76,5 +76,5 @@ messages_of (Some price) = price_message price.number price.index price.step ∷
 abbrev pub prices_down : RelayValue → PriceUpdate → PriceOutcome → ℕ → List PriceMessage
 prices_down r price PassedOn place = messages_of
     (price_to (record_at r price.number).heads
-    (local_step_of_record r.gathered.limits price.step (record_at r price.number).sum) price.index place)
+    (settled_step_of_record r.gathered.limits price.step (record_at r price.number).sum) price.index place)
 prices_down r price outcome place = []

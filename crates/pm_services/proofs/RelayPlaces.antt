@@ -23,7 +23,7 @@ use Rattle.pm_frames.specs.declared.place.Stage.{Stage}
 use Rattle.pm_frames.specs.declared.place.Stage.TheVariants.{Start, Opened, Running}
 use Rattle.pm_wire.proofs.Known.{learnt_steps}
 use Rattle.pm_frames.specs.declared.relay.RelayFrame.{RelayFrame}
-use Rattle.pm_frames.specs.declared.relay.RelayFrame.TheVariants.{Child, Parent, Send, Resume}
+use Rattle.pm_frames.specs.declared.relay.RelayFrame.TheVariants.{Child, Parent, Send, Expire, Resume}
 use Rattle.pm_frames.proofs.NodePlaces.{same_bid_place}
 use Rattle.pm_services.specs.RelayAnswers.{OpenRelay, RelayServiceValue, TriesWaiting, AnswersAsked}
 use Rattle.pm_services.specs.RelayAnswers.{AnswersNow, AnswersRelay, IsRelayStart}
@@ -92,6 +92,7 @@ steps_after place child limits None (Child (Gone sender number)) new reply is st
 steps_after place child limits None (Child Clear) new reply is stands answers = absurd stands.formed.1
 steps_after place child limits None (Parent frame) new reply is stands answers = absurd (open_known place.stage stands.formed.0 is)
 steps_after place child limits None Send new reply is stands answers = absurd (open_known place.stage stands.formed is)
+steps_after place child limits None (Expire sender) new reply is stands answers = absurd (open_known place.stage stands.formed.0 is)
 steps_after place child limits None (Resume stored) new reply is stands answers =
     absurd (open_known place.stage (fresh_open place.stage stands.formed.0) is)
 steps_after place child limits (Some old) (Child (Hello basis)) new reply is stands answers =
@@ -110,6 +111,9 @@ steps_after place child limits (Some old) (Parent (Old own kept)) new reply is s
 steps_after place child limits (Some old) Send new reply is stands answers =
     goes_on place.stage old new answers.0 is answers.1 (tries_steps old.waiting answers.2.asked answers.0 answers.2.waiting_reply answers.2.tries
     ∙ asked_steps child old.relay answers.2.asked answers.2.first answers.2.answers)
+steps_after place child limits (Some old) (Expire sender) new reply is stands answers =
+    goes_on place.stage old new answers.0 is answers.1 (tries_steps old.waiting answers.2.learnt answers.0 answers.2.waiting_reply answers.2.tries
+    ∙ bid_steps old.relay answers.2.learnt _ _ None answers.2.looks)
 steps_after place child limits (Some old) (Resume stored) new reply is stands answers =
     goes_on place.stage old new _ is answers.0.opened (ap (λ (k : Cache). k.steps) answers.0.back.gathered.cache)
 

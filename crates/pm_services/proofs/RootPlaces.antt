@@ -15,7 +15,7 @@ use Rattle.pm_frames.specs.Places.{bid_place}
 use Rattle.pm_frames.specs.RootFrames.{root_framing, root_stage_after}
 use Rattle.pm_frames.specs.declared.place.Stage.{Stage}
 use Rattle.pm_frames.specs.declared.root.RootFrame.{RootFrame}
-use Rattle.pm_frames.specs.declared.root.RootFrame.TheVariants.{Market, Resume}
+use Rattle.pm_frames.specs.declared.root.RootFrame.TheVariants.{Market, Expire, Resume}
 use Rattle.pm_frames.proofs.NodePlaces.{same_bid_place}
 use Rattle.pm_services.specs.RootAnswers.{OpensRoot, AnswersClear, AnswersRoot, IsRootStart}
 use Rattle.pm_services.specs.RootStands.{steps_known, MayStandWithSteps}
@@ -45,6 +45,7 @@ known_after stage None new (Market (Hello basis)) reply same stands answers = sy
 known_after stage None new (Market (Bid child number demand)) reply same stands answers = same_bid_place stage ∙ same ∙ ap steps_known (sym answers.0)
 known_after stage None new (Market (Gone child number)) reply same stands answers = same_bid_place stage ∙ same ∙ ap steps_known (sym answers.0)
 known_after stage None new (Market Clear) reply same stands answers = same_bid_place stage ∙ same ∙ ap steps_known (sym answers.0)
+known_after stage None new (Expire child) reply same stands answers = same_bid_place stage ∙ same ∙ ap steps_known (sym answers.0)
 known_after stage None new (Resume stored) reply same stands answers = same_bid_place stage ∙ same ∙ ap steps_known (sym answers.0)
 known_after stage (Some old) new (Market (Hello basis)) reply same stands answers =
     absurd (no_hello_after stage old.auction.cache.steps (Hello basis) same stands.formed)
@@ -54,6 +55,8 @@ known_after stage (Some old) new (Market (Gone child number)) reply same stands 
     same_bid_place stage ∙ same ∙ sym (same_known old answers.0 new answers.1 (bid_steps old answers.0 _ number None answers.2.looks))
 known_after stage (Some old) new (Market Clear) reply same stands answers =
     same_bid_place stage ∙ same ∙ sym (same_known old answers.0 new answers.1 (clear_steps old answers.0 reply answers.2))
+known_after stage (Some old) new (Expire child) reply same stands answers =
+    same_bid_place stage ∙ same ∙ sym (same_known old answers.0 new answers.1 (bid_steps old answers.0 _ _ None answers.2.looks))
 known_after stage (Some old) new (Resume stored) reply same stands answers =
     same_bid_place stage ∙ same ∙ sym (opens_steps _ _ _ new answers.0)
 

@@ -1,7 +1,7 @@
 -- The offers that an agent keeps fit a message, whatever its control and its parent do.
 use Rattle.std.proofs.Common.{◌≡◌, sym, subst, ℕ, ℤ, pos, List, [], ◌∷◌, length, refl, arith, inl, inr}
 use Rattle.std.proofs.Common.{Option, Some, None, IfSome, FitsSigned}
-use Rattle.std.specs.Prelude.{Bool, nat_lt, nat_le, ◌==◌, slice_index_or, ⊤}
+use Rattle.std.specs.Prelude.{Bool, nat_lt, nat_le, ◌==◌, ◌+◌, ◌^◌, if◌then◌else◌, slice_index_or, ⊤}
 use Rattle.std.specs.Int.{w32}
 use Rattle.std.specs.List.{AllByRecursion, find}
 use Rattle.std.proofs.lemmas.Bool.{cases_lt}
@@ -13,7 +13,7 @@ use Rattle.pm_bid.specs.Bids.{AllWithinLimit}
 use Rattle.pm_net.specs.Messages.{PriceMessage}
 use Rattle.pm_net.specs.Agents.{Offer, Setpoint, DeviceAgent, after_offer, setpoints_of, setpoints_for, answered_by, after_price, kept_offer}
 use Rattle.pm_net.proofs.Messages.{either}
-use Rattle.pm_control.specs.Control.{newest_demand, demand_of_kept, agent_stored}
+use Rattle.pm_control.specs.Control.{newest_demand, demand_of_kept, agent_stored, offered_anew, after_old}
 use Rattle.pm_services.specs.DeviceServiceFields.{HasSmallOffers, IsSmall}
 
 abbrev FitsMessage : Offer → Type 0
@@ -57,6 +57,19 @@ priced_small agent price small =
 pub stored_small : (number : ℕ) (newest : Option (List ℤ)) (index : ℕ) → IsSmall newest → HasSmallOffers (agent_stored number newest index)
 stored_small number None index small = tt
 stored_small number (Some demand) index small = (small, tt)
+
+-- an offer that is made anew
+anew_small : (agent : DeviceAgent) (newest : Option (List ℤ)) → HasSmallOffers agent → IsSmall newest → HasSmallOffers (offered_anew agent newest)
+anew_small agent None small fits = small
+anew_small agent (Some demand) small fits = (fits, tt)
+
+-- what is left where the parent let the device go
+pub old_small : (agent : DeviceAgent) (kept : ℕ) → HasSmallOffers agent → HasSmallOffers (after_old agent kept)
+old_small agent kept small =
+    either HasSmallOffers (nat_lt agent.number kept)
+    (if nat_lt (agent.number + 7) (2 ^ 32) then offered_anew agent (newest_demand agent) else agent) agent
+    (λ _. either HasSmallOffers (nat_lt (agent.number + 7) (2 ^ 32)) (offered_anew agent (newest_demand agent)) agent
+    (λ _. anew_small agent (newest_demand agent) small (newest_small agent small)) (λ _. small)) (λ _. small)
 
 -- ---- setpoints
 

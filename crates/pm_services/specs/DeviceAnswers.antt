@@ -5,7 +5,7 @@ use Rattle.pm_wire.specs.Frames.{frame_bytes}
 use Rattle.pm_wire.specs.declared.frame.Frame.TheVariants.{Bid, Gone}
 use Rattle.pm_net.specs.Messages.{PriceMessage, price_message}
 use Rattle.pm_net.specs.Agents.{DeviceAgent, Setpoint, new_agent, may_offer, after_offer, after_leaving, setpoints_for, after_price}
-use Rattle.pm_control.specs.Control.{newest_demand, agent_stored}
+use Rattle.pm_control.specs.Control.{newest_demand, agent_stored, after_old}
 use Rattle.pm_frames.specs.Stored.{newest_bytes}
 use Rattle.pm_frames.specs.Answers.{window_full_bytes, out_of_numbers_bytes, dropped_bytes, setpoint_bytes}
 use Rattle.pm_frames.specs.declared.parent.ParentFrame.TheVariants.{Price, Old}
@@ -25,26 +25,26 @@ own_resume_bytes agent = newest_bytes agent.number agent.index (newest_demand ag
 
 -- ---- what the control does
 
--- the greatest number is left for leaving
+-- the last of its numbers is left for leaving
 abbrev pub after_asking : DeviceAgent → List ℤ → DeviceAgent
 after_asking agent demand =
-    if may_offer agent then (if nat_lt (agent.number + 2) (2 ^ 32) then after_offer agent demand else agent) else agent
+    if may_offer agent then (if nat_lt (agent.number + 5) (2 ^ 32) then after_offer agent demand else agent) else agent
 
 abbrev pub offer_reply : ℕ → DeviceAgent → List ℤ → List ℕ
 offer_reply child agent demand =
     if may_offer agent
-    then (if nat_lt (agent.number + 2) (2 ^ 32)
-    then own_resume_bytes (after_offer agent demand) ++ frame_bytes (Bid child (agent.number + 1) demand)
+    then (if nat_lt (agent.number + 5) (2 ^ 32)
+    then own_resume_bytes (after_offer agent demand) ++ frame_bytes (Bid child (agent.number + 2) demand)
     else out_of_numbers_bytes)
     else window_full_bytes
 
 abbrev pub after_asking_to_leave : DeviceAgent → DeviceAgent
-after_asking_to_leave agent = if nat_lt (agent.number + 1) (2 ^ 32) then after_leaving agent else agent
+after_asking_to_leave agent = if nat_lt (agent.number + 3) (2 ^ 32) then after_leaving agent else agent
 
 abbrev pub leave_reply : ℕ → DeviceAgent → List ℕ
 leave_reply child agent =
-    if nat_lt (agent.number + 1) (2 ^ 32)
-    then own_resume_bytes (after_leaving agent) ++ frame_bytes (Gone child (agent.number + 1))
+    if nat_lt (agent.number + 3) (2 ^ 32)
+    then own_resume_bytes (after_leaving agent) ++ frame_bytes (Gone child (agent.number + 2))
     else out_of_numbers_bytes
 
 -- ---- a price
@@ -65,6 +65,14 @@ abbrev pub sent_again : ℕ → ℕ → Option (List ℤ) → List ℕ
 sent_again child number (Some demand) = frame_bytes (Bid child number demand)
 sent_again child number None = if number == 0 then [] else frame_bytes (Gone child number)
 
+-- ---- its parent let it go
+
+-- where it made its offer anew, that is sent, with what it keeps over a restart before it
+abbrev pub old_reply : ℕ → DeviceAgent → DeviceAgent → List ℕ
+old_reply child agent after =
+    if nat_lt agent.number after.number then own_resume_bytes after ++ sent_again child after.number (newest_demand after)
+    else []
+
 -- ---- all frames
 
 abbrev pub open_agent_after : DeviceAgent → DeviceFrame → DeviceAgent
@@ -72,7 +80,7 @@ open_agent_after agent (Hello basis) = agent
 open_agent_after agent (Offer demand) = after_asking agent demand
 open_agent_after agent Leave = after_asking_to_leave agent
 open_agent_after agent (Parent (Price own number index step)) = after_price agent (price_message number index step)
-open_agent_after agent (Parent (Old own kept)) = agent
+open_agent_after agent (Parent (Old own kept)) = after_old agent kept
 open_agent_after agent (Resume stored) = agent_stored stored.number stored.newest stored.index
 
 abbrev pub agent_reply : ℕ → DeviceAgent → DeviceFrame → List ℕ
@@ -80,7 +88,7 @@ agent_reply child agent (Hello basis) = []
 agent_reply child agent (Offer demand) = offer_reply child agent demand
 agent_reply child agent Leave = leave_reply child agent
 agent_reply child agent (Parent (Price own number index step)) = price_reply agent (price_message number index step)
-agent_reply child agent (Parent (Old own kept)) = []
+agent_reply child agent (Parent (Old own kept)) = old_reply child agent (after_old agent kept)
 agent_reply child agent (Resume stored) = sent_again child stored.number stored.newest
 
 -- an agent comes up with the first Hello, and before it nothing is answered

@@ -6,12 +6,13 @@ use Rattle.pm_base.specs.declared.limits.Limits.{Limits}
 use Rattle.pm_cache.specs.Cache.{kept_number}
 use Rattle.pm_session.specs.declared.price.PriceUpdate.{PriceUpdate}
 use Rattle.pm_concentrator.specs.Concentrators.{own_demand}
-use Rattle.pm_concentrator.specs.Limited.{local_step_of_record}
+use Rattle.pm_concentrator.specs.Limited.{settled_step_of_record}
 use Rattle.pm_wire.specs.Answers.{answer_bytes, reply_bytes, prices}
 use Rattle.pm_wire.specs.Frames.{frame_bytes}
 use Rattle.pm_wire.specs.declared.answer.Reply as reply
 use Rattle.pm_wire.specs.declared.frame.Frame.TheVariants.{Hello, Bid, Gone, Clear}
 use Rattle.pm_relay.specs.Relays.{RelayValue, newest_bid_number, record_at, ComesBack, with_child_bid, LooksForRecord, BidSent, NotSent, TakesPrice}
+use Rattle.pm_relay.specs.Numbers.{known_number, parents_number}
 use Rattle.pm_relay.specs.declared.fault.SendFault.{SendFault}
 use Rattle.pm_relay.specs.declared.fault.SendFault.TheVariants.{NotCaughtUp, NotChanged, WindowFull, OutOfNumbers}
 use Rattle.pm_relay.specs.declared.outcome.PriceOutcome.{PriceOutcome}
@@ -22,7 +23,7 @@ use Rattle.pm_frames.specs.declared.parent.ParentFrame.TheVariants.{Price, Old}
 use Rattle.pm_frames.specs.declared.place.NodePlace.{NodePlace}
 use Rattle.pm_frames.specs.declared.place.Stage.TheVariants.{Start}
 use Rattle.pm_frames.specs.declared.relay.RelayFrame.{RelayFrame}
-use Rattle.pm_frames.specs.declared.relay.RelayFrame.TheVariants.{Child, Parent, Send, Resume}
+use Rattle.pm_frames.specs.declared.relay.RelayFrame.TheVariants.{Child, Parent, Send, Expire, Resume}
 use Rattle.pm_services.specs.Receipts.{sender_place, receipt_bytes}
 
 -- a relay after Hello, and the price that waits until the relay has its record again
@@ -58,7 +59,7 @@ kept_bid_bytes child r = if r.gathered.window.last == 0 then [] else own_bid_byt
 -- the price for each child that was not gone in the record of its number, at the local step of that record
 abbrev pub down_bytes : RelayValue → PriceUpdate → List ℕ
 down_bytes r price =
-    reply_bytes (prices price.index (local_step_of_record r.gathered.limits price.step (record_at r price.number).sum) 1
+    reply_bytes (prices price.index (settled_step_of_record r.gathered.limits price.step (record_at r price.number).sum) 1
     (record_at r price.number).heads)
 
 -- of two prices the one with the greater index waits, and of two with one index the first; the other is dropped
@@ -113,6 +114,17 @@ pub record AnswersBid (child : ℕ) (old : OpenRelay) (sender number : ℕ) (dem
   pub replied : reply ≡
       receipt_bytes (kept_number old.relay.gathered.cache (sender_place sender)) sender number ++ (bid_again child old.relay learnt ++ waiting_reply)
 
+-- ---- Expire
+
+-- a child is let go: it is gone under the number that is the relay's for it
+pub record AnswersExpire (child : ℕ) (old : OpenRelay) (sender : ℕ) (new : OpenRelay) (reply : List ℕ) : Type 0 where
+  pub learnt : RelayValue
+  pub looks : LooksForRecord (with_child_bid old.relay (sender_place sender)
+      (parents_number (known_number old.relay.recorded old.relay.gathered.cache.heads (sender_place sender))) None) learnt
+  pub waiting_reply : List ℕ
+  pub tries : TriesWaiting old.waiting learnt new waiting_reply
+  pub replied : reply ≡ bid_again child old.relay learnt ++ waiting_reply
+
 -- ---- Send
 
 abbrev pub not_sent_reply : SendFault → List ℕ
@@ -159,6 +171,8 @@ AnswersOpen child limits old (Parent (Price own number index step)) new reply =
     (after : OpenRelay) × (new ≡ Some after) × AnswersPrice old (record { step = step; number = number; index = index }) after reply
 AnswersOpen child limits old (Parent (Old own kept)) new reply = IsSilent (Some old) new reply
 AnswersOpen child limits old Send new reply = (after : OpenRelay) × (new ≡ Some after) × AnswersSend child old after reply
+AnswersOpen child limits old (Expire sender) new reply =
+    (after : OpenRelay) × (new ≡ Some after) × AnswersExpire child old sender after reply
 AnswersOpen child limits old (Resume stored) new reply =
     Opens limits old.relay.gathered.cache.steps stored.last stored.answered stored.index stored.numbers new × (reply ≡ [])
 

@@ -7,6 +7,7 @@ use Rattle.pm_wire.specs.Answers.{answer_bytes, reply_bytes, prices}
 use Rattle.pm_wire.specs.declared.answer.Reply as reply
 use Rattle.pm_wire.specs.declared.frame.Frame.TheVariants.{Hello, Bid, Gone, Clear}
 use Rattle.pm_relay.specs.Roots.{RootValue, newest_index, RootComesBack, with_root_bid, LooksForClearing, RootCleared, NotCleared}
+use Rattle.pm_relay.specs.Numbers.{known_number, parents_number}
 use Rattle.pm_relay.specs.declared.fault.RootFault.{RootFault}
 use Rattle.pm_relay.specs.declared.fault.RootFault.TheVariants.{NotCaughtUp, NotChanged, OutOfNumbers}
 use Rattle.pm_frames.specs.Stored.{StoredRoot, root_resume_bytes}
@@ -14,7 +15,7 @@ use Rattle.pm_frames.specs.Answers.{not_caught_up_bytes, out_of_numbers_bytes}
 use Rattle.pm_frames.specs.declared.place.Stage.{Stage}
 use Rattle.pm_frames.specs.declared.place.Stage.TheVariants.{Start}
 use Rattle.pm_frames.specs.declared.root.RootFrame.{RootFrame}
-use Rattle.pm_frames.specs.declared.root.RootFrame.TheVariants.{Market, Resume}
+use Rattle.pm_frames.specs.declared.root.RootFrame.TheVariants.{Market, Expire, Resume}
 use Rattle.pm_services.specs.Receipts.{sender_place, receipt_bytes}
 
 -- ---- what an auctioneer writes
@@ -44,6 +45,12 @@ pub record AnswersRootBid (old : RootValue) (sender number : ℕ) (demand : Opti
   pub looks : LooksForClearing (with_root_bid old (sender_place sender) number demand) new
   pub replied : reply ≡ receipt_bytes (kept_number old.auction.cache (sender_place sender)) sender number ++ clearing_again old new
 
+-- a child is let go: it is gone under the number that is the auctioneer's for it
+pub record AnswersRootExpire (old : RootValue) (sender : ℕ) (new : RootValue) (reply : List ℕ) : Type 0 where
+  pub looks : LooksForClearing (with_root_bid old (sender_place sender)
+      (parents_number (known_number old.recorded old.auction.cache.heads (sender_place sender))) None) new
+  pub replied : reply ≡ clearing_again old new
+
 abbrev pub not_cleared_reply : RootFault → List ℕ
 not_cleared_reply NotCaughtUp = not_caught_up_bytes
 not_cleared_reply NotChanged = answer_bytes reply.TheVariants.NotChanged
@@ -72,6 +79,7 @@ AnswersOpenRoot old (Market (Bid sender number demand)) new reply =
 AnswersOpenRoot old (Market (Gone sender number)) new reply =
     (after : RootValue) × (new ≡ Some after) × AnswersRootBid old sender number None after reply
 AnswersOpenRoot old (Market Clear) new reply = (after : RootValue) × (new ≡ Some after) × AnswersClear old after reply
+AnswersOpenRoot old (Expire sender) new reply = (after : RootValue) × (new ≡ Some after) × AnswersRootExpire old sender after reply
 AnswersOpenRoot old (Resume stored) new reply = OpensRoot old.auction.cache.steps stored.last stored.numbers new × (reply ≡ [])
 
 -- an auctioneer comes up with the first Hello, and before it nothing is answered

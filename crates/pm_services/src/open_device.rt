@@ -6,11 +6,12 @@ ghost use Rattle.std.specs.Option.{option_copied};
 ghost use Rattle.pm_base.specs.Limits.{demand_limit, most_steps};
 ghost use Rattle.pm_bid.specs.Bids.{AllWithinLimit};
 ghost use Rattle.pm_net.specs.Agents.{new_agent, after_price};
-ghost use Rattle.pm_control.specs.Control.{message_of, agent_stored};
+ghost use Rattle.pm_control.specs.Control.{message_of, agent_stored, after_old, newest_demand};
+ghost use Rattle.pm_wire.specs.Memory.{frame_limit};
 ghost use Rattle.pm_frames.specs.DeviceFrames.{device_frame_limit};
 ghost use Rattle.pm_services.specs.Limits.{device_reply_limit};
 ghost use Rattle.pm_services.specs.DeviceAnswers.{own_resume_bytes, after_asking, offer_reply, after_asking_to_leave, leave_reply};
-ghost use Rattle.pm_services.specs.DeviceAnswers.{price_reply, sent_again, open_agent_after, agent_reply};
+ghost use Rattle.pm_services.specs.DeviceAnswers.{price_reply, sent_again, old_reply, open_agent_after, agent_reply};
 ghost use Rattle.pm_services.specs.DeviceServiceFields.{HasSmallDemand, IsSmall};
 
 use pm_bid::{ArrayBid, Steps};
@@ -143,8 +144,12 @@ impl OpenDevice {
                 Ok(())
             }
             DeviceFrame::Resume(stored) => self.come_back(alloc, child, stored, out),
-            // Hello stands first and only there, and an Old says nothing new.
-            DeviceFrame::Hello { .. } | DeviceFrame::Parent(ParentFrame::Old { .. }) => Ok(()),
+            DeviceFrame::Parent(ParentFrame::Old { kept, .. }) => {
+                self.take_old(child, *kept, out);
+                Ok(())
+            }
+            // Hello stands first and only there.
+            DeviceFrame::Hello { .. } => Ok(()),
         }
     }
 
@@ -233,6 +238,39 @@ impl OpenDevice {
         };
         write_setpoint(setpoint, out);
         self.write_resume(out);
+    }
+
+    /// Takes it that the parent keeps this number of the device. Where the parent let the device go, its newest offer is made
+    /// anew: appends the Bid with what the agent keeps over a restart before it.
+    fn take_old(&mut self, child: u16, kept: u32, out: &mut Vec<u8>)
+        requires room { vec_len out.old + device_reply_limit ≤ vec_capacity out.old }
+        ensures taken { self.new ≡ after_old self.old kept }
+        ensures answered { out.new.items ≡ out.old.items
+            ++ old_reply child self.old (after_old self.old kept) }
+        ensures few { length out.new.items ≤ length out.old.items + device_reply_limit }
+    {
+        if self.agent.take_old(kept).is_none() {
+            return;
+        }
+        self.write_resume(out);
+        self.send_newest(child, out);
+    }
+
+    /// Appends the newest Bid of the device again, or its Gone, unless it gave no number yet.
+    fn send_newest(&self, child: u16, out: &mut Vec<u8>)
+        requires room { vec_len out.old + frame_limit ≤ vec_capacity out.old }
+        ensures written { out.new.items ≡ out.old.items
+            ++ sent_again child self.now.number (newest_demand self.now) }
+        ensures few { length out.new.items ≤ length out.old.items + frame_limit }
+    {
+        let resume = self.agent.resume();
+        if let Some(demand) = resume.newest {
+            // The call tells a fact of the type: a bid has at most 1000 steps.
+            let _steps = demand.steps();
+            write_bid(child, resume.number, demand, out);
+        } else if resume.number != 0 {
+            write_gone(child, resume.number, out);
+        }
     }
 
     /// Comes back with what an agent gave before a restart, and appends its newest Bid or Gone again.

@@ -1,7 +1,7 @@
 //! A relay after Hello, with the price that waits until the relay has its record again.
 
 ghost use Rattle.std.specs.Prelude.{◌≡◌, ◌+◌, ◌≤◌, ◌<◌, ◌++◌, [], length, replicate, vec_len, vec_capacity, IfOk};
-ghost use Rattle.std.specs.Prelude.{OnOk, OnErr, Some};
+ghost use Rattle.std.specs.Prelude.{OnOk, OnErr, Some, None};
 ghost use Rattle.std.specs.Prelude.{if◌then◌else◌};
 ghost use Rattle.std.specs.Option.{option_copied};
 ghost use Rattle.pm_base.specs.Limits.{AreSteps, demand_limit, most_nodes};
@@ -13,7 +13,8 @@ ghost use Rattle.pm_wire.specs.Memory.{frame_limit};
 ghost use Rattle.pm_frames.specs.Stored.{relay_resume_size};
 ghost use Rattle.pm_services.specs.Limits.{relay_reply_limit, price_reply_limit};
 ghost use Rattle.pm_services.specs.Receipts.{Appended, sender_place, receipt_bytes};
-ghost use Rattle.pm_services.specs.RelayAnswers.{AnswersOpen, AnswersPrice, AnswersBid, AnswersAsked, AnswersSend, Opens};
+ghost use Rattle.pm_relay.specs.Numbers.{known_number, parents_number};
+ghost use Rattle.pm_services.specs.RelayAnswers.{AnswersOpen, AnswersPrice, AnswersExpire, AnswersBid, AnswersAsked, AnswersSend, Opens};
 ghost use Rattle.pm_services.specs.RelayAnswers.{TriesWaiting, kept_bid_bytes, dropped_with, waiting_with};
 ghost use Rattle.pm_services.specs.RelayStands.{MayStandWithSteps};
 
@@ -147,6 +148,10 @@ impl OpenRelay {
                 self.send(own, out);
                 Ok(())
             }
+            RelayFrame::Expire { child } => {
+                self.take_expire(own, *child, out);
+                Ok(())
+            }
             RelayFrame::Resume(stored) => {
                 *self = self.resumed(alloc, limits, stored)?;
                 Ok(())
@@ -181,6 +186,34 @@ impl OpenRelay {
         self.learn(sender, number, demand, out);
         self.send_again(own, had_record, out);
         self.try_waiting(out);
+    }
+
+    /// Lets a child go, and appends what is answered: the relay's own bid where it has its record again, and what is due for the
+    /// price that waits.
+    fn take_expire(&mut self, own: u16, sender: u16, out: &mut Vec<u8>)
+        requires first { 1 ≤ sender }
+        requires last { sender ≤ most_nodes }
+        requires room { vec_len out.old + relay_reply_limit ≤ vec_capacity out.old }
+        ensures answered { Appended (AnswersExpire own self.old sender self.new) relay_reply_limit
+            out.old.items out.new.items }
+    {
+        let had_record = self.relay.resend().is_some();
+        self.expire(sender);
+        self.send_again(own, had_record, out);
+        self.try_waiting(out);
+    }
+
+    /// Lets a child go.
+    fn expire(&mut self, sender: u16)
+        requires first { 1 ≤ sender }
+        requires last { sender ≤ most_nodes }
+        ensures learnt { LooksForRecord (with_child_bid self.old.relay (sender_place sender)
+            (parents_number (known_number self.old.relay.recorded
+            self.old.relay.gathered.cache.heads (sender_place sender))) None) self.new.relay }
+        ensures waits { self.new.waiting ≡ self.old.waiting }
+    {
+        let place = usize::from(sender) - 1;
+        let _number = self.relay.expire(place);
     }
 
     /// Learns a child's Bid or Gone, and appends its receipt.

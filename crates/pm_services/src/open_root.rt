@@ -1,7 +1,7 @@
 //! An auctioneer after Hello: what it makes of each frame, and the bytes of its answers.
 
 ghost use Rattle.std.specs.Prelude.{◌≡◌, ◌+◌, ◌≤◌, ◌++◌, length, replicate, vec_len, vec_capacity, IfOk, OnOk, OnErr};
-ghost use Rattle.std.specs.Prelude.{Some, if◌then◌else◌, []};
+ghost use Rattle.std.specs.Prelude.{Some, None, if◌then◌else◌, []};
 ghost use Rattle.std.specs.Option.{option_copied};
 ghost use Rattle.pm_base.specs.Limits.{AreSteps, demand_limit, most_nodes};
 ghost use Rattle.pm_bid.specs.Bids.{AllWithinLimit};
@@ -9,9 +9,10 @@ ghost use Rattle.pm_cache.specs.Cache.{kept_number};
 ghost use Rattle.pm_cache.specs.Learning.{demand_of_offer};
 ghost use Rattle.pm_wire.specs.Memory.{reply_limit};
 ghost use Rattle.pm_relay.specs.Roots.{RootComesBack, with_root_bid, LooksForClearing};
+ghost use Rattle.pm_relay.specs.Numbers.{known_number, parents_number};
 ghost use Rattle.pm_services.specs.Limits.{root_reply_limit};
 ghost use Rattle.pm_services.specs.Receipts.{sender_place, receipt_bytes, Appended};
-ghost use Rattle.pm_services.specs.RootAnswers.{AnswersRootBid, AnswersClear, AnswersOpenRoot, stored_root, not_cleared_reply, kept_prices_bytes};
+ghost use Rattle.pm_services.specs.RootAnswers.{AnswersRootExpire, AnswersRootBid, AnswersClear, AnswersOpenRoot, stored_root, not_cleared_reply, kept_prices_bytes};
 ghost use Rattle.pm_frames.specs.Stored.{root_resume_bytes, root_resume_size};
 ghost use Rattle.pm_services.specs.RootStands.{MayStandWithSteps};
 
@@ -118,6 +119,10 @@ impl OpenRoot {
                 self.clear(out);
                 Ok(())
             }
+            RootFrame::Expire { child } => {
+                self.take_expire(*child, out);
+                Ok(())
+            }
             // Hello stands first and only there.
             RootFrame::Market(Frame::Hello { .. }) => Ok(()),
             RootFrame::Resume(stored) => {
@@ -143,6 +148,31 @@ impl OpenRoot {
         let had_prices = self.root.prices().is_some();
         self.learn(sender, number, demand, out);
         self.send_again(had_prices, out);
+    }
+
+    /// Lets a child go. If the auctioneer has its newest clearing again with it, the prices of that clearing are appended again.
+    fn take_expire(&mut self, sender: u16, out: &mut Vec<u8>)
+        requires first { 1 ≤ sender }
+        requires last { sender ≤ most_nodes }
+        requires room { vec_len out.old + reply_limit ≤ vec_capacity out.old }
+        ensures answered { Appended (AnswersRootExpire self.old sender self.new) reply_limit
+            out.old.items out.new.items }
+    {
+        let had_prices = self.root.prices().is_some();
+        self.expire(sender);
+        self.send_again(had_prices, out);
+    }
+
+    /// Lets a child go.
+    fn expire(&mut self, sender: u16)
+        requires first { 1 ≤ sender }
+        requires last { sender ≤ most_nodes }
+        ensures learnt { LooksForClearing (with_root_bid self.old (sender_place sender)
+            (parents_number (known_number self.old.recorded self.old.auction.cache.heads
+            (sender_place sender))) None) self.new }
+    {
+        let place = usize::from(sender) - 1;
+        let _number = self.root.expire(place);
     }
 
     /// Learns a child's Bid, or its Gone where there is no demand, and appends its receipt.

@@ -1,5 +1,5 @@
 -- What the agent of a device says of its newest bid.
-use Rattle.std.proofs.Common.{◌≡◌, ◌∙◌, sym, ap, subst, ℕ, suc, ◌+◌, ◌<◌, ◌≤◌, true, false, not, eqb, List, []}
+use Rattle.std.proofs.Common.{◌≡◌, ◌∙◌, sym, ap, subst, ℕ, suc, ◌+◌, ◌-◌, ◌<◌, ◌≤◌, true, false, not, eqb, List, []}
 use Rattle.std.proofs.Common.{◌∷◌, length, Option, Some, None, arith, refl}
 use Rattle.std.proofs.lemmas.Bool.{eqb-true, both_ways}
 use Rattle.std.specs.List.{All, find}
@@ -42,9 +42,9 @@ module _ (lists : Lists) (p : Pricing) (numbering : Numbering) (market : IsTreeM
 
   -- what an agent has of its newest bid is that bid
   pub newest_kept : (count index : ℕ) (agent : DeviceAgent) → AgentIs lists p d count index agent →
-      bid_kept p agent.number (newest_demand agent) ≡ device_bid lists p d count
+      bid_kept p agent.number (newest_demand agent) ≡ device_bid lists p d agent.number
   newest_kept count index agent at =
       bid_of (is_member lists d agent.number) agent.number refl (kept_offer agent agent.number)
       (found_is lists p d agent.number agent.offers at.offers)
-      (λ member. there agent.number agent.offers at.window.first at.window.are_from (at.newest member) (omega (arith, at.window.to_last)))
-      ∙ ap (device_bid lists p d) at.number
+      (λ member. there agent.number agent.offers at.window.first (length agent.offers - 1) at.window.are_from
+      (omega (arith, at.newest member, at.window.to_last)) (omega (arith, at.window.to_last)))

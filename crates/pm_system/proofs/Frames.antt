@@ -21,10 +21,10 @@ use Rattle.pm_net_plan.specs.Places.{Numbering}
 use Rattle.pm_control.specs.Control.{newest_demand}
 use Rattle.pm_system.specs.System.{System, bid_in_channel}
 use Rattle.pm_system.specs.Calls.{NodeCall, Does, SystemRuns, DeviceChanges, bid_kept}
-use Rattle.pm_system.specs.Calls.{Bids, TakesBid, Sends, Clears, TakesPrice, Restarts, StopsBidding, Resends, StopsClearing, TellsOne}
+use Rattle.pm_system.specs.Calls.{Bids, Expires, TakesBid, Sends, Clears, TakesPrice, Restarts, StopsBidding, Resends, StopsClearing, TellsOne}
 use Rattle.pm_system.specs.Given.{IsDemand, IsTreeMarket, IsStarted}
 use Rattle.pm_system.specs.Frames.{IsSentPrice, AreSent}
-use Rattle.pm_system.proofs.Moving.{same_bid, same_price, bids_in, prices_in}
+use Rattle.pm_system.proofs.Moving.{its_place, same_bid, same_price, bids_in, prices_in}
 use Rattle.pm_system.proofs.Offers.{offer_is, step_is}
 use Rattle.pm_system.proofs.RelayCalls.{gone_zeros}
 use Rattle.pm_system.proofs.DeviceCalls.{ComesBackAsStored}
@@ -68,6 +68,7 @@ module _ (lists : Lists) (p : Pricing) (numbering : Numbering) where
   call_numbers : (sys : System) (call : NodeCall) (new : System) → AreNumbered p sys → Does lists p numbering sys call new → AreNumbered p new
   call_numbers sys (Bids d) new were did = sends_one sys new d did.bid were (ap (λ (t : System). t.bids_sent) did.new_is)
       (change_number sys d did.agent did.bid did.made)
+  call_numbers sys (Expires d n) new were did = sends_one sys new d _ were (ap (λ (t : System). t.bids_sent) did.new_is) (omega (arith, did.odd))
   call_numbers sys (TakesBid z k) new were (inl did) = sends_none sys new were (ap (λ (t : System). t.bids_sent) did.new_is)
   call_numbers sys (TakesBid z k) new were (inr did) = sends_none sys new were (ap (λ (t : System). t.bids_sent) did.new_is)
   call_numbers sys (Sends c) new were did = sends_one sys new c _ were (ap (λ (t : System). t.bids_sent) did.new_is) (omega (arith, did.sent.number))
@@ -130,8 +131,9 @@ all_sent back lists p numbering sys new calls market at runs =
     let its : (x k : ℕ) → IsNode lists x → k < length (new.bids_sent x) → IsItsBid lists p s x (bid_in_channel p new x k) =
     λ x k node inside.
     let Its : BidMessage → Type 0 = λ b. IsItsBid lists p s x b in
-    subst Its (sym (same_bid lists p numbering market.places devices new has.is x k node))
-    (agree.agrees.bids_sent x k node (bids_in lists p numbering market.places devices new has.is x k node inside)) in
+    subst Its (sym (same_bid lists p numbering market.places devices new has.is x k node inside))
+    (agree.agrees.bids_sent x (its_place lists p numbering market.places devices new has.is x k node inside) node
+    (bids_in lists p numbering market.places devices new has.is x k node inside)) in
     record {
       bids = λ x k node inside. record {
         number = numbered x k inside;

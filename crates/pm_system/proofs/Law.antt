@@ -17,6 +17,7 @@ use Rattle.pm_system.specs.System.{System, price_in_channel}
 use Rattle.pm_system.specs.Calls.{NodeCall}
 use Rattle.pm_system.specs.Given.{IsTreeMarket}
 use Rattle.pm_system.specs.Market.{RunsTheMarket, KeepsTheLaw}
+use Rattle.pm_system.proofs.Flow.{flows}
 use Rattle.pm_system.proofs.Moving.{same_price, prices_in}
 
 -- a system that runs the market keeps the law
@@ -39,5 +40,7 @@ keeps_the_law lists p numbering calls sys market has =
       cleared = λ x k node inside. let w = due_within lists s agree.agrees.sound x (price_in_channel sys x k).index (its x k node inside).0 in (w.0, w.1);
       setpoints = λ d leaf. let Right : List Setpoint → Type 0 = λ l. All (IsRight lists p s d) l in
           subst Right (has.is.setpoints d leaf) (agree.setpoints d leaf);
+      flows = flows lists p numbering market sys s (λ d leaf. let Right : List Setpoint → Type 0 = λ l. All (IsRight lists p s d) l in
+          subst Right (has.is.setpoints d leaf) (agree.setpoints d leaf));
       later = λ i j d le within leaf. cleared_within lists market.law s agree.agrees.sound i j le within d leaf;
     }

@@ -5,8 +5,11 @@ pub mod RelayCalls
 pub mod RootCalls
 pub mod Runs
 pub mod Given
+pub mod Offers
+pub mod Places
+pub mod Flow
 pub mod Law
 pub mod Rising
 pub mod Settling
-pub mod Offers
 pub mod Frames
+mod Expiring

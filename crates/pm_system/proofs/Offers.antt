@@ -1,25 +1,22 @@
 -- Each node's offer is a demand that a bid may have, and each local step is one of the steps.
 use Rattle.std.proofs.Common.{◌≡◌, ◌∙◌, sym, ap, subst, ℕ, zero, suc, ◌+◌, ◌<◌, ◌≤◌, ℤ, pos, ◌≤ℤ◌}
 use Rattle.std.proofs.Common.{cond, eqb, List, [], ◌∷◌, length, arith, inl, inr}
-use Rattle.std.specs.Prelude.{All, int_lt}
+use Rattle.std.specs.Prelude.{All}
 use Rattle.std.proofs.lemmas.Bool.{cases_eq, cases_Bool, cond-true, cond-false, eq-eqb, ne_eqb}
-use Rattle.std.proofs.lemmas.Int.{ints, clamps}
+use Rattle.std.proofs.lemmas.Int.{ints}
 use Rattle.std.proofs.lemmas.List.Elements.{All-head, All-tail}
 use Rattle.std.proofs.lemmas.List.FromFn.{get_or-map-range_with_len, length-map-range_with_len}
 use Rattle.pm_base.specs.Cuts.{Cut}
 use Rattle.pm_base.specs.Limits.{demand_limit, most_nodes, IsWithin}
 use Rattle.pm_base.specs.declared.limits.Limits.{Limits}
-use Rattle.pm_bid.specs.Bids.{NeverRises, HaveSteps, demand_at, sum_of, zeros, clamp, nearest_in_range}
-use Rattle.pm_bid.specs.Clearing.{first_at_most, last_at_least}
-use Rattle.pm_bid.specs.Limited.{within_limits, step_within, local_step}
-use Rattle.pm_bid.proofs.EachStep.{clamp-at, length-clamped}
-use Rattle.pm_bid.proofs.FoundStep.{first_at_most_is_first, last_at_least_is_last}
+use Rattle.pm_bid.specs.Bids.{NeverRises, HaveSteps, demand_at, sum_of, zeros}
+use Rattle.pm_bid.specs.Taken.{announced_in, announced, settled_step}
+use Rattle.pm_bid.proofs.Taken.{announced-length, announced-small, announced-falls, settled_inside}
+use Rattle.pm_bid.proofs.FoundStep.{first_at_most_is_first}
 use Rattle.pm_bid.proofs.Sums.{length-zeros, zeros-at, zeros-within, have_steps_rest, length-sum_of, total_at, sum_of-at}
 use Rattle.pm_market.specs.Lists.{Lists, nodes, parent, is_leaf, IsNode, IsConcentrator}
 use Rattle.pm_net.specs.Pricing.{Pricing, GoesByNodes}
-use Rattle.pm_net.proofs.Messages.{either}
 use Rattle.pm_net_plan.specs.Places.{Numbering, demand_in, demands_of}
-use Rattle.pm_relay.specs.Relays.{AreRelayLimits}
 use Rattle.pm_system.specs.Given.{IsDemand, IsTreeMarket}
 use Rattle.pm_system.proofs.Moving.{parent_relay}
 
@@ -49,30 +46,13 @@ sum_falls steps bids have falls = λ step inside.
       total_falls bids steps step have falls within,
     )
 
-nearest_falls : (floor ceiling a b : ℤ) → b ≤ℤ a → nearest_in_range floor ceiling b ≤ℤ nearest_in_range floor ceiling a
-nearest_falls floor ceiling a b le = omega (arith, ints, clamps, le)
-
--- within a relay's limits a demand that never rises is one that a bid may have
-clamped : (limits : Limits) (steps : ℕ) (sum : List ℤ) → AreRelayLimits limits → length sum ≡ steps → NeverRises sum →
-    IsDemand steps (clamp limits.floor limits.ceiling sum)
-clamped limits steps sum are long falls =
-    let same = length-clamped limits.floor limits.ceiling sum in
-    let at : (k : ℕ) → k < length sum → demand_at
-    (clamp limits.floor limits.ceiling sum) k ≡ nearest_in_range limits.floor limits.ceiling (demand_at sum k) =
-    λ k inside. clamp-at limits.floor limits.ceiling sum k inside in
-    record {
-      one_each = same ∙ long;
-      small = λ step inside. subst (IsWithin demand_limit) (sym (at step (omega (arith, inside, same))))
-          (record {
-            low = omega (arith, ints, clamps, are.around.floor_not_positive, are.around.ceiling_not_negative, are.floor.low);
-            high = omega (arith, ints, clamps, are.around.floor_not_positive, are.around.ceiling_not_negative, are.ceiling.high);
-          });
-      falls = λ step inside.
-          let le = nearest_falls limits.floor limits.ceiling (demand_at sum step) (demand_at sum (step + 1)) (falls step (omega (arith, inside, same))) in
-          subst (λ (z : ℤ). z ≤ℤ demand_at (clamp limits.floor limits.ceiling sum) step) (sym (at (step + 1) (omega (arith, inside, same))))
-          (subst (λ (z : ℤ). nearest_in_range limits.floor limits.ceiling (demand_at sum (step + 1)) ≤ℤ z)
-          (sym (at step (omega (arith, inside, same)))) le);
-    }
+-- what a relay announces of a demand that never rises is a demand that a bid may have
+said : (limits : Limits) (steps : ℕ) (sum : List ℤ) → length sum ≡ steps → NeverRises sum → IsDemand steps (announced_in limits sum)
+said limits steps sum long falls = record {
+  one_each = announced-length limits sum ∙ long;
+  small = announced-small limits sum;
+  falls = announced-falls limits sum falls;
+}
 
 -- zeros are such a demand
 zeros_demand : (steps : ℕ) → IsDemand steps (zeros steps)
@@ -117,10 +97,10 @@ module _ (lists : Lists) (p : Pricing) (numbering : Numbering) (market : IsTreeM
     have = λ k o lt. (all_places k o lt).one_each
 
     -- the sum has a demand for each step, and never rises
-    sum_long : length (p.add y (λ x. p.offer x cut)) ≡ p.steps
+    pub sum_long : length (p.add y (λ x. p.offer x cut)) ≡ p.steps
     sum_long = ap (λ (l : List ℤ). length l) (market.by_places y offers) ∙ length-sum_of p.steps placed have
 
-    sum_down : NeverRises (p.add y (λ x. p.offer x cut))
+    pub sum_down : NeverRises (p.add y (λ x. p.offer x cut))
     sum_down = subst NeverRises (sym (market.by_places y offers)) (sum_falls p.steps placed have (λ k o lt. (all_places k o lt).falls))
 
   offer_below : (n x : ℕ) → IsNode lists x → nodes lists < x + n → IsDemand p.steps (p.offer x cut)
@@ -133,8 +113,8 @@ module _ (lists : Lists) (p : Pricing) (numbering : Numbering) (market : IsTreeM
         let sum : List ℤ = p.add x (λ z. p.offer z cut) in
         let each : (z : ℕ) → IsNode lists z → parent lists z ≡ x → IsDemand p.steps (p.offer z cut) =
         λ z z_node up. offer_below n z z_node (omega (arith, over, market.law.earlier z z_node, up)) in
-        subst (IsDemand p.steps) (sym (by.relay x cut conc ∙ ap (λ l. within_limits l sum) limited.1))
-        (clamped limited.0 p.steps sum limited.2 (sum_long x each) (sum_down x each))
+        subst (IsDemand p.steps) (sym (by.relay x cut conc ∙ ap (λ l. announced l sum) limited.1))
+        (said limited.0 p.steps sum (sum_long x each) (sum_down x each))
   ]
 
   -- each node's offer is a demand that a bid may have
@@ -143,18 +123,8 @@ module _ (lists : Lists) (p : Pricing) (numbering : Numbering) (market : IsTreeM
 
   -- ---- local steps
 
-  long : (y : ℕ) → length (p.add y (λ x. p.offer x cut)) ≡ p.steps
+  pub long : (y : ℕ) → length (p.add y (λ x. p.offer x cut)) ≡ p.steps
   long y = sum_long y (λ x node up. offer_is x node)
-
-  moved_inside : (limits : Limits) (k : ℕ) (sum : List ℤ) → k < length sum → step_within limits k sum < length sum
-  moved_inside limits k sum inside =
-      let some : 1 ≤ length sum = omega (arith, inside) in
-      let Inside : ℕ → Type 0 = λ i. i < length sum in
-      either Inside (int_lt limits.ceiling (demand_at sum k)) (first_at_most limits.ceiling sum)
-      (cond (int_lt (demand_at sum k) limits.floor) (last_at_least limits.floor sum) k)
-      (λ e. (first_at_most_is_first limits.ceiling sum some).inside)
-      (λ e. either Inside (int_lt (demand_at sum k) limits.floor) (last_at_least limits.floor sum) k
-      (λ e. (last_at_least_is_last limits.floor sum some).inside) (λ e. inside))
 
   step_above : (n x : ℕ) → IsNode lists x → x < n → p.local cut x < p.steps
   step_above zero x node below = absurd (omega (arith, below))
@@ -173,8 +143,8 @@ module _ (lists : Lists) (p : Pricing) (numbering : Numbering) (market : IsTreeM
             step_above n (parent lists x) (conc.0, conc.1) (omega (arith, below, market.law.earlier x node)) in
             omega (
               arith,
-              by.below x cut node conc ∙ ap (λ l. local_step l (p.local cut (parent lists x)) sum) limited.1,
-              moved_inside limited.0 (p.local cut (parent lists x)) sum (omega (arith, above, long (parent lists x))),
+              by.below x cut node conc ∙ ap (λ l. settled_step l (p.local cut (parent lists x)) sum) limited.1,
+              settled_inside limited.0 (p.local cut (parent lists x)) sum (omega (arith, above, long (parent lists x))),
               long (parent lists x),
             )
       ]

@@ -1,16 +1,16 @@
 -- The calls of a relay are events of the network.
-use Rattle.std.proofs.Common.{◌≡◌, ◌∙◌, sym, ap, subst, ℕ, ◌-◌, ◌≤◌, true, false, cond, leb, List, [], ◌∷◌}
+use Rattle.std.proofs.Common.{◌≡◌, ◌⊎◌, ◌∙◌, sym, ap, subst, ℕ, ◌-◌, ◌≤◌, true, false, cond, leb, ltb, List, [], ◌∷◌}
 use Rattle.std.proofs.Common.{◌++◌, length, arith, inl, inr, refl}
-use Rattle.std.proofs.lemmas.Bool.{cases_eq, cases_Bool, cond-true, cond-false, not-true, eqb-true}
+use Rattle.std.proofs.lemmas.Bool.{cases_eq, cases_Bool, cond-true, cond-false, not-true, eqb-true, both_ways, and_parts}
 use Rattle.pm_bid.specs.Bids.{zeros}
-use Rattle.pm_market.specs.Lists.{Lists, parent, is_leaf, is_member, IsNode, IsConcentrator}
+use Rattle.pm_market.specs.Lists.{Lists, parent, is_leaf, is_member, changes, IsNode, IsLeaf, IsConcentrator}
 use Rattle.pm_market.specs.State.{State, update, part, no_changes, cleared_cut}
 use Rattle.pm_market.proofs.Cuts.{updated_same, updated_other, part_leaf, part_zero, number_inner, greatest_le}
 use Rattle.pm_laws.specs.Gone.{is_gone}
 use Rattle.pm_laws.proofs.Gone.{gone_leaf, gone_inner}
 use Rattle.pm_session.specs.Windows.{Sent, Keeps, record_of}
 use Rattle.pm_concentrator.specs.Concentrators.{own_demand}
-use Rattle.pm_concentrator.specs.Limited.{local_step_of_record}
+use Rattle.pm_concentrator.specs.Limited.{settled_step_of_record}
 use Rattle.pm_net.specs.Pricing.{Pricing, GoesByNodes}
 use Rattle.pm_net.specs.Messages.{BidMessage, PriceMessage, bid_message, no_price}
 use Rattle.pm_net.specs.Network.{Network, sent_bid, sent_price}
@@ -40,8 +40,8 @@ use Rattle.pm_system.specs.System.{System, price_in_channel, price_stored}
 use Rattle.pm_system.specs.Calls as call
 use Rattle.pm_system.specs.Calls.{RelayTakesBid, RelaySends, RelayStops, RelayResends, RelayTakesPrice, RelayRestarts}
 use Rattle.pm_system.specs.Given.{IsTreeMarket}
-use Rattle.pm_system.specs.Market.{SystemIs}
-use Rattle.pm_system.proofs.Moving.{Follows, relay_no_leaf, parent_relay, same_bid, same_price, bids_in, sent_prices, relay_moves}
+use Rattle.pm_system.specs.Market.{SystemIs, IsExpired}
+use Rattle.pm_system.proofs.Moving.{Follows, relay_no_leaf, parent_relay, same_bid, same_price, bids_in, sent_prices, relay_moves, its_place, channels_still, channels_push, counted_still}
 
 -- a bid that is gone has zeros
 pub gone_zeros : (lists : Lists) (p : Pricing) (numbering : Numbering) → IsTreeMarket lists p numbering → (s : State) (x : ℕ) → IsNode lists x →
@@ -77,9 +77,9 @@ same_down old new price PassedOn did place =
     } in
     let same : record_at old price.number ≡ record_at new price.number =
     sym (did.2.passed.window.records own kept) ∙ ap (λ (n : ℕ). record_of new.gathered.window (price.number - n)) (sym did.2.base) in
-    ap (λ (q : Sent). messages_of (price_to q.heads (local_step_of_record old.gathered.limits price.step q.sum) price.index place)) same
+    ap (λ (q : Sent). messages_of (price_to q.heads (settled_step_of_record old.gathered.limits price.step q.sum) price.index place)) same
     ∙ ap (λ l. messages_of (price_to (record_at new price.number).heads
-    (local_step_of_record l price.step (record_at new price.number).sum) price.index place)) (sym did.2.passed.limits)
+    (settled_step_of_record l price.step (record_at new price.number).sum) price.index place)) (sym did.2.passed.limits)
 
 module _ (lists : Lists) (p : Pricing) (numbering : Numbering) (market : IsTreeMarket lists p numbering) (devices : Devices) (s : State)
     (agrees : NetworkAgrees lists p devices.net s) (sys : System) (sys_is : SystemIs lists p numbering devices sys) where
@@ -95,73 +95,76 @@ module _ (lists : Lists) (p : Pricing) (numbering : Numbering) (market : IsTreeM
     conc : IsConcentrator lists (parent lists x)
     conc = parent_relay lists market.law x did.node did.below
 
-    none : (sent_bid p net x k).gone ≡ true → (sent_bid p net x k).demand ≡ zeros p.steps
-    none = gone_zeros lists p numbering market s x did.node (sent_bid p net x k)
-        (agrees.bids_sent x k did.node (bids_in lists p numbering market.places devices sys sys_is x k did.node did.inside))
+    -- where the message is in the network's channel
+    abbrev at : ℕ
+    at = its_place lists p numbering market.places devices sys sys_is x k did.node did.inside
 
-    looks : LooksForRecord (with_child_bid (sys.relays c) (numbering.place x) (sent_bid p net x k).number (told_demand (sent_bid p net x k))) did.relay
+    none : (sent_bid p net x at).gone ≡ true → (sent_bid p net x at).demand ≡ zeros p.steps
+    none = gone_zeros lists p numbering market s x did.node (sent_bid p net x at)
+        (agrees.bids_sent x at did.node (bids_in lists p numbering market.places devices sys sys_is x k did.node did.inside))
+
+    looks : LooksForRecord (with_child_bid (sys.relays c) (numbering.place x) (sent_bid p net x at).number (told_demand (sent_bid p net x at))) did.relay
     looks =
         let Looks : BidMessage → Type 0 =
         λ b. LooksForRecord (with_child_bid (sys.relays (parent lists x)) (numbering.place x) b.number (told_demand b)) did.relay in
-        subst Looks (same_bid lists p numbering market.places devices sys sys_is x k did.node) did.learnt
+        subst Looks (same_bid lists p numbering market.places devices sys sys_is x k did.node did.inside) did.learnt
 
     abbrev once : Network
-    once = network_step lists p net (TakesBid x k)
+    once = network_step lists p net (TakesBid x at)
 
     abbrev twice : Network
     twice = network_step lists p once (Rebuilds c)
 
-    taken_channels : (once.bids_sent ≡ net.bids_sent) × (once.prices_sent ≡ net.prices_sent)
-    taken_channels = either (λ (w : Network). (w.bids_sent ≡ net.bids_sent) × (w.prices_sent ≡ net.prices_sent))
-        (is_new_bid lists net x (sent_bid p net x k)) (after_taking_bid net x (sent_bid p net x k)) net (λ e. (refl, refl)) (λ e. (refl, refl))
+    taken_channels : (once.bids_sent ≡ net.bids_sent) × (once.prices_sent ≡ net.prices_sent) × (once.counts ≡ net.counts)
+    taken_channels = either (λ (w : Network). (w.bids_sent ≡ net.bids_sent) × (w.prices_sent ≡ net.prices_sent) × (w.counts ≡ net.counts))
+        (is_new_bid lists net x (sent_bid p net x at)) (after_taking_bid net x (sent_bid p net x at)) net (λ e. (refl, refl, refl)) (λ e. (refl, refl, refl))
 
-    rebuilt_channels : (twice.bids_sent ≡ once.bids_sent) × (twice.prices_sent ≡ once.prices_sent)
-    rebuilt_channels = either (λ (w : Network). (w.bids_sent ≡ once.bids_sent) × (w.prices_sent ≡ once.prices_sent))
-        (can_rebuild lists once c) (after_rebuilding once c) once (λ e. (refl, refl)) (λ e. (refl, refl))
+    rebuilt_channels : (twice.bids_sent ≡ once.bids_sent) × (twice.prices_sent ≡ once.prices_sent) × (twice.counts ≡ once.counts)
+    rebuilt_channels = either (λ (w : Network). (w.bids_sent ≡ once.bids_sent) × (w.prices_sent ≡ once.prices_sent) × (w.counts ≡ once.counts))
+        (can_rebuild lists once c) (after_rebuilding once c) once (λ e. (refl, refl, refl)) (λ e. (refl, refl, refl))
 
     moved : (after : Network) → RelayIs p numbering after c did.relay → ((y : ℕ) → (y ≡ c → ⊥) → SameNode lists y net after) →
-        after.bids_sent ≡ net.bids_sent → after.prices_sent ≡ net.prices_sent → SystemIs lists p numbering (with_network devices after) new
-    moved after relay_is same bids prices =
+        after.bids_sent ≡ net.bids_sent → after.prices_sent ≡ net.prices_sent → after.counts ≡ net.counts → SystemIs lists p numbering (with_network devices after) new
+    moved after relay_is same bids prices counts =
         subst (λ (t : System). SystemIs lists p numbering (with_network devices after) t) (sym did.new_is)
         (relay_moves lists p numbering market.places devices sys sys_is
         (with_network devices after) c did.relay conc relay_is same sys_is.agents sys_is.setpoints
-        sys.bids_sent (λ z node. ap (λ f. f z) bids ∙ sys_is.bids_sent z node) sys.prices_sent
+        sys.bids_sent (channels_still lists p numbering market.places devices sys sys_is after.counts after.bids_sent counts bids) counts (λ d leaf. refl)
+        sys.prices_sent
         (λ z node. ap (λ f. f z) prices ∙ sys_is.prices_sent z node))
 
     same_once : (y : ℕ) → (y ≡ c → ⊥) → SameNode lists y net once
-    same_once y ne = same_elsewhere lists p net y (TakesBid x k) (λ e. ne (sym e))
+    same_once y ne = same_elsewhere lists p net y (TakesBid x at) (λ e. ne (sym e))
 
     -- a relay that takes a bid does what the network does
     pub takes_bid : Follows lists p numbering devices (call.TakesBid x k) new
-    takes_bid = elim (learns lists p numbering net x k (sys.relays c) did.relay market.places market.by_places did.node (sys_is.relays c conc) none looks) [
+    takes_bid = elim (learns lists p numbering net x at (sys.relays c) did.relay market.places market.by_places did.node (sys_is.relays c conc) none looks) [
       | inl is ↦ record {
-        events = TakesBid x k ∷ [];
-        is = moved once is same_once taken_channels.0 taken_channels.1;
+        events = TakesBid x at ∷ [];
+        is = moved once is same_once taken_channels.0 taken_channels.1 taken_channels.2;
         restarts = λ y up. (tt, tt);
       }
       | inr is ↦ record {
-        events = TakesBid x k ∷ Rebuilds c ∷ [];
+        events = TakesBid x at ∷ Rebuilds c ∷ [];
         is = moved twice is (λ y ne. same_then lists y net once twice (same_once y ne) (same_elsewhere lists p once y (Rebuilds c) (λ e. ne (sym e))))
-            (rebuilt_channels.0 ∙ taken_channels.0) (rebuilt_channels.1 ∙ taken_channels.1);
+            (rebuilt_channels.0 ∙ taken_channels.0) (rebuilt_channels.1 ∙ taken_channels.1) (rebuilt_channels.2 ∙ taken_channels.2);
         restarts = λ y up. (tt, (tt, tt));
       }
     ]
 
   -- ---- it sends
 
-  -- a bid in its channel
-  bid_pushed : (c : ℕ) (bid : BidMessage) (after : ℕ → List BidMessage) → IsNode lists c → after c ≡ net.bids_sent c ++ bid ∷ [] →
-      ((x : ℕ) → (x ≡ c → ⊥) → after x ≡ net.bids_sent x) → (x : ℕ) → IsNode lists x →
-      after x ≡ update sys.bids_sent c (sys.bids_sent c ++ bid ∷ []) x
-  bid_pushed c bid after c_node here there x node = elim (cases_eq x c) [
-    | inl e ↦ ap after e ∙ here ∙ ap (λ (l : List BidMessage). l ++ bid ∷ []) (sys_is.bids_sent c c_node)
-        ∙ sym (ap (update sys.bids_sent c (sys.bids_sent c ++ bid ∷ [])) e ∙ updated_same sys.bids_sent c (sys.bids_sent c ++ bid ∷ []))
-    | inr ne ↦ there x ne ∙ sys_is.bids_sent x node ∙ sym (updated_other sys.bids_sent c (sys.bids_sent c ++ bid ∷ []) x ne)
-  ]
+  -- the channels of devices stay as they are where a relay sends
+  leaves_same : (c : ℕ) (bid : BidMessage) → IsConcentrator lists c → (d : ℕ) → IsLeaf lists d →
+      update sys.bids_sent c (sys.bids_sent c ++ bid ∷ []) d ≡ sys.bids_sent d
+  leaves_same c bid conc d leaf = updated_other sys.bids_sent c (sys.bids_sent c ++ bid ∷ []) d (relay_no_leaf lists c d conc leaf)
 
   module _ (c : ℕ) (new : System) (did : RelaySends lists sys c new) where
     abbrev after_sent : Network
     after_sent = network_step lists p net (Sends c)
+
+    counts_sent : after_sent.counts ≡ net.counts
+    counts_sent = either (λ (w : Network). w.counts ≡ net.counts) (can_send lists net c) (after_sending p net c) net (λ e. refl) (λ e. refl)
 
     -- so does one that sends its bid
     pub sends : Follows lists p numbering devices (call.Sends c) new
@@ -175,9 +178,9 @@ module _ (lists : Lists) (p : Pricing) (numbering : Numbering) (market : IsTreeM
               (relay_moves lists p numbering market.places devices sys sys_is (with_network devices after_sent) c did.relay did.conc sent.0
               (λ y ne. same_elsewhere lists p net y (Sends c) (λ e. ne (sym e))) sys_is.agents sys_is.setpoints
               (update sys.bids_sent c (sys.bids_sent c ++ bid ∷ []))
-              (bid_pushed c bid after_sent.bids_sent (did.conc.0, did.conc.1) sent.1 (λ x ne.
+              (channels_push lists p numbering market.places devices sys sys_is after_sent.counts after_sent.bids_sent c bid counts_sent sent.1 (λ x ne.
               either (λ (w : Network). w.bids_sent x ≡ net.bids_sent x) (can_send lists net c) (after_sending p net c) net
-              (λ e. updated_other net.bids_sent c _ x ne) (λ e. refl)))
+              (λ e. updated_other net.bids_sent c _ x ne) (λ e. refl))) counts_sent (leaves_same c bid did.conc)
               sys.prices_sent (λ x node. either (λ (w : Network). w.prices_sent x ≡ net.prices_sent x) (can_send lists net c) (after_sending p net c) net
               (λ e. refl) (λ e. refl) ∙ sys_is.prices_sent x node));
           restarts = λ y up. (tt, tt);
@@ -189,11 +192,12 @@ module _ (lists : Lists) (p : Pricing) (numbering : Numbering) (market : IsTreeM
     abbrev after_stopped : Network
     after_stopped = network_step lists p net (StopsBidding c)
 
-    stopped_channels : (after_stopped.bids_sent ≡ net.bids_sent) × (after_stopped.prices_sent ≡ net.prices_sent)
+    stopped_channels : (after_stopped.bids_sent ≡ net.bids_sent) × (after_stopped.prices_sent ≡ net.prices_sent) × (after_stopped.counts ≡ net.counts)
     stopped_channels =
-        let Same : Network → Type 0 = λ w. (w.bids_sent ≡ net.bids_sent) × (w.prices_sent ≡ net.prices_sent) in
-        either Same (may_bid lists net c) (device_stopped net c) (cond (can_send lists net c) (relay_stopped net c) net) (λ e. (refl, refl))
-        (λ e. either Same (can_send lists net c) (relay_stopped net c) net (λ e. (refl, refl)) (λ e. (refl, refl)))
+        let Same : Network → Type 0 = λ w. (w.bids_sent ≡ net.bids_sent) × (w.prices_sent ≡ net.prices_sent) × (w.counts ≡ net.counts) in
+        either Same (may_bid lists net c) (device_stopped net c) (cond (can_send lists net c) (relay_stopped net c) net)
+        (λ e. absurd (both_ways (is_leaf lists c) did.conc.2 (and_parts (is_leaf lists c) (ltb (net.counts c) (changes lists c)) e).0))
+        (λ e. either Same (can_send lists net c) (relay_stopped net c) net (λ e. (refl, refl, refl)) (λ e. (refl, refl, refl)))
 
     -- one that stores its bid and stops
     pub stops : Follows lists p numbering devices (call.StopsBidding c) new
@@ -208,7 +212,8 @@ module _ (lists : Lists) (p : Pricing) (numbering : Numbering) (market : IsTreeM
               (sending.stops lists market.law p numbering market.places net s agrees c did.conc (sys.relays c) (sys_is.relays c did.conc) market.by_places
               did.relay did.number did.sent)
               (λ y ne. same_elsewhere lists p net y (StopsBidding c) (λ e. ne (sym e))) sys_is.agents sys_is.setpoints
-              sys.bids_sent (λ x node. ap (λ f. f x) stopped_channels.0 ∙ sys_is.bids_sent x node)
+              sys.bids_sent (channels_still lists p numbering market.places devices sys sys_is after_stopped.counts after_stopped.bids_sent
+              stopped_channels.2 stopped_channels.0) stopped_channels.2 (λ d leaf. refl)
               sys.prices_sent (λ x node. ap (λ f. f x) stopped_channels.1 ∙ sys_is.prices_sent x node)));
           restarts = λ y up. (tt, tt);
         }
@@ -218,6 +223,9 @@ module _ (lists : Lists) (p : Pricing) (numbering : Numbering) (market : IsTreeM
   module _ (c : ℕ) (new : System) (did : RelayResends lists sys c new) where
     abbrev after_again : Network
     after_again = network_step lists p net (Resends c)
+
+    counts_again : after_again.counts ≡ net.counts
+    counts_again = either (λ (w : Network). w.counts ≡ net.counts) (can_resend lists net c) (after_resending lists p net c) net (λ e. refl) (λ e. refl)
 
     -- one that sends its newest bid again
     pub resends : Follows lists p numbering devices (call.Resends c) new
@@ -234,7 +242,12 @@ module _ (lists : Lists) (p : Pricing) (numbering : Numbering) (market : IsTreeM
                 (sys_is.relays y conc);
             agents = sys_is.agents;
             setpoints = sys_is.setpoints;
-            bids_sent = bid_pushed c bid after_again.bids_sent (did.conc.0, did.conc.1)
+            counted = λ d leaf.
+                let Is : List BidMessage → Type 0 = λ l. (after_again.counts d ≡ (sys.agents d).number)
+                ⊎ IsExpired lists d (after_again.counts d) (sys.agents d).number l in
+                subst Is (sym (leaves_same c bid did.conc d leaf))
+                (counted_still lists p numbering market.places devices sys sys_is after_again.counts counts_again d leaf);
+            channels = channels_push lists p numbering market.places devices sys sys_is after_again.counts after_again.bids_sent c bid counts_again
                 (sending.sends_again lists p numbering net c r did.conc (sys_is.relays c did.conc).matches did.has)
                 (λ x ne. either (λ (w : Network). w.bids_sent x ≡ net.bids_sent x) (can_resend lists net c) (after_resending lists p net c) net
                 (λ e. updated_other net.bids_sent c _ x ne) (λ e. refl));
@@ -250,6 +263,9 @@ module _ (lists : Lists) (p : Pricing) (numbering : Numbering) (market : IsTreeM
   module _ (c k : ℕ) (new : System) (did : RelayTakesPrice lists numbering sys c k new) where
     abbrev after_taken : Network
     after_taken = network_step lists p net (TakesPrice c k)
+
+    counts_taken : after_taken.counts ≡ net.counts
+    counts_taken = hears_each lists p net c k (λ (w : Network). w.counts ≡ net.counts) refl refl refl refl
 
     price_is : price_in_channel sys c k ≡ sent_price net c k
     price_is = same_price lists p numbering market.places devices sys sys_is c k (did.conc.0, did.conc.1)
@@ -275,8 +291,8 @@ module _ (lists : Lists) (p : Pricing) (numbering : Numbering) (market : IsTreeM
               (subst (λ (t : System). SystemIs lists p numbering (with_network devices after_taken) t) (sym did.new_is)
               (relay_moves lists p numbering market.places devices sys sys_is (with_network devices after_taken) c did.relay did.conc done.0
               (λ y ne. same_elsewhere lists p net y (TakesPrice c k) (λ e. ne (sym e))) sys_is.agents sys_is.setpoints
-              sys.bids_sent (λ x node. hears_each lists p net c k (λ (w : Network). w.bids_sent x ≡ net.bids_sent x) refl refl refl refl
-              ∙ sys_is.bids_sent x node)
+              sys.bids_sent (channels_still lists p numbering market.places devices sys sys_is after_taken.counts after_taken.bids_sent counts_taken
+              (hears_each lists p net c k (λ (w : Network). w.bids_sent ≡ net.bids_sent) refl refl refl refl)) counts_taken (λ d leaf. refl)
               _ (sent_prices lists p numbering market.places devices sys sys_is c down after_taken.prices_sent
               (λ x node up. done.1 x node up
               ∙ ap (λ l. net.prices_sent x ++ l) (same_down (sys.relays c) did.relay (sent_price net c k) did.outcome took (numbering.place x)
@@ -364,6 +380,6 @@ module _ (lists : Lists) (p : Pricing) (numbering : Numbering) (market : IsTreeM
               (its_number c did.conc kept (stored_its c k c_node)) comes_back)
               (λ y ne. same_elsewhere lists p net y (Restarts c k) (λ e. ne (sym e)))
               (λ d leaf. updated_other devices.agents c _ d (relay_no_leaf lists c d did.conc leaf) ∙ sys_is.agents d leaf)
-              sys_is.setpoints sys.bids_sent sys_is.bids_sent sys.prices_sent sys_is.prices_sent);
+              sys_is.setpoints sys.bids_sent sys_is.channels refl (λ d leaf. refl) sys.prices_sent sys_is.prices_sent);
           restarts = λ y up. (up, tt);
         }

@@ -18,7 +18,7 @@ use Rattle.pm_relay.specs.declared.outcome.PriceOutcome.TheVariants.{PassedOn, A
 use Rattle.pm_relay_net.specs.RelayIs.{update_of}
 use Rattle.pm_system.specs.System.{System, price_in_channel, price_stored}
 use Rattle.pm_system.specs.Calls.{NodeCall, Does, IsNoRestart, DeviceChanges}
-use Rattle.pm_system.specs.Calls.{Bids, TakesBid, Sends, Clears, TakesPrice, Restarts, StopsBidding, Resends, StopsClearing, TellsOne}
+use Rattle.pm_system.specs.Calls.{Bids, Expires, TakesBid, Sends, Clears, TakesPrice, Restarts, StopsBidding, Resends, StopsClearing, TellsOne}
 use Rattle.pm_system.specs.Settled.{index_of_held}
 
 -- what a node holds, where neither its relay's nor its agent's index falls
@@ -122,6 +122,7 @@ module _ (lists : Lists) (p : Pricing) (numbering : Numbering) (sys : System) (x
   pub rises : (call : NodeCall) (new : System) → Does lists p numbering sys call new → IsNoRestart x call → Rises new
   rises (Bids d) new did up = by_agent new d did.agent (ap (λ (t : System). t.agents) did.new_is) (ap (λ (t : System). t.relays) did.new_is)
       (λ e. changed_index lists p sys d did.agent did.bid did.made)
+  rises (Expires d n) new did up = by_none new (ap (λ (t : System). t.agents) did.new_is) (ap (λ (t : System). t.relays) did.new_is)
   rises (TakesBid z k) new (inl did) up = by_relay new (parent lists z) did.relay (ap (λ (t : System). t.relays) did.new_is)
       (ap (λ (t : System). t.agents) did.new_is) (λ e. looks_index _ did.relay did.learnt)
   rises (TakesBid z k) new (inr did) up = by_none new (ap (λ (t : System). t.agents) did.new_is) (ap (λ (t : System). t.relays) did.new_is)

@@ -32,7 +32,7 @@ use Rattle.pm_system.specs.Calls as call
 use Rattle.pm_system.specs.Calls.{RootTakesBid, RootClears, RootStops, RootTellsOne, RootRestarts}
 use Rattle.pm_system.specs.Given.{IsTreeMarket}
 use Rattle.pm_system.specs.Market.{SystemIs}
-use Rattle.pm_system.proofs.Moving.{Follows, same_bid, bids_in, sent_prices, root_moves}
+use Rattle.pm_system.proofs.Moving.{Follows, same_bid, bids_in, sent_prices, root_moves, its_place, channels_still, counted_still}
 use Rattle.pm_system.proofs.RelayCalls.{gone_zeros}
 
 module _ (lists : Lists) (p : Pricing) (numbering : Numbering) (market : IsTreeMarket lists p numbering) (devices : Devices) (s : State)
@@ -43,54 +43,58 @@ module _ (lists : Lists) (p : Pricing) (numbering : Numbering) (market : IsTreeM
   -- the root moves, and sends nothing
   moved : (after : Network) (root : RootValue) (new : System) → new ≡ record sys { root = root } → RootIs p numbering after root →
       ((y : ℕ) → (y ≡ 0 → ⊥) → SameNode lists y net after) → after.bids_sent ≡ net.bids_sent → after.prices_sent ≡ net.prices_sent →
-      SystemIs lists p numbering (with_network devices after) new
-  moved after root new new_is root_is same bids prices =
+      after.counts ≡ net.counts → SystemIs lists p numbering (with_network devices after) new
+  moved after root new new_is root_is same bids prices counts =
       subst (λ (t : System). SystemIs lists p numbering (with_network devices after) t) (sym new_is)
       (root_moves lists p numbering market.places devices sys sys_is (with_network devices after) root root_is same sys_is.agents sys_is.setpoints
-      (λ z node. ap (λ f. f z) bids ∙ sys_is.bids_sent z node) sys.prices_sent (λ z node. ap (λ f. f z) prices ∙ sys_is.prices_sent z node))
+      counts bids sys.prices_sent (λ z node. ap (λ f. f z) prices ∙ sys_is.prices_sent z node))
 
   -- ---- it learns a bid
 
   module _ (x k : ℕ) (new : System) (did : RootTakesBid lists p numbering sys x k new) where
-    none : (sent_bid p net x k).gone ≡ true → (sent_bid p net x k).demand ≡ zeros p.steps
-    none = gone_zeros lists p numbering market s x did.node (sent_bid p net x k)
-        (agrees.bids_sent x k did.node (bids_in lists p numbering market.places devices sys sys_is x k did.node did.inside))
+    -- where the message is in the network's channel
+    abbrev at : ℕ
+    at = its_place lists p numbering market.places devices sys sys_is x k did.node did.inside
 
-    looks : LooksForClearing (with_root_bid sys.root (numbering.place x) (sent_bid p net x k).number (told_demand (sent_bid p net x k))) did.root
+    none : (sent_bid p net x at).gone ≡ true → (sent_bid p net x at).demand ≡ zeros p.steps
+    none = gone_zeros lists p numbering market s x did.node (sent_bid p net x at)
+        (agrees.bids_sent x at did.node (bids_in lists p numbering market.places devices sys sys_is x k did.node did.inside))
+
+    looks : LooksForClearing (with_root_bid sys.root (numbering.place x) (sent_bid p net x at).number (told_demand (sent_bid p net x at))) did.root
     looks =
         let Looks : BidMessage → Type 0 = λ b. LooksForClearing (with_root_bid sys.root (numbering.place x) b.number (told_demand b)) did.root in
-        subst Looks (same_bid lists p numbering market.places devices sys sys_is x k did.node) did.learnt
+        subst Looks (same_bid lists p numbering market.places devices sys sys_is x k did.node did.inside) did.learnt
 
     abbrev once : Network
-    once = network_step lists p net (TakesBid x k)
+    once = network_step lists p net (TakesBid x at)
 
     abbrev twice : Network
     twice = network_step lists p once (Rebuilds 0)
 
-    taken_channels : (once.bids_sent ≡ net.bids_sent) × (once.prices_sent ≡ net.prices_sent)
-    taken_channels = either (λ (w : Network). (w.bids_sent ≡ net.bids_sent) × (w.prices_sent ≡ net.prices_sent))
-        (is_new_bid lists net x (sent_bid p net x k)) (after_taking_bid net x (sent_bid p net x k)) net (λ e. (refl, refl)) (λ e. (refl, refl))
+    taken_channels : (once.bids_sent ≡ net.bids_sent) × (once.prices_sent ≡ net.prices_sent) × (once.counts ≡ net.counts)
+    taken_channels = either (λ (w : Network). (w.bids_sent ≡ net.bids_sent) × (w.prices_sent ≡ net.prices_sent) × (w.counts ≡ net.counts))
+        (is_new_bid lists net x (sent_bid p net x at)) (after_taking_bid net x (sent_bid p net x at)) net (λ e. (refl, refl, refl)) (λ e. (refl, refl, refl))
 
-    rebuilt_channels : (twice.bids_sent ≡ once.bids_sent) × (twice.prices_sent ≡ once.prices_sent)
-    rebuilt_channels = either (λ (w : Network). (w.bids_sent ≡ once.bids_sent) × (w.prices_sent ≡ once.prices_sent))
-        (can_rebuild lists once 0) (after_rebuilding once 0) once (λ e. (refl, refl)) (λ e. (refl, refl))
+    rebuilt_channels : (twice.bids_sent ≡ once.bids_sent) × (twice.prices_sent ≡ once.prices_sent) × (twice.counts ≡ once.counts)
+    rebuilt_channels = either (λ (w : Network). (w.bids_sent ≡ once.bids_sent) × (w.prices_sent ≡ once.prices_sent) × (w.counts ≡ once.counts))
+        (can_rebuild lists once 0) (after_rebuilding once 0) once (λ e. (refl, refl, refl)) (λ e. (refl, refl, refl))
 
     same_once : (y : ℕ) → (y ≡ 0 → ⊥) → SameNode lists y net once
-    same_once y ne = same_elsewhere lists p net y (TakesBid x k) (λ e. ne (sym e ∙ did.below))
+    same_once y ne = same_elsewhere lists p net y (TakesBid x at) (λ e. ne (sym e ∙ did.below))
 
     -- a root that takes a bid does what the network does
     pub takes_bid : Follows lists p numbering devices (call.TakesBid x k) new
-    takes_bid = elim (learns lists p numbering net x k sys.root did.root market.places market.by_places did.node did.below sys_is.root none looks) [
+    takes_bid = elim (learns lists p numbering net x at sys.root did.root market.places market.by_places did.node did.below sys_is.root none looks) [
       | inl is ↦ record {
-        events = TakesBid x k ∷ [];
-        is = moved once did.root new did.new_is is same_once taken_channels.0 taken_channels.1;
+        events = TakesBid x at ∷ [];
+        is = moved once did.root new did.new_is is same_once taken_channels.0 taken_channels.1 taken_channels.2;
         restarts = λ y up. (tt, tt);
       }
       | inr is ↦ record {
-        events = TakesBid x k ∷ Rebuilds 0 ∷ [];
+        events = TakesBid x at ∷ Rebuilds 0 ∷ [];
         is = moved twice did.root new did.new_is is
             (λ y ne. same_then lists y net once twice (same_once y ne) (same_elsewhere lists p once y (Rebuilds 0) (λ e. ne (sym e))))
-            (rebuilt_channels.0 ∙ taken_channels.0) (rebuilt_channels.1 ∙ taken_channels.1);
+            (rebuilt_channels.0 ∙ taken_channels.0) (rebuilt_channels.1 ∙ taken_channels.1) (rebuilt_channels.2 ∙ taken_channels.2);
         restarts = λ y up. (tt, (tt, tt));
       }
     ]
@@ -106,9 +110,8 @@ module _ (lists : Lists) (p : Pricing) (numbering : Numbering) (market : IsTreeM
         is = subst (λ (t : System). SystemIs lists p numbering (with_network devices after) t) (sym did.new_is)
             (root_moves lists p numbering market.places devices sys sys_is (with_network devices after) did.root cleared.0
             (λ y ne. same_elsewhere lists p net y Clears ne) sys_is.agents sys_is.setpoints
-            (λ x node. either (λ (w : Network). w.bids_sent x ≡ net.bids_sent x) (can_clear lists net) (after_clearing lists p net) net
-            (λ e. refl) (λ e. refl)
-            ∙ sys_is.bids_sent x node)
+            (either (λ (w : Network). w.counts ≡ net.counts) (can_clear lists net) (after_clearing lists p net) net (λ e. refl) (λ e. refl))
+            (either (λ (w : Network). w.bids_sent ≡ net.bids_sent) (can_clear lists net) (after_clearing lists p net) net (λ e. refl) (λ e. refl))
             _ (sent_prices lists p numbering market.places devices sys sys_is 0 (root_prices did.root) after.prices_sent cleared.2
             (λ x node ne. either (λ (w : Network). w.prices_sent x ≡ net.prices_sent x) (can_clear lists net) (after_clearing lists p net) net
             (λ e. none_to_others lists net.prices_sent 0 _ _ _ x ne) (λ e. refl))));
@@ -125,7 +128,8 @@ module _ (lists : Lists) (p : Pricing) (numbering : Numbering) (market : IsTreeM
             (clearing.stops lists p numbering market.places net sys.root sys_is.root market.by_places did.root did.index did.step did.cleared)
             (λ y ne. same_elsewhere lists p net y StopsClearing ne)
             (either (λ (w : Network). w.bids_sent ≡ net.bids_sent) (can_clear lists net) (auctioneer_stopped net) net (λ e. refl) (λ e. refl))
-            (either (λ (w : Network). w.prices_sent ≡ net.prices_sent) (can_clear lists net) (auctioneer_stopped net) net (λ e. refl) (λ e. refl));
+            (either (λ (w : Network). w.prices_sent ≡ net.prices_sent) (can_clear lists net) (auctioneer_stopped net) net (λ e. refl) (λ e. refl))
+            (either (λ (w : Network). w.counts ≡ net.counts) (can_clear lists net) (auctioneer_stopped net) net (λ e. refl) (λ e. refl));
         restarts = λ y up. (tt, tt);
       }
 
@@ -135,6 +139,8 @@ module _ (lists : Lists) (p : Pricing) (numbering : Numbering) (market : IsTreeM
   tells z new did =
       let after : Network = network_step lists p net (TellsOne z) in
       let same : (y : ℕ) → SameNode lists y net after = λ y. same_elsewhere lists p net y (TellsOne z) tt in
+      let counts : after.counts ≡ net.counts =
+      either (λ (w : Network). w.counts ≡ net.counts) (can_tell_one lists net z) (after_telling_one p net z) net (λ e. refl) (λ e. refl) in
       let more : List PriceMessage = sys.prices_sent z ++ root_prices sys.root (numbering.place z) in
       record {
         events = TellsOne z ∷ [];
@@ -143,8 +149,9 @@ module _ (lists : Lists) (p : Pricing) (numbering : Numbering) (market : IsTreeM
           relays = λ y conc. relay_stays lists p numbering market.places net after y (sys.relays y) (same y) (sys_is.relays y conc);
           agents = sys_is.agents;
           setpoints = sys_is.setpoints;
-          bids_sent = λ x node. either (λ (w : Network). w.bids_sent x ≡ net.bids_sent x) (can_tell_one lists net z) (after_telling_one p net z) net
-              (λ e. refl) (λ e. refl) ∙ sys_is.bids_sent x node;
+          channels = channels_still lists p numbering market.places devices sys sys_is after.counts after.bids_sent counts
+              (either (λ (w : Network). w.bids_sent ≡ net.bids_sent) (can_tell_one lists net z) (after_telling_one p net z) net (λ e. refl) (λ e. refl));
+          counted = counted_still lists p numbering market.places devices sys sys_is after.counts counts;
           prices_sent = λ x node. elim (cases_eq x z) [
             | inl e ↦ ap after.prices_sent e
                 ∙ clearing.tells lists p numbering market.places net sys.root sys_is.root z did.node did.below did.has did.same
@@ -174,6 +181,6 @@ module _ (lists : Lists) (p : Pricing) (numbering : Numbering) (market : IsTreeM
             (λ x ne. same_elsewhere lists p net x (Restarts 0 k) (λ e. ne (sym e)))
             (λ d leaf. updated_other devices.agents 0 _ d
             (λ e. both_ways (is_leaf lists d) (ap (is_leaf lists) e ∙ leaf_zero lists) leaf) ∙ sys_is.agents d leaf)
-            sys_is.setpoints sys_is.bids_sent sys.prices_sent sys_is.prices_sent);
+            sys_is.setpoints refl refl sys.prices_sent sys_is.prices_sent);
         restarts = λ x up. (λ e. up (zero ∙ e), tt);
       }

@@ -1,9 +1,11 @@
 -- Each run of a system is a run of the network.
-use Rattle.std.proofs.Common.{◌≡◌, sym, subst, ℕ, List, [], ◌∷◌, ◌++◌, inl, inr, refl}
+use Rattle.std.proofs.Common.{◌≡◌, sym, ap, subst, ℕ, List, [], ◌∷◌, ◌++◌, length, inl, inr, refl, arith}
 use Rattle.pm_market.specs.Lists.{Lists}
 use Rattle.pm_market.specs.State.{State, start}
 use Rattle.pm_market.specs.Moves.{after_from}
 use Rattle.pm_net.specs.Pricing.{Pricing}
+use Rattle.pm_net.specs.Messages.{BidMessage}
+use Rattle.pm_net.specs.Agents.{DeviceAgent}
 use Rattle.pm_net.specs.Events.{Event, RunsOn}
 use Rattle.pm_net.specs.Devices.{Devices, start_devices, devices_step, devices_after, DevicesAgree}
 use Rattle.pm_net.proofs.Steps.{run_goes_on, agree_at_start}
@@ -12,7 +14,7 @@ use Rattle.pm_relay_net.proofs.ComingUp as relay
 use Rattle.pm_relay_net.proofs.RootComingUp as root
 use Rattle.pm_system.specs.System.{System}
 use Rattle.pm_system.specs.Calls.{NodeCall, Does, SystemRuns, StaysUp}
-use Rattle.pm_system.specs.Calls.{Bids, TakesBid, Sends, Clears, TakesPrice, Restarts, StopsBidding, Resends, StopsClearing, TellsOne}
+use Rattle.pm_system.specs.Calls.{Bids, Expires, TakesBid, Sends, Clears, TakesPrice, Restarts, StopsBidding, Resends, StopsClearing, TellsOne}
 use Rattle.pm_system.specs.Given.{IsTreeMarket, IsStarted}
 use Rattle.pm_system.specs.Market.{SystemIs, RunsTheMarket}
 use Rattle.pm_system.proofs.Moving.{Follows}
@@ -37,6 +39,7 @@ module _ (lists : Lists) (p : Pricing) (numbering : Numbering) (market : IsTreeM
       (call : NodeCall) (new : System) → Does lists p numbering sys call new → Follows lists p numbering devices call new
   call_follows devices s agree sys is (Bids d) new did =
       device_calls.bids lists p numbering market devices s agree sys is d did.agent did.bid did.made new did.new_is
+  call_follows devices s agree sys is (Expires d n) new did = device_calls.expires lists p numbering market devices s agree sys is d n new did
   call_follows devices s agree sys is (TakesBid x k) new (inl did) = relay_calls.takes_bid lists p numbering market devices s agree.agrees sys is x k new did
   call_follows devices s agree sys is (TakesBid x k) new (inr did) = root_calls.takes_bid lists p numbering market devices s agree.agrees sys is x k new did
   call_follows devices s agree sys is (Sends c) new did = relay_calls.sends lists p numbering market devices s agree.agrees sys is c new did
@@ -91,7 +94,11 @@ module _ (lists : Lists) (p : Pricing) (numbering : Numbering) (market : IsTreeM
         relay.first_up lists p numbering market.places up.0 c (sys.relays c) up.1 up.2;
     agents = λ d leaf. sym (at.agents d leaf);
     setpoints = λ d leaf. sym (at.setpoints d);
-    bids_sent = λ x node. sym (at.bids_sent x);
+    channels = record {
+      sent = λ x k node inside. absurd (omega (arith, inside, ap (λ (l : List BidMessage). length l) (at.bids_sent x)));
+      made = λ d n leaf one le. absurd (omega (arith, one, le));
+    };
+    counted = λ d leaf. inl (omega (arith, ap (λ (a : DeviceAgent). a.number) (at.agents d leaf)));
     prices_sent = λ x node. sym (at.prices_sent x);
   }
 

@@ -2,7 +2,7 @@
 use Rattle.std.proofs.Common.{◌≡◌, ◌∙◌, sym, ap, subst, ℕ, ◌+◌, ◌<◌, ◌≤◌, true, false, eqb, List, length}
 use Rattle.std.proofs.Common.{get_or, arith, inl, inr, pos}
 use Rattle.std.proofs.Common.{◌⊎◌}
-use Rattle.std.proofs.lemmas.Bool.{cases_eq, cases_Bool, cond-true, cond-false, eq-eqb, ne_eqb}
+use Rattle.std.proofs.lemmas.Bool.{cases_eq, cases_Bool, cond-true, cond-false, eq-eqb, ne_eqb, both_ways}
 use Rattle.std.specs.List.{Contains}
 use Rattle.pm_bid.specs.Heads.{nothing_sent}
 use Rattle.pm_bid.specs.declared.head.BidHead.{BidHead}
@@ -10,11 +10,11 @@ use Rattle.pm_cache.specs.Cache.{kept_number, child_head}
 use Rattle.pm_market.specs.Lists.{Lists, parent, is_leaf, is_member, IsNode, IsLeaf}
 use Rattle.pm_market.specs.State.{State, start, clearings, last_index}
 use Rattle.pm_market.specs.Moves.{after_from}
-use Rattle.pm_market.proofs.Cuts.{updated_same}
+use Rattle.pm_market.proofs.Cuts.{updated_same, newest_leaf}
 use Rattle.pm_market.proofs.Tree.{leaf_node, leaf_zero}
 use Rattle.pm_laws.proofs.Facts.{last_within}
 use Rattle.pm_net.specs.Pricing.{Pricing}
-use Rattle.pm_net.specs.Messages.{PriceMessage, price_message}
+use Rattle.pm_net.specs.Messages.{BidMessage, PriceMessage, price_message}
 use Rattle.pm_net.specs.Network.{Network, sent_price, WasSent}
 use Rattle.pm_net.specs.Running.{can_send, after_sending, can_clear, after_clearing}
 use Rattle.pm_net.specs.Events.{network_step, Sends, Clears}
@@ -36,7 +36,7 @@ use Rattle.pm_system.specs.System.{System, price_in_channel}
 use Rattle.pm_system.specs.Calls.{NodeCall, StaysUp}
 use Rattle.pm_system.specs.Given.{IsTreeMarket}
 use Rattle.pm_system.specs.Market.{RunsTheMarket}
-use Rattle.pm_system.specs.Settled.{number_made, number_held, index_of_held, IsSettledSystem, IsCurrentSystem, HoldsNewestBid, WasTold, bids_made}
+use Rattle.pm_system.specs.Settled.{number_made, number_held, index_of_held, IsSettledSystem, IsCurrentSystem, HoldsNewestBid, WasTold, numbers_counted}
 use Rattle.pm_system.proofs.Moving.{same_price, prices_in, parent_relay}
 
 -- a node that sends and does not change cannot send
@@ -84,17 +84,10 @@ module _ (lists : Lists) (p : Pricing) (numbering : Numbering) (market : IsTreeM
   agrees : NetworkAgrees lists p net s
   agrees = agree.agrees
 
-  made_is : (d : ℕ) → IsLeaf lists d → bids_made sys d ≡ net.counts d
-  made_is d leaf = ap (λ a. a.number) (sym (has.is.agents d leaf)) ∙ (agree.agents d leaf).number
-
-  -- what a node holds is what the network's node holds
-  number_is : (x : ℕ) → IsNode lists x → number_made lists sys x ≡ made_number lists net x
-  number_is x node = elim (cases_Bool (is_leaf lists x)) [
-    | inl leaf ↦ cond-true (is_leaf lists x) (sys.agents x).number (newest_bid_number (sys.relays x)) leaf ∙ made_is x leaf
-        ∙ sym (cond-true (is_leaf lists x) (net.counts x) (net.last_number x) leaf)
-    | inr inner ↦ cond-false (is_leaf lists x) (sys.agents x).number (newest_bid_number (sys.relays x)) inner
-        ∙ (has.is.relays x (node.0, node.1, inner)).matches.newest ∙ sym (cond-false (is_leaf lists x) (net.counts x) (net.last_number x) inner)
-  ]
+  -- what a relay made is what the network's node made
+  number_is : (x : ℕ) → IsNode lists x → is_leaf lists x ≡ false → number_made lists sys x ≡ made_number lists net x
+  number_is x node inner = cond-false (is_leaf lists x) (sys.agents x).number (newest_bid_number (sys.relays x)) inner
+      ∙ (has.is.relays x (node.0, node.1, inner)).matches.newest ∙ sym (cond-false (is_leaf lists x) (net.counts x) (net.last_number x) inner)
 
   head_here : (x : ℕ) → IsNode lists x → (heads : List BidHead) → heads ≡ heads_of numbering (parent lists x) net.heard →
       get_or heads (numbering.place x) nothing_sent ≡ bid_head (net.heard x)
@@ -129,10 +122,44 @@ module _ (lists : Lists) (p : Pricing) (numbering : Numbering) (market : IsTreeM
   price_same : (x k : ℕ) → IsNode lists x → price_in_channel sys x k ≡ sent_price net x k
   price_same x k node = same_price lists p numbering market.places devices sys has.is x k node
 
+  -- the parent of each device holds its newest change, be it the device's own or the parent's
+  counts_held : (d : ℕ) → IsLeaf lists d → net.counts d ≤ number_held lists numbering sys d
+  counts_held d leaf = elim (has.is.counted d leaf) [
+    | inl own ↦ omega (
+      arith,
+      own,
+      quiet.bids d (leaf_node lists market.law d leaf),
+      cond-true (is_leaf lists d) (sys.agents d).number
+          (newest_bid_number (sys.relays d)) leaf,
+    )
+    | inr expired ↦
+        let at = quiet.expired d leaf expired.sent.0 expired.bid expired.sent.1 in
+        omega (arith, at, ap (λ (b : BidMessage). b.number) expired.sent.2, expired.its, expired.next)
+  ]
+
+  bids_held : (x : ℕ) → IsNode lists x → made_number lists net x ≤ (net.heard x).number
+  bids_held x node = elim (cases_Bool (is_leaf lists x)) [
+    | inl leaf ↦ omega (arith, cond-true (is_leaf lists x) (net.counts x) (net.last_number x) leaf, counts_held x leaf, held_is x node)
+    | inr inner ↦ omega (arith, quiet.bids x node, number_is x node inner, held_is x node)
+  ]
+
+  -- it is the one under which the parent counts the device
+  counted_is : (d : ℕ) → IsLeaf lists d → numbers_counted lists numbering sys d ≡ net.counts d
+  counted_is d leaf =
+      let node : IsNode lists d = leaf_node lists market.law d leaf in
+      omega (
+        arith,
+        counts_held d leaf,
+        held_is d node,
+        (agrees.heard d node).0,
+        newest_leaf lists s.counts s.published d leaf,
+        agrees.counts d leaf,
+      )
+
   -- the network is settled
   net_settled : IsSettledNetwork lists (devices_after lists p (start_devices p) has.events).net
   net_settled = record {
-    bids = λ x node. omega (arith, quiet.bids x node, number_is x node, held_is x node);
+    bids = bids_held;
     prices = λ x k node inside.
         let within : k < length (sys.prices_sent x) = subst (λ (l : List PriceMessage). k < length l) (has.is.prices_sent x node) inside in
         omega (arith, quiet.prices x k node within, index_is x node, ap (λ (q : PriceMessage). q.index) (price_same x k node));
@@ -153,22 +180,37 @@ module _ (lists : Lists) (p : Pricing) (numbering : Numbering) (market : IsTreeM
   newest_is : newest_index sys.root ≡ clearings s
   newest_is = has.is.root.matches.newest ∙ agrees.last_number 0 (leaf_zero lists)
 
-  -- the local steps over all bids ever made
-  steps_same : (d : ℕ) → IsLeaf lists d → p.local net.counts d ≡ p.local (bids_made sys) d
-  steps_same d leaf = market.by_nodes.steps_alike d net.counts (bids_made sys) (leaf_node lists market.law d leaf) (λ e e_leaf. sym (made_is e e_leaf))
+  -- the local steps over all bids that count
+  abbrev counted : ℕ → ℕ
+  counted = numbers_counted lists numbering sys
 
-  module _ (d : ℕ) (leaf : IsLeaf lists d) (member : is_member lists d (bids_made sys d) ≡ true) where
+  steps_same : (d : ℕ) → IsLeaf lists d → p.local net.counts d ≡ p.local (numbers_counted lists numbering sys) d
+  steps_same d leaf = market.by_nodes.steps_alike d net.counts (numbers_counted lists numbering sys) (leaf_node lists market.law d leaf) (λ e e_leaf. sym
+      (counted_is e e_leaf))
+
+  module _ (d : ℕ) (leaf : IsLeaf lists d) (member : is_member lists d (numbers_counted lists numbering sys d) ≡ true) where
     d_node : IsNode lists d
     d_node = leaf_node lists market.law d leaf
 
-    counted : is_member lists d (net.counts d) ≡ true
-    counted = ap (is_member lists d) (sym (made_is d leaf)) ∙ member
+    is_counted : is_member lists d (net.counts d) ≡ true
+    is_counted = ap (is_member lists d) (sym (counted_is d leaf)) ∙ member
+
+    -- a member that counts has not expired since its newest bid
+    own : (sys.agents d).number ≡ net.counts d
+    own = elim (has.is.counted d leaf) [
+      | inl same ↦ sym same
+      | inr expired ↦ absurd (both_ways (is_member lists d ((sys.agents d).number + 1)) expired.absent
+          (ap (is_member lists d) (sym expired.next) ∙ is_counted))
+    ]
+
+    counted_own : numbers_counted lists numbering sys d ≡ (sys.agents d).number
+    counted_own = counted_is d leaf ∙ sym own
 
     taken_is : net.taken d ≡ price_message (net.counts d) (clearings s) (p.local net.counts d)
-    taken_is = settled.all_held lists market.law p market.by_nodes net s agrees net_settled d leaf counted
+    taken_is = settled.all_held lists market.law p market.by_nodes net s agrees net_settled d leaf is_counted
 
     one : 1 ≤ clearings s
-    one = settled.one_cleared lists market.law p market.by_nodes net s agrees net_settled d leaf counted
+    one = settled.one_cleared lists market.law p market.by_nodes net s agrees net_settled d leaf is_counted
 
     last_is : last_index s d ≡ clearings s
     last_is = omega (arith, agrees.index d d_node, ap (λ (q : PriceMessage). q.index) taken_is, last_within lists s agrees.sound d)
@@ -184,31 +226,32 @@ module _ (lists : Lists) (p : Pricing) (numbering : Numbering) (market : IsTreeM
           ∙ ap (price_of_clearing lists p s d) (was_sent.2 ∙ last_is ∙ ap (λ (q : PriceMessage). q.index) (sym taken_is)) ∙ sym its.1
     ]
 
-    holds : HoldsNewestBid p sys d
+    holds : HoldsNewestBid p sys counted d
     holds = record {
       place = was_sent.0;
       inside = subst (λ (l : List PriceMessage). was_sent.0 < length l) (has.is.prices_sent d d_node) was_sent.1;
       price = price_same d was_sent.0 d_node ∙ sent_is ∙ taken_is
-          ∙ ap (λ (n : ℕ). price_message n (clearings s) (p.local net.counts d)) (sym (made_is d leaf))
-          ∙ ap (λ (i : ℕ). price_message (bids_made sys d) i (p.local net.counts d)) (sym newest_is)
-          ∙ ap (price_message (bids_made sys d) (newest_index sys.root)) (steps_same d leaf);
+          ∙ ap (λ (n : ℕ). price_message n (clearings s) (p.local net.counts d)) (sym own)
+          ∙ ap (λ (i : ℕ). price_message (sys.agents d).number i (p.local net.counts d)) (sym newest_is)
+          ∙ ap (price_message (sys.agents d).number (newest_index sys.root)) (steps_same d leaf);
       taken = agent_index d leaf ∙ ap (λ (q : PriceMessage). q.index) taken_is ∙ sym newest_is;
     }
 
-    told : StaysUp d calls → WasTold p sys d
+    told : StaysUp d calls → WasTold p sys counted d
     told up =
         let was : IsToldNow p devices d = told_now lists market.law market.one_phase p market.by_nodes has.events d leaf
-        (has.restarts d up) net_settled counted in
+        (has.restarts d up) net_settled is_counted
+        (ap (λ a. a.number) (has.is.agents d leaf) ∙ own) in
         let Given : List Setpoint → Type 0 = λ l. Contains l was.0 in
         record {
           setpoint = was.0;
           given = subst Given (has.is.setpoints d leaf) was.1;
-          number = was.2 ∙ sym (made_is d leaf);
+          number = was.2 ∙ sym own;
           step = was.3 ∙ steps_same d leaf;
-          power = was.4 ∙ ap (λ (n : ℕ). get_or (p.demand d n) (p.local net.counts d) (pos 0)) (sym (made_is d leaf))
-              ∙ ap (λ (n : ℕ). get_or (p.demand d (bids_made sys d)) n (pos 0)) (steps_same d leaf);
+          power = was.4 ∙ ap (λ (n : ℕ). get_or (p.demand d n) (p.local net.counts d) (pos 0)) (sym own)
+              ∙ ap (λ (n : ℕ). get_or (p.demand d (sys.agents d).number) n (pos 0)) (steps_same d leaf);
         }
 
   -- a settled system is current
-  pub current : IsCurrentSystem lists p calls sys
-  current = record { held = holds; told = told }
+  pub current : IsCurrentSystem lists p numbering calls sys
+  current = record { counted = counted_own; held = holds; told = told }

@@ -23,7 +23,10 @@ use Rattle.pm_system.specs.System.{price_stored}
 pub data NodeCall : Type 0 where
   -- the control of device d offers or leaves, and the bid is sent
   Bids : ℕ → NodeCall
-  -- the parent of x learns the message in place k of what x ever sent
+  -- the parent of device d gives one of its own numbers, n, for d being gone: the bid is there as if d had sent it. The call
+  -- `expire` of the parent is this with a TakesBid of that bid
+  Expires : ℕ → ℕ → NodeCall
+  -- the parent of x learns the message in place k of what x ever sent, or its parent gave for it
   TakesBid : ℕ → ℕ → NodeCall
   -- relay c sends its next bid
   Sends : ℕ → NodeCall
@@ -44,21 +47,21 @@ pub data NodeCall : Type 0 where
 
 -- ---- a device
 
--- its control offers the demand that is given for its next number, or leaves, as is given for it
+-- its control offers the demand that is given for its next number, the second after its last, or leaves, as is given for it
 pub record Offers (lists : Lists) (p : Pricing) (d : ℕ) (old new : DeviceAgent) (bid : BidMessage) : Type 0 where
-  pub member : is_member lists d (old.number + 1) ≡ true
+  pub member : is_member lists d (old.number + 2) ≡ true
   pub may : may_offer old ≡ true
-  pub offered : new ≡ after_offer old (p.demand d (old.number + 1))
-  pub bid_is : bid ≡ bid_message (old.number + 1) false (p.demand d (old.number + 1))
+  pub offered : new ≡ after_offer old (p.demand d (old.number + 2))
+  pub bid_is : bid ≡ bid_message (old.number + 2) false (p.demand d (old.number + 2))
 
 pub record Leaves (lists : Lists) (p : Pricing) (d : ℕ) (old new : DeviceAgent) (bid : BidMessage) : Type 0 where
-  pub absent : is_member lists d (old.number + 1) ≡ false
+  pub absent : is_member lists d (old.number + 2) ≡ false
   pub left : new ≡ after_leaving old
-  pub bid_is : bid ≡ bid_message (old.number + 1) true (zeros p.steps)
+  pub bid_is : bid ≡ bid_message (old.number + 2) true (zeros p.steps)
 
 pub record DeviceChanges (lists : Lists) (p : Pricing) (sys : System) (d : ℕ) (agent : DeviceAgent) (bid : BidMessage) : Type 0 where
   pub leaf : IsLeaf lists d
-  pub has_next : (sys.agents d).number < changes lists d
+  pub has_next : (sys.agents d).number + 2 ≤ changes lists d
   pub change : Offers lists p d (sys.agents d) agent bid ⊎ Leaves lists p d (sys.agents d) agent bid
 
 pub record DeviceBids (lists : Lists) (p : Pricing) (sys : System) (d : ℕ) (new : System) : Type 0 where
@@ -82,6 +85,16 @@ pub record DeviceResends (lists : Lists) (p : Pricing) (sys : System) (d : ℕ) 
   pub leaf : IsLeaf lists d
   pub some : 1 ≤ (sys.agents d).number
   pub new_is : new ≡ with_bid_sent sys d (bid_kept p (sys.agents d).number (newest_demand (sys.agents d)))
+
+-- n is odd, so it is no number of a bid that d makes; it is none that lies more than one above the last of these
+pub record DeviceExpires (lists : Lists) (p : Pricing) (sys : System) (d n : ℕ) (new : System) : Type 0 where
+  pub leaf : IsLeaf lists d
+  pub half : ℕ
+  pub odd : n ≡ half + half + 1
+  pub within : n ≤ (sys.agents d).number + 1
+  pub absent : is_member lists d n ≡ false
+  pub has_next : n ≤ changes lists d
+  pub new_is : new ≡ with_bid_sent sys d (bid_message n true (zeros p.steps))
 
 pub record DeviceTakesPrice (lists : Lists) (sys : System) (d k : ℕ) (new : System) : Type 0 where
   pub leaf : IsLeaf lists d
@@ -188,6 +201,7 @@ pub record RootRestarts (p : Pricing) (sys : System) (new : System) : Type 0 whe
 -- what a call makes of a system
 abbrev pub Does : Lists → Pricing → Numbering → System → NodeCall → System → Type 0
 Does lists p numbering sys (Bids d) new = DeviceBids lists p sys d new
+Does lists p numbering sys (Expires d n) new = DeviceExpires lists p sys d n new
 Does lists p numbering sys (TakesBid x k) new = RelayTakesBid lists p numbering sys x k new ⊎ RootTakesBid lists p numbering sys x k new
 Does lists p numbering sys (Sends c) new = RelaySends lists sys c new
 Does lists p numbering sys Clears new = RootClears lists numbering sys new

@@ -4,3 +4,5 @@ pub mod Given
 pub mod Market
 pub mod Settled
 pub mod Frames
+pub mod Flow
+pub mod Expiry

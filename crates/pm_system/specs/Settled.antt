@@ -1,10 +1,10 @@
 -- A system in which everything was taken and nothing new can be sent, and what is current then.
 use Rattle.std.specs.Prelude.{◌≡◌, ℕ, ◌<◌, ◌≤◌, false, true, pos, if◌then◌else◌, ◌==◌, List, length, slice_index_or}
-use Rattle.std.specs.List.{Contains}
+use Rattle.std.specs.List.{All, Contains}
 use Rattle.pm_cache.specs.Cache.{child_head, kept_number}
 use Rattle.pm_market.specs.Lists.{Lists, parent, is_leaf, is_member, IsNode, IsLeaf, IsConcentrator}
 use Rattle.pm_net.specs.Pricing.{Pricing}
-use Rattle.pm_net.specs.Messages.{price_message}
+use Rattle.pm_net.specs.Messages.{BidMessage, price_message}
 use Rattle.pm_net.specs.Agents.{Setpoint}
 use Rattle.pm_net_plan.specs.Places.{Numbering}
 use Rattle.pm_relay.specs.Relays.{RelayValue, newest_bid_number, NotSent}
@@ -41,10 +41,11 @@ HasNothingToSend r = (fault : SendFault) × NotSent r fault × (fault ≡ send_f
 abbrev pub HasNothingToClear : RootValue → Type 0
 HasNothingToClear r = (fault : RootFault) × NotCleared r fault × (fault ≡ root_fault.OutOfNumbers → ⊥)
 
--- Each parent holds the newest bid of its child; each node took the newest price that was sent to it; the root sent the price of
+-- Each parent holds the newest bid of its child, or the newest that it gave for it; each node took the newest price that was sent to it; the root sent the price of
 -- its newest clearing to each child that is not gone; and no relay has anything to send, nor the root anything to clear.
 pub record IsSettledSystem (lists : Lists) (numbering : Numbering) (sys : System) : Type 0 where
   pub bids : (x : ℕ) → IsNode lists x → number_made lists sys x ≤ number_held lists numbering sys x
+  pub expired : (d : ℕ) → IsLeaf lists d → All (λ (bid : BidMessage). bid.number ≤ number_held lists numbering sys d) (sys.bids_sent d)
   pub prices : (x k : ℕ) → IsNode lists x → k < length (sys.prices_sent x) → (price_in_channel sys x k).index ≤ index_of_held lists sys x
   pub told : (x : ℕ) → IsNode lists x → parent lists x ≡ 0 → (child_head sys.root.auction.cache (numbering.place x)).gone ≡ false →
       (k : ℕ) × (k < length (sys.prices_sent x)) × ((price_in_channel sys x k).index ≡ newest_index sys.root)
@@ -53,27 +54,33 @@ pub record IsSettledSystem (lists : Lists) (numbering : Numbering) (sys : System
 
 -- ---- current
 
--- how many bids each device ever made
-abbrev pub bids_made : System → ℕ → ℕ
-bids_made sys d = (sys.agents d).number
+-- The number under which each device is counted by its parent: that of the newest bid which it made, or a later one under which
+-- its parent let it go.
+abbrev pub numbers_counted : Lists → Numbering → System → ℕ → ℕ
+numbers_counted lists numbering sys d = number_held lists numbering sys d
 
--- the price of the newest clearing came to d, under its newest number and with its local step over all bids ever made; it is the
+-- the price of the newest clearing came to d, under its newest number and with its local step over all bids that count; it is the
 -- one that d took last
-pub record HoldsNewestBid (p : Pricing) (sys : System) (d : ℕ) : Type 0 where
+pub record HoldsNewestBid (p : Pricing) (sys : System) (counted : ℕ → ℕ) (d : ℕ) : Type 0 where
   pub place : ℕ
   pub inside : place < length (sys.prices_sent d)
-  pub price : price_in_channel sys d place ≡ price_message (bids_made sys d) (newest_index sys.root) (p.local (bids_made sys) d)
+  pub price : price_in_channel sys d place ≡ price_message (sys.agents d).number (newest_index sys.root) (p.local counted d)
   pub taken : (sys.agents d).index ≡ newest_index sys.root
 
 -- the control of d was told what its newest bid asks for at that step
-pub record WasTold (p : Pricing) (sys : System) (d : ℕ) : Type 0 where
+pub record WasTold (p : Pricing) (sys : System) (counted : ℕ → ℕ) (d : ℕ) : Type 0 where
   pub setpoint : Setpoint
   pub given : Contains (sys.setpoints d) setpoint
-  pub number : setpoint.number ≡ bids_made sys d
-  pub step : setpoint.step ≡ p.local (bids_made sys) d
-  pub power : setpoint.power ≡ slice_index_or (p.demand d (bids_made sys d)) (p.local (bids_made sys) d) (pos 0)
+  pub number : setpoint.number ≡ (sys.agents d).number
+  pub step : setpoint.step ≡ p.local counted d
+  pub power : setpoint.power ≡ slice_index_or (p.demand d (sys.agents d).number) (p.local counted d) (pos 0)
 
--- so it is for each member; the control of one that did not restart was told
-pub record IsCurrentSystem (lists : Lists) (p : Pricing) (calls : List NodeCall) (sys : System) : Type 0 where
-  pub held : (d : ℕ) → IsLeaf lists d → is_member lists d (bids_made sys d) ≡ true → HoldsNewestBid p sys d
-  pub told : (d : ℕ) → IsLeaf lists d → is_member lists d (bids_made sys d) ≡ true → StaysUp d calls → WasTold p sys d
+-- So it is for each member that counts; the control of one that did not restart was told. A device that its parent let go, and
+-- that made no bid since, is no such member: what its control was told last may be old.
+pub record IsCurrentSystem (lists : Lists) (p : Pricing) (numbering : Numbering) (calls : List NodeCall) (sys : System) : Type 0 where
+  pub counted : (d : ℕ) → IsLeaf lists d → is_member lists d (numbers_counted lists numbering sys d) ≡ true →
+      numbers_counted lists numbering sys d ≡ (sys.agents d).number
+  pub held : (d : ℕ) → IsLeaf lists d → is_member lists d (numbers_counted lists numbering sys d) ≡ true →
+      HoldsNewestBid p sys (numbers_counted lists numbering sys) d
+  pub told : (d : ℕ) → IsLeaf lists d → is_member lists d (numbers_counted lists numbering sys d) ≡ true → StaysUp d calls →
+      WasTold p sys (numbers_counted lists numbering sys) d

@@ -16,7 +16,9 @@ ghost use Rattle.pm_system.specs.System.{System};
 ghost use Rattle.pm_system.specs.Calls.{NodeCall, Does, SystemRuns, IsNoRestart, StaysUp};
 ghost use Rattle.pm_system.specs.Given.{IsTreeMarket, IsGiven, placed_pricing, IsStarted};
 ghost use Rattle.pm_system.specs.Market.{RunsTheMarket, KeepsTheLaw};
-ghost use Rattle.pm_system.specs.Settled.{index_of_held, IsSettledSystem, IsCurrentSystem};
+ghost use Rattle.pm_system.specs.Settled.{index_of_held, numbers_counted, IsSettledSystem, IsCurrentSystem};
+ghost use Rattle.pm_system.specs.Flow.{FlowsIn, TakeWhatWasTold};
+ghost use Rattle.pm_system.specs.Expiry.{RelayExpires, RootExpires, AreTwoCalls};
 ghost use Rattle.pm_system.specs.Frames.{AreSent};
 
 use pm_control::agents_come_back;
@@ -40,6 +42,20 @@ pub fn systems_run_the_market()
     agents_come_back();
 }
 
+/// A law: a relay or a root that lets a device go, by its call `expire`, does what two calls of a system do: a number of the
+/// parent's is given for the device, and the parent takes that bid. So all that holds of runs of a system holds with it. The
+/// number is odd and at most one above the last that the device gave; so no bid of the device has it, or will have it.
+pub fn expiring_is_two_calls()
+    ensures relay { (lists : Lists) (p : Pricing) (numbering : Numbering) (calls : List NodeCall)
+        (sys new : System) (d : ℕ) → IsTreeMarket lists p numbering →
+        RunsTheMarket lists p numbering calls sys → RelayExpires lists p numbering sys d new →
+        AreTwoCalls lists p numbering sys d new }
+    ensures root { (lists : Lists) (p : Pricing) (numbering : Numbering) (calls : List NodeCall)
+        (sys new : System) (d : ℕ) → IsTreeMarket lists p numbering →
+        RunsTheMarket lists p numbering calls sys → RootExpires lists p numbering sys d new →
+        AreTwoCalls lists p numbering sys d new }
+{}
+
 /// A law: nobody goes back, except over its own restart. No call lowers the index of the price that a node holds; a restart
 /// never raises it. The setpoints of a device that did not restart have rising indices.
 pub fn systems_do_not_go_back()
@@ -54,15 +70,21 @@ pub fn systems_do_not_go_back()
         StaysUp d calls → AllPairs (λ (a b : Setpoint). a.index < b.index) (sys.setpoints d) }
 {}
 
-/// A law: settled is current, over restarts too. A system is settled if each parent holds the newest bid of its child, each
-/// node took the newest price that was sent to it, the root sent the price of its newest clearing to each child that is not
-/// gone, and no node has anything new to send. Then the newest clearing is over all bids ever made: each member holds its
-/// price, under its own newest number and with its local step. The control of a member that did not restart was told so.
+/// A law: settled is current, over restarts too. A system is settled if each parent holds the newest bid of its child, or the
+/// newest number by which it let the child go, each node took the newest price that was sent to it, the root sent the price of
+/// its newest clearing to each child that is not gone, and no node has anything new to send. Then the newest clearing is over
+/// the newest bid of each device that was not let go since: each such member holds its price, under its own newest number and
+/// with its local step. The control of a member that did not restart was told so. If all below a relay take what they were told
+/// so, and who is no member takes nothing, they take together what the relay announced.
 pub fn settled_systems_are_current()
-    ensures { (lists : Lists) (p : Pricing) (numbering : Numbering) (calls : List NodeCall)
+    ensures current { (lists : Lists) (p : Pricing) (numbering : Numbering) (calls : List NodeCall)
         (sys : System) → IsTreeMarket lists p numbering →
         RunsTheMarket lists p numbering calls sys → IsSettledSystem lists numbering sys →
-        IsCurrentSystem lists p calls sys }
+        IsCurrentSystem lists p numbering calls sys }
+    ensures flows { (lists : Lists) (p : Pricing) (numbering : Numbering) (sys : System) →
+        IsTreeMarket lists p numbering →
+        FlowsIn lists p (numbers_counted lists numbering sys)
+            (TakeWhatWasTold lists p (numbers_counted lists numbering sys) sys) }
 {}
 
 /// A law: each message that was ever sent fits a frame. A bid has a number above 0, and a demand for each step that never rises

@@ -62,20 +62,20 @@ const PRICES: &[u8] = &[
 
 /// An offer of 500 watts at step 0 and of -300 at step 1, the price of clearing 7 for it, and leaving.
 const OFFER: &[u8] = &[
-    13, 0, 0, 1, 244, 255, 255, 254, 212, 5, 0, 2, 0, 0, 0, 1, 0, 0, 0, 7, 0, 1, 14,
+    13, 0, 0, 1, 244, 255, 255, 254, 212, 5, 0, 2, 0, 0, 0, 2, 0, 0, 0, 7, 0, 1, 14,
 ];
 
 /// What the agent keeps, its bid, the setpoint of -300 watts, what it keeps then, and that it left.
 const SETPOINT: &[u8] = &[
-    12, 0, 0, 0, 1, 0, 0, 0, 0, 0, 0, 1, 244, 255, 255, 254, 212, 2, 0, 2, 0, 0, 0, 1, 0, 0, 1,
-    244, 255, 255, 254, 212, 15, 0, 0, 0, 1, 0, 0, 0, 7, 0, 1, 255, 255, 254, 212, 12, 0, 0, 0, 1,
-    0, 0, 0, 7, 0, 0, 1, 244, 255, 255, 254, 212, 16, 0, 0, 0, 2, 0, 0, 0, 7, 3, 0, 2, 0, 0, 0, 2,
+    12, 0, 0, 0, 2, 0, 0, 0, 0, 0, 0, 1, 244, 255, 255, 254, 212, 2, 0, 2, 0, 0, 0, 2, 0, 0, 1,
+    244, 255, 255, 254, 212, 15, 0, 0, 0, 2, 0, 0, 0, 7, 0, 1, 255, 255, 254, 212, 12, 0, 0, 0, 2,
+    0, 0, 0, 7, 0, 0, 1, 244, 255, 255, 254, 212, 16, 0, 0, 0, 4, 0, 0, 0, 7, 3, 0, 2, 0, 0, 0, 4,
 ];
 
-/// An agent comes back with number 3 and the offer of 5 and -3 watts, and sends its bid again.
-const COMES_BACK: &[u8] = &[12, 0, 0, 0, 3, 0, 0, 0, 7, 0, 0, 0, 5, 255, 255, 255, 253];
+/// An agent comes back with number 4 and the offer of 5 and -3 watts, and sends its bid again.
+const COMES_BACK: &[u8] = &[12, 0, 0, 0, 4, 0, 0, 0, 7, 0, 0, 0, 5, 255, 255, 255, 253];
 
-const BID_AGAIN: &[u8] = &[2, 0, 2, 0, 0, 0, 3, 0, 0, 0, 5, 255, 255, 255, 253];
+const BID_AGAIN: &[u8] = &[2, 0, 2, 0, 0, 0, 4, 0, 0, 0, 5, 255, 255, 255, 253];
 
 /// The fault of a frame behind Hello.
 const FAULT: &[u8] = &[8, 0, 0, 0, 0, 0, 0, 0, 11];

@@ -20,7 +20,7 @@ pub returns-clause-few : goal.returns-clause-few
 returns-clause-few c agent window = few_kept agent window
 
 pub returns-clause-given : goal.returns-clause-given
-returns-clause-given c agent price window newer above within = gives agent price window newer above within
+returns-clause-given c agent price window newer above given = gives agent price window newer above given
 
 pub returns-clause-membership : goal.returns-clause-membership
 returns-clause-membership c lists p d count index agent is = of_membership lists p d count index agent is

@@ -21,3 +21,11 @@ returns-clause-joined_again c = refl
 pub returns-clause-again : goal.returns-clause-again
 unfolding parent is_leaf is_member changes update all_to is_new_bid is_caught_up has_news can_send sent_down can_clear is_new_price names_a_bid add_to
 returns-clause-again c = refl
+
+pub returns-clause-let_go : goal.returns-clause-let_go
+unfolding parent is_leaf is_member changes update all_to is_new_bid is_caught_up has_news can_send sent_down can_clear is_new_price names_a_bid add_to
+returns-clause-let_go c = (refl, refl, refl)
+
+pub returns-clause-back : goal.returns-clause-back
+unfolding parent is_leaf is_member changes update all_to is_new_bid is_caught_up has_news can_send sent_down can_clear is_new_price names_a_bid add_to
+returns-clause-back c = refl

@@ -5,7 +5,7 @@ use Rattle.pm_net_plan.proofs.PlanPlaces.{goes}
 use Rattle.pm_net_plan.proofs.places.plans_price_networks.Goals as goal
 
 pub returns-clause-goes : goal.returns-clause-goes
-returns-clause-goes c plan limits is_plan good = goes plan is_plan limits good
+returns-clause-goes c plan limits is_plan never good = goes plan is_plan never limits good
 
 pub returns-clause-prices : goal.returns-clause-prices
 returns-clause-prices c plan limits net s x k is_plan agrees node lt = ap (λ (q : PriceMessage). q.step) (agrees.prices_sent x k node lt).1

@@ -11,7 +11,7 @@ invariant_of-self c =
     let window = c.self.invariant.window in
     let new = c.new.result in
     let old = c.self.inside.offers.items in
-    let number : new.number ≡ window.first + length old = ap (λ (o : Offer). o.number) c.new.ensures ∙ sym window.to_last in
+    let number : new.number ≡ window.first + (length old + length old) = ap (λ (o : Offer). o.number) c.new.ensures ∙ sym window.to_last in
     record {
       window = record {
         first = window.first;

@@ -1,12 +1,12 @@
 -- Of `Relay::look_for_record`: what the type keeps.
 use Rattle.std.proofs.Common.{arith}
-use Rattle.pm_concentrator.specs.Concentrators.{BidMade}
+use Rattle.pm_concentrator.specs.Concentrators.{BidSettled}
 use Rattle.pm_relay.proofs.Gathering.{parts_of, over_bid, over_answer, when_ok}
 use Rattle.pm_relay.proofs.relay.Relay.look_for_record.Goals as goal
 
 pub invariant_of-self-then-self : goal.invariant_of-self-then-self
 invariant_of-self-then-self c =
-    let made = when_ok (BidMade c.self.inside.concentrator c.next_bid.new.self) c.next_bid.result c.if-is_err.ensures.negation c.next_bid.ensures.made in
+    let made = when_ok (BidSettled c.self.inside.concentrator c.next_settled_bid.new.self) c.next_settled_bid.result c.if-is_err.ensures.negation c.next_settled_bid.ensures.made in
     let right = over_answer _ _ 1 (over_bid _ _ made.0 (parts_of _ c.self.invariant) made.1 c.cache-cache.ensures.sound) c.answer.ensures.passed in
     record {
       children = right.children;
@@ -22,7 +22,7 @@ invariant_of-self-then-self c =
 
 pub invariant_of-self-else-self : goal.invariant_of-self-else-self
 invariant_of-self-else-self c =
-    let made = when_ok (BidMade c.self.inside.concentrator c.next_bid.new.self) c.next_bid.result c.if-is_err.ensures.negation c.next_bid.ensures.made in
+    let made = when_ok (BidSettled c.self.inside.concentrator c.next_settled_bid.new.self) c.next_settled_bid.result c.if-is_err.ensures.negation c.next_settled_bid.ensures.made in
     let right = over_bid _ _ made.0 (parts_of _ c.self.invariant) made.1 c.cache-cache.ensures.sound in
     record {
       children = right.children;

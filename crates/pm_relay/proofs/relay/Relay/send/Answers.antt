@@ -2,7 +2,7 @@
 use Rattle.std.proofs.Common.{rules, ◌≡◌, ◌∙◌, ap, subst, ℕ, ◌+◌, length, Some, refl, arith}
 use Rattle.pm_base.specs.Limits.{most_nodes}
 use Rattle.pm_cache.specs.Cache.{Cache}
-use Rattle.pm_concentrator.specs.Concentrators.{BidMade}
+use Rattle.pm_concentrator.specs.Concentrators.{BidSettled}
 use Rattle.pm_relay.specs.Numbers.{head_number}
 use Rattle.pm_relay.specs.Relays.{RelayValue, BidSent, newest_bid_number}
 use Rattle.pm_relay.proofs.Gathering.{parts_of, over_bid}
@@ -29,7 +29,7 @@ returns-clause-sent c =
     let made = c.in-Ok.ensures.made in
     let right = over_bid _ _ _ (parts_of _ c.self.invariant) made c.cache.ensures.sound in
     let old = c.self.inside.concentrator in
-    let new = c.next_bid.new.self in
+    let new = c.next_settled_bid.new.self in
     let heads : c.heads.result.now ≡ old.cache.heads = c.heads.ensures.heads ∙ ap (λ (k : Cache). k.heads) (c.cache.ensures.cache ∙ made.cache) in
     let children : length c.heads.result.now ≡ most_nodes = ap length heads ∙ c.self.invariant.children in
     subst (λ (r : RelayValue). BidSent r (record {
@@ -42,7 +42,7 @@ returns-clause-sent c =
       caught_up = search rules;
       room = omega (arith, c.last-last.ensures, ap newest_bid_number c.self.view_is, c.if-last-self-ge-WINDOW_SIZE.false);
       number = omega (arith, c.last-last.ensures, ap newest_bid_number c.self.view_is);
-      made = subst (λ (n : ℕ). BidMade old new n) made.number made;
+      made = subst (λ (n : ℕ). BidSettled old new n) made.number made;
       announced = right.announced ∙ ap Some made.demand;
       numbers = λ child inside. c.note_numbers.ensures.noted child (omega (arith, inside, children)) ∙ ap (λ l. head_number l child) heads;
       children = c.note_numbers.ensures.same_length;

@@ -1,0 +1,45 @@
+-- The call `expire` of a relay or a root, of which two calls of the system are made.
+use Rattle.std.specs.Prelude.{◌≡◌, ℕ, ◌≤◌, true, false, [], ◌∷◌, None}
+use Rattle.pm_bid.specs.Bids.{zeros}
+use Rattle.pm_market.specs.Lists.{Lists, parent, is_member, changes, IsLeaf}
+use Rattle.pm_net.specs.Pricing.{Pricing}
+use Rattle.pm_net.specs.Messages.{bid_message}
+use Rattle.pm_net_plan.specs.Places.{Numbering}
+use Rattle.pm_relay.specs.Numbers.{known_number, parents_number}
+use Rattle.pm_relay.specs.Relays.{RelayValue, with_child_bid, LooksForRecord}
+use Rattle.pm_relay.specs.Roots.{RootValue, with_root_bid, LooksForClearing}
+use Rattle.pm_system.specs.System.{System, with_root, with_relay, with_bid_sent}
+use Rattle.pm_system.specs.Calls.{Expires, TakesBid, SystemRuns}
+
+-- the number under which the parent of a device lets it go is one under which it is no member
+pub record MayExpire (lists : Lists) (d number : ℕ) : Type 0 where
+  pub leaf : IsLeaf lists d
+  pub absent : is_member lists d number ≡ false
+  pub has_next : number ≤ changes lists d
+
+-- the relay above device d lets it go, as the contract of the call says
+pub record RelayExpires (lists : Lists) (p : Pricing) (numbering : Numbering) (sys : System) (d : ℕ) (new : System) : Type 0 where
+  pub below : parent lists d ≡ 0 → ⊥
+  pub number : ℕ
+  pub number_is : number ≡ parents_number (known_number (sys.relays (parent lists d)).recorded (sys.relays (parent lists d)).gathered.cache.heads
+      (numbering.place d))
+  pub may : MayExpire lists d number
+  pub relay : RelayValue
+  pub gone : LooksForRecord (with_child_bid (sys.relays (parent lists d)) (numbering.place d) number None) relay
+  pub new_is : new ≡ with_relay (with_bid_sent sys d (bid_message number true (zeros p.steps))) (parent lists d) relay
+
+-- the root lets it go
+pub record RootExpires (lists : Lists) (p : Pricing) (numbering : Numbering) (sys : System) (d : ℕ) (new : System) : Type 0 where
+  pub below : parent lists d ≡ 0
+  pub number : ℕ
+  pub number_is : number ≡ parents_number (known_number sys.root.recorded sys.root.auction.cache.heads (numbering.place d))
+  pub may : MayExpire lists d number
+  pub root : RootValue
+  pub gone : LooksForClearing (with_root_bid sys.root (numbering.place d) number None) root
+  pub new_is : new ≡ with_root (with_bid_sent sys d (bid_message number true (zeros p.steps))) root
+
+-- it is what two calls do: a number is given for the device, and its parent takes the bid of that number
+pub record AreTwoCalls (lists : Lists) (p : Pricing) (numbering : Numbering) (sys : System) (d : ℕ) (new : System) : Type 0 where
+  pub number : ℕ
+  pub place : ℕ
+  pub runs : SystemRuns lists p numbering sys (Expires d number ∷ TakesBid d place ∷ []) new
