@@ -13,7 +13,7 @@ use Rattle.pm_laws.proofs.Numbers.{cleared_is_part}
 use Rattle.pm_laws.proofs.Published.{due_within}
 use Rattle.pm_laws.proofs.Quiet.{in_zero}
 use Rattle.pm_net.specs.Pricing.{Pricing, GoesByNodes}
-use Rattle.pm_net.specs.Messages.{PriceMessage}
+use Rattle.pm_net.specs.Messages.{PriceMessage, price_message}
 use Rattle.pm_net.specs.Network.{Network, sent_bid, sent_price}
 use Rattle.pm_net.specs.Running.{is_new_bid, can_send, can_clear}
 use Rattle.pm_net.specs.Restarts.{can_rebuild, can_resend, can_pass_to_one, can_tell_one}
@@ -264,14 +264,20 @@ told_run lists law one p by (e ∷ es) devices s agree d leaf told runs =
     told_run lists law one p by es (devices_step lists p devices e) (after_from lists s first.moves) first.agree d leaf
     (told_step lists law one p by devices s agree d leaf told e runs.0) runs.1
 
--- in a settled network the control of each member was told what is current
-pub told_now : (lists : Lists) → Lawful lists → phases lists ≡ 1 → (p : Pricing) → GoesByNodes lists p → (events : List Event) (d : ℕ) →
-    IsLeaf lists d →
-    RunsOn d events → IsSettledNetwork lists (devices_after lists p (start_devices p) events).net →
+-- where d holds the price of the newest clearing, and that is over all numbers, its control was told what is current
+pub told_where_held : (lists : Lists) (law : Lawful lists) (one : phases lists ≡ 1) (p : Pricing) (by : GoesByNodes lists p) (events : List Event) (d : ℕ) →
+    IsLeaf lists d → RunsOn d events →
+    (devices_after lists p (start_devices p) events).net.taken d
+    ≡ price_message ((devices_after lists p (start_devices p) events).net.counts d) (clearings (after_from lists start (run_from_start lists law one p by events).moves))
+    (p.local (devices_after lists p (start_devices p) events).net.counts d) →
+    ((e : ℕ) → IsLeaf lists e →
+    cleared_cut (after_from lists start (run_from_start lists law one p by events).moves)
+    (clearings (after_from lists start (run_from_start lists law one p by events).moves)) e
+    ≡ (devices_after lists p (start_devices p) events).net.counts e) →
     is_member lists d ((devices_after lists p (start_devices p) events).net.counts d) ≡ true →
     ((devices_after lists p (start_devices p) events).agents d).number ≡ (devices_after lists p (start_devices p) events).net.counts d →
     IsToldNow p (devices_after lists p (start_devices p) events) d
-told_now lists law one p by events d leaf runs settled member own =
+told_where_held lists law one p by events d leaf runs held counted member own =
     let devices : Devices = devices_after lists p (start_devices p) events in
     let goes = run_from_start lists law one p by events in
     let s : State = after_from lists start goes.moves in
@@ -279,7 +285,6 @@ told_now lists law one p by events d leaf runs settled member own =
     let node : IsNode lists d = leaf_node lists law d leaf in
     let told : IsTold lists devices d = told_run lists law one p by events (start_devices p) start
     (agree_at_start lists law p by) d leaf (λ is mem some. absurd (omega (arith, some))) runs in
-    let held = all_held lists law p by devices.net s agree.agrees settled d leaf member in
     let number_is : (devices.net.taken d).number ≡ (devices.agents d).number = ap (λ (q : PriceMessage). q.number) held
     ∙ sym own in
     let some : 0 < (devices.net.taken d).index = elim (agree.agrees.taken d node) [
@@ -291,8 +296,6 @@ told_now lists law one p by events d leaf runs settled member own =
     let setpoint : Setpoint = get_or (devices.setpoints d) got.0 no_setpoint in
     let right : IsRight lists p s d setpoint = agree.setpoints d leaf got.0 no_setpoint got.1 in
     let index_is : setpoint.index ≡ clearings s = got.2 ∙ ap (λ (q : PriceMessage). q.index) held in
-    let counted : (e : ℕ) → IsLeaf lists e → cleared_cut s (clearings s) e ≡ devices.net.counts e =
-    λ e e_leaf. all_counted lists law p by devices.net s agree.agrees settled e e_leaf in
     let is_number : setpoint.number ≡ devices.net.counts d = right.number ∙ ap (λ (j : ℕ). cleared_cut s j d) index_is ∙ counted d leaf in
     let is_step : setpoint.step ≡ p.local devices.net.counts d =
     right.step ∙ ap (λ (j : ℕ). p.local (cleared_cut s j) d) index_is
@@ -304,3 +307,18 @@ told_now lists law one p by events d leaf runs settled member own =
       right.power ∙ ap (λ (n : ℕ). get_or (p.demand d n) setpoint.step (pos 0)) is_number
           ∙ ap (λ (n : ℕ). get_or (p.demand d (devices.net.counts d)) n (pos 0)) is_step,
     )
+
+-- in a settled network the control of each member was told what is current
+pub told_now : (lists : Lists) → Lawful lists → phases lists ≡ 1 → (p : Pricing) → GoesByNodes lists p → (events : List Event) (d : ℕ) →
+    IsLeaf lists d →
+    RunsOn d events → IsSettledNetwork lists (devices_after lists p (start_devices p) events).net →
+    is_member lists d ((devices_after lists p (start_devices p) events).net.counts d) ≡ true →
+    ((devices_after lists p (start_devices p) events).agents d).number ≡ (devices_after lists p (start_devices p) events).net.counts d →
+    IsToldNow p (devices_after lists p (start_devices p) events) d
+told_now lists law one p by events d leaf runs settled member own =
+    let devices : Devices = devices_after lists p (start_devices p) events in
+    let goes = run_from_start lists law one p by events in
+    let s : State = after_from lists start goes.moves in
+    told_where_held lists law one p by events d leaf runs
+    (all_held lists law p by devices.net s goes.agree.agrees settled d leaf member)
+    (λ e e_leaf. all_counted lists law p by devices.net s goes.agree.agrees settled e e_leaf) member own

@@ -134,8 +134,8 @@ module _ (lists : Lists) (p : Pricing) (numbering : Numbering) (calls : List Nod
 
 -- the call of a relay
 pub relay_expires : (lists : Lists) (p : Pricing) (numbering : Numbering) (calls : List NodeCall) (sys new : System) (d : ℕ) →
-    IsTreeMarket lists p numbering → RunsTheMarket lists p numbering calls sys → RelayExpires lists p numbering sys d new →
-    AreTwoCalls lists p numbering sys d new
+    IsTreeMarket lists p numbering → RunsTheMarket lists p numbering calls sys → (did : RelayExpires lists p numbering sys d new) →
+    AreTwoCalls lists p numbering sys d did.number new
 relay_expires lists p numbering calls sys new d market has did =
     let leaf : IsLeaf lists d = did.may.leaf in
     let y : ℕ = parent lists d in
@@ -156,7 +156,6 @@ relay_expires lists p numbering calls sys new d market has did =
       new_is = did.new_is;
     } in
     record {
-      number = did.number;
       place = length (sys.bids_sent d);
       runs = (
         mid lists p numbering calls sys market has d leaf did.number its did.may,
@@ -167,8 +166,8 @@ relay_expires lists p numbering calls sys new d market has did =
 
 -- and that of a root
 pub root_expires : (lists : Lists) (p : Pricing) (numbering : Numbering) (calls : List NodeCall) (sys new : System) (d : ℕ) →
-    IsTreeMarket lists p numbering → RunsTheMarket lists p numbering calls sys → RootExpires lists p numbering sys d new →
-    AreTwoCalls lists p numbering sys d new
+    IsTreeMarket lists p numbering → RunsTheMarket lists p numbering calls sys → (did : RootExpires lists p numbering sys d new) →
+    AreTwoCalls lists p numbering sys d did.number new
 root_expires lists p numbering calls sys new d market has did =
     let leaf : IsLeaf lists d = did.may.leaf in
     let m = has.is.root.matches in
@@ -191,7 +190,6 @@ root_expires lists p numbering calls sys new d market has did =
       new_is = did.new_is;
     } in
     record {
-      number = did.number;
       place = length (sys.bids_sent d);
       runs = (
         mid lists p numbering calls sys market has d leaf did.number its did.may,

@@ -13,3 +13,7 @@ pub mod Rising
 pub mod Settling
 pub mod Frames
 mod Expiring
+pub mod Worked
+pub mod WorkedGiven
+mod WorkedEnd
+mod Reached

@@ -39,7 +39,6 @@ pub record RootExpires (lists : Lists) (p : Pricing) (numbering : Numbering) (sy
   pub new_is : new ≡ with_root (with_bid_sent sys d (bid_message number true (zeros p.steps))) root
 
 -- it is what two calls do: a number is given for the device, and its parent takes the bid of that number
-pub record AreTwoCalls (lists : Lists) (p : Pricing) (numbering : Numbering) (sys : System) (d : ℕ) (new : System) : Type 0 where
-  pub number : ℕ
+pub record AreTwoCalls (lists : Lists) (p : Pricing) (numbering : Numbering) (sys : System) (d number : ℕ) (new : System) : Type 0 where
   pub place : ℕ
   pub runs : SystemRuns lists p numbering sys (Expires d number ∷ TakesBid d place ∷ []) new

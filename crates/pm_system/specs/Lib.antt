@@ -6,3 +6,4 @@ pub mod Settled
 pub mod Frames
 pub mod Flow
 pub mod Expiry
+pub mod Worked

@@ -1,6 +1,7 @@
 -- A system in which everything was taken and nothing new can be sent, and what is current then.
-use Rattle.std.specs.Prelude.{◌≡◌, ℕ, ◌<◌, ◌≤◌, false, true, pos, if◌then◌else◌, ◌==◌, List, length, slice_index_or}
+use Rattle.std.specs.Prelude.{◌≡◌, ◌⊎◌, ℕ, ◌<◌, ◌≤◌, false, true, pos, if◌then◌else◌, ◌==◌, List, length, slice_index_or}
 use Rattle.std.specs.List.{All, Contains}
+use Rattle.pm_bid.specs.declared.head.BidHead.{BidHead}
 use Rattle.pm_cache.specs.Cache.{child_head, kept_number}
 use Rattle.pm_market.specs.Lists.{Lists, parent, is_leaf, is_member, IsNode, IsLeaf, IsConcentrator}
 use Rattle.pm_net.specs.Pricing.{Pricing}
@@ -52,6 +53,28 @@ pub record IsSettledSystem (lists : Lists) (numbering : Numbering) (sys : System
   pub relays : (c : ℕ) → IsConcentrator lists c → HasNothingToSend (sys.relays c)
   pub root : HasNothingToClear sys.root
 
+-- ---- reached by the newest clearing
+
+-- the head that its parent holds of x
+abbrev pub head_held : Lists → Numbering → System → ℕ → BidHead
+head_held lists numbering sys x =
+    if parent lists x == 0 then child_head sys.root.auction.cache (numbering.place x)
+    else child_head (sys.relays (parent lists x)).gathered.cache (numbering.place x)
+
+-- its parent counts x: a device that is not gone there, or a relay of which it holds a bid
+abbrev pub CountsAtParent : Lists → Numbering → System → ℕ → Type 0
+CountsAtParent lists numbering sys x =
+    (IsLeaf lists x × ((head_held lists numbering sys x).gone ≡ false))
+    ⊎ (IsConcentrator lists x × (1 ≤ (head_held lists numbering sys x).number))
+
+-- The same of bids; but of prices, whatever was sent, only that each node which its parent counts took one of the newest clearing.
+pub record IsReachedSystem (lists : Lists) (numbering : Numbering) (sys : System) : Type 0 where
+  pub bids : (x : ℕ) → IsNode lists x → number_made lists sys x ≤ number_held lists numbering sys x
+  pub expired : (d : ℕ) → IsLeaf lists d → All (λ (bid : BidMessage). bid.number ≤ number_held lists numbering sys d) (sys.bids_sent d)
+  pub reached : (x : ℕ) → IsNode lists x → CountsAtParent lists numbering sys x → newest_index sys.root ≤ index_of_held lists sys x
+  pub relays : (c : ℕ) → IsConcentrator lists c → HasNothingToSend (sys.relays c)
+  pub root : HasNothingToClear sys.root
+
 -- ---- current
 
 -- The number under which each device is counted by its parent: that of the newest bid which it made, or a later one under which
@@ -80,6 +103,8 @@ pub record WasTold (p : Pricing) (sys : System) (counted : ℕ → ℕ) (d : ℕ
 pub record IsCurrentSystem (lists : Lists) (p : Pricing) (numbering : Numbering) (calls : List NodeCall) (sys : System) : Type 0 where
   pub counted : (d : ℕ) → IsLeaf lists d → is_member lists d (numbers_counted lists numbering sys d) ≡ true →
       numbers_counted lists numbering sys d ≡ (sys.agents d).number
+  pub not_gone : (d : ℕ) → IsLeaf lists d → is_member lists d (numbers_counted lists numbering sys d) ≡ true →
+      (head_held lists numbering sys d).gone ≡ false
   pub held : (d : ℕ) → IsLeaf lists d → is_member lists d (numbers_counted lists numbering sys d) ≡ true →
       HoldsNewestBid p sys (numbers_counted lists numbering sys) d
   pub told : (d : ℕ) → IsLeaf lists d → is_member lists d (numbers_counted lists numbering sys d) ≡ true → StaysUp d calls →

@@ -16,10 +16,11 @@ ghost use Rattle.pm_system.specs.System.{System};
 ghost use Rattle.pm_system.specs.Calls.{NodeCall, Does, SystemRuns, IsNoRestart, StaysUp};
 ghost use Rattle.pm_system.specs.Given.{IsTreeMarket, IsGiven, placed_pricing, IsStarted};
 ghost use Rattle.pm_system.specs.Market.{RunsTheMarket, KeepsTheLaw};
-ghost use Rattle.pm_system.specs.Settled.{index_of_held, numbers_counted, IsSettledSystem, IsCurrentSystem};
+ghost use Rattle.pm_system.specs.Settled.{index_of_held, numbers_counted, IsSettledSystem, IsReachedSystem, IsCurrentSystem};
 ghost use Rattle.pm_system.specs.Flow.{FlowsIn, TakeWhatWasTold};
 ghost use Rattle.pm_system.specs.Expiry.{RelayExpires, RootExpires, AreTwoCalls};
 ghost use Rattle.pm_system.specs.Frames.{AreSent};
+ghost use Rattle.pm_system.specs.Worked.{Settles};
 
 use pm_control::agents_come_back;
 
@@ -48,12 +49,12 @@ pub fn systems_run_the_market()
 pub fn expiring_is_two_calls()
     ensures relay { (lists : Lists) (p : Pricing) (numbering : Numbering) (calls : List NodeCall)
         (sys new : System) (d : ℕ) → IsTreeMarket lists p numbering →
-        RunsTheMarket lists p numbering calls sys → RelayExpires lists p numbering sys d new →
-        AreTwoCalls lists p numbering sys d new }
+        RunsTheMarket lists p numbering calls sys → (did : RelayExpires lists p numbering sys d new) →
+        AreTwoCalls lists p numbering sys d did.number new }
     ensures root { (lists : Lists) (p : Pricing) (numbering : Numbering) (calls : List NodeCall)
         (sys new : System) (d : ℕ) → IsTreeMarket lists p numbering →
-        RunsTheMarket lists p numbering calls sys → RootExpires lists p numbering sys d new →
-        AreTwoCalls lists p numbering sys d new }
+        RunsTheMarket lists p numbering calls sys → (did : RootExpires lists p numbering sys d new) →
+        AreTwoCalls lists p numbering sys d did.number new }
 {}
 
 /// A law: nobody goes back, except over its own restart. No call lowers the index of the price that a node holds; a restart
@@ -74,17 +75,22 @@ pub fn systems_do_not_go_back()
 /// newest number by which it let the child go, each node took the newest price that was sent to it, the root sent the price of
 /// its newest clearing to each child that is not gone, and no node has anything new to send. Then the newest clearing is over
 /// the newest bid of each device that was not let go since: each such member holds its price, under its own newest number and
-/// with its local step. The control of a member that did not restart was told so. If all below a relay take what they were told
+/// with its local step. The control of a member that did not restart was told so. Of prices it is enough that each node which
+/// its parent counts took one of the newest clearing, whatever else was sent. If all below a relay take what they were told
 /// so, and who is no member takes nothing, they take together what the relay announced.
 pub fn settled_systems_are_current()
     ensures current { (lists : Lists) (p : Pricing) (numbering : Numbering) (calls : List NodeCall)
         (sys : System) → IsTreeMarket lists p numbering →
         RunsTheMarket lists p numbering calls sys → IsSettledSystem lists numbering sys →
         IsCurrentSystem lists p numbering calls sys }
+    ensures reached { (lists : Lists) (p : Pricing) (numbering : Numbering) (calls : List NodeCall)
+        (sys : System) → IsTreeMarket lists p numbering →
+        RunsTheMarket lists p numbering calls sys → IsReachedSystem lists numbering sys →
+        IsCurrentSystem lists p numbering calls sys }
     ensures flows { (lists : Lists) (p : Pricing) (numbering : Numbering) (sys : System) →
         IsTreeMarket lists p numbering →
         FlowsIn lists p (numbers_counted lists numbering sys)
-            (TakeWhatWasTold lists p (numbers_counted lists numbering sys) sys) }
+        (TakeWhatWasTold lists p (numbers_counted lists numbering sys) sys) }
 {}
 
 /// A law: each message that was ever sent fits a frame. A bid has a number above 0, and a demand for each step that never rises
@@ -94,6 +100,15 @@ pub fn systems_send_frames()
     ensures { (lists : Lists) (p : Pricing) (numbering : Numbering) (sys new : System)
         (calls : List NodeCall) → IsTreeMarket lists p numbering → IsStarted lists p sys →
         SystemRuns lists p numbering sys calls new → AreSent lists p new }
+{
+    // The call tells a fact: an agent that comes back with what it stored is the agent after a restart in the network.
+    agents_come_back();
+}
+
+/// A law: there are settled systems. In a worked one a price is lost, one comes twice, and a relay is killed between its Resume and
+/// its bid; the calls run from a started system into a settled one. So it is current; and these are its prices and powers.
+pub fn a_small_system_settles()
+    ensures { Settles }
 {
     // The call tells a fact: an agent that comes back with what it stored is the agent after a restart in the network.
     agents_come_back();

@@ -1,0 +1,809 @@
+-- The lives of the nodes of a market are a run of a system.
+use Rattle.std.proofs.Common.{◌≡◌, ◌⊎◌, ◌∙◌, sym, ap, subst, ℕ, ◌+◌, ◌-◌, ◌<◌, ◌≤◌, ◌^◌, Bool, true, false, List, [], ◌∷◌, ◌++◌, length, take, Option, Some, None, refl, inl, inr, arith, append-nil, append_assoc}
+use Rattle.std.proofs.lemmas.Bool.{cases_Bool, cases_eq, both_ways}
+use Rattle.std.specs.List.{Contains}
+use Rattle.pm_market.specs.Lists.{Lists, IsNode, IsLeaf, IsConcentrator}
+use Rattle.pm_market.specs.State.{update}
+use Rattle.pm_market.proofs.Cuts.{updated_same, updated_other}
+use Rattle.pm_market.proofs.Tree.{leaf_node}
+use Rattle.pm_session.specs.declared.price.PriceUpdate.{PriceUpdate}
+use Rattle.pm_net.specs.Pricing.{Pricing}
+use Rattle.pm_net.specs.Messages.{BidMessage, PriceMessage, price_message}
+use Rattle.pm_net.specs.Agents.{Setpoint, DeviceAgent, new_agent, may_offer}
+use Rattle.pm_net_plan.specs.Places.{Numbering}
+use Rattle.pm_control.specs.Control.{newest_demand, agent_stored}
+use Rattle.pm_wire.specs.declared.frame.Frame.TheVariants.{Hello, Bid, Gone, Clear}
+use Rattle.pm_relay.specs.Numbers.{known_number, parents_number}
+use Rattle.pm_relay.specs.Relays.{RelayValue, newest_bid_number}
+use Rattle.pm_relay.specs.Roots.{RootValue}
+use Rattle.pm_frames.specs.Stored.{StoredRelay, StoredRoot}
+use Rattle.pm_frames.specs.declared.stored.StoredAgent.{StoredAgent}
+use Rattle.pm_frames.specs.declared.parent.ParentFrame.TheVariants.{Price, Old}
+use Rattle.pm_frames.specs.declared.relay.RelayFrame.{RelayFrame}
+use Rattle.pm_frames.specs.declared.relay.RelayFrame.TheVariants.{Child, Parent, Send, Expire, Resume}
+use Rattle.pm_frames.specs.declared.root.RootFrame.{RootFrame}
+use Rattle.pm_frames.specs.declared.root.RootFrame.TheVariants as root_frame
+use Rattle.pm_frames.specs.declared.device.DeviceFrame.{DeviceFrame}
+use Rattle.pm_frames.specs.declared.device.DeviceFrame.TheVariants as device_frame
+use Rattle.pm_services.specs.DeviceAnswers.{open_agent_after}
+use Rattle.pm_system.specs.System.{System, with_relay, with_root, with_agent}
+use Rattle.pm_system.specs.Calls.{NodeCall, SystemRuns, StaysUp}
+use Rattle.pm_system.specs.Given.{IsTreeMarket, IsStarted}
+use Rattle.pm_system.specs.Market.{RunsTheMarket, KeepsTheLaw}
+use Rattle.pm_system.proofs.Moving.{relay_no_leaf, relay_no_root}
+use Rattle.pm_lives.specs.Outputs.{Output, WereSent, PriceWasSent}
+use Rattle.pm_lives.specs.Moves.{OnlyMoves}
+use Rattle.pm_lives.specs.RelayLife.{UpdateWasSent, RelayStands, IsKept, CarriesBid, CarriesExpire, RelayMayRead}
+use Rattle.pm_lives.specs.RootLife.{IsRootKept, RootMayRead}
+use Rattle.pm_lives.specs.DeviceLife.{AgentStands, IsAgentKept, IsGivenOffer, IsGivenLeaving, DeviceMayRead}
+use Rattle.pm_lives.specs.DeviceWrites.{device_outs}
+use Rattle.pm_lives.specs.Lives as lives
+use Rattle.pm_lives.specs.Lives.{no_agent_stored}
+use Rattle.pm_lives.specs.Moves.{lets_none}
+use Rattle.pm_lives.specs.RelayLife.{RelayLets}
+use Rattle.pm_lives.specs.RootLife.{RootLets}
+use Rattle.pm_lives.specs.DeviceLife.{told_of}
+use Rattle.pm_lives.specs.Lives.{let_go_by_relay, let_go_by_root}
+use Rattle.pm_lives.proofs.Giving.{calm_gives, known_run}
+use Rattle.pm_lives.proofs.Telling.{BidsKnown, known_next, restart_silent, answer_told, relay_rises, relay_lets, root_rises, root_lets}
+use Rattle.pm_lives.proofs.Handing.{handed_told, handed_untold}
+use Rattle.pm_lives.proofs.Staying.{still}
+use Rattle.pm_lives.specs.Lives.{World, AllIn, LivesAreCalls, handed_out, stored_last, RelayBegins, RelayReads, RootBegins, RootReads, DeviceBegins, DeviceReads, LifeStep, Lives1, Live, IsNewWorld, LivesKeepTheLaw, restart_outs}
+use Rattle.pm_lives.specs.Lives.{RelayUp, Relay, RootUp, Root, DeviceUp, Device}
+use Rattle.pm_lives.proofs.After.{runs_on, up_on, calm_up}
+use Rattle.pm_lives.proofs.RelayMoves.{ExpiringIsTwoCalls, relay_answers, of_price_stays, update_stays}
+use Rattle.pm_lives.proofs.RootMoves.{RootExpiringIsTwoCalls, root_answers}
+use Rattle.pm_lives.proofs.DeviceMoves.{device_answers, index_stays}
+use Rattle.pm_lives.proofs.Handing.{all_in_then, handed_in, handed_values, stored_may}
+use Rattle.pm_lives.proofs.Beginning.{relay_begins, root_begins, device_begins, within_stored}
+
+-- ---- the world stands for a system
+
+pub record RelayOk (sys : System) (c : ℕ) (up : Bool) (relay : RelayValue) (waiting : Option PriceUpdate) (stored : StoredRelay) : Type 0 where
+  pub kept : IsKept sys c stored
+  pub stands : up ≡ true → RelayStands sys c (record { relay = relay; waiting = waiting })
+
+pub record RootOk (sys : System) (up : Bool) (root : RootValue) (stored : StoredRoot) : Type 0 where
+  pub kept : IsRootKept sys stored
+  pub stands : up ≡ true → sys.root ≡ root
+
+pub record AgentOk (sys : System) (d : ℕ) (up : Bool) (agent : DeviceAgent) (stored : StoredAgent) : Type 0 where
+  pub kept : IsAgentKept sys d stored
+  pub stands : up ≡ true → AgentStands sys d agent
+  -- no process of it ran yet
+  pub fresh : up ≡ false → (sys.agents d ≡ new_agent) × (stored ≡ no_agent_stored)
+
+abbrev pub RelayOkIn : System → World → ℕ → Type 0
+RelayOkIn sys world c = RelayOk sys c (world.up c) (world.seen.relays c) (world.waiting c) (world.relay_kept c)
+
+abbrev pub RootOkIn : System → World → Type 0
+RootOkIn sys world = RootOk sys (world.up 0) world.seen.root world.root_kept
+
+abbrev pub AgentOkIn : System → World → ℕ → Type 0
+AgentOkIn sys world d = AgentOk sys d (world.up d) (world.seen.agents d) (world.agent_kept d)
+
+-- each process that runs is a node of the system, what is stored of each node may be, and what was handed out was sent
+pub record WorldStands (lists : Lists) (p : Pricing) (world : World) (sys : System) : Type 0 where
+  pub relays : (c : ℕ) → IsConcentrator lists c → RelayOkIn sys world c
+  pub root : RootOkIn sys world
+  pub agents : (d : ℕ) → IsLeaf lists d → AgentOkIn sys world d
+  pub sent : AllIn lists p world.seen sys
+  -- each control was told what it was told in the system, and each bid of a device is known
+  pub told : (d : ℕ) → IsLeaf lists d → world.seen.setpoints d ≡ sys.setpoints d
+  pub known : (d : ℕ) → IsLeaf lists d → BidsKnown sys world.let_go d
+
+-- ---- the same values
+
+relay_ok_as : (sys : System) (c : ℕ) (up up' : Bool) (r r' : RelayValue) (w w' : Option PriceUpdate) (k k' : StoredRelay) → up' ≡ up → r' ≡ r → w' ≡ w →
+    k' ≡ k → RelayOk sys c up r w k → RelayOk sys c up' r' w' k'
+relay_ok_as sys c up up' r r' w w' k k' e1 e2 e3 e4 ok =
+    subst (λ (x : Bool). RelayOk sys c x r' w' k') (sym e1) (subst (λ (x : RelayValue). RelayOk sys c up x w' k') (sym e2)
+    (subst (λ (x : Option PriceUpdate). RelayOk sys c up r x k') (sym e3) (subst (λ (x : StoredRelay). RelayOk sys c up r w x) (sym e4) ok)))
+
+root_ok_as : (sys : System) (up up' : Bool) (r r' : RootValue) (k k' : StoredRoot) → up' ≡ up → r' ≡ r → k' ≡ k → RootOk sys up r k → RootOk sys up' r' k'
+root_ok_as sys up up' r r' k k' e1 e2 e4 ok =
+    subst (λ (x : Bool). RootOk sys x r' k') (sym e1) (subst (λ (x : RootValue). RootOk sys up x k') (sym e2)
+    (subst (λ (x : StoredRoot). RootOk sys up r x) (sym e4) ok))
+
+agent_ok_as : (sys : System) (d : ℕ) (up up' : Bool) (r r' : DeviceAgent) (k k' : StoredAgent) → up' ≡ up → r' ≡ r → k' ≡ k → AgentOk sys d up r k →
+    AgentOk sys d up' r' k'
+agent_ok_as sys d up up' r r' k k' e1 e2 e4 ok =
+    subst (λ (x : Bool). AgentOk sys d x r' k') (sym e1) (subst (λ (x : DeviceAgent). AgentOk sys d up x k') (sym e2)
+    (subst (λ (x : StoredAgent). AgentOk sys d up r x) (sym e4) ok))
+
+-- ---- elsewhere
+
+relay_elsewhere : (y c : ℕ) (sys new : System) → OnlyMoves y sys new → (c ≡ y → ⊥) → (up : Bool) (r : RelayValue) (w : Option PriceUpdate) (k : StoredRelay) →
+    RelayOk sys c up r w k → RelayOk new c up r w k
+relay_elsewhere y c sys new moves ne up r w k ok =
+    let same : new.relays c ≡ sys.relays c = moves.relays c ne in
+    record {
+      kept = record {
+        last = ok.kept.last ∙ ap newest_bid_number (sym same);
+        numbers = ok.kept.numbers ∙ ap (λ (q : RelayValue). q.recorded) (sym same);
+        price = of_price_stays y sys new moves c k.answered k.index ok.kept.price;
+        older = omega (arith, ok.kept.older, ap (λ (q : RelayValue). q.index) same);
+      };
+      stands = λ e.
+          let was = ok.stands e in
+          record {
+            relay_is = was.relay_is ∙ sym same;
+            waiting = still_waits y c sys new moves w was.waiting;
+            held = of_price_stays y sys new moves c r.answered r.index was.held;
+          };
+    }
+  where
+    still_waits : (y c : ℕ) (sys new : System) → OnlyMoves y sys new → (w : Option PriceUpdate) →
+        Rattle.std.specs.Prelude.IfSome w (UpdateWasSent sys c) → Rattle.std.specs.Prelude.IfSome w (UpdateWasSent new c)
+    still_waits y c sys new moves None is = tt
+    still_waits y c sys new moves (Some price) is = update_stays y sys new moves c price is
+
+root_elsewhere : (y : ℕ) (sys new : System) → OnlyMoves y sys new → (0 ≡ y → ⊥) → (up : Bool) (r : RootValue) (k : StoredRoot) → RootOk sys up r k →
+    RootOk new up r k
+root_elsewhere y sys new moves ne up r k ok =
+    let same : new.root ≡ sys.root = moves.root (λ e. ne (sym e)) in
+    record {
+      kept = record {
+        last = ok.kept.last ∙ ap Rattle.pm_relay.specs.Roots.newest_index (sym same);
+        numbers = ok.kept.numbers ∙ ap (λ (q : RootValue). q.recorded) (sym same);
+      };
+      stands = λ e. same ∙ ok.stands e;
+    }
+
+agent_elsewhere : (y d : ℕ) (sys new : System) → OnlyMoves y sys new → (d ≡ y → ⊥) → (up : Bool) (r : DeviceAgent) (k : StoredAgent) →
+    AgentOk sys d up r k → AgentOk new d up r k
+agent_elsewhere y d sys new moves ne up r k ok =
+    let same : new.agents d ≡ sys.agents d = moves.agents d ne in
+    record {
+      kept = record {
+        number = ok.kept.number ∙ ap (λ (a : DeviceAgent). a.number) (sym same);
+        newest = ok.kept.newest ∙ ap newest_demand (sym same);
+        price = index_stays y sys new moves d k.index ok.kept.price;
+        older = omega (arith, ok.kept.older, ap (λ (a : DeviceAgent). a.index) same);
+      };
+      stands = λ e.
+          let was = ok.stands e in
+          record { agent_is = was.agent_is ∙ sym same; held = index_stays y sys new moves d r.index was.held; within = was.within };
+      fresh = λ e. (same ∙ (ok.fresh e).0, (ok.fresh e).1);
+    }
+
+-- two worlds are the same but for node y and what was handed out
+pub record AgreesBut (y : ℕ) (world new : World) : Type 0 where
+  up : (z : ℕ) → (z ≡ y → ⊥) → new.up z ≡ world.up z
+  relays : (z : ℕ) → (z ≡ y → ⊥) → new.seen.relays z ≡ world.seen.relays z
+  agents : (z : ℕ) → (z ≡ y → ⊥) → new.seen.agents z ≡ world.seen.agents z
+  root : (0 ≡ y → ⊥) → new.seen.root ≡ world.seen.root
+  waiting : (z : ℕ) → (z ≡ y → ⊥) → new.waiting z ≡ world.waiting z
+  relay_kept : (z : ℕ) → (z ≡ y → ⊥) → new.relay_kept z ≡ world.relay_kept z
+  agent_kept : (z : ℕ) → (z ≡ y → ⊥) → new.agent_kept z ≡ world.agent_kept z
+  root_kept : (0 ≡ y → ⊥) → new.root_kept ≡ world.root_kept
+
+stands_but : (lists : Lists) (p : Pricing) (y : ℕ) (world new : World) (sys after : System) → AgreesBut y world new → OnlyMoves y sys after →
+    WorldStands lists p world sys → AllIn lists p new.seen after → (IsConcentrator lists y → RelayOkIn after new y) → (0 ≡ y → RootOkIn after new) →
+    (IsLeaf lists y → AgentOkIn after new y) → ((d : ℕ) → IsLeaf lists d → new.seen.setpoints d ≡ after.setpoints d) →
+    ((d : ℕ) → IsLeaf lists d → BidsKnown after new.let_go d) → WorldStands lists p new after
+stands_but lists p y world new sys after agrees moves stands sent relay root agent told known = record {
+  relays = λ c conc. elim (cases_eq c y) [
+    | inl e ↦ subst (λ (z : ℕ). RelayOkIn after new z) (sym e) (relay (subst (λ (z : ℕ). IsConcentrator lists z) e conc))
+    | inr ne ↦ relay_ok_as after c (world.up c) (new.up c) (world.seen.relays c) (new.seen.relays c) (world.waiting c) (new.waiting c)
+        (world.relay_kept c) (new.relay_kept c) (agrees.up c ne) (agrees.relays c ne) (agrees.waiting c ne) (agrees.relay_kept c ne)
+        (relay_elsewhere y c sys after moves ne (world.up c) (world.seen.relays c) (world.waiting c) (world.relay_kept c) (stands.relays c conc))
+  ];
+  root = elim (cases_eq 0 y) [
+    | inl e ↦ root e
+    | inr ne ↦ root_ok_as after (world.up 0) (new.up 0) world.seen.root new.seen.root world.root_kept new.root_kept (agrees.up 0 ne) (agrees.root ne)
+        (agrees.root_kept ne) (root_elsewhere y sys after moves ne (world.up 0) world.seen.root world.root_kept stands.root)
+  ];
+  agents = λ d leaf. elim (cases_eq d y) [
+    | inl e ↦ subst (λ (z : ℕ). AgentOkIn after new z) (sym e) (agent (subst (λ (z : ℕ). IsLeaf lists z) e leaf))
+    | inr ne ↦ agent_ok_as after d (world.up d) (new.up d) (world.seen.agents d) (new.seen.agents d) (world.agent_kept d) (new.agent_kept d)
+        (agrees.up d ne) (agrees.agents d ne) (agrees.agent_kept d ne)
+        (agent_elsewhere y d sys after moves ne (world.up d) (world.seen.agents d) (world.agent_kept d) (stands.agents d leaf))
+  ];
+  sent = sent;
+  told = told;
+  known = known;
+}
+
+-- ---- what was handed out may be read
+
+module _ (lists : Lists) (p : Pricing) (numbering : Numbering) (seen sys : System) (all : AllIn lists p seen sys) where
+  bid_carried : (y sender number : ℕ) (demand : Option (List Rattle.std.proofs.Common.ℤ)) → CarriesBid lists p numbering seen y sender number demand →
+      CarriesBid lists p numbering sys y sender number demand
+  bid_carried y sender number demand may =
+      let at = all.bids may.x may.place may.node may.inside in
+      record {
+        x = may.x;
+        node = may.node;
+        up = may.up;
+        sender_is = may.sender_is;
+        place = at.place;
+        inside = at.inside;
+        number_is = may.number_is ∙ ap (λ (b : BidMessage). b.number) (sym at.is);
+        demand_is = may.demand_is ∙ ap Rattle.pm_relay_net.specs.RelayIs.told_demand (sym at.is);
+      }
+
+  price_carried : (x : ℕ) (price : PriceMessage) → IsNode lists x → PriceWasSent seen x price → PriceWasSent sys x price
+  price_carried x price node at =
+      let there = all.prices x at.0 node at.1 in
+      (there.0, there.1, there.2 ∙ at.2)
+
+  relay_may : (c : ℕ) → IsConcentrator lists c → seen.relays c ≡ sys.relays c → (frame : RelayFrame) → RelayMayRead lists p numbering seen c frame →
+      RelayMayRead lists p numbering sys c frame
+  relay_may c conc same (Child (Hello basis)) may = tt
+  relay_may c conc same (Child (Bid sender number demand)) may = bid_carried c sender number (Some demand) may
+  relay_may c conc same (Child (Gone sender number)) may = bid_carried c sender number None may
+  relay_may c conc same (Child Clear) may = tt
+  relay_may c conc same (Parent (Price own number index step)) may = price_carried c (price_message number index step) (conc.0, conc.1) may
+  relay_may c conc same (Parent (Old own kept)) may = tt
+  relay_may c conc same Send may = tt
+  relay_may c conc same (Expire sender) may =
+      subst (λ (r : RelayValue). CarriesExpire lists numbering c sender
+      (parents_number (known_number r.recorded r.gathered.cache.heads (sender - 1)))) same may
+  relay_may c conc same (Resume stored) may = may
+
+  root_may : seen.root ≡ sys.root → (frame : RootFrame) → RootMayRead lists p numbering seen frame → RootMayRead lists p numbering sys frame
+  root_may same (root_frame.Market (Hello basis)) may = tt
+  root_may same (root_frame.Market (Bid sender number demand)) may = bid_carried 0 sender number (Some demand) may
+  root_may same (root_frame.Market (Gone sender number)) may = bid_carried 0 sender number None may
+  root_may same (root_frame.Market Clear) may = tt
+  root_may same (root_frame.Expire sender) may =
+      subst (λ (r : RootValue). CarriesExpire lists numbering 0 sender
+      (parents_number (known_number r.recorded r.auction.cache.heads (sender - 1)))) same may
+  root_may same (root_frame.Resume stored) may = may
+
+  device_may : (d : ℕ) → IsNode lists d → seen.agents d ≡ sys.agents d → (frame : DeviceFrame) → DeviceMayRead lists p seen d frame →
+      DeviceMayRead lists p sys d frame
+  device_may d node same (device_frame.Hello basis) may = tt
+  device_may d node same (device_frame.Offer demand) may =
+      subst (λ (a : DeviceAgent). may_offer a ≡ true → Rattle.std.specs.Prelude.nat_lt (a.number + 5) (2 ^ 32) ≡ true →
+      IsGivenOffer lists p d (a.number + 2) demand) same may
+  device_may d node same device_frame.Leave may =
+      subst (λ (a : DeviceAgent). Rattle.std.specs.Prelude.nat_lt (a.number + 3) (2 ^ 32) ≡ true → IsGivenLeaving lists d (a.number + 2)) same may
+  device_may d node same (device_frame.Parent (Price own number index step)) may = price_carried d (price_message number index step) node may
+  device_may d node same (device_frame.Parent (Old own kept)) may =
+      subst (λ (a : DeviceAgent). Rattle.std.specs.Prelude.nat_lt a.number kept ≡ true → Rattle.std.specs.Prelude.nat_lt (a.number + 7) (2 ^ 32) ≡ true → (demand : List Rattle.std.proofs.Common.ℤ) →
+      newest_demand a ≡ Some demand → IsGivenLeaving lists d (a.number + 2)
+      × IsGivenOffer lists p d (a.number + 2 + 2) demand) same may
+  device_may d node same (device_frame.Resume stored) may = may
+
+-- ---- one step
+
+repack_relay : (lists : Lists) (p : Pricing) (seen sys : System) (c : ℕ) (relay : RelayValue) → AllIn lists p seen sys →
+    AllIn lists p (with_relay seen c relay) sys
+repack_relay lists p seen sys c relay all = record { bids = all.bids; prices = all.prices; setpoints = all.setpoints }
+
+repack_root : (lists : Lists) (p : Pricing) (seen sys : System) (root : RootValue) → AllIn lists p seen sys → AllIn lists p (with_root seen root) sys
+repack_root lists p seen sys root all = record { bids = all.bids; prices = all.prices; setpoints = all.setpoints }
+
+repack_agent : (lists : Lists) (p : Pricing) (seen sys : System) (d : ℕ) (agent : DeviceAgent) → AllIn lists p seen sys →
+    AllIn lists p (with_agent seen d agent) sys
+repack_agent lists p seen sys d agent all = record { bids = all.bids; prices = all.prices; setpoints = all.setpoints }
+
+-- the calls of a step, after which the world stands for the system again
+record Done (lists : Lists) (p : Pricing) (numbering : Numbering) (sys : System) (Ups : ℕ → Type 0) (world : World) : Type 0 where
+  calls : List NodeCall
+  new : System
+  runs : SystemRuns lists p numbering sys calls new
+  stands : WorldStands lists p world new
+  -- a device that did not run before, or does not begin now, is not restarted
+  ups : (x : ℕ) → IsLeaf lists x → Ups x → StaysUp x calls
+
+module _ (lists : Lists) (p : Pricing) (numbering : Numbering) (market : IsTreeMarket lists p numbering) (two : ExpiringIsTwoCalls)
+    (root_two : RootExpiringIsTwoCalls) (world : World) (sys : System) (stands : WorldStands lists p world sys) where
+  -- if x begins, no process of it ran before
+  abbrev UpsOf : LifeStep → ℕ → Type 0
+  UpsOf step x = lives.IsUpOf x step → world.up x ≡ false
+
+  abbrev Does : LifeStep → World → Type 0
+  Does step new = Done lists p numbering sys (UpsOf step) new
+
+  -- a relay begins
+  relay_up : (c : ℕ) (new : World) → RelayBegins p lists world c new → Does (RelayUp c) new
+  relay_up c new did =
+      let ok = stands.relays c did.conc in
+      let began = relay_begins lists p numbering sys c did.conc did.limits did.limited (world.relay_kept c) ok.kept did.relay did.back in
+      let after : World = record world {
+        seen = with_relay world.seen c did.relay;
+        up = update world.up c true;
+        waiting = update world.waiting c None;
+      } in
+      let agrees : AgreesBut c world after = record {
+        up = λ z ne. updated_other world.up c true z ne;
+        relays = λ z ne. updated_other world.seen.relays c did.relay z ne;
+        agents = λ z ne. refl;
+        root = λ ne. refl;
+        waiting = λ z ne. updated_other world.waiting c None z ne;
+        relay_kept = λ z ne. refl;
+        agent_kept = λ z ne. refl;
+        root_kept = λ ne. refl;
+      } in
+      subst (Does (RelayUp c)) (sym did.new_is) (record {
+        ups = λ x leaf first. began.up x (relay_no_leaf lists c x did.conc leaf);
+        calls = began.calls;
+        new = began.new;
+        runs = began.runs;
+        stands = stands_but lists p c world after sys began.new agrees began.only stands
+            (repack_relay lists p world.seen began.new c did.relay (all_in_then lists p c world.seen sys began.new began.only stands.sent))
+            (λ conc. relay_ok_as began.new c true (update world.up c true c) did.relay (update world.seen.relays c did.relay c) None
+            (update world.waiting c None c) (world.relay_kept c) (world.relay_kept c) (updated_same world.up c true)
+            (updated_same world.seen.relays c did.relay) (updated_same world.waiting c None) refl
+            (record { kept = began.kept; stands = λ e. began.stands }))
+            (λ e. absurd (relay_no_root lists c did.conc (sym e)))
+            (λ leaf. absurd (relay_no_leaf lists c c did.conc leaf refl))
+            (λ d leaf. stands.told d leaf ∙ sym (began.silent d))
+            (λ d leaf. known_next lets_none sys began.new world.let_go world.let_go d (stands.known d leaf) (omega arith)
+            (known_run lets_none lists p numbering d leaf began.calls sys began.new began.runs began.gives) (λ n lets. absurd lets));
+      })
+
+  -- a relay reads a frame
+  relay_reads : (before : List NodeCall) → RunsTheMarket lists p numbering before sys → (c : ℕ) (frame : RelayFrame) (n : ℕ) (new : World) →
+      RelayReads lists p numbering world c frame n new → Does (Relay c frame n) new
+  relay_reads before has c frame n new did =
+      let ok = stands.relays c did.conc in
+      let here = ok.stands did.runs in
+      let f = relay_answers two lists p numbering before sys c market has did.conc (record { relay = world.seen.relays c; waiting = world.waiting c })
+      did.after frame did.outs here (relay_may lists p numbering world.seen sys stands.sent c did.conc here.relay_is frame did.may) did.writes in
+      let first : List (Output StoredRelay) = take n did.outs in
+      let base : System = with_relay world.seen c did.after.relay in
+      let kept : StoredRelay = stored_last (world.relay_kept c) first in
+      let after : World = record world {
+        seen = handed_out lists numbering base c first;
+        waiting = update world.waiting c did.after.waiting;
+        relay_kept = update world.relay_kept c kept;
+        let_go = let_go_by_relay lists numbering world.seen c frame world.let_go;
+      } in
+      let values = handed_values lists numbering c first base in
+      let agrees : AgreesBut c world after = record {
+        up = λ z ne. refl;
+        relays = λ z ne. ap (λ f. f z) values.0 ∙ updated_other world.seen.relays c did.after.relay z ne;
+        agents = λ z ne. ap (λ f. f z) values.2;
+        root = λ ne. values.1;
+        waiting = λ z ne. updated_other world.waiting c did.after.waiting z ne;
+        relay_kept = λ z ne. updated_other world.relay_kept c kept z ne;
+        agent_kept = λ z ne. refl;
+        root_kept = λ ne. refl;
+      } in
+      subst (Does (Relay c frame n)) (sym did.new_is) (record {
+        ups = λ x leaf first. calm_up (RelayLets lists numbering sys c frame) x f.calls (f.up x);
+        calls = f.calls;
+        new = f.new;
+        runs = f.runs;
+        stands = stands_but lists p c world after sys f.new agrees f.only stands
+            (handed_in lists p numbering f.new c n did.outs base f.sent
+            (repack_relay lists p world.seen f.new c did.after.relay (all_in_then lists p c world.seen sys f.new f.only stands.sent)))
+            (λ conc. relay_ok_as f.new c (world.up c) (world.up c) did.after.relay (after.seen.relays c) did.after.waiting
+            (update world.waiting c did.after.waiting c) kept (update world.relay_kept c kept c) refl
+            (ap (λ f. f c) values.0 ∙ updated_same world.seen.relays c did.after.relay) (updated_same world.waiting c did.after.waiting)
+            (updated_same world.relay_kept c kept)
+            (record {
+              kept = stored_may (λ k. IsKept sys c k) (λ k. IsKept f.new c k) (world.relay_kept c) n did.outs ok.kept f.kept f.first did.handled;
+              stands = λ e. f.stands;
+            }))
+            (λ e. absurd (relay_no_root lists c did.conc (sym e)))
+            (λ leaf. absurd (relay_no_leaf lists c c did.conc leaf refl))
+            (λ d leaf. handed_untold lists numbering c first base d (relay_no_leaf lists c d did.conc leaf) ∙ stands.told d leaf
+            ∙ sym (f.only.untold d (relay_no_leaf lists c d did.conc leaf)))
+            (λ d leaf. known_next (RelayLets lists numbering sys c frame) sys f.new world.let_go after.let_go d (stands.known d leaf)
+            (relay_rises lists numbering world.seen c frame world.let_go d)
+            (known_run (RelayLets lists numbering sys c frame) lists p numbering d leaf f.calls sys f.new f.runs
+            (calm_gives (RelayLets lists numbering sys c frame) d f.calls (f.up d)))
+            (λ n lets. relay_lets lists numbering world.seen sys c here.relay_is frame world.let_go d n lets));
+      })
+
+  no_conc : IsConcentrator lists 0 → ⊥
+  no_conc conc = omega (arith, conc.0)
+
+  no_leaf : IsLeaf lists 0 → ⊥
+  no_leaf leaf = omega (arith, (leaf_node lists market.law 0 leaf).0)
+
+  not_root : (d : ℕ) → IsLeaf lists d → 0 ≡ d → ⊥
+  not_root d leaf e = omega (arith, e, (leaf_node lists market.law d leaf).0)
+
+  -- the root begins
+  root_up : (new : World) → RootBegins p world new → Does RootUp new
+  root_up new did =
+      let began = root_begins lists p numbering sys world.root_kept stands.root.kept did.root did.back in
+      let after : World = record world { seen = with_root world.seen did.root; up = update world.up 0 true } in
+      let agrees : AgreesBut 0 world after = record {
+        up = λ z ne. updated_other world.up 0 true z ne;
+        relays = λ z ne. refl;
+        agents = λ z ne. refl;
+        root = λ ne. absurd (ne refl);
+        waiting = λ z ne. refl;
+        relay_kept = λ z ne. refl;
+        agent_kept = λ z ne. refl;
+        root_kept = λ ne. refl;
+      } in
+      subst (Does (RootUp)) (sym did.new_is) (record {
+        ups = λ x leaf first. began.up x (λ e. not_root x leaf (sym e));
+        calls = began.calls;
+        new = began.new;
+        runs = began.runs;
+        stands = stands_but lists p 0 world after sys began.new agrees began.only stands
+            (repack_root lists p world.seen began.new did.root (all_in_then lists p 0 world.seen sys began.new began.only stands.sent))
+            (λ conc. absurd (no_conc conc))
+            (λ e. record { kept = began.kept; stands = λ up. began.stands })
+            (λ leaf. absurd (no_leaf leaf))
+            (λ d leaf. stands.told d leaf ∙ sym (began.silent d))
+            (λ d leaf. known_next lets_none sys began.new world.let_go world.let_go d (stands.known d leaf) (omega arith)
+            (known_run lets_none lists p numbering d leaf began.calls sys began.new began.runs began.gives) (λ n lets. absurd lets));
+      })
+
+  -- the root reads a frame
+  root_reads : (before : List NodeCall) → RunsTheMarket lists p numbering before sys → (frame : RootFrame) (n : ℕ) (new : World) →
+      RootReads lists p numbering world frame n new → Does (Root frame n) new
+  root_reads before has frame n new did =
+      let here = stands.root.stands did.runs in
+      let f = root_answers root_two lists p numbering before sys market has world.seen.root did.after frame did.outs here
+      (root_may lists p numbering world.seen sys stands.sent (sym here) frame did.may) did.writes in
+      let first : List (Output StoredRoot) = take n did.outs in
+      let base : System = with_root world.seen did.after in
+      let kept : StoredRoot = stored_last world.root_kept first in
+      let after : World = record world {
+        seen = handed_out lists numbering base 0 first;
+        root_kept = kept;
+        let_go = let_go_by_root lists numbering world.seen frame world.let_go;
+      } in
+      let values = handed_values lists numbering 0 first base in
+      let agrees : AgreesBut 0 world after = record {
+        up = λ z ne. refl;
+        relays = λ z ne. ap (λ f. f z) values.0;
+        agents = λ z ne. ap (λ f. f z) values.2;
+        root = λ ne. absurd (ne refl);
+        waiting = λ z ne. refl;
+        relay_kept = λ z ne. refl;
+        agent_kept = λ z ne. refl;
+        root_kept = λ ne. absurd (ne refl);
+      } in
+      subst (Does (Root frame n)) (sym did.new_is) (record {
+        ups = λ x leaf first. calm_up (RootLets lists numbering sys frame) x f.calls (f.up x);
+        calls = f.calls;
+        new = f.new;
+        runs = f.runs;
+        stands = stands_but lists p 0 world after sys f.new agrees f.only stands
+            (handed_in lists p numbering f.new 0 n did.outs base f.sent
+            (repack_root lists p world.seen f.new did.after (all_in_then lists p 0 world.seen sys f.new f.only stands.sent)))
+            (λ conc. absurd (no_conc conc))
+            (λ e. record {
+              kept = stored_may (IsRootKept sys) (IsRootKept f.new) world.root_kept n did.outs stands.root.kept f.kept f.first did.handled;
+              stands = λ up. f.stands ∙ sym values.1;
+            })
+            (λ leaf. absurd (no_leaf leaf))
+            (λ d leaf. handed_untold lists numbering 0 first base d (λ e. not_root d leaf (sym e)) ∙ stands.told d leaf
+            ∙ sym (f.only.untold d (λ e. not_root d leaf (sym e))))
+            (λ d leaf. known_next (RootLets lists numbering sys frame) sys f.new world.let_go after.let_go d (stands.known d leaf)
+            (root_rises lists numbering world.seen frame world.let_go d)
+            (known_run (RootLets lists numbering sys frame) lists p numbering d leaf f.calls sys f.new f.runs
+            (calm_gives (RootLets lists numbering sys frame) d f.calls (f.up d)))
+            (λ n lets. root_lets lists numbering world.seen sys (sym here) frame world.let_go d n lets));
+      })
+
+  not_conc : (d : ℕ) → IsLeaf lists d → IsConcentrator lists d → ⊥
+  not_conc d leaf conc = relay_no_leaf lists d d conc leaf refl
+
+  -- a device begins
+  device_again : (d n : ℕ) (new : World) → DeviceBegins lists p numbering world d n new → world.up d ≡ true → Does (DeviceUp d n) new
+  device_again d n new did ran =
+      let stored : StoredAgent = world.agent_kept d in
+      let outs : List (Output StoredAgent) = restart_outs p stored in
+      let began = device_begins lists p numbering sys d did.leaf stored (stands.agents d did.leaf).kept in
+      let agent : DeviceAgent = agent_stored stored.number stored.newest stored.index in
+      let base : System = with_agent world.seen d agent in
+      let after : World = record world { seen = handed_out lists numbering base d (take n outs); up = update world.up d true } in
+      let values = handed_values lists numbering d (take n outs) base in
+      let agrees : AgreesBut d world after = record {
+        up = λ z ne. updated_other world.up d true z ne;
+        relays = λ z ne. ap (λ f. f z) values.0;
+        agents = λ z ne. ap (λ f. f z) values.2 ∙ updated_other world.seen.agents d agent z ne;
+        root = λ ne. values.1;
+        waiting = λ z ne. refl;
+        relay_kept = λ z ne. refl;
+        agent_kept = λ z ne. refl;
+        root_kept = λ ne. refl;
+      } in
+      subst (Does (DeviceUp d n)) (sym did.new_is) (record {
+        ups = λ x leaf first. began.up x (λ e. both_ways (world.up d) (ap world.up (sym e) ∙ first (sym e)) ran);
+        calls = began.calls;
+        new = began.new;
+        runs = began.runs;
+        stands = stands_but lists p d world after sys began.new agrees began.only stands
+            (handed_in lists p numbering began.new d n outs base began.sent
+            (repack_agent lists p world.seen began.new d agent (all_in_then lists p d world.seen sys began.new began.only stands.sent)))
+            (λ conc. absurd (not_conc d did.leaf conc))
+            (λ e. absurd (not_root d did.leaf e))
+            (λ leaf. agent_ok_as began.new d true (update world.up d true d) agent (after.seen.agents d) stored stored (updated_same world.up d true)
+            (ap (λ f. f d) values.2 ∙ updated_same world.seen.agents d agent) refl
+            (record { kept = began.kept; stands = λ e. began.stands; fresh = λ e. absurd (both_ways true e refl) }))
+            (λ e leaf. elim (cases_eq e d) [
+              | inl same ↦ subst (λ (z : ℕ). after.seen.setpoints z ≡ began.new.setpoints z) (sym same) (handed_told lists numbering d (take n outs) base
+                  ∙ ap (λ (l : List Setpoint). world.seen.setpoints d ++ l) (restart_silent p stored n) ∙ append-nil (world.seen.setpoints d)
+                  ∙ stands.told d did.leaf ∙ sym (began.silent d))
+              | inr ne ↦ handed_untold lists numbering d (take n outs) base e ne ∙ stands.told e leaf ∙ sym (began.silent e)
+            ])
+            (λ e leaf. known_next lets_none sys began.new world.let_go world.let_go e (stands.known e leaf) (omega arith)
+            (known_run lets_none lists p numbering e leaf began.calls sys began.new began.runs began.gives) (λ k lets. absurd lets));
+      })
+
+  -- the first process of a device changes nothing
+  device_first : (d n : ℕ) (new : World) → DeviceBegins lists p numbering world d n new → world.up d ≡ false → Does (DeviceUp d n) new
+  device_first d n new did none =
+      let stored : StoredAgent = world.agent_kept d in
+      let ok = stands.agents d did.leaf in
+      let fresh = ok.fresh none in
+      let outs : List (Output StoredAgent) = restart_outs p stored in
+      let outs_are : outs ≡ [] = ap (restart_outs p) fresh.1 in
+      let agent : DeviceAgent = agent_stored stored.number stored.newest stored.index in
+      let agent_is : agent ≡ sys.agents d = ap (λ (k : StoredAgent). agent_stored k.number k.newest k.index) fresh.1 ∙ sym fresh.0 in
+      let base : System = with_agent world.seen d agent in
+      let after : World = record world { seen = handed_out lists numbering base d (take n outs); up = update world.up d true } in
+      let values = handed_values lists numbering d (take n outs) base in
+      let agrees : AgreesBut d world after = record {
+        up = λ z ne. updated_other world.up d true z ne;
+        relays = λ z ne. ap (λ f. f z) values.0;
+        agents = λ z ne. ap (λ f. f z) values.2 ∙ updated_other world.seen.agents d agent z ne;
+        root = λ ne. values.1;
+        waiting = λ z ne. refl;
+        relay_kept = λ z ne. refl;
+        agent_kept = λ z ne. refl;
+        root_kept = λ ne. refl;
+      } in
+      subst (Does (DeviceUp d n)) (sym did.new_is) (record {
+        calls = [];
+        new = sys;
+        runs = refl;
+        ups = λ x leaf first. tt;
+        stands = stands_but lists p d world after sys sys agrees (still d sys) stands
+            (handed_in lists p numbering sys d n outs base
+            (subst (λ (l : List (Output StoredAgent)). WereSent lists p numbering sys d l) (sym outs_are) tt)
+            (repack_agent lists p world.seen sys d agent stands.sent))
+            (λ conc. absurd (not_conc d did.leaf conc))
+            (λ e. absurd (not_root d did.leaf e))
+            (λ leaf. agent_ok_as sys d true (update world.up d true d) agent (after.seen.agents d) stored stored (updated_same world.up d true)
+            (ap (λ f. f d) values.2 ∙ updated_same world.seen.agents d agent) refl
+            (record {
+              kept = ok.kept;
+              stands = λ e. record {
+                agent_is = agent_is;
+                held = ok.kept.price;
+                within = within_stored lists p numbering stored.number stored.newest stored.index;
+              };
+              fresh = λ e. absurd (both_ways true e refl);
+            }))
+            (λ e leaf. elim (cases_eq e d) [
+              | inl same ↦ subst (λ (z : ℕ). after.seen.setpoints z ≡ sys.setpoints z) (sym same) (handed_told lists numbering d (take n outs) base
+                  ∙ ap (λ (l : List Setpoint). world.seen.setpoints d ++ l) (restart_silent p stored n) ∙ append-nil (world.seen.setpoints d)
+                  ∙ stands.told d did.leaf)
+              | inr ne ↦ handed_untold lists numbering d (take n outs) base e ne ∙ stands.told e leaf
+            ])
+            stands.known;
+      })
+
+  device_up : (d n : ℕ) (new : World) → DeviceBegins lists p numbering world d n new → Does (DeviceUp d n) new
+  device_up d n new did = elim (cases_Bool (world.up d)) [
+    | inl ran ↦ device_again d n new did ran
+    | inr none ↦ device_first d n new did none
+  ]
+
+  -- a device reads a frame
+  device_reads : (d : ℕ) (frame : DeviceFrame) (n : ℕ) (new : World) → DeviceReads lists p numbering world d frame n new → Does (Device d frame n) new
+  device_reads d frame n new did =
+      let ok = stands.agents d did.leaf in
+      let here = ok.stands did.runs in
+      let old : DeviceAgent = world.seen.agents d in
+      let outs : List (Output StoredAgent) = device_outs p old frame in
+      let agent : DeviceAgent = open_agent_after old frame in
+      let f = device_answers lists p numbering sys d did.leaf old frame here
+      (device_may lists p numbering world.seen sys stands.sent d (leaf_node lists market.law d did.leaf) here.agent_is frame did.may) in
+      let base : System = with_agent world.seen d agent in
+      let kept : StoredAgent = stored_last (world.agent_kept d) (take n outs) in
+      let after : World = record world {
+        seen = handed_out lists numbering base d (take n outs);
+        agent_kept = update world.agent_kept d kept;
+      } in
+      let values = handed_values lists numbering d (take n outs) base in
+      let agrees : AgreesBut d world after = record {
+        up = λ z ne. refl;
+        relays = λ z ne. ap (λ f. f z) values.0;
+        agents = λ z ne. ap (λ f. f z) values.2 ∙ updated_other world.seen.agents d agent z ne;
+        root = λ ne. values.1;
+        waiting = λ z ne. refl;
+        relay_kept = λ z ne. refl;
+        agent_kept = λ z ne. updated_other world.agent_kept d kept z ne;
+        root_kept = λ ne. refl;
+      } in
+      subst (Does (Device d frame n)) (sym did.new_is) (record {
+        ups = λ x leaf first. calm_up lets_none x f.calls (f.up x);
+        calls = f.calls;
+        new = f.new;
+        runs = f.runs;
+        stands = stands_but lists p d world after sys f.new agrees f.only stands
+            (handed_in lists p numbering f.new d n outs base f.sent
+            (repack_agent lists p world.seen f.new d agent (all_in_then lists p d world.seen sys f.new f.only stands.sent)))
+            (λ conc. absurd (not_conc d did.leaf conc))
+            (λ e. absurd (not_root d did.leaf e))
+            (λ leaf. agent_ok_as f.new d (world.up d) (world.up d) agent (after.seen.agents d) kept (update world.agent_kept d kept d)
+            refl (ap (λ f. f d) values.2 ∙ updated_same world.seen.agents d agent) (updated_same world.agent_kept d kept)
+            (record {
+              kept = stored_may (λ k. IsAgentKept sys d k) (λ k. IsAgentKept f.new d k) (world.agent_kept d) n outs ok.kept f.kept f.first did.handled;
+              stands = λ e. f.stands.stands;
+              fresh = λ e. absurd (both_ways (world.up d) e did.runs);
+            }))
+            (λ e leaf. elim (cases_eq e d) [
+              | inl same ↦ subst (λ (z : ℕ). after.seen.setpoints z ≡ f.new.setpoints z) (sym same) (handed_told lists numbering d (take n outs) base
+                  ∙ ap (λ (l : List Setpoint). world.seen.setpoints d ++ l) (answer_told p old frame n did.handled)
+                  ∙ ap (λ (l : List Setpoint). l ++ told_of old frame) (stands.told d did.leaf) ∙ sym f.stands.told)
+              | inr ne ↦ handed_untold lists numbering d (take n outs) base e ne ∙ stands.told e leaf ∙ sym (f.only.untold e ne)
+            ])
+            (λ e leaf. known_next lets_none sys f.new world.let_go world.let_go e (stands.known e leaf) (omega arith)
+            (known_run lets_none lists p numbering e leaf f.calls sys f.new f.runs (calm_gives lets_none e f.calls (f.up e)))
+            (λ k lets. absurd lets));
+      })
+
+  step_done : (before : List NodeCall) → RunsTheMarket lists p numbering before sys → (step : LifeStep) (new : World) →
+      Lives1 lists p numbering world step new → Does step new
+  step_done before has (RelayUp c) new did = relay_up c new did
+  step_done before has (Relay c frame n) new did = relay_reads before has c frame n new did
+  step_done before has RootUp new did = root_up new did
+  step_done before has (Root frame n) new did = root_reads before has frame n new did
+  step_done before has (DeviceUp d n) new did = device_up d n new did
+  step_done before has (Device d frame n) new did = device_reads d frame n new did
+
+-- ---- from the start on
+
+new_stands : (lists : Lists) (p : Pricing) (world : World) (sys : System) → IsNewWorld world → IsStarted lists p sys → WorldStands lists p world sys
+new_stands lists p world sys none started = record {
+  relays = λ c conc.
+      let at = (started.relays c conc).2 in
+      record {
+        kept = subst (λ (k : StoredRelay). IsKept sys c k) (sym (none.relay_kept c)) (record {
+          last = omega (arith, at.base, at.gathered.window.last);
+          numbers = sym at.recorded;
+          price = inl (refl, refl);
+          older = omega arith;
+        });
+        stands = λ e. absurd (both_ways (world.up c) (none.up c) e);
+      };
+  root = record {
+    kept = subst (λ (k : StoredRoot). IsRootKept sys k) (sym none.root_kept) (record {
+      last = omega (arith, started.root.base, ap (λ (a : Rattle.pm_auctioneer.specs.Auctions.Auction). a.index) started.root.auction);
+      numbers = sym started.root.recorded;
+    });
+    stands = λ e. absurd (both_ways (world.up 0) (none.up 0) e);
+  };
+  agents = λ d leaf.
+      let at = started.agents d leaf in
+      record {
+        kept = subst (λ (k : StoredAgent). IsAgentKept sys d k) (sym (none.agent_kept d)) (record {
+          number = ap (λ (a : DeviceAgent). a.number) (sym at);
+          newest = ap newest_demand (sym at);
+          price = inl refl;
+          older = omega arith;
+        });
+        stands = λ e. absurd (both_ways (world.up d) (none.up d) e);
+        fresh = λ e. (at, none.agent_kept d);
+      };
+  sent = record {
+    bids = λ x k node inside. absurd (omega (arith, inside, ap (λ (l : List BidMessage). length l) (none.bids_sent x)));
+    prices = λ x k node inside. absurd (omega (arith, inside, ap (λ (l : List PriceMessage). length l) (none.prices_sent x)));
+    setpoints = λ d setpoint at. absurd (omega (arith, at.1, ap (λ (l : List Setpoint). length l) (none.setpoints d)));
+  };
+  told = λ d leaf. none.setpoints d ∙ sym (started.setpoints d);
+  known = λ d leaf bid at. absurd (omega (arith, at.1, ap (λ (l : List BidMessage). length l) (started.bids_sent d)));
+}
+
+-- the laws of systems
+abbrev pub SystemsRun : Type 0
+SystemsRun = (lists : Lists) (p : Pricing) (numbering : Numbering) (sys new : System) (calls : List NodeCall) → IsTreeMarket lists p numbering →
+    IsStarted lists p sys → SystemRuns lists p numbering sys calls new → RunsTheMarket lists p numbering calls new
+
+abbrev pub SystemsKeepTheLaw : Type 0
+SystemsKeepTheLaw = (lists : Lists) (p : Pricing) (numbering : Numbering) (calls : List NodeCall) (sys : System) → IsTreeMarket lists p numbering →
+    RunsTheMarket lists p numbering calls sys → KeepsTheLaw lists p sys
+
+module _ (lists : Lists) (p : Pricing) (numbering : Numbering) (market : IsTreeMarket lists p numbering) (two : ExpiringIsTwoCalls)
+    (root_two : RootExpiringIsTwoCalls) (run : SystemsRun) (start : System) (started : IsStarted lists p start) where
+  -- what is so of the processes of a device from here on: none ran, and one begins at most, or none begins
+  abbrev OnceFrom : ℕ → World → List LifeStep → Type 0
+  OnceFrom d world steps = lives.BeginsNever d steps ⊎ ((world.up d ≡ false) × lives.BeginsOnce d steps)
+
+  record RunsFrom (before : List NodeCall) (world : World) (steps : List LifeStep) (new : World) : Type 0 where
+    calls : List NodeCall
+    sys : System
+    runs : SystemRuns lists p numbering start (before ++ calls) sys
+    sent : AllIn lists p new.seen sys
+    stands : WorldStands lists p new sys
+    ups : (d : ℕ) → IsLeaf lists d → OnceFrom d world steps → StaysUp d calls
+
+  up_same : (world new : World) (step : LifeStep) → Lives1 lists p numbering world step new → (d : ℕ) → IsLeaf lists d → (lives.IsUpOf d step → ⊥) →
+      new.up d ≡ world.up d
+  up_same world new (RelayUp c) did d leaf other =
+      ap (λ (w : World). w.up d) did.new_is ∙ updated_other world.up c true d (relay_no_leaf lists c d did.conc leaf)
+  up_same world new (Relay c frame n) did d leaf other = ap (λ (w : World). w.up d) did.new_is
+  up_same world new RootUp did d leaf other =
+      ap (λ (w : World). w.up d) did.new_is ∙ updated_other world.up 0 true d (λ e. omega (arith, e, (leaf_node lists market.law d leaf).0))
+  up_same world new (Root frame n) did d leaf other = ap (λ (w : World). w.up d) did.new_is
+  up_same world new (DeviceUp e n) did d leaf other =
+      ap (λ (w : World). w.up d) did.new_is ∙ updated_other world.up e true d (λ same. other (sym same))
+  up_same world new (Device e frame n) did d leaf other = ap (λ (w : World). w.up d) did.new_is
+
+  first_of_once : (world : World) (step : LifeStep) (steps : List LifeStep) (d : ℕ) → OnceFrom d world (step ∷ steps) → lives.IsUpOf d step → world.up d ≡ false
+  first_of_once world step steps d (inl never) is = absurd (never.0 is)
+  first_of_once world step steps d (inr once) is = once.0
+
+  rest_of_once : (world new : World) (step : LifeStep) (steps : List LifeStep) → Lives1 lists p numbering world step new → (d : ℕ) → IsLeaf lists d →
+      OnceFrom d world (step ∷ steps) → OnceFrom d new steps
+  rest_of_once world new step steps did d leaf (inl never) = inl never.1
+  rest_of_once world new step steps did d leaf (inr once) = elim once.1 [
+    | inl never ↦ inl never
+    | inr rest ↦ inr (up_same world new step did d leaf rest.0 ∙ once.0, rest.1)
+  ]
+
+  lives_from : (steps : List LifeStep) (world : World) (before : List NodeCall) (sys : System) → SystemRuns lists p numbering start before sys →
+      WorldStands lists p world sys → (new : World) → Live lists p numbering world steps new → RunsFrom before world steps new
+  lives_from [] world before sys runs stands new live = record {
+    calls = [];
+    sys = sys;
+    runs = subst (λ (l : List NodeCall). SystemRuns lists p numbering start l sys) (sym (append-nil before)) runs;
+    sent = subst (λ (w : World). AllIn lists p w.seen sys) live stands.sent;
+    stands = subst (λ (w : World). WorldStands lists p w sys) live stands;
+    ups = λ d leaf once. tt;
+  }
+  lives_from (step ∷ steps) world before sys runs stands new live =
+      let has : RunsTheMarket lists p numbering before sys = run lists p numbering start sys before market started runs in
+      let done = step_done lists p numbering market two root_two world sys stands before has step live.0 live.1 in
+      let rest = lives_from steps live.0 (before ++ done.calls) done.new (runs_on lists p numbering before done.calls start sys done.new runs done.runs)
+      done.stands new live.2 in
+      record {
+        calls = done.calls ++ rest.calls;
+        sys = rest.sys;
+        runs = subst (λ (l : List NodeCall). SystemRuns lists p numbering start l rest.sys) (append_assoc before done.calls rest.calls) rest.runs;
+        sent = rest.sent;
+        stands = rest.stands;
+        ups = λ d leaf once. up_on d done.calls rest.calls (done.ups d leaf (first_of_once world step steps d once))
+            (rest.ups d leaf (rest_of_once world live.0 step steps live.1 d leaf once));
+      }
+
+  -- lives are calls
+  pub lives_are_calls : (world new : World) (steps : List LifeStep) → IsNewWorld world → Live lists p numbering world steps new →
+      LivesAreCalls lists p numbering start steps new
+  lives_are_calls world new steps none live =
+      let all = lives_from steps world [] start refl (new_stands lists p world start none started) new live in
+      record {
+        calls = all.calls;
+        sys = all.sys;
+        runs = all.runs;
+        sent = all.sent;
+        up = λ d leaf once. all.ups d leaf (inr (none.up d, once));
+      }
+
+  -- and so they keep the law
+  pub lives_keep_the_law : SystemsKeepTheLaw → (world new : World) (steps : List LifeStep) → IsNewWorld world →
+      Live lists p numbering world steps new → LivesKeepTheLaw lists p new
+  lives_keep_the_law keeps world new steps none live =
+      let are = lives_are_calls world new steps none live in
+      let law = keeps lists p numbering are.calls are.sys market (run lists p numbering start are.sys are.calls market started are.runs) in
+      let s = Rattle.pm_market.specs.Moves.after lists law.journal in
+      record {
+        journal = law.journal;
+        legal = law.legal;
+        prices = λ x k node inside.
+            let at = are.sent.prices x k node inside in
+            subst (λ (q : PriceMessage). Rattle.pm_net.specs.Agrees.IsItsPrice lists p s x q) at.2 (law.prices x at.0 node at.1);
+        setpoints = λ d setpoint leaf at.
+            let there = are.sent.setpoints d setpoint at in
+            subst (λ (q : Setpoint). Rattle.pm_net.specs.Devices.IsRight lists p s d q) there.2 (law.setpoints d leaf there.0 setpoint there.1);
+      }
+
+  -- the world in the end stands for the system after the calls
+  pub record LivesStand (steps : List LifeStep) (new : World) : Type 0 where
+    pub calls : List NodeCall
+    pub sys : System
+    pub runs : SystemRuns lists p numbering start calls sys
+    pub stands : WorldStands lists p new sys
+    pub up : (d : ℕ) → IsLeaf lists d → lives.BeginsOnce d steps → StaysUp d calls
+
+  pub lives_stand : (world new : World) (steps : List LifeStep) → IsNewWorld world → Live lists p numbering world steps new → LivesStand steps new
+  lives_stand world new steps none live =
+      let all = lives_from steps world [] start refl (new_stands lists p world start none started) new live in
+      record { calls = all.calls; sys = all.sys; runs = all.runs; stands = all.stands; up = λ d leaf once. all.ups d leaf (inr (none.up d, once)) }

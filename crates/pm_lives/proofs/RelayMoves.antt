@@ -1,0 +1,684 @@
+-- What the service of a relay answers to a frame is some calls of the relay.
+use Rattle.std.proofs.Common.{◌≡◌, ◌⊎◌, ◌∙◌, sym, ap, subst, ℕ, ◌≤◌, Bool, true, false, cond, not, ◌&&◌, eqb, leb, ltb, ℤ, List, [], ◌∷◌, ◌++◌, length, get_or, Option, Some, None, refl, inl, inr, arith, append_assoc, subst₂}
+use Rattle.std.specs.Prelude.{IfSome}
+use Rattle.std.proofs.lemmas.Bool.{cases_Bool, cond-true, eq-eqb, both_ways, and_parts}
+use Rattle.std.proofs.lemmas.List.{get_or_push, length_push}
+use Rattle.pm_bid.specs.Heads.{nothing_sent}
+use Rattle.pm_market.specs.Lists.{Lists, parent, IsNode, IsConcentrator}
+use Rattle.pm_market.proofs.Cuts.{updated_same}
+use Rattle.pm_session.specs.declared.price.PriceUpdate.{PriceUpdate}
+use Rattle.pm_session.specs.Prices.{price_to}
+use Rattle.pm_cache.specs.Cache.{kept_number}
+use Rattle.pm_concentrator.specs.Concentrators.{own_demand}
+use Rattle.pm_concentrator.specs.Limited.{settled_step_of_record}
+use Rattle.pm_net.specs.Pricing.{Pricing}
+use Rattle.pm_net.specs.Messages.{BidMessage, PriceMessage, bid_message, no_price}
+use Rattle.pm_net.proofs.Messages.{either}
+use Rattle.pm_net_plan.specs.Places.{Numbering}
+use Rattle.pm_wire.specs.Answers.{answer_bytes}
+use Rattle.pm_wire.specs.declared.answer.Reply.{Reply}
+use Rattle.pm_relay.specs.Relays as relays
+use Rattle.pm_relay.specs.Relays.{RelayValue, newest_bid_number, record_at, with_child_bid, LooksForRecord, BidSent}
+use Rattle.pm_relay.specs.declared.outcome.PriceOutcome.{PriceOutcome}
+use Rattle.pm_relay.specs.declared.outcome.PriceOutcome.TheVariants.{PassedOn, Alone, Waits, Dropped}
+use Rattle.pm_relay_net.specs.RelayIs.{told_demand, update_of, messages_of, prices_down}
+use Rattle.pm_frames.specs.Stored.{StoredRelay}
+use Rattle.pm_services.specs.Receipts.{sender_place}
+use Rattle.pm_services.specs.RelayAnswers as answers
+use Rattle.pm_services.specs.RelayAnswers.{OpenRelay, stored_relay, waiting_with, waiting_after}
+use Rattle.pm_system.specs.System.{System, bid_in_channel, price_in_channel, with_relay, with_bid_sent, with_prices_sent}
+use Rattle.pm_system.specs.Calls as call
+use Rattle.pm_system.specs.Expiry.{RelayExpires, AreTwoCalls}
+use Rattle.pm_system.specs.Given.{IsTreeMarket}
+use Rattle.pm_system.specs.Market.{RunsTheMarket}
+use Rattle.pm_bid.specs.Bids.{zeros}
+use Rattle.pm_relay.specs.Numbers.{known_number, parents_number}
+use Rattle.pm_wire.specs.declared.frame.Frame.TheVariants.{Hello, Bid, Gone, Clear}
+use Rattle.pm_frames.specs.declared.parent.ParentFrame.TheVariants.{Price, Old}
+use Rattle.pm_frames.specs.declared.relay.RelayFrame.{RelayFrame}
+use Rattle.pm_frames.specs.declared.relay.RelayFrame.TheVariants.{Child, Parent, Send, Expire, Resume}
+use Rattle.pm_system.specs.Calls.{NodeCall, SystemRuns}
+use Rattle.pm_system.proofs.Moving.{relay_no_root, new_in}
+use Rattle.pm_lives.specs.Outputs.{Output, Up, Keeps, Says, PriceWasSent, WereSent, EachKept, BeginsWithResume}
+use Rattle.pm_lives.specs.Moves.{OnlyMoves, AreCalm}
+use Rattle.pm_lives.specs.RelayWrites.{receipt_outs, downs, own_bid, again_outs, drop_outs, price_outs, WritesPrice, WritesWaiting, WritesBid, WritesExpire, WritesSend, WritesRelay}
+use Rattle.pm_lives.specs.RelayLife.{IsOfPrice, UpdateWasSent, RelayStands, IsKept, CarriesBid, CarriesExpire, RelayMayRead, RelayFollows, RelayLets}
+use Rattle.pm_lives.proofs.Staying.{still, then_moves, relay_moved, bid_pushed, prices_pushed, price_stays, were_sent, both_sent, kept_to, both_kept}
+use Rattle.pm_lives.proofs.Downs.{downs_sent, downs_keep_none}
+use Rattle.pm_lives.proofs.After.{runs_on, calm_on}
+
+-- ---- words of other crates
+
+-- the law of systems of the call `expire`
+abbrev pub ExpiringIsTwoCalls : Type 0
+ExpiringIsTwoCalls = (lists : Lists) (p : Pricing) (numbering : Numbering) (calls : List NodeCall) (sys new : System) (d : ℕ) →
+    IsTreeMarket lists p numbering → RunsTheMarket lists p numbering calls sys → (did : RelayExpires lists p numbering sys d new) →
+    AreTwoCalls lists p numbering sys d did.number new
+
+-- ---- prices stay those of c
+
+pub of_price_stays : (y : ℕ) (sys new : System) → OnlyMoves y sys new → (c answered index : ℕ) → IsOfPrice sys c answered index →
+    IsOfPrice new c answered index
+of_price_stays y sys new moves c answered index (inl none) = inl none
+of_price_stays y sys new moves c answered index (inr at) =
+    let there = price_stays y sys new moves c at.0 at.1 in
+    inr (
+      at.0,
+      there.0,
+      ap (λ (q : PriceMessage). q.number) there.1 ∙ at.2,
+      ap (λ (q : PriceMessage). q.index) there.1 ∙ at.3,
+    )
+
+pub update_stays : (y : ℕ) (sys new : System) → OnlyMoves y sys new → (c : ℕ) (price : PriceUpdate) → UpdateWasSent sys c price →
+    UpdateWasSent new c price
+update_stays y sys new moves c price at =
+    let there = price_stays y sys new moves c at.0 at.1 in
+    (at.0, there.0, ap update_of there.1 ∙ at.2)
+
+-- a price that was sent is one of which a number and an index are kept
+pub price_is_of : (sys : System) (c : ℕ) (price : PriceUpdate) → UpdateWasSent sys c price → IsOfPrice sys c price.number price.index
+price_is_of sys c price at = inr (at.0, at.1, ap (λ (q : PriceUpdate). q.number) at.2, ap (λ (q : PriceUpdate). q.index) at.2)
+
+-- ---- the value of a relay
+
+-- the relay has the same newest bid and the numbers in it, and a price that is no older
+record SameNumbers (old new : RelayValue) : Type 0 where
+  last : newest_bid_number new ≡ newest_bid_number old
+  recorded : new.recorded ≡ old.recorded
+  rises : old.index ≤ new.index
+
+same_then : (a b d : RelayValue) → SameNumbers a b → SameNumbers b d → SameNumbers a d
+same_then a b d first then = record {
+  last = then.last ∙ first.last;
+  recorded = then.recorded ∙ first.recorded;
+  rises = omega (arith, first.rises, then.rises);
+}
+
+same_self : (a : RelayValue) → SameNumbers a a
+same_self a = record { last = refl; recorded = refl; rises = omega arith }
+
+kept_stays : (c : ℕ) (sys new : System) → OnlyMoves c sys new → SameNumbers (sys.relays c) (new.relays c) → (stored : StoredRelay) →
+    IsKept sys c stored → IsKept new c stored
+kept_stays c sys new moves same stored kept = record {
+  last = kept.last ∙ sym same.last;
+  numbers = kept.numbers ∙ sym same.recorded;
+  price = of_price_stays c sys new moves c stored.answered stored.index kept.price;
+  older = omega (arith, kept.older, same.rises);
+}
+
+abbrev AreKept : System → ℕ → List (Output StoredRelay) → Type 0
+AreKept sys c outs = EachKept (λ (stored : StoredRelay). IsKept sys c stored) outs
+
+are_kept : (c : ℕ) (sys new : System) → OnlyMoves c sys new → SameNumbers (sys.relays c) (new.relays c) → (outs : List (Output StoredRelay)) →
+    AreKept sys c outs → AreKept new c outs
+are_kept c sys new moves same outs kept =
+    kept_to (λ (stored : StoredRelay). IsKept sys c stored) (λ (stored : StoredRelay). IsKept new c stored) (kept_stays c sys new moves same) outs kept
+
+-- what it stores of itself may be stored
+own_kept : (sys : System) (c : ℕ) (r : RelayValue) → sys.relays c ≡ r → IsOfPrice sys c r.answered r.index → IsKept sys c (stored_relay r)
+own_kept sys c r is held = record {
+  last = ap newest_bid_number (sym is);
+  numbers = ap (λ (q : RelayValue). q.recorded) (sym is);
+  price = held;
+  older = omega (arith, ap (λ (q : RelayValue). q.index) is);
+}
+
+-- a relay that looks for its record
+looks_same : (old new : RelayValue) → LooksForRecord old new → SameNumbers old new × (new.answered ≡ old.answered) × (new.index ≡ old.index)
+looks_same old new (inl found) = (
+  record {
+    last = omega (arith, found.1.base, found.1.last, found.0.lost);
+    recorded = found.1.recorded;
+    rises = omega (arith, found.1.index);
+  },
+  found.1.answered,
+  found.1.index,
+)
+looks_same old new (inr stays) = (
+  record {
+    last = ap newest_bid_number stays.1;
+    recorded = ap (λ (r : RelayValue). r.recorded) stays.1;
+    rises = omega (arith, ap (λ (r : RelayValue). r.index) stays.1);
+  },
+  ap (λ (r : RelayValue). r.answered) stays.1,
+  ap (λ (r : RelayValue). r.index) stays.1,
+)
+
+-- one that takes a price
+takes_same : (old new : RelayValue) (price : PriceUpdate) (outcome : PriceOutcome) → relays.TakesPrice old new price outcome → SameNumbers old new
+takes_same old new price Dropped did = record {
+  last = ap newest_bid_number did.1;
+  recorded = ap (λ (r : RelayValue). r.recorded) did.1;
+  rises = omega (arith, ap (λ (r : RelayValue). r.index) did.1);
+}
+takes_same old new price PassedOn did = record {
+  last = omega (arith, did.2.base, did.2.passed.window.last);
+  recorded = did.2.recorded;
+  rises = omega (arith, did.2.index, did.0.newer);
+}
+takes_same old new price Waits did = record {
+  last = ap newest_bid_number did.3;
+  recorded = ap (λ (r : RelayValue). r.recorded) did.3;
+  rises = omega (arith, ap (λ (r : RelayValue). r.index) did.3);
+}
+takes_same old new price Alone did = record {
+  last = ap newest_bid_number did.3;
+  recorded = ap (λ (r : RelayValue). r.recorded) did.3;
+  rises = omega (arith, ap (λ (r : RelayValue). r.index) did.3, did.0.newer);
+}
+
+takes_held : (sys : System) (c : ℕ) (old new : RelayValue) (price : PriceUpdate) (outcome : PriceOutcome) → relays.TakesPrice old new price outcome →
+    IsOfPrice sys c old.answered old.index → IsOfPrice sys c price.number price.index → IsOfPrice sys c new.answered new.index
+takes_held sys c old new price Dropped did held its =
+    subst (λ (r : RelayValue). IsOfPrice sys c r.answered r.index) (sym did.1) held
+takes_held sys c old new price PassedOn did held its =
+    subst (λ (n : ℕ). IsOfPrice sys c n new.index) (sym did.2.answered) (subst (λ (n : ℕ). IsOfPrice sys c price.number n) (sym did.2.index) its)
+takes_held sys c old new price Waits did held its =
+    subst (λ (r : RelayValue). IsOfPrice sys c r.answered r.index) (sym did.3) held
+takes_held sys c old new price Alone did held its =
+    subst (λ (r : RelayValue). IsOfPrice sys c r.answered r.index) (sym did.3) its
+
+-- one that sends
+sent_last : (old new : RelayValue) (number : ℕ) → BidSent old new number → newest_bid_number new ≡ number
+sent_last old new number sent = omega (arith, sent.number, sent.base, sent.made.sent.last)
+
+-- ---- moves
+
+abbrev Outs : Type 0
+Outs = List (Output StoredRelay)
+
+module _ (Lets : ℕ → ℕ → Type 0) (lists : Lists) (p : Pricing) (numbering : Numbering) (c : ℕ) (conc : IsConcentrator lists c) where
+  -- some calls of c, after which its relay is this one, and what was written
+  record Moves (sys : System) (relay : RelayValue) (reply : Outs) : Type 0 where
+    calls : List NodeCall
+    new : System
+    runs : SystemRuns lists p numbering sys calls new
+    up : (x : ℕ) → AreCalm Lets x calls
+    only : OnlyMoves c sys new
+    is : new.relays c ≡ relay
+    held : IsOfPrice new c relay.answered relay.index
+    sent : WereSent lists p numbering new c reply
+    kept : AreKept new c reply
+
+  stays : (sys : System) → IsOfPrice sys c (sys.relays c).answered (sys.relays c).index → Moves sys (sys.relays c) []
+  stays sys held = record {
+    calls = [];
+    new = sys;
+    runs = refl;
+    up = λ x. tt;
+    only = still c sys;
+    is = refl;
+    held = held;
+    sent = tt;
+    kept = tt;
+  }
+
+  -- it says something that no law speaks of
+  says : (sys : System) (bytes : List ℕ) → IsOfPrice sys c (sys.relays c).answered (sys.relays c).index → Moves sys (sys.relays c) (Says bytes ∷ [])
+  says sys bytes held = record {
+    calls = [];
+    new = sys;
+    runs = refl;
+    up = λ x. tt;
+    only = still c sys;
+    is = refl;
+    held = held;
+    sent = (tt, tt);
+    kept = (tt, tt);
+  }
+
+  -- moves one after the other
+  then_both : (sys : System) (one two : RelayValue) (reply more : Outs) (first : Moves sys one reply) (then : Moves first.new two more) →
+      SameNumbers one two → Moves sys two (reply ++ more)
+  then_both sys one two reply more first then same = record {
+    calls = first.calls ++ then.calls;
+    new = then.new;
+    runs = runs_on lists p numbering first.calls then.calls sys first.new then.new first.runs then.runs;
+    up = λ x. calm_on Lets x first.calls then.calls (first.up x) (then.up x);
+    only = then_moves c sys first.new then.new first.only then.only;
+    is = then.is;
+    held = then.held;
+    sent = both_sent lists p numbering then.new c reply more
+        (were_sent lists p numbering c first.new then.new then.only c reply first.sent) then.sent;
+    kept = both_kept (λ (k : StoredRelay). IsKept then.new c k) reply more
+        (are_kept c first.new then.new then.only (subst₂ SameNumbers (sym first.is) (sym then.is) same) reply first.kept) then.kept;
+  }
+
+  -- it learns a bid
+  learns : (sys : System) (sender number : ℕ) (demand : Option (List ℤ)) → CarriesBid lists p numbering sys c sender number demand →
+      (learnt : RelayValue) → LooksForRecord (with_child_bid (sys.relays c) (sender_place sender) number demand) learnt →
+      IsOfPrice sys c (sys.relays c).answered (sys.relays c).index → Moves sys learnt []
+  learns sys sender number demand carries learnt looks held =
+      let bid : BidMessage = bid_in_channel p sys carries.x carries.place in
+      let new : System = with_relay sys c learnt in
+      let place_is : sender_place sender ≡ numbering.place carries.x = omega (arith, carries.sender_is) in
+      let at_place : LooksForRecord (with_child_bid (sys.relays c) (numbering.place carries.x) number demand) learnt =
+      subst (λ (k : ℕ). LooksForRecord (with_child_bid (sys.relays c) k number demand) learnt) place_is looks in
+      let at_number : LooksForRecord (with_child_bid (sys.relays c) (numbering.place carries.x) bid.number demand) learnt =
+      subst (λ (k : ℕ). LooksForRecord (with_child_bid (sys.relays c) (numbering.place carries.x) k demand) learnt) carries.number_is at_place in
+      let at_demand : LooksForRecord (with_child_bid (sys.relays c) (numbering.place carries.x) bid.number (told_demand bid)) learnt =
+      subst (λ (d : Option (List ℤ)). LooksForRecord (with_child_bid (sys.relays c) (numbering.place carries.x) bid.number d) learnt)
+      carries.demand_is at_number in
+      let looked = looks_same (with_child_bid (sys.relays c) (sender_place sender) number demand) learnt looks in
+      record {
+        calls = call.TakesBid carries.x carries.place ∷ [];
+        new = new;
+        runs = (
+          new,
+          inl (record {
+            node = carries.node;
+            below = λ e. relay_no_root lists c conc (sym carries.up ∙ e);
+            inside = carries.inside;
+            relay = learnt;
+            learnt = subst (λ (y : ℕ). LooksForRecord (with_child_bid (sys.relays y) (numbering.place carries.x) bid.number (told_demand bid)) learnt)
+                (sym carries.up) at_demand;
+            new_is = ap (λ (y : ℕ). with_relay sys y learnt) (sym carries.up);
+          }),
+          refl,
+        );
+        up = λ x. (tt, tt);
+        only = relay_moved sys c learnt;
+        is = updated_same sys.relays c learnt;
+        held = of_price_stays c sys new (relay_moved sys c learnt) c learnt.answered learnt.index
+            (subst₂ (IsOfPrice sys c) (sym looked.1) (sym looked.2) held);
+        sent = tt;
+        kept = tt;
+      }
+
+  -- it sends its newest bid again
+  again : (sys : System) → IsOfPrice sys c (sys.relays c).answered (sys.relays c).index → 1 ≤ (sys.relays c).gathered.window.last →
+      Moves sys (sys.relays c) (Up (own_bid (sys.relays c)) ∷ [])
+  again sys held has =
+      let bid : BidMessage = bid_message (newest_bid_number (sys.relays c)) false (own_demand (sys.relays c).gathered) in
+      let new : System = with_bid_sent sys c bid in
+      record {
+        calls = call.Resends c ∷ [];
+        new = new;
+        runs = (new, inl (record { conc = conc; has = has; new_is = refl }), refl);
+        up = λ x. (tt, tt);
+        only = bid_pushed sys c c bid;
+        is = refl;
+        held = of_price_stays c sys new (bid_pushed sys c c bid) c (sys.relays c).answered (sys.relays c).index held;
+        sent = (new_in p sys.bids_sent c bid, tt);
+        kept = (tt, tt);
+      }
+
+  -- it sends its next bid
+  sends : (sys : System) (relay : RelayValue) (number : ℕ) → BidSent (sys.relays c) relay number →
+      IsOfPrice sys c (sys.relays c).answered (sys.relays c).index → Moves sys relay (Keeps (stored_relay relay) ∷ Up (own_bid relay) ∷ [])
+  sends sys relay number sent held =
+      let bid : BidMessage = own_bid relay in
+      let new : System = with_bid_sent (with_relay sys c relay) c bid in
+      let moved : OnlyMoves c sys new = then_moves c sys (with_relay sys c relay) new (relay_moved sys c relay) (bid_pushed (with_relay sys c relay) c c bid) in
+      let is : new.relays c ≡ relay = updated_same sys.relays c relay in
+      let holds : IsOfPrice new c relay.answered relay.index = of_price_stays c sys new moved c relay.answered relay.index
+      (subst₂ (IsOfPrice sys c) (sym sent.answered) (sym sent.index) held) in
+      record {
+        calls = call.Sends c ∷ [];
+        new = new;
+        runs = (
+          new,
+          record {
+            conc = conc;
+            relay = relay;
+            number = number;
+            sent = sent;
+            new_is = ap (λ (n : ℕ). with_bid_sent (with_relay sys c relay) c (bid_message n false (own_demand relay.gathered)))
+                (sent_last (sys.relays c) relay number sent);
+          },
+          refl,
+        );
+        up = λ x. (tt, tt);
+        only = moved;
+        is = is;
+        held = holds;
+        sent = (tt, (new_in p sys.bids_sent c bid, tt));
+        kept = (own_kept new c relay is holds, (tt, tt));
+      }
+
+  begins_more : (outs more : Outs) → BeginsWithResume outs → BeginsWithResume (outs ++ more)
+  begins_more outs more begins = (begins.0, begins.1 ++ more, ap (λ (l : Outs). l ++ more) begins.2)
+
+  -- ---- it takes a price
+
+  drops_sent : (new : System) (waiting : Option PriceUpdate) (price : PriceUpdate) → WereSent lists p numbering new c (drop_outs waiting price)
+  drops_sent new None price = tt
+  drops_sent new (Some first) price = (tt, tt)
+
+  drops_kept : (new : System) (waiting : Option PriceUpdate) (price : PriceUpdate) → AreKept new c (drop_outs waiting price)
+  drops_kept new None price = tt
+  drops_kept new (Some first) price = (tt, tt)
+
+  module _ (sys : System) (waiting : Option PriceUpdate) (price : PriceUpdate) (at : UpdateWasSent sys c price) (relay : RelayValue) where
+    abbrev message : PriceMessage
+    message = price_in_channel sys c at.0
+
+    abbrev after_price : PriceOutcome → System
+    after_price outcome = with_prices_sent lists numbering (with_relay sys c relay) c (prices_down relay (update_of message) outcome)
+
+    told : (x : ℕ) → IsNode lists x → parent lists x ≡ c → (sent : PriceMessage) →
+        messages_of (price_to (record_at relay price.number).heads
+        (settled_step_of_record relay.gathered.limits price.step (record_at relay price.number).sum) price.index (numbering.place x)) ≡ sent ∷ [] →
+        PriceWasSent (after_price PassedOn) x sent
+    told x node up sent is =
+        let grown : (after_price PassedOn).prices_sent x ≡ sys.prices_sent x ++ sent ∷ [] =
+        cond-true (eqb (parent lists x) c) (sys.prices_sent x ++ prices_down relay (update_of message) PassedOn (numbering.place x)) (sys.prices_sent x)
+        (eq-eqb (parent lists x) c up)
+        ∙ ap (λ (l : List PriceMessage). sys.prices_sent x ++ l)
+        (ap (λ (q : PriceUpdate). prices_down relay q PassedOn (numbering.place x)) at.2 ∙ is) in (
+          length (sys.prices_sent x),
+          omega (arith, ap (λ (l : List PriceMessage). length l) grown, length_push (sys.prices_sent x) sent),
+          ap (λ (l : List PriceMessage). get_or l (length (sys.prices_sent x)) no_price) grown
+              ∙ get_or_push (sys.prices_sent x) sent no_price (length (sys.prices_sent x)) refl,
+        )
+
+    price_sent : (outcome : PriceOutcome) → WereSent lists p numbering (after_price outcome) c (price_outs waiting relay price outcome)
+    price_sent PassedOn =
+        let sent : Rattle.pm_session.specs.Windows.Sent = record_at relay price.number in
+        let step : ℕ = settled_step_of_record relay.gathered.limits price.step sent.sum in
+        both_sent lists p numbering (after_price PassedOn) c (downs price.index step 0 sent.heads) (Keeps (stored_relay relay) ∷ [])
+        (downs_sent StoredRelay lists p numbering (after_price PassedOn) c price.index step sent.heads told 0 sent.heads
+        (λ k inside. ap (λ (j : ℕ). get_or sent.heads j nothing_sent) (omega arith)))
+        (tt, tt)
+    price_sent Alone = (tt, tt)
+    price_sent Waits = drops_sent (after_price Waits) waiting price
+    price_sent Dropped = (tt, tt)
+
+    moved_price : (outcome : PriceOutcome) → OnlyMoves c sys (after_price outcome)
+    moved_price outcome = then_moves c sys (with_relay sys c relay) (after_price outcome) (relay_moved sys c relay)
+        (prices_pushed lists numbering (with_relay sys c relay) c (prices_down relay (update_of message) outcome))
+
+    price_kept : (outcome : PriceOutcome) → IsKept (after_price outcome) c (stored_relay relay) →
+        AreKept (after_price outcome) c (price_outs waiting relay price outcome)
+    price_kept PassedOn own =
+        let sent : Rattle.pm_session.specs.Windows.Sent = record_at relay price.number in
+        let step : ℕ = settled_step_of_record relay.gathered.limits price.step sent.sum in
+        both_kept (λ (k : StoredRelay). IsKept (after_price PassedOn) c k) (downs price.index step 0 sent.heads) (Keeps (stored_relay relay) ∷ [])
+        (downs_keep_none (λ (k : StoredRelay). IsKept (after_price PassedOn) c k) price.index step 0 sent.heads) (own, tt)
+    price_kept Alone own = (own, tt)
+    price_kept Waits own = drops_kept (after_price Waits) waiting price
+    price_kept Dropped own = (tt, tt)
+
+    takes : (outcome : PriceOutcome) → relays.TakesPrice (sys.relays c) relay price outcome →
+        IsOfPrice sys c (sys.relays c).answered (sys.relays c).index → Moves sys relay (price_outs waiting relay price outcome)
+    takes outcome did held =
+        let new : System = after_price outcome in
+        let is : new.relays c ≡ relay = updated_same sys.relays c relay in
+        let holds : IsOfPrice new c relay.answered relay.index = of_price_stays c sys new (moved_price outcome) c relay.answered relay.index
+        (takes_held sys c (sys.relays c) relay price outcome did held (price_is_of sys c price at)) in
+        record {
+          calls = call.TakesPrice c at.0 ∷ [];
+          new = new;
+          runs = (
+            new,
+            inl (record {
+              conc = conc;
+              inside = at.1;
+              relay = relay;
+              outcome = outcome;
+              taken = subst (λ (q : PriceUpdate). relays.TakesPrice (sys.relays c) relay q outcome) (sym at.2) did;
+              new_is = refl;
+            }),
+            refl,
+          );
+          up = λ x. (tt, tt);
+          only = moved_price outcome;
+          is = is;
+          held = holds;
+          sent = price_sent outcome;
+          kept = price_kept outcome (own_kept new c relay is holds);
+        }
+
+  still_waits : (y : ℕ) (sys new : System) → OnlyMoves y sys new → (waiting : Option PriceUpdate) → IfSome waiting (UpdateWasSent sys c) →
+      IfSome waiting (UpdateWasSent new c)
+  still_waits y sys new moves None is = tt
+  still_waits y sys new moves (Some price) is = update_stays y sys new moves c price is
+
+  waits_after : (sys : System) (waiting : Option PriceUpdate) (price : PriceUpdate) (outcome : PriceOutcome) → IfSome waiting (UpdateWasSent sys c) →
+      UpdateWasSent sys c price → IfSome (waiting_after waiting price outcome) (UpdateWasSent sys c)
+  waits_after sys waiting price PassedOn is at = is
+  waits_after sys waiting price Alone is at = is
+  waits_after sys None price Waits is at = at
+  waits_after sys (Some first) price Waits is at =
+      either (λ (w : Option PriceUpdate). IfSome w (UpdateWasSent sys c)) (ltb first.index price.index) (Some price) (Some first) (λ e. at) (λ e. is)
+  waits_after sys waiting price Dropped is at = is
+
+  -- what is known after it took a price, or tried the one that waits
+  record Tried (sys : System) (new : OpenRelay) (reply : Outs) : Type 0 where
+    moves : Moves sys new.relay reply
+    waiting : IfSome new.waiting (UpdateWasSent moves.new c)
+    same : SameNumbers (sys.relays c) new.relay
+
+  answers_price : (sys : System) (waiting : Option PriceUpdate) (price : PriceUpdate) (new : OpenRelay) (reply : Outs) →
+      IfSome waiting (UpdateWasSent sys c) → UpdateWasSent sys c price → IsOfPrice sys c (sys.relays c).answered (sys.relays c).index →
+      WritesPrice (record { relay = sys.relays c; waiting = waiting }) price new reply → Tried sys new reply
+  answers_price sys waiting price new reply waits at held did =
+      let took : Moves sys new.relay (price_outs waiting new.relay price did.outcome) =
+      takes sys waiting price at new.relay did.outcome did.takes held in
+      let moves : Moves sys new.relay reply = subst (λ (l : Outs). Moves sys new.relay l) (sym did.replied) took in
+      record {
+        moves = moves;
+        waiting = still_waits c sys moves.new moves.only new.waiting
+            (subst (λ (w : Option PriceUpdate). IfSome w (UpdateWasSent sys c)) (sym did.waits) (waits_after sys waiting price did.outcome waits at));
+        same = takes_same (sys.relays c) new.relay price did.outcome did.takes;
+      }
+
+  tries : (sys : System) (waiting : Option PriceUpdate) (new : OpenRelay) (reply : Outs) → IfSome waiting (UpdateWasSent sys c) →
+      IsOfPrice sys c (sys.relays c).answered (sys.relays c).index → WritesWaiting waiting (sys.relays c) new reply → Tried sys new reply
+  tries sys None new reply waits held did =
+      subst₂ (λ (n : OpenRelay) (l : Outs). Tried sys n l) (sym did.0) (sym did.1)
+      (record { moves = stays sys held; waiting = tt; same = same_self (sys.relays c) })
+  tries sys (Some price) new reply waits held did = answers_price sys None price new reply tt waits held did
+
+  -- ---- whole answers
+
+  -- what was done so far, at the relay as it is then
+  abbrev HeldBy : System → Type 0
+  HeldBy sys = IsOfPrice sys c (sys.relays c).answered (sys.relays c).index
+
+  held_by : (sys : System) (r : RelayValue) (reply : Outs) (m : Moves sys r reply) → HeldBy m.new
+  held_by sys r reply m = subst (λ (q : RelayValue). IsOfPrice m.new c q.answered q.index) (sym m.is) m.held
+
+  says_if : (sys : System) (test : Bool) (bytes : List ℕ) → HeldBy sys → Moves sys (sys.relays c) (cond test (Says bytes ∷ []) [])
+  says_if sys test bytes held = either (λ (l : Outs). Moves sys (sys.relays c) l) test (Says bytes ∷ []) [] (λ e. says sys bytes held) (λ e. stays sys held)
+
+  some_last : (n : ℕ) → not (eqb n 0) ≡ true → 1 ≤ n
+  some_last n e = elim (cases_Bool (eqb n 0)) [
+    | inl zero ↦ absurd (both_ways (not (eqb n 0)) (ap not zero) e)
+    | inr some ↦ omega (arith, λ (z : n ≡ 0). both_ways (eqb n 0) some (eq-eqb n 0 z))
+  ]
+
+  again_if : (sys : System) (test : Bool) → HeldBy sys →
+      Moves sys (sys.relays c) (cond (test && not (eqb (sys.relays c).gathered.window.last 0)) (Up (own_bid (sys.relays c)) ∷ []) [])
+  again_if sys test held =
+      either (λ (l : Outs). Moves sys (sys.relays c) l) (test && not (eqb (sys.relays c).gathered.window.last 0)) (Up (own_bid (sys.relays c)) ∷ []) []
+      (λ e. again sys held (some_last (sys.relays c).gathered.window.last (and_parts test (not (eqb (sys.relays c).gathered.window.last 0)) e).1))
+      (λ e. stays sys held)
+
+  -- first these moves, and then those of the relay as it is after them
+  goes_on : (sys : System) (r : RelayValue) (reply : Outs) (m : Moves sys r reply) (more : RelayValue → Outs) →
+      Moves m.new (m.new.relays c) (more (m.new.relays c)) → Moves sys r (reply ++ more r)
+  goes_on sys r reply m more then =
+      then_both sys r r reply (more r) m (subst (λ (q : RelayValue). Moves m.new q (more q)) m.is then) (same_self r)
+
+  looks_learnt : (r learnt : RelayValue) (place number : ℕ) (demand : Option (List ℤ)) → LooksForRecord (with_child_bid r place number demand) learnt →
+      SameNumbers r learnt
+  looks_learnt r learnt place number demand looks =
+      let same = looks_same (with_child_bid r place number demand) learnt looks in
+      record { last = same.0.last; recorded = same.0.recorded; rises = same.0.rises }
+
+  -- what was stored before may stay
+  kept_over : (sys : System) (r : RelayValue) (reply : Outs) (m : Moves sys r reply) → SameNumbers (sys.relays c) r → (stored : StoredRelay) →
+      IsKept sys c stored → IsKept m.new c stored
+  kept_over sys r reply m same stored kept =
+      kept_stays c sys m.new m.only (subst (λ (q : RelayValue). SameNumbers (sys.relays c) q) (sym m.is) same) stored kept
+
+  -- what follows of moves and of the price that waits after them
+  ends : (sys : System) (r : RelayValue) (first : Outs) (m : Moves sys r first) (waiting : Option PriceUpdate) (after : OpenRelay) (more : Outs) →
+      IfSome waiting (UpdateWasSent sys c) → WritesWaiting waiting r after more → (reply : Outs) → reply ≡ first ++ more →
+      ((stored : StoredRelay) → IsKept sys c stored → IsKept m.new c stored) ⊎ BeginsWithResume first →
+      RelayFollows lists p numbering Lets sys c after reply
+  unfolding then_both
+  ends sys r first m waiting after more waits did reply is begins =
+      let tried : Tried m.new after more = tries m.new waiting after more (still_waits c sys m.new m.only waiting waits) (held_by sys r first m)
+      (subst (λ (q : RelayValue). WritesWaiting waiting q after more) (sym m.is) did) in
+      let same : SameNumbers r after.relay = subst (λ (q : RelayValue). SameNumbers q after.relay) m.is tried.same in
+      let all : Moves sys after.relay (first ++ more) = then_both sys r after.relay first more m tried.moves same in
+      subst (λ (l : Outs). RelayFollows lists p numbering Lets sys c after l) (sym is) (record {
+        calls = all.calls;
+        new = all.new;
+        runs = all.runs;
+        only = all.only;
+        up = all.up;
+        stands = record { relay_is = sym all.is; waiting = tried.waiting; held = all.held };
+        sent = all.sent;
+        kept = all.kept;
+        first = elim begins [
+          | inl stays ↦ inl (λ stored kept. kept_over m.new after.relay more tried.moves tried.same stored (stays stored kept))
+          | inr resume ↦ inr (begins_more first more resume)
+        ];
+      })
+
+  -- ---- each frame
+
+  module _ (sys : System) (waiting : Option PriceUpdate) (after : OpenRelay) (reply : Outs) (waits : IfSome waiting (UpdateWasSent sys c))
+      (held : HeldBy sys) where
+    abbrev old : OpenRelay
+    old = record { relay = sys.relays c; waiting = waiting }
+
+    bid_follows : (sender number : ℕ) (demand : Option (List ℤ)) → CarriesBid lists p numbering sys c sender number demand →
+        WritesBid old sender number demand after reply → RelayFollows lists p numbering Lets sys c after reply
+    bid_follows sender number demand carries did =
+        let kept : ℕ = kept_number (sys.relays c).gathered.cache (sender_place sender) in
+        let learnt : Moves sys did.learnt [] = learns sys sender number demand carries did.learnt did.looks held in
+        let said : Moves sys did.learnt (receipt_outs kept sender number) = goes_on sys did.learnt [] learnt (λ r. receipt_outs kept sender number)
+        (says_if learnt.new (leb number kept) (answer_bytes (Rattle.pm_wire.specs.declared.answer.Reply.TheVariants.Old sender kept))
+        (held_by sys did.learnt [] learnt)) in
+        let first : Outs = receipt_outs kept sender number ++ again_outs (sys.relays c) did.learnt in
+        let told : Moves sys did.learnt first = goes_on sys did.learnt (receipt_outs kept sender number) said (λ r. again_outs (sys.relays c) r)
+        (again_if said.new (eqb (sys.relays c).gathered.window.last 0) (held_by sys did.learnt (receipt_outs kept sender number) said)) in
+        ends sys did.learnt first told waiting after did.waiting_reply waits did.tries reply
+        (did.replied ∙ sym (append_assoc (receipt_outs kept sender number) (again_outs (sys.relays c) did.learnt) did.waiting_reply))
+        (inl (kept_over sys did.learnt first told (looks_learnt (sys.relays c) did.learnt (sender_place sender) number demand did.looks)))
+
+    send_follows : WritesSend old after reply → RelayFollows lists p numbering Lets sys c after reply
+    send_follows did = elim did.answers [
+      | inl sent ↦
+          let first : Outs = Keeps (stored_relay did.asked) ∷ Up (own_bid did.asked) ∷ [] in
+          ends sys did.asked first (sends sys did.asked sent.0 sent.1 held) waiting after did.waiting_reply waits did.tries reply
+          (did.replied ∙ ap (λ (l : Outs). l ++ did.waiting_reply) sent.2) (inr (stored_relay did.asked, Up (own_bid did.asked) ∷ [], refl))
+      | inr refused ↦
+          let first : Outs = Says (answers.not_sent_reply refused.0) ∷ [] in
+          let m : Moves sys did.asked first = subst (λ (r : RelayValue). Moves sys r first) (sym refused.2) (says sys (answers.not_sent_reply refused.0) held) in
+          ends sys did.asked first m waiting after did.waiting_reply waits did.tries reply
+          (did.replied ∙ ap (λ (l : Outs). l ++ did.waiting_reply) refused.3)
+          (inl (kept_over sys did.asked first m
+          (subst (λ (r : RelayValue). SameNumbers (sys.relays c) r) (sym refused.2) (same_self (sys.relays c)))))
+    ]
+
+    price_follows : (price : PriceUpdate) → UpdateWasSent sys c price → WritesPrice old price after reply →
+        RelayFollows lists p numbering Lets sys c after reply
+    price_follows price at did =
+        let t : Tried sys after reply = answers_price sys waiting price after reply waits at held did in
+        record {
+          calls = t.moves.calls;
+          new = t.moves.new;
+          runs = t.moves.runs;
+          only = t.moves.only;
+          up = t.moves.up;
+          stands = record { relay_is = sym t.moves.is; waiting = t.waiting; held = t.moves.held };
+          sent = t.moves.sent;
+          kept = t.moves.kept;
+          first = inl (kept_over sys after.relay reply t.moves t.same);
+        }
+
+    silent_follows : after ≡ old → reply ≡ [] → RelayFollows lists p numbering Lets sys c after reply
+    silent_follows same none = subst (λ (l : Outs). RelayFollows lists p numbering Lets sys c after l) (sym none) (record {
+      calls = [];
+      new = sys;
+      runs = refl;
+      only = still c sys;
+      up = λ x. tt;
+      stands = subst (λ (r : OpenRelay). RelayStands sys c r) (sym same) (record { relay_is = refl; waiting = waits; held = held });
+      sent = tt;
+      kept = tt;
+      first = inl (λ stored kept. kept);
+    })
+
+    -- a child is let go: two calls of the system, as a law of systems says
+    module _ (two_calls : ExpiringIsTwoCalls) (market : IsTreeMarket lists p numbering) (before : List NodeCall)
+        (has : RunsTheMarket lists p numbering before sys) where
+      abbrev number_at : ℕ → ℕ → ℕ
+      number_at y k = parents_number (known_number (sys.relays y).recorded (sys.relays y).gathered.cache.heads k)
+
+      lets_go : (sender : ℕ) → (carries : CarriesExpire lists numbering c sender (number_at c (sender_place sender))) →
+          Lets carries.x (number_at c (sender_place sender)) → (learnt : RelayValue) →
+          LooksForRecord (with_child_bid (sys.relays c) (sender_place sender) (number_at c (sender_place sender)) None) learnt → Moves sys learnt []
+      lets_go sender carries lets learnt looks =
+          let d : ℕ = carries.x in
+          let number : ℕ = number_at c (sender_place sender) in
+          let bid : BidMessage = bid_message number true (zeros p.steps) in
+          let mid : System = with_bid_sent sys d bid in
+          let new : System = with_relay mid c learnt in
+          let place_is : sender_place sender ≡ numbering.place d = omega (arith, carries.sender_is) in
+          let at_place : LooksForRecord (with_child_bid (sys.relays c) (numbering.place d) number None) learnt =
+          subst (λ (k : ℕ). LooksForRecord (with_child_bid (sys.relays c) k number None) learnt) place_is looks in
+          let two = two_calls lists p numbering before sys new d market has (record {
+            below = λ e. relay_no_root lists c conc (sym carries.up ∙ e);
+            number = number;
+            number_is = ap (λ (k : ℕ). number_at c k) place_is ∙ ap (λ (y : ℕ). number_at y (numbering.place d)) (sym carries.up);
+            may = carries.may;
+            relay = learnt;
+            gone = subst (λ (y : ℕ). LooksForRecord (with_child_bid (sys.relays y) (numbering.place d) number None) learnt) (sym carries.up) at_place;
+            new_is = ap (λ (y : ℕ). with_relay mid y learnt) (sym carries.up);
+          }) in
+          let moved : OnlyMoves c sys new = then_moves c sys mid new (bid_pushed sys c d bid) (relay_moved mid c learnt) in
+          let looked = looks_same (with_child_bid (sys.relays c) (sender_place sender) number None) learnt looks in
+          record {
+            calls = call.Expires d number ∷ call.TakesBid d two.place ∷ [];
+            new = new;
+            runs = two.runs;
+            up = λ x. (lets, (tt, tt));
+            only = moved;
+            is = updated_same sys.relays c learnt;
+            held = of_price_stays c sys new moved c learnt.answered learnt.index (subst₂ (IsOfPrice sys c) (sym looked.1) (sym looked.2) held);
+            sent = tt;
+            kept = tt;
+          }
+
+      expire_follows : (sender : ℕ) → (carries : CarriesExpire lists numbering c sender (number_at c (sender_place sender))) →
+          Lets carries.x (number_at c (sender_place sender)) → WritesExpire old sender after
+          reply → RelayFollows lists p numbering Lets sys c after reply
+      expire_follows sender carries lets did =
+          let learnt : Moves sys did.learnt [] = lets_go sender carries lets did.learnt did.looks in
+          let first : Outs = again_outs (sys.relays c) did.learnt in
+          let told : Moves sys did.learnt first = goes_on sys did.learnt [] learnt (λ r. again_outs (sys.relays c) r)
+          (again_if learnt.new (eqb (sys.relays c).gathered.window.last 0) (held_by sys did.learnt [] learnt)) in
+          ends sys did.learnt first told waiting after did.waiting_reply waits did.tries reply did.replied
+          (inl (kept_over sys did.learnt first told
+          (looks_learnt (sys.relays c) did.learnt (sender_place sender) (number_at c (sender_place sender)) None did.looks)))
+
+      -- all frames of a relay that runs
+      frame_follows : (frame : RelayFrame) → ((d n : ℕ) → RelayLets lists numbering sys c frame d n → Lets d n) → RelayMayRead lists p numbering sys c frame → WritesRelay old frame after reply →
+          RelayFollows lists p numbering Lets sys c after reply
+      frame_follows (Child (Hello basis)) allows may did = silent_follows did.0 did.1
+      frame_follows (Child (Bid sender number demand)) allows may did = bid_follows sender number (Some demand) may did
+      frame_follows (Child (Gone sender number)) allows may did = bid_follows sender number None may did
+      frame_follows (Child Clear) allows may did = silent_follows did.0 did.1
+      frame_follows (Parent (Price own number index step)) allows may did =
+          price_follows (record { step = step; number = number; index = index }) (may.0, may.1, ap update_of may.2) did
+      frame_follows (Parent (Old own kept)) allows may did = silent_follows did.0 did.1
+      frame_follows Send allows may did = send_follows did
+      frame_follows (Expire sender) allows may did = expire_follows sender may (allows may.x (number_at c (sender_place sender)) (may.up, may.sender_is, refl)) did
+      frame_follows (Resume stored) allows may did = absurd may
+
+-- What a relay's service answers to a frame is some calls of its node.
+pub relay_answers : ExpiringIsTwoCalls → (lists : Lists) (p : Pricing) (numbering : Numbering) (before : List NodeCall) (sys : System) (c : ℕ) →
+    IsTreeMarket lists p numbering → RunsTheMarket lists p numbering before sys → IsConcentrator lists c →
+    (old after : OpenRelay) (frame : RelayFrame) (outs : List (Output StoredRelay)) →
+    RelayStands sys c old → RelayMayRead lists p numbering sys c frame → WritesRelay old frame after outs →
+    RelayFollows lists p numbering (RelayLets lists numbering sys c frame) sys c after outs
+relay_answers two lists p numbering before sys c market has conc old after frame outs stands may did =
+    frame_follows (RelayLets lists numbering sys c frame) lists p numbering c conc sys old.waiting after outs stands.waiting
+    (subst (λ (r : RelayValue). IsOfPrice sys c r.answered r.index) stands.relay_is stands.held) two market before has frame (λ d n lets. lets) may
+    (subst (λ (r : RelayValue). WritesRelay (record { relay = r; waiting = old.waiting }) frame after outs) stands.relay_is did)

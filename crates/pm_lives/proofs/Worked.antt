@@ -1,0 +1,62 @@
+-- A worked life.
+use Rattle.std.proofs.Common.{ℕ, ℤ, true, List, take, refl, inl, arith}
+use Rattle.pm_market.specs.Lists.{Lists, IsLeaf}
+use Rattle.pm_market.specs.State.{update}
+use Rattle.pm_net.specs.Pricing.{Pricing}
+use Rattle.pm_net_plan.specs.Places.{Numbering}
+use Rattle.pm_control.specs.Control.{agent_stored}
+use Rattle.pm_relay.specs.Relays.{RelayValue}
+use Rattle.pm_relay.specs.Roots.{RootValue}
+use Rattle.pm_frames.specs.declared.device.DeviceFrame.{DeviceFrame}
+use Rattle.pm_frames.specs.declared.device.DeviceFrame.TheVariants.{Offer}
+use Rattle.pm_services.specs.DeviceAnswers.{open_agent_after}
+use Rattle.pm_system.specs.System.{with_agent}
+use Rattle.pm_lives.specs.DeviceLife.{IsGivenOffer}
+use Rattle.pm_lives.specs.DeviceWrites.{device_outs}
+use Rattle.pm_lives.specs.Lives.{World, handed_out, stored_last, restart_outs}
+use Rattle.pm_lives.specs.Worked.{new_world, GoesOn}
+
+abbrev up_after : Lists → Pricing → Numbering → World → ℕ → ℕ → World
+up_after lists p numbering world d n = record world {
+  seen = handed_out lists numbering (with_agent world.seen d
+      (agent_stored (world.agent_kept d).number (world.agent_kept d).newest (world.agent_kept d).index)) d (take n (restart_outs p (world.agent_kept d)));
+  up = update world.up d true;
+}
+
+abbrev read_after : Lists → Pricing → Numbering → World → ℕ → DeviceFrame → ℕ → World
+read_after lists p numbering world d frame n = record world {
+  seen = handed_out lists numbering (with_agent world.seen d (open_agent_after (world.seen.agents d) frame)) d
+      (take n (device_outs p (world.seen.agents d) frame));
+  agent_kept = update world.agent_kept d (stored_last (world.agent_kept d) (take n (device_outs p (world.seen.agents d) frame)));
+}
+
+pub goes_on : (lists : Lists) (p : Pricing) (numbering : Numbering) (root : RootValue) (relays : ℕ → RelayValue) (demand : List ℤ) → IsLeaf lists 1 →
+    IsGivenOffer lists p 1 2 demand → GoesOn lists p numbering (new_world root relays) demand
+unfolding update
+goes_on lists p numbering root relays demand leaf given =
+    let one : World = up_after lists p numbering (new_world root relays) 1 0 in
+    let two : World = read_after lists p numbering one 1 (Offer demand) 1 in
+    let three : World = up_after lists p numbering two 1 1 in
+    record {
+      none = record {
+        up = λ y. refl;
+        relay_kept = λ c. refl;
+        root_kept = refl;
+        agent_kept = λ d. refl;
+        bids_sent = λ x. refl;
+        prices_sent = λ x. refl;
+        setpoints = λ d. refl;
+        let_go = λ d. refl;
+      };
+      new = three;
+      live = (
+        one,
+        record { leaf = leaf; new_is = refl },
+        (
+          two,
+          record { leaf = leaf; runs = refl; may = λ e room. given; handled = inl (omega arith); new_is = refl },
+          (three, record { leaf = leaf; new_is = refl }, refl),
+        ),
+      );
+      bid = refl;
+    }

@@ -1,0 +1,6 @@
+-- Of `relay_frames_are_calls`: its clause.
+use Rattle.pm_lives.proofs.RelayMoves.{relay_answers}
+use Rattle.pm_lives.proofs.relay_frames_are_calls.Goals as goal
+
+pub returns : goal.returns
+returns c lists p numbering before sys node market has conc old after frame outs stands may did = relay_answers c.expiring_is_two_calls.ensures.relay lists p numbering before sys node market has conc old after frame outs stands may did

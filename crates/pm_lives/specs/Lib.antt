@@ -1,0 +1,16 @@
+pub mod Outputs
+pub mod Moves
+pub mod RelayLife
+pub mod RelayWrites
+pub mod RootLife
+pub mod RootWrites
+pub mod DeviceLife
+pub mod DeviceWrites
+pub mod Lives
+pub mod Answering
+pub mod Carrying
+pub mod Worked
+pub mod Cutting
+pub mod Settled
+pub mod Free
+pub mod WorkedLives

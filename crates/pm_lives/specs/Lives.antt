@@ -1,0 +1,245 @@
+-- The lives of the nodes of a market: which process reads which frame, what of its answer the carriers handled, and what is stored.
+use Rattle.std.specs.Prelude.{◌≡◌, ◌⊎◌, ℕ, ◌<◌, ◌≤◌, ◌==◌, ◌&&◌, ◌+◌, max, if◌then◌else◌, Bool, true, false, List, [], ◌∷◌, length, take, replicate, Option, Some, None, ⊤}
+use Rattle.std.specs.List.{Contains}
+use Rattle.pm_base.specs.Limits.{most_nodes}
+use Rattle.pm_base.specs.declared.limits.Limits.{Limits}
+use Rattle.pm_market.specs.Lists.{Lists, parent, IsNode, IsLeaf, IsConcentrator}
+use Rattle.pm_market.specs.State.{update}
+use Rattle.pm_market.specs.Moves.{after, LegalJournal}
+use Rattle.pm_market.specs.declared.moves.Move.{Move}
+use Rattle.pm_session.specs.declared.price.PriceUpdate.{PriceUpdate}
+use Rattle.pm_net.specs.Pricing.{Pricing}
+use Rattle.pm_net.specs.Agents.{Setpoint}
+use Rattle.pm_net.specs.Agrees.{IsItsPrice}
+use Rattle.pm_net.specs.Devices.{IsRight}
+use Rattle.pm_net_plan.specs.Places.{Numbering}
+use Rattle.pm_control.specs.Control.{agent_stored}
+use Rattle.pm_relay.specs.Relays.{RelayValue, ComesBack}
+use Rattle.pm_relay.specs.Roots.{RootValue, RootComesBack}
+use Rattle.pm_frames.specs.Stored.{StoredRelay, StoredRoot}
+use Rattle.pm_frames.specs.declared.stored.StoredAgent.{StoredAgent}
+use Rattle.pm_frames.specs.declared.relay.RelayFrame.{RelayFrame}
+use Rattle.pm_frames.specs.declared.relay.RelayFrame.TheVariants as relay_frame
+use Rattle.pm_frames.specs.declared.root.RootFrame.{RootFrame}
+use Rattle.pm_frames.specs.declared.root.RootFrame.TheVariants as root_frame
+use Rattle.pm_frames.specs.declared.device.DeviceFrame.{DeviceFrame}
+use Rattle.pm_services.specs.RelayAnswers.{OpenRelay}
+use Rattle.pm_services.specs.DeviceAnswers.{open_agent_after}
+use Rattle.pm_system.specs.System.{System, bid_in_channel, price_in_channel, with_root, with_relay, with_agent, with_setpoints, with_bid_sent, with_prices_sent}
+use Rattle.pm_system.specs.Calls.{NodeCall, SystemRuns, StaysUp, bid_kept}
+use Rattle.pm_lives.specs.Outputs.{Output, Up, Down, Keeps, Tells, Says, BidWasSent, PriceWasSent}
+use Rattle.pm_lives.specs.RelayLife.{RelayMayRead, relay_number, nothing_stored}
+use Rattle.pm_lives.specs.RelayWrites.{WritesRelay}
+use Rattle.pm_lives.specs.RootLife.{RootMayRead, root_number}
+use Rattle.pm_lives.specs.RootWrites.{WritesRoot}
+use Rattle.pm_lives.specs.DeviceLife.{DeviceMayRead}
+use Rattle.pm_lives.specs.DeviceWrites.{device_outs}
+
+-- ---- the world
+
+-- What there is at a moment: the value of the process of each node, if one runs, with the price that waits at a relay; the bids, prices
+-- and setpoints that the carriers handed out; and what is stored of each node. A value of no process says nothing.
+pub record World : Type 0 where
+  pub seen : System
+  pub up : ℕ → Bool
+  pub waiting : ℕ → Option PriceUpdate
+  pub relay_kept : ℕ → StoredRelay
+  pub root_kept : StoredRoot
+  pub agent_kept : ℕ → StoredAgent
+  -- the newest number under which the parent of each device was told to let it go, 0 if it never was
+  pub let_go : ℕ → ℕ
+
+-- ---- what the carriers do with frames that y wrote, in their order
+
+-- a bid is for its parent, a price for the child with that number, a setpoint for its control
+abbrev pub handed_out : {K : Type 0} → Lists → Numbering → System → ℕ → List (Output K) → System
+handed_out lists numbering seen y [] = seen
+handed_out lists numbering seen y (Up bid ∷ outs) = handed_out lists numbering (with_bid_sent seen y bid) y outs
+handed_out lists numbering seen y (Down place price ∷ outs) =
+    handed_out lists numbering (with_prices_sent lists numbering seen y (λ k. if k == place then price ∷ [] else [])) y outs
+handed_out lists numbering seen y (Keeps stored ∷ outs) = handed_out lists numbering seen y outs
+handed_out lists numbering seen y (Tells setpoint ∷ outs) = handed_out lists numbering (with_setpoints seen y (setpoint ∷ [])) y outs
+handed_out lists numbering seen y (Says bytes ∷ outs) = handed_out lists numbering seen y outs
+
+-- the newest Resume is what is stored
+abbrev pub stored_last : {K : Type 0} → K → List (Output K) → K
+stored_last stored [] = stored
+stored_last stored (Up bid ∷ outs) = stored_last stored outs
+stored_last stored (Down place price ∷ outs) = stored_last stored outs
+stored_last stored (Keeps newer ∷ outs) = stored_last newer outs
+stored_last stored (Tells setpoint ∷ outs) = stored_last stored outs
+stored_last stored (Says bytes ∷ outs) = stored_last stored outs
+
+-- The carriers handled the first n frames of an answer: the first one at least, where there is one. The rest was lost, as when the
+-- process ended with this answer. An answer of which nothing was handled is none: the process ended before it, or all that it wrote
+-- from there on was lost.
+abbrev pub HandledSome : {K : Type 0} → ℕ → List (Output K) → Type 0
+HandledSome n outs = (1 ≤ n) ⊎ (outs ≡ [])
+
+-- a child of y with this number is let go under this number
+abbrev pub let_go_by : Lists → Numbering → (y sender number : ℕ) → (ℕ → ℕ) → ℕ → ℕ
+let_go_by lists numbering y sender number let_go' d =
+    if (parent lists d == y) && (sender == numbering.place d + 1) then max (let_go' d) number else let_go' d
+
+abbrev pub let_go_by_relay : Lists → Numbering → System → ℕ → RelayFrame → (ℕ → ℕ) → ℕ → ℕ
+let_go_by_relay lists numbering seen c (relay_frame.Expire sender) let_go' = let_go_by lists numbering c sender (relay_number seen c sender) let_go'
+let_go_by_relay lists numbering seen c frame let_go' = let_go'
+
+abbrev pub let_go_by_root : Lists → Numbering → System → RootFrame → (ℕ → ℕ) → ℕ → ℕ
+let_go_by_root lists numbering seen (root_frame.Expire sender) let_go' = let_go_by lists numbering 0 sender (root_number seen sender) let_go'
+let_go_by_root lists numbering seen frame let_go' = let_go'
+
+-- ---- one step of a life
+
+-- A process of relay c begins, with Hello and what is stored. One that ran before has ended, at any byte.
+pub record RelayBegins (p : Pricing) (lists : Lists) (world : World) (c : ℕ) (new : World) : Type 0 where
+  pub conc : IsConcentrator lists c
+  pub limits : Limits
+  pub limited : p.limits c ≡ Some limits
+  pub relay : RelayValue
+  pub back : ComesBack p.steps limits (world.relay_kept c).last (world.relay_kept c).answered (world.relay_kept c).index
+      (world.relay_kept c).numbers relay
+  pub new_is : new ≡ record world {
+    seen = with_relay world.seen c relay;
+    up = update world.up c true;
+    waiting = update world.waiting c None;
+  }
+
+-- The process of c reads a frame whose messages were handed out, and of its answer the first n frames are handled.
+pub record RelayReads (lists : Lists) (p : Pricing) (numbering : Numbering) (world : World) (c : ℕ) (frame : RelayFrame) (n : ℕ) (new : World) :
+    Type 0 where
+  pub conc : IsConcentrator lists c
+  pub runs : world.up c ≡ true
+  pub may : RelayMayRead lists p numbering world.seen c frame
+  pub after : OpenRelay
+  pub outs : List (Output StoredRelay)
+  pub writes : WritesRelay (record { relay = world.seen.relays c; waiting = world.waiting c }) frame after outs
+  pub handled : HandledSome n outs
+  pub new_is : new ≡ record world {
+    seen = handed_out lists numbering (with_relay world.seen c after.relay) c (take n outs);
+    waiting = update world.waiting c after.waiting;
+    relay_kept = update world.relay_kept c (stored_last (world.relay_kept c) (take n outs));
+    let_go = let_go_by_relay lists numbering world.seen c frame world.let_go;
+  }
+
+pub record RootBegins (p : Pricing) (world : World) (new : World) : Type 0 where
+  pub root : RootValue
+  pub back : RootComesBack p.steps world.root_kept.last world.root_kept.numbers root
+  pub new_is : new ≡ record world { seen = with_root world.seen root; up = update world.up 0 true }
+
+pub record RootReads (lists : Lists) (p : Pricing) (numbering : Numbering) (world : World) (frame : RootFrame) (n : ℕ) (new : World) : Type 0 where
+  pub runs : world.up 0 ≡ true
+  pub may : RootMayRead lists p numbering world.seen frame
+  pub after : RootValue
+  pub outs : List (Output StoredRoot)
+  pub writes : WritesRoot world.seen.root frame after outs
+  pub handled : HandledSome n outs
+  pub new_is : new ≡ record world {
+    seen = handed_out lists numbering (with_root world.seen after) 0 (take n outs);
+    root_kept = stored_last world.root_kept (take n outs);
+    let_go = let_go_by_root lists numbering world.seen frame world.let_go;
+  }
+
+-- a device sends its newest bid again, if it made one
+abbrev pub restart_outs : Pricing → StoredAgent → List (Output StoredAgent)
+restart_outs p stored = if stored.number == 0 then [] else Up (bid_kept p stored.number stored.newest) ∷ []
+
+pub record DeviceBegins (lists : Lists) (p : Pricing) (numbering : Numbering) (world : World) (d n : ℕ) (new : World) : Type 0 where
+  pub leaf : IsLeaf lists d
+  pub new_is : new ≡ record world {
+    seen = handed_out lists numbering (with_agent world.seen d
+        (agent_stored (world.agent_kept d).number (world.agent_kept d).newest (world.agent_kept d).index)) d (take n (restart_outs p (world.agent_kept d)));
+    up = update world.up d true;
+  }
+
+pub record DeviceReads (lists : Lists) (p : Pricing) (numbering : Numbering) (world : World) (d : ℕ) (frame : DeviceFrame) (n : ℕ) (new : World) :
+    Type 0 where
+  pub leaf : IsLeaf lists d
+  pub runs : world.up d ≡ true
+  pub may : DeviceMayRead lists p world.seen d frame
+  pub handled : HandledSome n (device_outs p (world.seen.agents d) frame)
+  pub new_is : new ≡ record world {
+    seen = handed_out lists numbering (with_agent world.seen d (open_agent_after (world.seen.agents d) frame)) d
+        (take n (device_outs p (world.seen.agents d) frame));
+    agent_kept = update world.agent_kept d (stored_last (world.agent_kept d) (take n (device_outs p (world.seen.agents d) frame)));
+  }
+
+-- ---- lives
+
+pub data LifeStep : Type 0 where
+  RelayUp : ℕ → LifeStep
+  Relay : ℕ → RelayFrame → ℕ → LifeStep
+  RootUp : LifeStep
+  Root : RootFrame → ℕ → LifeStep
+  DeviceUp : ℕ → ℕ → LifeStep
+  Device : ℕ → DeviceFrame → ℕ → LifeStep
+
+abbrev pub Lives1 : Lists → Pricing → Numbering → World → LifeStep → World → Type 0
+Lives1 lists p numbering world (RelayUp c) new = RelayBegins p lists world c new
+Lives1 lists p numbering world (Relay c frame n) new = RelayReads lists p numbering world c frame n new
+Lives1 lists p numbering world RootUp new = RootBegins p world new
+Lives1 lists p numbering world (Root frame n) new = RootReads lists p numbering world frame n new
+Lives1 lists p numbering world (DeviceUp d n) new = DeviceBegins lists p numbering world d n new
+Lives1 lists p numbering world (Device d frame n) new = DeviceReads lists p numbering world d frame n new
+
+-- one step after the other, by all nodes, in the order in which the carriers handled the answers
+abbrev pub Live : Lists → Pricing → Numbering → World → List LifeStep → World → Type 0
+Live lists p numbering world [] new = world ≡ new
+Live lists p numbering world (step ∷ steps) new = (mid : World) × Lives1 lists p numbering world step mid × Live lists p numbering mid steps new
+
+abbrev pub no_root_stored : StoredRoot
+no_root_stored = record { last = 0; numbers = replicate most_nodes 0 }
+
+abbrev pub no_agent_stored : StoredAgent
+no_agent_stored = record { number = 0; index = 0; newest = None }
+
+-- no process runs, nothing is stored, and nothing was handed out
+pub record IsNewWorld (world : World) : Type 0 where
+  pub up : (y : ℕ) → world.up y ≡ false
+  pub relay_kept : (c : ℕ) → world.relay_kept c ≡ nothing_stored
+  pub root_kept : world.root_kept ≡ no_root_stored
+  pub agent_kept : (d : ℕ) → world.agent_kept d ≡ no_agent_stored
+  pub bids_sent : (x : ℕ) → world.seen.bids_sent x ≡ []
+  pub prices_sent : (x : ℕ) → world.seen.prices_sent x ≡ []
+  pub setpoints : (d : ℕ) → world.seen.setpoints d ≡ []
+  pub let_go : (d : ℕ) → world.let_go d ≡ 0
+
+-- ---- what holds
+
+-- each message that was handed out was sent
+pub record AllIn (lists : Lists) (p : Pricing) (seen sys : System) : Type 0 where
+  pub bids : (x k : ℕ) → IsNode lists x → k < length (seen.bids_sent x) → BidWasSent p sys x (bid_in_channel p seen x k)
+  pub prices : (x k : ℕ) → IsNode lists x → k < length (seen.prices_sent x) → PriceWasSent sys x (price_in_channel seen x k)
+  pub setpoints : (d : ℕ) (setpoint : Setpoint) → Contains (seen.setpoints d) setpoint → Contains (sys.setpoints d) setpoint
+
+-- a process of device d begins with this step; never, or once at most, in these
+abbrev pub IsUpOf : ℕ → LifeStep → Type 0
+IsUpOf d (DeviceUp e n) = e ≡ d
+IsUpOf d step = ⊥
+
+abbrev pub BeginsNever : ℕ → List LifeStep → Type 0
+BeginsNever d [] = ⊤
+BeginsNever d (step ∷ steps) = (IsUpOf d step → ⊥) × BeginsNever d steps
+
+abbrev pub BeginsOnce : ℕ → List LifeStep → Type 0
+BeginsOnce d [] = ⊤
+BeginsOnce d (step ∷ steps) = BeginsNever d steps ⊎ ((IsUpOf d step → ⊥) × BeginsOnce d steps)
+
+-- The lives are a run of a system: some calls, by which everything was sent that was handed out. They restart no device that had one
+-- life.
+pub record LivesAreCalls (lists : Lists) (p : Pricing) (numbering : Numbering) (start : System) (steps : List LifeStep) (world : World) : Type 0 where
+  pub calls : List NodeCall
+  pub sys : System
+  pub runs : SystemRuns lists p numbering start calls sys
+  pub sent : AllIn lists p world.seen sys
+  pub up : (d : ℕ) → IsLeaf lists d → BeginsOnce d steps → StaysUp d calls
+
+-- All prices that were handed out are of one legal journal: each names its receiver's own number and local step in the cut of its
+-- clearing. Each setpoint that was handed out is right in it.
+pub record LivesKeepTheLaw (lists : Lists) (p : Pricing) (world : World) : Type 0 where
+  pub journal : List Move
+  pub legal : LegalJournal lists journal
+  pub prices : (x k : ℕ) → IsNode lists x → k < length (world.seen.prices_sent x) →
+      IsItsPrice lists p (after lists journal) x (price_in_channel world.seen x k)
+  pub setpoints : (d : ℕ) (setpoint : Setpoint) → IsLeaf lists d → Contains (world.seen.setpoints d) setpoint →
+      IsRight lists p (after lists journal) d setpoint

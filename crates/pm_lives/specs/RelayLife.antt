@@ -1,0 +1,106 @@
+-- The service of a relay over a stream, and the relay of a system for which it stands.
+use Rattle.std.specs.Prelude.{◌≡◌, ◌⊎◌, ℕ, ◌+◌, ◌-◌, ◌<◌, ◌≤◌, ℤ, List, length, replicate, Option, Some, None, IfSome, ⊤}
+use Rattle.pm_base.specs.Limits.{most_nodes}
+use Rattle.pm_market.specs.Lists.{Lists, parent, IsNode}
+use Rattle.pm_session.specs.declared.price.PriceUpdate.{PriceUpdate}
+use Rattle.pm_net.specs.Pricing.{Pricing}
+use Rattle.pm_net.specs.Messages.{price_message}
+use Rattle.pm_net_plan.specs.Places.{Numbering}
+use Rattle.pm_wire.specs.declared.frame.Frame.TheVariants.{Hello, Bid, Gone, Clear}
+use Rattle.pm_relay.specs.Relays.{newest_bid_number}
+use Rattle.pm_relay.specs.Numbers.{known_number, parents_number}
+use Rattle.pm_relay_net.specs.RelayIs.{told_demand, update_of}
+use Rattle.pm_frames.specs.Stored.{StoredRelay}
+use Rattle.pm_frames.specs.declared.parent.ParentFrame.TheVariants.{Price, Old}
+use Rattle.pm_frames.specs.declared.relay.RelayFrame.{RelayFrame}
+use Rattle.pm_frames.specs.declared.relay.RelayFrame.TheVariants.{Child, Parent, Send, Expire, Resume}
+use Rattle.pm_services.specs.RelayAnswers.{OpenRelay}
+use Rattle.pm_system.specs.System.{System, bid_in_channel, price_in_channel}
+use Rattle.pm_system.specs.Expiry.{MayExpire}
+use Rattle.pm_lives.specs.Outputs.{Output, PriceWasSent}
+use Rattle.pm_lives.specs.Moves.{Follows}
+
+-- ---- what a relay's value is of
+
+-- a number and an index are those of a price that was sent to c, or of none
+abbrev pub IsOfPrice : System → ℕ → (answered index : ℕ) → Type 0
+IsOfPrice sys c answered index =
+    ((answered ≡ 0) × (index ≡ 0))
+    ⊎ ((k : ℕ) × (k < length (sys.prices_sent c)) × ((price_in_channel sys c k).number ≡ answered) × ((price_in_channel sys c k).index ≡ index))
+
+-- a price that waits was sent to c
+abbrev pub UpdateWasSent : System → ℕ → PriceUpdate → Type 0
+UpdateWasSent sys c price = (k : ℕ) × (k < length (sys.prices_sent c)) × (update_of (price_in_channel sys c k) ≡ price)
+
+-- a relay after Hello stands for node c of the system
+pub record RelayStands (sys : System) (c : ℕ) (relay : OpenRelay) : Type 0 where
+  pub relay_is : relay.relay ≡ sys.relays c
+  pub waiting : IfSome relay.waiting (UpdateWasSent sys c)
+  pub held : IsOfPrice sys c relay.relay.answered relay.relay.index
+
+-- ---- what it may come back with
+
+-- what was stored is of the newest bid of node c, and of a price that it took, or of one before
+pub record IsKept (sys : System) (c : ℕ) (stored : StoredRelay) : Type 0 where
+  pub last : stored.last ≡ newest_bid_number (sys.relays c)
+  pub numbers : stored.numbers ≡ (sys.relays c).recorded
+  pub price : IsOfPrice sys c stored.answered stored.index
+  pub older : stored.index ≤ (sys.relays c).index
+
+-- what is stored before anything is
+abbrev pub nothing_stored : StoredRelay
+nothing_stored = record { last = 0; answered = 0; index = 0; numbers = replicate most_nodes 0 }
+
+-- ---- what it may be given
+
+-- a Bid or Gone from a sender is a message of the child with that number
+pub record CarriesBid (lists : Lists) (p : Pricing) (numbering : Numbering) (sys : System) (y sender number : ℕ) (demand : Option (List ℤ)) : Type 0 where
+  pub x : ℕ
+  pub node : IsNode lists x
+  pub up : parent lists x ≡ y
+  pub sender_is : sender ≡ numbering.place x + 1
+  pub place : ℕ
+  pub inside : place < length (sys.bids_sent x)
+  pub number_is : number ≡ (bid_in_channel p sys x place).number
+  pub demand_is : demand ≡ told_demand (bid_in_channel p sys x place)
+
+-- the child that is let go is a device, which under that number is no member
+pub record CarriesExpire (lists : Lists) (numbering : Numbering) (y sender number : ℕ) : Type 0 where
+  pub x : ℕ
+  pub up : parent lists x ≡ y
+  pub node : IsNode lists x
+  pub sender_is : sender ≡ numbering.place x + 1
+  pub may : MayExpire lists x number
+
+-- Each message in a frame to relay c was sent: a Bid or Gone by the child that it names, a price to c. Of Send and Old nothing is
+-- asked. Hello and Resume stand at the start of a life alone.
+abbrev pub RelayMayRead : Lists → Pricing → Numbering → System → ℕ → RelayFrame → Type 0
+RelayMayRead lists p numbering sys c (Child (Hello basis)) = ⊤
+RelayMayRead lists p numbering sys c (Child (Bid sender number demand)) = CarriesBid lists p numbering sys c sender number (Some demand)
+RelayMayRead lists p numbering sys c (Child (Gone sender number)) = CarriesBid lists p numbering sys c sender number None
+RelayMayRead lists p numbering sys c (Child Clear) = ⊤
+RelayMayRead lists p numbering sys c (Parent (Price own number index step)) = PriceWasSent sys c (price_message number index step)
+RelayMayRead lists p numbering sys c (Parent (Old own kept)) = ⊤
+RelayMayRead lists p numbering sys c Send = ⊤
+RelayMayRead lists p numbering sys c (Expire sender) = CarriesExpire lists numbering c sender
+    (parents_number (known_number (sys.relays c).recorded (sys.relays c).gathered.cache.heads (sender - 1)))
+RelayMayRead lists p numbering sys c (Resume stored) = ⊥
+
+-- by an Expire the child with that number is let go, under the parent's next number for it; by no other frame is any
+abbrev pub LetsGo : Lists → Numbering → (y sender number d n : ℕ) → Type 0
+LetsGo lists numbering y sender number d n = (parent lists d ≡ y) × (sender ≡ numbering.place d + 1) × (n ≡ number)
+
+-- the number under which a relay lets a child go
+abbrev pub relay_number : System → ℕ → ℕ → ℕ
+relay_number sys c sender = parents_number (known_number (sys.relays c).recorded (sys.relays c).gathered.cache.heads (sender - 1))
+
+abbrev pub RelayLets : Lists → Numbering → System → ℕ → RelayFrame → ℕ → ℕ → Type 0
+RelayLets lists numbering sys c (Expire sender) d n = LetsGo lists numbering c sender (relay_number sys c sender) d n
+RelayLets lists numbering sys c frame d n = ⊥
+
+-- ---- what an answer is
+
+-- what a relay makes of a frame: some calls of c, after which its service stands for it again
+abbrev pub RelayFollows : Lists → Pricing → Numbering → (ℕ → ℕ → Type 0) → System → (c : ℕ) → OpenRelay → List (Output StoredRelay) → Type 0
+RelayFollows lists p numbering Lets sys c after outs =
+    Follows lists p numbering Lets (λ t stored. IsKept t c stored) (λ t. RelayStands t c after) sys c outs
