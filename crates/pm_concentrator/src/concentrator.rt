@@ -4,6 +4,7 @@ ghost use Rattle.std.specs.Prelude.{◌≡◌, ◌+◌, ◌-◌, ◌<◌, ◌≤
 ghost use Rattle.std.specs.Prelude.{IsFalse, ◌↔◌, unwrap_or, true, false};
 ghost use Rattle.std.specs.Option.{option_copied};
 ghost use Rattle.pm_base.specs.Limits.{AreSteps, AreLimits, most_nodes, window_size};
+ghost use Rattle.pm_base.specs.declared.limits.Limits.{Limits};
 ghost use Rattle.pm_bid.specs.Limited.{within_limits};
 ghost use Rattle.pm_bid.specs.Taken.{announced};
 ghost use Rattle.pm_cache.specs.Cache.{aggregate_of, kept_number, child_demand, answer_to};
@@ -237,13 +238,36 @@ impl Concentrator {
         }
     }
 
+    /// The limits, if there are some.
+    pub fn limits(&self) -> Option<Limits>
+        ensures limits { result ≡ self.now.limits }
+    {
+        match &self.limited {
+            None => None,
+            Some(limited) => Some(limited.limits()),
+        }
+    }
+
+    /// Changes the limits, if there are some. The newest bid stays as it is: the new limits count from the next bid on.
+    pub fn change_limits(&mut self, limits: Limits)
+        requires limits { AreLimits limits }
+        ensures changed { self.new ≡ record self.old
+            { limits = option_map (λ (old : Limits). limits) self.old.limits } }
+    {
+        match &mut self.limited {
+            None => {}
+            Some(limited) => limited.change(limits),
+        }
+    }
+
     /// What a price is for each child as [`Concentrator::prices`] has it, for a node that settles for steps within its limits.
-    pub fn settled_prices(&self, price: PriceUpdate) -> Prices<'_>
+    /// These are the limits that the number was made under, which the caller knows: the present ones may be others.
+    pub fn settled_prices(&self, price: PriceUpdate, limits: &Limits) -> Prices<'_>
         requires kept { Keeps self.now.window price.number }
         requires step { IsStepOf self.now.limits self.now.cache.steps price.step }
         ensures heads { result.heads.now ≡ (record_of self.now.window price.number).heads }
         ensures children { length result.heads.now ≡ length self.now.cache.heads }
-        ensures step { result.step ≡ settled_step_of_record self.now.limits price.step
+        ensures step { result.step ≡ settled_step_of_record (Some limits.now) price.step
             (record_of self.now.window price.number).sum }
         ensures inside { price.step < self.now.cache.steps → result.step < self.now.cache.steps }
         ensures index { result.index ≡ price.index }
@@ -252,7 +276,7 @@ impl Concentrator {
         let heads = record.children();
         Prices {
             heads,
-            step: settled_step_below(&self.limited, price.step, record),
+            step: settled_step_below(&self.limited, limits, price.step, record),
             index: price.index,
         }
     }
@@ -422,23 +446,29 @@ fn step_below(limited: &Option<Limited>, step: u32, sent: &Record) -> u32
 }
 
 /// The same for a node that settles for steps within its limits.
-fn settled_step_below(limited: &Option<Limited>, step: u32, sent: &Record) -> u32
+fn settled_step_below(
+    limited: &Option<Limited>,
+    limits: &Limits,
+    step: u32,
+    sent: &Record,
+) -> u32
     requires step { (limits : LimitedValue) → limited.now ≡ Some limits →
         step < length limits.announced }
     requires sums { (limits : LimitedValue) → limited.now ≡ Some limits →
         steps_of sent.now.sum ≡ Some (length limits.announced) }
     requires no_sums { limited.now ≡ None → sent.now.sum ≡ None }
-    ensures step { result ≡ settled_step_of_record (option_map (λ l. l.limits) limited.now) step
-        sent.now.sum }
+    ensures step { result ≡ settled_step_of_record (Some limits.now) step sent.now.sum }
     ensures inside { (limits : LimitedValue) → limited.now ≡ Some limits →
         result < length limits.announced }
     ensures same { limited.now ≡ None → result ≡ step }
 {
     match limited {
         None => step,
-        Some(limits) => match sent.sum() {
+        Some(_own) => match sent.sum() {
             None => step,
-            Some(sum) => limits.settled_step(step, sum),
+            Some(sum) => {
+                sum.settled_step(limits, step as usize, &mut Steps::<Brand>::start()) as u32
+            }
         },
     }
 }

@@ -4,7 +4,7 @@ ghost use Rattle.std.specs.Prelude.{◌≡◌, ◌<◌, length, IfOk};
 ghost use Rattle.pm_base.specs.Limits.{AreSteps, AreLimits};
 ghost use Rattle.pm_bid.specs.Bids.{zeros, clamp};
 ghost use Rattle.pm_bid.specs.Limited.{step_within};
-ghost use Rattle.pm_bid.specs.Taken.{settled_in, announced_in};
+ghost use Rattle.pm_bid.specs.Taken.{announced_in};
 
 use pm_base::Limits;
 use pm_bid::{ArrayBid, Steps};
@@ -80,12 +80,18 @@ impl Limited {
         sum.step_within(&self.limits, step as usize, &mut Steps::<Brand>::start()) as u32
     }
 
-    /// The step of the nodes below for a price of this step and the children's sum, where the node settles for steps within
-    /// its limits.
-    pub(crate) fn settled_step(&self, step: u32, sum: &ArrayBid) -> u32
-        ensures step { result ≡ settled_in self.now.limits step sum.now }
-        ensures inside { result < length sum.now }
+    /// The limits.
+    pub(crate) fn limits(&self) -> Limits
+        ensures limits { result ≡ self.now.limits }
     {
-        sum.settled_step(&self.limits, step as usize, &mut Steps::<Brand>::start()) as u32
+        self.limits
+    }
+
+    /// Takes other limits. The demand of the newest bid stays.
+    pub(crate) fn change(&mut self, limits: Limits)
+        requires limits { AreLimits limits }
+        ensures changed { self.new ≡ record self.old { limits = limits } }
+    {
+        self.limits = limits;
     }
 }

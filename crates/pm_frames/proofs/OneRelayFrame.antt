@@ -7,7 +7,7 @@ use Rattle.pm_wire.specs.Frames.{hello_kind, bid_kind, gone_kind}
 use Rattle.pm_wire.specs.Memory.{frame_limit}
 use Rattle.pm_wire.proofs.OneField.{two_same}
 use Rattle.pm_wire.proofs.OneFrame.{parts_same, bid_framing_sound}
-use Rattle.pm_frames.specs.Kinds.{price_kind, old_kind, send_kind, resume_kind, expire_kind}
+use Rattle.pm_frames.specs.Kinds.{price_kind, old_kind, send_kind, resume_kind, expire_kind, limits_kind}
 use Rattle.pm_frames.specs.Places.{bid_place, IsNodePlace}
 use Rattle.pm_frames.specs.Stored.{relay_resume_bytes, relay_resume_size}
 use Rattle.pm_frames.specs.RelayFrames.{relay_framing, relay_frame_bytes, relay_size, relay_size_open, IsRelayFormed, relay_place_after}
@@ -16,11 +16,12 @@ use Rattle.pm_frames.specs.declared.place.Stage.{Stage}
 use Rattle.pm_frames.specs.declared.place.Stage.TheVariants.{Start, Opened, Running}
 use Rattle.pm_frames.specs.declared.parent.ParentFrame as parents
 use Rattle.pm_frames.specs.declared.relay.RelayFrame.{RelayFrame}
-use Rattle.pm_frames.specs.declared.relay.RelayFrame.TheVariants.{Child, Parent, Send, Expire, Resume}
+use Rattle.pm_frames.specs.declared.relay.RelayFrame.TheVariants.{Child, Parent, Send, Expire, NewLimits, Resume}
 use Rattle.pm_frames.proofs.FirstBytes.{bid_kind_of, first_same}
 use Rattle.pm_frames.proofs.OneNumber.{length-number_bytes}
 use Rattle.pm_frames.proofs.OneParent.{parent_same, parent_kind}
-use Rattle.pm_frames.proofs.OneStored.{relay_stored_same}
+use Rattle.std.proofs.Common.{◌∙◌}
+use Rattle.pm_frames.proofs.OneStored.{relay_stored_same, given_same}
 use Rattle.pm_frames.proofs.NodePlaces.{behind_is, after_is, steps_of}
 use Rattle.pm_frames.proofs.Sizes.{either, of_some}
 
@@ -51,6 +52,19 @@ one_frame place (Expire a) Send x y is is' e = absurd (omega (arith, first_same 
 one_frame place (Expire a) (Expire b) x y is is' e =
     let same = two_same a b x y is.1 is'.1 (parts_same _ _ _ _ e).1 in (ap (λ h. Expire h) same.0, same.1)
 one_frame place (Expire a) (Resume b) x y is is' e = absurd (omega (arith, first_same _ _ e))
+one_frame place (Child f) (NewLimits b n k) x y is is' e = absurd (omega (arith, bid_kind_of f x, first_same _ _ e))
+one_frame place (Parent f) (NewLimits b n k) x y is is' e = absurd (omega (arith, (parent_kind f x).1, first_same _ _ e))
+one_frame place Send (NewLimits b n k) x y is is' e = absurd (omega (arith, first_same _ _ e))
+one_frame place (Expire a) (NewLimits b n k) x y is is' e = absurd (omega (arith, first_same _ _ e))
+one_frame place (Resume a) (NewLimits b n k) x y is is' e = absurd (omega (arith, first_same _ _ e))
+one_frame place (NewLimits a m l) (Child g) x y is is' e = absurd (omega (arith, bid_kind_of g y, first_same _ _ e))
+one_frame place (NewLimits a m l) (Parent g) x y is is' e = absurd (omega (arith, (parent_kind g y).1, first_same _ _ e))
+one_frame place (NewLimits a m l) Send x y is is' e = absurd (omega (arith, first_same _ _ e))
+one_frame place (NewLimits a m l) (Expire b) x y is is' e = absurd (omega (arith, first_same _ _ e))
+one_frame place (NewLimits a m l) (Resume b) x y is is' e = absurd (omega (arith, first_same _ _ e))
+one_frame place (NewLimits a m l) (NewLimits b n k) x y is is' e =
+    let same = given_same a m l b n k x y is.1 is'.1 e in
+    (ap (λ z. NewLimits z m l) same.0 ∙ ap (λ z. NewLimits b z l) same.1 ∙ ap (λ z. NewLimits b n z) same.2, same.3)
 one_frame place (Resume a) (Expire b) x y is is' e = absurd (omega (arith, first_same _ _ e))
 one_frame place (Resume a) (Child g) x y is is' e = absurd (omega (arith, bid_kind_of g y, first_same _ _ e))
 one_frame place (Resume a) (Parent g) x y is is' e = absurd (omega (arith, (parent_kind g y).1, first_same _ _ e))
@@ -68,6 +82,7 @@ sized child Start (Child bids.TheVariants.Clear) more is = absurd is.0
 sized child Start (Parent frame) more is = absurd is.0
 sized child Start Send more is = absurd is
 sized child Start (Expire sender) more is = absurd is.0
+sized child Start (NewLimits sender number limits) more is = absurd is.0
 sized child Start (Resume stored) more is = absurd is.0
 sized child (Opened steps) (Child (bids.TheVariants.Hello basis)) more is = absurd is.0
 sized child (Opened steps) (Child (bids.TheVariants.Bid sender number demand)) more is =
@@ -78,8 +93,9 @@ sized child (Opened steps) (Parent (parents.TheVariants.Price own number index s
 sized child (Opened steps) (Parent (parents.TheVariants.Old own kept)) more is = refl
 sized child (Opened steps) Send more is = refl
 sized child (Opened steps) (Expire sender) more is = refl
+sized child (Opened steps) (NewLimits sender number limits) more is = refl
 sized child (Opened steps) (Resume stored) more is =
-    let size : relay_resume_size ≡ length (relay_resume_bytes stored) = omega (arith, length-number_bytes stored.numbers, is.1.3.0) in
+    let size : relay_resume_size ≡ length (relay_resume_bytes stored) = omega (arith, length-number_bytes stored.numbers, is.1.4.0) in
     ap (λ n. Some n) size
 sized child (Running steps) (Child (bids.TheVariants.Hello basis)) more is = absurd is.0
 sized child (Running steps) (Child (bids.TheVariants.Bid sender number demand)) more is =
@@ -90,34 +106,35 @@ sized child (Running steps) (Parent (parents.TheVariants.Price own number index 
 sized child (Running steps) (Parent (parents.TheVariants.Old own kept)) more is = refl
 sized child (Running steps) Send more is = refl
 sized child (Running steps) (Expire sender) more is = refl
+sized child (Running steps) (NewLimits sender number limits) more is = refl
 sized child (Running steps) (Resume stored) more is = absurd is.0
 
 -- what holds of each size holds of those after Hello
-size_open : (P : ℕ → Type 0) (steps kind : ℕ) → P 1 → P 3 → P 7 → P 13 → P (7 + 4 * steps) → IfSome (relay_size_open steps kind) P
-size_open P steps kind one three seven thirteen bid =
+size_open : (P : ℕ → Type 0) (steps kind : ℕ) → P 1 → P 3 → P 7 → P 13 → P 15 → P (7 + 4 * steps) → IfSome (relay_size_open steps kind) P
+size_open P steps kind one three seven thirteen fifteen bid =
     let Q : Option ℕ → Type 0 = λ o. IfSome o P in
     either Q (kind == bid_kind) _ _ bid (either Q (kind == gone_kind) _ _ seven
-    (either Q (kind == price_kind) _ _ thirteen (either Q (kind == old_kind) _ _ seven (either Q (kind == send_kind) _ _ one (either Q (kind == expire_kind) _ _ three tt)))))
+    (either Q (kind == price_kind) _ _ thirteen (either Q (kind == old_kind) _ _ seven (either Q (kind == send_kind) _ _ one (either Q (kind == expire_kind) _ _ three (either Q (kind == limits_kind) _ _ fifteen tt))))))
 
-size_of : (P : ℕ → Type 0) (stage : Stage) (kind : ℕ) → P 1 → P 3 → P 7 → P 11 → P 13 → P relay_resume_size →
+size_of : (P : ℕ → Type 0) (stage : Stage) (kind : ℕ) → P 1 → P 3 → P 7 → P 11 → P 13 → P 15 → P relay_resume_size →
     ((steps : ℕ) → bid_place stage ≡ Some steps → P (7 + 4 * steps)) →
     IfSome (relay_size stage kind) P
-size_of P Start kind one three seven hello thirteen resume bid =
+size_of P Start kind one three seven hello thirteen fifteen resume bid =
     let Q : Option ℕ → Type 0 = λ o. IfSome o P in either Q (kind == hello_kind) _ _ hello tt
-size_of P (Opened steps) kind one three seven hello thirteen resume bid =
+size_of P (Opened steps) kind one three seven hello thirteen fifteen resume bid =
     let Q : Option ℕ → Type 0 = λ o. IfSome o P in
-    either Q (kind == resume_kind) _ _ resume (size_open P steps kind one three seven thirteen (bid steps refl))
-size_of P (Running steps) kind one three seven hello thirteen resume bid = size_open P steps kind one three seven thirteen (bid steps refl)
+    either Q (kind == resume_kind) _ _ resume (size_open P steps kind one three seven thirteen fifteen (bid steps refl))
+size_of P (Running steps) kind one three seven hello thirteen fifteen resume bid = size_open P steps kind one three seven thirteen fifteen (bid steps refl)
 
 some_bytes : (place : NodePlace) (kind size : ℕ) → relay_size place.stage kind ≡ Some size → 1 ≤ size
 some_bytes place kind size is =
     let P : ℕ → Type 0 = λ n. 1 ≤ n in
-    of_some P _ size (size_of P place.stage kind (omega arith) (omega arith) (omega arith) (omega arith) (omega arith) (omega arith) (λ steps e. omega arith)) is
+    of_some P _ size (size_of P place.stage kind (omega arith) (omega arith) (omega arith) (omega arith) (omega arith) (omega arith) (omega arith) (λ steps e. omega arith)) is
 
 few_bytes : (place : NodePlace) (kind size : ℕ) → IsNodePlace place → relay_size place.stage kind ≡ Some size → size ≤ frame_limit
 few_bytes place kind size is_place is =
     let P : ℕ → Type 0 = λ n. n ≤ frame_limit in
-    of_some P _ size (size_of P place.stage kind (omega arith) (omega arith) (omega arith) (omega arith) (omega arith) (omega arith)
+    of_some P _ size (size_of P place.stage kind (omega arith) (omega arith) (omega arith) (omega arith) (omega arith) (omega arith) (omega arith)
     (λ steps e. omega (arith, (steps_of place.stage steps is_place e).most))) is
 
 leads_on : (place : NodePlace) (frame : RelayFrame) → IsNodePlace place → MayStand relay_framing place frame → IsNodePlace (relay_place_after place frame)
@@ -125,6 +142,7 @@ leads_on place (Child frame) is stands = after_is place.stage frame is (record {
 leads_on place (Parent frame) is stands = behind_is place.stage is
 leads_on place Send is stands = behind_is place.stage is
 leads_on place (Expire child) is stands = behind_is place.stage is
+leads_on place (NewLimits child number limits) is stands = behind_is place.stage is
 leads_on place (Resume stored) is stands = behind_is place.stage is
 
 -- the frames of the stream to a relay are a framing

@@ -13,7 +13,9 @@ use Rattle.pm_frames.specs.Kinds.{offer_kind, resume_kind}
 use Rattle.pm_frames.specs.Expiries.{expire_bytes, IsExpireFormed, IsExpireAccepted}
 use Rattle.pm_frames.specs.Places.{bid_place, steps_at, IsOpen, IsFresh}
 use Rattle.pm_frames.specs.ParentFrames.{IsRefusedParentFrame}
-use Rattle.pm_frames.specs.Stored.{StoredRelay, relay_resume_bytes, IsRelayStored}
+use Rattle.pm_frames.specs.Stored.{StoredRelay, relay_resume_bytes, IsRelayStored, IsRelayStoredAccepted}
+use Rattle.pm_base.specs.declared.limits.Limits.{Limits}
+use Rattle.pm_frames.specs.LimitsFrames.{given_bytes, IsGivenFormed, IsGivenAccepted}
 use Rattle.pm_frames.specs.Offers.{IsOffer, IsRefusedOffer, AreDemands, IsOfferOf}
 use Rattle.pm_frames.specs.RelayFrames.{relay_framing, IsOfChild}
 use Rattle.pm_frames.specs.RootFrames.{root_framing}
@@ -120,10 +122,22 @@ root_expire_refused stage bytes child is_open formed spelled refused = record {
   spelled = spelled;
 }
 
+-- ---- new limits
+
+pub relay_limits_refused : (place : NodePlace) (bytes : List ℕ) (child number : ℕ) (limits : Limits) → IsOpen place.stage →
+    IsGivenFormed child number limits → bytes ≡ given_bytes child number limits → ¬ IsGivenAccepted child limits →
+    IsRefusedFrame relay_framing place bytes
+relay_limits_refused place bytes child number limits is_open formed spelled refused = record {
+  frame = relays.NewLimits child number limits;
+  formed = (is_open, formed);
+  refused = refused;
+  spelled = spelled;
+}
+
 -- ---- what nodes come back with, and offers
 
 pub relay_resume_refused : (place : NodePlace) (bytes : List ℕ) (stored : StoredRelay) → IsFresh place.stage → IsRelayStored stored →
-    bytes ≡ relay_resume_bytes stored → ¬ (stored.answered ≤ stored.last) → IsRefusedFrame relay_framing place bytes
+    bytes ≡ relay_resume_bytes stored → ¬ IsRelayStoredAccepted stored → IsRefusedFrame relay_framing place bytes
 relay_resume_refused place bytes stored fresh is spelled refused = record {
   frame = relays.Resume stored;
   formed = (fresh, is);

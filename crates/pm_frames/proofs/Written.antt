@@ -18,3 +18,10 @@ pub five_written : (out first second third fourth fifth a b c d e : List ℕ) �
     e ≡ out ++ (first ++ (second ++ (third ++ (fourth ++ fifth))))
 five_written out first second third fourth fifth a b c d e ea eb ec ed ee =
     let all : e ≡ ((((out ++ first) ++ second) ++ third) ++ fourth) ++ fifth = cc in all ∙ simp append_assoc
+
+-- seven parts
+pub seven_written : (out p1 p2 p3 p4 p5 p6 p7 a b c d e f g : List ℕ) → a ≡ out ++ p1 → b ≡ a ++ p2 → c ≡ b ++ p3 → d ≡ c ++ p4 → e ≡ d ++ p5 →
+    f ≡ e ++ p6 → g ≡ f ++ p7 → g ≡ out ++ (p1 ++ (p2 ++ (p3 ++ (p4 ++ (p5 ++ (p6 ++ p7))))))
+seven_written out p1 p2 p3 p4 p5 p6 p7 a b c d e f g ea eb ec ed ee ef eg =
+    let five : e ≡ out ++ (p1 ++ (p2 ++ (p3 ++ (p4 ++ p5)))) = five_written out p1 p2 p3 p4 p5 a b c d e ea eb ec ed ee in
+    let all : g ≡ ((out ++ (p1 ++ (p2 ++ (p3 ++ (p4 ++ p5))))) ++ p6) ++ p7 = cc in all ∙ simp append_assoc

@@ -39,3 +39,6 @@ out_of_numbers_kind = 18
 
 abbrev pub expire_kind : ℕ
 expire_kind = 19
+
+abbrev pub limits_kind : ℕ
+limits_kind = 20

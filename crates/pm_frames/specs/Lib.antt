@@ -8,3 +8,4 @@ pub mod DeviceFrames
 pub mod Offers
 pub mod Answers
 pub mod Expiries
+pub mod LimitsFrames

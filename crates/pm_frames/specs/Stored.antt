@@ -6,15 +6,18 @@ use Rattle.std.specs.List.{flat_map, AllByRecursion}
 use Rattle.pm_base.specs.Limits.{most_nodes}
 use Rattle.pm_bid.specs.Checks.{checked_bid}
 use Rattle.std.specs.Prelude.{Ok}
-use Rattle.pm_wire.specs.Frames.{demand_bytes}
+use Rattle.pm_base.specs.declared.limits.Limits.{Limits}
+use Rattle.pm_relay.specs.Relays.{AreRelayLimits}
+use Rattle.pm_wire.specs.Frames.{demand_bytes, signed_bytes}
 use Rattle.pm_frames.specs.Kinds.{resume_kind, resume_gone_kind}
 use Rattle.pm_frames.specs.declared.stored.StoredAgent.{StoredAgent}
 
--- what a relay keeps: its last number, and of each child the number in that bid; the number answered and the index of one price
+-- what a relay keeps: its last number, the limits that this bid was made under, and of each child the number in it; the number answered and the index of one price
 pub record StoredRelay : Type 0 where
   pub last : ℕ
   pub answered : ℕ
   pub index : ℕ
+  pub limits : Limits
   pub numbers : List ℕ
 
 -- what an auctioneer keeps: the index of its last clearing, and of each child the number in it
@@ -33,13 +36,19 @@ AreChildNumbers numbers = (length numbers ≡ most_nodes) × AllByRecursion (λ 
 
 abbrev pub relay_resume_bytes : StoredRelay → List ℕ
 relay_resume_bytes stored =
-    resume_kind ∷ (to_be_bytes w32 stored.last ++ (to_be_bytes w32 stored.answered ++ (to_be_bytes w32 stored.index ++ number_bytes stored.numbers)))
+    resume_kind ∷ (to_be_bytes w32 stored.last ++ (to_be_bytes w32 stored.answered ++ (to_be_bytes w32 stored.index
+    ++ (signed_bytes stored.limits.floor ++ (signed_bytes stored.limits.ceiling ++ number_bytes stored.numbers)))))
 
 abbrev pub relay_resume_size : ℕ
-relay_resume_size = 13 + 4 * most_nodes
+relay_resume_size = 21 + 4 * most_nodes
 
 abbrev pub IsRelayStored : StoredRelay → Type 0
-IsRelayStored stored = (stored.last < 2 ^ 32) × (stored.answered < 2 ^ 32) × (stored.index < 2 ^ 32) × AreChildNumbers stored.numbers
+IsRelayStored stored = (stored.last < 2 ^ 32) × (stored.answered < 2 ^ 32) × (stored.index < 2 ^ 32)
+    × (FitsSigned w32 stored.limits.floor × FitsSigned w32 stored.limits.ceiling) × AreChildNumbers stored.numbers
+
+-- no number answered is above the last one, and a relay may have the limits
+abbrev pub IsRelayStoredAccepted : StoredRelay → Type 0
+IsRelayStoredAccepted stored = (stored.answered ≤ stored.last) × AreRelayLimits stored.limits
 
 -- ---- an auctioneer
 

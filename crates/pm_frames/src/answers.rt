@@ -7,6 +7,7 @@ ghost use Rattle.std.specs.Int.{w16, w32, to_be_bytes};
 ghost use Rattle.pm_base.specs.Limits.{most_nodes, demand_limit};
 ghost use Rattle.pm_bid.specs.Bids.{AllWithinLimit};
 ghost use Rattle.pm_wire.specs.Answers.{answer_bytes};
+ghost use Rattle.pm_relay.specs.Relays.{AreRelayLimits};
 ghost use Rattle.pm_wire.specs.Frames.{frame_bytes, signed_bytes, demand_bytes};
 ghost use Rattle.pm_wire.specs.declared.frame.Frame.{Frame};
 ghost use Rattle.pm_frames.specs.Stored.{number_bytes, relay_resume_bytes, root_resume_bytes, newest_bytes};
@@ -123,11 +124,13 @@ pub fn write_gone(child: u16, number: u32, out: &mut Vec<u8>)
 /// Appends what a relay keeps over a restart.
 pub fn write_relay_resume(resume: &Resume<'_>, out: &mut Vec<u8>)
     requires children { length resume.now.numbers.now ≡ most_nodes }
-    requires room { vec_len out.old + 13 + 4 * most_nodes ≤ vec_capacity out.old }
+    requires limits { AreRelayLimits resume.now.limits }
+    requires room { vec_len out.old + 21 + 4 * most_nodes ≤ vec_capacity out.old }
     ensures written { out.new.items ≡ out.old.items ++ relay_resume_bytes (record {
       last = resume.now.last;
       answered = resume.now.answered;
       index = resume.now.index;
+      limits = resume.now.limits;
       numbers = resume.now.numbers.now;
     }) }
     ensures capacity { vec_capacity out.old ≤ vec_capacity out.new }
@@ -136,6 +139,8 @@ pub fn write_relay_resume(resume: &Resume<'_>, out: &mut Vec<u8>)
     write_u32(resume.last, out);
     write_u32(resume.answered, out);
     write_u32(resume.index, out);
+    write_i32(resume.limits.floor, out);
+    write_i32(resume.limits.ceiling, out);
     write_numbers(resume.numbers, out);
 }
 

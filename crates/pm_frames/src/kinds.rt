@@ -31,3 +31,5 @@ pub(crate) const NOT_CAUGHT_UP: u8 = 17;
 pub(crate) const OUT_OF_NUMBERS: u8 = 18;
 
 pub(crate) const EXPIRE: u8 = 19;
+
+pub(crate) const LIMITS: u8 = 20;

@@ -14,6 +14,7 @@ mod answers;
 mod device;
 mod expiry;
 mod kinds;
+mod limits;
 mod parent;
 mod place;
 mod relay;

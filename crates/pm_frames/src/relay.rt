@@ -4,18 +4,19 @@ ghost use Rattle.std.specs.Prelude.{◌≡◌, ◌≢◌, ◌+◌, ◌≤◌, �
 ghost use Rattle.pm_base.specs.Limits.{most_steps};
 ghost use Rattle.pm_wire.specs.Frames.{clear_kind, size_at as bid_size_at};
 ghost use Rattle.pm_wire.specs.Spelling.{IsOne};
-ghost use Rattle.pm_frames.specs.Kinds.{resume_kind, expire_kind};
+ghost use Rattle.pm_frames.specs.Kinds.{resume_kind, expire_kind, limits_kind};
 ghost use Rattle.pm_frames.specs.Places.{bid_place, IsOpen, IsFresh, IsStage};
 ghost use Rattle.pm_frames.specs.ParentFrames.{parent_size};
 ghost use Rattle.pm_frames.specs.Stored.{relay_resume_size};
 ghost use Rattle.pm_frames.specs.RelayFrames.{relay_size, relay_size_open, relay_framing};
 
 use crate::expiry::{is_child, read_expiring};
-use crate::kinds::{BID, EXPIRE, GONE, HELLO, OLD, PRICE, RESUME, SEND};
+use crate::kinds::{BID, EXPIRE, GONE, HELLO, LIMITS, OLD, PRICE, RESUME, SEND};
+use crate::limits::{is_given, read_given};
 use crate::parent::{ParentFrame, read_accepted};
 use crate::place::{NodePlace, Stage};
 use crate::stored::{StoredRelay, read_stored_relay};
-use pm_base::MOST_NODES;
+use pm_base::{Limits, MOST_NODES};
 use pm_wire::{Frame, StreamFrame};
 use std::alloc::{AllocError, Global};
 
@@ -30,6 +31,8 @@ pub enum RelayFrame {
     Send,
     /// The relay is to let a device go, which is this child.
     Expire { child: u16 },
+    /// The relay has new limits, which are given under this number in the place of this child.
+    NewLimits { child: u16, number: u32, limits: Limits },
     /// What the relay comes back with.
     Resume(StoredRelay),
 }
@@ -45,6 +48,7 @@ fn size_open(steps: usize, kind: u8) -> Option<usize>
         PRICE => Some(13),
         SEND => Some(1),
         EXPIRE => Some(3),
+        LIMITS => Some(15),
         _ => None,
     }
 }
@@ -57,7 +61,7 @@ fn size_at(stage: Stage, kind: u8) -> Option<usize>
     match stage {
         Stage::Start if kind == HELLO => Some(11),
         Stage::Start => None,
-        Stage::Opened { .. } if kind == RESUME => Some(13 + 4 * MOST_NODES),
+        Stage::Opened { .. } if kind == RESUME => Some(21 + 4 * MOST_NODES),
         Stage::Opened { steps } | Stage::Running { steps } => size_open(steps, kind),
     }
 }
@@ -120,6 +124,23 @@ fn read_expire(place: NodePlace, body: &[u8]) -> Option<RelayFrame>
     Some(RelayFrame::Expire { child })
 }
 
+/// Reads the fields of new limits.
+fn read_new_limits(place: NodePlace, body: &[u8]) -> Option<RelayFrame>
+    requires open { IsOpen place.stage }
+    requires size { 15 ≡ length body.now + 1 }
+    ensures { IsOne relay_framing place (limits_kind ∷ body.now) result }
+{
+    let (child, number, limits) = read_given(body);
+    if !is_given(child, &limits) {
+        return None;
+    }
+    Some(RelayFrame::NewLimits {
+        child,
+        number,
+        limits,
+    })
+}
+
 /// Reads the fields of a frame of this kind.
 fn read_body(
     alloc: Global,
@@ -135,6 +156,7 @@ fn read_body(
         RESUME => read_resume(alloc, place, body),
         SEND => Ok(Some(RelayFrame::Send)),
         EXPIRE => Ok(read_expire(place, body)),
+        LIMITS => Ok(read_new_limits(place, body)),
         PRICE | OLD => Ok(read_from_parent(place, kind, body)),
         _ => read_child(alloc, place, kind, body),
     }
@@ -164,6 +186,7 @@ impl StreamFrame for RelayFrame {
             RelayFrame::Parent(_)
             | RelayFrame::Send
             | RelayFrame::Expire { .. }
+            | RelayFrame::NewLimits { .. }
             | RelayFrame::Resume(_) => place.stage.behind(),
         };
         NodePlace {

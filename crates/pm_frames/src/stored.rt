@@ -2,12 +2,13 @@
 
 ghost use Rattle.std.specs.Prelude.{◌≡◌, ◌+◌, ◌*◌, ◌≤◌, ◌∷◌, ◌↔◌, IsTrue, length, IfOk};
 ghost use Rattle.pm_base.specs.Limits.{most_nodes};
-ghost use Rattle.pm_frames.specs.Stored.{number_bytes, AreChildNumbers, relay_resume_bytes, root_resume_bytes, IsRelayStored, IsRootStored};
+ghost use Rattle.pm_frames.specs.Stored.{number_bytes, AreChildNumbers, relay_resume_bytes, root_resume_bytes, IsRelayStored, IsRelayStoredAccepted, IsRootStored};
 
-use pm_base::MOST_NODES;
+use crate::limits::are_relay_limits;
+use pm_base::{Limits, MOST_NODES};
 use pm_bid::ArrayBid;
 use pm_relay::Resume;
-use pm_wire::read_u32;
+use pm_wire::{read_i32, read_u32};
 use std::alloc::{AllocError, Global};
 use std::marker::Model;
 
@@ -17,6 +18,7 @@ pub struct StoredRelay {
     last: u32,
     answered: u32,
     index: u32,
+    limits: Limits,
     numbers: Vec<u32>,
 }
 
@@ -29,6 +31,7 @@ impl Model for StoredRelay {
       last = s.last;
       answered = s.answered;
       index = s.index;
+      limits = s.limits;
       numbers = s.numbers.items;
     } };
 }
@@ -64,22 +67,24 @@ impl StoredRelay {
     pub fn resume(&self) -> Resume<'_>
         ensures last { result.last ≡ self.now.last }
         ensures numbers { result.numbers.now ≡ self.now.numbers }
+        ensures limits { result.limits ≡ self.now.limits }
         ensures answered { result.answered ≡ self.now.answered }
         ensures index { result.index ≡ self.now.index }
     {
         Resume {
             last: self.last,
             numbers: &self.numbers,
+            limits: self.limits,
             answered: self.answered,
             index: self.index,
         }
     }
 
-    /// Whether the number answered is not above the last one.
+    /// Whether the number answered is not above the last one, and a relay may have the limits.
     pub(crate) fn is_accepted(&self) -> bool
-        ensures { IsTrue result ↔ (self.now.answered ≤ self.now.last) }
+        ensures { IsTrue result ↔ IsRelayStoredAccepted self.now }
     {
-        self.answered <= self.last
+        self.answered <= self.last && are_relay_limits(&self.limits)
     }
 }
 
@@ -117,18 +122,21 @@ fn read_numbers(alloc: Global, bytes: &[u8]) -> Result<Vec<u32>, AllocError>
 
 /// What a relay comes back with, by the bytes after the kind.
 pub(crate) fn read_stored_relay(alloc: Global, body: &[u8]) -> Result<StoredRelay, AllocError>
-    requires { length body.now ≡ 12 + 4 * most_nodes }
+    requires { length body.now ≡ 20 + 4 * most_nodes }
     ensures spelled { IfOk result (λ stored. 12 ∷ body.now ≡ relay_resume_bytes stored) }
     ensures stored { IfOk result IsRelayStored }
 {
     let (last, rest) = read_u32(body);
     let (answered, rest) = read_u32(rest);
     let (index, rest) = read_u32(rest);
+    let (floor, rest) = read_i32(rest);
+    let (ceiling, rest) = read_i32(rest);
     let numbers = read_numbers(alloc, rest)?;
     Ok(StoredRelay {
         last,
         answered,
         index,
+        limits: Limits { floor, ceiling },
         numbers,
     })
 }

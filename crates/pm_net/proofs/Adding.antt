@@ -5,7 +5,8 @@ use Rattle.pm_base.specs.Cuts.{Cut}
 use Rattle.pm_market.specs.Lists.{Lists, parent, IsNode, IsInner, IsConcentrator, Lawful}
 use Rattle.pm_market.specs.State.{State, update, is_same_on, DifferOn, cut_at, newest_number_of, part, knowledge, number, last_index, clearings, cleared_cut}
 use Rattle.pm_market.specs.Sound.{Sound}
-use Rattle.pm_market.proofs.Cuts.{updated_same, updated_other, pushed, pushed_length_same, pushed_length_other, known_at, newest_inner}
+use Rattle.pm_market.proofs.Cuts.{updated_same, updated_other, pushed, pushed_length_same, pushed_length_other, known_at, newest_inner, part_leaf}
+use Rattle.pm_market.proofs.Tree.{leaf_of_itself}
 use Rattle.std.proofs.lemmas.Bool.{false_from_ne_true}
 use Rattle.pm_laws.specs.Added.{HasAdded}
 use Rattle.pm_laws.specs.Due.{is_due}
@@ -13,7 +14,7 @@ use Rattle.pm_laws.proofs.Facts.{last_within, updated_at}
 use Rattle.pm_laws.proofs.Numbers.{published_is_part, cleared_is_part, known_heads}
 use Rattle.pm_laws.proofs.Published.{due_within}
 use Rattle.pm_net.specs.Pricing.{Pricing, GoesByNodes}
-use Rattle.pm_net.specs.Messages.{BidMessage, PriceMessage, bid_message, price_message}
+use Rattle.pm_net.specs.Messages.{BidMessage, PriceMessage, bid_message, price_message, numbers_of}
 use Rattle.pm_net.specs.Network.{IsUnbroken, Network}
 use Rattle.pm_net.specs.Running.{has_news, heard_sum}
 use Rattle.pm_laws.specs.Gone.{is_gone}
@@ -39,6 +40,13 @@ module _ (lists : Lists) (law : Lawful lists) (p : Pricing) (by : GoesByNodes li
       (known_heads lists law (knowing s l) sound y inner).0 e x node up in
       sym (heard_here x node up) ∙ sym top
       ∙ ap (λ (z : ℕ). number lists s x (cut_at (s.published z) (length (s.published z)))) (sym up) ∙ sym (agrees.learnt x node)))
+
+  -- the limits that the bids' numbers give are those over what it knows
+  pub limits_are : p.limits y (numbers_of net.heard) ≡ p.limits y (knowledge lists (knowing s l) y)
+  limits_are = by.limits_alike y (numbers_of net.heard) (knowledge lists (knowing s l) y) (λ d node leaf up.
+      sym (heard_here d node up) ∙ sym (part_leaf lists s.published d (l d) d leaf)
+      ∙ sym (known_at lists law s.published l d d node.0 (leaf_of_itself lists law d leaf))
+      ∙ ap (λ (z : ℕ). knowledge lists (knowing s l) z d) up)
 
   -- the sum of the bids is that of the offers over what it knows
   pub sum_is : heard_sum p net y ≡ p.add y (λ x. p.offer x (knowledge lists (knowing s l) y))

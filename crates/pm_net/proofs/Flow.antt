@@ -39,7 +39,7 @@ module _ (lists : Lists) (law : Lawful lists) (p : Pricing) (by : GoesByNodes li
   long_below (suc n) x node over = elim (cases_Bool (is_leaf lists x)) [
     | inl leaf ↦ ap length (by.device x cut leaf) ∙ adds.one_each x (cut x) leaf
     | inr inner ↦
-        ap length (by.relay x cut (node.0, node.1, inner)) ∙ length-announced (p.limits x) (sum_of_offers p cut x)
+        ap length (by.relay x cut (node.0, node.1, inner)) ∙ length-announced (p.limits x cut) (sum_of_offers p cut x)
         ∙ adds.long x (λ z. p.offer z cut) (λ z z_node up. long_below n z z_node (omega (arith, over, law.earlier z z_node, up)))
   ]
 
@@ -64,7 +64,7 @@ module _ (lists : Lists) (law : Lawful lists) (p : Pricing) (by : GoesByNodes li
         omega (
           arith,
           by.below x cut node conc,
-          settled_step_inside (p.limits (parent lists x)) (p.local cut (parent lists x)) (sum_of_offers p cut (parent lists x))
+          settled_step_inside (p.limits (parent lists x) cut) (p.local cut (parent lists x)) (sum_of_offers p cut (parent lists x))
               (omega (arith, above, sum_long (parent lists x))),
           sum_long (parent lists x),
         )
@@ -89,19 +89,19 @@ module _ (lists : Lists) (law : Lawful lists) (p : Pricing) (by : GoesByNodes li
 
     -- the step of the children of a relay
     abbrev below_step : ℕ
-    below_step = settled_step (p.limits c) (p.local cut c) (sum_of_offers p cut c)
+    below_step = settled_step (p.limits c cut) (p.local cut c) (sum_of_offers p cut c)
 
     below_inside : below_step < p.steps
     below_inside = omega (
       arith,
-      settled_step_inside (p.limits c) (p.local cut c) (sum_of_offers p cut c) (omega (arith, local_inside c (conc.0, conc.1), sum_long c)),
+      settled_step_inside (p.limits c cut) (p.local cut c) (sum_of_offers p cut c) (omega (arith, local_inside c (conc.0, conc.1), sum_long c)),
       sum_long c,
     )
 
     child_step : (x : ℕ) → IsNode lists x → parent lists x ≡ c → p.local cut x ≡ below_step
     child_step x node up =
         let conc' : IsConcentrator lists (parent lists x) = subst (λ (z : ℕ). IsConcentrator lists z) (sym up) conc in
-        by.below x cut node conc' ∙ ap (λ (z : ℕ). settled_step (p.limits z) (p.local cut z) (sum_of_offers p cut z)) up
+        by.below x cut node conc' ∙ ap (λ (z : ℕ). settled_step (p.limits z cut) (p.local cut z) (sum_of_offers p cut z)) up
 
     taken_from : ((x : ℕ) → IsNode lists x → parent lists x ≡ c → power_below lists p cut x ≡ demand_at (p.offer x cut) (p.local cut x)) →
         power_below lists p cut c ≡ demand_at (sum_of_offers p cut c) below_step
@@ -117,7 +117,7 @@ module _ (lists : Lists) (law : Lawful lists) (p : Pricing) (by : GoesByNodes li
         let conc : IsConcentrator lists x = (node.0, node.1, inner) in
         taken_from x conc (λ z z_node up. node_below n z z_node (omega (arith, over, law.earlier z z_node, up))
         (λ c c_conc below. says c c_conc (subst (λ (y : ℕ). is_below lists y c ≡ true) up (below_parent lists law z c below))))
-        ∙ sym (announced_is_taken (p.limits x) (p.local cut x) (sum_of_offers p cut x) (omega (arith, local_inside x node, sum_long x))
+        ∙ sym (announced_is_taken (p.limits x cut) (p.local cut x) (sum_of_offers p cut x) (omega (arith, local_inside x node, sum_long x))
         (says x conc (below_itself lists law x)))
         ∙ ap (λ (b : List ℤ). demand_at b (p.local cut x)) (sym (by.relay x cut conc))
   ]
@@ -127,12 +127,12 @@ module _ (lists : Lists) (law : Lawful lists) (p : Pricing) (by : GoesByNodes li
 
   -- a relay's devices take together what its sum has at the step for which it settles
   pub flows_as_settled : (c : ℕ) → IsConcentrator lists c → SaysBelow lists p cut c →
-      power_below lists p cut c ≡ demand_at (sum_of_offers p cut c) (settled_step (p.limits c) (p.local cut c) (sum_of_offers p cut c))
+      power_below lists p cut c ≡ demand_at (sum_of_offers p cut c) (settled_step (p.limits c cut) (p.local cut c) (sum_of_offers p cut c))
   flows_as_settled c conc says = taken_from c conc (λ z z_node up. flows_as_offered z z_node
       (λ d d_conc below. says d d_conc (subst (λ (y : ℕ). is_below lists y d ≡ true) up (below_parent lists law z d below))))
 
   -- they keep its limits if some step of the sum does
-  pub flows_within : (c : ℕ) (limits : Limits) → IsConcentrator lists c → SaysBelow lists p cut c → p.limits c ≡ Some limits →
+  pub flows_within : (c : ℕ) (limits : Limits) → IsConcentrator lists c → SaysBelow lists p cut c → p.limits c cut ≡ Some limits →
       NeverRises (sum_of_offers p cut c) → HasStepWithin limits (sum_of_offers p cut c) → IsWithinLimits limits (power_below lists p cut c)
   flows_within c limits conc says is falls has =
       subst (IsWithinLimits limits)

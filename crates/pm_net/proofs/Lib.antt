@@ -27,3 +27,5 @@ pub mod Steps
 pub mod Told
 pub mod Membership
 pub mod Flow
+pub mod Limits
+pub mod PriceLimits

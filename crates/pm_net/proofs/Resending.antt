@@ -13,7 +13,8 @@ use Rattle.pm_market.proofs.Legality.{is_node_from}
 use Rattle.pm_laws.proofs.Facts.{updated_at}
 use Rattle.pm_laws.proofs.Numbers.{published_is_part}
 use Rattle.pm_net.specs.Pricing.{Pricing, GoesByNodes}
-use Rattle.pm_net.specs.Messages.{BidMessage, bid_message, nothing_heard}
+use Rattle.pm_net.specs.Messages.{BidMessage, bid_message, nothing_heard, numbers_of}
+use Rattle.pm_net.proofs.Limits.{number_leaf}
 use Rattle.pm_net.specs.Network.{Network}
 use Rattle.pm_net.specs.Running.{device_bid, can_send, after_bidding, after_sending}
 use Rattle.pm_net.specs.Restarts.{device_stopped, relay_stopped}
@@ -139,14 +140,23 @@ module _ (lists : Lists) (law : Lawful lists) (p : Pricing) (by : GoesByNodes li
           (published_is_part lists law s agrees.sound z n z_node le).0)
           ∙ ap (λ (i : ℕ). p.offer z (cut_at (s.published i) n)) up
 
-      its_relay : IsItsBid lists p s x (bid_message n false (announced (p.limits x) (p.add x (λ z. (net.records x n z).demand))))
+      limits_are : p.limits x (numbers_of (net.records x n)) ≡ p.limits x (cut_at (s.published x) n)
+      limits_are = by.limits_alike x (numbers_of (net.records x n)) (cut_at (s.published x) n) (λ z z_node leaf up.
+          let c : ℕ = parent lists z in
+          let le : n ≤ length (s.published c) = omega (arith, agrees.last_number x inner, ap (λ (i : ℕ). length (s.published i)) up) in
+          let has : net.whole_from c ≤ n = omega (arith, whole.0, ap net.whole_from up) in
+          ap (λ (i : ℕ). (net.records i n z).number) (sym up) ∙ ap (λ (b : BidMessage). b.number) (agrees.records z n z_node has le)
+          ∙ number_leaf lists s.published z (cut_at (s.published c) n) leaf ∙ ap (λ (i : ℕ). cut_at (s.published i) n z) up)
+
+      its_relay : IsItsBid lists p s x (bid_message n false (announced (p.limits x (numbers_of (net.records x n))) (p.add x (λ z. (net.records x n z).demand))))
       its_relay =
           let gone : is_gone lists x n ≡ false = gone_inner lists x n inner ∙ ne_eqb n 0 (λ e. omega (arith, e, whole.1)) in
-          let demand : announced (p.limits x) (p.add x (λ z. (net.records x n z).demand)) ≡ p.offer x (part lists s x n) =
-          ap (announced (p.limits x)) (by.sums x (λ z. (net.records x n z).demand) (λ z. p.offer z (cut_at (s.published x) n)) demand_is)
+          let demand : announced (p.limits x (numbers_of (net.records x n))) (p.add x (λ z. (net.records x n z).demand)) ≡ p.offer x (part lists s x n) =
+          ap (λ v. announced v (p.add x (λ z. (net.records x n z).demand))) limits_are
+          ∙ ap (announced (p.limits x (cut_at (s.published x) n))) (by.sums x (λ z. (net.records x n z).demand) (λ z. p.offer z (cut_at (s.published x) n)) demand_is)
           ∙ sym (by.relay x (cut_at (s.published x) n) conc) ∙ ap (p.offer x) (sym (part_inner lists s.published x n inner)) in (
             omega (arith, newest_inner lists s.counts s.published x inner, agrees.last_number x inner),
-            ap (λ g. bid_message n g (announced (p.limits x) (p.add x (λ z. (net.records x n z).demand)))) (sym gone)
+            ap (λ g. bid_message n g (announced (p.limits x (numbers_of (net.records x n))) (p.add x (λ z. (net.records x n z).demand)))) (sym gone)
                 ∙ ap (bid_message n (is_gone lists x n)) demand,
           )
 
@@ -155,7 +165,7 @@ module _ (lists : Lists) (law : Lawful lists) (p : Pricing) (by : GoesByNodes li
 
     its : IsItsBid lists p s x bid
     its = either (IsItsBid lists p s x) (is_leaf lists x) (device_bid lists p x (net.counts x))
-        (bid_message (net.last_number x) false (announced (p.limits x) (p.add x (λ z. (net.records x (net.last_number x) z).demand)))) its_device its_relay
+        (bid_message (net.last_number x) false (announced (p.limits x (numbers_of (net.records x (net.last_number x)))) (p.add x (λ z. (net.records x (net.last_number x) z).demand)))) its_device its_relay
 
     -- a bid that is sent again: no move
     pub resending : GoesOn lists p s (after_resending lists p net x)

@@ -22,7 +22,7 @@ use Rattle.pm_laws.proofs.Kept.{sound_step}
 use Rattle.pm_laws.proofs.Order.{after_append, legal_append}
 use Rattle.pm_laws.proofs.MoveLaws.{publishing, due_published}
 use Rattle.pm_net.specs.Pricing.{Pricing, GoesByNodes}
-use Rattle.pm_net.specs.Messages.{BidMessage, bid_message, nothing_heard}
+use Rattle.pm_net.specs.Messages.{BidMessage, bid_message, nothing_heard, numbers_of}
 use Rattle.pm_net.specs.Network.{Network}
 use Rattle.pm_net.specs.Running.{is_caught_up, has_news, can_send, relay_bid, heard_sum, after_sending}
 use Rattle.pm_laws.specs.Gone.{is_gone}
@@ -110,11 +110,12 @@ module _ (lists : Lists) (law : Lawful lists) (p : Pricing) (by : GoesByNodes li
   new_bid =
       let gone : is_gone lists c n ≡ false = gone_inner lists c n inner ∙ ne_eqb n 0 (λ e. omega arith) in
       let its_part : part lists next c n ≡ knowledge lists knows c = ap (part lists next c) number_is ∙ has.part_added in
-      let demand : announced (p.limits c) (heard_sum p net c) ≡ p.offer c (part lists next c n) =
-      ap (announced (p.limits c)) (adding.sum_is lists law p by net s agrees c inner l sound here)
+      let demand : announced (p.limits c (numbers_of net.heard)) (heard_sum p net c) ≡ p.offer c (part lists next c n) =
+      ap (λ v. announced v (heard_sum p net c)) (adding.limits_are lists law p by net s agrees c inner l sound here)
+      ∙ ap (announced (p.limits c (knowledge lists knows c))) (adding.sum_is lists law p by net s agrees c inner l sound here)
       ∙ sym (by.relay c (knowledge lists knows c) conc) ∙ ap (p.offer c) (sym its_part) in (
         omega (arith, number_is, has.newest_added),
-        ap (λ g. bid_message n g (announced (p.limits c) (heard_sum p net c))) (sym gone) ∙ ap (bid_message n (is_gone lists c n)) demand,
+        ap (λ g. bid_message n g (announced (p.limits c (numbers_of net.heard)) (heard_sum p net c))) (sym gone) ∙ ap (bid_message n (is_gone lists c n)) demand,
       )
 
   kept_bid : (x : ℕ) (bid : BidMessage) → IsItsBid lists p s x bid → IsItsBid lists p next x bid

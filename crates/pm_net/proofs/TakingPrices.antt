@@ -20,6 +20,8 @@ use Rattle.pm_net.specs.Messages.{BidMessage, PriceMessage, price_message, no_pr
 use Rattle.pm_net.specs.Network.{IsUnbroken, Network, sent_price}
 use Rattle.pm_net.specs.Running.{is_new_price, names_a_bid, is_overtaken, waits, after_taking_price}
 use Rattle.pm_net.specs.Running.{after_answer, relay_step, after_passing}
+use Rattle.pm_net.proofs.Limits.{number_leaf}
+use Rattle.pm_net.specs.Messages.{numbers_of}
 use Rattle.pm_net.specs.Agrees.{GoesOn, bid_of_number, price_of_clearing, IsItsPrice, HoldsIts, NetworkAgrees, GoesForward}
 use Rattle.pm_net.proofs.Messages.{past, each_push, some_push}
 use Rattle.pm_net.proofs.Down.{down_each, down_old, down_new}
@@ -396,6 +398,10 @@ module _ (lists : Lists) (law : Lawful lists) (p : Pricing) (by : GoesByNodes li
             ∙ sym (by.alike y (cleared_cut s j) (part lists s y (number lists s y (cleared_cut s j)))
             (cleared_is_part lists law s agrees.sound y j y_node within.1).0)
 
+      limits_are : p.limits x (numbers_of basis) ≡ p.limits x (cleared_cut s j)
+      limits_are = by.limits_alike x (numbers_of basis) (cleared_cut s j) (λ y y_node leaf up.
+          ap (λ (b : BidMessage). b.number) (basis_is y y_node up) ∙ number_leaf lists s.published y (cleared_cut s j) leaf)
+
       sum_is : p.add x (λ z. (basis z).demand) ≡ p.add x (λ z. p.offer z (cleared_cut s j))
       sum_is = by.sums x (λ z. (basis z).demand) (λ z. p.offer z (cleared_cut s j)) demand_is
 
@@ -403,9 +409,10 @@ module _ (lists : Lists) (law : Lawful lists) (p : Pricing) (by : GoesByNodes li
         step_is : the_step ≡ p.local (cleared_cut s j) y
         step_is =
             let conc' : IsConcentrator lists (parent lists y) = subst (λ (z : ℕ). IsConcentrator lists z) (sym up) conc in
-            ap (settled_step (p.limits x) price.step) sum_is
-            ∙ ap (λ (i : ℕ). settled_step (p.limits x) i (p.add x (λ z. p.offer z (cleared_cut s j)))) (ap (λ (q : PriceMessage). q.step) its.1)
-            ∙ ap (λ (z : ℕ). settled_step (p.limits z) (p.local (cleared_cut s j) z) (p.add z (λ w. p.offer w (cleared_cut s j)))) (sym up)
+            ap (settled_step (p.limits x (numbers_of basis)) price.step) sum_is
+            ∙ ap (λ l. settled_step l price.step (p.add x (λ z. p.offer z (cleared_cut s j)))) limits_are
+            ∙ ap (λ (i : ℕ). settled_step (p.limits x (cleared_cut s j)) i (p.add x (λ z. p.offer z (cleared_cut s j)))) (ap (λ (q : PriceMessage). q.step) its.1)
+            ∙ ap (λ (z : ℕ). settled_step (p.limits z (cleared_cut s j)) (p.local (cleared_cut s j) z) (p.add z (λ w. p.offer w (cleared_cut s j)))) (sym up)
             ∙ sym (by.below y (cleared_cut s j) y_node conc')
 
         price_is : price_message (basis y).number j the_step ≡ price_of_clearing lists p s y j

@@ -13,7 +13,7 @@ use Rattle.pm_bid.proofs.Taken.{announced-zeros}
 use Rattle.pm_market.specs.Lists.{Lists, nodes, parent, is_leaf, IsNode, IsLeaf, IsInner, IsConcentrator, IsLeafOf, Lawful}
 use Rattle.pm_market.specs.State.{SameOn, no_changes}
 use Rattle.pm_market.proofs.Tree.{leaf_of_itself, leaf_of_parent, leaf_of_parts}
-use Rattle.pm_net.specs.Pricing.{GoesByNodes}
+use Rattle.pm_net.specs.Pricing.{GoesByNodes, LimitsGoByDevices}
 use Rattle.pm_net.specs.TreeAuction.{TreeDemand, IsTreeDemand, add_to, add_below, offer_in, tree_offer, step_in, tree_step, tree_pricing}
 
 -- sums see the children alone
@@ -55,13 +55,13 @@ module _ (lists : Lists) (law : Lawful lists) (a : TreeDemand) (asked : IsTreeDe
   offer_leaf : (cut : Cut) (levels x : ℕ) → IsLeaf lists x → offer_in lists a cut (suc levels) x ≡ a.demand x (cut x)
   unfolding offer_in
   offer_leaf cut levels x leaf =
-      cond-true (is_leaf lists x) (a.demand x (cut x)) (announced (a.limits x) (a.add x (offer_in lists a cut levels))) leaf
+      cond-true (is_leaf lists x) (a.demand x (cut x)) (announced (a.limits x cut) (a.add x (offer_in lists a cut levels))) leaf
 
   offer_relay : (cut : Cut) (levels x : ℕ) → IsInner lists x →
-      offer_in lists a cut (suc levels) x ≡ announced (a.limits x) (a.add x (offer_in lists a cut levels))
+      offer_in lists a cut (suc levels) x ≡ announced (a.limits x cut) (a.add x (offer_in lists a cut levels))
   unfolding offer_in
   offer_relay cut levels x inner =
-      cond-false (is_leaf lists x) (a.demand x (cut x)) (announced (a.limits x) (a.add x (offer_in lists a cut levels))) inner
+      cond-false (is_leaf lists x) (a.demand x (cut x)) (announced (a.limits x cut) (a.add x (offer_in lists a cut levels))) inner
 
   -- levels past the last node change nothing
   offer_enough : (cut : Cut) (f g x : ℕ) → IsNode lists x → nodes lists < x + f → nodes lists < x + g →
@@ -72,12 +72,16 @@ module _ (lists : Lists) (law : Lawful lists) (a : TreeDemand) (asked : IsTreeDe
       elim (cases_Bool (is_leaf lists x)) [
         | inl leaf ↦ offer_leaf cut f x leaf ∙ sym (offer_leaf cut g x leaf)
         | inr inner ↦ offer_relay cut f x inner
-            ∙ ap (announced (a.limits x)) (asked.sums x (offer_in lists a cut f) (offer_in lists a cut g) (λ z z_node up.
+            ∙ ap (announced (a.limits x cut)) (asked.sums x (offer_in lists a cut f) (offer_in lists a cut g) (λ z z_node up.
             offer_enough cut f g z z_node (omega (arith, f_le, law.earlier z z_node, up)) (omega (arith, g_le, law.earlier z z_node, up))))
             ∙ sym (offer_relay cut g x inner)
       ]
 
   -- an offer sees the node's leaves alone
+  limits_on : (b c : Cut) (x : ℕ) → SameOn lists x b c → a.limits x b ≡ a.limits x c
+  limits_on b c x same = asked.limits_alike x b c (λ d d_node leaf up.
+      same d (subst (λ (i : ℕ). IsLeafOf lists i d) up (leaf_of_parent lists law d d (leaf_of_itself lists law d leaf))))
+
   alike_in : (b c : Cut) (f x : ℕ) → SameOn lists x b c → offer_in lists a b f x ≡ offer_in lists a c f x
   unfolding offer_in
   alike_in b c zero x same = refl
@@ -85,7 +89,8 @@ module _ (lists : Lists) (law : Lawful lists) (a : TreeDemand) (asked : IsTreeDe
       elim (cases_Bool (is_leaf lists x)) [
         | inl leaf ↦ offer_leaf b f x leaf ∙ ap (a.demand x) (same x (leaf_of_itself lists law x leaf)) ∙ sym (offer_leaf c f x leaf)
         | inr inner ↦ offer_relay b f x inner
-            ∙ ap (announced (a.limits x)) (asked.sums x (offer_in lists a b f) (offer_in lists a c f) (λ z z_node up.
+            ∙ ap (λ l. announced l (a.add x (offer_in lists a b f))) (limits_on b c x same)
+            ∙ ap (announced (a.limits x c)) (asked.sums x (offer_in lists a b f) (offer_in lists a c f) (λ z z_node up.
             alike_in b c f z (λ d leaf. same d (subst (λ (i : ℕ). IsLeafOf lists i d) up (leaf_of_parent lists law z d leaf)))))
             ∙ sym (offer_relay c f x inner)
       ]
@@ -102,8 +107,8 @@ module _ (lists : Lists) (law : Lawful lists) (a : TreeDemand) (asked : IsTreeDe
       elim (cases_Bool (is_leaf lists x)) [
         | inl leaf ↦ offer_leaf no_changes f x leaf ∙ asked.none x
         | inr inner ↦ offer_relay no_changes f x inner
-            ∙ ap (announced (a.limits x)) (asked.sums_of_none x (offer_in lists a no_changes f) (λ z node up. nothing_in f z))
-            ∙ announced-zeros (a.limits x) a.steps
+            ∙ ap (announced (a.limits x no_changes)) (asked.sums_of_none x (offer_in lists a no_changes f) (λ z node up. nothing_in f z))
+            ∙ announced-zeros (a.limits x no_changes) a.steps
       ]
 
   nothing : (x : ℕ) → tree_offer lists a x no_changes ≡ zeros a.steps
@@ -115,11 +120,11 @@ module _ (lists : Lists) (law : Lawful lists) (a : TreeDemand) (asked : IsTreeDe
   device d cut leaf = offer_leaf cut (nodes lists) d leaf
 
   relay : (c : ℕ) (cut : Cut) → IsConcentrator lists c →
-      tree_offer lists a c cut ≡ announced (a.limits c) (a.add c (λ z. tree_offer lists a z cut))
+      tree_offer lists a c cut ≡ announced (a.limits c cut) (a.add c (λ z. tree_offer lists a z cut))
   unfolding tree_offer
   relay c cut conc =
       offer_relay cut (nodes lists) c conc.2
-      ∙ ap (announced (a.limits c)) (asked.sums c (offer_in lists a cut (nodes lists)) (λ z. offer_in lists a cut (suc (nodes lists)) z) (λ z node up.
+      ∙ ap (announced (a.limits c cut)) (asked.sums c (offer_in lists a cut (nodes lists)) (λ z. offer_in lists a cut (suc (nodes lists)) z) (λ z node up.
       offer_enough cut (nodes lists) (suc (nodes lists)) z node (omega (arith, node.0)) (omega (arith, node.0))))
 
   -- one level of a step
@@ -129,13 +134,13 @@ module _ (lists : Lists) (law : Lawful lists) (a : TreeDemand) (asked : IsTreeDe
   step_root : (cut : Cut) (levels x : ℕ) → parent lists x ≡ 0 → step_in lists a cut (suc levels) x ≡ clearing_step (total cut 0)
   unfolding step_in
   step_root cut levels x up = cond-true (eqb (parent lists x) 0) (clearing_step (total cut 0))
-      (settled_step (a.limits (parent lists x)) (step_in lists a cut levels (parent lists x)) (total cut (parent lists x))) (eq-eqb (parent lists x) 0 up)
+      (settled_step (a.limits (parent lists x) cut) (step_in lists a cut levels (parent lists x)) (total cut (parent lists x))) (eq-eqb (parent lists x) 0 up)
 
   step_below : (cut : Cut) (levels x : ℕ) → (parent lists x ≡ 0 → ⊥) → step_in lists a cut (suc levels) x
-      ≡ settled_step (a.limits (parent lists x)) (step_in lists a cut levels (parent lists x)) (total cut (parent lists x))
+      ≡ settled_step (a.limits (parent lists x) cut) (step_in lists a cut levels (parent lists x)) (total cut (parent lists x))
   unfolding step_in
   step_below cut levels x ne = cond-false (eqb (parent lists x) 0) (clearing_step (total cut 0))
-      (settled_step (a.limits (parent lists x)) (step_in lists a cut levels (parent lists x)) (total cut (parent lists x))) (ne_eqb (parent lists x) 0 ne)
+      (settled_step (a.limits (parent lists x) cut) (step_in lists a cut levels (parent lists x)) (total cut (parent lists x))) (ne_eqb (parent lists x) 0 ne)
 
   step_enough : (cut : Cut) (f g x : ℕ) → IsNode lists x → x ≤ f → x ≤ g → step_in lists a cut f x ≡ step_in lists a cut g x
   step_enough cut zero g x node f_le g_le = absurd (omega (arith, node.0))
@@ -144,7 +149,7 @@ module _ (lists : Lists) (law : Lawful lists) (a : TreeDemand) (asked : IsTreeDe
       elim (cases_eq (parent lists x) 0) [
         | inl up ↦ step_root cut f x up ∙ sym (step_root cut g x up)
         | inr ne ↦ step_below cut f x ne
-            ∙ ap (λ (k : ℕ). settled_step (a.limits (parent lists x)) k (total cut (parent lists x))) (step_enough cut f g (parent lists x)
+            ∙ ap (λ (k : ℕ). settled_step (a.limits (parent lists x) cut) k (total cut (parent lists x))) (step_enough cut f g (parent lists x)
             (omega arith, omega (arith, law.earlier x node, node.1)) (omega (arith, law.earlier x node)) (omega (arith, law.earlier x node)))
             ∙ sym (step_below cut g x ne)
       ]
@@ -154,11 +159,11 @@ module _ (lists : Lists) (law : Lawful lists) (a : TreeDemand) (asked : IsTreeDe
   root x cut up = step_root cut (nodes lists) x up
 
   below : (x : ℕ) (cut : Cut) → IsNode lists x → IsConcentrator lists (parent lists x) →
-      tree_step lists a cut x ≡ settled_step (a.limits (parent lists x)) (tree_step lists a cut (parent lists x)) (total cut (parent lists x))
+      tree_step lists a cut x ≡ settled_step (a.limits (parent lists x) cut) (tree_step lists a cut (parent lists x)) (total cut (parent lists x))
   unfolding tree_step
   below x cut node conc =
       step_below cut (nodes lists) x (λ e. omega (arith, conc.0, e))
-      ∙ ap (λ (k : ℕ). settled_step (a.limits (parent lists x)) k (total cut (parent lists x)))
+      ∙ ap (λ (k : ℕ). settled_step (a.limits (parent lists x) cut) k (total cut (parent lists x)))
       (step_enough cut (nodes lists) (suc (nodes lists)) (parent lists x) (conc.0, conc.1) conc.1 (omega (arith, conc.1)))
 
   -- a step sees all devices alone
@@ -174,8 +179,10 @@ module _ (lists : Lists) (law : Lawful lists) (a : TreeDemand) (asked : IsTreeDe
         elim (cases_eq (parent lists x) 0) [
           | inl up ↦ step_root b f x up ∙ ap clearing_step (total_alike 0) ∙ sym (step_root c f x up)
           | inr ne ↦ step_below b f x ne
-              ∙ ap (λ (k : ℕ). settled_step (a.limits (parent lists x)) k (total b (parent lists x))) (steps_in f (parent lists x))
-              ∙ ap (settled_step (a.limits (parent lists x)) (step_in lists a c f (parent lists x))) (total_alike (parent lists x))
+              ∙ ap (λ (k : ℕ). settled_step (a.limits (parent lists x) b) k (total b (parent lists x))) (steps_in f (parent lists x))
+              ∙ ap (λ l. settled_step l (step_in lists a c f (parent lists x)) (total b (parent lists x)))
+              (asked.limits_alike (parent lists x) b c (λ d node leaf up. same d leaf))
+              ∙ ap (settled_step (a.limits (parent lists x) c) (step_in lists a c f (parent lists x))) (total_alike (parent lists x))
               ∙ sym (step_below c f x ne)
         ]
 
@@ -189,6 +196,7 @@ module _ (lists : Lists) (law : Lawful lists) (a : TreeDemand) (asked : IsTreeDe
     sums = asked.sums;
     alike = alike;
     steps_alike = λ x b c node same. steps_alike b c same x;
+    limits_alike = asked.limits_alike;
     nothing = λ x node. nothing x;
     device = device;
     relay = relay;
@@ -198,8 +206,8 @@ module _ (lists : Lists) (law : Lawful lists) (a : TreeDemand) (asked : IsTreeDe
 
 -- sums over the children in the order of the nodes are such sums
 pub in_node_order : (lists : Lists) (a : TreeDemand) → a.add ≡ add_below lists a.steps → ((d : ℕ) → a.demand d 0 ≡ zeros a.steps) →
-    ((x : ℕ) (l : Limits) → a.limits x ≡ Some l → AreLimits l) → IsTreeDemand lists a
-in_node_order lists a is none around = record {
+    ((x : ℕ) (cut : Cut) (l : Limits) → a.limits x cut ≡ Some l → AreLimits l) → LimitsGoByDevices lists a.limits → IsTreeDemand lists a
+in_node_order lists a is none around by = record {
   none = none;
   sums = λ y f g same.
       ap (λ (add : ℕ → (ℕ → List ℤ) → List ℤ). add y f) is ∙ add_alike lists a.steps y f g same (nodes lists) (omega arith)
@@ -207,4 +215,5 @@ in_node_order lists a is none around = record {
   sums_of_none = λ y f nothing.
       ap (λ (add : ℕ → (ℕ → List ℤ) → List ℤ). add y f) is ∙ add_zeros lists a.steps y f nothing (nodes lists) (omega arith);
   around = around;
+  limits_alike = by;
 }

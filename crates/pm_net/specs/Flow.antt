@@ -30,10 +30,10 @@ pub record AddsUp (lists : Lists) (p : Pricing) : Type 0 where
 
 -- each relay that is x or stands below it can say in a bid what is taken where it settles
 abbrev pub SaysBelow : Lists → Pricing → Cut → ℕ → Type 0
-SaysBelow lists p cut x = (c : ℕ) → IsConcentrator lists c → is_below lists x c ≡ true → CanSay (p.limits c) (p.local cut c) (sum_of_offers p cut c)
+SaysBelow lists p cut x = (c : ℕ) → IsConcentrator lists c → is_below lists x c ≡ true → CanSay (p.limits c cut) (p.local cut c) (sum_of_offers p cut c)
 
 -- each of these relays has some step of its sum within its limits
 abbrev pub HaveStepsWithin : Lists → Pricing → Cut → ℕ → Type 0
 HaveStepsWithin lists p cut x =
-    (c : ℕ) (limits : Limits) → IsConcentrator lists c → is_below lists x c ≡ true → p.limits c ≡ Some limits →
+    (c : ℕ) (limits : Limits) → IsConcentrator lists c → is_below lists x c ≡ true → p.limits c cut ≡ Some limits →
     HasStepWithin limits (sum_of_offers p cut c)

@@ -1,5 +1,6 @@
 -- The messages between a node and its parent: bids go up, prices go down.
 use Rattle.std.specs.Prelude.{ℕ, Bool, true, ℤ, List}
+use Rattle.pm_base.specs.Cuts.{Cut}
 use Rattle.pm_bid.specs.Bids.{zeros}
 use Rattle.pm_net.specs.Pricing.{Pricing}
 
@@ -20,6 +21,10 @@ bid_message number' gone' demand' = record { number = number'; gone = gone'; dem
 
 abbrev pub price_message : ℕ → ℕ → ℕ → PriceMessage
 price_message number' index' step' = record { number = number'; index = index'; step = step' }
+
+-- the numbers that messages have, as a cut
+abbrev pub numbers_of : (ℕ → BidMessage) → Cut
+numbers_of bids x = (bids x).number
 
 -- what a parent has of a node of which it heard nothing, and a node that took no price
 abbrev pub nothing_heard : Pricing → BidMessage

@@ -6,7 +6,7 @@ use Rattle.pm_market.specs.Lists.{Lists, parent, is_leaf}
 use Rattle.pm_market.specs.State.{update}
 use Rattle.pm_market.specs.Legality.{is_node}
 use Rattle.pm_net.specs.Pricing.{Pricing}
-use Rattle.pm_net.specs.Messages.{BidMessage, PriceMessage, bid_message, price_message, nothing_heard}
+use Rattle.pm_net.specs.Messages.{BidMessage, PriceMessage, bid_message, price_message, nothing_heard, numbers_of}
 use Rattle.pm_net.specs.Network.{Network, sent_price}
 use Rattle.pm_net.specs.Running.{device_bid, with_record, has_news, is_new_price, names_a_bid, relay_step}
 
@@ -92,7 +92,8 @@ can_resend lists net x = is_node lists x && (is_leaf lists x || (nat_le (net.who
 abbrev pub newest_bid : Lists → Pricing → Network → ℕ → BidMessage
 newest_bid lists p net x =
     if is_leaf lists x then device_bid lists p x (net.counts x)
-    else bid_message (net.last_number x) false (announced (p.limits x) (p.add x (λ z. (net.records x (net.last_number x) z).demand)))
+    else bid_message (net.last_number x) false
+    (announced (p.limits x (numbers_of (net.records x (net.last_number x)))) (p.add x (λ z. (net.records x (net.last_number x) z).demand)))
 
 abbrev pub after_resending : Lists → Pricing → Network → ℕ → Network
 after_resending lists p net x = record net { bids_sent = update net.bids_sent x (net.bids_sent x ++ newest_bid lists p net x ∷ []) }

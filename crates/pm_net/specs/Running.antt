@@ -9,7 +9,7 @@ use Rattle.pm_market.specs.Lists.{Lists, nodes, parent, is_leaf, is_member}
 use Rattle.pm_market.specs.State.{update, all_to}
 use Rattle.pm_market.specs.Legality.{is_node}
 use Rattle.pm_net.specs.Pricing.{Pricing}
-use Rattle.pm_net.specs.Messages.{BidMessage, PriceMessage, bid_message, price_message}
+use Rattle.pm_net.specs.Messages.{BidMessage, PriceMessage, bid_message, price_message, numbers_of}
 use Rattle.pm_net.specs.Network.{Network}
 
 -- ---- bids
@@ -59,14 +59,15 @@ with_record net y = record net {
   records = update net.records y (update (net.records y) (net.last_number y + 1) net.heard);
 }
 
--- a relay that is caught up, has news and room in its window sends the sum of its children's bids, within its limits
+-- a relay that is caught up, has news and room in its window sends the sum of its children's bids, within the limits that the
+-- numbers of its devices give
 unfoldable pub can_send : Lists → Network → ℕ → Bool
 can_send lists net c =
     is_node lists c && not (is_leaf lists c) && is_caught_up lists net c && has_news lists net c
     && nat_lt (net.last_number c - net.answered c) window_size
 
 abbrev pub relay_bid : Pricing → Network → ℕ → BidMessage
-relay_bid p net c = bid_message (net.last_number c + 1) false (announced (p.limits c) (heard_sum p net c))
+relay_bid p net c = bid_message (net.last_number c + 1) false (announced (p.limits c (numbers_of net.heard)) (heard_sum p net c))
 
 abbrev pub after_sending : Pricing → Network → ℕ → Network
 after_sending p net c = record (with_record net c) { bids_sent = update net.bids_sent c (net.bids_sent c ++ relay_bid p net c ∷ []) }
@@ -104,9 +105,10 @@ after_taking_price net x price = record net { taken = update net.taken x price }
 abbrev pub after_answer : Network → ℕ → PriceMessage → Network
 after_answer net c price = record net { taken = update net.taken c price; answered = update net.answered c price.number }
 
--- the step that a relay passes down for a price: that of the price, moved within its limits for the sum of the record
+-- the step that a relay passes down for a price: that of the price, moved within the record's limits for the record's sum
 abbrev pub relay_step : Pricing → Network → ℕ → PriceMessage → ℕ
-relay_step p net c price = settled_step (p.limits c) price.step (p.add c (λ z. (net.records c price.number z).demand))
+relay_step p net c price =
+    settled_step (p.limits c (numbers_of (net.records c price.number))) price.step (p.add c (λ z. (net.records c price.number z).demand))
 
 -- it passes the price on by the record of the number that the price names
 abbrev pub after_passing : Lists → Pricing → Network → ℕ → PriceMessage → Network

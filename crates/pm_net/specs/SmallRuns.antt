@@ -3,6 +3,7 @@ use Rattle.std.specs.Prelude.{ℕ, ◌+◌, pos, negsuc, true, false, if◌then�
 use Rattle.pm_base.specs.Limits.{window_size}
 use Rattle.pm_bid.specs.Bids.{zeros}
 use Rattle.pm_market.specs.Lists.{Lists, is_member}
+use Rattle.pm_net.specs.Pricing.{given_limits}
 use Rattle.pm_net.specs.Messages.{PriceMessage, bid_message}
 use Rattle.pm_net.specs.Network.{Network, start_network}
 use Rattle.pm_net.specs.Events.{Event, Bids, TakesBid, Sends, Clears, TakesPrice, Restarts, Rebuilds, network_after}
@@ -31,13 +32,13 @@ abbrev pub small_demand : Lists → TreeDemand
 small_demand lists = record {
   steps = 2;
   demand = λ d n. if is_member lists d n then (pos 5 ∷ negsuc 2 ∷ []) else zeros 2;
-  limits = λ c. None;
+  limits = λ c cut. None;
   add = add_below lists 2;
 }
 
 -- the same with a relay 1 that holds its part between -1 and 6 watts
 abbrev pub limited_demand : Lists → TreeDemand
-limited_demand lists = record (small_demand lists) { limits = λ c. if c == 1 then Some (record { floor = negsuc 0; ceiling = pos 6 }) else None }
+limited_demand lists = record (small_demand lists) { limits = λ c cut. if c == 1 then Some (record { floor = negsuc 0; ceiling = pos 6 }) else None }
 
 abbrev pub limited_run_of : Lists → List Event → Network
 limited_run_of lists events =
@@ -76,3 +77,25 @@ window_sent number_answered = record (run_of one_relay []) {
   answered = λ c. number_answered;
   heard = λ x. bid_message (window_size + 1) false [];
 }
+
+-- node 1 is a relay, node 2 a device below it, and node 3 gives the relay's limits
+abbrev pub with_giver : Lists
+with_giver = record {
+  parents = 0 ∷ 1 ∷ 1 ∷ [];
+  leaves = false ∷ true ∷ true ∷ [];
+  members = [] ∷ (true ∷ []) ∷ (false ∷ false ∷ []) ∷ [];
+  ends = (0 ∷ 1 ∷ 2 ∷ []) ∷ [];
+}
+
+-- relay 1 holds its part between -1 and 6 watts at first, and between -4 and 6 from number 1 of node 3 on
+abbrev pub changing_demand : TreeDemand
+changing_demand = record (small_demand with_giver) {
+  limits = given_limits (λ c n. if c == 1 then Some (record { floor = if n == 0 then negsuc 0 else negsuc 3; ceiling = pos 6 }) else None) (λ c. 3);
+}
+
+abbrev pub changing_run : List Event → Network
+changing_run events = network_after with_giver (tree_pricing with_giver changing_demand) (start_network (tree_pricing with_giver changing_demand)) events
+
+-- the relay's limits change after its bid 1, and before that bid's price comes; then the rest
+abbrev pub with_new_limits : List Event → List Event
+with_new_limits rest = cleared_once (Bids 3 ∷ TakesBid 3 0 ∷ TakesPrice 1 0 ∷ rest)

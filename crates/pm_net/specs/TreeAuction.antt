@@ -8,14 +8,14 @@ use Rattle.pm_bid.specs.Clearing.{clearing_step}
 use Rattle.pm_bid.specs.Limited.{NeverBind}
 use Rattle.pm_bid.specs.Taken.{announced, settled_step, AreSmall}
 use Rattle.pm_market.specs.Lists.{Lists, nodes, parent, is_leaf, IsNode, IsConcentrator}
-use Rattle.pm_net.specs.Pricing.{Pricing}
+use Rattle.pm_net.specs.Pricing.{Pricing, LimitsGoByDevices}
 
 -- What a tree's auction is over: how many steps a bid has, the demand of each device under each of its numbers, each relay's
--- limits, and how what the children of a node have is added up.
+-- limits over a cut, and how what the children of a node have is added up.
 pub record TreeDemand : Type 0 where
   pub steps : ℕ
   pub demand : ℕ → ℕ → List ℤ
-  pub limits : ℕ → Option Limits
+  pub limits : ℕ → Cut → Option Limits
   pub add : ℕ → (ℕ → List ℤ) → List ℤ
 
 -- under number 0 a device asks for nothing, and power 0 lies within all limits; a sum sees the children alone, and is zeros
@@ -25,7 +25,8 @@ pub record IsTreeDemand (lists : Lists) (a : TreeDemand) : Type 0 where
   pub sums : (y : ℕ) (f g : ℕ → List ℤ) → ((x : ℕ) → IsNode lists x → parent lists x ≡ y → f x ≡ g x) → a.add y f ≡ a.add y g
   pub sums_of_none : (y : ℕ) (f : ℕ → List ℤ) → ((x : ℕ) → IsNode lists x → parent lists x ≡ y → f x ≡ zeros a.steps) →
       a.add y f ≡ zeros a.steps
-  pub around : (x : ℕ) (l : Limits) → a.limits x ≡ Some l → AreLimits l
+  pub around : (x : ℕ) (cut : Cut) (l : Limits) → a.limits x cut ≡ Some l → AreLimits l
+  pub limits_alike : LimitsGoByDevices lists a.limits
 
 -- one way to add: over those of the nodes 1 to n whose parent is y, in this order
 unfoldable pub add_to : Lists → ℕ → ℕ → (ℕ → List ℤ) → ℕ → List ℤ
@@ -42,7 +43,7 @@ add_below lists steps y f = add_to lists steps y f (nodes lists)
 unfoldable pub offer_in : Lists → TreeDemand → Cut → ℕ → ℕ → List ℤ
 offer_in lists a cut zero x = zeros a.steps
 offer_in lists a cut (suc levels) x =
-    if is_leaf lists x then a.demand x (cut x) else announced (a.limits x) (a.add x (offer_in lists a cut levels))
+    if is_leaf lists x then a.demand x (cut x) else announced (a.limits x cut) (a.add x (offer_in lists a cut levels))
 
 -- children have greater numbers, so as many levels as there are nodes, and one, reach every device
 unfoldable pub tree_offer : Lists → TreeDemand → ℕ → Cut → List ℤ
@@ -54,7 +55,7 @@ unfoldable pub step_in : Lists → TreeDemand → Cut → ℕ → ℕ → ℕ
 step_in lists a cut zero x = 0
 step_in lists a cut (suc levels) x =
     if parent lists x == 0 then clearing_step (a.add 0 (λ z. tree_offer lists a z cut))
-    else settled_step (a.limits (parent lists x)) (step_in lists a cut levels (parent lists x))
+    else settled_step (a.limits (parent lists x) cut) (step_in lists a cut levels (parent lists x))
     (a.add (parent lists x) (λ z. tree_offer lists a z cut))
 
 unfoldable pub tree_step : Lists → TreeDemand → Cut → ℕ → ℕ
@@ -80,10 +81,13 @@ NeverBindAt p y (Some limits) =
     AreSmall limits × ((cut : Cut) → NeverBind limits (p.add y (λ x. p.offer x cut)))
     × ((cut : Cut) → p.local cut y < length (p.add y (λ x. p.offer x cut)))
 
--- other limits, which are those of the pricing or which never bind, as those of the pricing never do there
-abbrev pub AreAsGood : Lists → Pricing → (ℕ → Option Limits) → Type 0
+-- other limits, which go by devices also, and over each cut are those of the pricing or never bind, as those of the pricing
+-- never do there
+abbrev pub AreAsGood : Lists → Pricing → (ℕ → Cut → Option Limits) → Type 0
 AreAsGood lists p limits =
-    (c : ℕ) → IsConcentrator lists c → (limits c ≡ p.limits c) ⊎ (NeverBindAt p c (p.limits c) × NeverBindAt p c (limits c))
+    LimitsGoByDevices lists limits
+    × ((c : ℕ) (cut : Cut) → IsConcentrator lists c →
+    (limits c cut ≡ p.limits c cut) ⊎ (NeverBindAt p c (p.limits c cut) × NeverBindAt p c (limits c cut)))
 
-abbrev pub with_limits : Pricing → (ℕ → Option Limits) → Pricing
+abbrev pub with_limits : Pricing → (ℕ → Cut → Option Limits) → Pricing
 with_limits p limits' = record p { limits = limits' }

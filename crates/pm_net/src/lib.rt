@@ -7,14 +7,15 @@
 
 ghost use Rattle.std.specs.Prelude.{◌≡◌, ◌⊎◌, ℕ, ◌<◌, ◌≤◌, ℤ, true, false, pos, negsuc, List, [], ◌∷◌, length, Option};
 ghost use Rattle.std.specs.Prelude.{Some, None};
+ghost use Rattle.pm_base.specs.Cuts.{Cut};
 ghost use Rattle.pm_base.specs.Limits.{AreLimits, window_size};
 ghost use Rattle.pm_base.specs.declared.limits.Limits.{Limits};
 ghost use Rattle.pm_bid.specs.Bids.{zeros};
 ghost use Rattle.pm_market.specs.Lists.{Lists, phases, is_member, IsNode, IsLeaf, IsConcentrator, Lawful};
-ghost use Rattle.pm_market.specs.State.{State, start, last_index, clearings, cleared_cut};
+ghost use Rattle.pm_market.specs.State.{State, start, part, last_index, clearings, cleared_cut};
 ghost use Rattle.pm_market.specs.Moves.{after_from};
 ghost use Rattle.pm_market.specs.Held.{holding};
-ghost use Rattle.pm_net.specs.Pricing.{Pricing, GoesByNodes};
+ghost use Rattle.pm_net.specs.Pricing.{Pricing, GoesByNodes, LimitsGoByDevices, IsChildDevice, HasOneLimit, given_limits, fixed_limits};
 ghost use Rattle.pm_net.specs.Messages.{bid_message, price_message};
 ghost use Rattle.pm_net.specs.Network.{Network, start_network, sent_price, IsUnbroken};
 ghost use Rattle.pm_net.specs.Running.{recorded_number, is_caught_up, can_send, can_clear};
@@ -24,7 +25,7 @@ ghost use Rattle.pm_net.specs.Agrees.{price_of_clearing, HoldsIts, NetworkAgrees
 ghost use Rattle.pm_net.specs.Settled.{IsSettledNetwork, AllTaken};
 ghost use Rattle.pm_net.specs.HeldPrice.{goes_by, IsOfItsClearing};
 ghost use Rattle.pm_net.specs.TreeAuction.{TreeDemand, IsTreeDemand, add_below, tree_pricing, AreAsGood, with_limits};
-ghost use Rattle.pm_net.specs.SmallRuns.{one_relay, run_of, limited_run_of, device_holds, cleared_once, index_held, with_skipped_price, window_sent};
+ghost use Rattle.pm_net.specs.SmallRuns.{one_relay, run_of, limited_run_of, device_holds, cleared_once, index_held, with_skipped_price, window_sent, with_giver, changing_run, with_new_limits};
 
 mod devices;
 mod taken;
@@ -59,6 +60,21 @@ pub fn prices_answer_numbered_bids()
         i < length (net.prices_sent x) → j < length (net.prices_sent x) →
         (sent_price net x i).index ≤ (sent_price net x j).index → IsLeaf lists d →
         cleared_cut s (sent_price net x i).index d ≤ cleared_cut s (sent_price net x j).index d }
+{}
+
+/// The limits by which a relay settles for a price are those of the bid that the price answers. This is the bid that the relay
+/// sent under the number which the price names, however often the limits have changed since.
+pub fn prices_settle_by_their_limits()
+    ensures limits { (lists : Lists) (p : Pricing) (net : Network) (s : State) (c k : ℕ) →
+        Lawful lists → GoesByNodes lists p → NetworkAgrees lists p net s → IsConcentrator lists c →
+        k < length (net.prices_sent c) →
+        p.limits c (cleared_cut s (sent_price net c k).index)
+        ≡ p.limits c (part lists s c (sent_price net c k).number) }
+    ensures given { (lists : Lists) (p : Pricing) (net : Network) (s : State) (c k d : ℕ) →
+        Lawful lists → NetworkAgrees lists p net s → IsConcentrator lists c →
+        k < length (net.prices_sent c) → IsChildDevice lists c d →
+        cleared_cut s (sent_price net c k).index d
+        ≡ part lists s c (sent_price net c k).number d }
 {}
 
 /// Nobody's place in the journal ever falls. What a node holds is nothing, or a price that is due to it, of no later clearing
@@ -146,13 +162,25 @@ pub fn tree_auctions_go_by_nodes()
         GoesByNodes lists (tree_pricing lists a) }
     ensures in_node_order { (lists : Lists) (a : TreeDemand) → a.add ≡ add_below lists a.steps →
         ((d : ℕ) → a.demand d 0 ≡ zeros a.steps) →
-        ((x : ℕ) (l : Limits) → a.limits x ≡ Some l → AreLimits l) → IsTreeDemand lists a }
+        ((x : ℕ) (cut : Cut) (l : Limits) → a.limits x cut ≡ Some l → AreLimits l) →
+        LimitsGoByDevices lists a.limits → IsTreeDemand lists a }
+{}
+
+/// Limits that a device gives, which is a child of the relay, go by devices: under each number of that device those of the number.
+/// So do fixed ones, and fixed ones at some relays where at the others a device gives them.
+pub fn limits_may_change()
+    ensures given { (lists : Lists) (limits : ℕ → ℕ → Option Limits) (giver : ℕ → ℕ) →
+        ((c : ℕ) → IsChildDevice lists c (giver c) ⊎ HasOneLimit (limits c)) →
+        LimitsGoByDevices lists (given_limits limits giver) }
+    ensures fixed { (lists : Lists) (limits : ℕ → Option Limits) →
+        LimitsGoByDevices lists (fixed_limits limits) }
 {}
 
 /// A relay whose limits never bind is a concentrator without limits. Such limits may be taken out and put in: the same
 /// offers go up and the same steps come down.
 pub fn limits_that_never_bind_change_nothing()
-    ensures { (lists : Lists) (p : Pricing) (limits : ℕ → Option Limits) → GoesByNodes lists p →
+    ensures { (lists : Lists) (p : Pricing) (limits : ℕ → Cut → Option Limits) →
+        GoesByNodes lists p →
         AreAsGood lists p limits →
         GoesByNodes lists (with_limits p limits) }
 {}
@@ -217,6 +245,34 @@ pub fn small_networks_are_as_worked_out()
     // and no price would ever come to open it.
     ensures seems_full { (can_send one_relay (window_sent window_size) 1 ≡ true)
         × (can_send one_relay (window_sent 0) 1 ≡ false) }
+{}
+
+/// Small networks, worked out: limits that change.
+pub fn limits_change_as_worked_out()
+    // The price of bid 1 settles by the limits of bid 1: by the newest ones it would be passed down as it is.
+    ensures by_its_limits { (changing_run (with_new_limits [])).prices_sent 2
+        ≡ price_message 1 1 0 ∷ [] }
+    // Nothing goes up before the relay sends. Its next bid is by the new limits, and the price of that bid too.
+    ensures not_before { (changing_run (with_new_limits [])).bids_sent 1
+        ≡ bid_message 1 false (pos 5 ∷ pos 5 ∷ []) ∷ [] }
+    ensures next_bid { (changing_run (with_new_limits (Event.Sends 1 ∷ []))).bids_sent 1
+        ≡ bid_message 1 false (pos 5 ∷ pos 5 ∷ []) ∷ bid_message 2 false (pos 5 ∷ negsuc 2 ∷ []) ∷ [] }
+    ensures next_price { (changing_run (with_new_limits
+        (Event.Sends 1 ∷ Event.TakesBid 1 1 ∷ Event.Clears ∷ Event.TakesPrice 1 1 ∷ []))).prices_sent 2
+        ≡ price_message 1 1 0 ∷ price_message 1 2 1 ∷ [] }
+    // A bid that is sent again is the bid that it was.
+    ensures sent_again { (changing_run (with_new_limits (Event.Resends 1 ∷ []))).bids_sent 1
+        ≡ bid_message 1 false (pos 5 ∷ pos 5 ∷ []) ∷ bid_message 1 false (pos 5 ∷ pos 5 ∷ []) ∷ [] }
+    // The same limits again are no news.
+    ensures no_news { can_send with_giver (changing_run (with_new_limits (Event.Sends 1 ∷ Event.TakesBid 3 0 ∷ []))) 1
+        ≡ false }
+    // A relay that restarts sends nothing until it has its limits again, and then has the record with them.
+    ensures guarded { can_send with_giver (changing_run (with_new_limits
+        (Event.Sends 1 ∷ Event.Restarts 1 0 ∷ Event.TakesBid 2 0 ∷ []))) 1 ≡ false }
+    ensures again { (changing_run (with_new_limits
+        (Event.Sends 1 ∷ Event.TakesBid 1 1 ∷ Event.Clears ∷ Event.Restarts 1 0 ∷ Event.TakesBid 2 0 ∷ Event.TakesBid 3 0 ∷
+        Event.Rebuilds 1 ∷ Event.TakesPrice 1 1 ∷ []))).prices_sent 2
+        ≡ price_message 1 1 0 ∷ price_message 1 2 1 ∷ [] }
 {}
 
 /// Small networks, worked out: each rule of a node, one by one.

@@ -15,6 +15,7 @@ use Rattle.pm_tree.proofs.Named.{length-parents_of}
 use Rattle.pm_tree.proofs.Ranges.{children_among-more}
 use Rattle.pm_bid.specs.Clearing.{clearing_step}
 use Rattle.pm_bid.specs.Taken.{announced, settled_step}
+use Rattle.pm_base.specs.Cuts.{Cut}
 use Rattle.pm_base.specs.declared.limits.Limits.{Limits}
 use Rattle.pm_market.specs.Lists.{Lists, nodes, parent}
 use Rattle.pm_offer.specs.Offers.{offer, local_step_at}
@@ -113,7 +114,7 @@ module _ (plan : PlanData) (is_plan : IsPlan plan) where
       ∙ sym (ap (sum_of plan.basis.steps) (demands_are y f) ∙ sum_of-append_zeros plan.basis.steps (left y f) (map f (kids y f)))
 
   -- with limits that are as good as the plan's
-  module _ (never : LimitsNeverBind plan) (limits : ℕ → Option Limits) (good : AreAsGood lists (plan_pricing plan) limits) where
+  module _ (never : LimitsNeverBind plan) (limits : ℕ → Cut → Option Limits) (good : AreAsGood lists (plan_pricing plan) limits) where
     abbrev by : GoesByNodes lists (with_limits (plan_pricing plan) limits)
     by = goes_unbound lists (plan_pricing plan) (plan_goes_by_nodes plan is_plan never) limits good
 
@@ -127,11 +128,12 @@ module _ (plan : PlanData) (is_plan : IsPlan plan) where
       sums = λ y f g same. at_places y f ∙ by.sums y f g same ∙ sym (at_places y g);
       alike = by.alike;
       steps_alike = by.steps_alike;
+      limits_alike = by.limits_alike;
       nothing = by.nothing;
       device = by.device;
-      relay = λ c cut conc. by.relay c cut conc ∙ ap (announced (limits c)) (sym (at_places c (λ x. offer plan x cut)));
+      relay = λ c cut conc. by.relay c cut conc ∙ ap (announced (limits c cut)) (sym (at_places c (λ x. offer plan x cut)));
       root = λ x cut node up. by.root x cut node up ∙ ap clearing_step (sym (at_places 0 (λ z. offer plan z cut)));
       below = λ x cut node conc.
-          by.below x cut node conc ∙ ap (settled_step (limits (parent lists x)) (local_step_at plan cut (parent lists x)))
+          by.below x cut node conc ∙ ap (settled_step (limits (parent lists x) cut) (local_step_at plan cut (parent lists x)))
           (sym (at_places (parent lists x) (λ z. offer plan z cut)));
     }

@@ -67,6 +67,7 @@ pub plan_goes_by_nodes : (plan : PlanData) → IsPlan plan → LimitsNeverBind p
 plan_goes_by_nodes plan is_plan never = record {
   sums = sums plan is_plan;
   alike = λ x a b same. laws.offer_alike plan x a b is_plan same;
+  limits_alike = λ c a b same. refl;
   steps_alike = λ x a b here same. local_alike plan is_plan a b (λ d leaf. same d (leaf_of_parts (plan_lists plan) 0 d leaf).0) x here;
   nothing = nothing plan is_plan;
   device = λ d cut leaf. laws.offer_device plan d cut is_plan leaf;

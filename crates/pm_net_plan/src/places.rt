@@ -1,6 +1,7 @@
 //! Every tree with at most 256 children a node has places for them. A network over a plan's tree that adds bids up by
 //! these places finds the plan's plain auction.
 ghost use Rattle.std.specs.Prelude.{◌≡◌, ℕ, ◌<◌, ◌≤◌, length, Option};
+ghost use Rattle.pm_base.specs.Cuts.{Cut};
 ghost use Rattle.pm_base.specs.Limits.{most_nodes};
 ghost use Rattle.pm_base.specs.declared.limits.Limits.{Limits};
 ghost use Rattle.pm_market.specs.Lists.{Lists, nodes, IsNode};
@@ -31,12 +32,12 @@ pub fn trees_have_places()
 /// its relays have limits other than the plan's that never bind. So each price that was ever sent in it has the step of
 /// the node in the plain auction over the cut of its clearing. This is the step that `run` writes.
 pub fn plans_price_networks()
-    ensures goes { (plan : PlanData) (limits : ℕ → Option Limits) → IsPlan plan →
+    ensures goes { (plan : PlanData) (limits : ℕ → Cut → Option Limits) → IsPlan plan →
         LimitsNeverBind plan → AreAsGood (plan_lists plan) (plan_pricing plan) limits →
         GoesByNodes (plan_lists plan)
         (with_limits (added_by_places (plan_pricing plan) (places_in (plan_lists plan))) limits) }
-    ensures prices { (plan : PlanData) (limits : ℕ → Option Limits) (net : Network) (s : State)
-        (x k : ℕ) → IsPlan plan →
+    ensures prices { (plan : PlanData) (limits : ℕ → Cut → Option Limits) (net : Network)
+        (s : State) (x k : ℕ) → IsPlan plan →
         NetworkAgrees (plan_lists plan)
         (with_limits (added_by_places (plan_pricing plan) (places_in (plan_lists plan))) limits) net
         s →

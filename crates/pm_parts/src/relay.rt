@@ -159,6 +159,7 @@ fn back(
     let resume = Resume {
         last,
         numbers: &all,
+        limits,
         answered,
         index,
     };
@@ -381,4 +382,94 @@ fn numbers_end(rt: HostRuntime) -> Result<(), Fail> {
 #[test]
 fn threads_may_share_relays(_rt: HostRuntime) {
     may_be_shared::<Relay>();
+}
+
+/// Wider limits than those of the first start.
+const WIDE: Limits = Limits {
+    floor: -200,
+    ceiling: 200,
+};
+
+/// Limits change: the bid that was sent stays, and its price settles by its own limits; the next bid is by the new ones, and so
+/// is its price.
+fn changes_limits(rt: &impl Abort, alloc: Global, relay: &mut Relay) -> Result<(), Fail>
+    requires { relay.old.gathered.cache.steps ≡ 2 }
+{
+    learns(rt, alloc, relay, 0, 2, [100, 40])?;
+    learns(rt, alloc, relay, 1, 2, [80, -200])?;
+    sends(rt, relay, 1, [-160, -160]);
+    same(rt, "given", relay.set_limits(2, 2, WIDE), Ok(()));
+    same(rt, "stays", demands_of(relay), [-160, -160]);
+    same(
+        rt,
+        "by its limits",
+        passes(rt, relay, 1, 1),
+        [moved(2, 1), moved(2, 1)],
+    );
+    let old = Err(CacheFault::Old { kept: 2 });
+    same(rt, "old", relay.set_limits(2, 2, WIDE), old);
+    sends(rt, relay, 2, [180, -160]);
+    refuses(rt, relay, SendFault::NotChanged);
+    let price = Some(price_of(2, 2));
+    same(
+        rt,
+        "by the new ones",
+        passes(rt, relay, 2, 2),
+        [price, price],
+    );
+    same(rt, "stored", relay.resume().limits, WIDE);
+    Ok(())
+}
+
+#[test]
+fn limits_change_with_the_next_bid(rt: HostRuntime) -> Result<(), Fail> {
+    let alloc = rt.alloc();
+    let mut relay = new_relay(alloc)?;
+    changes_limits(&rt, alloc, &mut relay)
+}
+
+/// The relay that comes back with its bid 2, which was made under wider limits, given under number 2 in place 2.
+fn back_with_limits(alloc: Global) -> Result<Relay, Fail>
+    ensures { IfOk result (λ relay. relay.gathered.cache.steps ≡ 2) }
+{
+    let mut all = [0; MOST_NODES];
+    all[0] = 2;
+    all[1] = 2;
+    all[2] = 2;
+    let limits = Limits {
+        floor: -100,
+        ceiling: 150,
+    };
+    let resume = Resume {
+        last: 2,
+        numbers: &all,
+        limits: WIDE,
+        answered: 0,
+        index: 0,
+    };
+    Ok(Relay::resumed(alloc, 2, limits, &resume)?)
+}
+
+/// It sends nothing until it is told its limits, and then has its record with them.
+fn hears_its_limits(rt: &impl Abort, alloc: Global, relay: &mut Relay) -> Result<(), Fail>
+    requires { relay.old.gathered.cache.steps ≡ 2 }
+{
+    learns(rt, alloc, relay, 0, 2, [100, 40])?;
+    learns(rt, alloc, relay, 1, 2, [80, -200])?;
+    refuses(rt, relay, SendFault::NotCaughtUp);
+    leaves(rt, relay, 2, 1, PriceOutcome::Waits);
+    same(rt, "stored", relay.resume().limits, WIDE);
+    same(rt, "given", relay.set_limits(2, 2, WIDE), Ok(()));
+    same(rt, "again", relay.resend(), Some(2));
+    same(rt, "demands", demands_of(relay), [180, -160]);
+    let price = Some(price_of(2, 1));
+    same(rt, "passed", passes(rt, relay, 2, 1), [price, price]);
+    Ok(())
+}
+
+#[test]
+fn a_relay_that_comes_back_hears_its_limits(rt: HostRuntime) -> Result<(), Fail> {
+    let alloc = rt.alloc();
+    let mut relay = back_with_limits(alloc)?;
+    hears_its_limits(&rt, alloc, &mut relay)
 }

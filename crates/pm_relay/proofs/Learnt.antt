@@ -56,6 +56,8 @@ relay_learnt r child number demand new is small made =
     subst P (sym made) (record {
       children = keeps.children ∙ is.children;
       same_children = is.same_children;
+      limits_kept = is.limits_kept;
+      limits_small = is.limits_small;
       limits = is.limits;
       single = keeps.single;
       announced = is.announced ∙ ap Some (sym (same_demand _ _ _ is.announced));

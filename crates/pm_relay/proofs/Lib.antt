@@ -1,3 +1,4 @@
 mod Learnt
 mod Small
 mod Gathering
+pub mod MadeUnder

@@ -1,9 +1,10 @@
 -- What a relay keeps, and what each call makes of it.
-use Rattle.std.specs.Prelude.{◌≡◌, ◌⊎◌, ℕ, ◌+◌, ◌-◌, ◌<◌, ◌≤◌, ◌^◌, ℤ, List, length, Option, Some}
+use Rattle.std.specs.Prelude.{◌≡◌, ◌⊎◌, ℕ, ◌+◌, ◌-◌, ◌%◌, ◌<◌, ◌≤◌, ◌^◌, ℤ, pos, List, length, Option, Some, None}
+use Rattle.std.specs.Prelude.{if◌then◌else◌, nat_lt, slice_index_or}
 use Rattle.pm_base.specs.Limits.{AreLimits, IsWithin, demand_limit, most_nodes, window_size}
 use Rattle.pm_base.specs.declared.limits.Limits.{Limits}
 use Rattle.pm_bid.specs.Taken.{announced}
-use Rattle.pm_cache.specs.Cache.{aggregate_of}
+use Rattle.pm_cache.specs.Cache.{aggregate_of, kept_number}
 use Rattle.pm_cache.specs.Learning.{after_learning}
 use Rattle.pm_session.specs.Windows.{Sent, record_of}
 use Rattle.pm_session.specs.declared.price.PriceUpdate.{PriceUpdate}
@@ -23,6 +24,11 @@ pub record RelayValue : Type 0 where
   pub answered : ℕ
   pub index : ℕ
   pub recorded : List ℕ
+  -- the limits that the numbers were made under, in places by number
+  pub made_under : List Limits
+
+abbrev pub no_limits : Limits
+no_limits = record { floor = pos 0; ceiling = pos 0 }
 
 -- limits so small that each sum within them fits a message
 pub record AreRelayLimits (limits : Limits) : Type 0 where
@@ -39,6 +45,14 @@ newest_bid_number r = r.base + r.gathered.window.last
 -- the record of a number that it has: what went into that bid
 abbrev pub record_at : RelayValue → ℕ → Sent
 record_at r number = record_of r.gathered.window (number - r.base)
+
+-- how many places there are for the limits of numbers: one for the number answered last, and one for each that may be unanswered
+abbrev pub limits_places : ℕ
+limits_places = window_size + 1
+
+-- the limits that a number was made under; they are known of each number from the one answered to the newest
+abbrev pub limits_of_number : RelayValue → ℕ → Option Limits
+limits_of_number r number = Some (slice_index_or r.made_under (number % limits_places) no_limits)
 
 -- it has heard of each child as much as its newest bid had
 abbrev pub IsCaughtUp : RelayValue → Type 0
@@ -58,14 +72,15 @@ unanswered_numbers r = newest_bid_number r - r.answered
 
 -- ---- a relay comes up
 
--- A relay that heard nothing yet, and whose newest bid, before it restarted, had this number and these of the children. It
--- holds a price of this index, which answers this number.
-pub record ComesBack (steps : ℕ) (limits' : Limits) (last answered' index' : ℕ) (numbers : List ℕ) (r : RelayValue) : Type 0 where
+-- A relay that heard nothing yet, and whose newest bid, before it restarted, had this number and these of the children, and was
+-- made under these limits. It holds a price of this index, which answers this number.
+pub record ComesBack (steps : ℕ) (limits' : Limits) (last answered' index' : ℕ) (numbers : List ℕ) (under : Limits) (r : RelayValue) : Type 0 where
   pub gathered : IsNewConcentrator most_nodes steps (Some limits') r.gathered
   pub base : r.base ≡ last
   pub answered : r.answered ≡ answered'
   pub index : r.index ≡ index'
   pub recorded : r.recorded ≡ numbers
+  pub made_under : limits_of_number r last ≡ Some under
 
 -- ---- a child's bid
 
@@ -73,6 +88,14 @@ pub record ComesBack (steps : ℕ) (limits' : Limits) (last answered' index' : �
 abbrev pub with_child_bid : RelayValue → ℕ → ℕ → Option (List ℤ) → RelayValue
 with_child_bid r child number demand =
     record r { gathered = record r.gathered { cache = after_learning r.gathered.cache child number demand } }
+
+-- The relay with limits that are given under a number, as a child's bid is: if it is newer, the limits count from the next bid
+-- on, and the child that gives them asks for nothing.
+abbrev pub with_new_limits : RelayValue → ℕ → ℕ → Limits → RelayValue
+with_new_limits r child number limits' =
+    if nat_lt (kept_number r.gathered.cache child) number
+    then record r { gathered = record (with_child_bid r child number None).gathered { limits = Some limits' } }
+    else r
 
 -- a relay that came back, has no record of its newest bid, and has heard of each child just what that bid had
 pub record HearsItsRecord (r : RelayValue) : Type 0 where
@@ -95,6 +118,7 @@ pub record RecordRebuilt (old new : RelayValue) : Type 0 where
   pub answered : new.answered ≡ old.answered
   pub index : new.index ≡ old.index
   pub recorded : new.recorded ≡ old.recorded
+  pub made_under : limits_of_number new old.base ≡ old.gathered.limits
 
 -- a relay has its record again as soon as it hears it, and else stays as it is
 abbrev pub LooksForRecord : RelayValue → RelayValue → Type 0
@@ -114,6 +138,9 @@ pub record BidSent (old new : RelayValue) (number' : ℕ) : Type 0 where
   pub base : new.base ≡ old.base
   pub answered : new.answered ≡ old.answered
   pub index : new.index ≡ old.index
+  -- the number was made under the limits of now, and the others under those of before
+  pub made_under : limits_of_number new number' ≡ old.gathered.limits
+  pub kept_under : (n : ℕ) → old.answered ≤ n → n ≤ newest_bid_number old → limits_of_number new n ≡ limits_of_number old n
 
 -- when no bid is sent, and why
 abbrev pub NotSent : RelayValue → SendFault → Type 0
@@ -154,6 +181,7 @@ pub record PricePassedOn (old new : RelayValue) (price : PriceUpdate) : Type 0 w
   pub answered : new.answered ≡ price.number
   pub index : new.index ≡ price.index
   pub recorded : new.recorded ≡ old.recorded
+  pub made_under : new.made_under ≡ old.made_under
 
 -- what was done with a price, and why
 abbrev pub TakesPrice : RelayValue → RelayValue → PriceUpdate → PriceOutcome → Type 0

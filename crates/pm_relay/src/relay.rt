@@ -10,7 +10,7 @@ ghost use Rattle.pm_cache.specs.Cache.{kept_number, answer_to};
 ghost use Rattle.pm_cache.specs.Learning.{demand_of_offer};
 ghost use Rattle.pm_concentrator.specs.Concentrators.{own_demand};
 ghost use Rattle.pm_concentrator.specs.Limited.{settled_step_of_record};
-ghost use Rattle.pm_relay.specs.Relays.{AreRelayLimits, ComesBack, IsCaughtUp, HearsNothingNewer, newest_bid_number, with_child_bid, LooksForRecord};
+ghost use Rattle.pm_relay.specs.Relays.{AreRelayLimits, ComesBack, IsCaughtUp, HearsNothingNewer, newest_bid_number, with_child_bid, with_new_limits, limits_of_number, LooksForRecord};
 ghost use Rattle.pm_relay.specs.Numbers.{known_number, parents_number};
 ghost use Rattle.pm_relay.specs.Relays.{BidSent, NotSent, HasRecord, record_at, TakesPrice};
 
@@ -26,12 +26,15 @@ use pm_session::{PriceUpdate, Prices};
 use std::alloc::{AllocError, Global};
 use std::marker::Model;
 
+/// How many places there are for the limits of numbers.
+const LIMITS_PLACES: usize = 9;
+
 /// A node between its children and its parent, which are reached by messages that may be lost, come twice or out of order. It
 /// has places for 256 children, which count from 0.
 ///
 /// Contracts see what its concentrator gathered and sent since the relay came up, and by how much the relay's numbers are ahead
-/// of the concentrator's; the number answered and the index of the price that it took last; and of each child the number in its
-/// newest bid.
+/// of the concentrator's; the number answered and the index of the price that it took last; of each child the number in its
+/// newest bid; and the limits that its numbers were made under.
 #[derive(Drop)]
 pub struct Relay {
     concentrator: Concentrator,
@@ -39,6 +42,7 @@ pub struct Relay {
     answered: u32,
     index: u32,
     recorded: Vec<u32>,
+    made_under: Vec<Limits>,
 }
 
 impl Model for Relay {
@@ -58,20 +62,22 @@ impl Relay {
     pub fn new(alloc: Global, steps: usize, limits: Limits) -> Result<Relay, AllocError>
         requires steps { AreSteps steps }
         requires limits { AreRelayLimits limits }
-        ensures new { IfOk result (λ r. ComesBack steps limits 0 0 0 (replicate most_nodes 0) r) }
+        ensures new { IfOk result (λ r. ComesBack steps limits 0 0 0 (replicate most_nodes 0) limits r) }
     {
         let numbers = [0; MOST_NODES];
         let resume = Resume {
             last: 0,
             numbers: &numbers,
+            limits,
             answered: 0,
             index: 0,
         };
         Relay::resumed(alloc, steps, limits, &resume)
     }
 
-    /// A relay that comes back after a restart with what it gave before. It has heard nothing yet. All its memory is taken
-    /// here.
+    /// A relay that comes back after a restart with what it gave before. It has heard nothing yet, not even the limits that it
+    /// gave: until it is told limits by [`Relay::set_limits`] it has those of its first start, which are handed in. All its
+    /// memory is taken here.
     pub fn resumed(
         alloc: Global,
         steps: usize,
@@ -82,18 +88,21 @@ impl Relay {
         requires limits { AreRelayLimits limits }
         requires numbers { length resume.now.numbers.now ≡ most_nodes }
         requires answered { resume.now.answered ≤ resume.now.last }
+        requires under { AreRelayLimits resume.now.limits }
         ensures back { IfOk result (λ r. ComesBack steps limits resume.now.last resume.now.answered
-            resume.now.index resume.now.numbers.now r) }
+            resume.now.index resume.now.numbers.now resume.now.limits r) }
     {
         let Limits { floor, ceiling } = limits;
         let concentrator = Concentrator::limited(alloc, MOST_NODES, steps, floor, ceiling)?;
         let recorded = Vec::from_slice(alloc, resume.numbers)?;
+        let made_under = Vec::from_slice(alloc, &[resume.limits; LIMITS_PLACES])?;
         Ok(Relay {
             concentrator,
             base: resume.last,
             answered: resume.answered,
             index: resume.index,
             recorded,
+            made_under,
         })
     }
 
@@ -101,14 +110,18 @@ impl Relay {
     pub fn resume(&self) -> Resume<'_>
         ensures last { result.last ≡ newest_bid_number self.now }
         ensures numbers { result.numbers.now ≡ self.now.recorded }
+        ensures limits { Some result.limits ≡ limits_of_number self.now result.last }
+        ensures small { AreRelayLimits result.limits }
         ensures answered { result.answered ≡ self.now.answered }
         ensures index { result.index ≡ self.now.index }
         ensures children { length result.numbers.now ≡ most_nodes }
         ensures order { result.answered ≤ result.last }
     {
+        let last = self.last();
         Resume {
-            last: self.last(),
+            last,
             numbers: &self.recorded,
+            limits: self.made_under[last as usize % LIMITS_PLACES],
             answered: self.answered,
             index: self.index,
         }
@@ -159,6 +172,56 @@ impl Relay {
         number
     }
 
+    /// Learns limits with their number, as the bid of a child that asks for nothing: they have a place among the children, and no
+    /// other bid comes there. They count from the next bid on; each number keeps the limits that it was made under. `Old` comes
+    /// exactly where the number is at most the kept one, and the limits stay then.
+    pub fn set_limits(
+        &mut self,
+        child: usize,
+        number: u32,
+        limits: Limits,
+    ) -> Result<(), CacheFault>
+        requires child { child < most_nodes }
+        requires limits { AreRelayLimits limits }
+        ensures answer { result ≡ answer_to (kept_number self.old.gathered.cache child) number }
+        ensures set { LooksForRecord (with_new_limits self.old child number limits) self.new }
+        ensures steps { self.new.gathered.cache.steps ≡ self.old.gathered.cache.steps }
+    {
+        let answer = self.enter_limits(child, number, limits);
+        self.look_for_record();
+        answer
+    }
+
+    /// Enters limits.
+    fn enter_limits(
+        &mut self,
+        child: usize,
+        number: u32,
+        limits: Limits,
+    ) -> Result<(), CacheFault>
+        requires child { child < most_nodes }
+        requires limits { AreRelayLimits limits }
+        ensures answer { result ≡ answer_to (kept_number self.old.gathered.cache child) number }
+        ensures set { self.new ≡ with_new_limits self.old child number limits }
+    {
+        let answer = self.enter(child, number, None);
+        if answer.is_ok() {
+            self.concentrator.change_limits(limits);
+        }
+        answer
+    }
+
+    /// The limits that the next bid is made under.
+    pub fn limits(&self) -> Limits
+        ensures limits { Some result ≡ self.now.gathered.limits }
+        ensures small { AreRelayLimits result }
+    {
+        let Some(limits) = self.concentrator.limits() else {
+            unreachable!()
+        };
+        limits
+    }
+
     /// Enters a child's bid.
     fn enter(
         &mut self,
@@ -191,9 +254,11 @@ impl Relay {
         if !self.is_caught_up() || !self.hears_nothing_newer() {
             return;
         }
+        let limits = self.limits();
         if self.concentrator.next_settled_bid().is_err() {
             return;
         }
+        self.made_under[self.base as usize % LIMITS_PLACES] = limits;
         self.base -= 1;
         // The call tells a fact of the type: there is a demand where there are limits.
         let _cache = self.concentrator.cache();
@@ -237,11 +302,14 @@ impl Relay {
         if last == u32::MAX {
             return Err(SendFault::OutOfNumbers);
         }
+        let limits = self.limits();
         let Ok(_own_number) = self.concentrator.next_settled_bid() else {
             unreachable!()
         };
+        let number = last + 1;
+        self.made_under[number as usize % LIMITS_PLACES] = limits;
         note_numbers(self.concentrator.cache().heads(), &mut self.recorded);
-        Ok(last + 1)
+        Ok(number)
     }
 
     /// The demand of the relay's newest bid, in watts at each step, zeros before the first.
@@ -297,21 +365,23 @@ impl Relay {
     }
 
     /// What a price is for each child that is not gone in the record of the number that the price names: the price with the
-    /// child's number in that record, and the step for which the relay settles by the record's sum.
+    /// child's number in that record, and the step for which the relay settles by the record's sum and limits.
     pub fn prices(&self, price: PriceUpdate) -> Prices<'_>
         requires record { HasRecord self.now price.number }
         requires step { price.step < self.now.gathered.cache.steps }
         ensures heads { result.heads.now ≡ (record_at self.now price.number).heads }
         ensures children { length result.heads.now ≡ most_nodes }
-        ensures step { result.step ≡ settled_step_of_record self.now.gathered.limits price.step
-            (record_at self.now price.number).sum }
+        ensures step { result.step ≡ settled_step_of_record (limits_of_number self.now price.number)
+            price.step (record_at self.now price.number).sum }
         ensures inside { result.step < self.now.gathered.cache.steps }
         ensures index { result.index ≡ price.index }
     {
-        self.concentrator.settled_prices(PriceUpdate {
+        let limits = &self.made_under[price.number as usize % LIMITS_PLACES];
+        let own_price = PriceUpdate {
             step: price.step,
             number: price.number - self.base,
             index: price.index,
-        })
+        };
+        self.concentrator.settled_prices(own_price, limits)
     }
 }

@@ -11,14 +11,15 @@ use Rattle.pm_bid.specs.Heads.{nothing_sent}
 use Rattle.pm_bid.specs.declared.head.BidHead.{BidHead}
 use Rattle.pm_cache.specs.Cache.{Cache}
 use Rattle.pm_market.specs.Lists.{Lists, parent, IsNode}
+use Rattle.pm_market.specs.State.{no_changes}
 use Rattle.pm_market.proofs.Cuts.{updated_same}
-use Rattle.pm_net.specs.Pricing.{Pricing}
-use Rattle.pm_net.specs.Messages.{BidMessage, PriceMessage, nothing_heard}
+use Rattle.pm_net.specs.Pricing.{Pricing, LimitsGoByDevices}
+use Rattle.pm_net.specs.Messages.{BidMessage, PriceMessage, nothing_heard, numbers_of}
 use Rattle.pm_net.specs.Network.{Network, start_network}
 use Rattle.pm_net.specs.Restarts.{stored_price, records_left, number_alone, nothing_left, after_restart}
 use Rattle.pm_net_plan.specs.Places.{Numbering, IsNumbering, demands_of}
 use Rattle.pm_relay.specs.Numbers.{child_number, head_number}
-use Rattle.pm_relay.specs.Relays.{RelayValue, newest_bid_number, ComesBack}
+use Rattle.pm_relay.specs.Relays.{RelayValue, newest_bid_number, limits_of_number, ComesBack}
 use Rattle.pm_relay_net.specs.Heads.{bid_head, heads_of}
 use Rattle.pm_relay_net.specs.RelayIs.{MatchesNode, RelayIs}
 use Rattle.pm_relay_net.proofs.Places.{heads_of-none, demands_of-none}
@@ -51,27 +52,33 @@ hears_none lists p numbering is y heard none = record {
         ]
 
 -- a relay that comes up, over a network in which nothing was heard of its children
-module _ (lists : Lists) (p : Pricing) (numbering : Numbering) (is : IsNumbering lists numbering) (net : Network) (limits : Limits)
-    (c last answered index : ℕ) (numbers : List ℕ) (r : RelayValue) (limited : p.limits c ≡ Some limits)
-    (back : ComesBack p.steps limits last answered index numbers r)
+module _ (lists : Lists) (p : Pricing) (numbering : Numbering) (is : IsNumbering lists numbering)
+    (alike : LimitsGoByDevices lists p.limits) (net : Network) (limits under : Limits)
+    (c last answered index : ℕ) (numbers : List ℕ) (r : RelayValue) (limited : p.limits c no_changes ≡ Some limits)
+    (back : ComesBack p.steps limits last answered index numbers under r)
     (none : (x : ℕ) → IsNode lists x → parent lists x ≡ c → net.heard x ≡ nothing_heard p)
     (last_is : last ≡ net.last_number c) (few : length numbers ≡ most_nodes)
     (numbers_are : (k : ℕ) → k < most_nodes → child_number numbers k ≡ head_number (heads_of numbering c (net.records c (net.last_number c))) k)
     (answered_is : answered ≡ net.answered c) (index_is : index ≡ (net.taken c).index) (base_is : last ≡ net.whole_from c - 1)
-    (order : answered ≤ last) where
+    (order : answered ≤ last) (under_is : Some under ≡ p.limits c (numbers_of (net.records c (net.last_number c)))) where
   hears : HearsNone p numbering c net.heard
   hears = hears_none lists p numbering is c net.heard none
 
   heads_are : r.gathered.cache.heads ≡ replicate most_nodes nothing_sent
   heads_are = ap (λ (k : Cache). k.heads) back.gathered.cache
 
+  limits_are : p.limits c (numbers_of net.heard) ≡ Some limits
+  limits_are = alike c (numbers_of net.heard) no_changes (λ d node leaf up. ap (λ (b : BidMessage). b.number) (none d node up)) ∙ limited
+
   -- it is what the network has of its node
   pub comes_up : RelayIs p numbering net c r
   comes_up = record {
     matches = record {
       steps = ap (λ (k : Cache). k.steps) back.gathered.cache;
-      limits = back.gathered.limits ∙ sym limited;
-      limited = (limits, limited);
+      limits = back.gathered.limits ∙ sym limits_are;
+      limited = (limits, limits_are);
+      made_under = λ n keeps. absurd (omega (arith, keeps.one, keeps.to, back.gathered.window.last));
+      newest_under = ap (limits_of_number r) (sym last_is) ∙ back.made_under ∙ under_is;
       heads = heads_are ∙ sym hears.heads;
       demands = ap (λ (k : Cache). k.demands) back.gathered.cache ∙ sym hears.demands;
       newest = omega (arith, back.base, back.gathered.window.last, last_is);
@@ -107,22 +114,25 @@ numbers_left lists p net c k x =
     (number_alone (net.records c (net.last_number c) x)) nothing_left (eq-eqb (net.last_number c) (net.last_number c) refl))
 
 -- for the first time
-pub first_up : (lists : Lists) (p : Pricing) (numbering : Numbering) → IsNumbering lists numbering → (limits : Limits) (c : ℕ) (r : RelayValue) →
-    p.limits c ≡ Some limits → ComesBack p.steps limits 0 0 0 (replicate most_nodes 0) r → RelayIs p numbering (start_network p) c r
-first_up lists p numbering is limits c r limited back =
-    comes_up lists p numbering is (start_network p) limits c 0 0 0 (replicate most_nodes 0) r limited back (λ x node up. refl) refl
+pub first_up : (lists : Lists) (p : Pricing) (numbering : Numbering) → IsNumbering lists numbering → LimitsGoByDevices lists p.limits →
+    (limits : Limits) (c : ℕ) (r : RelayValue) →
+    p.limits c no_changes ≡ Some limits → ComesBack p.steps limits 0 0 0 (replicate most_nodes 0) limits r → RelayIs p numbering (start_network p) c r
+first_up lists p numbering is alike limits c r limited back =
+    comes_up lists p numbering is alike (start_network p) limits limits c 0 0 0 (replicate most_nodes 0) r limited back (λ x node up. refl) refl
     (length-replicate {A = ℕ} most_nodes 0)
     (λ k inside. get_or-replicate most_nodes k 0 0 (omega (arith, inside, length-replicate {A = ℕ} most_nodes 0))
     ∙ sym (zero_in lists p numbering is c k inside))
-    refl refl refl (omega arith)
+    refl refl refl (omega arith) (sym limited)
 
 -- and after a restart
-pub back_up : (lists : Lists) (p : Pricing) (numbering : Numbering) → IsNumbering lists numbering → (net : Network) (limits : Limits) (c k : ℕ)
-    (old new : RelayValue) → p.limits c ≡ Some limits → MatchesNode p numbering net c old → (stored_price net c k).number ≤ net.last_number c →
-    ComesBack p.steps limits (newest_bid_number old) (stored_price net c k).number (stored_price net c k).index old.recorded new →
+pub back_up : (lists : Lists) (p : Pricing) (numbering : Numbering) → IsNumbering lists numbering → LimitsGoByDevices lists p.limits →
+    (net : Network) (limits under : Limits) (c k : ℕ)
+    (old new : RelayValue) → p.limits c no_changes ≡ Some limits → MatchesNode p numbering net c old →
+    Some under ≡ limits_of_number old (newest_bid_number old) → (stored_price net c k).number ≤ net.last_number c →
+    ComesBack p.steps limits (newest_bid_number old) (stored_price net c k).number (stored_price net c k).index old.recorded under new →
     RelayIs p numbering (after_restart lists p net c k) c new
-back_up lists p numbering is net limits c k old new limited m within back =
-    comes_up lists p numbering is (after_restart lists p net c k) limits c (newest_bid_number old) (stored_price net c k).number (stored_price net c k).index
+back_up lists p numbering is alike net limits under c k old new limited m under_is within back =
+    comes_up lists p numbering is alike (after_restart lists p net c k) limits under c (newest_bid_number old) (stored_price net c k).number (stored_price net c k).index
     old.recorded new limited back
     (λ x node up. cond-true (eqb (parent lists x) c) (nothing_heard p) (net.heard x) (eq-eqb (parent lists x) c up))
     m.newest m.children
@@ -132,3 +142,6 @@ back_up lists p numbering is net limits c k old new limited m within back =
     (sym (ap (λ (q : PriceMessage). q.index) (updated_same net.taken c (stored_price net c k))))
     (omega (arith, m.newest, updated_same net.whole_from c (net.last_number c + 1)))
     (omega (arith, within, m.newest))
+    (under_is ∙ ap (limits_of_number old) m.newest ∙ m.newest_under
+    ∙ alike c (numbers_of (net.records c (net.last_number c))) (numbers_of ((after_restart lists p net c k).records c (net.last_number c)))
+    (λ x node leaf up. sym (numbers_left lists p net c k x)))

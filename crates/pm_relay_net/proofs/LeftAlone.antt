@@ -3,12 +3,12 @@ use Rattle.std.proofs.Common.{◌≡◌, ◌∙◌, sym, ap, ℕ, ◌-◌, Some,
 use Rattle.pm_bid.specs.Clearing.{clearing_step}
 use Rattle.pm_bid.specs.Taken.{announced}
 use Rattle.pm_market.specs.Lists.{Lists}
-use Rattle.pm_net.specs.Pricing.{Pricing}
-use Rattle.pm_net.specs.Messages.{BidMessage, PriceMessage}
+use Rattle.pm_net.specs.Pricing.{Pricing, LimitsGoByDevices}
+use Rattle.pm_net.specs.Messages.{BidMessage, PriceMessage, numbers_of}
 use Rattle.pm_net.specs.Network.{Network}
 use Rattle.pm_net_plan.specs.Places.{Numbering, IsNumbering}
 use Rattle.pm_relay.specs.Numbers.{head_number}
-use Rattle.pm_relay.specs.Relays.{RelayValue}
+use Rattle.pm_relay.specs.Relays.{RelayValue, limits_of_number}
 use Rattle.pm_relay.specs.Roots.{RootValue}
 use Rattle.pm_relay_net.specs.Heads.{heads_of}
 use Rattle.pm_relay_net.specs.RelayIs.{MatchesNode, RelayIs}
@@ -17,17 +17,23 @@ use Rattle.pm_relay_net.proofs.Places.{heads_of-same, demands_of-same}
 use Rattle.pm_relay_net.proofs.Elsewhere.{SameNode}
 
 -- a relay that is what one of two networks has of it is what the other has
-pub relay_stays : (lists : Lists) (p : Pricing) (numbering : Numbering) → IsNumbering lists numbering → (net net' : Network) (c : ℕ) (r : RelayValue) →
+pub relay_stays : (lists : Lists) (p : Pricing) (numbering : Numbering) → IsNumbering lists numbering → LimitsGoByDevices lists p.limits →
+    (net net' : Network) (c : ℕ) (r : RelayValue) →
     SameNode lists c net net' → RelayIs p numbering net c r → RelayIs p numbering net' c r
-relay_stays lists p numbering is net net' c r same was =
+relay_stays lists p numbering is alike net net' c r same was =
+    let limits : p.limits c (numbers_of net.heard) ≡ p.limits c (numbers_of net'.heard) =
+    alike c (numbers_of net.heard) (numbers_of net'.heard) (λ d node leaf up. ap (λ (b : BidMessage). b.number) (same.heard d node up)) in
     let m : MatchesNode p numbering net c r = was.matches in
     let record_of : (n n' : ℕ) → n ≡ n' → net.records c n ≡ net'.records c n' =
     λ n n' e. ap (λ (f : ℕ → ℕ → BidMessage). f n) same.records ∙ ap (net'.records c) e in
     record {
       matches = record {
         steps = m.steps;
-        limits = m.limits;
-        limited = m.limited;
+        limits = m.limits ∙ limits;
+        limited = (m.limited.0, sym limits ∙ m.limited.1);
+        made_under = λ n keeps. m.made_under n keeps ∙ ap (λ (f : ℕ → BidMessage). p.limits c (numbers_of f)) (record_of _ _ refl);
+        newest_under = ap (limits_of_number r) (sym same.last_number) ∙ m.newest_under
+            ∙ ap (λ (f : ℕ → BidMessage). p.limits c (numbers_of f)) (record_of (net.last_number c) (net'.last_number c) same.last_number);
         heads = m.heads ∙ heads_of-same lists numbering is c net.heard net'.heard same.heard;
         demands = m.demands ∙ demands_of-same lists numbering is p.steps c net.heard net'.heard same.heard;
         newest = m.newest ∙ same.last_number;
@@ -42,7 +48,7 @@ relay_stays lists p numbering is net net' c r same was =
         opening = m.opening;
         window = m.window;
         order = m.order;
-        demand = λ some. m.demand some ∙ ap (λ (f : ℕ → BidMessage). Some (announced (p.limits c) (p.add c (λ z. (f z).demand))))
+        demand = λ some. m.demand some ∙ ap (λ (f : ℕ → BidMessage). Some (announced (p.limits c (numbers_of f)) (p.add c (λ z. (f z).demand))))
             (record_of (net.last_number c) (net'.last_number c) same.last_number);
       };
       rebuilt = was.rebuilt;

@@ -22,8 +22,8 @@ use Rattle.pm_laws.proofs.Numbers.{number_of_part}
 use Rattle.pm_session.specs.Windows.{Sent, Keeps, record_of}
 use Rattle.pm_concentrator.specs.Concentrators.{own_demand, published_heads}
 use Rattle.pm_concentrator.specs.Limited.{sum_kept}
-use Rattle.pm_net.specs.Pricing.{Pricing}
-use Rattle.pm_net.specs.Messages.{BidMessage, bid_message}
+use Rattle.pm_net.specs.Pricing.{Pricing, LimitsGoByDevices}
+use Rattle.pm_net.specs.Messages.{BidMessage, bid_message, numbers_of}
 use Rattle.pm_net.specs.Network.{Network}
 use Rattle.pm_net.specs.Running.{is_caught_up, has_news, can_send, heard_sum, relay_bid, after_sending, recorded_number}
 use Rattle.pm_net.specs.Restarts.{can_resend, newest_bid, after_resending, device_stopped, relay_stopped}
@@ -33,7 +33,7 @@ use Rattle.pm_net.proofs.Messages.{two_same, two_other}
 use Rattle.pm_net.proofs.News.{level, child_from}
 use Rattle.pm_net_plan.specs.Places.{Numbering, IsNumbering}
 use Rattle.pm_relay.specs.Numbers.{head_number}
-use Rattle.pm_relay.specs.Relays.{RelayValue, newest_bid_number, IsCaughtUp, HasChanged, unanswered_numbers, BidSent, NotSent}
+use Rattle.pm_relay.specs.Relays.{RelayValue, newest_bid_number, limits_of_number, IsCaughtUp, HasChanged, unanswered_numbers, BidSent, NotSent}
 use Rattle.pm_relay.specs.declared.fault.SendFault.{SendFault}
 use Rattle.pm_relay.specs.declared.fault.SendFault.TheVariants.{NotCaughtUp, NotChanged, WindowFull, OutOfNumbers}
 use Rattle.pm_relay_net.specs.Heads.{bid_head, head_in, heads_of, AddsByPlaces}
@@ -236,6 +236,12 @@ module _ (lists : Lists) (law : Lawful lists) (p : Pricing) (numbering : Numberi
     new_sum k at = ap (λ (i : ℕ). (record_of new.gathered.window i).sum) at ∙ ap (λ (q : Sent). q.sum) did.made.sent.at
         ∙ ap (λ l. sum_kept l (aggregate_of r.gathered.cache)) (m.limits ∙ m.limited.1)
 
+    limits_at : (k : ℕ) → k ≡ n → r.gathered.limits ≡ p.limits c (numbers_of (net'.records c k))
+    limits_at k at = m.limits ∙ ap (λ (f : ℕ → BidMessage). p.limits c (numbers_of f)) (sym (heard_is k at))
+
+    new_under : (k : ℕ) → k ≡ n → limits_of_number new k ≡ p.limits c (numbers_of (net'.records c k))
+    new_under k at = ap (limits_of_number new) (at ∙ sym number_is) ∙ did.made_under ∙ limits_at k at
+
     -- after its bid the relay is what the network has of the node
     pub sent_is : RelayIs p numbering net' c new
     sent_is = record {
@@ -243,6 +249,17 @@ module _ (lists : Lists) (law : Lawful lists) (p : Pricing) (numbering : Numberi
         steps = ap (λ (w : Cache). w.steps) did.made.cache ∙ m.steps;
         limits = did.made.limits ∙ m.limits;
         limited = m.limited;
+        made_under = λ k keeps. elim (cases_eq k (r.gathered.window.last + 1)) [
+          | inl e ↦ new_under (new.base + k) (omega (arith, did.base, e, m.newest))
+          | inr ne ↦
+              let old : Keeps r.gathered.window k = older k keeps ne in
+              ap (λ (i : ℕ). limits_of_number new (i + k)) did.base
+              ∙ did.kept_under (r.base + k) (omega (arith, old.from, m.window)) (omega (arith, old.to))
+              ∙ m.made_under k old
+              ∙ ap (λ (f : ℕ → BidMessage). p.limits c (numbers_of f)) (sym (kept_is (r.base + k) (λ e. ne (omega (arith, e, m.newest)))))
+              ∙ ap (λ (i : ℕ). p.limits c (numbers_of (net'.records c (i + k)))) (sym did.base)
+        ];
+        newest_under = new_under (net'.last_number c) last_number_is;
         heads = ap (λ (w : Cache). w.heads) did.made.cache ∙ m.heads;
         demands = ap (λ (w : Cache). w.demands) did.made.cache ∙ m.demands;
         newest = omega (arith, did.base, last_is, m.newest, last_number_is);
@@ -271,8 +288,8 @@ module _ (lists : Lists) (law : Lawful lists) (p : Pricing) (numbering : Numberi
         opening = λ e. absurd (omega (arith, e, last_is));
         window = omega (arith, did.made.sent.answered, m.window, did.answered, did.base);
         order = omega (arith, m.order, did.answered, did.base, last_is);
-        demand = λ some. did.announced ∙ ap Some (ap (λ l. announced l (aggregate_of r.gathered.cache)) m.limits
-            ∙ ap (announced (p.limits c)) (sum_at (net'.last_number c) last_number_is));
+        demand = λ some. did.announced ∙ ap Some (ap (λ l. announced l (aggregate_of r.gathered.cache)) (limits_at (net'.last_number c) last_number_is)
+            ∙ ap (announced (p.limits c (numbers_of (net'.records c (net'.last_number c))))) (sum_at (net'.last_number c) last_number_is));
       };
       rebuilt = λ again. omega (arith, again.lost, last_is);
     }
@@ -296,14 +313,14 @@ module _ (lists : Lists) (law : Lawful lists) (p : Pricing) (numbering : Numberi
     )
 
     -- so is the relay if it stops before the bid is sent
-    pub stops : RelayIs p numbering (network_step lists p net (StopsBidding c)) c new
-    stops =
+    pub stops : LimitsGoByDevices lists p.limits → RelayIs p numbering (network_step lists p net (StopsBidding c)) c new
+    stops alike =
         let Is : Network → Type 0 = λ w. RelayIs p numbering w c new in
         let sends_or_not : Network = cond (can_send lists net c) (relay_stopped net c) net in
         subst Is (sym (cond-false (may_bid lists net c) (device_stopped net c) sends_or_not
         (ap (λ (b : Bool). b && ltb (net.counts c) (changes lists c)) conc.2)
         ∙ cond-true (can_send lists net c) (relay_stopped net c) net can))
-        (relay_stays lists p numbering is net' (relay_stopped net c) c new
+        (relay_stays lists p numbering is alike net' (relay_stopped net c) c new
         (record { heard = λ x node up. refl; last_number = refl; records = refl; whole_from = refl; answered = refl; taken = refl }) sent_is)
 
 -- a relay that has its newest record sends its newest bid again as the node does
@@ -317,7 +334,7 @@ sends_again lists p numbering net c r conc m some =
     (ap (λ (b : Bool). is_leaf lists c || b) (and_from (leb (net.whole_from c) (net.last_number c)) (leb 1 (net.last_number c))
     (le-leb (net.whole_from c) (net.last_number c) (is_whole lists p numbering net c r m some)) (le-leb 1 (net.last_number c) (omega (arith, m.newest, some))))
     ∙ or_true (is_leaf lists c)) in
-    let demand : own_demand r.gathered ≡ announced (p.limits c) (p.add c (λ z. (net.records c (net.last_number c) z).demand)) =
+    let demand : own_demand r.gathered ≡ announced (p.limits c (numbers_of (net.records c (net.last_number c)))) (p.add c (λ z. (net.records c (net.last_number c) z).demand)) =
     ap (λ o. unwrap_or o (aggregate_of r.gathered.cache)) (m.demand some) in
     let bid : newest_bid lists p net c ≡ bid_message (newest_bid_number r) false (own_demand r.gathered) =
     cond-false (is_leaf lists c) _ _ conc.2 ∙ ap (bid_message (net.last_number c) false) (sym demand)

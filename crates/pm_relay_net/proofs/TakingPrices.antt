@@ -1,7 +1,8 @@
 -- A relay is given a price: it passes it on, takes it alone, leaves it for later, or drops it.
 use Rattle.std.proofs.Common.{◌≡◌, ◌∙◌, sym, ap, subst, ℕ, ◌+◌, ◌-◌, ◌<◌, ◌≤◌, Bool, true, false, cond, not}
 use Rattle.std.proofs.Common.{eqb, ltb, leb, ◌&&◌, List, [], ◌++◌}
-use Rattle.std.proofs.Common.{length, Some, arith, refl}
+use Rattle.std.proofs.Common.{length, Some, arith, refl, get_or, ◌%◌}
+use Rattle.pm_base.specs.declared.limits.Limits.{Limits}
 use Rattle.std.proofs.lemmas.Bool.{cases_Bool, cond-true, cond-false, and_parts, and_from, ltb-true, lt-ltb, leb-true, le-leb, eq-eqb}
 use Rattle.std.proofs.lemmas.Bool.{eqb-true, not_from_false}
 use Rattle.std.proofs.lemmas.Bool.{both_ways, false_from_ne_true, not-true}
@@ -15,7 +16,7 @@ use Rattle.pm_market.proofs.Cuts.{updated_same}
 use Rattle.pm_session.specs.Windows.{Sent, Keeps}
 use Rattle.pm_concentrator.specs.Limited.{settled_step_of_record}
 use Rattle.pm_net.specs.Pricing.{Pricing}
-use Rattle.pm_net.specs.Messages.{PriceMessage}
+use Rattle.pm_net.specs.Messages.{PriceMessage, numbers_of}
 use Rattle.pm_net.specs.Network.{Network, sent_price}
 use Rattle.pm_net.specs.Running.{is_new_price, names_a_bid, relay_step, sent_down, waits, is_overtaken, after_answer, after_passing}
 use Rattle.pm_net.specs.Running.{after_relay_price}
@@ -23,7 +24,7 @@ use Rattle.pm_net.specs.Running.{after_given_price, after_taking_price}
 use Rattle.pm_net.specs.Events.{network_step, TakesPrice}
 use Rattle.pm_net_plan.specs.Places.{Numbering, IsNumbering}
 use Rattle.pm_relay.specs.Relays as relays
-use Rattle.pm_relay.specs.Relays.{RelayValue, newest_bid_number, record_at, IsNewPrice, MayHearRecord, PricePassedOn, with_price, HearsItsRecord}
+use Rattle.pm_relay.specs.Relays.{RelayValue, newest_bid_number, record_at, limits_of_number, limits_places, no_limits, IsNewPrice, MayHearRecord, PricePassedOn, with_price, HearsItsRecord}
 use Rattle.pm_relay.specs.declared.outcome.PriceOutcome.{PriceOutcome}
 use Rattle.pm_relay.specs.declared.outcome.PriceOutcome.TheVariants.{PassedOn, Alone, Waits, Dropped}
 use Rattle.pm_relay_net.specs.Heads.{heads_of}
@@ -131,6 +132,8 @@ module _ (lists : Lists) (p : Pricing) (numbering : Numbering) (is : IsNumbering
         steps = m.steps;
         limits = m.limits;
         limited = m.limited;
+        made_under = m.made_under;
+        newest_under = m.newest_under;
         heads = m.heads;
         demands = m.demands;
         newest = m.newest;
@@ -174,9 +177,16 @@ module _ (lists : Lists) (p : Pricing) (numbering : Numbering) (is : IsNumbering
     sum_is : (record_at old price.number).sum ≡ Some (recorded_sum p net c price.number)
     sum_is = m.record_sum (price.number - old.base) own_kept ∙ ap (λ (n : ℕ). Some (recorded_sum p net c n)) number_is
 
-    step_is : settled_step_of_record old.gathered.limits price.step (record_at old price.number).sum ≡ relay_step p net c price
-    step_is = ap (settled_step_of_record old.gathered.limits price.step) sum_is
-        ∙ ap (λ l. settled_step l price.step (recorded_sum p net c price.number)) m.limits
+    limits_are : limits_of_number old price.number ≡ p.limits c (numbers_of (net.records c price.number))
+    limits_are = ap (limits_of_number old) (sym number_is) ∙ m.made_under (price.number - old.base) own_kept
+        ∙ ap (λ (n : ℕ). p.limits c (numbers_of (net.records c n))) number_is
+
+    step_is : settled_step_of_record (limits_of_number old price.number) price.step (record_at old price.number).sum ≡ relay_step p net c price
+    step_is = ap (settled_step_of_record (limits_of_number old price.number) price.step) sum_is
+        ∙ ap (λ l. settled_step l price.step (recorded_sum p net c price.number)) limits_are
+
+    same_under : (n : ℕ) → limits_of_number new n ≡ limits_of_number old n
+    same_under n = ap (λ (l : List Limits). Some (get_or l (n % limits_places) no_limits)) did.made_under
 
     older : (n : ℕ) → Keeps new.gathered.window n → Keeps old.gathered.window n
     older n keeps = record {
@@ -191,6 +201,9 @@ module _ (lists : Lists) (p : Pricing) (numbering : Numbering) (is : IsNumbering
         steps = ap (λ (w : Cache). w.steps) did.passed.cache ∙ m.steps;
         limits = did.passed.limits ∙ m.limits;
         limited = m.limited;
+        made_under = λ n keeps. same_under (new.base + n) ∙ ap (λ (i : ℕ). limits_of_number old (i + n)) did.base
+            ∙ m.made_under n (older n keeps) ∙ ap (λ (i : ℕ). p.limits c (numbers_of (net.records c (i + n)))) (sym did.base);
+        newest_under = same_under (net.last_number c) ∙ m.newest_under;
         heads = ap (λ (w : Cache). w.heads) did.passed.cache ∙ m.heads;
         demands = ap (λ (w : Cache). w.demands) did.passed.cache ∙ m.demands;
         newest = omega (arith, did.base, did.passed.window.last, m.newest);
@@ -219,7 +232,7 @@ module _ (lists : Lists) (p : Pricing) (numbering : Numbering) (is : IsNumbering
         ∙ ap (λ (k : ℕ). net.prices_sent x ++ price_for_bid (net.records c price.number x) price.index k) (sym step_is)
         ∙ sym (ap (λ l. net.prices_sent x ++ l) (price_by_heads lists numbering is (net.records c price.number)
         (record_at old price.number).heads price.index
-        (settled_step_of_record old.gathered.limits price.step (record_at old price.number).sum) c x node up heads_are))
+        (settled_step_of_record (limits_of_number old price.number) price.step (record_at old price.number).sum) c x node up heads_are))
 
   -- whatever it does
   does : (outcome : PriceOutcome) → relays.TakesPrice old new (update_of price) outcome →

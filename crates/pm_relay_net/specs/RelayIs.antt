@@ -1,6 +1,7 @@
 -- A relay's value is what the network has of its node.
 use Rattle.std.specs.Prelude.{◌≡◌, ℕ, ◌+◌, ◌-◌, ◌<◌, ◌≤◌, ℤ, if◌then◌else◌, List, [], ◌∷◌, length}
 use Rattle.std.specs.Prelude.{replicate, Option, Some, None}
+use Rattle.pm_base.specs.Cuts.{Cut}
 use Rattle.pm_base.specs.Limits.{most_nodes}
 use Rattle.pm_base.specs.declared.limits.Limits.{Limits}
 use Rattle.pm_bid.specs.Heads.{nothing_sent}
@@ -11,11 +12,11 @@ use Rattle.pm_session.specs.declared.price.PriceUpdate.{PriceUpdate}
 use Rattle.pm_concentrator.specs.Concentrators.{published_heads}
 use Rattle.pm_concentrator.specs.Limited.{settled_step_of_record}
 use Rattle.pm_net.specs.Pricing.{Pricing}
-use Rattle.pm_net.specs.Messages.{BidMessage, PriceMessage, price_message}
+use Rattle.pm_net.specs.Messages.{BidMessage, PriceMessage, price_message, numbers_of}
 use Rattle.pm_net.specs.Network.{Network}
 use Rattle.pm_net_plan.specs.Places.{Numbering, demands_of}
 use Rattle.pm_relay.specs.Numbers.{child_number, head_number}
-use Rattle.pm_relay.specs.Relays.{RelayValue, newest_bid_number, record_at, HearsItsRecord}
+use Rattle.pm_relay.specs.Relays.{RelayValue, newest_bid_number, record_at, limits_of_number, HearsItsRecord}
 use Rattle.pm_relay.specs.declared.outcome.PriceOutcome.{PriceOutcome}
 use Rattle.pm_relay.specs.declared.outcome.PriceOutcome.TheVariants.{PassedOn}
 use Rattle.pm_relay_net.specs.Heads.{heads_of}
@@ -27,8 +28,12 @@ recorded_sum p net c n = p.add c (λ z. (net.records c n z).demand)
 -- the parts of a relay's value are those that the network has of node c
 pub record MatchesNode (p : Pricing) (numbering : Numbering) (net : Network) (c : ℕ) (r : RelayValue) : Type 0 where
   pub steps : r.gathered.cache.steps ≡ p.steps
-  pub limits : r.gathered.limits ≡ p.limits c
-  pub limited : (limits : Limits) × (p.limits c ≡ Some limits)
+  -- its limits are those that the numbers which it heard give; and each number has those that it was made under
+  pub limits : r.gathered.limits ≡ p.limits c (numbers_of net.heard)
+  pub limited : (limits : Limits) × (p.limits c (numbers_of net.heard) ≡ Some limits)
+  pub made_under : (n : ℕ) → Keeps r.gathered.window n →
+      limits_of_number r (r.base + n) ≡ p.limits c (numbers_of (net.records c (r.base + n)))
+  pub newest_under : limits_of_number r (net.last_number c) ≡ p.limits c (numbers_of (net.records c (net.last_number c)))
   -- what it heard
   pub heads : r.gathered.cache.heads ≡ heads_of numbering c net.heard
   pub demands : r.gathered.cache.demands ≡ demands_of p.steps numbering c (λ z. (net.heard z).demand)
@@ -51,12 +56,22 @@ pub record MatchesNode (p : Pricing) (numbering : Numbering) (net : Network) (c 
   pub order : r.answered ≤ newest_bid_number r
   -- its demand is that of its newest bid
   pub demand : 1 ≤ r.gathered.window.last →
-      r.gathered.announced ≡ Some (announced (p.limits c) (recorded_sum p net c (net.last_number c)))
+      r.gathered.announced ≡ Some (announced (p.limits c (numbers_of (net.records c (net.last_number c)))) (recorded_sum p net c (net.last_number c)))
 
 -- the relay is what the network has of node c: a record that it hears it has
 pub record RelayIs (p : Pricing) (numbering : Numbering) (net : Network) (c : ℕ) (r : RelayValue) : Type 0 where
   pub matches : MatchesNode p numbering net c r
   pub rebuilt : HearsItsRecord r → ⊥
+
+-- ---- who gives limits
+
+-- the limits of c do not go by the numbers of x
+abbrev pub LimitsPassBy : Pricing → ℕ → ℕ → Type 0
+LimitsPassBy p c x = (a b : Cut) → ((y : ℕ) → (y ≡ x → ⊥) → a y ≡ b y) → p.limits c a ≡ p.limits c b
+
+-- under this number of x the limits of c are these
+abbrev pub GivesLimits : Pricing → ℕ → ℕ → ℕ → Limits → Type 0
+GivesLimits p c x n limits = (a : Cut) → a x ≡ n → p.limits c a ≡ Some limits
 
 -- ---- messages as values
 
@@ -76,5 +91,5 @@ messages_of (Some price) = price_message price.number price.index price.step ∷
 abbrev pub prices_down : RelayValue → PriceUpdate → PriceOutcome → ℕ → List PriceMessage
 prices_down r price PassedOn place = messages_of
     (price_to (record_at r price.number).heads
-    (settled_step_of_record r.gathered.limits price.step (record_at r price.number).sum) price.index place)
+    (settled_step_of_record (limits_of_number r price.number) price.step (record_at r price.number).sum) price.index place)
 prices_down r price outcome place = []

@@ -5,14 +5,16 @@ use Rattle.std.proofs.Common.{inl, inr}
 use Rattle.pm_base.specs.Limits.{most_nodes, demand_limit}
 use Rattle.pm_base.specs.declared.limits.Limits.{Limits}
 use Rattle.pm_bid.specs.Bids.{AllWithinLimit}
-use Rattle.pm_cache.specs.Cache.{Cache}
+use Rattle.pm_cache.specs.Cache.{Cache, kept_number}
+use Rattle.std.proofs.Common.{ltb}
 use Rattle.pm_session.specs.declared.price.PriceUpdate.{PriceUpdate}
 use Rattle.pm_wire.specs.Framing.{MayStand, AllStand, place_behind}
 use Rattle.pm_wire.specs.Taking.{Runs, CanTake}
 use Rattle.pm_wire.specs.Frames.{IsFormed}
 use Rattle.pm_wire.specs.declared.frame.Frame.TheVariants.{Hello, Bid, Gone, Clear}
 use Rattle.pm_wire.proofs.Markets.{accepted_small}
-use Rattle.pm_relay.specs.Relays.{RelayValue, LooksForRecord, with_child_bid, TakesPrice}
+use Rattle.pm_relay.specs.Relays.{RelayValue, LooksForRecord, with_child_bid, with_new_limits, TakesPrice}
+use Rattle.pm_frames.proofs.Sizes.{either}
 use Rattle.pm_relay.specs.declared.outcome.PriceOutcome.{PriceOutcome}
 use Rattle.pm_relay.specs.declared.outcome.PriceOutcome.TheVariants.{PassedOn, Alone, Waits, Dropped}
 use Rattle.pm_frames.specs.Places.{bid_place, IsOpen, IsFresh, stage_behind}
@@ -23,7 +25,7 @@ use Rattle.pm_frames.specs.declared.place.Stage.{Stage}
 use Rattle.pm_frames.specs.declared.place.Stage.TheVariants.{Start, Opened, Running}
 use Rattle.pm_wire.proofs.Known.{learnt_steps}
 use Rattle.pm_frames.specs.declared.relay.RelayFrame.{RelayFrame}
-use Rattle.pm_frames.specs.declared.relay.RelayFrame.TheVariants.{Child, Parent, Send, Expire, Resume}
+use Rattle.pm_frames.specs.declared.relay.RelayFrame.TheVariants.{Child, Parent, Send, Expire, NewLimits, Resume}
 use Rattle.pm_frames.proofs.NodePlaces.{same_bid_place}
 use Rattle.pm_services.specs.RelayAnswers.{OpenRelay, RelayServiceValue, TriesWaiting, AnswersAsked}
 use Rattle.pm_services.specs.RelayAnswers.{AnswersNow, AnswersRelay, IsRelayStart}
@@ -41,6 +43,15 @@ bid_steps : (old new : RelayValue) (child number : ℕ) (demand : Option (List �
     new.gathered.cache.steps ≡ old.gathered.cache.steps
 bid_steps old new child number demand looks =
     looks_steps (with_child_bid old child number demand) new looks ∙ learnt_steps old.gathered.cache child number demand _
+
+-- or limits
+limits_steps : (old new : RelayValue) (child number : ℕ) (limits : Limits) → LooksForRecord (with_new_limits old child number limits) new →
+    new.gathered.cache.steps ≡ old.gathered.cache.steps
+limits_steps old new child number limits looks =
+    looks_steps (with_new_limits old child number limits) new looks
+    ∙ either (λ (r : RelayValue). r.gathered.cache.steps ≡ old.gathered.cache.steps) (ltb (kept_number old.gathered.cache child) number)
+    (record old { gathered = record (with_child_bid old child number None).gathered { limits = Some limits } }) old
+    (learnt_steps old.gathered.cache child number None _) refl
 
 -- one that takes a price
 price_steps : (old new : RelayValue) (price : PriceUpdate) (outcome : PriceOutcome) → TakesPrice old new price outcome →
@@ -93,6 +104,7 @@ steps_after place child limits None (Child Clear) new reply is stands answers = 
 steps_after place child limits None (Parent frame) new reply is stands answers = absurd (open_known place.stage stands.formed.0 is)
 steps_after place child limits None Send new reply is stands answers = absurd (open_known place.stage stands.formed is)
 steps_after place child limits None (Expire sender) new reply is stands answers = absurd (open_known place.stage stands.formed.0 is)
+steps_after place child limits None (NewLimits sender number given) new reply is stands answers = absurd (open_known place.stage stands.formed.0 is)
 steps_after place child limits None (Resume stored) new reply is stands answers =
     absurd (open_known place.stage (fresh_open place.stage stands.formed.0) is)
 steps_after place child limits (Some old) (Child (Hello basis)) new reply is stands answers =
@@ -114,6 +126,9 @@ steps_after place child limits (Some old) Send new reply is stands answers =
 steps_after place child limits (Some old) (Expire sender) new reply is stands answers =
     goes_on place.stage old new answers.0 is answers.1 (tries_steps old.waiting answers.2.learnt answers.0 answers.2.waiting_reply answers.2.tries
     ∙ bid_steps old.relay answers.2.learnt _ _ None answers.2.looks)
+steps_after place child limits (Some old) (NewLimits sender number given) new reply is stands answers =
+    goes_on place.stage old new answers.0 is answers.1 (tries_steps old.waiting answers.2.learnt answers.0 answers.2.waiting_reply answers.2.tries
+    ∙ limits_steps old.relay answers.2.learnt _ number given answers.2.looks)
 steps_after place child limits (Some old) (Resume stored) new reply is stands answers =
     goes_on place.stage old new _ is answers.0.opened (ap (λ (k : Cache). k.steps) answers.0.back.gathered.cache)
 

@@ -1,6 +1,6 @@
 -- What a relay's service knows, and what it answers to each frame.
 use Rattle.std.specs.Prelude.{◌≡◌, ◌⊎◌, ℕ, ◌==◌, ◌&&◌, not, nat_lt, if◌then◌else◌, ℤ, List, [], ◌++◌}
-use Rattle.std.specs.Prelude.{replicate, Option, Some, None}
+use Rattle.std.specs.Prelude.{replicate, unwrap_or, Option, Some, None}
 use Rattle.pm_base.specs.Limits.{most_nodes}
 use Rattle.pm_base.specs.declared.limits.Limits.{Limits}
 use Rattle.pm_cache.specs.Cache.{kept_number}
@@ -11,7 +11,7 @@ use Rattle.pm_wire.specs.Answers.{answer_bytes, reply_bytes, prices}
 use Rattle.pm_wire.specs.Frames.{frame_bytes}
 use Rattle.pm_wire.specs.declared.answer.Reply as reply
 use Rattle.pm_wire.specs.declared.frame.Frame.TheVariants.{Hello, Bid, Gone, Clear}
-use Rattle.pm_relay.specs.Relays.{RelayValue, newest_bid_number, record_at, ComesBack, with_child_bid, LooksForRecord, BidSent, NotSent, TakesPrice}
+use Rattle.pm_relay.specs.Relays.{RelayValue, newest_bid_number, record_at, ComesBack, with_child_bid, with_new_limits, limits_of_number, no_limits, LooksForRecord, BidSent, NotSent, TakesPrice}
 use Rattle.pm_relay.specs.Numbers.{known_number, parents_number}
 use Rattle.pm_relay.specs.declared.fault.SendFault.{SendFault}
 use Rattle.pm_relay.specs.declared.fault.SendFault.TheVariants.{NotCaughtUp, NotChanged, WindowFull, OutOfNumbers}
@@ -23,7 +23,7 @@ use Rattle.pm_frames.specs.declared.parent.ParentFrame.TheVariants.{Price, Old}
 use Rattle.pm_frames.specs.declared.place.NodePlace.{NodePlace}
 use Rattle.pm_frames.specs.declared.place.Stage.TheVariants.{Start}
 use Rattle.pm_frames.specs.declared.relay.RelayFrame.{RelayFrame}
-use Rattle.pm_frames.specs.declared.relay.RelayFrame.TheVariants.{Child, Parent, Send, Expire, Resume}
+use Rattle.pm_frames.specs.declared.relay.RelayFrame.TheVariants.{Child, Parent, Send, Expire, NewLimits, Resume}
 use Rattle.pm_services.specs.Receipts.{sender_place, receipt_bytes}
 
 -- a relay after Hello, and the price that waits until the relay has its record again
@@ -41,7 +41,13 @@ pub record RelayServiceValue : Type 0 where
 
 -- what it keeps over a restart
 abbrev pub stored_relay : RelayValue → StoredRelay
-stored_relay r = record { last = newest_bid_number r; answered = r.answered; index = r.index; numbers = r.recorded }
+stored_relay r = record {
+  last = newest_bid_number r;
+  answered = r.answered;
+  index = r.index;
+  limits = unwrap_or (limits_of_number r (newest_bid_number r)) no_limits;
+  numbers = r.recorded;
+}
 
 abbrev pub own_resume_bytes : RelayValue → List ℕ
 own_resume_bytes r = relay_resume_bytes (stored_relay r)
@@ -56,10 +62,10 @@ kept_bid_bytes child r = if r.gathered.window.last == 0 then [] else own_bid_byt
 
 -- ---- a price
 
--- the price for each child that was not gone in the record of its number, at the local step of that record
+-- the price for each child that was not gone in the record of its number, at the step for which the relay settles by it
 abbrev pub down_bytes : RelayValue → PriceUpdate → List ℕ
 down_bytes r price =
-    reply_bytes (prices price.index (settled_step_of_record r.gathered.limits price.step (record_at r price.number).sum) 1
+    reply_bytes (prices price.index (settled_step_of_record (limits_of_number r price.number) price.step (record_at r price.number).sum) 1
     (record_at r price.number).heads)
 
 -- of two prices the one with the greater index waits, and of two with one index the first; the other is dropped
@@ -114,6 +120,17 @@ pub record AnswersBid (child : ℕ) (old : OpenRelay) (sender number : ℕ) (dem
   pub replied : reply ≡
       receipt_bytes (kept_number old.relay.gathered.cache (sender_place sender)) sender number ++ (bid_again child old.relay learnt ++ waiting_reply)
 
+-- ---- new limits
+
+-- they are learnt under their number, as a child's bid is
+pub record AnswersLimits (child : ℕ) (old : OpenRelay) (sender number : ℕ) (limits : Limits) (new : OpenRelay) (reply : List ℕ) : Type 0 where
+  pub learnt : RelayValue
+  pub looks : LooksForRecord (with_new_limits old.relay (sender_place sender) number limits) learnt
+  pub waiting_reply : List ℕ
+  pub tries : TriesWaiting old.waiting learnt new waiting_reply
+  pub replied : reply ≡
+      receipt_bytes (kept_number old.relay.gathered.cache (sender_place sender)) sender number ++ (bid_again child old.relay learnt ++ waiting_reply)
+
 -- ---- Expire
 
 -- a child is let go: it is gone under the number that is the relay's for it
@@ -151,9 +168,9 @@ pub record AnswersSend (child : ℕ) (old new : OpenRelay) (reply : List ℕ) : 
 -- ---- all frames
 
 -- a relay comes up, and no price waits
-pub record Opens (limits : Limits) (steps last answered index : ℕ) (numbers : List ℕ) (new : Option OpenRelay) : Type 0 where
+pub record Opens (limits : Limits) (steps last answered index : ℕ) (numbers : List ℕ) (under : Limits) (new : Option OpenRelay) : Type 0 where
   pub relay : RelayValue
-  pub back : ComesBack steps limits last answered index numbers relay
+  pub back : ComesBack steps limits last answered index numbers under relay
   pub opened : new ≡ Some (record { relay = relay; waiting = None })
 
 -- nothing changes, and nothing is answered
@@ -173,12 +190,14 @@ AnswersOpen child limits old (Parent (Old own kept)) new reply = IsSilent (Some 
 AnswersOpen child limits old Send new reply = (after : OpenRelay) × (new ≡ Some after) × AnswersSend child old after reply
 AnswersOpen child limits old (Expire sender) new reply =
     (after : OpenRelay) × (new ≡ Some after) × AnswersExpire child old sender after reply
+AnswersOpen child limits old (NewLimits sender number limits') new reply =
+    (after : OpenRelay) × (new ≡ Some after) × AnswersLimits child old sender number limits' after reply
 AnswersOpen child limits old (Resume stored) new reply =
-    Opens limits old.relay.gathered.cache.steps stored.last stored.answered stored.index stored.numbers new × (reply ≡ [])
+    Opens limits old.relay.gathered.cache.steps stored.last stored.answered stored.index stored.numbers stored.limits new × (reply ≡ [])
 
 -- a relay comes up with the first Hello, and before it nothing is answered
 abbrev pub AnswersClosed : Limits → RelayFrame → Option OpenRelay → List ℕ → Type 0
-AnswersClosed limits (Child (Hello basis)) new reply = Opens limits basis.steps 0 0 0 (replicate most_nodes 0) new × (reply ≡ [])
+AnswersClosed limits (Child (Hello basis)) new reply = Opens limits basis.steps 0 0 0 (replicate most_nodes 0) limits new × (reply ≡ [])
 AnswersClosed limits frame new reply = IsSilent None new reply
 
 abbrev pub AnswersNow : ℕ → Limits → Option OpenRelay → RelayFrame → Option OpenRelay → List ℕ → Type 0

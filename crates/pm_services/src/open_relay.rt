@@ -8,13 +8,13 @@ ghost use Rattle.pm_base.specs.Limits.{AreSteps, demand_limit, most_nodes};
 ghost use Rattle.pm_bid.specs.Bids.{AllWithinLimit};
 ghost use Rattle.pm_cache.specs.Cache.{kept_number};
 ghost use Rattle.pm_cache.specs.Learning.{demand_of_offer};
-ghost use Rattle.pm_relay.specs.Relays.{AreRelayLimits, with_child_bid, LooksForRecord};
+ghost use Rattle.pm_relay.specs.Relays.{AreRelayLimits, with_child_bid, with_new_limits, LooksForRecord};
 ghost use Rattle.pm_wire.specs.Memory.{frame_limit};
 ghost use Rattle.pm_frames.specs.Stored.{relay_resume_size};
 ghost use Rattle.pm_services.specs.Limits.{relay_reply_limit, price_reply_limit};
 ghost use Rattle.pm_services.specs.Receipts.{Appended, sender_place, receipt_bytes};
 ghost use Rattle.pm_relay.specs.Numbers.{known_number, parents_number};
-ghost use Rattle.pm_services.specs.RelayAnswers.{AnswersOpen, AnswersPrice, AnswersExpire, AnswersBid, AnswersAsked, AnswersSend, Opens};
+ghost use Rattle.pm_services.specs.RelayAnswers.{AnswersOpen, AnswersPrice, AnswersExpire, AnswersLimits, AnswersBid, AnswersAsked, AnswersSend, Opens};
 ghost use Rattle.pm_services.specs.RelayAnswers.{TriesWaiting, kept_bid_bytes, dropped_with, waiting_with};
 ghost use Rattle.pm_services.specs.RelayStands.{MayStandWithSteps};
 
@@ -70,7 +70,7 @@ impl OpenRelay {
         requires steps { AreSteps steps }
         requires limits { AreRelayLimits limits }
         ensures opens { IfOk result (λ r.
-            Opens limits steps 0 0 0 (replicate most_nodes 0) (Some r)) }
+            Opens limits steps 0 0 0 (replicate most_nodes 0) limits (Some r)) }
     {
         let relay = Relay::new(alloc, steps, limits)?;
         Ok(OpenRelay {
@@ -89,8 +89,10 @@ impl OpenRelay {
         requires limits { AreRelayLimits limits }
         requires children { length stored.now.numbers ≡ most_nodes }
         requires answered { stored.now.answered ≤ stored.now.last }
+        requires under { AreRelayLimits stored.now.limits }
         ensures opens { IfOk result (λ r. Opens limits self.now.relay.gathered.cache.steps
-            stored.now.last stored.now.answered stored.now.index stored.now.numbers (Some r)) }
+            stored.now.last stored.now.answered stored.now.index stored.now.numbers stored.now.limits
+            (Some r)) }
     {
         let steps = self.relay.demand().steps();
         let relay = Relay::resumed(alloc, steps, limits, &stored.resume())?;
@@ -152,6 +154,14 @@ impl OpenRelay {
                 self.take_expire(own, *child, out);
                 Ok(())
             }
+            RelayFrame::NewLimits {
+                child,
+                number,
+                limits: given,
+            } => {
+                self.take_limits(own, *child, *number, *given, out);
+                Ok(())
+            }
             RelayFrame::Resume(stored) => {
                 *self = self.resumed(alloc, limits, stored)?;
                 Ok(())
@@ -186,6 +196,53 @@ impl OpenRelay {
         self.learn(sender, number, demand, out);
         self.send_again(own, had_record, out);
         self.try_waiting(out);
+    }
+
+    /// Takes limits that are given in the place of a child, and appends what is answered: their receipt, the relay's own bid where
+    /// it has its record again, and what is due for the price that waits.
+    fn take_limits(
+        &mut self,
+        own: u16,
+        sender: u16,
+        number: u32,
+        limits: Limits,
+        out: &mut Vec<u8>,
+    )
+        requires first { 1 ≤ sender }
+        requires last { sender ≤ most_nodes }
+        requires limits { AreRelayLimits limits }
+        requires room { vec_len out.old + relay_reply_limit ≤ vec_capacity out.old }
+        ensures answered { Appended (AnswersLimits own self.old sender number limits self.new)
+            relay_reply_limit out.old.items out.new.items }
+    {
+        let had_record = self.relay.resend().is_some();
+        self.learn_limits(sender, number, limits, out);
+        self.send_again(own, had_record, out);
+        self.try_waiting(out);
+    }
+
+    /// Learns limits, and appends their receipt.
+    fn learn_limits(&mut self, sender: u16, number: u32, limits: Limits, out: &mut Vec<u8>)
+        requires first { 1 ≤ sender }
+        requires last { sender ≤ most_nodes }
+        requires limits { AreRelayLimits limits }
+        requires room { vec_len out.old + 7 ≤ vec_capacity out.old }
+        ensures learnt { LooksForRecord (with_new_limits self.old.relay (sender_place sender) number
+            limits) self.new.relay }
+        ensures waits { self.new.waiting ≡ self.old.waiting }
+        ensures written { out.new.items ≡ out.old.items ++ receipt_bytes
+            (kept_number self.old.relay.gathered.cache (sender_place sender)) sender number }
+        ensures few { vec_len out.new ≤ vec_len out.old + 7 }
+        ensures capacity { vec_capacity out.old ≤ vec_capacity out.new }
+    {
+        let place = usize::from(sender) - 1;
+        if let Err(CacheFault::Old { kept }) = self.relay.set_limits(place, number, limits) {
+            let receipt = Reply::Old {
+                child: sender,
+                kept,
+            };
+            write_reply(receipt, out);
+        }
     }
 
     /// Lets a child go, and appends what is answered: the relay's own bid where it has its record again, and what is due for the

@@ -17,7 +17,7 @@ const BID_LIMIT: usize = 7 + 4 * MOST_STEPS;
 
 const PRICES_LIMIT: usize = 13 * MOST_NODES;
 
-const RESUME_BYTES: usize = 13 + 4 * MOST_NODES;
+const RESUME_BYTES: usize = 21 + 4 * MOST_NODES;
 
 /// The most bytes of the answers to a frame: a bid and prices, each with what the relay keeps over a restart.
 const REPLY_LIMIT: usize = BID_LIMIT + PRICES_LIMIT + 2 * RESUME_BYTES;

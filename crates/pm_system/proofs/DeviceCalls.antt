@@ -209,7 +209,7 @@ module _ (lists : Lists) (p : Pricing) (numbering : Numbering) (market : IsTreeM
           ((e : ℕ) → (e ≡ d → ⊥) → bids e ≡ sys.bids_sent e) →
           SystemIs lists p numbering after (record sys { agents = update sys.agents d agent; bids_sent = bids })
       is_then others bids bids_are same_bids =
-          device_moves lists p numbering market.places devices sys sys_is after d made_so.leaf d_node
+          device_moves lists p numbering market.places devices sys sys_is market.by_nodes.limits_alike after d made_so.leaf d_node
           (λ y ne. same_then lists y net before.net after.net (near.same y) (untouched before.net after.net refl refl refl refl refl refl y))
           (update sys.agents d agent) agents_same sys.setpoints near.setpoints bids bids_are
           (λ e leaf. elim (cases_eq e d) [
@@ -303,7 +303,7 @@ module _ (lists : Lists) (p : Pricing) (numbering : Numbering) (market : IsTreeM
   sends_known : (d : ℕ) (bid : BidMessage) → IsLeaf lists d → IsIn p (net.bids_sent d) bid →
       SystemIs lists p numbering devices (with_bid_sent sys d bid)
   sends_known d bid leaf at =
-      device_moves lists p numbering market.places devices sys sys_is devices d leaf (leaf_node lists market.law d leaf)
+      device_moves lists p numbering market.places devices sys sys_is market.by_nodes.limits_alike devices d leaf (leaf_node lists market.law d leaf)
       (λ y ne. untouched net net refl refl refl refl refl refl y) sys.agents sys_is.agents sys.setpoints sys_is.setpoints
       (update sys.bids_sent d (sys.bids_sent d ++ bid ∷ []))
       (pushed_here lists p net.counts net.bids_sent sys.bids_sent d bid sys_is.channels at) (grown d bid) sys_is.prices_sent
@@ -354,7 +354,7 @@ module _ (lists : Lists) (p : Pricing) (numbering : Numbering) (market : IsTreeM
         let at : IsIn p (first.net.bids_sent d) bid = subst (λ (b : BidMessage). IsIn p (first.net.bids_sent d) b)
         (ap (device_bid lists p d) n_is ∙ gone_bid d n did.leaf did.absent) (new_in p net.bids_sent d (device_bid lists p d (net.counts d + 1))) in
         let after_is : SystemIs lists p numbering first (with_bid_sent sys d bid) =
-        device_moves lists p numbering market.places devices sys sys_is first d did.leaf (leaf_node lists market.law d did.leaf)
+        device_moves lists p numbering market.places devices sys sys_is market.by_nodes.limits_alike first d did.leaf (leaf_node lists market.law d did.leaf)
         (λ y ne. near.same y) sys.agents near.agents sys.setpoints near.setpoints
         (update sys.bids_sent d (sys.bids_sent d ++ bid ∷ []))
         (pushed_here lists p first.net.counts first.net.bids_sent sys.bids_sent d bid near.channels at)
@@ -429,7 +429,7 @@ module _ (lists : Lists) (p : Pricing) (numbering : Numbering) (market : IsTreeM
         events = TakesPrice d k ∷ [];
         is = subst Is (sym (cond-true (is_leaf lists d) after (with_network devices step) did.leaf))
             (subst (λ (t : System). SystemIs lists p numbering after t) (sym did.new_is)
-            (device_moves lists p numbering market.places devices sys sys_is after d did.leaf d_node
+            (device_moves lists p numbering market.places devices sys sys_is market.by_nodes.limits_alike after d did.leaf d_node
             (λ y ne. same_elsewhere lists p net y (TakesPrice d k) (λ e. ne (sym e)))
             _ (λ e leaf. updated_alike devices.agents sys.agents d (after_price (devices.agents d) (sent_price net d k)) e (sys_is.agents e leaf)
             ∙ ap (λ (a : DeviceAgent). update sys.agents d a e) agent_same)
@@ -468,7 +468,7 @@ module _ (lists : Lists) (p : Pricing) (numbering : Numbering) (market : IsTreeM
       record {
         events = Restarts d k ∷ [];
         is = subst (λ (t : System). SystemIs lists p numbering after t) (sym did.new_is)
-            (device_moves lists p numbering market.places devices sys sys_is after d did.leaf d_node
+            (device_moves lists p numbering market.places devices sys sys_is market.by_nodes.limits_alike after d did.leaf d_node
             (λ y ne. same_elsewhere lists p net y (Restarts d k) (λ e. ne (sym e)))
             _ (λ e leaf. updated_alike devices.agents sys.agents d (after_coming_back (devices.agents d) kept.index) e (sys_is.agents e leaf)
             ∙ ap (λ (b : DeviceAgent). update sys.agents d b e) agent_same)

@@ -152,7 +152,10 @@ relay_expires lists p numbering calls sys new d market has did =
       below = did.below;
       inside = inside lists p numbering calls sys market has d leaf did.number its did.may;
       relay = did.relay;
-      learnt = subst Looks (sym (there lists p numbering calls sys market has d leaf did.number its did.may)) did.gone;
+      learnt = inl (record {
+        passes = did.passes;
+        learnt = subst Looks (sym (there lists p numbering calls sys market has d leaf did.number its did.may)) did.gone;
+      });
       new_is = did.new_is;
     } in
     record {

@@ -36,10 +36,10 @@ module _ (lists : Lists) (p : Pricing) (numbering : Numbering) (market : IsTreeM
   falls cut y = sum_down lists p numbering market cut y (λ x node up. offer_is lists p numbering market cut x node)
 
   -- a relay can say what is taken where it settles, if some step of its sum is within its limits
-  says : (cut : Cut) (c : ℕ) (limits : Limits) → IsConcentrator lists c → p.limits c ≡ Some limits →
-      HasStepWithin limits (sum_of_offers p cut c) → CanSay (p.limits c) (p.local cut c) (sum_of_offers p cut c)
+  says : (cut : Cut) (c : ℕ) (limits : Limits) → IsConcentrator lists c → p.limits c cut ≡ Some limits →
+      HasStepWithin limits (sum_of_offers p cut c) → CanSay (p.limits c cut) (p.local cut c) (sum_of_offers p cut c)
   says cut c limits conc is has =
-      let limited = market.limited c conc in
+      let limited = market.limited c cut conc in
       let are : AreRelayLimits limits = subst (λ (l : Limits). AreRelayLimits l) (some_same limited.0 limits (sym limited.1 ∙ is)) limited.2 in
       let small : AreSmall limits = record { floor = are.floor; ceiling = are.ceiling } in
       subst (λ l. CanSay l (p.local cut c) (sum_of_offers p cut c)) (sym is)
@@ -47,7 +47,7 @@ module _ (lists : Lists) (p : Pricing) (numbering : Numbering) (market : IsTreeM
 
   says_below : (cut : Cut) (x : ℕ) → HaveStepsWithin lists p cut x → SaysBelow lists p cut x
   says_below cut x steps c conc below =
-      let limited = market.limited c conc in
+      let limited = market.limited c cut conc in
       says cut c limited.0 conc limited.1 (steps c limited.0 conc below limited.1)
 
   -- who is no member takes nothing

@@ -9,7 +9,9 @@ use Rattle.pm_market.specs.Lists.{Lists, parent, IsNode}
 use Rattle.pm_laws.proofs.Quiet.{in_zero}
 use Rattle.pm_net.specs.Messages.{bid_message}
 use Rattle.pm_net.specs.TreeAuction.{TreeDemand, IsTreeDemand}
+use Rattle.pm_net.specs.Pricing.{given_limits}
 use Rattle.pm_net.proofs.TreeAuctions.{goes_by_nodes}
+use Rattle.pm_net.proofs.Limits.{given_alike}
 use Rattle.pm_net_plan.specs.Places.{IsNumbering, places_in, demands_of}
 use Rattle.pm_net_plan.proofs.Children.{is_numbering}
 use Rattle.pm_relay_net.proofs.Places.{demands_of-same, demands_of-none}
@@ -18,7 +20,8 @@ use Rattle.pm_system.specs.Given.{IsTreeMarket, IsGiven, placed_pricing}
 some_same : (l k : Limits) → Some l ≡ Some k → l ≡ k
 some_same l k e = cc
 
-module _ (lists : Lists) (steps : ℕ) (demand : ℕ → ℕ → List ℤ) (limits : ℕ → Limits) (given : IsGiven lists steps demand limits) where
+module _ (lists : Lists) (steps : ℕ) (demand : ℕ → ℕ → List ℤ) (limits : ℕ → ℕ → Limits) (giver : ℕ → ℕ)
+    (given : IsGiven lists steps demand limits giver) where
   is : IsNumbering lists (places_in lists)
   is = is_numbering lists given.few
 
@@ -26,7 +29,7 @@ module _ (lists : Lists) (steps : ℕ) (demand : ℕ → ℕ → List ℤ) (limi
   add y f = sum_of steps (demands_of steps (places_in lists) y f)
 
   abbrev asked : TreeDemand
-  asked = record { steps = steps; demand = demand; limits = λ c. Some (limits c); add = add }
+  asked = record { steps = steps; demand = demand; limits = given_limits (λ c n. Some (limits c n)) giver; add = add }
 
   -- a sum by places sees the children alone
   sums : (y : ℕ) (f g : ℕ → List ℤ) → ((x : ℕ) → IsNode lists x → parent lists x ≡ y → f x ≡ g x) → add y f ≡ add y g
@@ -50,11 +53,13 @@ module _ (lists : Lists) (steps : ℕ) (demand : ℕ → ℕ → List ℤ) (limi
     none = λ d. given.absent d 0 (in_zero lists d);
     sums = sums;
     sums_of_none = sums_of_none;
-    around = λ x l e. let Are : Limits → Type 0 = λ k. AreLimits k in subst Are (some_same (limits x) l e) (given.are_limits x).around;
+    around = λ x cut l e. let Are : Limits → Type 0 = λ k. AreLimits k in
+        subst Are (some_same (limits x (cut (giver x))) l e) (given.are_limits x (cut (giver x))).around;
+    limits_alike = given_alike lists (λ c n. Some (limits c n)) giver given.givers;
   }
 
   -- they are a market
-  pub is_market : IsTreeMarket lists (placed_pricing lists steps demand limits) (places_in lists)
+  pub is_market : IsTreeMarket lists (placed_pricing lists steps demand limits giver) (places_in lists)
   is_market = record {
     law = given.law;
     one_phase = given.one_phase;
@@ -64,5 +69,5 @@ module _ (lists : Lists) (steps : ℕ) (demand : ℕ → ℕ → List ℤ) (limi
     steps = given.are_steps;
     demands = λ d n leaf. given.demands d n;
     absent = λ d n leaf out. given.absent d n out;
-    limited = λ c conc. (limits c, refl, given.are_limits c);
+    limited = λ c cut conc. (limits c (cut (giver c)), refl, given.are_limits c (cut (giver c)));
   }

@@ -12,6 +12,7 @@ use Rattle.pm_net.specs.Agrees.{IsItsPrice}
 use Rattle.pm_net.specs.Agents.{Setpoint}
 use Rattle.pm_net.specs.Devices.{Devices, start_devices, devices_after, DevicesAgree, IsRight}
 use Rattle.pm_net.proofs.Steps.{run_from_start}
+use Rattle.pm_net.proofs.PriceLimits.{same_limits}
 use Rattle.pm_net_plan.specs.Places.{Numbering}
 use Rattle.pm_system.specs.System.{System, price_in_channel}
 use Rattle.pm_system.specs.Calls.{NodeCall}
@@ -40,6 +41,8 @@ keeps_the_law lists p numbering calls sys market has =
       cleared = λ x k node inside. let w = due_within lists s agree.agrees.sound x (price_in_channel sys x k).index (its x k node inside).0 in (w.0, w.1);
       setpoints = λ d leaf. let Right : List Setpoint → Type 0 = λ l. All (IsRight lists p s d) l in
           subst Right (has.is.setpoints d leaf) (agree.setpoints d leaf);
+      limits = λ c k conc inside. same_limits lists market.law p s agree.agrees.sound c (conc.0, conc.1) (price_in_channel sys c k)
+          (its c k (conc.0, conc.1) inside) market.by_nodes;
       flows = flows lists p numbering market sys s (λ d leaf. let Right : List Setpoint → Type 0 = λ l. All (IsRight lists p s d) l in
           subst Right (has.is.setpoints d leaf) (agree.setpoints d leaf));
       later = λ i j d le within leaf. cleared_within lists market.law s agree.agrees.sound i j le within d leaf;

@@ -4,7 +4,7 @@ use Rattle.std.proofs.lemmas.Bool.{cases_eq, cond-true, cond-false, eq-eqb, ne_e
 use Rattle.pm_market.specs.Lists.{Lists, parent, is_leaf, IsNode, IsLeaf, IsConcentrator, Lawful}
 use Rattle.pm_market.specs.State.{update}
 use Rattle.pm_market.proofs.Cuts.{updated_same, updated_other}
-use Rattle.pm_net.specs.Pricing.{Pricing}
+use Rattle.pm_net.specs.Pricing.{Pricing, LimitsGoByDevices}
 use Rattle.pm_net.specs.Messages.{BidMessage, PriceMessage, nothing_heard, no_price}
 use Rattle.pm_net.specs.Network.{Network, sent_bid, sent_price}
 use Rattle.pm_net.specs.Running.{device_bid}
@@ -190,7 +190,7 @@ module _ (lists : Lists) (p : Pricing) (numbering : Numbering) (is : IsNumbering
       ]
 
   -- what the others stay
-  module _ (devices' : Devices) where
+  module _ (alike : LimitsGoByDevices lists p.limits) (devices' : Devices) where
     abbrev SameElsewhere : ℕ → Type 0
     SameElsewhere c = (y : ℕ) → (y ≡ c → ⊥) → SameNode lists y net devices'.net
 
@@ -210,7 +210,7 @@ module _ (lists : Lists) (p : Pricing) (numbering : Numbering) (is : IsNumbering
             (sym (ap (update sys.relays c relay) e ∙ updated_same sys.relays c relay))
             (subst (λ (z : ℕ). RelayIs p numbering devices'.net z relay) (sym e) relay_is)
         | inr ne ↦ subst (λ (v : RelayValue). RelayIs p numbering devices'.net y v) (sym (updated_other sys.relays c relay y ne))
-            (relay_stays lists p numbering is net devices'.net y (sys.relays y) (same y ne) (sys_is.relays y y_conc))
+            (relay_stays lists p numbering is alike net devices'.net y (sys.relays y) (same y ne) (sys_is.relays y y_conc))
       ];
       agents = agents;
       setpoints = setpoints;
@@ -231,7 +231,7 @@ module _ (lists : Lists) (p : Pricing) (numbering : Numbering) (is : IsNumbering
         SystemIs lists p numbering devices' (record sys { root = root; prices_sent = prices })
     root_moves root root_is same agents setpoints counts_same bids_same prices prices_are = record {
       root = root_is;
-      relays = λ y conc. relay_stays lists p numbering is net devices'.net y (sys.relays y) (same y (relay_no_root lists y conc)) (sys_is.relays y conc);
+      relays = λ y conc. relay_stays lists p numbering is alike net devices'.net y (sys.relays y) (same y (relay_no_root lists y conc)) (sys_is.relays y conc);
       agents = agents;
       setpoints = setpoints;
       channels = channels_still devices'.net.counts devices'.net.bids_sent counts_same bids_same;
@@ -249,7 +249,7 @@ module _ (lists : Lists) (p : Pricing) (numbering : Numbering) (is : IsNumbering
         SystemIs lists p numbering devices' (record sys { agents = agents; setpoints = setpoints; bids_sent = bids })
     device_moves d leaf node same agents agents_are setpoints setpoints_are bids bids_are counted_are prices_are = record {
       root = root_stays lists p numbering is net devices'.net sys.root (same 0 (λ e. omega (arith, e, node.0))) sys_is.root;
-      relays = λ y conc. relay_stays lists p numbering is net devices'.net y (sys.relays y)
+      relays = λ y conc. relay_stays lists p numbering is alike net devices'.net y (sys.relays y)
           (same y (λ e. relay_no_leaf lists y d conc leaf (sym e))) (sys_is.relays y conc);
       agents = agents_are;
       setpoints = setpoints_are;

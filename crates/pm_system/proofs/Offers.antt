@@ -109,7 +109,7 @@ module _ (lists : Lists) (p : Pricing) (numbering : Numbering) (market : IsTreeM
     | inl leaf ↦ subst (IsDemand p.steps) (sym (by.device x cut leaf)) (market.demands x (cut x) leaf)
     | inr inner ↦
         let conc : IsConcentrator lists x = (node.0, node.1, inner) in
-        let limited = market.limited x conc in
+        let limited = market.limited x cut conc in
         let sum : List ℤ = p.add x (λ z. p.offer z cut) in
         let each : (z : ℕ) → IsNode lists z → parent lists z ≡ x → IsDemand p.steps (p.offer z cut) =
         λ z z_node up. offer_below n z z_node (omega (arith, over, market.law.earlier z z_node, up)) in
@@ -138,7 +138,7 @@ module _ (lists : Lists) (p : Pricing) (numbering : Numbering) (market : IsTreeM
             omega (arith, by.root x cut node up, first.inside, long 0)
         | inr ne ↦
             let conc : IsConcentrator lists (parent lists x) = parent_relay lists market.law x node ne in
-            let limited = market.limited (parent lists x) conc in
+            let limited = market.limited (parent lists x) cut conc in
             let above : p.local cut (parent lists x) < p.steps =
             step_above n (parent lists x) (conc.0, conc.1) (omega (arith, below, market.law.earlier x node)) in
             omega (

@@ -1,6 +1,7 @@
 -- The calls of a relay are events of the network.
 use Rattle.std.proofs.Common.{◌≡◌, ◌⊎◌, ◌∙◌, sym, ap, subst, ℕ, ◌-◌, ◌≤◌, true, false, cond, leb, ltb, List, [], ◌∷◌}
-use Rattle.std.proofs.Common.{◌++◌, length, arith, inl, inr, refl}
+use Rattle.std.proofs.Common.{◌++◌, length, arith, inl, inr, refl, get_or, ◌%◌, Some}
+use Rattle.pm_base.specs.declared.limits.Limits.{Limits}
 use Rattle.std.proofs.lemmas.Bool.{cases_eq, cases_Bool, cond-true, cond-false, not-true, eqb-true, both_ways, and_parts}
 use Rattle.pm_bid.specs.Bids.{zeros}
 use Rattle.pm_market.specs.Lists.{Lists, parent, is_leaf, is_member, changes, IsNode, IsLeaf, IsConcentrator}
@@ -25,20 +26,20 @@ use Rattle.pm_net.proofs.Messages.{either, past}
 use Rattle.pm_net.proofs.Steps.{hears_each}
 use Rattle.pm_net_plan.specs.Places.{Numbering}
 use Rattle.pm_relay.specs.Relays as relays
-use Rattle.pm_relay.specs.Relays.{RelayValue, newest_bid_number, record_at, ComesBack, with_child_bid, LooksForRecord}
+use Rattle.pm_relay.specs.Relays.{RelayValue, newest_bid_number, record_at, limits_of_number, limits_places, no_limits, ComesBack}
 use Rattle.pm_relay.specs.declared.outcome.PriceOutcome.{PriceOutcome}
 use Rattle.pm_relay.specs.declared.outcome.PriceOutcome.TheVariants.{PassedOn, Alone, Waits, Dropped}
-use Rattle.pm_relay_net.specs.RelayIs.{RelayIs, told_demand, update_of, messages_of, prices_down}
+use Rattle.pm_relay_net.specs.RelayIs.{RelayIs, update_of, messages_of, prices_down}
 use Rattle.pm_relay_net.proofs.Elsewhere.{SameNode, same_elsewhere, same_then}
 use Rattle.pm_relay_net.proofs.ComingUp.{back_up}
-use Rattle.pm_relay_net.proofs.Learning.{learns}
+use Rattle.pm_relay_net.proofs.Learning.{learns, learns_limits}
 use Rattle.pm_relay_net.proofs.Sending as sending
 use Rattle.pm_relay_net.proofs.TakingPrices.{takes}
 use Rattle.pm_relay_net.proofs.PricesDown.{none_to_others}
 use Rattle.pm_session.specs.Prices.{price_to}
 use Rattle.pm_system.specs.System.{System, price_in_channel, price_stored}
 use Rattle.pm_system.specs.Calls as call
-use Rattle.pm_system.specs.Calls.{RelayTakesBid, RelaySends, RelayStops, RelayResends, RelayTakesPrice, RelayRestarts}
+use Rattle.pm_system.specs.Calls.{LearnsBid, LearnsLimits, RelayTakesBid, RelaySends, RelayStops, RelayResends, RelayTakesPrice, RelayRestarts}
 use Rattle.pm_system.specs.Given.{IsTreeMarket}
 use Rattle.pm_system.specs.Market.{SystemIs, IsExpired}
 use Rattle.pm_system.proofs.Moving.{Follows, relay_no_leaf, parent_relay, same_bid, same_price, bids_in, sent_prices, relay_moves, its_place, channels_still, channels_push, counted_still}
@@ -77,9 +78,10 @@ same_down old new price PassedOn did place =
     } in
     let same : record_at old price.number ≡ record_at new price.number =
     sym (did.2.passed.window.records own kept) ∙ ap (λ (n : ℕ). record_of new.gathered.window (price.number - n)) (sym did.2.base) in
-    ap (λ (q : Sent). messages_of (price_to q.heads (settled_step_of_record old.gathered.limits price.step q.sum) price.index place)) same
-    ∙ ap (λ l. messages_of (price_to (record_at new price.number).heads
-    (settled_step_of_record l price.step (record_at new price.number).sum) price.index place)) (sym did.2.passed.limits)
+    ap (λ (q : Sent). messages_of (price_to q.heads (settled_step_of_record (limits_of_number old price.number) price.step q.sum) price.index place)) same
+    ∙ ap (λ (l : List Limits). messages_of (price_to (record_at new price.number).heads
+    (settled_step_of_record (Some (get_or l (price.number % limits_places) no_limits)) price.step (record_at new price.number).sum) price.index place))
+    (sym did.2.made_under)
 
 module _ (lists : Lists) (p : Pricing) (numbering : Numbering) (market : IsTreeMarket lists p numbering) (devices : Devices) (s : State)
     (agrees : NetworkAgrees lists p devices.net s) (sys : System) (sys_is : SystemIs lists p numbering devices sys) where
@@ -103,10 +105,9 @@ module _ (lists : Lists) (p : Pricing) (numbering : Numbering) (market : IsTreeM
     none = gone_zeros lists p numbering market s x did.node (sent_bid p net x at)
         (agrees.bids_sent x at did.node (bids_in lists p numbering market.places devices sys sys_is x k did.node did.inside))
 
-    looks : LooksForRecord (with_child_bid (sys.relays c) (numbering.place x) (sent_bid p net x at).number (told_demand (sent_bid p net x at))) did.relay
+    looks : LearnsBid lists p numbering sys x (sent_bid p net x at) did.relay ⊎ LearnsLimits lists p numbering sys x (sent_bid p net x at) did.relay
     looks =
-        let Looks : BidMessage → Type 0 =
-        λ b. LooksForRecord (with_child_bid (sys.relays (parent lists x)) (numbering.place x) b.number (told_demand b)) did.relay in
+        let Looks : BidMessage → Type 0 = λ b. LearnsBid lists p numbering sys x b did.relay ⊎ LearnsLimits lists p numbering sys x b did.relay in
         subst Looks (same_bid lists p numbering market.places devices sys sys_is x k did.node did.inside) did.learnt
 
     abbrev once : Network
@@ -127,7 +128,7 @@ module _ (lists : Lists) (p : Pricing) (numbering : Numbering) (market : IsTreeM
         after.bids_sent ≡ net.bids_sent → after.prices_sent ≡ net.prices_sent → after.counts ≡ net.counts → SystemIs lists p numbering (with_network devices after) new
     moved after relay_is same bids prices counts =
         subst (λ (t : System). SystemIs lists p numbering (with_network devices after) t) (sym did.new_is)
-        (relay_moves lists p numbering market.places devices sys sys_is
+        (relay_moves lists p numbering market.places devices sys sys_is market.by_nodes.limits_alike
         (with_network devices after) c did.relay conc relay_is same sys_is.agents sys_is.setpoints
         sys.bids_sent (channels_still lists p numbering market.places devices sys sys_is after.counts after.bids_sent counts bids) counts (λ d leaf. refl)
         sys.prices_sent
@@ -136,9 +137,17 @@ module _ (lists : Lists) (p : Pricing) (numbering : Numbering) (market : IsTreeM
     same_once : (y : ℕ) → (y ≡ c → ⊥) → SameNode lists y net once
     same_once y ne = same_elsewhere lists p net y (TakesBid x at) (λ e. ne (sym e))
 
+    learns_so : RelayIs p numbering once c did.relay ⊎ RelayIs p numbering twice c did.relay
+    learns_so = elim looks [
+      | inl bid ↦
+          learns lists p numbering net x at (sys.relays c) did.relay market.places market.by_places did.node bid.passes (sys_is.relays c conc) none bid.learnt
+      | inr by ↦ learns_limits lists p numbering net x at by.limits (sys.relays c) did.relay market.places market.by_places did.node
+          (sys_is.relays c conc) by.gone (none by.gone) by.gives by.learnt
+    ]
+
     -- a relay that takes a bid does what the network does
     pub takes_bid : Follows lists p numbering devices (call.TakesBid x k) new
-    takes_bid = elim (learns lists p numbering net x at (sys.relays c) did.relay market.places market.by_places did.node (sys_is.relays c conc) none looks) [
+    takes_bid = elim learns_so [
       | inl is ↦ record {
         events = TakesBid x at ∷ [];
         is = moved once is same_once taken_channels.0 taken_channels.1 taken_channels.2;
@@ -175,7 +184,7 @@ module _ (lists : Lists) (p : Pricing) (numbering : Numbering) (market : IsTreeM
         record {
           events = Sends c ∷ [];
           is = subst (λ (t : System). SystemIs lists p numbering (with_network devices after_sent) t) (sym did.new_is)
-              (relay_moves lists p numbering market.places devices sys sys_is (with_network devices after_sent) c did.relay did.conc sent.0
+              (relay_moves lists p numbering market.places devices sys sys_is market.by_nodes.limits_alike (with_network devices after_sent) c did.relay did.conc sent.0
               (λ y ne. same_elsewhere lists p net y (Sends c) (λ e. ne (sym e))) sys_is.agents sys_is.setpoints
               (update sys.bids_sent c (sys.bids_sent c ++ bid ∷ []))
               (channels_push lists p numbering market.places devices sys sys_is after_sent.counts after_sent.bids_sent c bid counts_sent sent.1 (λ x ne.
@@ -208,9 +217,9 @@ module _ (lists : Lists) (p : Pricing) (numbering : Numbering) (market : IsTreeM
           is = subst Is (sym (cond-false (is_leaf lists c) (cond (may_change lists devices c) (after_stop lists p devices c) devices)
               (with_network devices after_stopped) did.conc.2))
               (subst (λ (t : System). SystemIs lists p numbering (with_network devices after_stopped) t) (sym did.new_is)
-              (relay_moves lists p numbering market.places devices sys sys_is (with_network devices after_stopped) c did.relay did.conc
+              (relay_moves lists p numbering market.places devices sys sys_is market.by_nodes.limits_alike (with_network devices after_stopped) c did.relay did.conc
               (sending.stops lists market.law p numbering market.places net s agrees c did.conc (sys.relays c) (sys_is.relays c did.conc) market.by_places
-              did.relay did.number did.sent)
+              did.relay did.number did.sent market.by_nodes.limits_alike)
               (λ y ne. same_elsewhere lists p net y (StopsBidding c) (λ e. ne (sym e))) sys_is.agents sys_is.setpoints
               sys.bids_sent (channels_still lists p numbering market.places devices sys sys_is after_stopped.counts after_stopped.bids_sent
               stopped_channels.2 stopped_channels.0) stopped_channels.2 (λ d leaf. refl)
@@ -238,7 +247,7 @@ module _ (lists : Lists) (p : Pricing) (numbering : Numbering) (market : IsTreeM
           is = subst (λ (t : System). SystemIs lists p numbering (with_network devices after_again) t) (sym did.new_is) (record {
             root = Rattle.pm_relay_net.proofs.LeftAlone.root_stays lists p numbering market.places net after_again sys.root (same 0) sys_is.root;
             relays = λ y conc.
-                Rattle.pm_relay_net.proofs.LeftAlone.relay_stays lists p numbering market.places net after_again y (sys.relays y) (same y)
+                Rattle.pm_relay_net.proofs.LeftAlone.relay_stays lists p numbering market.places market.by_nodes.limits_alike net after_again y (sys.relays y) (same y)
                 (sys_is.relays y conc);
             agents = sys_is.agents;
             setpoints = sys_is.setpoints;
@@ -289,7 +298,7 @@ module _ (lists : Lists) (p : Pricing) (numbering : Numbering) (market : IsTreeM
           events = TakesPrice c k ∷ [];
           is = subst Is (sym (cond-false (is_leaf lists c) (after_given devices c k after_taken) (with_network devices after_taken) did.conc.2))
               (subst (λ (t : System). SystemIs lists p numbering (with_network devices after_taken) t) (sym did.new_is)
-              (relay_moves lists p numbering market.places devices sys sys_is (with_network devices after_taken) c did.relay did.conc done.0
+              (relay_moves lists p numbering market.places devices sys sys_is market.by_nodes.limits_alike (with_network devices after_taken) c did.relay did.conc done.0
               (λ y ne. same_elsewhere lists p net y (TakesPrice c k) (λ e. ne (sym e))) sys_is.agents sys_is.setpoints
               sys.bids_sent (channels_still lists p numbering market.places devices sys sys_is after_taken.counts after_taken.bids_sent counts_taken
               (hears_each lists p net c k (λ (w : Network). w.bids_sent ≡ net.bids_sent) refl refl refl refl)) counts_taken (λ d leaf. refl)
@@ -359,9 +368,9 @@ module _ (lists : Lists) (p : Pricing) (numbering : Numbering) (market : IsTreeM
               )
         ]
 
-    comes_back : ComesBack p.steps did.limits (newest_bid_number r) kept.number kept.index r.recorded did.relay
+    comes_back : ComesBack p.steps did.limits (newest_bid_number r) kept.number kept.index r.recorded did.under did.relay
     comes_back =
-        let Back : ℕ → ℕ → Type 0 = λ n i. ComesBack p.steps did.limits (newest_bid_number r) n i r.recorded did.relay in
+        let Back : ℕ → ℕ → Type 0 = λ n i. ComesBack p.steps did.limits (newest_bid_number r) n i r.recorded did.under did.relay in
         subst (λ (i : ℕ). Back kept.number i) stored_same.1
         (subst (λ (n : ℕ). Back n (price_stored sys c k r.answered r.index).index) stored_same.0 did.back)
 
@@ -375,8 +384,9 @@ module _ (lists : Lists) (p : Pricing) (numbering : Numbering) (market : IsTreeM
         record {
           events = Restarts c k ∷ [];
           is = subst (λ (t : System). SystemIs lists p numbering after t) (sym did.new_is)
-              (relay_moves lists p numbering market.places devices sys sys_is after c did.relay did.conc
-              (back_up lists p numbering market.places net did.limits c k r did.relay did.limited (sys_is.relays c did.conc).matches
+              (relay_moves lists p numbering market.places devices sys sys_is market.by_nodes.limits_alike after c did.relay did.conc
+              (back_up lists p numbering market.places market.by_nodes.limits_alike net did.limits did.under c k r did.relay did.limited
+              (sys_is.relays c did.conc).matches did.under_is
               (its_number c did.conc kept (stored_its c k c_node)) comes_back)
               (λ y ne. same_elsewhere lists p net y (Restarts c k) (λ e. ne (sym e)))
               (λ d leaf. updated_other devices.agents c _ d (relay_no_leaf lists c d did.conc leaf) ∙ sys_is.agents d leaf)

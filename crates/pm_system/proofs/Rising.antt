@@ -1,23 +1,24 @@
 -- Nobody goes back, except over its own restart.
-use Rattle.std.proofs.Common.{◌≡◌, ◌∙◌, sym, ap, subst, ℕ, ◌<◌, ◌≤◌, Bool, true, false, cond, leb, List, Option}
+use Rattle.std.proofs.Common.{◌≡◌, ◌∙◌, sym, ap, subst, ℕ, ◌<◌, ◌≤◌, Bool, true, false, cond, leb, ltb, List, Option, ◌⊎◌}
+use Rattle.pm_cache.specs.Cache.{kept_number}
 use Rattle.std.proofs.Common.{Some, None, arith, inl, inr, refl}
 use Rattle.std.proofs.lemmas.Bool.{cases_eq, cases_Bool, cond-true, cond-false, ltb-true, leb-true}
 use Rattle.pm_market.specs.Lists.{Lists, parent, is_leaf}
 use Rattle.pm_market.specs.State.{update}
 use Rattle.pm_market.proofs.Cuts.{updated_same, updated_other}
 use Rattle.pm_net.specs.Pricing.{Pricing}
-use Rattle.pm_net.specs.Messages.{PriceMessage, price_message}
+use Rattle.pm_net.specs.Messages.{BidMessage, PriceMessage, price_message}
 use Rattle.pm_net.specs.Agents.{Offer, DeviceAgent, after_price, answered_by, kept_offer}
 use Rattle.pm_net.proofs.Messages.{either}
 use Rattle.pm_net_plan.specs.Places.{Numbering}
 use Rattle.pm_control.specs.Control.{newest_demand, agent_stored}
 use Rattle.pm_relay.specs.Relays as relays
-use Rattle.pm_relay.specs.Relays.{RelayValue, LooksForRecord}
+use Rattle.pm_relay.specs.Relays.{RelayValue, LooksForRecord, with_child_bid}
 use Rattle.pm_relay.specs.declared.outcome.PriceOutcome.{PriceOutcome}
 use Rattle.pm_relay.specs.declared.outcome.PriceOutcome.TheVariants.{PassedOn, Alone, Waits, Dropped}
 use Rattle.pm_relay_net.specs.RelayIs.{update_of}
-use Rattle.pm_system.specs.System.{System, price_in_channel, price_stored}
-use Rattle.pm_system.specs.Calls.{NodeCall, Does, IsNoRestart, DeviceChanges}
+use Rattle.pm_system.specs.System.{System, bid_in_channel, price_in_channel, price_stored}
+use Rattle.pm_system.specs.Calls.{NodeCall, Does, IsNoRestart, DeviceChanges, LearnsBid, LearnsLimits}
 use Rattle.pm_system.specs.Calls.{Bids, Expires, TakesBid, Sends, Clears, TakesPrice, Restarts, StopsBidding, Resends, StopsClearing, TellsOne}
 use Rattle.pm_system.specs.Settled.{index_of_held}
 
@@ -92,6 +93,19 @@ looks_index : (old new : RelayValue) → LooksForRecord old new → old.index �
 looks_index old new (inl did) = omega (arith, did.1.index)
 looks_index old new (inr stays) = omega (arith, ap (λ (r : RelayValue). r.index) stays.1)
 
+learnt_index : (lists : Lists) (p : Pricing) (numbering : Numbering) (sys : System) (x : ℕ) (bid : BidMessage) (relay : RelayValue) →
+    LearnsBid lists p numbering sys x bid relay ⊎ LearnsLimits lists p numbering sys x bid relay → (sys.relays (parent lists x)).index ≤ relay.index
+learnt_index lists p numbering sys x bid relay (inl did) = looks_index _ relay did.learnt
+learnt_index lists p numbering sys x bid relay (inr did) =
+    let r : RelayValue = sys.relays (parent lists x) in
+    omega (
+      arith,
+      looks_index _ relay did.learnt,
+      either (λ (v : RelayValue). v.index ≡ r.index) (ltb (kept_number r.gathered.cache (numbering.place x)) bid.number)
+          (record r { gathered = record (with_child_bid r (numbering.place x) bid.number None).gathered { limits = Some did.limits } }) r
+          (λ e. refl) (λ e. refl),
+    )
+
 took_index : (old new : RelayValue) (price : PriceMessage) (outcome : PriceOutcome) → relays.TakesPrice old new (update_of price) outcome →
     old.index ≤ new.index
 took_index old new price Dropped did = omega (arith, ap (λ (r : RelayValue). r.index) did.1)
@@ -124,7 +138,7 @@ module _ (lists : Lists) (p : Pricing) (numbering : Numbering) (sys : System) (x
       (λ e. changed_index lists p sys d did.agent did.bid did.made)
   rises (Expires d n) new did up = by_none new (ap (λ (t : System). t.agents) did.new_is) (ap (λ (t : System). t.relays) did.new_is)
   rises (TakesBid z k) new (inl did) up = by_relay new (parent lists z) did.relay (ap (λ (t : System). t.relays) did.new_is)
-      (ap (λ (t : System). t.agents) did.new_is) (λ e. looks_index _ did.relay did.learnt)
+      (ap (λ (t : System). t.agents) did.new_is) (λ e. learnt_index lists p numbering sys z (bid_in_channel p sys z k) did.relay did.learnt)
   rises (TakesBid z k) new (inr did) up = by_none new (ap (λ (t : System). t.agents) did.new_is) (ap (λ (t : System). t.relays) did.new_is)
   rises (Sends c) new did up = by_relay new c did.relay (ap (λ (t : System). t.relays) did.new_is) (ap (λ (t : System). t.agents) did.new_is)
       (λ e. omega (arith, did.sent.index))

@@ -91,7 +91,7 @@ module _ (lists : Lists) (p : Pricing) (numbering : Numbering) (market : IsTreeM
     root = root.first_up lists p numbering market.places sys.root at.root;
     relays = λ c conc.
         let up = at.relays c conc in
-        relay.first_up lists p numbering market.places up.0 c (sys.relays c) up.1 up.2;
+        relay.first_up lists p numbering market.places market.by_nodes.limits_alike up.0 c (sys.relays c) up.1 up.2;
     agents = λ d leaf. sym (at.agents d leaf);
     setpoints = λ d leaf. sym (at.setpoints d);
     channels = record {

@@ -4,6 +4,7 @@ use Rattle.std.specs.Prelude.{◌≡◌, ◌⊎◌, ℕ, ◌+◌, ◌<◌, ◌�
 use Rattle.pm_base.specs.declared.limits.Limits.{Limits}
 use Rattle.pm_bid.specs.Bids.{zeros}
 use Rattle.pm_market.specs.Lists.{Lists, parent, is_member, changes, IsNode, IsLeaf, IsConcentrator}
+use Rattle.pm_market.specs.State.{no_changes}
 use Rattle.pm_concentrator.specs.Concentrators.{own_demand}
 use Rattle.pm_net.specs.Pricing.{Pricing}
 use Rattle.pm_net.specs.Messages.{BidMessage, bid_message}
@@ -11,10 +12,10 @@ use Rattle.pm_net.specs.Agents.{DeviceAgent, may_offer, after_offer, after_leavi
 use Rattle.pm_net_plan.specs.Places.{Numbering}
 use Rattle.pm_control.specs.Control.{newest_demand, agent_stored}
 use Rattle.pm_relay.specs.Relays as relays
-use Rattle.pm_relay.specs.Relays.{RelayValue, newest_bid_number, ComesBack, with_child_bid, LooksForRecord, BidSent}
+use Rattle.pm_relay.specs.Relays.{RelayValue, newest_bid_number, ComesBack, with_child_bid, with_new_limits, limits_of_number, LooksForRecord, BidSent}
 use Rattle.pm_relay.specs.Roots.{RootValue, newest_index, RootComesBack, with_root_bid, LooksForClearing, RootCleared}
 use Rattle.pm_relay.specs.declared.outcome.PriceOutcome.{PriceOutcome}
-use Rattle.pm_relay_net.specs.RelayIs.{told_demand, update_of, prices_down}
+use Rattle.pm_relay_net.specs.RelayIs.{LimitsPassBy, GivesLimits, told_demand, update_of, prices_down}
 use Rattle.pm_relay_net.specs.RootIs.{root_prices}
 use Rattle.pm_system.specs.System.{System, bid_in_channel, price_in_channel, with_root, with_relay, with_agent, with_setpoints}
 use Rattle.pm_system.specs.System.{with_bid_sent, with_prices_sent, with_prices_told}
@@ -110,13 +111,25 @@ pub record DeviceRestarts (lists : Lists) (sys : System) (d k : ℕ) (new : Syst
 
 -- ---- a relay
 
+-- it learns a child's bid, by whose numbers its limits do not go
+pub record LearnsBid (lists : Lists) (p : Pricing) (numbering : Numbering) (sys : System) (x : ℕ) (bid : BidMessage) (relay : RelayValue) : Type 0 where
+  pub passes : LimitsPassBy p (parent lists x) x
+  pub learnt : LooksForRecord (with_child_bid (sys.relays (parent lists x)) (numbering.place x) bid.number (told_demand bid)) relay
+
+-- it learns limits: those that are given under the number of the bid
+pub record LearnsLimits (lists : Lists) (p : Pricing) (numbering : Numbering) (sys : System) (x : ℕ) (bid : BidMessage) (relay : RelayValue) : Type 0 where
+  pub limits : Limits
+  pub gone : bid.gone ≡ true
+  pub gives : GivesLimits p (parent lists x) x bid.number limits
+  pub learnt : LooksForRecord (with_new_limits (sys.relays (parent lists x)) (numbering.place x) bid.number limits) relay
+
 pub record RelayTakesBid (lists : Lists) (p : Pricing) (numbering : Numbering) (sys : System) (x k : ℕ) (new : System) : Type 0 where
   pub node : IsNode lists x
   pub below : parent lists x ≡ 0 → ⊥
   pub inside : k < length (sys.bids_sent x)
   pub relay : RelayValue
-  pub learnt : LooksForRecord
-      (with_child_bid (sys.relays (parent lists x)) (numbering.place x) (bid_in_channel p sys x k).number (told_demand (bid_in_channel p sys x k))) relay
+  pub learnt : LearnsBid lists p numbering sys x (bid_in_channel p sys x k) relay
+      ⊎ LearnsLimits lists p numbering sys x (bid_in_channel p sys x k) relay
   pub new_is : new ≡ with_relay sys (parent lists x) relay
 
 pub record RelaySends (lists : Lists) (sys : System) (c : ℕ) (new : System) : Type 0 where
@@ -147,15 +160,17 @@ pub record RelayTakesPrice (lists : Lists) (numbering : Numbering) (sys : System
   pub taken : relays.TakesPrice (sys.relays c) relay (update_of (price_in_channel sys c k)) outcome
   pub new_is : new ≡ with_prices_sent lists numbering (with_relay sys c relay) c (prices_down relay (update_of (price_in_channel sys c k)) outcome)
 
--- it comes back with its last number and its children's numbers, and with the number and the index of a price that it once stored
+-- it comes back with its last number, its children's numbers and the limits of that bid, and with the number and the index of a price that it once stored
 pub record RelayRestarts (lists : Lists) (p : Pricing) (sys : System) (c k : ℕ) (new : System) : Type 0 where
   pub conc : IsConcentrator lists c
   pub limits : Limits
-  pub limited : p.limits c ≡ Some limits
+  pub limited : p.limits c no_changes ≡ Some limits
+  pub under : Limits
+  pub under_is : Some under ≡ limits_of_number (sys.relays c) (newest_bid_number (sys.relays c))
   pub relay : RelayValue
   pub back : ComesBack p.steps limits (newest_bid_number (sys.relays c))
       (price_stored sys c k (sys.relays c).answered (sys.relays c).index).number
-      (price_stored sys c k (sys.relays c).answered (sys.relays c).index).index (sys.relays c).recorded relay
+      (price_stored sys c k (sys.relays c).answered (sys.relays c).index).index (sys.relays c).recorded under relay
   pub new_is : new ≡ with_relay sys c relay
 
 -- ---- the root

@@ -8,6 +8,7 @@ use Rattle.pm_net_plan.specs.Places.{Numbering}
 use Rattle.pm_relay.specs.Numbers.{known_number, parents_number}
 use Rattle.pm_relay.specs.Relays.{RelayValue, with_child_bid, LooksForRecord}
 use Rattle.pm_relay.specs.Roots.{RootValue, with_root_bid, LooksForClearing}
+use Rattle.pm_relay_net.specs.RelayIs.{LimitsPassBy}
 use Rattle.pm_system.specs.System.{System, with_root, with_relay, with_bid_sent}
 use Rattle.pm_system.specs.Calls.{Expires, TakesBid, SystemRuns}
 
@@ -17,13 +18,14 @@ pub record MayExpire (lists : Lists) (d number : ℕ) : Type 0 where
   pub absent : is_member lists d number ≡ false
   pub has_next : number ≤ changes lists d
 
--- the relay above device d lets it go, as the contract of the call says
+-- the relay above device d lets it go, as the contract of the call says; it is none that gives the relay its limits
 pub record RelayExpires (lists : Lists) (p : Pricing) (numbering : Numbering) (sys : System) (d : ℕ) (new : System) : Type 0 where
   pub below : parent lists d ≡ 0 → ⊥
   pub number : ℕ
   pub number_is : number ≡ parents_number (known_number (sys.relays (parent lists d)).recorded (sys.relays (parent lists d)).gathered.cache.heads
       (numbering.place d))
   pub may : MayExpire lists d number
+  pub passes : LimitsPassBy p (parent lists d) d
   pub relay : RelayValue
   pub gone : LooksForRecord (with_child_bid (sys.relays (parent lists d)) (numbering.place d) number None) relay
   pub new_is : new ≡ with_relay (with_bid_sent sys d (bid_message number true (zeros p.steps))) (parent lists d) relay

@@ -35,7 +35,7 @@ pub record FlowsIn (lists : Lists) (p : Pricing) (cut : Cut) (Take : ℕ → (�
   pub relays : (c : ℕ) (power : ℕ → ℤ) → IsConcentrator lists c → Take c power → SaysBelow lists p cut c →
       sum_on lists c power ≡ demand_at (p.offer c cut) (p.local cut c)
   pub within : (c : ℕ) (power : ℕ → ℤ) (limits : Limits) → IsConcentrator lists c → Take c power → SaysBelow lists p cut c →
-      p.limits c ≡ Some limits → HasStepWithin limits (sum_of_offers p cut c) → IsWithinLimits limits (sum_on lists c power)
+      p.limits c cut ≡ Some limits → HasStepWithin limits (sum_of_offers p cut c) → IsWithinLimits limits (sum_on lists c power)
   pub root : (power : ℕ → ℤ) → Take 0 power → SaysBelow lists p cut 0 →
       sum_on lists 0 power ≡ demand_at (sum_of_offers p cut 0) (clearing_step (sum_of_offers p cut 0))
   pub balanced : (power : ℕ → ℤ) → Take 0 power → SaysBelow lists p cut 0 → clearing_step (sum_of_offers p cut 0) + 1 < p.steps →

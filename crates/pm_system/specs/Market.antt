@@ -2,7 +2,7 @@
 use Rattle.std.specs.Prelude.{◌≡◌, ◌⊎◌, ℕ, ◌+◌, ◌<◌, ◌≤◌, false, List, length, slice_index_or}
 use Rattle.std.specs.List.{All, Contains}
 use Rattle.pm_market.specs.Lists.{Lists, is_member, IsNode, IsLeaf, IsConcentrator}
-use Rattle.pm_market.specs.State.{clearings, cleared_cut}
+use Rattle.pm_market.specs.State.{clearings, cleared_cut, part}
 use Rattle.pm_market.specs.Moves.{after, LegalJournal}
 use Rattle.pm_market.specs.declared.moves.Move.{Move}
 use Rattle.pm_net.specs.Pricing.{Pricing}
@@ -68,6 +68,10 @@ pub record KeepsTheLaw (lists : Lists) (p : Pricing) (sys : System) : Type 0 whe
   pub cleared : (x k : ℕ) → IsNode lists x → k < length (sys.prices_sent x) →
       (1 ≤ (price_in_channel sys x k).index) × ((price_in_channel sys x k).index ≤ clearings (after lists journal))
   pub setpoints : (d : ℕ) → IsLeaf lists d → All (IsRight lists p (after lists journal) d) (sys.setpoints d)
+  -- the limits by which a relay settles for a price are those of the bid of its own that the price names
+  pub limits : (c k : ℕ) → IsConcentrator lists c → k < length (sys.prices_sent c) →
+      p.limits c (cleared_cut (after lists journal) (price_in_channel sys c k).index)
+      ≡ p.limits c (part lists (after lists journal) c (price_in_channel sys c k).number)
   -- the setpoints of one clearing add up to what was announced for it
   pub flows : FlowsAsCleared lists p sys (after lists journal)
   pub later : (i j d : ℕ) → i ≤ j → j ≤ clearings (after lists journal) → IsLeaf lists d →

@@ -12,6 +12,7 @@ ghost use Rattle.pm_market.specs.Lists.{Lists, IsLeaf};
 ghost use Rattle.pm_net.specs.Pricing.{Pricing};
 ghost use Rattle.pm_net.specs.Agents.{Setpoint};
 ghost use Rattle.pm_net_plan.specs.Places.{Numbering, places_in};
+ghost use Rattle.pm_relay_net.specs.RelayIs.{LimitsPassBy, GivesLimits};
 ghost use Rattle.pm_system.specs.System.{System};
 ghost use Rattle.pm_system.specs.Calls.{NodeCall, Does, SystemRuns, IsNoRestart, StaysUp};
 ghost use Rattle.pm_system.specs.Given.{IsTreeMarket, IsGiven, placed_pricing, IsStarted};
@@ -29,9 +30,9 @@ use pm_control::agents_come_back;
 /// names the receiver's own number in the cut of its clearing, and its local step there. Each setpoint that was ever given is
 /// the power of the device's own bid of its number there, at that step.
 pub fn systems_run_the_market()
-    ensures given { (lists : Lists) (steps : ℕ) (demand : ℕ → ℕ → List ℤ) (limits : ℕ → Limits) →
-        IsGiven lists steps demand limits →
-        IsTreeMarket lists (placed_pricing lists steps demand limits) (places_in lists) }
+    ensures given { (lists : Lists) (steps : ℕ) (demand : ℕ → ℕ → List ℤ)
+        (limits : ℕ → ℕ → Limits) (giver : ℕ → ℕ) → IsGiven lists steps demand limits giver →
+        IsTreeMarket lists (placed_pricing lists steps demand limits giver) (places_in lists) }
     ensures run { (lists : Lists) (p : Pricing) (numbering : Numbering) (sys new : System)
         (calls : List NodeCall) → IsTreeMarket lists p numbering → IsStarted lists p sys →
         SystemRuns lists p numbering sys calls new → RunsTheMarket lists p numbering calls new }
@@ -42,6 +43,17 @@ pub fn systems_run_the_market()
     // The call tells a fact: an agent that comes back with what it stored is the agent after a restart in the network.
     agents_come_back();
 }
+
+/// A law: where a device gives a relay's limits, each of its numbers gives those of this number, and no number of another child
+/// gives any. So its bids are learnt as limits, and those of the others as bids.
+pub fn devices_give_limits()
+    ensures gives { (lists : Lists) (steps : ℕ) (demand : ℕ → ℕ → List ℤ)
+        (limits : ℕ → ℕ → Limits) (giver : ℕ → ℕ) (c n : ℕ) →
+        GivesLimits (placed_pricing lists steps demand limits giver) c (giver c) n (limits c n) }
+    ensures passes { (lists : Lists) (steps : ℕ) (demand : ℕ → ℕ → List ℤ)
+        (limits : ℕ → ℕ → Limits) (giver : ℕ → ℕ) (c x : ℕ) → (giver c ≡ x → ⊥) →
+        LimitsPassBy (placed_pricing lists steps demand limits giver) c x }
+{}
 
 /// A law: a relay or a root that lets a device go, by its call `expire`, does what two calls of a system do: a number of the
 /// parent's is given for the device, and the parent takes that bid. So all that holds of runs of a system holds with it. The

@@ -31,9 +31,10 @@ const NUMBERS: &[u8] = &[0; 1016];
 /// Send, and the price of clearing 7 for bid 1 of child 3, at step 1.
 const SEND_AND_PRICE: &[u8] = &[9, 5, 0, 3, 0, 0, 0, 1, 0, 0, 0, 7, 0, 1];
 
-/// What the relay keeps: its last number, the number answered, the index, and the numbers of its children.
+/// What the relay keeps: its last number, the number answered, the index, the limits of its newest bid, and the numbers of its
+/// children.
 const KEPT: &[u8] = &[
-    12, 0, 0, 0, 1, 0, 0, 0, 0, 0, 0, 0, 0, 0, 0, 0, 1, 0, 0, 0, 4,
+    12, 0, 0, 0, 1, 0, 0, 0, 0, 0, 0, 0, 0, 255, 255, 252, 24, 0, 0, 3, 232, 0, 0, 0, 1, 0, 0, 0, 4,
 ];
 
 /// Its bid: 21 watts at step 0 and -3 at step 1.
@@ -46,7 +47,7 @@ const DOWN: &[u8] = &[
 
 /// What the relay keeps once it took the price.
 const KEPT_LATER: &[u8] = &[
-    12, 0, 0, 0, 1, 0, 0, 0, 1, 0, 0, 0, 7, 0, 0, 0, 1, 0, 0, 0, 4,
+    12, 0, 0, 0, 1, 0, 0, 0, 1, 0, 0, 0, 7, 255, 255, 252, 24, 0, 0, 3, 232, 0, 0, 0, 1, 0, 0, 0, 4,
 ];
 
 /// Clear, twice.

@@ -26,7 +26,7 @@ pub fn read_u32(bytes: &[u8]) -> (u32, &[u8])
 }
 
 /// The first four bytes as a signed number, and the bytes behind them.
-pub(crate) fn read_i32(bytes: &[u8]) -> (i64, &[u8])
+pub fn read_i32(bytes: &[u8]) -> (i64, &[u8])
     requires { 4 ≤ length bytes.now }
     ensures bytes { bytes.now ≡ signed_bytes result.0 ++ result.1.now }
     ensures fits { FitsSigned w32 result.0 }

@@ -38,7 +38,7 @@ pub use answer::Reply;
 pub use auctioneer::serve;
 pub use decoder::{Decoder, FrameDecoder};
 pub use fault::DecodeFault;
-pub use fields::{read_demands, read_u16, read_u32};
+pub use fields::{read_demands, read_i32, read_u16, read_u32};
 pub use frame::Frame;
 pub use framing::StreamFrame;
 pub use laws::{

@@ -6,4 +6,4 @@ pub returns-clause-goes : goal.returns-clause-goes
 returns-clause-goes c lists a law asked = goes_by_nodes lists law a asked
 
 pub returns-clause-in_node_order : goal.returns-clause-in_node_order
-returns-clause-in_node_order c lists a is none around = in_node_order lists a is none around
+returns-clause-in_node_order c lists a is none around by = in_node_order lists a is none around by

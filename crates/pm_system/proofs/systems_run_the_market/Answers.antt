@@ -5,7 +5,7 @@ use Rattle.pm_system.proofs.Runs.{system_runs}
 use Rattle.pm_system.proofs.systems_run_the_market.Goals as goal
 
 pub returns-clause-given : goal.returns-clause-given
-returns-clause-given c lists steps demand limits given = is_market lists steps demand limits given
+returns-clause-given c lists steps demand limits giver given = is_market lists steps demand limits giver given
 
 pub returns-clause-run : goal.returns-clause-run
 returns-clause-run c lists p numbering sys new calls market at runs = system_runs lists p numbering market c.agents_come_back.ensures sys new calls at runs

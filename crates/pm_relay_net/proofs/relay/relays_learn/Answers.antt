@@ -1,6 +1,9 @@
--- Of `relays_learn`: what it ensures.
-use Rattle.pm_relay_net.proofs.Learning.{learns}
+-- Of `relays_learn`: its clauses.
+use Rattle.pm_relay_net.proofs.Learning.{learns, learns_limits}
 use Rattle.pm_relay_net.proofs.relay.relays_learn.Goals as goal
 
-pub returns : goal.returns
-returns c = learns
+pub returns-clause-limits : goal.returns-clause-limits
+returns-clause-limits c = learns_limits
+
+pub returns-clause-bids : goal.returns-clause-bids
+returns-clause-bids c = learns

@@ -7,8 +7,8 @@ returns-clause-sends c lists p numbering net s y number old new law is adds agre
     sending.sends lists law p numbering is net s agrees y conc old was adds new number did
 
 pub returns-clause-stops : goal.returns-clause-stops
-returns-clause-stops c lists p numbering net s y number old new law is adds agrees conc was did =
-    sending.stops lists law p numbering is net s agrees y conc old was adds new number did
+returns-clause-stops c lists p numbering net s y number old new law is adds agrees alike conc was did =
+    sending.stops lists law p numbering is net s agrees y conc old was adds new number did alike
 
 pub returns-clause-refuses : goal.returns-clause-refuses
 returns-clause-refuses c lists p numbering net s y r fault law is agrees conc was why =

@@ -7,7 +7,7 @@ use Rattle.pm_services.proofs.relay_bytes.write_resume.Goals as goal
 pub returns-clause-size : goal.returns-clause-size
 returns-clause-size c =
     let kept = c.resume.result in
-    let stored : StoredRelay = record { last = kept.last; answered = kept.answered; index = kept.index; numbers = kept.numbers.now } in
+    let stored : StoredRelay = record { last = kept.last; answered = kept.answered; index = kept.index; limits = kept.limits; numbers = kept.numbers.now } in
     omega (
       arith,
       ap length c.write_relay_resume.ensures.written,

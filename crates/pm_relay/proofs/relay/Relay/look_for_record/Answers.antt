@@ -1,6 +1,8 @@
 -- Of `Relay::look_for_record`: what the type keeps.
-use Rattle.std.proofs.Common.{arith}
+use Rattle.std.proofs.Common.{rules, arith}
 use Rattle.pm_concentrator.specs.Concentrators.{BidSettled}
+use Rattle.std.proofs.lemmas.List.Elements.{All-set}
+use Rattle.pm_relay.specs.Relays.{AreRelayLimits}
 use Rattle.pm_relay.proofs.Gathering.{parts_of, over_bid, over_answer, when_ok}
 use Rattle.pm_relay.proofs.relay.Relay.look_for_record.Goals as goal
 
@@ -11,6 +13,8 @@ invariant_of-self-then-self c =
     record {
       children = right.children;
       same_children = c.self.invariant.same_children;
+      limits_kept = search rules;
+      limits_small = All-set AreRelayLimits c.self.inside.made_under.items _ c.limits-limits.result c.limits-limits.ensures.small c.self.invariant.limits_small;
       limits = right.limits;
       single = right.single;
       announced = right.announced;
@@ -27,6 +31,8 @@ invariant_of-self-else-self c =
     record {
       children = right.children;
       same_children = c.self.invariant.same_children;
+      limits_kept = search rules;
+      limits_small = All-set AreRelayLimits c.self.inside.made_under.items _ c.limits-limits.result c.limits-limits.ensures.small c.self.invariant.limits_small;
       limits = right.limits;
       single = right.single;
       announced = right.announced;

@@ -1,7 +1,10 @@
--- Of `Relay::resumed`: what the type keeps.
-use Rattle.std.proofs.Common.{rules, ◌≡◌, ◌∙◌, sym, ap, subst, length, Some, arith}
+-- Of `Relay::resumed`: what it ensures; what the type keeps.
+use Rattle.std.proofs.Common.{rules, ◌≡◌, ◌∙◌, sym, ap, subst, ◌%◌, List, get_or, length, Some, refl, arith}
 use Rattle.std.proofs.lemmas.Int.{ints}
-use Rattle.std.proofs.lemmas.List.{length-replicate}
+use Rattle.std.proofs.lemmas.List.{length-replicate, get_or-replicate}
+use Rattle.pm_base.specs.declared.limits.Limits.{Limits}
+use Rattle.pm_relay.specs.Relays.{AreRelayLimits, no_limits, limits_places}
+use Rattle.std.specs.List.{All}
 use Rattle.std.proofs.lemmas.List.Elements.{All-replicate}
 use Rattle.pm_base.specs.Limits.{demand_limit, most_nodes}
 use Rattle.pm_bid.specs.Bids.{AllWithinLimit}
@@ -24,6 +27,9 @@ invariant_of-result c =
     record {
       children = ap (λ (k : Cache). length k.heads) new.cache ∙ length-replicate most_nodes nothing_sent;
       same_children = search rules;
+      limits_kept = search rules;
+      limits_small = subst (λ (l : List Limits). All AreRelayLimits l) (sym c.in_ok-made_under.ensures.items)
+          (All-replicate AreRelayLimits limits_places c.args.resume.now.limits c.requires.under);
       limits = subst HasRelayLimits (sym new.limits) (record {
         around = record {
           floor_not_positive = omega (arith, ints);
@@ -41,4 +47,25 @@ invariant_of-result c =
       numbers = omega arith;
       answered = omega arith;
       window = omega arith;
+    }
+
+pub returns : goal.returns
+returns c =
+    let new = c.in_ok-concentrator.ensures.new in
+    let place = c.args.resume.now.last % limits_places in
+    record {
+      back = record {
+        gathered = record {
+          cache = new.cache;
+          window = new.window;
+          limits = search (rules, new.limits);
+          announced = search (rules, new.announced);
+        };
+        base = refl;
+        answered = refl;
+        index = refl;
+        recorded = c.in_ok-recorded.ensures.items;
+        made_under = ap (λ (l : List Limits). Some (get_or l place no_limits)) c.in_ok-made_under.ensures.items
+            ∙ ap Some (get_or-replicate limits_places place c.args.resume.now.limits no_limits (omega arith));
+      };
     }

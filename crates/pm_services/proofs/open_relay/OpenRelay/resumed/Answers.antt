@@ -1,5 +1,7 @@
 -- Of `OpenRelay::resumed`: what it ensures.
-use Rattle.std.proofs.Common.{◌≡◌, ◌∙◌, refl, subst, ap, Some}
+use Rattle.std.proofs.Common.{◌≡◌, ◌∙◌, sym, refl, subst, ap, Some}
+use Rattle.pm_base.specs.declared.limits.Limits.{Limits}
+use Rattle.pm_relay.specs.Relays.{limits_of_number}
 use Rattle.pm_base.specs.Limits.{most_nodes}
 use Rattle.pm_concentrator.specs.Concentrators.{IsNewConcentrator}
 use Rattle.pm_services.specs.RelayAnswers.{OpenRelay}
@@ -20,6 +22,7 @@ returns c =
           answered = back.answered ∙ kept.answered;
           index = back.index ∙ kept.index;
           recorded = back.recorded ∙ kept.numbers;
+          made_under = ap (limits_of_number c.in_ok-relay.relay) (sym kept.last) ∙ back.made_under ∙ ap (λ (l : Limits). Some l) kept.limits;
         };
         opened = refl;
       };

@@ -30,7 +30,7 @@ pub returns-in_ok-new-clause-taken : goal.returns-in_ok-new-clause-taken
 returns-in_ok-new-clause-taken c =
     let old : RelayServiceValue = record { child = c.self.inside.child; limits = c.self.inside.limits; relay = c.self.inside.relay } in
     let hello : c.in-Child-Hello.field-0 ≡ Hello c.in-Child-Hello.basis = rw c.in-Child-Hello.is at c.in-Child-Hello.field-0-is in
-    let opens = subst (λ steps. Opens old.limits steps 0 0 0 (replicate most_nodes 0) (Some c.in_ok-new.field-0)) c.steps.ensures.steps
+    let opens = subst (λ steps. Opens old.limits steps 0 0 0 (replicate most_nodes 0) old.limits (Some c.in_ok-new.field-0)) c.steps.ensures.steps
     c.in_ok-new.ensures.opens in
     let answers = subst (λ (child : Frame). AnswersClosed old.limits (Child child) (Some c.in_ok-new.field-0) []) (sym hello) (opens, refl) in
     record {
