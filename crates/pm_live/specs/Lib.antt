@@ -2,3 +2,4 @@ pub mod LiveNodes
 pub mod Endings
 pub mod Due
 pub mod Serving
+pub mod Asks

@@ -15,4 +15,4 @@ mod top;
 
 pub use ending::Ending;
 pub use named::{LiveNode, named_node};
-pub use top::live;
+pub use top::{live, live_peer};

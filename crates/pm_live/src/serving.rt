@@ -3,38 +3,41 @@
 ghost use Rattle.std.specs.Prelude.{◌≡◌, ◌≤◌, ℕ, List, Some};
 ghost use Rattle.pm_io.specs.Causes.{Rose};
 ghost use Rattle.pm_wire.specs.Services.{EndsSo};
+ghost use Rattle.pm_wire.specs.Moments.{AsksWhatIsDue};
 ghost use Rattle.pm_wire.specs.Taking.{AnswersFrom};
 ghost use Rattle.pm_live.specs.Due.{EndsAsDue};
 
-use pm_io::{Sink, Source};
-use pm_wire::{Served, Service, StreamFrame, serve_frames};
+use pm_io::Peer;
+use pm_wire::{Served, Service, StreamFrame, serve_peer};
 use std::alloc::Global;
 
 /// How many bytes one read asks for.
 const PIECE: usize = 16_384;
 
 /// Serves a stream whose first frame is to stand at this place, and tells how it ended.
-pub(crate) fn serve_from_start<F: StreamFrame, V: Service<F>, S: Source, K: Sink>(
+pub(crate) fn serve_from_start<F: StreamFrame, V: Service<F>, W: Peer>(
     alloc: Global,
-    source: &mut S,
-    sink: &mut K,
+    wire: &mut W,
     place: F::Place,
     service: &mut V,
 ) -> Served
     requires place { F.framing.IsPlace place }
     requires service { V.begins place service.old }
+    requires asks { AsksWhatIsDue W.left W.held W.becomes W.may_read W.may_write F.framing place
+        (AnswersFrom V.answers service.old) wire.old }
     ensures serves { EndsSo F.framing place (AnswersFrom V.answers service.old)
-        (S.left source.old) (S.left source.new) (K.held sink.old) (K.held sink.new)
-        (Rose (S.faults source.old) (S.faults source.new))
-        (Rose (K.faults sink.old) (K.faults sink.new)) result }
-    ensures due { (all : List ℕ) → S.left source.old ≡ Some all →
+        (W.left wire.old) (W.left wire.new) (W.held wire.old) (W.held wire.new)
+        (Rose (W.read_faults wire.old) (W.read_faults wire.new))
+        (Rose (W.write_faults wire.old) (W.write_faults wire.new)) result }
+    ensures due { (all : List ℕ) → W.left wire.old ≡ Some all →
         EndsAsDue F.framing place (AnswersFrom V.answers service.old) all
-        (S.left source.old) (S.left source.new) (K.held sink.old) (K.held sink.new)
-        (Rose (S.faults source.old) (S.faults source.new))
-        (Rose (K.faults sink.old) (K.faults sink.new)) result }
-    ensures source_count { S.faults source.old ≤ S.faults source.new }
-    ensures sink_count { K.faults sink.old ≤ K.faults sink.new }
+        (W.left wire.old) (W.left wire.new) (W.held wire.old) (W.held wire.new)
+        (Rose (W.read_faults wire.old) (W.read_faults wire.new))
+        (Rose (W.write_faults wire.old) (W.write_faults wire.new)) result }
+    ensures becomes { W.becomes wire.old wire.new }
+    ensures source_count { W.read_faults wire.old ≤ W.read_faults wire.new }
+    ensures sink_count { W.write_faults wire.old ≤ W.write_faults wire.new }
 {
     let mut piece = [0u8; PIECE];
-    serve_frames(alloc, source, sink, place, service, &mut piece)
+    serve_peer(alloc, wire, place, service, &mut piece)
 }

@@ -3,6 +3,8 @@
 ghost use Rattle.std.specs.Prelude.{◌≡◌, ◌⊎◌, ◌≤◌, ℕ, List, Some, map, string_bytes};
 ghost use Rattle.std.specs.Io.KnownBytes.{Appends};
 ghost use Rattle.pm_io.specs.Causes.{Rose};
+ghost use Rattle.pm_io.specs.Peers.{MayWriteAll};
+ghost use Rattle.pm_live.specs.Asks.{AsksNode};
 ghost use Rattle.pm_live.specs.LiveNodes.{IsNamed, MayBe};
 ghost use Rattle.pm_live.specs.Serving.{node_usage_line, WrotePartOfUsage, ServesNode, EndsNodeAsDue};
 ghost use Rattle.pm_wire.specs.declared.stream.Served.{Served};
@@ -11,7 +13,7 @@ use crate::ending::Ending;
 use crate::named::{LiveNode, named_node};
 use crate::serving::serve_from_start;
 use pm_frames::{NodePlace, Stage};
-use pm_io::{Sink, Source, write_all};
+use pm_io::{Peer, Sink, Source, Wire, tell_all};
 use pm_services::{DeviceService, RelayService, RootService};
 use pm_wire::Served;
 use std::alloc::Global;
@@ -20,37 +22,38 @@ const USAGE_LINE: &str =
     "usage: live relay CHILD FLOOR CEILING | live auctioneer | live device CHILD\n";
 
 /// Writes the usage line.
-fn tell_usage<K: Sink>(sink: &mut K) -> Ending
+fn tell_usage<W: Peer>(wire: &mut W) -> Ending
+    requires next { MayWriteAll W.left W.held W.becomes W.may_write wire.old node_usage_line }
     ensures either { (result ≡ Ending.Usage) ⊎ (result ≡ Ending.UsageCutShort) }
     ensures written { result ≡ Ending.Usage
-        → Appends (K.held sink.old) (K.held sink.new) node_usage_line }
-    ensures cut_short { result ≡ Ending.UsageCutShort → Rose (K.faults sink.old) (K.faults sink.new)
-        × WrotePartOfUsage (K.held sink.old) (K.held sink.new) }
-    ensures count { K.faults sink.old ≤ K.faults sink.new }
+        → Appends (W.held wire.old) (W.held wire.new) node_usage_line }
+    ensures cut_short { result ≡ Ending.UsageCutShort → Rose (W.write_faults wire.old) (W.write_faults wire.new)
+        × WrotePartOfUsage (W.held wire.old) (W.held wire.new) }
+    ensures left { W.left wire.new ≡ W.left wire.old }
+    ensures read_faults { W.read_faults wire.new ≡ W.read_faults wire.old }
+    ensures becomes { W.becomes wire.old wire.new }
+    ensures count { W.write_faults wire.old ≤ W.write_faults wire.new }
 {
-    match write_all(sink, USAGE_LINE.as_bytes()) {
+    match tell_all(wire, USAGE_LINE.as_bytes()) {
         Ok(()) => Ending::Usage,
         Err(_) => Ending::UsageCutShort,
     }
 }
 
 /// Serves a node that there may be.
-fn serve_named<S: Source, K: Sink>(
-    alloc: Global,
-    node: LiveNode,
-    source: &mut S,
-    sink: &mut K,
-) -> Served
-    requires { MayBe node }
-    ensures serves { ServesNode node (S.left source.old) (S.left source.new) (K.held sink.old)
-        (K.held sink.new) (Rose (S.faults source.old) (S.faults source.new))
-        (Rose (K.faults sink.old) (K.faults sink.new)) result }
-    ensures due { (all : List ℕ) → S.left source.old ≡ Some all →
-        EndsNodeAsDue node all (S.left source.old) (S.left source.new) (K.held sink.old)
-        (K.held sink.new) (Rose (S.faults source.old) (S.faults source.new))
-        (Rose (K.faults sink.old) (K.faults sink.new)) result }
-    ensures source_count { S.faults source.old ≤ S.faults source.new }
-    ensures sink_count { K.faults sink.old ≤ K.faults sink.new }
+fn serve_named<W: Peer>(alloc: Global, node: LiveNode, wire: &mut W) -> Served
+    requires node { MayBe node }
+    requires asks { AsksNode W.left W.held W.becomes W.may_read W.may_write node wire.old }
+    ensures serves { ServesNode node (W.left wire.old) (W.left wire.new) (W.held wire.old)
+        (W.held wire.new) (Rose (W.read_faults wire.old) (W.read_faults wire.new))
+        (Rose (W.write_faults wire.old) (W.write_faults wire.new)) result }
+    ensures due { (all : List ℕ) → W.left wire.old ≡ Some all →
+        EndsNodeAsDue node all (W.left wire.old) (W.left wire.new) (W.held wire.old)
+        (W.held wire.new) (Rose (W.read_faults wire.old) (W.read_faults wire.new))
+        (Rose (W.write_faults wire.old) (W.write_faults wire.new)) result }
+    ensures becomes { W.becomes wire.old wire.new }
+    ensures source_count { W.read_faults wire.old ≤ W.read_faults wire.new }
+    ensures sink_count { W.write_faults wire.old ≤ W.write_faults wire.new }
 {
     match node {
         LiveNode::Relay { child, limits } => {
@@ -59,11 +62,11 @@ fn serve_named<S: Source, K: Sink>(
                 stage: Stage::Start,
             };
             let mut relay = RelayService::new(alloc, child, limits);
-            serve_from_start(alloc, source, sink, place, &mut relay)
+            serve_from_start(alloc, wire, place, &mut relay)
         }
         LiveNode::Auctioneer => {
             let mut root = RootService::new(alloc);
-            serve_from_start(alloc, source, sink, Stage::Start, &mut root)
+            serve_from_start(alloc, wire, Stage::Start, &mut root)
         }
         LiveNode::Device { child } => {
             let place = NodePlace {
@@ -71,8 +74,57 @@ fn serve_named<S: Source, K: Sink>(
                 stage: Stage::Start,
             };
             let mut device = DeviceService::new(alloc, child);
-            serve_from_start(alloc, source, sink, place, &mut device)
+            serve_from_start(alloc, wire, place, &mut device)
         }
+    }
+}
+
+/// Serves the node that the arguments name to a peer, and tells how it ended.
+///
+/// A relay reads the frames of its children and of its parent, and writes its own bids and the prices down. An auctioneer reads its
+/// children's bids, and writes the prices of each clearing. A device's agent reads the offers of the device's control and its parent's
+/// prices, and writes bids and setpoints. Each reads what it comes back with directly after Hello, and writes what it is to come back
+/// with. The answers to a piece of the stream are written before the next piece is read. All other arguments name no node, and the usage
+/// line is appended.
+pub fn live_peer<W: Peer>(alloc: Global, arguments: &[String], wire: &mut W) -> Ending
+    // At each moment, whether the call returns or not: at each read all whole frames of the bytes taken were answered, and at
+    // each write what was written, with what is written now, is what is due for them. A peer may ask for what follows from that.
+    requires asks { (node : LiveNode) → IsNamed (map string_bytes arguments.now) node →
+        AsksNode W.left W.held W.becomes W.may_read W.may_write node wire.old }
+    requires asks_usage { ((node : LiveNode) → ¬ IsNamed (map string_bytes arguments.now) node) →
+        MayWriteAll W.left W.held W.becomes W.may_write wire.old node_usage_line }
+
+    // The frames that the source had are answered as the service of the node answers them, by how it ends.
+    ensures serves { (node : LiveNode) → IsNamed (map string_bytes arguments.now) node →
+        (served : Served) × (result ≡ Ending.Served served)
+        × ServesNode node (W.left wire.old) (W.left wire.new) (W.held wire.old)
+        (W.held wire.new) (Rose (W.read_faults wire.old) (W.read_faults wire.new))
+        (Rose (W.write_faults wire.old) (W.write_faults wire.new)) served }
+
+    // Where the source tells what it has, that says how it ends.
+    ensures due { (node : LiveNode) (all : List ℕ) →
+        IsNamed (map string_bytes arguments.now) node → W.left wire.old ≡ Some all →
+        (served : Served) × (result ≡ Ending.Served served)
+        × EndsNodeAsDue node all (W.left wire.old) (W.left wire.new) (W.held wire.old)
+        (W.held wire.new) (Rose (W.read_faults wire.old) (W.read_faults wire.new))
+        (Rose (W.write_faults wire.old) (W.write_faults wire.new)) served }
+
+    // Arguments that name no node are told how to name one, and nothing is read.
+    ensures usage { ((node : LiveNode) → ¬ IsNamed (map string_bytes arguments.now) node) →
+        (result ≡ Ending.Usage) ⊎ (result ≡ Ending.UsageCutShort) }
+    ensures written { result ≡ Ending.Usage
+        → Appends (W.held wire.old) (W.held wire.new) node_usage_line }
+    ensures cut_short { result ≡ Ending.UsageCutShort → Rose (W.write_faults wire.old) (W.write_faults wire.new)
+        × WrotePartOfUsage (W.held wire.old) (W.held wire.new) }
+    ensures reads_nothing { ((node : LiveNode) → ¬ IsNamed (map string_bytes arguments.now) node) →
+        (W.left wire.new ≡ W.left wire.old) × (W.read_faults wire.new ≡ W.read_faults wire.old) }
+    ensures becomes { W.becomes wire.old wire.new }
+    ensures source_count { W.read_faults wire.old ≤ W.read_faults wire.new }
+    ensures sink_count { W.write_faults wire.old ≤ W.write_faults wire.new }
+{
+    match named_node(arguments) {
+        Some(node) => Ending::Served(serve_named(alloc, node, wire)),
+        None => tell_usage(wire),
     }
 }
 
@@ -112,12 +164,10 @@ pub fn live<S: Source, K: Sink>(
     ensures cut_short { result ≡ Ending.UsageCutShort → Rose (K.faults sink.old) (K.faults sink.new)
         × WrotePartOfUsage (K.held sink.old) (K.held sink.new) }
     ensures reads_nothing { ((node : LiveNode) → ¬ IsNamed (map string_bytes arguments.now) node) →
-        source.new ≡ source.old }
+        (S.left source.new ≡ S.left source.old) × (S.faults source.new ≡ S.faults source.old) }
     ensures source_count { S.faults source.old ≤ S.faults source.new }
     ensures sink_count { K.faults sink.old ≤ K.faults sink.new }
 {
-    match named_node(arguments) {
-        Some(node) => Ending::Served(serve_named(alloc, node, source, sink)),
-        None => tell_usage(sink),
-    }
+    let mut wire = Wire { source, sink };
+    live_peer(alloc, arguments, &mut wire)
 }

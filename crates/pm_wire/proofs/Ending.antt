@@ -7,6 +7,8 @@ use Rattle.std.proofs.KnownBytes.{Appends-trans, Consumes-trans}
 use Rattle.std.proofs.Math.Seq.{take-append-add}
 use Rattle.std.proofs.lemmas.List.{append-nil, nil_from_length}
 use Rattle.pm_io.specs.Causes.{Rose}
+use Rattle.pm_io.specs.Peers.{MayWriteAll}
+use Rattle.pm_wire.specs.Moments.{HasAnswered, IsRestDue, AsksWhatIsDue}
 use Rattle.pm_wire.specs.declared.stream.Served.{Served}
 use Rattle.pm_wire.specs.declared.stream.Served.TheVariants.{Refused, WriteFault, NoMemory}
 use Rattle.pm_wire.specs.Framing.{Framing, stream_bytes, BeginsWith, HasFrames, IsUnfinished, BeginsBadly}
@@ -33,6 +35,20 @@ cut_short framing start Answer old new held holds held' input begun text due n c
       appends = subst Q (sym (take-append-add begun text n)
           ∙ ap (take (length begun + n)) (sym is)) (Appends-trans held holds held' begun (take n text) before appends);
     }
+
+-- the rest of what is due behind what was written before
+rest_due : {P F : Type 0} (framing : Framing P F) (start : P) (Answer : List F → List ℕ → Type 0) (old new held holds held' : Option (List ℕ))
+    (input begun text due sent rest : List ℕ) → Consumes old new input → Appends held holds begun → IsReplyDue framing start Answer new input due →
+    due ≡ begun ++ text → text ≡ sent ++ rest → Appends holds held' sent → IsRestDue framing start Answer old new held held' rest
+rest_due framing start Answer old new held holds held' input begun text due sent rest consumes before is_due is split appends = record {
+  input = input;
+  due = due;
+  sent = begun ++ sent;
+  consumes = consumes;
+  is_due = is_due;
+  appends = Appends-trans held holds held' begun sent before appends;
+  spelled = is ∙ ap (λ l. begun ++ l) split ∙ sym (append_assoc begun sent rest);
+}
 
 -- what is due where there is a fault behind the answers to these frames
 record FaultDue {P F : Type 0} (framing : Framing P F) (start : P) (Answer : List F → List ℕ → Type 0) (new : Option (List ℕ))
@@ -89,6 +105,17 @@ module _ {P F S : Type 0} (framing : Framing P F) (start : P) (Answers : S → F
             ∙ ap (λ k. serving.reply ++ (found.some.reply ++ fault_bytes k)) (sym (found.offset ∙ follows.offset))
             ∙ ap (λ l. serving.reply ++ (l ++ fault_bytes at)) (sym same);
       }
+
+  -- what may be written of a piece with a bad frame
+  pub bad_next : (old mid new held holds held' : Option (List ℕ)) (a b : Decoding P) (m n : S) (count at : ℕ)
+      (piece out longer sent rest : List ℕ) → Serving framing start Answers first old mid held holds a m count → Consumes mid new piece → out ≡ [] →
+      TakesUpToBad framing Answers (with_piece a piece) b m n out longer at → longer ++ fault_bytes at ≡ sent ++ rest → Appends holds held' sent →
+      IsRestDue framing start (AnswersFrom Answers first) old new held held' rest
+  bad_next old mid new held holds held' a b m n count at piece out longer sent rest serving consumes empty found split appends =
+      let due = bad_due old mid new held holds a b m n count at piece out longer serving empty found in
+      rest_due framing start (AnswersFrom Answers first) old new held holds held' (serving.input ++ piece) serving.reply (longer ++ fault_bytes at)
+      due.due sent rest (Consumes-trans old mid new serving.input piece serving.consumes consumes) serving.appends
+      (refused due.frames due.due due.fault due.answers) due.spelled split appends
 
   -- a piece with a bad frame whose answers and fault are all written ends the service as refused
   pub bad_refused : (old mid new held holds held' : Option (List ℕ)) (a b : Decoding P) (m n : S) (count at : ℕ) (piece out longer : List ℕ) →
@@ -156,6 +183,23 @@ module _ {P F S : Type 0} (framing : Framing P F) (start : P) (Answers : S → F
       cut_short framing start (AnswersFrom Answers first) old new held holds held' (serving.input ++ piece) serving.reply longer
       (serving.reply ++ found.some.reply) written (Consumes-trans old mid new serving.input piece serving.consumes consumes) serving.appends
       (answered frames (serving.reply ++ found.some.reply) has (n, follows.runs)) (ap (λ l. serving.reply ++ l) (sym same)) proper appends
+
+  -- what may be written of a piece without a bad frame
+  pub piece_next : (old mid new held holds held' : Option (List ℕ)) (a b : Decoding P) (m n : S) (count : ℕ)
+      (piece out longer sent rest : List ℕ) → Serving framing start Answers first old mid held holds a m count → Consumes mid new piece → out ≡ [] →
+      TakesWhole framing Answers (with_piece a piece) b m n out longer → longer ≡ sent ++ rest → Appends holds held' sent →
+      IsRestDue framing start (AnswersFrom Answers first) old new held held' rest
+  piece_next old mid new held holds held' a b m n count piece out longer sent rest serving consumes empty found split appends =
+      let follows = follows_more framing Answers start first serving.input piece serving.frames found.some.frames a b m n serving.reply found.some.reply
+      serving.follows found.some.takes in
+      let frames = serving.frames ++ found.some.frames in
+      let Q : P → Type 0 = λ place. IsUnfinished framing place b.rest in
+      let has : HasFrames framing start (serving.input ++ piece) frames =
+      record { rest = b.rest; begins = follows.begins; unfinished = subst Q follows.place found.unfinished } in
+      let same : longer ≡ found.some.reply = found.some.appended ∙ ap (λ l. l ++ found.some.reply) empty in
+      rest_due framing start (AnswersFrom Answers first) old new held holds held' (serving.input ++ piece) serving.reply longer
+      (serving.reply ++ found.some.reply) sent rest (Consumes-trans old mid new serving.input piece serving.consumes consumes) serving.appends
+      (answered frames (serving.reply ++ found.some.reply) has (n, follows.runs)) (ap (λ l. serving.reply ++ l) (sym same)) split appends
 
   -- with a piece without a bad frame, and all its answers written, the service goes on, its bytes counted
   pub serving_more : (old mid new held holds held' : Option (List ℕ)) (a b : Decoding P) (m n : S) (count more : ℕ) (piece out longer : List ℕ) →
@@ -260,6 +304,24 @@ module _ {P F S : Type 0} (framing : Framing P F) (start : P) (Answers : S → F
     long = omega (arith, serving.counted, long);
   }
 
+  -- what may be written where the input ends within a frame
+  pub end_next : (old mid new held holds held' : Option (List ℕ)) (a : Decoding P) (m : S) (count left : ℕ) (out sent rest : List ℕ) →
+      Serving framing start Answers first old mid held holds a m count → Consumes mid new [] → IsAtEnd new → count ≤ stream_limit →
+      left ≡ length a.rest → 0 < left → out ≡ [] → out ++ fault_bytes (count - left) ≡ sent ++ rest → Appends holds held' sent →
+      IsRestDue framing start (AnswersFrom Answers first) old new held held' rest
+  end_next old mid new held holds held' a m count left out sent rest serving consumes at_end short is some empty split appends =
+      let due = end_due old mid new held holds a m count left out serving at_end short is some empty in
+      rest_due framing start (AnswersFrom Answers first) old new held holds held' serving.input serving.reply _ due.due sent rest
+      (no_more old mid new serving.input serving.consumes consumes) serving.appends (refused due.frames due.due due.fault due.answers)
+      due.spelled split appends
+
+  -- when more is read, all that is due was written
+  pub answered_all : (old new held holds : Option (List ℕ)) (a : Decoding P) (m : S) (count : ℕ) →
+      Serving framing start Answers first old new held holds a m count → count ≤ stream_limit →
+      HasAnswered framing start (AnswersFrom Answers first) old new held holds
+  answered_all old new held holds a m count serving short =
+      (serving.input, answered_so old new held holds a m count serving, omega (arith, serving.counted, short))
+
   -- an input within the limit that ends within a frame, and whose fault is written, ends as refused
   pub end_refused : (old mid new held holds held' : Option (List ℕ)) (a : Decoding P) (m : S) (count left : ℕ) (out : List ℕ) →
       Serving framing start Answers first old mid held holds a m count → Consumes mid new [] → IsAtEnd new → count ≤ stream_limit →
@@ -291,6 +353,42 @@ module _ {P F S : Type 0} (framing : Framing P F) (start : P) (Answers : S → F
 
 -- ---- what the calls of a service answer
 
+-- a read leaves what the peer got
+pub serving_held : {P F S : Type 0} (framing : Framing P F) (start : P) (Answers : S → F → S → List ℕ → Type 0) (first : S)
+    (old mid held holds holds' : Option (List ℕ)) (a : Decoding P) (m : S) (count : ℕ) → holds' ≡ holds →
+    Serving framing start Answers first old mid held holds a m count → Serving framing start Answers first old mid held holds' a m count
+serving_held framing start Answers first old mid held holds holds' a m count same serving =
+    let Q : Option (List ℕ) → Type 0 = λ o. Serving framing start Answers first old mid held o a m count in
+    subst Q (sym same) serving
+
+-- a write leaves what the peer has to give
+pub serving_left : {P F S : Type 0} (framing : Framing P F) (start : P) (Answers : S → F → S → List ℕ → Type 0) (first : S)
+    (old mid mid' held holds : Option (List ℕ)) (a : Decoding P) (m : S) (count : ℕ) → mid' ≡ mid →
+    Serving framing start Answers first old mid held holds a m count → Serving framing start Answers first old mid' held holds a m count
+serving_left framing start Answers first old mid mid' held holds a m count same serving =
+    let Q : Option (List ℕ) → Type 0 = λ o. Serving framing start Answers first old o held holds a m count in
+    subst Q (sym same) serving
+
+-- so it ends as before the last write
+pub ends_at : {P F : Type 0} (framing : Framing P F) (start : P) (Answer : List F → List ℕ → Type 0) (old new new' held holds : Option (List ℕ))
+    (r k : Type 0) (result : Served) → new' ≡ new → EndsSo framing start Answer old new held holds r k result →
+    EndsSo framing start Answer old new' held holds r k result
+ends_at framing start Answer old new new' held holds r k result same ends =
+    let Q : Option (List ℕ) → Type 0 = λ o. EndsSo framing start Answer old o held holds r k result in
+    subst Q (sym same) ends
+
+-- where each rest of the text is due, the text may be written
+pub may_write_all : {W P F : Type 0} (left held : W → Option (List ℕ)) (becomes : W → W → Type 0) (may_read : W → Type 0)
+    (may_write : W → List ℕ → Type 0) (framing : Framing P F) (start : P) (Answer : List F → List ℕ → Type 0) (old at : W) (text : List ℕ) →
+    ((a b c : W) → becomes a b → becomes b c → becomes a c) →
+    AsksWhatIsDue left held becomes may_read may_write framing start Answer old → becomes old at →
+    ((holds : Option (List ℕ)) (sent rest : List ℕ) → text ≡ sent ++ rest → Appends (held at) holds sent →
+        IsRestDue framing start Answer (left old) (left at) (held old) holds rest) →
+    MayWriteAll left held becomes may_write at text
+may_write_all left held becomes may_read may_write framing start Answer old at text goes_on asks so due = λ now sent rest split later same appends.
+    let Q : Option (List ℕ) → Type 0 = λ o. IsRestDue framing start Answer (left old) o (held old) (held now) rest in
+    asks.write now rest (goes_on old at now so later) (subst Q (sym same) (due (held now) sent rest split appends))
+
 -- a read of no bytes
 pub none_read : (mid new : Option (List ℕ)) (buf : List ℕ) (count : ℕ) → count ≡ 0 → Consumes mid new (take count buf) → Consumes mid new []
 none_read mid new buf count none consumes = let Q : ℕ → Type 0 = λ n. Consumes mid new (take n buf) in subst Q none consumes
@@ -314,6 +412,17 @@ not_failed A (Err e) is a = absurd (cc is)
 pub told_text : (holds held' : Option (List ℕ)) (reply : List ℕ) (told at : ℕ) → told ≡ at →
     Appends holds held' (reply ++ fault_bytes told) → Appends holds held' (reply ++ fault_bytes at)
 told_text holds held' reply told at is appends = let Q : ℕ → Type 0 = λ n. Appends holds held' (reply ++ fault_bytes n) in subst Q is appends
+
+-- so it is cut short as before the last write
+pub cut_at : {P F : Type 0} (framing : Framing P F) (start : P) (Answer : List F → List ℕ → Type 0) (old new new' held holds : Option (List ℕ)) →
+    new' ≡ new → IsCutShort framing start Answer old new held holds → IsCutShort framing start Answer old new' held holds
+cut_at framing start Answer old new new' held holds same cut =
+    let Q : Option (List ℕ) → Type 0 = λ o. IsCutShort framing start Answer old o held holds in
+    subst Q (sym same) cut
+
+-- what is left of answers and the fault told is left of answers and the fault at the equal offset
+pub told_due : (reply text : List ℕ) (told at : ℕ) → told ≡ at → reply ++ fault_bytes told ≡ text → reply ++ fault_bytes at ≡ text
+told_due reply text told at is split = let Q : ℕ → Type 0 = λ n. reply ++ fault_bytes n ≡ text in subst Q is split
 
 -- a written prefix of answers and the fault told is one of answers and the fault at the equal offset
 pub told_prefix : (holds held' : Option (List ℕ)) (reply : List ℕ) (told at n : ℕ) → told ≡ at →

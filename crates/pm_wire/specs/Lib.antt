@@ -12,3 +12,4 @@ pub mod Streams
 pub mod Memory
 pub mod Calls
 pub mod Newest
+pub mod Moments

@@ -7,8 +7,9 @@ ghost use Rattle.pm_wire.specs.declared.frame.Frame.{Frame};
 ghost use Rattle.pm_wire.specs.Frames.{AreFrames, HasBadFrame, EndsWithin};
 ghost use Rattle.pm_wire.specs.Streams.{stream_limit, IsDone, IsRefused, IsLongStream, IsCutShort, IsBegun, FailsReading, TellsFault};
 
+use crate::pair::serve_frames;
 use crate::server::Server;
-use crate::stream::{Served, serve_frames};
+use crate::stream::Served;
 use pm_io::{Sink, Source};
 use std::alloc::Global;
 

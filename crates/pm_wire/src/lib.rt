@@ -29,6 +29,7 @@ mod frames;
 mod framing;
 mod laws;
 mod market;
+mod pair;
 mod reading;
 mod server;
 mod service;
@@ -48,4 +49,5 @@ pub use laws::{
 pub use market::write_prices;
 pub use server::Server;
 pub use service::Service;
-pub use stream::{STREAM_LIMIT, Served, serve_frames};
+pub use pair::serve_frames;
+pub use stream::{STREAM_LIMIT, Served, serve_peer};

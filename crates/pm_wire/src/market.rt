@@ -114,6 +114,7 @@ impl OpenMarket {
         ensures answered { OnOk result (out.new.items ≡ out.old.items
             ++ reply_bytes (receipt self.old child number)) }
         ensures unchanged { OnErr result ((self.new ≡ self.old) × (out.new.items ≡ out.old.items)) }
+        ensures full { OnErr result (vec_capacity out.old < vec_len out.old + reply_limit) }
         ensures sound { IsMarket self.new }
     {
         let entry = usize::from(child) - 1;
@@ -132,6 +133,7 @@ impl OpenMarket {
         ensures answered { OnOk result (out.new.items ≡ out.old.items
             ++ reply_bytes (answers_to (Some self.old) Frame.Clear)) }
         ensures unchanged { OnErr result ((self.new ≡ self.old) × (out.new.items ≡ out.old.items)) }
+        ensures full { OnErr result (vec_capacity out.old < vec_len out.old + reply_limit) }
         ensures sound { IsMarket self.new }
     {
         // The room for the prices comes first, so that want of memory makes no clearing.
@@ -154,6 +156,7 @@ impl OpenMarket {
         ensures answered { OnOk result (out.new.items ≡ out.old.items
             ++ reply_bytes (answers_to (Some self.old) frame.now)) }
         ensures unchanged { OnErr result ((self.new ≡ self.old) × (out.new.items ≡ out.old.items)) }
+        ensures full { OnErr result (vec_capacity out.old < vec_len out.old + reply_limit) }
         ensures sound { IsMarket self.new }
         ensures few { OnOk result (length out.new.items ≤ length out.old.items + reply_limit) }
     {

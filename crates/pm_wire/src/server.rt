@@ -1,6 +1,6 @@
 //! The auctioneer over a list of frames.
 
-ghost use Rattle.std.specs.Prelude.{◌≡◌, ◌+◌, ◌<◌, ◌≤◌, ◌++◌, ◌^◌, length, IfSome, OnOk, OnErr, None};
+ghost use Rattle.std.specs.Prelude.{◌≡◌, ◌+◌, ◌<◌, ◌≤◌, ◌++◌, ◌^◌, ◌⊎◌, length, vec_len, vec_capacity, IfSome, OnOk, OnErr, None};
 ghost use Rattle.pm_base.specs.Limits.{most_nodes};
 ghost use Rattle.pm_wire.specs.Frames.{MayStand};
 ghost use Rattle.pm_wire.specs.Answers.{market_after, answers_to, reply_bytes, place_known, AnswersFrame, IsAtStart};
@@ -55,6 +55,10 @@ impl Server {
             ++ reply_bytes (answers_to self.old frame.now)) }
         ensures unchanged { OnErr result (self.new ≡ self.old) }
         ensures nothing_appended { OnErr result (out.new.items ≡ out.old.items) }
+
+        // Behind Hello it takes no memory where there is room for the answers, so none is refused.
+        ensures full { OnErr result
+            ((self.old ≡ None) ⊎ (vec_capacity out.old < vec_len out.old + reply_limit)) }
 
         // What is in memory: the answers to a frame are few bytes, and the market has an entry for each child.
         ensures few { length out.new.items ≤ length out.old.items + reply_limit }

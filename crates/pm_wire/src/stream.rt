@@ -3,6 +3,7 @@
 ghost use Rattle.std.specs.Prelude.{◌≡◌, ◌⊎◌, Some, ◌<◌, ◌≤◌, ◌++◌, ℕ, List, [], length, take, OnOk, IfErr};
 ghost use Rattle.std.specs.Io.KnownBytes.{Appends};
 ghost use Rattle.pm_io.specs.Causes.{Rose};
+ghost use Rattle.pm_io.specs.Peers.{MayWriteAll};
 ghost use Rattle.pm_io.specs.Taken.{taken_bytes};
 ghost use Rattle.pm_wire.specs.Decoding.{nothing_fed_at};
 ghost use Rattle.pm_wire.specs.Framing.{AreFrames, HasBadFrame, EndsWithin};
@@ -10,6 +11,7 @@ ghost use Rattle.pm_wire.specs.Memory.{piece_limit};
 ghost use Rattle.pm_wire.specs.Taking.{AnswersFrom};
 ghost use Rattle.pm_wire.specs.Services.{stream_limit, fault_bytes, IsDone, IsRefused, IsLongStream, IsCutShort, IsBegun, FailsReading, EndsSo};
 ghost use Rattle.pm_wire.specs.Services.{TellsFault};
+ghost use Rattle.pm_wire.specs.Moments.{AsksWhatIsDue};
 
 use crate::answer::Reply;
 use crate::decoder::FrameDecoder;
@@ -17,7 +19,7 @@ use crate::fault::DecodeFault;
 use crate::frames::take_piece;
 use crate::framing::StreamFrame;
 use crate::service::Service;
-use pm_io::{Sink, Source, WriteFault, write_all};
+use pm_io::{Peer, WriteFault, tell_all};
 use std::alloc::Global;
 
 /// The most bytes of a stream.
@@ -41,47 +43,55 @@ pub enum Served {
 }
 
 /// Writes the answers that were appended so far, and lets them go.
-fn flush<K: Sink>(sink: &mut K, out: &mut Vec<u8>) -> Result<(), WriteFault>
-    ensures all { OnOk result (Appends (K.held sink.old) (K.held sink.new) out.old.items) }
+fn flush<W: Peer>(wire: &mut W, out: &mut Vec<u8>) -> Result<(), WriteFault>
+    requires next { MayWriteAll W.left W.held W.becomes W.may_write wire.old out.old.items }
+    ensures all { OnOk result (Appends (W.held wire.old) (W.held wire.new) out.old.items) }
     ensures empty { OnOk result (out.new.items ≡ []) }
     ensures prefix { IfErr result (λ fault.
-        Appends (K.held sink.old) (K.held sink.new) (take fault.written out.old.items)) }
+        Appends (W.held wire.old) (W.held wire.new) (take fault.written out.old.items)) }
     ensures proper { IfErr result (λ fault. fault.written < length out.old.items) }
-    ensures count { K.faults sink.old ≤ K.faults sink.new }
-    ensures cause { IfErr result (λ fault. Rose (K.faults sink.old) (K.faults sink.new)) }
+    ensures left { W.left wire.new ≡ W.left wire.old }
+    ensures becomes { W.becomes wire.old wire.new }
+    ensures read_faults { W.read_faults wire.new ≡ W.read_faults wire.old }
+    ensures count { W.write_faults wire.old ≤ W.write_faults wire.new }
+    ensures cause { IfErr result (λ fault. Rose (W.write_faults wire.old) (W.write_faults wire.new)) }
 {
-    write_all(sink, out)?;
+    tell_all(wire, out)?;
     out.clear();
     Ok(())
 }
 
 /// Appends the fault of the frame at this offset to the answers, and writes them.
-fn refuse<K: Sink>(sink: &mut K, out: &mut Vec<u8>, offset: u64) -> Served
+fn refuse<W: Peer>(wire: &mut W, out: &mut Vec<u8>, offset: u64) -> Served
+    requires next { MayWriteAll W.left W.held W.becomes W.may_write wire.old
+        (out.old.items ++ fault_bytes offset) }
     ensures either { (result ≡ Served.Refused) ⊎ (result ≡ Served.WriteFault)
         ⊎ (result ≡ Served.NoMemory) }
     ensures refused { result ≡ Served.Refused
-        → Appends (K.held sink.old) (K.held sink.new)
+        → Appends (W.held wire.old) (W.held wire.new)
         (out.old.items ++ fault_bytes offset) }
-    ensures write_fault { result ≡ Served.WriteFault → Rose (K.faults sink.old) (K.faults sink.new)
+    ensures write_fault { result ≡ Served.WriteFault → Rose (W.write_faults wire.old) (W.write_faults wire.new)
         × ((written : ℕ) × (written < length (out.old.items ++ fault_bytes offset))
-        × Appends (K.held sink.old) (K.held sink.new)
+        × Appends (W.held wire.old) (W.held wire.new)
         (take written (out.old.items ++ fault_bytes offset))) }
-    ensures no_memory { result ≡ Served.NoMemory → sink.new ≡ sink.old }
-    ensures count { K.faults sink.old ≤ K.faults sink.new }
+    ensures no_memory { result ≡ Served.NoMemory → wire.new ≡ wire.old }
+    ensures left { W.left wire.new ≡ W.left wire.old }
+    ensures becomes { W.becomes wire.old wire.new }
+    ensures read_faults { W.read_faults wire.new ≡ W.read_faults wire.old }
+    ensures count { W.write_faults wire.old ≤ W.write_faults wire.new }
 {
     if (Reply::Fault { offset }).write(out).is_err() {
         return Served::NoMemory;
     }
-    match flush(sink, out) {
+    match flush(wire, out) {
         Ok(()) => Served::Refused,
         Err(_) => Served::WriteFault,
     }
 }
 
 /// Serves the stream by a decoder and a service that took nothing, and tells how it ended.
-fn run<F: StreamFrame, V: Service<F>, S: Source, K: Sink>(
-    source: &mut S,
-    sink: &mut K,
+fn run<F: StreamFrame, V: Service<F>, W: Peer>(
+    wire: &mut W,
     decoder: &mut FrameDecoder<F>,
     service: &mut V,
     piece: &mut [u8],
@@ -93,34 +103,37 @@ fn run<F: StreamFrame, V: Service<F>, S: Source, K: Sink>(
     requires out { out.old.items ≡ [] }
     requires some { 1 ≤ length piece.old }
     requires few { length piece.old ≤ piece_limit }
+    requires asks { AsksWhatIsDue W.left W.held W.becomes W.may_read W.may_write F.framing decoder.old.place
+        (AnswersFrom V.answers service.old) wire.old }
     ensures ends { EndsSo F.framing decoder.old.place (AnswersFrom V.answers service.old)
-        (S.left source.old) (S.left source.new) (K.held sink.old) (K.held sink.new)
-        (Rose (S.faults source.old) (S.faults source.new))
-        (Rose (K.faults sink.old) (K.faults sink.new)) result }
-    ensures source_count { S.faults source.old ≤ S.faults source.new }
-    ensures sink_count { K.faults sink.old ≤ K.faults sink.new }
+        (W.left wire.old) (W.left wire.new) (W.held wire.old) (W.held wire.new)
+        (Rose (W.read_faults wire.old) (W.read_faults wire.new))
+        (Rose (W.write_faults wire.old) (W.write_faults wire.new)) result }
+    ensures becomes { W.becomes wire.old wire.new }
+    ensures source_count { W.read_faults wire.old ≤ W.read_faults wire.new }
+    ensures sink_count { W.write_faults wire.old ≤ W.write_faults wire.new }
 {
     F::is_framing();
     let mut taken = 0;
     while taken <= STREAM_LIMIT {
-        let count = match source.read(piece) {
+        let count = match wire.read(piece) {
             Ok(count) => count,
             Err(_) => return Served::ReadFault,
         };
         if count == 0 {
             let rest = decoder.rest();
             if rest > 0 {
-                return refuse(sink, out, (taken - rest) as u64);
+                return refuse(wire, out, (taken - rest) as u64);
             }
             return Served::Done;
         }
         taken += count;
         match take_piece(decoder, service, &piece[..count], out) {
             Ok(()) => {}
-            Err(DecodeFault::Bad { at }) => return refuse(sink, out, at),
+            Err(DecodeFault::Bad { at }) => return refuse(wire, out, at),
             Err(DecodeFault::NoMemory) => return Served::NoMemory,
         }
-        if flush(sink, out).is_err() {
+        if flush(wire, out).is_err() {
             return Served::WriteFault;
         }
     }
@@ -130,10 +143,9 @@ fn run<F: StreamFrame, V: Service<F>, S: Source, K: Sink>(
 /// Serves a stream of frames from a place on: takes one after the other, and appends the answers of the service to the sink. The
 /// answers to a piece of the stream are written before the next piece is read into `piece`, which has at most 65,536 bytes. The
 /// memory that is taken beside it is bounded by a piece, a frame and its answers, and not by the stream.
-pub fn serve_frames<F: StreamFrame, V: Service<F>, S: Source, K: Sink>(
+pub fn serve_peer<F: StreamFrame, V: Service<F>, W: Peer>(
     alloc: Global,
-    source: &mut S,
-    sink: &mut K,
+    wire: &mut W,
     place: F::Place,
     service: &mut V,
     piece: &mut [u8],
@@ -142,68 +154,74 @@ pub fn serve_frames<F: StreamFrame, V: Service<F>, S: Source, K: Sink>(
     requires service { V.begins place service.old }
     requires some { 1 ≤ length piece.old }
     requires few { length piece.old ≤ piece_limit }
+
+    // At each read all whole frames of the bytes taken were answered, and at each write what was written, with what is
+    // written now, is what is due for them: a peer that asks no more may come, and watch.
+    requires asks { AsksWhatIsDue W.left W.held W.becomes W.may_read W.may_write F.framing place
+        (AnswersFrom V.answers service.old) wire.old }
     ensures done { result ≡ Served.Done
         → IsDone F.framing place (AnswersFrom V.answers service.old)
-        (S.left source.old) (S.left source.new) (K.held sink.old) (K.held sink.new) }
+        (W.left wire.old) (W.left wire.new) (W.held wire.old) (W.held wire.new) }
     ensures refused { result ≡ Served.Refused
         → IsRefused F.framing place (AnswersFrom V.answers service.old)
-        (S.left source.old) (S.left source.new) (K.held sink.old) (K.held sink.new) }
+        (W.left wire.old) (W.left wire.new) (W.held wire.old) (W.held wire.new) }
     ensures too_long { result ≡ Served.TooLong
         → IsLongStream F.framing place (AnswersFrom V.answers service.old)
-        (S.left source.old) (S.left source.new) (K.held sink.old) (K.held sink.new) }
+        (W.left wire.old) (W.left wire.new) (W.held wire.old) (W.held wire.new) }
     ensures read_fault { result ≡ Served.ReadFault →
-        Rose (S.faults source.old) (S.faults source.new)
+        Rose (W.read_faults wire.old) (W.read_faults wire.new)
         × FailsReading F.framing place (AnswersFrom V.answers service.old)
-        (S.left source.old) (S.left source.new) (K.held sink.old) (K.held sink.new) }
-    ensures write_fault { result ≡ Served.WriteFault → Rose (K.faults sink.old) (K.faults sink.new)
+        (W.left wire.old) (W.left wire.new) (W.held wire.old) (W.held wire.new) }
+    ensures write_fault { result ≡ Served.WriteFault → Rose (W.write_faults wire.old) (W.write_faults wire.new)
         × IsCutShort F.framing place (AnswersFrom V.answers service.old)
-        (S.left source.old) (S.left source.new) (K.held sink.old) (K.held sink.new) }
+        (W.left wire.old) (W.left wire.new) (W.held wire.old) (W.held wire.new) }
     ensures no_memory { result ≡ Served.NoMemory
         → IsBegun F.framing place (AnswersFrom V.answers service.old)
-        (S.left source.old) (S.left source.new) (K.held sink.old) (K.held sink.new) }
+        (W.left wire.old) (W.left wire.new) (W.held wire.old) (W.held wire.new) }
 
     // Where the source tells what it has, the bytes taken say how it ends, but for a failed write or allocation: Refused
     // where a bad frame stands in them, and TooLong where they are too many and none does.
-    ensures bad_frame { (all : List ℕ) (offset : ℕ) → S.left source.old ≡ Some all
+    ensures bad_frame { (all : List ℕ) (offset : ℕ) → W.left wire.old ≡ Some all
         → HasBadFrame F.framing place
-        (taken_bytes (S.left source.old) (S.left source.new)) offset
+        (taken_bytes (W.left wire.old) (W.left wire.new)) offset
         → (result ≡ Served.Refused) ⊎ (result ≡ Served.WriteFault) ⊎ (result ≡ Served.NoMemory) }
-    ensures took_more { (all : List ℕ) → S.left source.old ≡ Some all
-        → stream_limit < length (taken_bytes (S.left source.old) (S.left source.new))
+    ensures took_more { (all : List ℕ) → W.left wire.old ≡ Some all
+        → stream_limit < length (taken_bytes (W.left wire.old) (W.left wire.new))
         → ((offset : ℕ) → ¬ HasBadFrame F.framing place
-        (taken_bytes (S.left source.old) (S.left source.new))
+        (taken_bytes (W.left wire.old) (W.left wire.new))
         offset)
         → (result ≡ Served.TooLong) ⊎ (result ≡ Served.WriteFault) ⊎ (result ≡ Served.NoMemory) }
 
     // An input within the limit is Done where it is a list of frames, and Refused where it has a bad frame or ends within
     // one, but for a failure.
-    ensures frames { (all : List ℕ) (frames : List F) → S.left source.old ≡ Some all →
+    ensures frames { (all : List ℕ) (frames : List F) → W.left wire.old ≡ Some all →
         length all ≤ stream_limit
         → AreFrames F.framing place all frames → (result ≡ Served.Done)
         ⊎ (result ≡ Served.ReadFault) ⊎ (result ≡ Served.WriteFault) ⊎ (result ≡ Served.NoMemory) }
-    ensures refusal { (all : List ℕ) (offset : ℕ) → S.left source.old ≡ Some all →
+    ensures refusal { (all : List ℕ) (offset : ℕ) → W.left wire.old ≡ Some all →
         length all ≤ stream_limit
         → HasBadFrame F.framing place all offset ⊎ EndsWithin F.framing place all offset
         → (result ≡ Served.Refused) ⊎ (result ≡ Served.ReadFault)
         ⊎ (result ≡ Served.WriteFault) ⊎ (result ≡ Served.NoMemory) }
 
     // An input within the limit, and no fault of either, end in one of these.
-    ensures complete { (all : List ℕ) → S.left source.old ≡ Some all → length all ≤ stream_limit
-        → ¬ Rose (S.faults source.old) (S.faults source.new) →
-        ¬ Rose (K.faults sink.old) (K.faults sink.new)
+    ensures complete { (all : List ℕ) → W.left wire.old ≡ Some all → length all ≤ stream_limit
+        → ¬ Rose (W.read_faults wire.old) (W.read_faults wire.new) →
+        ¬ Rose (W.write_faults wire.old) (W.write_faults wire.new)
         → (result ≡ Served.Done) ⊎ (result ≡ Served.Refused) ⊎ (result ≡ Served.NoMemory) }
-    ensures source_count { S.faults source.old ≤ S.faults source.new }
-    ensures sink_count { K.faults sink.old ≤ K.faults sink.new }
+    ensures becomes { W.becomes wire.old wire.new }
+    ensures source_count { W.read_faults wire.old ≤ W.read_faults wire.new }
+    ensures sink_count { W.write_faults wire.old ≤ W.write_faults wire.new }
 
     // The fault that is told on Refused has the offset of the bad frame, or of the one within which the input ends.
-    ensures fault { (all : List ℕ) (offset : ℕ) → S.left source.old ≡ Some all →
+    ensures fault { (all : List ℕ) (offset : ℕ) → W.left wire.old ≡ Some all →
         result ≡ Served.Refused
         → HasBadFrame F.framing place all offset ⊎ EndsWithin F.framing place all offset
-        → TellsFault F.framing place (AnswersFrom V.answers service.old) all (K.held sink.old)
-        (K.held sink.new) offset }
+        → TellsFault F.framing place (AnswersFrom V.answers service.old) all (W.held wire.old)
+        (W.held wire.new) offset }
 {
     F::is_framing();
     let mut decoder = FrameDecoder::at(alloc, place);
     let mut out = Vec::new(alloc);
-    run(source, sink, &mut decoder, service, piece, &mut out)
+    run(wire, &mut decoder, service, piece, &mut out)
 }

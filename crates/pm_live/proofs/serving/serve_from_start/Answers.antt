@@ -3,7 +3,7 @@ use Rattle.pm_live.proofs.serving.serve_from_start.Goals as goal
 
 pub returns-clause-due : goal.returns-clause-due
 returns-clause-due g c = λ all told.
-    let ends = c.serve_frames.ensures in
+    let ends = c.serve_peer.ensures in
     record {
       bad_frame = λ offset bad. ends.bad_frame all offset told bad;
       took_more = λ more none. ends.took_more all told more none;

@@ -6,14 +6,15 @@ use Rattle.pm_wire.proofs.stream.run.Given as goal
 
 abbrev pub invariant-loop-taken : goal.invariant-loop-taken
 invariant-loop-taken g l = record {
-  serving : Serving g.F.StreamFrame.framing l.initial.decoder.place g.V.Service.answers l.initial.service (g.S.Source.left l.initial.source)
-      (g.S.Source.left l.source) (g.K.Sink.held l.initial.sink) (g.K.Sink.held l.sink) l.decoder l.service l.taken;
+  serving : Serving g.F.StreamFrame.framing l.initial.decoder.place g.V.Service.answers l.initial.service (g.W.Peer.left l.initial.wire)
+      (g.W.Peer.left l.wire) (g.W.Peer.held l.initial.wire) (g.W.Peer.held l.wire) l.decoder l.service l.taken;
   within : l.taken ≤ stream_limit + piece_limit;
   empty : l.out.items ≡ [];
   rest : length l.decoder.rest < g.F.StreamFrame.framing.most_bytes;
   held : l.decoder.held < rest_limit g.F.StreamFrame.framing.most_bytes;
-  source_count : g.S.Source.faults l.initial.source ≤ g.S.Source.faults l.source;
-  sink_count : g.K.Sink.faults l.initial.sink ≤ g.K.Sink.faults l.sink;
+  becomes : g.W.Peer.becomes l.initial.wire l.wire;
+  source_count : g.W.Peer.read_faults l.initial.wire ≤ g.W.Peer.read_faults l.wire;
+  sink_count : g.W.Peer.write_faults l.initial.wire ≤ g.W.Peer.write_faults l.wire;
 }
 
 abbrev pub decreases-loop-taken : goal.decreases-loop-taken

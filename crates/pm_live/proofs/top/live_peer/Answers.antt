@@ -1,0 +1,25 @@
+-- Of `live_peer`: its clauses `serves` and `due`.
+use Rattle.std.proofs.Common.{◌≡◌, refl, subst}
+use Rattle.pm_io.specs.Causes.{Rose}
+use Rattle.pm_live.specs.Serving.{ServesNode, EndsNodeAsDue}
+use Rattle.pm_live.specs.declared.named.LiveNode.{LiveNode}
+use Rattle.pm_live.proofs.OneNode.{one_node}
+use Rattle.pm_live.proofs.top.live_peer.Goals as goal
+
+pub returns-in-Some-clause-serves : goal.returns-in-Some-clause-serves
+returns-in-Some-clause-serves g c = λ node named.
+    let same : c.in-Some.node ≡ node = one_node _ c.in-Some.node node c.in-Some.ensures.named named in
+    let P : LiveNode → Type 0 = λ it. ServesNode it (g.W.Peer.left c.args.wire.now) (g.W.Peer.left c.serve_named.new.wire)
+    (g.W.Peer.held c.args.wire.now) (g.W.Peer.held c.serve_named.new.wire)
+    (Rose (g.W.Peer.read_faults c.args.wire.now) (g.W.Peer.read_faults c.serve_named.new.wire))
+    (Rose (g.W.Peer.write_faults c.args.wire.now) (g.W.Peer.write_faults c.serve_named.new.wire)) c.serve_named.result in
+    (c.serve_named.result, refl, subst P same c.serve_named.ensures.serves)
+
+pub returns-in-Some-clause-due : goal.returns-in-Some-clause-due
+returns-in-Some-clause-due g c = λ node all named told.
+    let same : c.in-Some.node ≡ node = one_node _ c.in-Some.node node c.in-Some.ensures.named named in
+    let P : LiveNode → Type 0 = λ it. EndsNodeAsDue it all (g.W.Peer.left c.args.wire.now) (g.W.Peer.left c.serve_named.new.wire)
+    (g.W.Peer.held c.args.wire.now) (g.W.Peer.held c.serve_named.new.wire)
+    (Rose (g.W.Peer.read_faults c.args.wire.now) (g.W.Peer.read_faults c.serve_named.new.wire))
+    (Rose (g.W.Peer.write_faults c.args.wire.now) (g.W.Peer.write_faults c.serve_named.new.wire)) c.serve_named.result in
+    (c.serve_named.result, refl, subst P same (c.serve_named.ensures.due all told))
