@@ -5,15 +5,15 @@ use Rattle.std.specs.Prelude.{◌<ℤ◌, min, max}
 use Rattle.std.proofs.lemmas.Int.{ints, clamps}
 use Rattle.std.proofs.lemmas.Bool.{cases_lt, cases_eq}
 use Rattle.std.proofs.lemmas.List.FromFn.{get_or-map-range_with_len, length-map-range_with_len}
-use Rattle.pm_base.specs.Limits.{AreLimits, IsWithin, demand_limit}
+use Rattle.pm_base.specs.Limits.{IsWithin, demand_limit}
 use Rattle.pm_base.specs.declared.limits.Limits.{Limits}
-use Rattle.pm_bid.specs.Bids.{demand_at, zeros, NeverRises, AllWithinLimit, nearest_in_range}
-use Rattle.pm_bid.specs.Clearing.{first_at_most, last_at_least, IsFirstAtMost, IsLastAtLeast}
+use Rattle.pm_bid.specs.Bids.{demand_at, zeros, NeverRises, AllWithinLimit}
+use Rattle.pm_bid.specs.Clearing.{first_at_most, last_at_least}
 use Rattle.pm_bid.specs.Limited.{NeverBind}
 use Rattle.pm_bid.specs.Taken.{IsWithinLimits, settled_in, nearest_said, said_at, said_between, announced_in, settled_step, announced, CanSay, HasStepWithin, AreSmall}
 use Rattle.pm_bid.proofs.EachStep.{same_bids}
 use Rattle.pm_bid.proofs.FoundStep.{first_at_most_is_first, last_at_least_is_last}
-use Rattle.pm_bid.proofs.Sums.{length-zeros, zeros-at}
+use Rattle.pm_bid.proofs.Sums.{zeros-at}
 
 -- ---- a bid that never rises
 

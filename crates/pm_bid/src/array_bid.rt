@@ -1,18 +1,20 @@
 //! A bid with one demand for each step, and its sums, limits and clearing step.
 
-ghost use Rattle.std.specs.Prelude.{◌≡◌, ◌+◌, ◌*◌, ◌<◌, ◌≤◌, ◌≤ℤ◌, length, slice_set, pos, IfOk, vec_len};
+ghost use Rattle.std.specs.Prelude.{◌≡◌, ◌↔◌, IsTrue, ◌+◌, ◌*◌, ◌<◌, ◌≤◌, ◌≤ℤ◌, length, slice_set, pos, IfOk, vec_len};
 ghost use Rattle.pm_bid.specs.Bids.{demand_at, pairwise_sum, pairwise_difference, zeros, clamp, AllWithinLimit, NeverRises};
 ghost use Rattle.pm_base.specs.Limits.{AreSteps, most_steps, IsWithin, sum_limit, demand_limit};
 ghost use Rattle.pm_bid.specs.Checks.{checked_bid};
-ghost use Rattle.pm_bid.specs.Limited.{step_within};
-ghost use Rattle.pm_bid.specs.Taken.{settled_in, announced_in};
+ghost use Rattle.pm_bid.specs.Limited.{step_within, NeverBind};
+ghost use Rattle.pm_bid.specs.Taken.{settled_in, announced_in, HasStepWithin};
 ghost use Rattle.pm_bid.specs.Clearing.{clearing_step, first_at_most, last_at_least, Clears, IsFirstAtMost, IsLastAtLeast};
 
 use crate::fault::BidFault;
 use crate::pointwise::{
     add_each, announce_each, clamp_each, exchange_each, set_each_zero, take_each,
 };
-use crate::search::{find_at_least, find_at_most, find_rising, find_too_large};
+use crate::search::{
+    are_all_within, find_at_least, find_at_most, find_rising, find_too_large, is_some_within,
+};
 use crate::steps::Steps;
 use pm_base::Limits;
 use std::alloc::{AllocError, Global};
@@ -295,10 +297,29 @@ impl ArrayBid {
         requires equal_lengths { length self.now ≡ length target.old }
         ensures bid { target.new ≡ announced_in limits.now self.now }
         ensures cost { counter.new ≤ counter.old + 3 * length self.now }
+        ensures rises { counter.old ≤ counter.new }
     {
         let Limits { floor, ceiling } = *limits;
         let first = self.first_at_most(ceiling, counter);
         let last = self.last_at_least(floor, counter);
         announce_each(&self.demands, first, last, &mut target.demands, counter);
+    }
+
+    /// Whether some step of this sum is within the limits. If none is, no step for which a relay may settle keeps them.
+    pub fn has_step_within<L: Ledger>(&self, limits: &Limits, counter: &mut Steps<L>) -> bool
+        ensures within { IsTrue result ↔ HasStepWithin limits.now self.now }
+        ensures cost { counter.new ≤ counter.old + length self.now }
+        ensures rises { counter.old ≤ counter.new }
+    {
+        is_some_within(&self.demands, limits, counter)
+    }
+
+    /// Whether every step of this bid is within the limits, as a parent bounds what a child may bid.
+    pub fn stays_within<L: Ledger>(&self, limits: &Limits, counter: &mut Steps<L>) -> bool
+        ensures within { IsTrue result ↔ NeverBind limits.now self.now }
+        ensures cost { counter.new ≤ counter.old + length self.now }
+        ensures rises { counter.old ≤ counter.new }
+    {
+        are_all_within(&self.demands, limits, counter)
     }
 }

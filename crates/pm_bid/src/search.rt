@@ -1,11 +1,13 @@
 //! Searches for the first bad demand, and for the step at which demands cross a limit.
 
-ghost use Rattle.std.specs.Prelude.{◌≡◌, ◌+◌, ◌<◌, ◌≤◌, length};
+ghost use Rattle.std.specs.Prelude.{◌≡◌, ◌+◌, ◌<◌, ◌≤◌, ◌↔◌, IsTrue, length};
 ghost use Rattle.pm_bid.specs.Checks.{first_rising, first_too_large};
 ghost use Rattle.pm_bid.specs.Clearing.{first_at_most, last_at_least};
+ghost use Rattle.pm_bid.specs.Limited.{NeverBind};
+ghost use Rattle.pm_bid.specs.Taken.{HasStepWithin};
 
 use crate::steps::Steps;
-use pm_base::DEMAND_LIMIT;
+use pm_base::{DEMAND_LIMIT, Limits};
 use std::sync::ledger::Ledger;
 
 /// The first step whose demand is above the one before, else a step past the end.
@@ -67,4 +69,42 @@ pub(crate) fn find_at_least<L: Ledger>(demands: &[i64], limit: i64, counter: &mu
         }
     }
     0
+}
+
+/// Whether some demand is within the limits.
+pub(crate) fn is_some_within<L: Ledger>(
+    demands: &[i64],
+    limits: &Limits,
+    counter: &mut Steps<L>,
+) -> bool
+    ensures within { IsTrue result ↔ HasStepWithin limits.now demands.now }
+    ensures cost { counter.new ≤ counter.old + length demands.now }
+    ensures rises { counter.old ≤ counter.new }
+{
+    for (step, demand) in demands.iter().enumerate() {
+        counter.tick();
+        if limits.floor <= *demand && *demand <= limits.ceiling {
+            return true;
+        }
+    }
+    false
+}
+
+/// Whether every demand is within the limits.
+pub(crate) fn are_all_within<L: Ledger>(
+    demands: &[i64],
+    limits: &Limits,
+    counter: &mut Steps<L>,
+) -> bool
+    ensures within { IsTrue result ↔ NeverBind limits.now demands.now }
+    ensures cost { counter.new ≤ counter.old + length demands.now }
+    ensures rises { counter.old ≤ counter.new }
+{
+    for (step, demand) in demands.iter().enumerate() {
+        counter.tick();
+        if *demand < limits.floor || *demand > limits.ceiling {
+            return false;
+        }
+    }
+    true
 }

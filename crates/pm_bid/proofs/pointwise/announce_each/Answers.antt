@@ -1,5 +1,5 @@
 -- Of `announce_each`: its clauses `said` and `within`; the turns of its loop over `step`.
-use Rattle.std.proofs.Common.{rules, arith, ◌≡◌, ◌∙◌, ap, sym, subst, ℕ, List, ℤ, FitsSigned, w64, to_z, of_z}
+use Rattle.std.proofs.Common.{rules, arith, ◌≡◌, ◌∙◌, ap, sym, subst, ℕ, List, ℤ, FitsSigned, w64}
 use Rattle.std.specs.Prelude.{min, max}
 use Rattle.std.proofs.lemmas.Int.{to_z-of_z}
 use Rattle.pm_bid.specs.Bids.{demand_at, AllWithinLimit}

@@ -1,5 +1,5 @@
 -- Of `ArrayBid::announce_into`: its clauses; what the call of `announce_each` requires; what the type keeps.
-use Rattle.std.proofs.Common.{◌∙◌, sym, ap, subst, ◌+◌, length, arith}
+use Rattle.std.proofs.Common.{◌∙◌, sym, ap, subst, length}
 use Rattle.pm_base.specs.Limits.{AreSteps}
 use Rattle.pm_bid.proofs.WrittenOver.{written_over}
 use Rattle.pm_bid.proofs.array_bid.ArrayBid.announce_into.Goals as goal
