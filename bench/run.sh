@@ -19,12 +19,16 @@
 here="$(cd "$(dirname "$0")" && pwd)" || exit 1
 cd "$here/.." || exit 1
 
-# Proves and builds a program if it is not built yet, or a source file is newer.
+# Whether a program is built, and no source file is newer.
+is_current() {
+    [ -x "$1" ] && [ -z "$(find crates.txt crates/*/src crates/*/specs crates/*/proofs bench/measure/src bench/measure/proofs \
+        -newer "$1" -print -quit 2> /dev/null)" ]
+}
+
+# Proves and builds a program if it is not current.
 build() {
     program="crates/$1/out/$1"
-    if [ -x "$program" ] && [ -z "$(find crates.txt crates/*/src crates/*/specs crates/*/proofs -newer "$program" -print -quit 2> /dev/null)" ]; then
-        return
-    fi
+    is_current "$program" && return
     rm -f "$program"
     (cd "crates/$1" && rt run < stdin -- $(cat args) > "$folder/log" 2>&1)
     [ -x "$program" ] || { cat "$folder/log" >&2; return 1; }
@@ -64,7 +68,9 @@ python3 bench/make_files.py "$folder" || exit 1
 python3 bench/make_trace.py "$folder" || exit 1
 python3 bench/make_stream.py > "$folder/stream" || exit 1
 python3 bench/make_relay_stream.py "$folder" || exit 1
-build market && build measure && build live || exit 1
+build market && build live || exit 1
+measure=bench/measure/out/measure
+is_current "$measure" || python3 bench/measure.py "$measure" || exit 1
 plain="$(build_with rustc "$folder/plain" -O --edition 2021 bench/plain/plain.rs)" || exit 1
 [ "$plain" = - ] || check_plain "$plain" || exit 1
 plain_threads="$(build_with rustc "$folder/plain_threads" -O --edition 2021 bench/plain_threads/plain_threads.rs)" || exit 1
@@ -73,7 +79,7 @@ plain_serve="$(build_with rustc "$folder/plain_serve" -O --edition 2021 bench/pl
 plain_relay="$(build_with rustc "$folder/plain_relay" -O --edition 2021 bench/plain_relay/plain_relay.rs)" || exit 1
 [ "$plain_relay" = - ] || check_plain_relay || exit 1
 counter="$(build_with gcc "$folder/count.so" -O2 -shared -fPIC bench/count.c)" || exit 1
-python3 bench/compare.py "${1:-7}" crates/market/out/market crates/measure/out/measure "$plain" "$plain_threads" "$plain_serve" \
+python3 bench/compare.py "${1:-7}" crates/market/out/market "$measure" "$plain" "$plain_threads" "$plain_serve" \
     "$counter" "$folder"
 compared=$?
 python3 bench/relay.py "${1:-7}" crates/live/out/live "$plain_relay" "$folder"

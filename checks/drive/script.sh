@@ -64,10 +64,6 @@ case "$*" in
         [ ! -f meanwhile ] || echo "an edit" >>"$(cat meanwhile)"
         exit "$(cat ci-status 2>/dev/null || echo 0)"
         ;;
-    "run -- "*)
-        [ -f ../../no-build ] || { mkdir -p out && cp ../../program out/trials; }
-        echo "error: trials ${*:3}"
-        ;;
     "try --seconds 60 --"*)
         IFS= read -r -d "" -t 0.3 given
         case "$given" in
@@ -101,10 +97,10 @@ if os.path.exists("meanwhile"):
         open(source, "w").write(kept)
 END_OF_PROVE
 # The checks tell their arguments and a last line; that of the program tells its arguments alone.
-all="program traces serve live network trials memory hostile script install python pages schema pictures names places definitions edits"
+all="program traces serve live network memory hostile script install python pages schema pictures names places definitions edits"
 folder_of() {
     case "$1" in
-        cases | traces | serve | nodes | network | trials | memory | hostile | python) echo "$top/checks/drive" ;;
+        cases | traces | serve | nodes | network | memory | hostile | python) echo "$top/checks/drive" ;;
         *) echo "$top/checks/lint" ;;
     esac
 }
@@ -114,13 +110,10 @@ stub() {
         echo 'import sys; print(*sys.argv[1:]); print("1 passed, 0 failed")' >"$(folder_of "$name")/$name.py"
     done
 }
-stub traces serve nodes network trials memory hostile python pages schema pictures names places definitions edits
+stub traces serve nodes network memory hostile python pages schema pictures names places definitions edits
 for name in script install; do
     echo 'echo "1 passed, 0 failed"' >"$top/checks/drive/$name.sh"
 done
-mkdir "$top/crates/trials"
-echo 7 >"$top/crates/trials/args"
-echo >"$top/crates/trials/stdin"
 echo 'import sys; print(*sys.argv[1:])' >"$top/checks/drive/cases.py"
 
 # All that the script needs beside rt. git lies elsewhere.
@@ -491,19 +484,11 @@ is "an argument in place of its own" 0 "--log file
 1 passed, 0 failed" "" 'checks/run edits --log file'
 is "no python3" 1 "there is no python3, which every check needs: kit.txt names the packages
 0 passed, 1 failed" "" 'mv "$folder/tools/python3" "$folder"; checks/run names; s=$?; mv "$folder/python3" "$folder/tools"; (exit $s)'
-is "trials, built first" 0 "crates/trials/out/trials
-1 passed, 0 failed" "" 'checks/run trials'
-is "trials, built" 0 "crates/trials/out/trials
-1 passed, 0 failed" "" 'touch no-build; checks/run trials'
-is "trials, not built" 1 "error: trials 7
-0 passed, 1 failed" "" 'touch crates/low/src/lib.rt; checks/run trials'
-rm no-build
 stub cases
 # Prints what a check writes.
 due_of() {
     case "$1" in
         program | traces | serve | memory | hostile) echo crates/market/out/market ;;
-        trials) echo crates/trials/out/trials ;;
         live | network) echo crates/live/out/live ;;
         python | pages | schema | pictures | names | places) echo ;;
         definitions) echo check ;;

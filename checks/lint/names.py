@@ -17,9 +17,8 @@ CRATES = TOP / "crates"
 # Names that two crates use for one thing: of a plan, and of the lists of the market of cuts that it stands for.
 OF_PLAN_AND_LISTS = {"is_leaf", "is_member", "parent", "phases"}
 
-# The crates of tests alone, and the programs that measure and try, whose names no crate uses.
+# The crates of tests alone, whose names no crate uses.
 TESTS = {"pm_parts", "pm_played", "pm_threaded", "pm_whole", "pm_worked"}
-TOOLS = {"measure", "trials"}
 
 # Functions of code that have one name in two crates, and the one thing that the name says in both.
 SAME_IN_CODE = {
@@ -129,9 +128,8 @@ def names_with_two_homes():
 def names_of_code_with_two_homes():
     homes = defaultdict(set)
     for crate, _, text in files("src"):
-        if crate not in TOOLS:
-            for sort, name in CODE_NAME.findall(text):
-                homes["function" if sort == "fn" else "type", name].add(crate)
+        for sort, name in CODE_NAME.findall(text):
+            homes["function" if sort == "fn" else "type", name].add(crate)
     for (sort, name), crates in sorted(homes.items()):
         if len(crates) > 1 and name not in SAME_IN_CODE and name != "main":
             yield f"the {sort} {name} is in {', '.join(sorted(crates))}: rename all except one, or list it in SAME_IN_CODE"

@@ -1,7 +1,7 @@
 //! Gates that try a run by threads: they hold its turns back, let two nodes meet, and keep what is told. A [`Schedule`] makes
 //! such a gate for a tree.
 //!
-//! What a market runs by is the open gate of pm_nodes. These are for the tests of the runs, and for the program `trials`.
+//! What a market runs by is the open gate of pm_nodes. These are for the tests of the runs.
 #![tactic(auto)]
 
 mod closing;

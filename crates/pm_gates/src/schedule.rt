@@ -1,4 +1,4 @@
-//! The schedules of trials, each of which makes a gate for a tree.
+//! Schedules, each of which makes a gate for a tree.
 
 use crate::drawing::DrawingGate;
 use crate::held::{HeldNodes, holding_gate};
@@ -27,8 +27,8 @@ pub enum Schedule {
     Drawn { seed: u64 },
 }
 
-/// Schedules of every kind, for trials.
-pub const SCHEDULES: [Schedule; 11] = [
+/// Schedules of every kind.
+pub const SCHEDULES: &[Schedule] = &[
     Schedule::Open,
     Schedule::Meeting(Moment::Line),
     Schedule::Meeting(Moment::Turn),

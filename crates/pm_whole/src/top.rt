@@ -1,14 +1,19 @@
-//! Tests of the whole program: each command, and a fault at each read and write.
+//! Tests of the whole program: each command, a fault at each read and write, and threads that gates hold back.
 
+use counted::Counted;
 use pm_io::{MemSink, MemSource};
 use pm_nodes::{Gate, OpenGate};
 use pm_top::{Status, market};
 use std::alloc::{AllocError, Global};
 use std::process::Abort;
+use std::str::from_utf8;
 use std::sync::Wait;
 use std::test::Fail;
 use std::thread::Threads;
 
+mod counted;
+mod faults;
+mod gates;
 mod meeting;
 mod village;
 
@@ -19,6 +24,19 @@ const TWO_BIDS: &str =
 /// Its text, of 124 bytes.
 const TWO_BIDS_TEXT: &str =
     "phase 1 price 4 step 4 total -50 members 2\nmember load1 power 100 bid 1\nmember gen1 power -150 bid 1\nend phases 1 changes 2\n";
+
+/// A feeder of 5 kilowatts with a house and two cars, beside a wind turbine.
+const FEEDER: &str = r#"{"version":2,"basis":{"min":0,"max":90,"steps":10},
+"nodes":[
+{"name":"feeder","kind":"limited","parent":"auctioneer","floor":-5000,"ceiling":5000},
+{"name":"house","kind":"load","parent":"feeder","start":2000},
+{"name":"car1","kind":"manual","parent":"feeder","points":[[0,3700],[90,0]]},
+{"name":"car2","kind":"manual","parent":"feeder","points":[[0,3700],[90,0]]},
+{"name":"wind","kind":"solar","parent":"auctioneer","start":20000}],
+"phases":[
+{"events":[{"join":"house"},{"join":"wind"}]},
+{"events":[{"join":"car1"},{"join":"car2"}]},
+{"events":[{"leave":"house"}]}]}"#;
 
 const USAGE: &str =
     "usage: market run | market trace | market demo SIZE NUMBER | market check | market bill | market serve | market ask | market free\n";
@@ -45,33 +63,109 @@ fn arguments_of(alloc: Global, line: &str) -> Result<Vec<String>, AllocError> {
     Ok(arguments)
 }
 
-/// A source of this text, whose reads give at most 100 bytes; the read of this number fails.
-fn source_of(alloc: Global, text: &str, bad_read: u64) -> Result<MemSource, AllocError> {
-    let bytes = text.as_bytes().to_vec(alloc)?;
-    let fails = Vec::from_array(alloc, [bad_read])?;
-    Ok(MemSource::new(bytes, 100, fails))
+/// What surrounds a call: how many bytes a read gives and a write takes at most, and the read and the write that fail, by their
+/// numbers; 0 if none does.
+#[derive(Clone, Copy)]
+struct Around {
+    read: usize,
+    write: usize,
+    bad_read: u64,
+    bad_write: u64,
 }
 
-/// A sink whose writes take at most 50 bytes; the write of this number fails.
-fn sink_of(alloc: Global, bad_write: u64) -> Result<MemSink, AllocError> {
-    MemSink::new(alloc, 1_048_576, 50, Vec::from_array(alloc, [bad_write])?)
+impl Around {
+    /// Pieces of one size, and no fault.
+    fn pieces(piece: usize) -> Around {
+        Around {
+            read: piece,
+            write: piece,
+            bad_read: 0,
+            bad_write: 0,
+        }
+    }
+
+    /// The read of this number fails.
+    fn without_read(self, bad_read: u64) -> Around {
+        Around { bad_read, ..self }
+    }
+
+    /// The write of this number fails.
+    fn without_write(self, bad_write: u64) -> Around {
+        Around { bad_write, ..self }
+    }
 }
 
-/// What a call answers under a gate, and what the sink holds afterwards. The read and the write of the numbers in `bad` fail;
-/// 0 means that no call fails.
-fn ran<R: Threads + Wait + Sync, G: Gate>(
+/// Reads of 100 bytes and writes of 50 at most, and no fault.
+const PIECES: Around = Around {
+    read: 100,
+    write: 50,
+    bad_read: 0,
+    bad_write: 0,
+};
+
+/// What a call comes to: its status, what the sink holds afterwards, and how often it read and wrote.
+#[derive(Drop)]
+struct Outcome {
+    status: Status,
+    text: Vec<u8>,
+    reads: u64,
+    writes: u64,
+}
+
+/// A source of these bytes.
+fn source_of(
+    alloc: Global,
+    input: &[u8],
+    around: Around,
+) -> Result<Counted<MemSource>, AllocError> {
+    let fails = Vec::from_array(alloc, [around.bad_read])?;
+    Ok(Counted::new(MemSource::new(input.to_vec(alloc)?, around.read.max(1), fails)))
+}
+
+/// A sink that holds nothing so far.
+fn sink_of(alloc: Global, around: Around) -> Result<Counted<MemSink>, AllocError> {
+    let fails = Vec::from_array(alloc, [around.bad_write])?;
+    Ok(Counted::new(MemSink::new(alloc, 1_048_576, around.write.max(1), fails)?))
+}
+
+/// What the call of these arguments comes to.
+fn called<R: Threads + Wait + Sync, G: Gate>(
     rt: &R,
     alloc: Global,
     line: &str,
-    input: &str,
-    bad: (u64, u64),
+    input: &[u8],
+    around: Around,
     gate: &G,
-) -> Result<(Status, Vec<u8>), Fail> {
+) -> Result<Outcome, Fail> {
     let arguments = arguments_of(alloc, line)?;
-    let mut source = source_of(alloc, input, bad.0)?;
-    let mut sink = sink_of(alloc, bad.1)?;
+    let mut source = source_of(alloc, input, around)?;
+    let mut sink = sink_of(alloc, around)?;
     let status = market(rt, alloc, &arguments, &mut source, &mut sink, gate);
-    Ok((status, sink.bytes().to_vec(alloc)?))
+    Ok(Outcome {
+        status,
+        text: sink.inner.bytes().to_vec(alloc)?,
+        reads: source.calls,
+        writes: sink.calls,
+    })
+}
+
+/// A file in an envelope, with this behind it.
+fn envelope(alloc: Global, file: &str, rest: &str) -> Result<String, AllocError> {
+    let length = file.len();
+    Ok(format!(in alloc; "{length}\n{file}{rest}")?)
+}
+
+/// Whether `check` finds a trace of a file valid, with the number of moves that its last line tells.
+fn is_legal<R: Threads + Wait + Sync>(
+    rt: &R,
+    alloc: Global,
+    file: &[u8],
+    trace: &[u8],
+) -> Result<bool, Fail> {
+    let input = envelope(alloc, from_utf8(file)?, from_utf8(trace)?)?;
+    let judged = called(rt, alloc, "check", input.as_bytes(), PIECES, &OpenGate)?;
+    let moves = judged.text.strip_prefix(b"valid ");
+    Ok(judged.status == Status::Done && moves.is_some_and(|moves| trace.ends_with(moves)))
 }
 
 /// A call: its arguments, its input, the read and the write that fail, or 0 if none does, and what it answers and writes.
@@ -112,12 +206,12 @@ fn must_answer<R: Threads + Wait + Sync + Abort>(
     row: &Row,
 ) -> Result<(), Fail> {
     let (line, input, bad_read, bad_write, status, text) = *row;
-    let bad = (bad_read, bad_write);
-    let (answer, written) = ran(rt, alloc, line, input, bad, &OpenGate)?;
-    let is_begun = text.as_bytes().starts_with(&written);
-    let is_whole = written.len() == text.len();
+    let around = PIECES.without_read(bad_read).without_write(bad_write);
+    let outcome = called(rt, alloc, line, input.as_bytes(), around, &OpenGate)?;
+    let is_begun = text.as_bytes().starts_with(&outcome.text);
+    let is_whole = outcome.text.len() == text.len();
     assert_eq!(rt;
-        (answer, is_begun, is_whole),
+        (outcome.status, is_begun, is_whole),
         (status, true, status != Status::WriteFault),
         "at {line}, read {bad_read}, write {bad_write}"
     );

@@ -1,6 +1,6 @@
 //! A gate under which two threads meet, and what is told to it.
 
-use super::ran;
+use super::{PIECES, called, envelope};
 use pm_gates::{MeetingGate, Moment, TellingGate};
 use pm_market::{Line, Move};
 use pm_top::Status;
@@ -56,19 +56,12 @@ fn with_an_hour(alloc: Global) -> Result<String, Fail> {
     Ok(format!(in alloc; "{file},{{\"tick\":60}}]}}")?)
 }
 
-/// The file in an envelope, with this behind it.
-fn envelope(alloc: Global, rest: &str) -> Result<String, Fail> {
-    let file = super::TWO_BIDS;
-    let length = file.len();
-    Ok(format!(in alloc; "{length}\n{file}{rest}")?)
-}
-
 /// The input of a command, over the two manual bids.
 fn input_of(alloc: Global, line: &str) -> Result<String, Fail> {
     match line {
         "bill" => with_an_hour(alloc),
-        "ask" => envelope(alloc, "0\n100\n-60\n"),
-        "check" => envelope(alloc, ""),
+        "ask" => Ok(envelope(alloc, super::TWO_BIDS, "0\n100\n-60\n")?),
+        "check" => Ok(envelope(alloc, super::TWO_BIDS, "")?),
         _ => Ok(String::from_str(alloc, super::TWO_BIDS)?),
     }
 }
@@ -109,15 +102,15 @@ fn must_meet<R: Threads + Wait + Sync + Abort>(
     let input = input_of(alloc, line)?;
     let meeting = MeetingGate::new((1, 2), moment_of(line), LOOKS);
     let gate = TellingGate::new(rt, alloc, meeting);
-    let (status, text) = ran(rt, alloc, line, &input, (0, 0), &gate)?;
+    let outcome = called(rt, alloc, line, input.as_bytes(), PIECES, &gate)?;
     assert_eq!(rt;
-        (status, gate.gate().met()),
+        (outcome.status, gate.gate().met()),
         (status_of(line), 2),
         "at {line}"
     );
     let told = gate.into_lines();
     if line == "trace" {
-        must_be_told(rt, alloc, &text, &told)?;
+        must_be_told(rt, alloc, &outcome.text, &told)?;
     }
     Ok(())
 }

@@ -1,7 +1,7 @@
 //! A village under gates that hold some of its nodes back.
 
 use super::meeting::LOOKS;
-use super::ran;
+use super::{PIECES, called};
 use pm_gates::{HoldingGate, MeetingGate, Moment};
 use pm_nodes::{Gate, OpenGate};
 use pm_top::Status;
@@ -12,7 +12,7 @@ use std::test::Fail;
 use std::thread::Threads;
 
 /// Eight devices of all kinds below two concentrators, over five phases.
-const VILLAGE: &str = r#"{"version":1,"basis":{"min":0,"max":99,"steps":100},
+pub(super) const VILLAGE: &str = r#"{"version":1,"basis":{"min":0,"max":99,"steps":100},
 "nodes":[
 {"name":"c1","kind":"concentrator","parent":"auctioneer"},
 {"name":"c2","kind":"concentrator","parent":"c1"},
@@ -90,9 +90,9 @@ fn must_run<R: Threads + Wait + Sync + Abort, G: Gate>(
     alloc: Global,
     gate: &G,
 ) -> Result<(), Fail> {
-    let (status, text) = ran(rt, alloc, "run", VILLAGE, (0, 0), gate)?;
+    let outcome = called(rt, alloc, "run", VILLAGE.as_bytes(), PIECES, gate)?;
     let due = (Status::Done, VILLAGE_TEXT.as_bytes());
-    assert_eq!(rt; (status, text.as_slice()), due);
+    assert_eq!(rt; (outcome.status, outcome.text.as_slice()), due);
     Ok(())
 }
 

@@ -4,14 +4,14 @@ use pm_io::{Failed, Sink, Source};
 
 /// A source or a sink whose calls are counted.
 #[derive(Drop)]
-pub(crate) struct Counted<T> {
-    pub(crate) inner: T,
-    pub(crate) calls: u64,
+pub(super) struct Counted<T> {
+    pub(super) inner: T,
+    pub(super) calls: u64,
 }
 
 impl<T> Counted<T> {
     /// No call was made so far.
-    pub(crate) fn new(inner: T) -> Counted<T> {
+    pub(super) fn new(inner: T) -> Counted<T> {
         Counted { inner, calls: 0 }
     }
 }
