@@ -4,10 +4,11 @@
     python3 bench/measure.py PROGRAM
 
 `measure` is no product, so the gate does not prove it. Its sources are in bench/measure, under names that end in `.txt`. This
-script makes a copy of the repository's crates in a temporary folder, adds the crate, proves and builds it there by `rt run`, and
-copies the program to the path PROGRAM. The libraries below are taken from what was proved on the machine.
+script makes a copy of the repository's crates in a temporary folder, adds the crate, and proves, builds and runs it there by
+`rt run`. If it writes what is due, the program is copied to the path PROGRAM. The libraries below are taken from what was proved
+on the machine.
 
-The status is 0 if the program was built. Otherwise it is 1, and what `rt` said is printed on standard error.
+The status is 0 if the program was copied. Otherwise it is 1, and what `rt` said is printed on standard error.
 """
 
 import shutil
@@ -40,13 +41,12 @@ def assemble(folder: Path) -> Path:
 
 
 def build(crate: Path) -> Path | None:
-    """Proves and builds the crate, and gives the program; says what `rt` said if there is none."""
+    """Proves, builds and runs the crate, and gives the program; says what `rt` said if it does not write what is due."""
     words = (crate / "args").read_text().split()
     with (crate / "stdin").open("rb") as given:
         ran = subprocess.run(["rt", "run", "--", *words], cwd=crate, stdin=given, capture_output=True, check=False)
-    program = crate / "out" / "measure"
-    if program.is_file():
-        return program
+    if ran.returncode == 0 and ran.stdout == (crate / "stdout").read_bytes():
+        return crate / "out" / "measure"
     sys.stderr.buffer.write(ran.stdout + ran.stderr)
     return None
 
