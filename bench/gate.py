@@ -1,15 +1,20 @@
 #!/usr/bin/env python3
 """Where the gate's time goes: runs `rt ci` at the top and prints processor seconds by crate and by kind of work.
 
-    python3 bench/gate.py [WORDS OF rt ci]
+    python3 bench/gate.py [--beside REVISION] [WORDS OF rt ci]
 
 Once a second it reads the times of all processes that the gate has started, from /proc, so what begins and ends between two
 looks is not counted. Kinds are told by how `rt` starts its prover: the proof of a crate, that of its tests, the check of the
 crate that its must-fail edits begin with, and the tries of these edits. What the gate says is printed on standard error, and
 two tables at the end on standard output: one by crates, and the dearest edits. The status is that of the gate.
+
+With --beside it compares the whole with the table that docs/measured/GATE.md had in a revision, which may be of another machine.
+The pace of this one is told by the proofs of the crates whose sources did not change since. A revision without that table is
+refused before the gate begins. The comparison holds only if nothing was kept.
 """
 
 import os
+import re
 import subprocess
 import sys
 import time
@@ -21,6 +26,9 @@ TICKS = os.sysconf("SC_CLK_TCK")
 KINDS = ("code", "tests", "base", "edits")
 # How many of the dearest edits are printed.
 DEAREST = 40
+PAGE = "docs/measured/GATE.md"
+ROW = re.compile(r"\| `(\w+)` \|((?: *[\d,]* *\|)+)$", re.M)
+SOURCES = re.compile(r"crates/(\w+)/(?:src|specs|proofs)/")
 
 
 def processes():
@@ -93,8 +101,48 @@ def run(words):
     return gate.returncode, (time.monotonic() - began) / 60, table, edits
 
 
+def git(*words):
+    """What git writes; it ends the script if it fails."""
+    ran = subprocess.run(["git", *words], cwd=TOP, capture_output=True, text=True)
+    if ran.returncode != 0:
+        raise SystemExit(ran.stderr)
+    return ran.stdout
+
+
+def table_of(page):
+    """The proof's seconds of each crate of a page's table, and the seconds of all its rows and kinds."""
+    rows = {crate: [float(it.strip().replace(",", "") or 0) for it in cells.strip("|").split("|")] for crate, cells in ROW.findall(page)}
+    # A fifth column has the sum of a row.
+    return {crate: cells[0] for crate, cells in rows.items()}, sum(sum(cells[: len(KINDS)]) for cells in rows.values())
+
+
+def beside(revision, page, table):
+    """The line that compares a table with that of a page, by the pace of the crates that did not change since."""
+    proofs, whole = table_of(page)
+    changed = set(SOURCES.findall(git("diff", "--name-only", revision, "--", "crates")))
+    same = [crate for crate in proofs if crate in table and crate not in changed and min(proofs[crate], table[crate]["code"]) > 0]
+    before, now = sum(proofs[it] for it in same), sum(table[it]["code"] for it in same)
+    if not same:
+        return f"no crate is as it was in {revision}: no pace can be told"
+    pace = now / before
+    taken = sum(sum(row.values()) for row in table.values())
+    return (
+        f"The proofs of {len(same)} crates that are as they were took {before:.0f} s in the table of {revision} and {now:.0f} s here, a pace of "
+        f"{pace:.2f}. At this pace all of that table is {whole * pace / 60:.0f} processor minutes; this run took {taken / 60:.0f}, "
+        f"{taken / (whole * pace):.2f} times as much."
+    )
+
+
 def main():
-    status, minutes, table, edits = run(sys.argv[1:])
+    words, revision, page = sys.argv[1:], None, ""
+    if words[:1] == ["--beside"]:
+        if len(words) < 2:
+            raise SystemExit(__doc__)
+        revision, words = words[1], words[2:]
+        page = git("show", f"{revision}:{PAGE}")
+        if not ROW.search(page):
+            raise SystemExit(f"{PAGE} of {revision} has no table")
+    status, minutes, table, edits = run(words)
     order = [line.split(":")[0] for line in (TOP / "crates.txt").read_text().split("\n") if ":" in line]
     print("| Crate | Its proof s | That of its tests s | What its edits begin with s | Its edits s |")
     print("|---|---|---|---|---|")
@@ -106,6 +154,8 @@ def main():
     for (crate, edit), spent in sorted(edits.items(), key=lambda it: -it[1])[:DEAREST]:
         print(f"| `{crate}/{edit}` | {spent:.0f} |")
     print(f"\n{sum(sums) / 60:.0f} processor minutes in {minutes:.0f} minutes, status {status}")
+    if revision:
+        print(beside(revision, page, table))
     return status
 
 
