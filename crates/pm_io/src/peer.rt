@@ -13,8 +13,8 @@ use crate::traits::{Sink, Source};
 
 /// The other side of a conversation: it gives bytes, and gets bytes.
 ///
-/// It may be any, and may watch: what it asks at each read and at each write is owed at each moment, whether the conversation ends
-/// or not.
+/// A peer may watch. What it asks at each read and at each write is owed at that moment, whether the conversation ends or is cut
+/// off later. So a function over any peer says what holds of a process that is killed.
 pub trait Peer {
     // The bytes that it has still to give, where it tells them.
     ghost left: { Self → Option (List ℕ) };
@@ -33,7 +33,7 @@ pub trait Peer {
     // What is owed when these bytes are written.
     ghost may_write: { Self → List ℕ → Type 0 };
 
-    // What calls may make of it, whatever they answer: as that it is the same source and sink, or that what it wrote down is kept.
+    // What calls may make of it, whatever they answer: that it is the same source and sink, say, or that its notes are kept.
     ghost becomes: { Self → Self → Type 0 };
 
     /// Takes the next bytes, as [`Source::read`].
@@ -56,17 +56,19 @@ pub trait Peer {
         ensures read_faults { read_faults self.new ≡ read_faults self.old }
         ensures becomes { becomes self.old self.new };
 
-    // No call makes of it what it is.
+    // No call leaves it as it is.
     ghost stays: { (wire : Self) → becomes wire wire };
 
-    // And so calls one after the other.
+    // What two calls make of it, they make one after the other.
     ghost goes_on: { (a b c : Self) → becomes a b → becomes b c → becomes a c };
 }
 
 /// A source and a sink, which ask nothing.
 #[derive(Drop)]
 pub struct Wire<'a, S, K> {
+    /// What is read.
     pub source: &'a mut S,
+    /// Where it is written.
     pub sink: &'a mut K,
 }
 
@@ -102,20 +104,7 @@ impl<S: Source, K: Sink> Peer for Wire<'_, S, K> {
     }
 }
 
-/// Writes all the bytes to a source and a sink.
-pub fn tell_pair<S: Source, K: Sink>(
-    source: &mut S,
-    sink: &mut K,
-    bytes: &[u8],
-) -> Result<(), WriteFault>
-    ensures all { OnOk result (Appends (K.held sink.old) (K.held sink.new) bytes.now) }
-    ensures left { S.left source.new ≡ S.left source.old }
-{
-    let mut wire = Wire { source, sink };
-    tell_all(&mut wire, bytes)
-}
-
-/// Writes all the bytes to a peer, as [`write_all`](crate::write_all). At each moment before the last byte it writes the rest.
+/// Writes all the bytes to a peer, as [`write_all`](crate::write_all) does to a sink. Each write offers all that is left.
 pub fn tell_all<W: Peer>(wire: &mut W, bytes: &[u8]) -> Result<(), WriteFault>
     requires next { MayWriteAll W.left W.held W.becomes W.may_write wire.old bytes.now }
     ensures all { OnOk result (Appends (W.held wire.old) (W.held wire.new) bytes.now) }

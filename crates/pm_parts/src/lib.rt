@@ -27,4 +27,6 @@ mod session;
 #[cfg(test)]
 mod shared;
 #[cfg(test)]
+mod watched;
+#[cfg(test)]
 mod wire;

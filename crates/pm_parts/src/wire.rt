@@ -4,10 +4,10 @@ ghost use Rattle.std.specs.Prelude.{◌≡◌, ◌+◌, ◌≤◌, length};
 
 use crate::same::same;
 use crate::shared::may_be_shared;
-use pm_io::{MemSink, MemSource};
+use pm_io::{MemSink, MemSource, Wire};
 use pm_wire::{
     DecodeFault, Decoder, Frame, FrameDecoder, Reply, Served, Server, frames_given_are_those_fed,
-    serve, serve_frames, the_greatest_number_counts,
+    serve, serve_peer, the_greatest_number_counts,
 };
 use std::alloc::Global;
 use std::process::Abort;
@@ -55,7 +55,7 @@ const HELLO: [u8; 11] = [1, 0, 0, 0, 0, 0, 0, 0, 9, 0, 2];
 const BID: [u8; 15] = [2, 0, 1, 0, 0, 0, 1, 0, 0, 0, 5, 255, 255, 255, 253];
 
 /// The input of these parts.
-fn input_of(alloc: Global, parts: &[&[u8]]) -> Result<Vec<u8>, Fail> {
+pub(crate) fn input_of(alloc: Global, parts: &[&[u8]]) -> Result<Vec<u8>, Fail> {
     let mut input = Vec::new(alloc);
     for part in parts {
         input.extend_from_slice(part)?;
@@ -76,7 +76,7 @@ type Stream = (
     &'static [&'static [u8]],
 );
 
-const STREAMS: &[Stream] = &[
+pub(crate) const STREAMS: &[Stream] = &[
     (
         "a second clearing finds nothing changed",
         &[&HELLO, &BID, &[4, 4]],
@@ -210,10 +210,13 @@ fn serves_by_bytes(
     let mut sink = MemSink::new(alloc, 1_048_576, 1, Vec::new(alloc))?;
     let mut server = Server::new(alloc);
     let mut piece = [0u8; 1];
-    let ended = serve_frames::<Frame, Server, MemSource, MemSink>(
+    let mut wire = Wire {
+        source: &mut source,
+        sink: &mut sink,
+    };
+    let ended = serve_peer::<Frame, Server, Wire<'_, MemSource, MemSink>>(
         alloc,
-        &mut source,
-        &mut sink,
+        &mut wire,
         None,
         &mut server,
         &mut piece,

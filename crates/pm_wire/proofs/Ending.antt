@@ -383,7 +383,7 @@ pub may_write_all : {W P F : Type 0} (left held : W → Option (List ℕ)) (beco
     ((a b c : W) → becomes a b → becomes b c → becomes a c) →
     AsksWhatIsDue left held becomes may_read may_write framing start Answer old → becomes old at →
     ((holds : Option (List ℕ)) (sent rest : List ℕ) → text ≡ sent ++ rest → Appends (held at) holds sent →
-        IsRestDue framing start Answer (left old) (left at) (held old) holds rest) →
+    IsRestDue framing start Answer (left old) (left at) (held old) holds rest) →
     MayWriteAll left held becomes may_write at text
 may_write_all left held becomes may_read may_write framing start Answer old at text goes_on asks so due = λ now sent rest split later same appends.
     let Q : Option (List ℕ) → Type 0 = λ o. IsRestDue framing start Answer (left old) o (held old) (held now) rest in

@@ -3,6 +3,7 @@ use Rattle.std.proofs.Common.{ℕ, List, Option}
 use Rattle.pm_wire.specs.Framing.{Framing}
 use Rattle.pm_wire.specs.Services.{AnswersAndFault, IsReplyDue, answered, refused, IsDone, IsRefused, IsAnswered, FailsReading, IsLongStream}
 use Rattle.pm_wire.specs.Services.{IsCutShort, IsBegun, TellsFault}
+use Rattle.pm_wire.specs.Moments.{IsRestDue}
 
 module _ {P F : Type 0} (framing : Framing P F) (start : P) (Answer Other : List F → List ℕ → Type 0)
     (by : (frames : List F) (reply : List ℕ) → Answer frames reply → Other frames reply) where
@@ -98,4 +99,17 @@ module _ {P F : Type 0} (framing : Framing P F) (start : P) (Answer Other : List
     before = d.before;
     answers = by d.frames d.reply d.answers;
     appends = d.appends;
+  }
+
+  -- of what is due at a write
+  pub rest_by : (old new held holds : Option (List ℕ)) (piece : List ℕ) → IsRestDue framing start Answer old new held holds piece →
+      IsRestDue framing start Other old new held holds piece
+  rest_by old new held holds piece d = record {
+    input = d.input;
+    due = d.due;
+    sent = d.sent;
+    consumes = d.consumes;
+    is_due = due_by new d.input d.due d.is_due;
+    appends = d.appends;
+    spelled = d.spelled;
   }

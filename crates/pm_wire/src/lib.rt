@@ -2,8 +2,8 @@
 //!
 //! A sort of frames is a [`StreamFrame`]: how long a frame is by its first byte and its place, and how its fields are read. A
 //! [`FrameDecoder`] takes a stream in pieces of any size and gives the frames that are whole, or the offset of the first bad
-//! one. A [`Service`] takes one frame after the other and appends the bytes of its answers, and [`serve_frames`] runs it over a
-//! source and a sink of pm_io. Memory is bounded by a piece, a frame and its answers, and not by the stream (`Memory`).
+//! one. A [`Service`] takes one frame after the other and appends the bytes of its answers, and [`serve_peer`] runs it over any
+//! peer of pm_io. Memory is bounded by a piece, a frame and its answers, and not by the stream (`Memory`).
 //!
 //! The frames of a stream of bids are one such sort, and the auctioneer is one such service. Children send their bids as
 //! frames, one behind the other on one stream, and the auctioneer answers with frames of its own. A [`Server`] keeps the
@@ -29,14 +29,13 @@ mod frames;
 mod framing;
 mod laws;
 mod market;
-mod pair;
 mod reading;
 mod server;
 mod service;
 mod stream;
 
 pub use answer::Reply;
-pub use auctioneer::serve;
+pub use auctioneer::{serve, serve_market};
 pub use decoder::{Decoder, FrameDecoder};
 pub use fault::DecodeFault;
 pub use fields::{read_demands, read_i32, read_u16, read_u32};
@@ -49,5 +48,4 @@ pub use laws::{
 pub use market::write_prices;
 pub use server::Server;
 pub use service::Service;
-pub use pair::serve_frames;
 pub use stream::{STREAM_LIMIT, Served, serve_peer};

@@ -1,43 +1,17 @@
--- Of `serve`: what it tells of its answers.
-use Rattle.std.proofs.Common.{◌≡◌, subst, ℕ, List, Option, None}
-use Rattle.pm_wire.specs.declared.frame.Frame.{Frame}
-use Rattle.pm_wire.specs.Frames.{bid_framing}
-use Rattle.pm_wire.specs.Answers.{OpenMarket, AnswersFrame}
-use Rattle.pm_wire.specs.Streams.{AreReplies}
-use Rattle.pm_wire.specs.Taking.{AnswersFrom}
-use Rattle.pm_wire.proofs.Known.{from_start}
-use Rattle.pm_wire.proofs.Weaker.{done_by, refused_by, long_by, reading_by, cut_by, begun_by, told_by}
+-- Of `serve`: its clauses `bad_frame` and `took_more`.
+use Rattle.std.proofs.Common.{rules, subst, sym, List, ℕ, Option, ◌≡◌, ◌<◌, length}
+use Rattle.pm_io.specs.Taken.{taken_bytes}
+use Rattle.pm_wire.specs.Frames.{HasBadFrame}
+use Rattle.pm_wire.specs.Streams.{stream_limit}
 use Rattle.pm_wire.proofs.auctioneer.serve.Goals as goal
 
--- a server that is new knows nothing, so what it answered are the replies
-replied : (server : Option OpenMarket) → server ≡ None → (frames : List Frame) (reply : List ℕ) → AnswersFrom AnswersFrame server frames reply →
-    AreReplies frames reply
-replied server is frames reply answers =
-    let Q : Option OpenMarket → Type 0 = λ s. AnswersFrom AnswersFrame s frames reply in
-    from_start frames reply (subst Q is answers)
+pub returns-clause-bad_frame : goal.returns-clause-bad_frame
+returns-clause-bad_frame g c = λ all offset told bad.
+    let Q : Option (List ℕ) → Type 0 = λ o. HasBadFrame (taken_bytes (g.S.Source.left c.args.source.now) o) offset in
+    c.serve_market.ensures.bad_frame all offset told (subst Q (search rules) bad)
 
-pub returns-clause-done : goal.returns-clause-done
-returns-clause-done g c = λ e. done_by bid_framing None _ AreReplies (replied _ c.new-server.ensures) _ _ _ _ (c.serve_frames.ensures.done e)
-
-pub returns-clause-refused : goal.returns-clause-refused
-returns-clause-refused g c = λ e. refused_by bid_framing None _ AreReplies (replied _ c.new-server.ensures) _ _ _ _ (c.serve_frames.ensures.refused e)
-
-pub returns-clause-too_long : goal.returns-clause-too_long
-returns-clause-too_long g c = λ e. long_by bid_framing None _ AreReplies (replied _ c.new-server.ensures) _ _ _ _ (c.serve_frames.ensures.too_long e)
-
-pub returns-clause-read_fault : goal.returns-clause-read_fault
-returns-clause-read_fault g c = λ e.
-    let fault = c.serve_frames.ensures.read_fault e in
-    (fault.0, reading_by bid_framing None _ AreReplies (replied _ c.new-server.ensures) _ _ _ _ fault.1)
-
-pub returns-clause-write_fault : goal.returns-clause-write_fault
-returns-clause-write_fault g c = λ e.
-    let fault = c.serve_frames.ensures.write_fault e in
-    (fault.0, cut_by bid_framing None _ AreReplies (replied _ c.new-server.ensures) _ _ _ _ fault.1)
-
-pub returns-clause-no_memory : goal.returns-clause-no_memory
-returns-clause-no_memory g c = λ e. begun_by bid_framing None _ AreReplies (replied _ c.new-server.ensures) _ _ _ _ (c.serve_frames.ensures.no_memory e)
-
-pub returns-clause-fault : goal.returns-clause-fault
-returns-clause-fault g c = λ all offset is e bad.
-    told_by bid_framing None _ AreReplies (replied _ c.new-server.ensures) all _ _ offset (c.serve_frames.ensures.fault all offset is e bad)
+pub returns-clause-took_more : goal.returns-clause-took_more
+returns-clause-took_more g c = λ all told more none.
+    let Q : Option (List ℕ) → Type 0 = λ o. stream_limit < length (taken_bytes (g.S.Source.left c.args.source.now) o) in
+    let R : Option (List ℕ) → Type 0 = λ o. (offset : ℕ) → ¬ HasBadFrame (taken_bytes (g.S.Source.left c.args.source.now) o) offset in
+    c.serve_market.ensures.took_more all told (subst Q (search rules) more) (subst R (search rules) none)

@@ -39,8 +39,8 @@ refuse-requires g c =
     let at_end = c.in-Ok.ensures.bytes.1 c.if-count-eq0.true (omega arith) in
     record {
       next = may_write_all _ _ _ _ _ framing _ _ _ _ _ g.met.W.Peer.goes_on c.requires.asks (g.met.W.Peer.goes_on _ _ _ kept.becomes c.read.ensures.becomes) (λ holds sent rest split appends.
-    end_next framing _ _ _ _ _ _ _ _ _ _ _ _ _ _ sent rest serving none at_end c.loop-taken-test.true c.rest-rest.ensures c.if-rest-gt0.true
-    kept.empty split appends);
+          end_next framing _ _ _ _ _ _ _ _ _ _ _ _ _ _ sent rest serving none at_end c.loop-taken-test.true c.rest-rest.ensures c.if-rest-gt0.true
+          kept.empty split appends);
     }
 
 pub refuse-requires-in-Err-Bad : goal.refuse-requires-in-Err-Bad
@@ -51,8 +51,8 @@ refuse-requires-in-Err-Bad g c =
     let bad = c.in-Err-Bad.ensures.bad c.in-Err-Bad.at c.in-Err-Bad.field-0-is in
     record {
       next = may_write_all _ _ _ _ _ framing _ _ _ _ _ g.met.W.Peer.goes_on c.requires.asks (g.met.W.Peer.goes_on _ _ _ kept.becomes c.read.ensures.becomes) (λ holds sent rest split appends.
-    bad_next framing _ _ _ _ _ _ _ _ _ _ _ _ _ _ c.in-Err-Bad.at _ _ _ sent rest serving c.in-Ok.ensures.bytes.0 kept.empty bad
-    (told_due _ _ _ _ c.in-Err-Bad.at-is split) appends);
+          bad_next framing _ _ _ _ _ _ _ _ _ _ _ _ _ _ c.in-Err-Bad.at _ _ _ sent rest serving c.in-Ok.ensures.bytes.0 kept.empty bad
+          (told_due _ _ _ _ c.in-Err-Bad.at-is split) appends);
     }
 
 pub flush-requires : goal.flush-requires
@@ -62,8 +62,8 @@ flush-requires g c =
     let serving = serving_held framing _ _ _ _ _ _ _ _ _ _ _ c.read.ensures.held kept.serving in
     record {
       next = may_write_all _ _ _ _ _ framing _ _ _ _ _ g.met.W.Peer.goes_on c.requires.asks (g.met.W.Peer.goes_on _ _ _ kept.becomes c.read.ensures.becomes) (λ holds sent rest split appends.
-    piece_next framing _ _ _ _ _ _ _ _ _ _ _ _ _ _ _ _ _ sent rest serving c.in-Ok.ensures.bytes.0 kept.empty
-    c.in-Ok-take_piece.ensures.taken split appends);
+          piece_next framing _ _ _ _ _ _ _ _ _ _ _ _ _ _ _ _ _ sent rest serving c.in-Ok.ensures.bytes.0 kept.empty
+          c.in-Ok-take_piece.ensures.taken split appends);
     }
 
 pub returns-then-rest-gt0-clause-ends : goal.returns-then-rest-gt0-clause-ends
@@ -116,8 +116,7 @@ returns-then-is_err-clause-ends g c =
     let fault = failed _ _ _ c.flush.result (sym c.is_err.ensures.value
     ∙ c.if-is_err.true) c.flush.ensures.cause c.flush.ensures.proper c.flush.ensures.prefix in
     let cut = piece_cut_short framing _ _ _ _ _ _ _ _ _ _ _ _ _ _ fault.0.written _ _ _ serving c.in-Ok.ensures.bytes.0 kept.empty
-    c.in-Ok-take_piece.ensures.taken fault.2 fault.3 in
-    (
+    c.in-Ok-take_piece.ensures.taken fault.2 fault.3 in (
       rose_later _ _ _ (omega (arith, kept.sink_count, c.read.ensures.write_faults)) fault.1,
       cut_at framing _ _ _ _ _ _ _ c.flush.ensures.left cut,
     )
