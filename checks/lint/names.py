@@ -57,8 +57,8 @@ IRREGULAR = {
     "said", "seen", "sent", "taken", "told", "took", "written",
 }
 
-# Nouns that look like participles.
-NOUNS = {"clearing", "holding", "need", "setting"}
+# Nouns that look like participles: what a relay announces is its announced demand, with or without limits.
+NOUNS = {"announced", "clearing", "holding", "need", "setting"}
 
 # The most bytes of a line of sources, definitions and proofs.
 LINE_LIMIT = 160

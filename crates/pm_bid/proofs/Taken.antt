@@ -1,6 +1,6 @@
 -- What a relay announces is what is taken at the step for which it settles.
-use Rattle.std.proofs.Common.{◌≡◌, ◌∙◌, sym, ap, subst, ℕ, zero, suc, ◌+◌, ◌-◌, ◌<◌, ◌≤◌, ℤ, pos, ◌≤ℤ◌, List, length, Option, Some, None}
-use Rattle.std.proofs.Common.{inl, inr, refl, arith}
+use Rattle.std.proofs.Common.{◌≡◌, ◌∙◌, sym, ap, subst, ℕ, zero, suc, ◌+◌, ◌-◌, ◌<◌, ◌≤◌, ℤ, pos, ◌≤ℤ◌}
+use Rattle.std.proofs.Common.{List, length, Option, Some, None, inl, inr, refl, arith}
 use Rattle.std.specs.Prelude.{◌<ℤ◌, min, max}
 use Rattle.std.proofs.lemmas.Int.{ints, clamps}
 use Rattle.std.proofs.lemmas.Bool.{cases_lt, cases_eq}
@@ -10,7 +10,8 @@ use Rattle.pm_base.specs.declared.limits.Limits.{Limits}
 use Rattle.pm_bid.specs.Bids.{demand_at, zeros, NeverRises, AllWithinLimit}
 use Rattle.pm_bid.specs.Clearing.{first_at_most, last_at_least}
 use Rattle.pm_bid.specs.Limited.{NeverBind}
-use Rattle.pm_bid.specs.Taken.{IsWithinLimits, settled_in, nearest_said, said_at, said_between, announced_in, settled_step, announced, CanSay, HasStepWithin, AreSmall}
+use Rattle.pm_bid.specs.Taken.{IsWithinLimits, settled_in, nearest_said, said_at, said_between, announced_in, settled_step, announced}
+use Rattle.pm_bid.specs.Taken.{CanSay, HasStepWithin, AreSmall}
 use Rattle.pm_bid.proofs.EachStep.{same_bids}
 use Rattle.pm_bid.proofs.FoundStep.{first_at_most_is_first, last_at_least_is_last}
 use Rattle.pm_bid.proofs.Sums.{zeros-at}
@@ -149,10 +150,13 @@ pub length-said : (first last : ℕ) (sum : List ℤ) → length (said_between f
 unfolding said_between
 length-said first last sum = length-map-range_with_len (said_at first last sum) 0 (length sum)
 
-pub said_between-at : (first last : ℕ) (sum : List ℤ) (k : ℕ) → k < length sum → demand_at (said_between first last sum) k ≡ said_at first last sum k
+-- at each step what is taken at the nearest of the steps, as far as it can be said
+pub said_between-at : (first last : ℕ) (sum : List ℤ) (k : ℕ) → k < length sum →
+    demand_at (said_between first last sum) k ≡ said_at first last sum k
 unfolding said_between
 said_between-at first last sum k inside = get_or-map-range_with_len (said_at first last sum) 0 (length sum) k k (pos 0) inside (omega arith)
 
+-- as long as the sum
 pub announced-length : (limits : Limits) (sum : List ℤ) → length (announced_in limits sum) ≡ length sum
 announced-length limits sum = length-said (first_at_most limits.ceiling sum) (last_at_least limits.floor sum) sum
 
@@ -161,6 +165,7 @@ pub announced-at : (limits : Limits) (sum : List ℤ) (k : ℕ) → k < length s
     demand_at (announced_in limits sum) k ≡ nearest_said (demand_at sum (settled_in limits k sum))
 announced-at limits sum k inside = said_between-at (first_at_most limits.ceiling sum) (last_at_least limits.floor sum) sum k inside
 
+-- a demand that a bid may have
 pub nearest_said-small : (demand : ℤ) → IsWithin demand_limit (nearest_said demand)
 nearest_said-small demand = record { low = omega (arith, ints, clamps); high = omega (arith, ints, clamps) }
 
@@ -202,6 +207,7 @@ settled_small limits k sum small falls has =
       high = omega (arith, ints, keeps.ceiling, small.ceiling.high);
     }
 
+-- limits that can be said, with some step within them, are kept at every step
 pub announced-within : (limits : Limits) (sum : List ℤ) (k : ℕ) → AreSmall limits → NeverRises sum → HasStepWithin limits sum → k < length sum →
     IsWithinLimits limits (demand_at (announced_in limits sum) k)
 announced-within limits sum k small falls has inside =
@@ -221,6 +227,7 @@ settled_unbound limits sum k never inside =
     let high = last_from limits sum k inside (never k inside).0 in
     omega (arith, low, high)
 
+-- a sum that never leaves limits that can be said is announced as it is
 pub announced-unbound : (limits : Limits) (sum : List ℤ) → AreSmall limits → NeverBind limits sum → announced_in limits sum ≡ sum
 announced-unbound limits sum small never = same_bids (announced_in limits sum) sum (announced-length limits sum) (λ k lt.
     let inside : k < length sum = omega (arith, lt, announced-length limits sum) in
@@ -254,10 +261,12 @@ pub announced_is_taken : (limits : Option Limits) (k : ℕ) (sum : List ℤ) →
 announced_is_taken None k sum inside say = refl
 announced_is_taken (Some limits) k sum inside say = announced-taken limits sum k inside say
 
+-- as long as the sum, with or without limits
 pub length-announced : (limits : Option Limits) (sum : List ℤ) → length (announced limits sum) ≡ length sum
 length-announced None sum = refl
 length-announced (Some limits) sum = announced-length limits sum
 
+-- a step of the sum, with or without limits
 pub settled_step_inside : (limits : Option Limits) (k : ℕ) (sum : List ℤ) → k < length sum → settled_step limits k sum < length sum
 settled_step_inside None k sum inside = inside
 settled_step_inside (Some limits) k sum inside = settled_inside limits k sum (omega arith)

@@ -12,7 +12,7 @@ ghost use Rattle.pm_bid.specs.Taken.{IsWithinLimits, HasStepWithin, AreSmall, se
 /// where the sum is within the limits. It is the first step at most the ceiling if the sum is above there, and the last step
 /// at least the floor if it is below there and some step is within. So it keeps the limits if some step does, and the
 /// ceiling if some step keeps that.
-#[tactic(auto, using(crate::proofs::Taken::settled_inside, crate::proofs::Taken::settled_rises, crate::proofs::Taken::settled_kept, crate::proofs::Taken::settled_above, crate::proofs::Taken::settled_below, crate::proofs::Taken::settled_within, crate::proofs::Taken::settled_ceiling))]
+#[tactic(auto)]
 pub fn relays_settle_within_limits()
     ensures inside { (limits : Limits) (k : ℕ) (sum : List ℤ) → 1 ≤ length sum →
         settled_in limits k sum < length sum }

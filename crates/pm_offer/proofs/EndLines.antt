@@ -29,7 +29,8 @@ use Rattle.pm_offer.specs.Offers.{local_step_at}
 use Rattle.pm_offer.specs.LocalSteps.{IsLocalStep, GoesBy, IsAuctionStep, unlimited, kept, above, below}
 use Rattle.pm_offer.specs.Powers.{total_watts, group_power, announced_power, KeepsLimits}
 use Rattle.pm_offer.specs.EndLines.{TellsMember, told_power, TellsLimited, TellsEnd}
-use Rattle.pm_offer.proofs.Falls.{falls_to, sum_falls}
+use Rattle.pm_bid.proofs.Taken.{falls_to}
+use Rattle.pm_offer.proofs.Falls.{sum_falls}
 use Rattle.pm_offer.proofs.GroupPowers.{powers_group, powers_total, powers_within}
 use Rattle.pm_offer.proofs.Steps.{sum_steps, total_steps}
 

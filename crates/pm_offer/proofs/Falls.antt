@@ -13,6 +13,7 @@ use Rattle.pm_bid.specs.Bids.{demand_at, nearest_in_range, NeverRises}
 use Rattle.pm_bid.specs.Clearing.{first_at_most, last_at_least}
 use Rattle.pm_bid.specs.Limited.{step_within, within_limits}
 use Rattle.pm_bid.proofs.EachStep.{clamp-at}
+use Rattle.pm_bid.proofs.Taken.{falls_to}
 use Rattle.pm_bid.proofs.FoundStep.{first_at_most_is_first, last_at_least_is_last}
 use Rattle.pm_market.specs.Lists.{is_leaf}
 use Rattle.pm_plan.specs.Plans.{PlanData, NodeData, node, is_member, is_limited, limits_of, group}
@@ -101,22 +102,6 @@ total_falls plan is cut step more =
     let next = total_is plan is cut (step + 1) inside in
     let here = total_is plan is cut step (omega arith) in
     omega (arith, ints, next, here, announced_sum plan cut (step + 1), announced_sum plan cut step, free, each)
-
--- so a later step has no greater demand
-falls_by : (bid : List ℤ) → NeverRises bid → (step n : ℕ) → step + n < length bid → demand_at bid (step + n) ≤ℤ demand_at bid step
-falls_by bid falls step zero inside =
-    let same : step + 0 ≡ step = omega arith in
-    omega (arith, ints, ap (demand_at bid) same)
-falls_by bid falls step (suc n) inside =
-    let next : step + suc n ≡ (step + n) + 1 = omega arith in
-    omega (arith, ints, ap (demand_at bid) next, falls (step + n) (omega arith), falls_by bid falls step n (omega arith))
-
--- a later step of a bid that never rises has no greater demand
-pub falls_to : (bid : List ℤ) → NeverRises bid → (step later : ℕ) → step ≤ later → later < length bid →
-    demand_at bid later ≤ℤ demand_at bid step
-falls_to bid falls step later order inside =
-    let gap : step + (later - step) ≡ later = omega arith in
-    omega (arith, ints, ap (demand_at bid) gap, falls_by bid falls step (later - step) (omega arith))
 
 -- ---- the step of a group keeps its limits, where some step does
 

@@ -22,7 +22,9 @@ pub record IsRestDue {P F : Type 0} (framing : Framing P F) (start : P) (Answer 
   pub spelled : due ≡ sent ++ piece
 
 -- at what calls may make of it, the peer asks no more at each read and at each write
-pub record AsksWhatIsDue {W P F : Type 0} (left held : W → Option (List ℕ)) (becomes : W → W → Type 0) (may_read : W → Type 0) (may_write : W → List ℕ → Type 0)
-    (framing : Framing P F) (start : P) (Answer : List F → List ℕ → Type 0) (old : W) : Type 0 where
-  pub read : (now : W) → becomes old now → HasAnswered framing start Answer (left old) (left now) (held old) (held now) → may_read now
-  pub write : (now : W) (piece : List ℕ) → becomes old now → IsRestDue framing start Answer (left old) (left now) (held old) (held now) piece → may_write now piece
+pub record AsksWhatIsDue {W P F : Type 0} (left held : W → Option (List ℕ)) (becomes : W → W → Type 0) (may_read : W → Type 0)
+    (may_write : W → List ℕ → Type 0) (framing : Framing P F) (start : P) (Answer : List F → List ℕ → Type 0) (old : W) : Type 0 where
+  pub read : (now : W) → becomes old now → HasAnswered framing start Answer (left old) (left now) (held old) (held now) →
+      may_read now
+  pub write : (now : W) (piece : List ℕ) → becomes old now →
+      IsRestDue framing start Answer (left old) (left now) (held old) (held now) piece → may_write now piece

@@ -26,7 +26,8 @@ const PIECE: usize = 16_384;
 pub fn serve_market<W: Peer>(alloc: Global, wire: &mut W) -> Served
     // At each read all whole frames of the bytes taken were answered, and at each write what was written, with what is written
     // now, is what is due for them. A peer may ask for what follows from that, whether the call returns or not.
-    requires { AsksWhatIsDue W.left W.held W.becomes W.may_read W.may_write bid_framing None AreReplies wire.old }
+    requires { AsksWhatIsDue W.left W.held W.becomes W.may_read W.may_write bid_framing None
+        AreReplies wire.old }
     ensures done { result ≡ Served.Done
         → IsDone (W.left wire.old) (W.left wire.new) (W.held wire.old) (W.held wire.new) }
     ensures refused { result ≡ Served.Refused
@@ -36,7 +37,8 @@ pub fn serve_market<W: Peer>(alloc: Global, wire: &mut W) -> Served
     ensures read_fault { result ≡ Served.ReadFault →
         Rose (W.read_faults wire.old) (W.read_faults wire.new)
         × FailsReading (W.left wire.old) (W.left wire.new) (W.held wire.old) (W.held wire.new) }
-    ensures write_fault { result ≡ Served.WriteFault → Rose (W.write_faults wire.old) (W.write_faults wire.new)
+    ensures write_fault { result ≡ Served.WriteFault →
+        Rose (W.write_faults wire.old) (W.write_faults wire.new)
         × IsCutShort (W.left wire.old) (W.left wire.new) (W.held wire.old) (W.held wire.new) }
     ensures no_memory { result ≡ Served.NoMemory
         → IsBegun (W.left wire.old) (W.left wire.new) (W.held wire.old) (W.held wire.new) }

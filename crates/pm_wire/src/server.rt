@@ -1,6 +1,7 @@
 //! The auctioneer over a list of frames.
 
-ghost use Rattle.std.specs.Prelude.{◌≡◌, ◌+◌, ◌<◌, ◌≤◌, ◌++◌, ◌^◌, ◌⊎◌, length, vec_len, vec_capacity, IfSome, OnOk, OnErr, None};
+ghost use Rattle.std.specs.Prelude.{◌≡◌, ◌+◌, ◌<◌, ◌≤◌, ◌++◌, ◌^◌, ◌⊎◌, length, vec_len, vec_capacity};
+ghost use Rattle.std.specs.Prelude.{IfSome, OnOk, OnErr, None};
 ghost use Rattle.pm_base.specs.Limits.{most_nodes};
 ghost use Rattle.pm_wire.specs.Frames.{MayStand};
 ghost use Rattle.pm_wire.specs.Answers.{market_after, answers_to, reply_bytes, place_known, AnswersFrame, IsAtStart};

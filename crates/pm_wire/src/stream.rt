@@ -54,7 +54,8 @@ fn flush<W: Peer>(wire: &mut W, out: &mut Vec<u8>) -> Result<(), WriteFault>
     ensures becomes { W.becomes wire.old wire.new }
     ensures read_faults { W.read_faults wire.new ≡ W.read_faults wire.old }
     ensures count { W.write_faults wire.old ≤ W.write_faults wire.new }
-    ensures cause { IfErr result (λ fault. Rose (W.write_faults wire.old) (W.write_faults wire.new)) }
+    ensures cause { IfErr result (λ fault.
+        Rose (W.write_faults wire.old) (W.write_faults wire.new)) }
 {
     tell_all(wire, out)?;
     out.clear();
@@ -70,7 +71,8 @@ fn refuse<W: Peer>(wire: &mut W, out: &mut Vec<u8>, offset: u64) -> Served
     ensures refused { result ≡ Served.Refused
         → Appends (W.held wire.old) (W.held wire.new)
         (out.old.items ++ fault_bytes offset) }
-    ensures write_fault { result ≡ Served.WriteFault → Rose (W.write_faults wire.old) (W.write_faults wire.new)
+    ensures write_fault { result ≡ Served.WriteFault →
+        Rose (W.write_faults wire.old) (W.write_faults wire.new)
         × ((written : ℕ) × (written < length (out.old.items ++ fault_bytes offset))
         × Appends (W.held wire.old) (W.held wire.new)
         (take written (out.old.items ++ fault_bytes offset))) }
@@ -103,8 +105,8 @@ fn run<F: StreamFrame, V: Service<F>, W: Peer>(
     requires out { out.old.items ≡ [] }
     requires some { 1 ≤ length piece.old }
     requires few { length piece.old ≤ piece_limit }
-    requires asks { AsksWhatIsDue W.left W.held W.becomes W.may_read W.may_write F.framing decoder.old.place
-        (AnswersFrom V.answers service.old) wire.old }
+    requires asks { AsksWhatIsDue W.left W.held W.becomes W.may_read W.may_write F.framing
+        decoder.old.place (AnswersFrom V.answers service.old) wire.old }
     ensures ends { EndsSo F.framing decoder.old.place (AnswersFrom V.answers service.old)
         (W.left wire.old) (W.left wire.new) (W.held wire.old) (W.held wire.new)
         (Rose (W.read_faults wire.old) (W.read_faults wire.new))
@@ -172,7 +174,8 @@ pub fn serve_peer<F: StreamFrame, V: Service<F>, W: Peer>(
         Rose (W.read_faults wire.old) (W.read_faults wire.new)
         × FailsReading F.framing place (AnswersFrom V.answers service.old)
         (W.left wire.old) (W.left wire.new) (W.held wire.old) (W.held wire.new) }
-    ensures write_fault { result ≡ Served.WriteFault → Rose (W.write_faults wire.old) (W.write_faults wire.new)
+    ensures write_fault { result ≡ Served.WriteFault →
+        Rose (W.write_faults wire.old) (W.write_faults wire.new)
         × IsCutShort F.framing place (AnswersFrom V.answers service.old)
         (W.left wire.old) (W.left wire.new) (W.held wire.old) (W.held wire.new) }
     ensures no_memory { result ≡ Served.NoMemory

@@ -22,7 +22,8 @@ loop-taken-init g c =
 
 pub read-requires : goal.read-requires
 read-requires g c =
-    c.requires.asks.read _ c.loop-taken.invariant.becomes (answered_all g.F.StreamFrame.framing _ _ _ _ _ _ _ _ _ _ c.loop-taken.invariant.serving c.loop-taken-test.true)
+    c.requires.asks.read _ c.loop-taken.invariant.becomes
+    (answered_all g.F.StreamFrame.framing _ _ _ _ _ _ _ _ _ _ c.loop-taken.invariant.serving c.loop-taken-test.true)
 
 pub take_piece-requires-clause-agrees : goal.take_piece-requires-clause-agrees
 take_piece-requires-clause-agrees g c =
@@ -38,7 +39,8 @@ refuse-requires g c =
     let none = none_read _ _ _ c.in-Ok.count c.if-count-eq0.true c.in-Ok.ensures.bytes.0 in
     let at_end = c.in-Ok.ensures.bytes.1 c.if-count-eq0.true (omega arith) in
     record {
-      next = may_write_all _ _ _ _ _ framing _ _ _ _ _ g.met.W.Peer.goes_on c.requires.asks (g.met.W.Peer.goes_on _ _ _ kept.becomes c.read.ensures.becomes) (λ holds sent rest split appends.
+      next = may_write_all _ _ _ _ _ framing _ _ _ _ _ g.met.W.Peer.goes_on c.requires.asks
+          (g.met.W.Peer.goes_on _ _ _ kept.becomes c.read.ensures.becomes) (λ holds sent rest split appends.
           end_next framing _ _ _ _ _ _ _ _ _ _ _ _ _ _ sent rest serving none at_end c.loop-taken-test.true c.rest-rest.ensures c.if-rest-gt0.true
           kept.empty split appends);
     }
@@ -50,7 +52,8 @@ refuse-requires-in-Err-Bad g c =
     let serving = serving_held framing _ _ _ _ _ _ _ _ _ _ _ c.read.ensures.held kept.serving in
     let bad = c.in-Err-Bad.ensures.bad c.in-Err-Bad.at c.in-Err-Bad.field-0-is in
     record {
-      next = may_write_all _ _ _ _ _ framing _ _ _ _ _ g.met.W.Peer.goes_on c.requires.asks (g.met.W.Peer.goes_on _ _ _ kept.becomes c.read.ensures.becomes) (λ holds sent rest split appends.
+      next = may_write_all _ _ _ _ _ framing _ _ _ _ _ g.met.W.Peer.goes_on c.requires.asks
+          (g.met.W.Peer.goes_on _ _ _ kept.becomes c.read.ensures.becomes) (λ holds sent rest split appends.
           bad_next framing _ _ _ _ _ _ _ _ _ _ _ _ _ _ c.in-Err-Bad.at _ _ _ sent rest serving c.in-Ok.ensures.bytes.0 kept.empty bad
           (told_due _ _ _ _ c.in-Err-Bad.at-is split) appends);
     }
@@ -61,7 +64,8 @@ flush-requires g c =
     let kept = c.loop-taken.invariant in
     let serving = serving_held framing _ _ _ _ _ _ _ _ _ _ _ c.read.ensures.held kept.serving in
     record {
-      next = may_write_all _ _ _ _ _ framing _ _ _ _ _ g.met.W.Peer.goes_on c.requires.asks (g.met.W.Peer.goes_on _ _ _ kept.becomes c.read.ensures.becomes) (λ holds sent rest split appends.
+      next = may_write_all _ _ _ _ _ framing _ _ _ _ _ g.met.W.Peer.goes_on c.requires.asks
+          (g.met.W.Peer.goes_on _ _ _ kept.becomes c.read.ensures.becomes) (λ holds sent rest split appends.
           piece_next framing _ _ _ _ _ _ _ _ _ _ _ _ _ _ _ _ _ sent rest serving c.in-Ok.ensures.bytes.0 kept.empty
           c.in-Ok-take_piece.ensures.taken split appends);
     }
