@@ -164,8 +164,10 @@ fn is_legal<R: Threads + Wait + Sync>(
 ) -> Result<bool, Fail> {
     let input = envelope(alloc, from_utf8(file)?, from_utf8(trace)?)?;
     let judged = called(rt, alloc, "check", input.as_bytes(), PIECES, &OpenGate)?;
-    let moves = judged.text.strip_prefix(b"valid ");
-    Ok(judged.status == Status::Done && moves.is_some_and(|moves| trace.ends_with(moves)))
+    match judged.text.strip_prefix(b"valid ") {
+        Some(moves) => Ok(judged.status == Status::Done && trace.ends_with(moves)),
+        None => Ok(false),
+    }
 }
 
 /// A call: its arguments, its input, the read and the write that fail, or 0 if none does, and what it answers and writes.

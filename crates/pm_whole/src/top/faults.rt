@@ -74,24 +74,24 @@ struct Call<'a> {
 
 impl Call<'_> {
     /// Whether moves follow the text that is due.
-    fn has_moves(self) -> bool {
+    fn has_moves(&self) -> bool {
         self.line == "trace" && self.due.status == Status::Done
     }
 
     /// Whether an outcome is the one due. Behind a report of a trace stand moves.
-    fn is_due(self, outcome: &Outcome) -> bool {
+    fn is_due(&self, outcome: &Outcome) -> bool {
         outcome.status == self.due.status
             && outcome.text.starts_with(&self.due.text)
             && (self.has_moves() || outcome.text.len() == self.due.text.len())
     }
 
     /// Whether the text of a call whose read failed is right: there is none, but of a stream a part of the one due.
-    fn is_left_by_a_read(self, text: &[u8]) -> bool {
+    fn is_left_by_a_read(&self, text: &[u8]) -> bool {
         text.is_empty() || self.line == "serve" && self.due.text.starts_with(text)
     }
 
     /// Whether the text of a call whose write failed is right: it is a proper part of the one due.
-    fn is_left_by_a_write(self, text: &[u8]) -> bool {
+    fn is_left_by_a_write(&self, text: &[u8]) -> bool {
         let whole = self.due.text.as_slice();
         if self.has_moves() {
             whole.starts_with(text) || text.starts_with(whole)
@@ -101,7 +101,7 @@ impl Call<'_> {
     }
 
     /// Whether an outcome is right. No call follows the one that fails. If so many are not made, the outcome is the one due.
-    fn is_right(self, outcome: &Outcome, around: Around) -> bool {
+    fn is_right(&self, outcome: &Outcome, around: Around) -> bool {
         let text = outcome.text.as_slice();
         if around.bad_read != 0 && outcome.reads >= around.bad_read {
             (outcome.status, outcome.reads) == (Status::ReadFault, around.bad_read)
@@ -119,7 +119,7 @@ impl Call<'_> {
 fn must_be_right<R: Threads + Wait + Sync + Abort>(
     rt: &R,
     alloc: Global,
-    call: Call<'_>,
+    call: &Call<'_>,
     around: Around,
 ) -> Result<(u64, u64), Fail> {
     let outcome = called(rt, alloc, call.line, call.input, around, &OpenGate)?;
@@ -145,7 +145,7 @@ fn must_be_right<R: Threads + Wait + Sync + Abort>(
 fn must_stand_faults<R: Threads + Wait + Sync + Abort>(
     rt: &R,
     alloc: Global,
-    call: Call<'_>,
+    call: &Call<'_>,
     piece: usize,
 ) -> Result<(), Fail> {
     let whole = Around::pieces(piece);
@@ -201,7 +201,7 @@ fn must_stand_cut<R: Threads + Wait + Sync + Abort>(
         due: &due,
     };
     for piece in PIECES {
-        must_be_right(rt, alloc, call, Around::pieces(*piece))?;
+        must_be_right(rt, alloc, &call, Around::pieces(*piece))?;
     }
     Ok(())
 }
@@ -220,7 +220,7 @@ fn must_stand<R: Threads + Wait + Sync + Abort>(
         due: &due,
     };
     for piece in PIECES {
-        must_stand_faults(rt, alloc, call, *piece)?;
+        must_stand_faults(rt, alloc, &call, *piece)?;
     }
     let whole = input.len();
     for length in 0..whole {
@@ -239,7 +239,10 @@ fn must_stand_all<R: Threads + Wait + Sync + Abort>(
     for case in cases {
         let (line, file, rest) = *case;
         match rest {
-            Some(rest) => must_stand(rt, alloc, line, envelope(alloc, file, rest)?.as_bytes())?,
+            Some(rest) => {
+                let input = envelope(alloc, file, rest)?;
+                must_stand(rt, alloc, line, input.as_bytes())?;
+            }
             None => must_stand(rt, alloc, line, file.as_bytes())?,
         }
     }

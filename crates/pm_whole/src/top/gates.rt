@@ -30,14 +30,14 @@ fn must_keep_its_text<R: Threads + Wait + Sync + Abort>(
     line: &str,
 ) -> Result<(), Fail> {
     let gate = schedule.gate(alloc, tree)?;
-    let Outcome { status, text, .. } = &called(rt, alloc, line, file, PIECES, &gate)?;
+    let outcome = called(rt, alloc, line, file, PIECES, &gate)?;
     let is_right = if line == "trace" {
-        text.starts_with(&due.text) && is_legal(rt, alloc, file, text)?
+        outcome.text.starts_with(&due.text) && is_legal(rt, alloc, file, &outcome.text)?
     } else {
-        text.as_slice() == due.text.as_slice()
+        outcome.text.as_slice() == due.text.as_slice()
     };
     assert_eq!(rt;
-        (*status, is_right),
+        (outcome.status, is_right),
         (Status::Done, true),
         "{line} under {schedule}"
     );
