@@ -8,6 +8,7 @@ from collections.abc import Iterable
 from dataclasses import dataclass, replace
 from pathlib import Path
 
+from .members import look
 from .nodes import AUCTIONEER, Node
 from .phases import Events, Join, Phase, Tick
 from .program import Program, found_program
@@ -20,6 +21,10 @@ class Basis:
     min: int
     max: int
     steps: int
+
+    def __post_init__(self) -> None:
+        """Keeps each member as a whole number. Raises TypeError."""
+        look(self)
 
     def price(self, step: int) -> int:
         """The price of a step, which counts from 0."""

@@ -1,30 +1,20 @@
 """The nodes of a cluster: a frozen class for each kind, with the members of its row in docs/CLUSTER_FILE.md.
 
 Powers are in watts, positive if a device takes power. Charges are in watt-hours. Temperatures are whole numbers of the user's
-own unit. No class looks at its numbers: the program does (`Cluster.check`).
+own unit. A class takes whole numbers of any library, such as NumPy's, and raises TypeError with the member's name for all else. It
+looks at no limit: the program does (`Cluster.check`).
 """
 
 from __future__ import annotations
 
-from collections.abc import Iterable
-from dataclasses import dataclass, fields
+from dataclasses import dataclass, fields, replace
 from typing import Any, ClassVar
 
+from .members import Demand, Points, look
+
 AUCTIONEER = "auctioneer"
-Demand = tuple[int, ...]
-Points = tuple[tuple[int, int], ...]
 # The members of which a manual device has one.
 BIDS = ("demand", "points")
-
-
-def as_demand(given: Iterable[int] | None) -> Demand | None:
-    """A demand for each step, as a tuple."""
-    return None if given is None else tuple(given)
-
-
-def as_points(given: Iterable[Iterable[int]] | None) -> Points | None:
-    """Pairs of a price and a demand, as tuples."""
-    return None if given is None else tuple(tuple(it) for it in given)  # type: ignore[misc]
 
 
 @dataclass(frozen=True)
@@ -36,6 +26,10 @@ class Node:
     # Whether the node is a leaf of the tree, and whether its state changes at a tick.
     is_device: ClassVar[bool] = True
     ticks: ClassVar[bool] = False
+
+    def __post_init__(self) -> None:
+        """Keeps each member as its type. Raises TypeError."""
+        look(self)
 
     @property
     def above(self) -> str:
@@ -132,6 +126,36 @@ class Battery(Child):
     spread: int
     start: int
 
+    def sliced(self, count: int, apart: int = 1) -> list[Battery]:
+        """The battery as so many small ones, so that a part of a surplus fits.
+
+        A battery charges with its whole power or not at all. Slices do so one after another: each has its share of the capacity, the
+        powers and the start, and a spread that is `apart` steps greater than that of the slice before. The shares are whole and add up
+        to the battery. The names are the battery's with a number from 0 behind, all of one length.
+
+        Raises ValueError if there is no slice, or one would have no capacity.
+        """
+        if not 1 <= count <= self.capacity:
+            raise ValueError(f"{self.name} has {self.capacity} Wh, which {count} slices cannot share")
+
+        def shares(whole: int) -> list[int]:
+            return [whole * (at + 1) // count - whole * at // count for at in range(count)]
+
+        capacities, charges, discharges, starts = map(shares, (self.capacity, self.charge, self.discharge, self.start))
+        digits = len(str(count - 1))
+        return [
+            replace(
+                self,
+                name=f"{self.name}{at:0{digits}}",
+                capacity=capacities[at],
+                charge=charges[at],
+                discharge=discharges[at],
+                spread=self.spread + at * apart,
+                start=starts[at],
+            )
+            for at in range(count)
+        ]
+
 
 @dataclass(frozen=True, kw_only=True)
 class Solar(Child):
@@ -159,16 +183,11 @@ class Objective(Node):
 
 @dataclass(frozen=True, kw_only=True)
 class Manual(Child):
-    """A device with its bid in the file: `demand`, watts for each step, or `points`, pairs of a price and watts."""
+    """A device with its bid in the file: `demand`, watts for each step, or `points`, pairs of a price and watts. Takes lists too."""
 
     kind: ClassVar[str] = "manual"
     demand: Demand | None = None
     points: Points | None = None
-
-    def __post_init__(self) -> None:
-        """Takes lists as well as tuples."""
-        object.__setattr__(self, "demand", as_demand(self.demand))
-        object.__setattr__(self, "points", as_points(self.points))
 
 
 ALL: tuple[type[Node], ...] = (

@@ -6,7 +6,7 @@ from collections.abc import Iterable
 from dataclasses import dataclass
 from typing import Any
 
-from .nodes import Demand, Points, as_demand, as_points
+from .members import Demand, Points, look
 
 
 @dataclass(frozen=True)
@@ -41,9 +41,8 @@ class State:
     points: Points | None = None
 
     def __post_init__(self) -> None:
-        """Takes lists as well as tuples."""
-        object.__setattr__(self, "demand", as_demand(self.demand))
-        object.__setattr__(self, "points", as_points(self.points))
+        """Keeps each member as its type, lists as tuples. Raises TypeError."""
+        look(self)
 
     def members(self) -> dict[str, Any]:
         """The members of the event in the cluster file."""
@@ -73,6 +72,10 @@ class Tick:
     """A phase in which so many minutes pass, and the states that change by themselves."""
 
     minutes: int
+
+    def __post_init__(self) -> None:
+        """Keeps the minutes as a whole number. Raises TypeError."""
+        look(self)
 
     def members(self) -> dict[str, Any]:
         """The members of the phase in the cluster file."""

@@ -13,6 +13,7 @@ from typing import Any
 
 from .cluster import Basis, Cluster
 from .errors import Unreadable
+from .members import kept
 from .nodes import KINDS, Node
 from .phases import Event, Events, Join, Leave, Phase, State, Tick
 
@@ -26,7 +27,7 @@ def cluster_of(text: str | bytes) -> Cluster:
     basis = _object("basis", document["basis"], ("min", "max", "steps"))
     nodes = [_node(f"nodes[{at}]", it) for at, it in enumerate(_list("nodes", document["nodes"]))]
     phases = [_phase(f"phases[{at}]", it) for at, it in enumerate(_list("phases", document["phases"]))]
-    return Cluster(Basis(**basis), nodes, phases, document["version"])
+    return Cluster(kept(Basis, **basis), nodes, phases, document["version"])
 
 
 def _whole(digits: str) -> int | float:
@@ -67,9 +68,11 @@ def _list(path: str, value: Any) -> list[Any]:
 
 
 def _bid(path: str, value: dict[str, Any]) -> dict[str, Any]:
-    """The members of an object with its bid, if it has one, as lists that can be kept."""
+    """The members of an object, with its bid as tuples if it has one."""
     if isinstance(value.get("demand", []), list) and _are_pairs(value.get("points", [])):
-        return value
+        pairs = {"points": tuple(map(tuple, value["points"]))} if "points" in value else {}
+        demands = {"demand": tuple(value["demand"])} if "demand" in value else {}
+        return {**value, **demands, **pairs}
     raise Unreadable(path, "demand is no list, or points is no list of pairs")
 
 
@@ -89,7 +92,7 @@ def _node(path: str, value: Any) -> Node:
         members.append(next((it for it in ("demand", "points") if it in value), "demand"))
     own = dict(_bid(path, _object(path, value, tuple(members))))
     del own["kind"]
-    return KINDS[kind](**own)
+    return kept(KINDS[kind], **own)
 
 
 def _event(path: str, value: Any) -> Event:
@@ -103,7 +106,7 @@ def _event(path: str, value: Any) -> Event:
     own = _bid(path, _object(path, value, ("state", form)))
     if own[form] is None:
         raise Unreadable(path, f"{form} is null")
-    return State(own["state"], **{form: own[form]})
+    return kept(State, device=own["state"], **{form: own[form]})
 
 
 def _phase(path: str, value: Any) -> Phase:
@@ -112,4 +115,4 @@ def _phase(path: str, value: Any) -> Phase:
     if "events" in value:
         events = _list(f"{path}.events", _object(path, value, ("events",))["events"])
         return Events(_event(f"{path}.events[{at}]", it) for at, it in enumerate(events))
-    return Tick(_object(path, value, ("tick",))["tick"])
+    return kept(Tick, minutes=_object(path, value, ("tick",))["tick"])

@@ -12,7 +12,8 @@ from dataclasses import dataclass
 
 from .cluster import Cluster
 from .limits import MOST_TEMPERATURE
-from .nodes import Battery, Cogeneration, Demand, Freezer, HeatPump, Manual, Node, Points
+from .members import Demand, Points
+from .nodes import Battery, Cogeneration, Freezer, HeatPump, Manual, Node
 from .phases import Events, Join, Leave, Phase, State
 from .texts import PhaseEnd
 

@@ -9,7 +9,7 @@ from __future__ import annotations
 from collections.abc import Iterable
 from dataclasses import dataclass, field
 
-from ..nodes import Demand
+from ..members import Demand
 from ..phases import Event, Join, Leave, State
 
 

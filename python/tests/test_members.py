@@ -1,0 +1,83 @@
+"""What constructors take: whole numbers of any library, and no texts, fractions or truths; and a battery in slices."""
+
+from __future__ import annotations
+
+from typing import Any
+
+import pytest
+from hypothesis import given
+from hypothesis import strategies as st
+
+from cogmaula import Basis, Battery, Cluster, Load, Manual, Program, Refused, Solar, State, Tick
+
+NOT_WHOLE = ["5", 5.0, None, True]
+
+
+@pytest.mark.parametrize(
+    ("member", "made"),
+    [
+        ("Load.start", lambda it: Load("a", start=it)),
+        ("Battery.spread", lambda it: Battery("a", capacity=1, charge=1, discharge=1, spread=it, start=0)),
+        ("Basis.steps", lambda it: Basis(0, 9, it)),
+        ("Tick.minutes", Tick),
+        ("Manual.demand[1]", lambda it: Manual("a", demand=[1, it])),
+        ("Manual.points[0]", lambda it: Manual("a", points=[(0, it)])),
+    ],
+)
+def test_a_constructor_takes_whole_numbers_alone(member: str, made: Any) -> None:
+    """A number of NumPy becomes one of Python; all else is told with the class and the member."""
+    numpy = pytest.importorskip("numpy")
+    assert made(numpy.int64(7)) == made(7)
+    Cluster(Basis(0, 9, 10), [it for it in [made(numpy.int32(7))] if hasattr(it, "kind")]).to_json()
+    for wrong in NOT_WHOLE:
+        with pytest.raises(TypeError) as told:
+            made(wrong)
+        assert str(told.value) == f"{member} is {wrong!r}: a whole number is due"
+
+
+def test_a_value_may_be_missing_and_a_name_is_a_text() -> None:
+    """The value of a state with points is None; a name that is no text is told."""
+    assert State("a", points=[(0, 1)]).value is None
+    with pytest.raises(TypeError, match=r"Solar.name is 5: a text is due"):
+        Solar(5, start=1)  # type: ignore[arg-type]
+    with pytest.raises(TypeError, match=r"Manual.points\[0\] has 3 numbers"):
+        Manual("a", points=[(0, 1, 2)])  # type: ignore[list-item]
+
+
+def test_what_a_file_says_is_left_to_the_program(program: Program) -> None:
+    """A text in place of a number stays as it is, and the program refuses it by its own code."""
+    text = '{"version": 1, "basis": {"min": 0, "max": 9, "steps": 10}, "nodes": [{"name": "a", "kind": "load", "parent": "auctioneer", "start": "5"}], "phases": []}'
+    cluster = Cluster.from_json(text)
+    assert getattr(cluster.nodes[0], "start") == "5"
+    with pytest.raises(Refused) as told:
+        cluster.check(program)
+    assert told.value.code == 2
+
+
+def test_a_battery_in_slices_by_hand() -> None:
+    """10 Wh over 3 slices are 3, 3 and 4; each slice waits a step longer than the one before."""
+    battery = Battery("store", parent="feeder", capacity=10, charge=7, discharge=6, spread=2, start=5)
+    assert battery.sliced(3) == [
+        Battery("store0", parent="feeder", capacity=3, charge=2, discharge=2, spread=2, start=1),
+        Battery("store1", parent="feeder", capacity=3, charge=2, discharge=2, spread=3, start=2),
+        Battery("store2", parent="feeder", capacity=4, charge=3, discharge=2, spread=4, start=2),
+    ]
+    assert [it.name for it in battery.sliced(10)][-1] == "store9"
+    assert [it.spread for it in battery.sliced(2, apart=5)] == [2, 7]
+    for count in (0, 11):
+        with pytest.raises(ValueError, match=f"store has 10 Wh, which {count} slices cannot share"):
+            battery.sliced(count)
+
+
+@given(st.integers(1, 10**6), st.integers(0, 10**6), st.integers(0, 10**6), st.integers(1, 200), st.data())
+def test_slices_add_up_to_the_battery(capacity: int, charge: int, discharge: int, count: int, data: st.DataObject) -> None:
+    """No watt and no watt-hour is lost, no slice starts above its capacity, and the names are different and in order."""
+    count = min(count, capacity)
+    start = data.draw(st.integers(0, capacity))
+    slices = Battery("b", capacity=capacity, charge=charge, discharge=discharge, spread=0, start=start).sliced(count)
+    assert len(slices) == count
+    for member, whole in (("capacity", capacity), ("charge", charge), ("discharge", discharge), ("start", start)):
+        assert sum(getattr(it, member) for it in slices) == whole
+    assert all(0 <= it.start <= it.capacity >= 1 for it in slices)
+    names = [it.name for it in slices]
+    assert names == sorted(set(names))
