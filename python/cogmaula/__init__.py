@@ -14,6 +14,7 @@ from .calls import Trace, ask, bill, check, run, trace
 from .chains import chain, parts_of, run_parts, whole_of
 from .cluster import Basis, Cluster, Source
 from .continuing import NoContinuation, continued, resumed
+from .data import from_csv
 from .errors import (
     Invalid,
     MarketError,
@@ -42,9 +43,12 @@ from .nodes import (
 )
 from .phases import Event, Events, Join, Leave, Phase, State, Tick
 from .program import Program
+from .report import report
 from .runs import Run
 from .states import Bid, DeviceState, Snapshot
+from .study import study
 from .texts import Account, Answer, Answers, Bill, GroupEnd, Move, PhaseEnd, Range, Report
+from .version import __version__
 
 __all__ = [
     "Account",
@@ -95,16 +99,20 @@ __all__ = [
     "TooLong",
     "Trace",
     "Unreadable",
+    "__version__",
     "ask",
     "bill",
     "chain",
     "check",
     "continued",
     "explain",
+    "from_csv",
     "parts_of",
+    "report",
     "resumed",
     "run",
     "run_parts",
+    "study",
     "trace",
     "whole_of",
 ]

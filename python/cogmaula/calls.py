@@ -8,11 +8,14 @@ from __future__ import annotations
 
 from collections.abc import Iterable
 from dataclasses import dataclass
-from datetime import datetime
+from datetime import date
 
 from .cluster import Cluster, Source, bytes_of
 from .errors import ProgramFault
-from .program import Program, found_program
+from .frames import START
+from .members import whole
+from .moments import moment_of
+from .program import Program, chosen
 from .runs import Run
 from .texts import Answers, Bill, Move, answers_of, bill_of, lines_of, moves_of
 
@@ -26,15 +29,17 @@ def cluster_in(source: Source) -> Cluster:
     return source if isinstance(source, Cluster) else Cluster.from_json(bytes_of(source))
 
 
-def run(source: Source, *, start: datetime | None = None, program: Program | None = None) -> Run:
+def run(source: Source, *, start: date | None = None, program: Program | None = None) -> Run:
     """Runs a cluster.
 
-    start:   the moment before the first phase; 2000-01-01 00:00 if it is not given
+    start:   the moment before the first phase, or a date for its midnight; 2000-01-01 00:00 if it is not given
     program: the proved program; by default the one that `Program.find()` finds
+
+    Raises TypeError before anything is run if `start` or `program` is of another type.
     """
-    program, data = program or found_program(), bytes_of(source)
+    program, moment, data = chosen(program), moment_of(start, START), bytes_of(source)
     text = program.answer("run", data)
-    return Run(_cluster_of(source, data), text, start, program)
+    return Run(_cluster_of(source, data), text, moment, program)
 
 
 @dataclass(frozen=True)
@@ -51,18 +56,18 @@ class Trace:
     moves: tuple[Move, ...]
 
 
-def trace(source: Source, *, start: datetime | None = None, program: Program | None = None) -> Trace:
+def trace(source: Source, *, start: date | None = None, program: Program | None = None) -> Trace:
     """Runs a cluster and keeps every move. `start` and `program` are as for `run`."""
-    program, data = program or found_program(), bytes_of(source)
+    program, moment, data = chosen(program), moment_of(start, START), bytes_of(source)
     text = program.answer("trace", data)
     moves = moves_of(text)[1]
     report = text[: text.index(b"\n", text.index(b"end phases ")) + 1]
-    return Trace(data, text, Run(_cluster_of(source, data), report, start, program), moves)
+    return Trace(data, text, Run(_cluster_of(source, data), report, moment, program), moves)
 
 
 def bill(source: Source, *, program: Program | None = None) -> Bill:
     """What each device and the grid paid, took and gave over the ticks of a run. `accounts` of a Run is the same as a frame."""
-    return bill_of((program or found_program()).answer("bill", bytes_of(source)))
+    return bill_of(chosen(program).answer("bill", bytes_of(source)))
 
 
 def envelope(file: bytes, rest: bytes) -> bytes:
@@ -77,8 +82,8 @@ def ask(source: Source, targets: Iterable[int], *, program: Program | None = Non
 
     Refused has the code 25 and the line of the target if one is too large or there are too many.
     """
-    rest = "".join(f"{it:d}\n" for it in targets).encode()
-    return answers_of((program or found_program()).answer("ask", envelope(bytes_of(source), rest)))
+    rest = "".join(f"{whole('a target', it)}\n" for it in targets).encode()
+    return answers_of(chosen(program).answer("ask", envelope(bytes_of(source), rest)))
 
 
 def check(source: Source, text: bytes, *, program: Program | None = None) -> int:
@@ -86,7 +91,7 @@ def check(source: Source, text: bytes, *, program: Program | None = None) -> int
 
     Raises Invalid with the bad line if it is none, and Refused if the cluster is.
     """
-    lines = lines_of((program or found_program()).answer("check", envelope(bytes_of(source), text)))
+    lines = lines_of(chosen(program).answer("check", envelope(bytes_of(source), text)))
     match lines:
         case [["valid", "moves", moves]]:
             return int(moves)

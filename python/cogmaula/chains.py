@@ -5,7 +5,7 @@ from __future__ import annotations
 import json
 from collections import Counter
 from collections.abc import Iterable, Iterator, Sequence
-from datetime import datetime, timedelta
+from datetime import date
 
 from . import schema
 from .calls import cluster_in, run
@@ -14,8 +14,9 @@ from .continuing import NoContinuation, resumed
 from .errors import Place, Refused
 from .frames import START
 from .limits import MOST_BYTES, MOST_CHANGES
+from .moments import later, moment_of
 from .phases import Events, Join, Leave, Phase, State, Tick
-from .program import Program, found_program
+from .program import Program, chosen
 from .progress import Progress
 from .runs import Run
 from .states import first_snapshot
@@ -66,8 +67,10 @@ def parts_of(cluster: Cluster, minutes: int | None = None) -> Iterator[tuple[Pha
 
     minutes: the most minutes of a part, such as 1440 for days; a longer tick is a part of its own
 
-    Raises NoContinuation if a phase is too large for a run of its own.
+    Raises NoContinuation if a phase is too large for a run of its own, and ValueError if the minutes are not above 0.
     """
+    if minutes is not None and minutes < 1:
+        raise ValueError(f"minutes is {minutes}: a part has at least 1")
     most_phases = schema.counts_of("document", "phases") - 1
     head, members = _head_size(cluster), Members(cluster)
     part, changes, size, passed = list[Phase](), 0, head, 0
@@ -90,7 +93,7 @@ def run_parts(
     cluster: Cluster,
     parts: Iterable[Sequence[Phase]],
     *,
-    start: datetime | None = None,
+    start: date | None = None,
     program: Program | None = None,
 ) -> Iterator[Run]:
     """Runs the parts of a script one after another, each as the continuation of the one before.
@@ -98,7 +101,7 @@ def run_parts(
     The cluster of each run is one that the program takes by itself. From the second on its first phase joins the members, and repeats
     the end before. Raises what `run` raises; the place of a refusal counts the phases of the whole script.
     """
-    program, moment = program or found_program(), start or START
+    program, moment = chosen(program), moment_of(start, START)
     now, passed = first_snapshot(cluster), 0
     for at, part in enumerate(parts):
         # The first part begins as the cluster does, and has no phase of joins.
@@ -109,7 +112,7 @@ def run_parts(
         except Refused as error:
             raise _in_whole(error, passed - behind) from None
         yield done
-        now, moment = done.snapshot, moment + timedelta(minutes=piece.minutes)
+        now, moment = done.snapshot, later(moment, piece.minutes)
         passed += len(part)
 
 
@@ -158,7 +161,7 @@ def chain(
     source: Source,
     *,
     minutes: int | None = None,
-    start: datetime | None = None,
+    start: date | None = None,
     program: Program | None = None,
     quiet: bool = True,
 ) -> Run:

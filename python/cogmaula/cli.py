@@ -3,6 +3,7 @@
 from __future__ import annotations
 
 import argparse
+import contextlib
 import importlib
 import os
 import pkgutil
@@ -12,11 +13,15 @@ from datetime import datetime
 from typing import Protocol, cast
 
 from . import commands
+from .data.faults import RecipeFault, TableFault
 from .errors import Invalid, MarketError, Refused, TooLong, Unreadable
+from .moments import read_moment
 from .program import VARIABLE, Program
+from .version import __version__
 
-# The exit status of a command that could not do its work, and of one whose file is refused, too long, invalid or no cluster file.
-FAILED, REFUSED = 1, 5
+# The exit status of a command that could not do its work; of one that was called wrongly, by its words, its recipe or its tables; of
+# one whose file is refused, too long, invalid or no cluster file; and of one that the user ended.
+FAILED, MISUSED, REFUSED, INTERRUPTED = 1, 2, 5, 130
 # The code of a refusal for too many phases, events or changes.
 TOO_MANY = 20
 
@@ -51,8 +56,24 @@ def command_of(module: str) -> Command:
 
 
 def moment(text: str) -> datetime:
-    """A moment that the user writes as 2026-01-31 or 2026-01-31T06:30."""
-    return datetime.fromisoformat(text)
+    """A moment that the user writes as 2026-01-31, 2026-01-31T06:30 or 2026-01-31T06:30[Europe/Berlin]."""
+    try:
+        return read_moment(text)
+    except (ValueError, OverflowError):
+        told = "write it as 2026-01-31, 2026-01-31T06:30 or 2026-01-31T06:30[Europe/Berlin]"
+        raise argparse.ArgumentTypeError(f"{text!r} is no moment: {told}") from None
+
+
+def whole_positive(text: str) -> int:
+    """A whole number above 0."""
+    if not text.isascii() or not text.isdigit() or len(text) > 18 or int(text) == 0:
+        raise argparse.ArgumentTypeError(f"{text!r} is no whole number above 0")
+    return int(text)
+
+
+def source_of(name: str) -> str | bytes:
+    """The cluster file of this name, or the bytes of standard input for `-`."""
+    return sys.stdin.buffer.read() if name == "-" else name
 
 
 def make_parser() -> argparse.ArgumentParser:
@@ -62,6 +83,7 @@ def make_parser() -> argparse.ArgumentParser:
         description="From measured data to a decision, around the proved electronic market.",
         epilog="cogmaula COMMAND --help says more of a command.",
     )
+    parser.add_argument("--version", action="version", version=f"cogmaula {__version__}")
     below = parser.add_subparsers(dest="command", metavar="COMMAND", required=True)
     for name, module in command_names().items():
         command = command_of(module)
@@ -83,9 +105,14 @@ def program_of(arguments: argparse.Namespace) -> Program:
 
 def main(words: Sequence[str] | None = None) -> int:
     """Runs the command of these words, by default those of the command line, and gives the exit status."""
-    arguments = make_parser().parse_args(words)
+    parser = make_parser()
+    complete(parser)
+    arguments = parser.parse_args(words)
     try:
         return int(arguments.main(arguments))
+    except KeyboardInterrupt:
+        print("cogmaula: interrupted", file=sys.stderr)
+        return INTERRUPTED
     except BrokenPipeError:
         # The reader has gone: nothing more can be said there.
         os.dup2(os.open(os.devnull, os.O_WRONLY), 1)
@@ -93,15 +120,25 @@ def main(words: Sequence[str] | None = None) -> int:
     except (Refused, TooLong, Invalid, Unreadable) as error:
         print(f"cogmaula: {error}{hint_of(arguments, error)}", file=sys.stderr)
         return REFUSED
+    except (RecipeFault, TableFault) as error:
+        print(f"cogmaula: {error}", file=sys.stderr)
+        return MISUSED
     except (MarketError, OSError) as error:
         print(f"cogmaula: {error}", file=sys.stderr)
         return FAILED
 
 
+def complete(parser: argparse.ArgumentParser) -> None:
+    """Completes the words of a shell that asks for it, if argcomplete is installed."""
+    if "_ARGCOMPLETE" in os.environ:
+        with contextlib.suppress(ImportError):
+            importlib.import_module("argcomplete").autocomplete(parser)
+
+
 def hint_of(arguments: argparse.Namespace, error: MarketError) -> str:
     """What to do about a refused file, if the command was given one."""
     file = getattr(arguments, "file", None)
-    if not isinstance(file, str):
+    if not isinstance(file, str) or file == "-":
         return ""
     if isinstance(error, TooLong) or (isinstance(error, Refused) and error.code == TOO_MANY):
         return f"\ncogmaula: cogmaula chain {file} runs a script that is too long for one run"

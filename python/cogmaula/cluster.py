@@ -11,7 +11,7 @@ from pathlib import Path
 from .members import look
 from .nodes import AUCTIONEER, Node
 from .phases import Events, Join, Phase, Tick
-from .program import Program, found_program
+from .program import Program, chosen
 
 
 @dataclass(frozen=True)
@@ -135,7 +135,7 @@ class Cluster:
 
     def check(self, program: Program | None = None) -> None:
         """Asks the program whether it takes the cluster. Raises what a run would, above all Refused."""
-        (program or found_program()).answer("run", self.to_bytes())
+        chosen(program).answer("run", self.to_bytes())
 
 
 # What a call takes for a cluster: the cluster, the path of its file, or the bytes of the file.

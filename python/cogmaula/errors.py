@@ -5,6 +5,8 @@ from __future__ import annotations
 from dataclasses import dataclass
 from typing import Literal
 
+from .refusals import WORDS
+
 What = Literal["document", "basis", "node", "phase", "event", "line", "frame"]
 
 
@@ -64,11 +66,14 @@ class Place:
 
 
 class Refused(MarketError):
-    """The program refused the input (status 5): `refused CODE PLACE`, with the item of a bid behind it for codes 17 and 18."""
+    """The program refused the input (status 5). The message has its answer, what the code means, and what to do.
+
+    `answer` is the program's line: `refused CODE PLACE`, with the item of a bid behind it for codes 17 and 18.
+    """
 
     def __init__(self, code: int, place: Place, item: int | None = None) -> None:
-        behind = "" if item is None else f" item {item}"
-        super().__init__(f"refused {code} {place}{behind}")
+        self.answer = f"refused {code} {place}" + ("" if item is None else f" item {item}")
+        super().__init__(": ".join([self.answer, *("; ".join(it) for it in [WORDS.get(code)] if it)]))
         self.code = code
         self.place = place
         self.item = item

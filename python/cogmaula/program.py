@@ -200,3 +200,12 @@ def _beside_package() -> Program:
 def found_program() -> Program:
     """The program that `Program.find()` finds, looked for once in a process."""
     return Program.find()
+
+
+def chosen(program: Program | None) -> Program:
+    """The program that a caller gave, or the one that is found. Raises TypeError if it is none, such as a path, and NoProgram."""
+    if program is None:
+        return found_program()
+    if not isinstance(program, Program):
+        raise TypeError(f"program is {program!r}: write Program.find({program!r})")
+    return program

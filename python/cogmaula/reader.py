@@ -25,7 +25,7 @@ def cluster_of(text: str | bytes) -> Cluster:
     """The cluster of a text. Raises Unreadable."""
     document = _object("", _json(text), ("version", "basis", "nodes", "phases"))
     basis = _object("basis", document["basis"], ("min", "max", "steps"))
-    nodes = [_node(f"nodes[{at}]", it) for at, it in enumerate(_list("nodes", document["nodes"]))]
+    nodes = [node_of(f"nodes[{at}]", it) for at, it in enumerate(_list("nodes", document["nodes"]))]
     phases = [_phase(f"phases[{at}]", it) for at, it in enumerate(_list("phases", document["phases"]))]
     return Cluster(kept(Basis, **basis), nodes, phases, document["version"])
 
@@ -80,7 +80,7 @@ def _are_pairs(value: Any) -> bool:
     return isinstance(value, list) and all(isinstance(it, list) and len(it) == 2 for it in value)
 
 
-def _node(path: str, value: Any) -> Node:
+def node_of(path: str, value: Any) -> Node:
     if not isinstance(value, dict):
         raise Unreadable(path, "an object is due")
     kind = value.get("kind")

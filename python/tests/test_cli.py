@@ -4,6 +4,7 @@ from __future__ import annotations
 
 import io
 import json
+import os
 import subprocess
 import sys
 import time
@@ -11,6 +12,7 @@ import time
 import pytest
 from conftest import EXAMPLES, TOP
 
+import cogmaula
 from cogmaula import Cluster, Events, Join, run
 from cogmaula.cli import command_names, command_of, main
 from cogmaula.progress import Progress, tracked
@@ -94,17 +96,75 @@ def test_a_refused_file(tmp_path, capsys):
 
 
 def test_a_script_that_is_too_long(tmp_path, capsys):
+    """`run` runs it in parts, as the report does; a phase that is too large alone is refused, and so is a file that is none."""
     file = tmp_path / "long.json"
     cluster = Cluster.load(VILLAGE)
     cluster.with_script([Events()] * 1_001).save(file)
+    assert main(["run", str(file)]) == 0
+    assert capsys.readouterr().out.splitlines()[-1] == "end phases 1001 changes 0"
+    cluster.with_script([Events([Join(cluster.devices[0].name)] * 4_097)]).save(file)
     assert main(["run", str(file)]) == 5
-    assert capsys.readouterr().err.splitlines() == [
-        "cogmaula: refused 20 document",
-        f"cogmaula: cogmaula chain {file} runs a script that is too long for one run",
-    ]
+    assert "refused 20 phase 1: too many phases, events or changes" in capsys.readouterr().err
     file.write_bytes(b" " * 4_194_305)
     assert main(["run", str(file)]) == 5
-    assert f"cogmaula chain {file}" in capsys.readouterr().err
+    assert "no JSON" in capsys.readouterr().err
+    assert main(["continue", str(file)]) == 5
+    assert f"cogmaula chain {file} runs a script that is too long for one run" in capsys.readouterr().err
+
+
+def test_run_reads_standard_input(monkeypatch, capsys):
+    monkeypatch.setattr(sys, "stdin", io.TextIOWrapper(io.BytesIO((EXAMPLES / "village.json").read_bytes())))
+    assert main(["run", "-"]) == 0
+    assert capsys.readouterr().out == (EXAMPLES / "village.txt").read_text()
+
+
+def test_the_version_is_that_of_the_market(capsys):
+    with pytest.raises(SystemExit) as ended:
+        main(["--version"])
+    assert ended.value.code == 0
+    due = (TOP / "VERSION").read_text().strip()
+    assert capsys.readouterr().out == f"cogmaula {due}\n"
+    assert cogmaula.__version__ == due
+
+
+def test_a_command_that_the_user_ends(monkeypatch, capsys):
+    """Ctrl-C is a line and the status 130."""
+
+    def ended(*_words, **_named):
+        raise KeyboardInterrupt
+
+    monkeypatch.setattr("cogmaula.commands.run.whole_run", ended)
+    assert main(["run", VILLAGE]) == 130
+    assert capsys.readouterr().err == "cogmaula: interrupted\n"
+
+
+@pytest.mark.parametrize(
+    "words",
+    [
+        ["chain", VILLAGE, "--minutes", "-5"],
+        ["chain", VILLAGE, "--minutes", "0"],
+        ["run", VILLAGE, "--start", "yesterday"],
+        ["run", VILLAGE, "--start", "2026-06-21[Europe/Nowhere]"],
+        ["report", VILLAGE, "-o", "page.html", "--span", "-60"],
+    ],
+)
+def test_wrong_words(words, capsys):
+    """Each is told in the usage, before anything is run."""
+    with pytest.raises(SystemExit) as ended:
+        main(words)
+    assert ended.value.code == 2
+    assert words[-1] in capsys.readouterr().err
+
+
+def test_completion_of_the_commands(tmp_path):
+    """A shell that asks for the words behind `cogmaula fr` gets `from-csv`."""
+    pytest.importorskip("argcomplete")
+    line = "cogmaula fr"
+    asked = {"_ARGCOMPLETE": "1", "COMP_LINE": line, "COMP_POINT": str(len(line)), "_ARGCOMPLETE_COMP_WORDBREAKS": " \t\n"}
+    code = "import os, sys; os.dup2(os.open(sys.argv[1], os.O_CREAT | os.O_WRONLY), 8); from cogmaula.cli import main; main([])"
+    words = [sys.executable, "-c", code, str(tmp_path / "told")]
+    subprocess.run(words, cwd=TOP / "python", env={**os.environ, **asked}, capture_output=True, check=False)
+    assert (tmp_path / "told").read_text().strip() == "from-csv"
 
 
 def test_explain(tmp_path, capsys):

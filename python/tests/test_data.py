@@ -101,8 +101,13 @@ def test_no_row_between_two_times_is_told(tmp_path: Path) -> None:
         ("2026-06-21T00:30,", "2026-06-21T00:30Z,", r"loads.csv:3: .* has an offset and the line before has none"),
         ("0.5,1.25", "0.5,", r"loads.csv:3: column b: the cell is empty"),
         ("0.5,1.25", "0.5,1.2.5", r"loads.csv:3: column b: '1.2.5' is no number"),
-        ("0.5,1.25", "0.5,-1", r"loads.csv:3: column b: -1 is below 0 .* into a table of solar"),
-        ("0.5,1.25", "0.5,NaN", r"loads.csv:3: column b: NaN is below 0 or endless"),
+        ("0.5,1.25", "0.5,-1", r"loads.csv:3: column b: -1 is below 0: .* into a table of solar"),
+        ("0.5,1.25", "0.5,NaN", r"loads.csv:3: column b: the cell has no value but 'NaN'"),
+        ("0.5,1.25", "0.5,inf", r"loads.csv:3: column b: 'inf' is no number"),
+        ("0.5,1.25", "0.5,1_000", r"loads.csv:3: column b: '1_000' is no number"),
+        ("0.5,1.25", "0.5,\u0661\u0662", r"loads.csv:3: column b: '\u0661\u0662' is no number"),
+        ("0.5,1.25", "0.5," + "9" * 5000, r"loads.csv:3: column b: '9{60}\.\.' is no number"),
+        ("0.5,1.25", "0.5,1e99", r"loads.csv:3: column b: 1e99 kW are more than 1,000,000,000 W"),
         ("0.5,1.25", "0.5", r"loads.csv:3: the line has 2 cells, and the first line has 3"),
         ("time,a,b", "time,a,a", r"loads.csv:1: column 3 is called 'a' as an earlier one is"),
         ("time,a,b", "time,a,", r"loads.csv:1: column 3 has no name"),
@@ -142,6 +147,17 @@ def test_tables_of_other_spans_are_told(tmp_path: Path) -> None:
         ('unit = "kWh"', 'unit = "MWh"', "table 2: unit is 'MWh'"),
         ('unit = "kWh"', "unit = 3", "table 2: unit is 3: write a text"),
         ('file = "sun.csv"\n', "", "table 2 has no file"),
+        ('delimiter = ";"', 'delimiter = ";;"', "table 2: delimiter is ';;': write one sign"),
+        ('delimiter = ";"', "delimiter = '\"'", "table 2: delimiter is"),
+        ('decimal = ","', 'decimal = "x"', "table 2: decimal is 'x': write . or ,"),
+        ('decimal = ","', 'decimal = ";"', "table 2: decimal is ';'"),
+        ("minutes = 30", "minutes = -15", "minutes is -15: write a whole number above 0"),
+        ("minutes = 30", "minutes = 30\nresample = 45", "resample is 45, and a row has 30 minutes"),
+        ("minutes = 30", 'minutes = 30\nmissing = "guess"', "missing is 'guess': write one of hold, zero"),
+        ("minutes = 30", 'minutes = 30\ntimezone = "Berlin"', "timezone is 'Berlin': write a name such as Europe/Berlin"),
+        ("{b = ", "{B = ", "loads.csv: parents names 'B', which is no column: is 'b' meant"),
+        ("{b = ", "{other = ", "loads.csv: parents names 'other', which is no column: it has a, b"),
+        ("floor = -5000", "floor = 2026-01-01", "node 1: a value is none of a cluster file"),
         ("[[node]]", "[node]", "node is no list of tables"),
         ("[basis]", "basis = 3\n[other]", "the recipe has 'other'"),
     ],
@@ -189,7 +205,10 @@ def test_the_command_writes_a_file_that_the_program_takes(
     assert Cluster.load(output) == from_csv(path)[0]
     assert cli.main([*words, "--begin", "2026-06-21T00:30", "--end", "2026-06-21T01:00"]) == 0
     assert Cluster.load(output).minutes == 30
-    assert cli.main([*words, "--day", "2026-06-22"]) == 1
+    assert cli.main([*words, "--day", "2026-06-22"]) == 2
+    for own in ("recipe.toml", "loads.csv"):
+        assert cli.main([*words[:3], str(tmp_path / own)]) == 2
+        assert f"{tmp_path / own} is the recipe or one of its tables" in capsys.readouterr().err
     written(tmp_path, recipe=RECIPE.replace("ceiling = 5000", "ceiling = -1"))
     capsys.readouterr()
     assert cli.main(words) == 5

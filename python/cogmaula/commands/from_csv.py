@@ -5,18 +5,19 @@ from __future__ import annotations
 import argparse
 import sys
 from datetime import timedelta
+from pathlib import Path
 
 from .. import cli
-from ..data import from_csv
-from ..limits import MOST_CHANGES
-from ..schema import counts_of
-from ..whole import whole_run
+from ..chains import parts_of, run_parts
+from ..data import Made, Recipe, RecipeFault, made_by, read_recipe
+from ..data.looks import lines_of
+from ..moments import written
 
 HELP = "makes a cluster file of tables of loads and solar power, by a recipe"
 MORE = (
     "The recipe is a short file in TOML. It names the tables, what their columns measure, the prices, and further nodes such as a feeder"
-    " or batteries. docs/REPORTS.md has its words, and examples/neighbourhood a worked day. The program is asked whether it takes the file,"
-    " in parts if it is long."
+    " or batteries. docs/REPORTS.md has its words, and examples/neighbourhood a worked day. It prints what each column looks like, and"
+    " asks the program whether it takes the file: of a long one its first part."
 )
 
 
@@ -27,6 +28,7 @@ def add_arguments(parser: argparse.ArgumentParser) -> None:
     parser.add_argument("--day", type=cli.moment, metavar="DATE", help="takes the rows of this day alone")
     parser.add_argument("--begin", type=cli.moment, metavar="MOMENT", help="takes the rows from then on")
     parser.add_argument("--end", type=cli.moment, metavar="MOMENT", help="takes the rows before then")
+    parser.add_argument("--quiet", action="store_true", help="prints no table of the columns")
 
 
 def main(arguments: argparse.Namespace) -> int:
@@ -34,13 +36,39 @@ def main(arguments: argparse.Namespace) -> int:
     begin, end = arguments.begin, arguments.end
     if arguments.day is not None:
         begin, end = arguments.day, arguments.day + timedelta(days=1)
-    cluster, start = from_csv(arguments.recipe, begin, end)
-    cluster.save(arguments.output)
+    keep_inputs(read_recipe(arguments.recipe), Path(arguments.output))
+    made = made_by(arguments.recipe, begin, end)
+    made.cluster.save(arguments.output)
+    if not arguments.quiet:
+        print("\n".join(lines_of(made.looks)))
+    tell(made, arguments.output)
     # If the program refuses the file, the command line says how to explain it.
     arguments.file = arguments.output
-    done = whole_run(cluster, program=cli.program_of(arguments), quiet=False)
-    told = f"{len(cluster.devices)} devices, {len(cluster.phases)} phases, {cluster.minutes} minutes from {start.isoformat()}"
-    print(f"{arguments.output}: {told}", file=sys.stderr)
-    if len(done.ends) > counts_of("document", "phases") or done.changes > MOST_CHANGES:
-        print(f"{arguments.output}: too long for one run: cogmaula chain and cogmaula report run it in parts", file=sys.stderr)
+    parts = parts_of(made.cluster)
+    first = next(parts)
+    next(run_parts(made.cluster, [first], program=cli.program_of(arguments)))
+    if (checked := len(first)) < len(made.cluster.phases):
+        told = f"too long for one run, so the program has looked at its first {checked:,} phases"
+        print(f"{arguments.output}: {told}: cogmaula run, chain and report run it in parts", file=sys.stderr)
     return 0
+
+
+def keep_inputs(recipe: Recipe, output: Path) -> None:
+    """Raises RecipeFault if the output would be written over the recipe or one of its tables."""
+    for it in (recipe.path, *(table.file for table in (*recipe.tables, *recipe.prices))):
+        if output.exists() and it.exists() and output.samefile(it):
+            raise RecipeFault(f"{output} is the recipe or one of its tables: name another file with -o")
+
+
+def tell(made: Made, output: str) -> None:
+    """Tells what was made, what was filled in or rounded, and which columns look wrong."""
+    cluster = made.cluster
+    told = f"{len(cluster.devices)} devices, {len(cluster.phases)} phases, {cluster.minutes} minutes from {written(made.start)}"
+    print(f"{output}: {told}", file=sys.stderr)
+    for line in made.told:
+        print(line, file=sys.stderr)
+    for it in made.looks:
+        if it.warning is not None:
+            print(f"warning: {it.name}: {it.warning}", file=sys.stderr)
+    if made.connection is not None:
+        print(f"{output}: its connection to the supplier is {made.connection}", file=sys.stderr)

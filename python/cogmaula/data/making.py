@@ -2,75 +2,197 @@
 
 from __future__ import annotations
 
-import json
-from collections.abc import Iterator
-from datetime import datetime
+from collections.abc import Iterator, Mapping, Sequence
+from dataclasses import dataclass
+from datetime import date, datetime
+from difflib import get_close_matches
 from pathlib import Path
 from typing import Any
 
-from ..cluster import Cluster
-from .recipe import Recipe, RecipeFault, Table, read_recipe
-from .tables import Measured, TableFault, read_table
+from ..cluster import Basis, Cluster
+from ..errors import Unreadable
+from ..members import Points, whole
+from ..moments import later, moment_of
+from ..nodes import Battery, Load, Manual, Node, Solar
+from ..phases import Event, Events, Phase, State, Tick
+from ..reader import node_of
+from .faults import RecipeFault, TableFault
+from .looks import Look, looks_of
+from .recipe import Recipe, Table, read_recipe
+from .suppliers import Supplier, connection_supplier, price_supplier
+from .tables import Measured, read_table
 
-CONCENTRATORS = ("concentrator", "limited")
+# The word of a battery in a recipe that makes several of it.
+SLICES = "slices"
 
 
-def from_csv(path: str | Path, begin: datetime | None = None, end: datetime | None = None) -> tuple[Cluster, datetime]:
+@dataclass(frozen=True)
+class Made:
+    """What a recipe makes.
+
+    cluster:    the cluster
+    start:      when its first interval begins
+    connection: the name of the device that is the connection to the supplier, or None
+    told:       a line for each thing that was filled in, rounded or left out
+    looks:      what each column looks like
+    """
+
+    cluster: Cluster
+    start: datetime
+    connection: str | None
+    told: tuple[str, ...]
+    looks: tuple[Look, ...]
+
+
+def from_csv(path: str | Path, begin: date | None = None, end: date | None = None) -> tuple[Cluster, datetime]:
     """The cluster that the recipe at `path` makes of its tables' rows from `begin` on and before `end`, and when it begins.
+
+    A date is its midnight. Times without an offset are in the recipe's time zone, or else in the offset of the tables.
 
     Raises RecipeFault or TableFault, each with the place; Unreadable if a node of the recipe has other members than its kind; OSError
     if a file cannot be read. The limits of the market are not tried here: `Cluster.check` asks the program.
     """
+    made = made_by(path, begin, end)
+    return made.cluster, made.start
+
+
+def made_by(path: str | Path, begin: date | None = None, end: date | None = None) -> Made:
+    """What the recipe at `path` makes. Arguments and errors are those of `from_csv`."""
     recipe = read_recipe(path)
-    tables = [(it, read_table(it, recipe.minutes).between(begin, end)) for it in recipe.tables]
-    return cluster_of(recipe, tables), first_time(recipe, tables)
+    return made_of(recipe, [(it, measured(recipe, it, begin, end)) for it in recipe.tables])
 
 
-def first_time(recipe: Recipe, tables: list[tuple[Table, Measured]]) -> datetime:
+def measured(recipe: Recipe, table: Table, begin: date | None, end: date | None) -> Measured:
+    """What a table measured over the ticks from `begin` on and before `end`."""
+    found = read_table(table, recipe.minutes, recipe.timezone, recipe.missing)
+    for column in table.parents or {}:
+        if column not in found.columns:
+            likely = get_close_matches(column.casefold(), [it.casefold() for it in found.columns], 1)
+            meant = next((it for it in found.columns if [it.casefold()] == likely), None)
+            told = f": is {meant!r} meant?" if meant else f": it has {', '.join(found.columns[:8])}"
+            raise RecipeFault(f"{recipe.path}: {table.file.name}: parents names {column!r}, which is no column{told}")
+    begin, end = (None if it is None else comparable(moment_of(it, found.times[0]), recipe, found.times[0]) for it in (begin, end))
+    cut = found.between(begin, end)
+    return cut if recipe.tick == recipe.minutes else cut.resampled(table.file.name, recipe.minutes, recipe.tick)
+
+
+def comparable(moment: datetime, recipe: Recipe, first: datetime) -> datetime:
+    """A moment that can be compared with the times of a table whose first one is given."""
+    if first.tzinfo is None:
+        if moment.tzinfo is not None:
+            raise RecipeFault(f"{moment.isoformat()} has an offset, and the times of the tables have none: write it without, or a timezone into the recipe")
+        return moment
+    return moment if moment.tzinfo is not None else moment.replace(tzinfo=recipe.timezone or first.tzinfo)
+
+
+def first_time(tables: Sequence[tuple[Table, Measured]]) -> datetime:
     """When the first interval begins; all tables have to have the same intervals."""
     if not tables:
         raise RecipeFault("the recipe has no table: write [[table]] with a file and a kind")
     first = tables[0][1].times
     if not first:
         raise TableFault(f"{tables[0][0].file}: no row lies between the times that were asked for")
-    for table, measured in tables[1:]:
-        if measured.times != first:
-            told = f"{table.file}: its rows go from {span_of(measured)}, and those of {tables[0][0].file} from {span_of(tables[0][1])}"
+    for table, it in tables[1:]:
+        if it.times != first:
+            told = f"{table.file}: its rows go from {span_of(it)}, and those of {tables[0][0].file} from {span_of(tables[0][1])}"
             raise TableFault(f"{told}: cut them to the same span")
     return first[0]
 
 
-def span_of(measured: Measured) -> str:
+def span_of(it: Measured) -> str:
     """The first and the last time of a table, in words."""
-    return f"{measured.times[0].isoformat()} to {measured.times[-1].isoformat()}" if measured.times else "nowhere to nowhere"
+    return f"{it.times[0].isoformat()} to {it.times[-1].isoformat()}" if it.times else "nowhere to nowhere"
 
 
-def cluster_of(recipe: Recipe, tables: list[tuple[Table, Measured]]) -> Cluster:
-    """The cluster of a recipe and what its tables measured.
+def made_of(recipe: Recipe, tables: Sequence[tuple[Table, Measured]]) -> Made:
+    """What a recipe makes of what its tables measured.
 
-    The nodes of the recipe come first, then a device for each column. All devices join at first. Each row is then a tick, with the
-    changes of the loads and the solar panels in a phase before it. A device whose power stays the same has no change.
+    The nodes of the recipe come first, then the suppliers, then a device for each column. All devices join at first. Each row is then a
+    tick, with the changes of the loads, the solar panels and the suppliers in a phase before it. What stays the same has no change.
     """
-    first_time(recipe, tables)
+    first = first_time(tables)
     series = [(table, name, powers) for table, it in tables for name, powers in zip(it.columns, it.powers)]
-    nodes = [dict(it) for it in recipe.nodes] + [device_of(*it) for it in series]
-    is_limited = any(it.get("kind") == "limited" for it in nodes)
-    phases = list(phases_of(recipe.minutes, [it for it in nodes if it.get("kind") not in CONCENTRATORS], series))
-    document = {"version": 2 if is_limited else 1, "basis": dict(recipe.basis), "nodes": nodes, "phases": phases}
-    return Cluster.from_json(json.dumps(document))
+    nodes = [it for at, told in enumerate(recipe.nodes) for it in nodes_of(f"nodes[{at}]", told)]
+    basis = basis_of(recipe.basis)
+    suppliers, told = suppliers_of(recipe, basis, tables[0][1].times, power_of(nodes, [it[2] for it in series]))
+    told = [line for _, it in tables for line in it.told] + told
+    devices: list[Node] = [Manual(it.name, parent=it.parent, points=it.points[0]) for it in suppliers]
+    for table, name, powers in series:
+        kind = Load if table.kind == "load" else Solar
+        devices.append(kind(table.name_of(name), parent=table.parent_of(name), start=powers[0]))
+    nodes += devices
+    version = 2 if any(it.kind == "limited" for it in nodes) else 1
+    cluster = Cluster(basis, nodes, version=version)
+    phases = phases_of(recipe.tick, suppliers, {table.name_of(name): powers for table, name, powers in series})
+    cluster = cluster.with_phases(cluster.join_all(), *phases)
+    start = later(first.astimezone(recipe.timezone), 0) if recipe.timezone else first
+    looks = looks_of(tables, recipe.tick)
+    return Made(cluster, start, connection_of(recipe), tuple(told), tuple(looks))
 
 
-def device_of(table: Table, column: str, powers: tuple[int, ...]) -> dict[str, Any]:
-    """The node of a column."""
-    return {"name": table.name_of(column), "kind": table.kind, "parent": table.parent_of(column), "start": powers[0]}
+def cluster_of(recipe: Recipe, tables: Sequence[tuple[Table, Measured]]) -> Cluster:
+    """The cluster of a recipe and what its tables measured. Raises what `made_of` raises."""
+    return made_of(recipe, tables).cluster
 
 
-def phases_of(minutes: int, devices: list[dict[str, Any]], series: list[tuple[Table, str, tuple[int, ...]]]) -> Iterator[dict[str, Any]]:
-    """The phases: all devices join, and each row is a tick behind the changes that it brings."""
-    yield {"events": [{"join": it.get("name")} for it in devices]}
-    yield {"tick": minutes}
-    for row in range(1, len(series[0][2])):
-        changed = [(table.name_of(name), it[row]) for table, name, it in series if it[row] != it[row - 1]]
+def basis_of(told: Mapping[str, Any]) -> Basis:
+    """The basis of a recipe. Raises RecipeFault."""
+    if set(told) != {"min", "max", "steps"}:
+        raise RecipeFault("[basis] has other words than min, max and steps")
+    try:
+        return Basis(**{word: whole(f"basis: {word}", it) for word, it in told.items()})
+    except TypeError as fault:
+        raise RecipeFault(str(fault)) from None
+
+
+def nodes_of(place: str, told: Mapping[str, Any]) -> list[Node]:
+    """The nodes that a node of a recipe makes: itself, or the slices of a battery."""
+    node = node_of(place, {word: it for word, it in told.items() if word != SLICES})
+    if SLICES not in told:
+        return [node]
+    try:
+        if not isinstance(node, Battery):
+            raise ValueError("only a battery has slices")
+        return list(Battery(**{it: value for it, value in node.members().items() if it != "kind"}).sliced(whole("slices", told[SLICES])))
+    except (TypeError, ValueError) as fault:
+        raise Unreadable(place, str(fault)) from None
+
+
+def power_of(nodes: Sequence[Node], series: Sequence[Sequence[int]]) -> int:
+    """A whole number of kilowatts, in watts, that is more than all these take or deliver at once: the power of a supplier."""
+    most = sum(max(it) for it in series)
+    for it in nodes:
+        watts = [value for word, value in it.members().items() if word in ("charge", "discharge", "power", "start") and isinstance(value, int)]
+        if isinstance(it, Manual):
+            watts += [*(it.demand or ()), *(pair[1] for pair in it.points or ())]
+        most += max((abs(value) for value in watts), default=0)
+    return (most // 1000 + 1) * 1000
+
+
+def suppliers_of(recipe: Recipe, basis: Basis, times: Sequence[datetime], power: int) -> tuple[list[Supplier], list[str]]:
+    """The suppliers of a recipe, and the lines that tell how their prices were rounded."""
+    found = [price_supplier(recipe, it, basis, times, power) for it in recipe.prices]
+    if recipe.connection is not None:
+        found.insert(0, connection_supplier(recipe, recipe.connection, basis, times, power))
+    return [it[0] for it in found], [line for it in found for line in it[1]]
+
+
+def connection_of(recipe: Recipe) -> str | None:
+    """The name of the device that is the connection: that of [connection], or the device of the only [[price]]."""
+    if recipe.connection is not None:
+        return recipe.connection.name
+    return recipe.prices[0].device if len(recipe.prices) == 1 else None
+
+
+def phases_of(minutes: int, suppliers: Sequence[Supplier], series: Mapping[str, Sequence[int]]) -> Iterator[Phase]:
+    """The phases behind the joins: each row is a tick behind the changes that it brings."""
+    yield Tick(minutes)
+    bids: dict[str, tuple[Points, ...]] = {it.name: it.points for it in suppliers}
+    for row in range(1, len(next(iter(series.values())))):
+        changed: list[Event] = [State(name, points=it[row]) for name, it in bids.items() if it[row] != it[row - 1]]
+        changed += [State(name, it[row]) for name, it in series.items() if it[row] != it[row - 1]]
         if changed:
-            yield {"events": [{"state": name, "value": power} for name, power in changed]}
-        yield {"tick": minutes}
+            yield Events(changed)
+        yield Tick(minutes)
+
+

@@ -1,106 +1,129 @@
-"""Tables of measured data: a row for each interval, a column for each device, read exactly."""
+"""Tables of measured powers: a row for each interval, a column for each device, in whole watts."""
 
 from __future__ import annotations
 
-import csv
-from collections.abc import Iterable, Sequence
-from dataclasses import dataclass
+from collections.abc import Sequence
+from dataclasses import dataclass, field
 from datetime import datetime, timedelta
-from decimal import ROUND_HALF_EVEN, Decimal, InvalidOperation
+from decimal import ROUND_HALF_EVEN, Decimal
+from fractions import Fraction
+from zoneinfo import ZoneInfo
 
-from ..errors import MarketError
+from ..schema import limits_of
+from .faults import TableFault
 from .recipe import Table
+from .sheets import number_of, read_rows, spaced
 
-
-class TableFault(MarketError):
-    """Why a table cannot be used, with its file, line and column in front."""
+# More digits than this before the decimal sign are far beyond what the market takes.
+MOST_DIGITS = 15
 
 
 @dataclass(frozen=True)
 class Measured:
     """What a table measured: `powers[c][r]` is the mean power of column `c` over the interval of row `r`, in whole watts.
 
-    `times[r]` is when that interval begins.
+    `times[r]` is when that interval begins: in UTC if the table's times have a zone or an offset.
+    `told` has a line for each thing that was filled in or left out.
     """
 
     columns: tuple[str, ...]
     times: tuple[datetime, ...]
     powers: tuple[tuple[int, ...], ...]
+    told: tuple[str, ...] = field(default=(), compare=False)
 
     def between(self, begin: datetime | None, end: datetime | None) -> Measured:
         """The rows from `begin` on and before `end`; None sets no limit."""
         rows = [at for at, it in enumerate(self.times) if (begin is None or begin <= it) and (end is None or it < end)]
-        return Measured(self.columns, tuple(self.times[it] for it in rows), tuple(tuple(it[at] for at in rows) for it in self.powers))
+        powers = tuple(tuple(it[at] for at in rows) for it in self.powers)
+        return Measured(self.columns, tuple(self.times[it] for it in rows), powers, self.told)
+
+    def resampled(self, name: str, minutes: int, wanted: int) -> Measured:
+        """The means over intervals of `wanted` minutes of rows of `minutes`, in whole watts, halves to even.
+
+        One number is a multiple of the other. Rows at the end that fill no interval are left out, which is told.
+        """
+        if wanted <= minutes:
+            parts = minutes // wanted
+            times = [it + timedelta(minutes=wanted * at) for it in self.times for at in range(parts)]
+            return Measured(self.columns, tuple(times), tuple(tuple(it for it in row for _ in range(parts)) for row in self.powers), self.told)
+        rows = wanted // minutes
+        whole = len(self.times) // rows
+        told = [f"{name}: {rows} rows make a tick of {wanted} minutes, by their mean"]
+        if rest := len(self.times) - whole * rows:
+            told.append(f"{name}: the last {counted(rest, 'row')} fill no tick and are left out")
+        powers = tuple(tuple(round(Fraction(sum(it[at * rows : (at + 1) * rows]), rows)) for at in range(whole)) for it in self.powers)
+        return Measured(self.columns, self.times[: whole * rows : rows], powers, (*self.told, *told))
 
 
-def read_table(table: Table, minutes: int) -> Measured:
+def read_table(table: Table, minutes: int, zone: ZoneInfo | None = None, missing: str | None = None) -> Measured:
     """Reads a table whose rows are so many minutes apart.
 
-    The first column has the time at which the interval of a row begins, as in 2026-06-21T00:15. Each other column is a device, named
-    by the first line. Numbers are read as decimals and become whole watts, halves to even. Raises TableFault with the place if a
-    time or a number cannot be read, a row is missing or comes twice, a power is negative, or a column has no name or comes twice;
-    OSError if the file cannot be read.
+    zone:    of the times without an offset; None if their clock is never changed
+    missing: what an empty cell and a row that is not there count as: `hold` for the value before, `zero`, or None for a fault
+
+    Numbers are read as decimals and become whole watts, halves to even. Raises TableFault with the place if a time or a number cannot be
+    read, a row comes twice, something is missing that may not be, or a power is negative or too large; OSError if the file cannot be
+    read.
     """
-    try:
-        with table.file.open(encoding="utf-8-sig", newline="") as text:
-            lines = csv.reader(text, delimiter=table.delimiter, strict=True)
-            rows = [(lines.line_num, row) for row in lines if row]
-    except (UnicodeDecodeError, csv.Error) as fault:
-        raise TableFault(f"{table.file}: this is no table: {fault}") from None
-    if len(rows) < 2:
-        raise TableFault(f"{table.file}: the table has no rows: it needs a line of names and a line for each interval")
-    columns = columns_of(table, rows[0][1])
-    for line, row in rows[1:]:
-        if len(row) != len(columns) + 1:
-            raise TableFault(f"{table.file}:{line}: the line has {len(row)} cells, and the first line has {len(columns) + 1}")
-    times = times_of(table, rows[1:], minutes)
-    powers = [[power_of(table, line, name, cell, minutes) for name, cell in zip(columns, row[1:])] for line, row in rows[1:]]
-    return Measured(tuple(columns), tuple(times), tuple(tuple(row[at] for row in powers) for at in range(len(columns))))
+    rows = read_rows(table, zone)
+    order = spaced(table, rows, minutes, missing is not None, zone)
+    powers = [
+        [power_of(table, f"{table.file}:{line}: column {name}", cell, minutes, missing) for name, cell in zip(rows.names, cells)]
+        for line, cells in zip(rows.lines, rows.cells)
+    ]
+    columns = tuple(
+        filled(table, name, [None if it is None else powers[it][at] for it in order], missing) for at, name in enumerate(rows.names)
+    )
+    begin, step = rows.times[0], timedelta(minutes=minutes)
+    times = tuple(begin + step * at for at in range(len(order)))
+    return Measured(rows.names, times, columns, tuple(told_of(table, order, powers, missing)))
 
 
-def columns_of(table: Table, names: Sequence[str]) -> list[str]:
-    """The names of the columns behind that of the time."""
-    columns = [it.strip() for it in names[1:]]
-    if not columns:
-        raise TableFault(f"{table.file}:1: the table has no column beside the time: is the delimiter {table.delimiter!r}?")
-    for at, name in enumerate(columns, 2):
-        if not name or name in columns[: at - 2]:
-            told = f"is called {name!r} as an earlier one is" if name else "has no name"
-            raise TableFault(f"{table.file}:1: column {at} {told}")
-    return columns
+def told_of(table: Table, order: Sequence[int | None], powers: Sequence[Sequence[int | None]], missing: str | None) -> list[str]:
+    """The line that tells how much is missing, if anything is."""
+    rows, cells = sum(it is None for it in order), sum(it is None for row in powers for it in row)
+    if not rows and not cells:
+        return []
+    how = "0 W" if missing == "zero" else "the value before"
+    return [f"{table.file.name}: {counted(rows, 'row')} and {counted(cells, 'cell')} are missing and count as {how}"]
 
 
-def times_of(table: Table, rows: Iterable[tuple[int, Sequence[str]]], minutes: int) -> list[datetime]:
-    """The times of the rows, each so many minutes after the one before."""
-    times: list[datetime] = []
-    for line, row in rows:
-        try:
-            time = datetime.fromisoformat(row[0].strip())
-        except ValueError:
-            raise TableFault(f"{table.file}:{line}: {row[0]!r} is no time: write it as 2026-06-21T00:15") from None
-        if times and (time.tzinfo is None) != (times[-1].tzinfo is None):
-            raise TableFault(f"{table.file}:{line}: {row[0]!r} has an offset and the line before has none, or the other way round")
-        if times and time != (due := times[-1] + timedelta(minutes=minutes)):
-            raise TableFault(f"{table.file}:{line}: the row is of {time.isoformat()}, and {due.isoformat()} is due: rows are {minutes} "
-                             "minutes apart, none missing and none twice")
-        times.append(time)
-    return times
+def counted(number: int, what: str) -> str:
+    """So many of something, in words."""
+    return f"{number} {what}" if number == 1 else f"{number:,} {what}s"
 
 
-def power_of(table: Table, line: int, name: str, cell: str, minutes: int) -> int:
-    """The power that a cell says, in whole watts."""
-    place = f"{table.file}:{line}: column {name}"
-    text = cell.strip()
-    if not text:
-        raise TableFault(f"{place}: the cell is empty: fill it, since nothing is guessed")
-    try:
-        number = Decimal(text if table.decimal == "." else text.replace(".", "?").replace(table.decimal, "."))
-    except InvalidOperation:
-        raise TableFault(f"{place}: {text!r} is no number with the decimal sign {table.decimal!r}") from None
-    if not number.is_finite() or number < 0:
+def filled(table: Table, name: str, powers: Sequence[int | None], missing: str | None) -> tuple[int, ...]:
+    """The powers of a column, with what is missing filled in."""
+    found: list[int] = []
+    for it in powers:
+        if it is None and missing == "hold" and not found:
+            raise TableFault(f"{table.file}: column {name} begins with an empty cell, which no value comes before: fill it, or begin later")
+        found.append(it if it is not None else 0 if missing == "zero" else found[-1])
+    return tuple(found)
+
+
+def power_of(table: Table, place: str, cell: str, minutes: int, missing: str | None) -> int | None:
+    """The power that a cell says, in whole watts; None if it may be missing and is."""
+    number = number_of(table, place, cell)
+    if number is None:
+        if missing is None:
+            what = f"the cell has no value but {cell.strip()!r}" if cell.strip() else "the cell is empty"
+            raise TableFault(f'{place}: {what}: fill it, or write missing = "hold" or "zero" into the recipe')
+        return None
+    if number < 0:
         other = "solar" if table.kind == "load" else "load"
-        raise TableFault(f"{place}: {text} is below 0 or endless: a table of {table.kind} has what is "
+        raise TableFault(f"{place}: {cell.strip()} is below 0: a table of {table.kind} has what is "
                          f"{'taken' if table.kind == 'load' else 'delivered'}, so put the rest into a table of {other}")
+    most = limits_of(table.kind, "start")[1]
+    watts = watts_of(table, number, minutes) if number.adjusted() < MOST_DIGITS else most + 1
+    if watts > most:
+        raise TableFault(f"{place}: {cell.strip()} {table.unit} are more than {most:,} W, the most of a device: is the unit right?")
+    return watts
+
+
+def watts_of(table: Table, number: Decimal, minutes: int) -> int:
+    """A number in the table's unit as whole watts, halves to even."""
     watts = number * (1000 if table.unit.startswith("k") else 1)
     if table.unit.endswith("h"):
         watts = watts * 60 / minutes

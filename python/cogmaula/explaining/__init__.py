@@ -143,7 +143,7 @@ def of_refusal(data: bytes, refused: Refused) -> Explanation:
             if begin:
                 # A column and a line count from the first line of the file itself.
                 data = file
-    return _explanation(str(refused), refused.code, data, found, RULES[refused.code])
+    return _explanation(refused.answer, refused.code, data, found, RULES[refused.code])
 
 
 def _of_file(data: bytes, refused: Refused) -> Finding:

@@ -1,0 +1,13 @@
+"""Why a recipe or a table cannot be used. A module of its own, since recipes and tables both raise them."""
+
+from __future__ import annotations
+
+from ..errors import MarketError
+
+
+class RecipeFault(MarketError):
+    """Why a recipe cannot be used, with its file in front."""
+
+
+class TableFault(MarketError):
+    """Why a table cannot be used, with its file, line and column in front."""

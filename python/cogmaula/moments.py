@@ -1,0 +1,58 @@
+"""Moments of a run: what a user may give for its start, and how minutes are added to it.
+
+Minutes pass in UTC and are shown in the zone of the start. So an hour after 02:00 of a clock that is put back it is 02:00 again.
+"""
+
+from __future__ import annotations
+
+import re
+from datetime import UTC, date, datetime, time, timedelta
+from zoneinfo import ZoneInfo
+
+# A moment with the name of its zone behind it, as RFC 9557 writes it.
+ZONED = re.compile(r"(.+)\[([^]]+)\]")
+
+
+def moment_of(start: date | datetime | None, default: datetime) -> datetime:
+    """The moment that a start names: a date is its midnight. Raises TypeError for all else, such as a text."""
+    if start is None:
+        return default
+    if isinstance(start, datetime):
+        return start
+    if isinstance(start, date):
+        return datetime.combine(start, time())
+    raise TypeError(f"start is {start!r}: a datetime or a date is due")
+
+
+def later(start: datetime, minutes: float) -> datetime:
+    """The moment so many minutes after the start, in its zone. A moment without a zone has a clock that is never changed."""
+    if start.tzinfo is None:
+        return start + timedelta(minutes=minutes)
+    return (start.astimezone(UTC) + timedelta(minutes=minutes)).astimezone(start.tzinfo)
+
+
+def zone_of(name: str) -> ZoneInfo:
+    """The time zone of a name such as Europe/Berlin. Raises ValueError if there is none."""
+    try:
+        return ZoneInfo(name)
+    except (OSError, ValueError, KeyError):
+        raise ValueError(f"{name!r} is no time zone: write one as Europe/Berlin") from None
+
+
+def read_moment(text: str) -> datetime:
+    """The moment of a text: 2026-01-31, 2026-01-31T06:30, with an offset or with a zone, as 2026-01-31T06:30[Europe/Berlin].
+
+    Raises ValueError.
+    """
+    zoned = ZONED.fullmatch(text)
+    if zoned is None:
+        return datetime.fromisoformat(text)
+    moment, zone = datetime.fromisoformat(zoned[1]), zone_of(zoned[2])
+    return moment.replace(tzinfo=zone) if moment.tzinfo is None else moment.astimezone(zone)
+
+
+def written(moment: datetime) -> str:
+    """The text of a moment that `read_moment` reads as the same one."""
+    if isinstance(moment.tzinfo, ZoneInfo):
+        return f"{moment.isoformat()}[{moment.tzinfo.key}]"
+    return moment.isoformat()
