@@ -32,6 +32,8 @@ DEBIAN = {
     "setuptools": "python3-setuptools",
     "wheel": "python3-wheel",
     "pip": "python3-pip",
+    "venv": "python3-venv",
+    "ensurepip": "python3-venv",
 }
 
 
@@ -104,6 +106,10 @@ def look_at_types(python):
     command = [python, "-m", "mypy", "--cache-dir", os.devnull]
     done = subprocess.run(command, cwd=PACKAGE, capture_output=True, text=True, check=False)
     part.count(done.returncode == 0, f"mypy --strict: {done.stdout}{done.stderr}")
+    files = sorted(map(str, (TOP / "examples" / "cookbook").glob("*.py")))
+    settings = ["--strict", "--config-file", "pyproject.toml", "--cache-dir", os.devnull]
+    done = subprocess.run([python, "-m", "mypy", *settings, *files], cwd=PACKAGE, capture_output=True, text=True, check=False)
+    part.count(done.returncode == 0, f"mypy --strict of the cookbook: {done.stdout}{done.stderr}")
     return part
 
 
@@ -122,6 +128,28 @@ def look_at_installation(python, work):
         environment = {**surroundings(work), "PYTHONPATH": str(place)}
         done = subprocess.run([python, *command], cwd=work, env=environment, capture_output=True, text=True, check=False)
         part.count(done.stdout.endswith(": market run takes it\n"), f"the installed command: {done.stdout}{done.stderr}")
+    return part
+
+
+def look_at_page(python, work):
+    """Whether the lines by which docs/PYTHON.md installs the package work in a home that has nothing yet."""
+    part = Part()
+    if missing(python, part, "the page's installation", ["venv", "ensurepip", "setuptools", "wheel"]):
+        return part
+    page = (TOP / "docs" / "PYTHON.md").read_text()
+    lines = re.search(r"(?:^    .*\n)*^    python3 -m venv .*\n(?:^    .*\n)*", page, re.M)
+    if lines is None:
+        part.count(False, "docs/PYTHON.md has no line with python3 -m venv")
+        return part
+    home = work / "home"
+    shutil.copytree(PACKAGE, home / "checkout" / "python", ignore=shutil.ignore_patterns("tests", "__pycache__"))
+    commands = [it.strip() for it in lines[0].splitlines() if it.strip() != "./market prove"]
+    script = "\n".join(["set -e", *(it if it.startswith("export") else it.replace("python3 ", f"{python} ", 1) for it in commands)])
+    # No network, and nothing of the user's own home.
+    environment = {**surroundings(work), "HOME": str(home), "PIP_NO_INDEX": "1", "PIP_DISABLE_PIP_VERSION_CHECK": "1"}
+    done = subprocess.run(["bash", "-c", script], cwd=home / "checkout", env=environment, capture_output=True, text=True, check=False)
+    due = f"cogmaula {(TOP / 'VERSION').read_text().strip()}\n"
+    part.count(done.returncode == 0 and done.stdout.endswith(due), f"the page's installation: {done.stdout}{done.stderr}")
     return part
 
 
@@ -148,7 +176,7 @@ def parts(python, work, words):
     with ThreadPoolExecutor(max_workers=os.cpu_count() or 1) as pool:
         begun = [pool.submit(test_file, python, work, it, words, with_lines) for it in files] if with_tests else []
         if not words:
-            begun += [pool.submit(look_at_types, python), pool.submit(look_at_installation, python, work)]
+            begun += [pool.submit(look_at_types, python), pool.submit(look_at_installation, python, work), pool.submit(look_at_page, python, work)]
         for it in begun:
             yield it.result()
     if with_lines:

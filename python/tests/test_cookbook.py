@@ -2,17 +2,22 @@
 
 from __future__ import annotations
 
+import importlib.util
 import json
 import os
 import shlex
 import subprocess
 import sys
 from collections.abc import Iterator
+from datetime import date
 from pathlib import Path
+from types import ModuleType
 
+import house_model
 import pytest
 
 from cogmaula import Cluster, Program, run
+from cogmaula.data import made_by
 
 TOP = Path(__file__).resolve().parents[2]
 PAGE = TOP / "docs" / "COOKBOOK.md"
@@ -40,7 +45,7 @@ def output_of(line: str, folder: Path, program: Program) -> list[list[str]]:
     start = [sys.executable, "-m", "cogmaula"] if words[0] == "cogmaula" else [sys.executable]
     environment = {**os.environ, "PYTHONPATH": str(TOP / "python"), "COGMAULA_MARKET": program.path}
     done = subprocess.run(
-        [*start, *words[1:]], cwd=TOP, env=environment, capture_output=True, text=True, check=False, timeout=60
+        [*start, *words[1:]], cwd=TOP, env=environment, capture_output=True, text=True, check=False, timeout=600
     )
     assert done.returncode == 0, done.stderr
     return [done.stdout.splitlines(), *(it.read_text().splitlines() for it in sorted(folder.iterdir()))]
@@ -65,9 +70,10 @@ def test_each_block_of_the_page_is_what_comes_out(tmp_path: Path, program: Progr
     commands = 0
     for block in blocks_of(PAGE.read_text()):
         if block[0].startswith(COMMANDS):
-            for at, line in enumerate(block):
-                folder = tmp_path / f"{commands}-{at}"
-                folder.mkdir()
+            # The commands of a block share a folder, so that one reads what another has written.
+            folder = tmp_path / f"{commands}"
+            folder.mkdir()
+            for line in block:
                 written = output_of(line, folder, program)
             commands += 1
         elif block[0].startswith("{"):
@@ -103,3 +109,52 @@ def test_equal_batteries_charge_together_or_not_at_all(program: Program) -> None
     names = [f"battery{at:02}" for at in range(20)]
     assert [equal.powers[it] for it in names] == [0] * 20 and equal.total == -10000
     assert [staggered.powers[it] for it in names] == [1000] * 10 + [0] * 10 and staggered.total == 0
+
+
+def load_module(name: str) -> ModuleType:
+    """A script of the cookbook as a module."""
+    spec = importlib.util.spec_from_file_location(name, FOLDER / f"{name}.py")
+    assert spec is not None and spec.loader is not None
+    module = importlib.util.module_from_spec(spec)
+    spec.loader.exec_module(module)
+    return module
+
+
+@pytest.fixture(scope="module")
+def year(tmp_path_factory: pytest.TempPathFactory) -> Path:
+    """The tables and the recipe of the house's year."""
+    folder: Path = tmp_path_factory.mktemp("year")
+    load_module("year").main(folder)
+    return folder
+
+
+def net_of(folder: Path) -> list[int]:
+    """What the house takes in each hour of the year net of its roof, in watts, read by pandas alone."""
+    pandas = pytest.importorskip("pandas")
+    house, roof = (pandas.read_csv(folder / f"{it}.csv")[it] for it in ("house", "roof"))
+    return list(map(int, house - roof))
+
+
+def test_the_costs_of_the_year_are_those_of_the_page(year: Path) -> None:
+    """By a model of its own: the four costs in ten slices, and the battery in one piece, which is all but idle."""
+    net = net_of(year)
+    assert len(net) == 8760
+    page = PAGE.read_text()
+    sliced, whole = house_model.costs(net, 10), house_model.costs(net, 1)
+    for name, cost in sliced.items():
+        assert f"    {name:10} {cost:8.2f} EUR\n" in page
+    assert f"{whole['no battery'] - whole['tariff']:.2f} EUR" in page
+    assert f"{sliced['tariff'] - sliced['plain rule']:.2f} EUR" in page
+
+
+def test_a_week_of_the_year_costs_what_the_model_says(year: Path, program: Program) -> None:
+    """To the last unit, and the market's bill is that of the program: what the connection and the grid are paid."""
+    made = made_by(year / "house.toml", date(2026, 6, 1), date(2026, 6, 8))
+    done = run(made.cluster, start=made.start, program=program)
+    begin = (31 + 28 + 31 + 30 + 31) * 24 - 1
+    assert made.connection == "connection"
+    found = load_module("costs").costs(done)
+    due = house_model.costs(net_of(year)[begin : begin + 7 * 24], 10)
+    assert found == pytest.approx(due)
+    assert -(done.bill.devices["connection"].amount + done.bill.grid.amount) / 60_000_000 == pytest.approx(due["market"])
+    assert due["plain rule"] < due["no battery"] and due["tariff"] < due["no battery"]

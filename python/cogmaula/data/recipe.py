@@ -125,6 +125,12 @@ class Connection:
     power: int | None = None
     windows: tuple[Window, ...] = ()
 
+    def __post_init__(self) -> None:
+        """Raises RecipeFault if one would sell at more than the price of buying."""
+        for it in (Window(time(), time()), *self.windows):
+            if (self.buy if it.buy is None else it.buy) < (self.sell if it.sell is None else it.sell):
+                raise RecipeFault("one cannot sell at more than the price of buying")
+
     def prices_at(self, day: int, at: time) -> tuple[Decimal, Decimal]:
         """The prices of buying and selling on a day of the week at a time."""
         found = next((it for it in self.windows if it.holds(day, at)), None)

@@ -34,7 +34,7 @@ class Steps:
             raise RecipeFault("basis: choose at least 2 steps, min below max, and max - min divisible by steps - 1")
         self.basis = basis
         self.farthest = Decimal(0)
-        self.outside = 0
+        self.outside = set[Decimal]()
 
     @property
     def width(self) -> int:
@@ -48,7 +48,7 @@ class Steps:
         if self.basis.min <= price <= self.basis.max:
             self.farthest = max(self.farthest, abs(price - self.basis.price(held)))
         else:
-            self.outside += 1
+            self.outside.add(price)
         return held
 
     def told(self, name: str, unit: str) -> list[str]:
@@ -58,7 +58,7 @@ class Steps:
             found.append(f"{name}: prices are rounded to the steps of the basis, {self.width} {unit} apart, by at most {self.farthest:f}")
         if self.outside:
             least, most = self.basis.min, self.basis.max
-            found.append(f"{name}: {counted(self.outside, 'price')} outside {least} to {most} {unit} count as the nearest of both: widen the basis")
+            found.append(f"{name}: {counted(len(self.outside), 'price')} outside {least} to {most} {unit} count as the nearest of both: widen the basis")
         return found
 
 
@@ -76,22 +76,14 @@ def supplier_points(basis: Basis, buy: int, sell: int, power: int) -> Points:
     return tuple((basis.price(step), watts) for step, watts in dict([*pairs, (buy, -power)]).items())
 
 
-def checked(place: str, buy: int, sell: int) -> tuple[int, int]:
-    """The steps, of which that of buying is not the lower one. Raises RecipeFault."""
-    if buy < sell:
-        raise RecipeFault(f"{place}: one cannot sell at more than the price of buying")
-    return buy, sell
-
-
 def connection_supplier(recipe: Recipe, connection: Connection, basis: Basis, times: Sequence[datetime], power: int) -> tuple[Supplier, list[str]]:
     """The supplier of a `[connection]`, and the lines that tell how its prices were rounded."""
-    steps, place = Steps(basis), f"{recipe.path}: connection"
-    points = []
+    steps, points = Steps(basis), []
     for time in times:
         local = time if recipe.timezone is None else time.astimezone(recipe.timezone)
         prices = connection.prices_at(local.weekday(), local.time())
-        pair = checked(place, steps.nearest(prices[0]), steps.nearest(prices[1]))
-        points.append(supplier_points(basis, *pair, connection.power or power))
+        buy, sell = map(steps.nearest, prices)
+        points.append(supplier_points(basis, buy, sell, connection.power or power))
     return Supplier(connection.name, connection.parent, tuple(points)), steps.told(connection.name, recipe.unit)
 
 
