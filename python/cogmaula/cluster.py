@@ -7,6 +7,7 @@ import os
 from collections.abc import Iterable
 from dataclasses import dataclass, replace
 from pathlib import Path
+from typing import Any
 
 from .members import look
 from .nodes import AUCTIONEER, Node
@@ -70,6 +71,15 @@ class Cluster:
         from .reader import cluster_of
 
         return cluster_of(text)
+
+    @staticmethod
+    def from_frames(
+        basis: Basis, load: Any = None, solar: Any = None, *, nodes: Iterable[Node] = (), parent: str = AUCTIONEER
+    ) -> Cluster:
+        """The cluster of data frames of loads and solar panels in watts: `cluster_from_frames` of data/framed.py says more."""
+        from .data.framed import cluster_from_frames
+
+        return cluster_from_frames(basis, load, solar, nodes=nodes, parent=parent)
 
     def to_json(self) -> str:
         """The text of the cluster file, with a node or a phase in each line."""

@@ -104,15 +104,15 @@ def span_of(it: Measured) -> str:
     return f"{it.times[0].isoformat()} to {it.times[-1].isoformat()}" if it.times else "nowhere to nowhere"
 
 
-def made_of(recipe: Recipe, tables: Sequence[tuple[Table, Measured]]) -> Made:
-    """What a recipe makes of what its tables measured.
+def made_of(recipe: Recipe, tables: Sequence[tuple[Table, Measured]], before: Sequence[Node] = ()) -> Made:
+    """What a recipe makes of what its tables measured, with these nodes before its own.
 
-    The nodes of the recipe come first, then the suppliers, then a device for each column. All devices join at first. Each row is then a
+    The nodes come first, then the suppliers, then a device for each column. All devices join at first. Each row is then a
     tick, with the changes of the loads, the solar panels and the suppliers in a phase before it. What stays the same has no change.
     """
     first = first_time(tables)
     series = [(table, name, powers) for table, it in tables for name, powers in zip(it.columns, it.powers)]
-    nodes = [it for at, told in enumerate(recipe.nodes) for it in nodes_of(f"nodes[{at}]", told)]
+    nodes = [*before, *(it for at, told in enumerate(recipe.nodes) for it in nodes_of(f"nodes[{at}]", told))]
     basis = basis_of(recipe.basis)
     suppliers, told = suppliers_of(recipe, basis, tables[0][1].times, power_of(nodes, [it[2] for it in series]))
     told = [line for _, it in tables for line in it.told] + told

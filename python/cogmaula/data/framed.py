@@ -1,0 +1,80 @@
+"""Clusters of data frames: each column a device, each row an interval, in watts."""
+
+from __future__ import annotations
+
+from collections.abc import Iterable
+from datetime import timedelta
+from pathlib import Path
+from typing import Any
+
+from ..cluster import Basis, Cluster
+from ..frames import pandas
+from ..nodes import Node
+from ..schema import limits_of
+from .faults import TableFault
+from .making import made_of
+from .recipe import Recipe, Table
+from .tables import Measured
+
+MINUTE = timedelta(minutes=1)
+
+
+def cluster_from_frames(
+    basis: Basis, load: Any = None, solar: Any = None, *, nodes: Iterable[Node] = (), parent: str = "auctioneer"
+) -> Cluster:
+    """The cluster of data frames of loads and solar panels.
+
+    basis:  the prices
+    load:   watts taken, a column for each device and a row for each interval, with a DatetimeIndex of when it begins; or None
+    solar:  watts delivered, as positive numbers, with the same index; or None
+    nodes:  further nodes, which come first, such as a feeder, batteries and a connection
+    parent: the node that the devices of the columns are below
+
+    The powers are rounded to whole watts, halves to even. A row lasts until the next one; a single row lasts an hour. The first row
+    is `index[0]`: pass it to `run` as the start.
+
+    Raises TableFault with column and time if rows are not equally far apart or a value is missing, negative or too large; ValueError
+    if there is no frame; NoPackage without pandas.
+    """
+    given = [(kind, it) for kind, it in (("load", load), ("solar", solar)) if it is not None]
+    if not given:
+        raise ValueError("there is no frame: give load, solar or both")
+    minutes = minutes_of(*given[0])
+    tables = [(Table(Path(kind), kind, parent=parent), measured_of(kind, it, minutes)) for kind, it in given]
+    recipe = Recipe(Path("frames"), minutes, {"min": basis.min, "max": basis.max, "steps": basis.steps}, (), tuple(it for it, _ in tables))
+    return made_of(recipe, tables, list(nodes)).cluster
+
+
+def times_of(kind: str, frame: Any) -> list[Any]:
+    """The times of a frame's rows, as datetimes; those with a zone in UTC."""
+    pd = pandas()
+    if not isinstance(frame, pd.DataFrame) or not isinstance(frame.index, pd.DatetimeIndex) or not len(frame) or not len(frame.columns):
+        raise TableFault(f"{kind}: a data frame with rows, columns and a DatetimeIndex is due")
+    index = frame.index if frame.index.tz is None else frame.index.tz_convert("UTC")
+    return [it.to_pydatetime() for it in index]
+
+
+def minutes_of(kind: str, frame: Any) -> int:
+    """The minutes of the frame's first row."""
+    times = times_of(kind, frame)
+    apart: timedelta = times[1] - times[0] if len(times) > 1 else 60 * MINUTE
+    minutes, rest = divmod(apart, MINUTE)
+    if rest or not 1 <= minutes <= 1440:
+        raise TableFault(f"{kind}: the rows {times[0]} and {times[1]} are no whole minutes apart, 1 to 1440")
+    return minutes
+
+
+def measured_of(kind: str, frame: Any, minutes: int) -> Measured:
+    """What a frame says, in whole watts."""
+    times = times_of(kind, frame)
+    for before, time in zip(times, times[1:]):
+        if time - before != minutes * MINUTE:
+            raise TableFault(f"{kind}: the row of {time} is not {minutes} minutes after {before}: frame.asfreq and fillna mend gaps")
+    most = limits_of(kind, "start")[1]
+    powers = []
+    for name in frame.columns:
+        for time, it in zip(times, frame[name]):
+            if not 0 <= it <= most:
+                raise TableFault(f"{kind}: column {name} has {it} at {time}: write 0 to {most:,} W, and no value missing")
+        powers.append(tuple(round(it) for it in frame[name].tolist()))
+    return Measured(tuple(map(str, frame.columns)), tuple(times), tuple(powers))
