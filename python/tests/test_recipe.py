@@ -129,7 +129,7 @@ def test_a_series_of_prices_is_a_device(tmp_path: Path, program: Program) -> Non
         "prices.csv: 1 price outside -10 to 40 ct/kWh count as the nearest of both: widen the basis",
     )
     assert made.connection == "exchange"
-    assert [it.price for it in run(made.cluster, program=program).ends] == [10, 10, 10, -2, -2, -2, 40, 40]
+    assert [it.price for it in run(made.cluster, program=program).ends] == [10, 10, 10, -2, -2, -2, 40, 40, 40]
 
 
 def test_a_markup_is_paid_by_the_buyer_alone(tmp_path: Path) -> None:

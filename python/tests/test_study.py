@@ -69,7 +69,7 @@ def test_clusters_bytes_and_lost_files_have_outcomes(tmp_path: Path, program: Pr
     assert [it.name for it in outcomes] == ["1", "2", str(tmp_path / "none.json"), "4"]
     assert [it.result for it in outcomes[:2]] == [run(house(it), program=program).text for it in (5, 6)]
     assert outcomes[2].fault.startswith("FileNotFoundError: ") and outcomes[2].digest == ""
-    assert outcomes[3].fault == "Refused: refused 6 basis"
+    assert outcomes[3].fault.startswith("Refused: refused 6 basis: ")
     assert study([], processes=4, program=program) == []
 
 
