@@ -35,7 +35,7 @@ def roof(draw: random.Random, hour: int, season: float, cloud: float) -> int:
     """The watts of the roof in an hour of winter time. `season` is 1 in midsummer and -1 in midwinter."""
     half = 6 + 2.2 * season
     height = math.cos((hour + 0.5 - 12) / half * math.pi / 2) if abs(hour + 0.5 - 12) < half else 0.0
-    return round(5600 * (0.62 + 0.33 * season) * height**1.3 * cloud * draw.uniform(0.85, 1.1))
+    return round(5600 * (0.62 + 0.33 * season) * math.pow(height, 1.3) * cloud * draw.uniform(0.85, 1.1))
 
 
 def main(folder: Path) -> None:
