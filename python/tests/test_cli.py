@@ -5,6 +5,7 @@ from __future__ import annotations
 import io
 import json
 import os
+import re
 import subprocess
 import sys
 import time
@@ -293,3 +294,12 @@ def test_progress_of_nothing(monkeypatch):
 
 def test_tracked_parts():
     assert list(tracked([1, 2, 3], "work", 3)) == [1, 2, 3]
+
+
+def test_the_calls_of_the_page_are_exported():
+    """What the first table of docs/PYTHON.md names as a call is one of the package, and not a module of the same name."""
+    page = (TOP / "docs" / "PYTHON.md").read_text()
+    table = page[page.index("| You want to |") : page.index("`cogmaula COMMAND --help`")]
+    names = {it for row in table.splitlines()[2:] if row for it in re.findall(r"`(\w+)`", row.split("|")[2])}
+    assert {"run", "explain", "chain", "report", "from_csv", "study", "bill", "ask"} <= names
+    assert all(callable(getattr(cogmaula, it)) for it in names - {"drawing"})

@@ -67,5 +67,5 @@ def test_each_error_has_its_row():
 def test_each_command_of_the_page_is_one():
     from cogmaula.cli import command_names
 
-    named = set(re.findall(r"(?:^    (?:\$ |python3 -m )?|`)cogmaula ([a-z-]+)", PAGE, re.M))
+    named = set(re.findall(r"(?:^    (?:\$ |python3 -m )?|`)cogmaula ([a-z][a-z-]*)", PAGE, re.M))
     assert named <= command_names().keys() and {"run", "explain", "continue", "chain"} <= named
