@@ -4,11 +4,12 @@ from __future__ import annotations
 
 import json
 from collections import Counter
-from collections.abc import Iterable, Iterator, Sequence
+from collections.abc import Callable, Iterable, Iterator, Sequence
+from concurrent.futures import ThreadPoolExecutor
 from datetime import date
 
 from . import schema
-from .calls import cluster_in, run
+from .calls import bill, cluster_in, run
 from .cluster import Cluster, Source
 from .continuing import NoContinuation, resumed
 from .errors import Place, Refused
@@ -20,7 +21,7 @@ from .program import Program, chosen
 from .progress import Progress
 from .runs import Run
 from .states import first_snapshot
-from .texts import Account, Bill, PhaseEnd, Report, report_text
+from .texts import Account, Bill, PhaseEnd, Report
 
 
 class Members:
@@ -124,14 +125,17 @@ def _in_whole(error: Refused, before: int) -> Refused:
     return Refused(error.code, Place(error.place.what, (phase + before, *event)), error.item)
 
 
-def whole_of(cluster: Cluster, runs: Iterable[Run]) -> Run:
+def whole_of(cluster: Cluster, runs: Iterable[Run], ask: Callable[[Run], Callable[[], Bill]] | None = None) -> Run:
     """The runs of the parts of a cluster's script as one run of the whole cluster, with its phases and bids numbered through.
+
+    ask: what gives the bill of a part when it is called; without it the program is asked when the bill is wanted
 
     Its text is the report that one run would have if it had no limits. Its bill is the sum of those of the parts.
     """
-    ends, members, parts = list[PhaseEnd](), Members(cluster), list[Run]()
+    ends, members, bills, first = list[PhaseEnd](), Members(cluster), list[Callable[[], Bill]](), None
     for at, done in enumerate(runs):
-        parts.append(done)
+        first = first or done
+        bills.append((ask or later_bill)(done))
         # What each device had changed before this part, less the join with which the part begins.
         before = members.changes.copy()
         before.subtract(members.now if at else ())
@@ -139,11 +143,19 @@ def whole_of(cluster: Cluster, runs: Iterable[Run]) -> Run:
             members.changed_by(phase)
             bids = {name: bid + before[name] for name, bid in end.bids.items()}
             ends.append(PhaseEnd(len(ends) + 1, end.price, end.step, end.total, end.powers, bids, end.groups))
-    if not parts:
+    if first is None:
         raise ValueError("a chain has at least one part")
-    text = report_text(Report(tuple(ends), members.changes.total()))
-    first = parts[0]
-    return Run(cluster, text, first.start, first.program, bill=lambda: sum_of([it.bill for it in parts]))
+    report = Report(tuple(ends), members.changes.total())
+    return Run(cluster, report, first.start, first.program, bill=lambda: sum_of([it() for it in bills]))
+
+
+def later_bill(done: Run) -> Callable[[], Bill]:
+    """What asks for the bill of a run when it is wanted, and keeps no more of the run than its cluster and a bill that is known."""
+    if "bill" in vars(done):
+        known = done.bill
+        return lambda: known
+    cluster, program = done.cluster, done.program
+    return lambda: bill(cluster, program=program)
 
 
 def sum_of(bills: Sequence[Bill]) -> Bill:
@@ -164,12 +176,14 @@ def chain(
     start: date | None = None,
     program: Program | None = None,
     quiet: bool = True,
+    with_bill: bool = False,
 ) -> Run:
     """Runs a cluster of any number of phases and changes, in parts that continue each other.
 
     minutes: the most minutes of a part, such as 1440 for days; else a part is as long as the program takes
     start, program: as for `run`
     quiet:   whether to tell no progress on standard error
+    with_bill: whether the bill is wanted for sure: the program is then asked for that of a part while the next part runs
 
     Raises what `run` raises. The limits of a single phase and of the tree hold as for `run`.
     """
@@ -181,4 +195,7 @@ def chain(
                 progress.step(len(done.ends) - (1 if at else 0))
                 yield done
 
-        return whole_of(cluster, told())
+        if not with_bill:
+            return whole_of(cluster, told())
+        with ThreadPoolExecutor(1) as pool:
+            return whole_of(cluster, told(), lambda done: pool.submit(later_bill(done)).result)

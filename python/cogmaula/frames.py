@@ -7,12 +7,15 @@ own and never stand beside other names.
 
 from __future__ import annotations
 
+import math
 from collections.abc import Iterable, Sequence
 from datetime import datetime
+from decimal import Decimal
 from typing import Any
 
 from .cluster import Cluster
 from .errors import NoPackage
+from .money import Currency, decimal_of, energy
 from .nodes import Limited
 from .states import snapshots
 from .texts import Answers, Bill, PhaseEnd
@@ -28,6 +31,14 @@ def pandas() -> Any:
     except ImportError:
         raise NoPackage("data frames need pandas: on Debian, apt-get install python3-pandas") from None
     return module
+
+
+def arrays() -> None:
+    """Raises NoPackage if numpy is not installed."""
+    try:
+        import numpy  # noqa: F401
+    except ImportError:
+        raise NoPackage("figures and bills of spans need numpy: on Debian, apt-get install python3-numpy") from None
 
 
 def index_of(times: Sequence[datetime], ends: Sequence[PhaseEnd]) -> Any:
@@ -98,6 +109,39 @@ def accounts(bill: Bill) -> Any:
     frame["amount"] = pd.Series([it[2].amount for it in parties], index=index, dtype="object")
     frame["taken_Wmin"] = pd.Series([it[2].taken for it in parties], index=index, dtype="int64")
     frame["given_Wmin"] = pd.Series([it[2].given for it in parties], index=index, dtype="int64")
+    return frame
+
+
+def simple(frame: Any) -> Any:
+    """The frame with plain columns and plain names, as HDF5 holds them: numbers that may be missing as floats, large ones as text."""
+    kinds = {name: str if kind == object else "float64" if str(kind) == "Int64" else kind for name, kind in frame.dtypes.items()}
+    return frame.astype(kinds)
+
+
+def money_accounts(bill: Bill, currency: Currency, number: type[float] | type[Decimal]) -> Any:
+    """The accounts in kilowatt-hours and money: amount_UNIT, taken_kWh, given_kWh, each the float or decimal number nearest the exact value."""
+    exact = accounts(bill)
+    made: Any = float if number is float else decimal_of
+    frame = pandas().DataFrame(index=exact.index)
+    frame[f"amount_{currency.unit}"] = [made(currency.money(it)) for it in exact["amount"]]
+    frame["taken_kWh"] = [made(energy(int(it))) for it in exact["taken_Wmin"]]
+    frame["given_kWh"] = [made(energy(int(it))) for it in exact["given_Wmin"]]
+    return frame
+
+
+def series(start: datetime, names: Sequence[str], powers: Any, members: Any, minutes: Sequence[int]) -> Any:
+    """A row for each stretch of time over which powers hold, all equally long: Int64 by device, <NA> if no member.
+
+    powers, members: of each interval and device; minutes: how long each interval lasts. If they differ, a row is as long as their
+    greatest common divisor, and an interval has several rows.
+    """
+    pd = pandas()
+    width = math.gcd(*minutes) if minutes else 0
+    index = pd.date_range(start, periods=sum(minutes) // width if width else 0, freq=pd.Timedelta(minutes=width or 1), name="time")
+    rows = [at for at, it in enumerate(minutes) for _ in range(it // (width or 1))]
+    columns = {name: pd.arrays.IntegerArray(powers[rows, at], ~members[rows, at]) for at, name in enumerate(names)}
+    frame = pd.DataFrame(columns, index=index)
+    frame.columns.name = "device"
     return frame
 
 

@@ -5,18 +5,26 @@ from __future__ import annotations
 import json
 import os
 from collections.abc import Callable, Iterator
-from datetime import datetime, timedelta
+from datetime import datetime
 from functools import cached_property
 from pathlib import Path
-from typing import Any
+from typing import TYPE_CHECKING, Any
 
 from . import frames
 from .cluster import Cluster
 from .errors import NoPackage
+from .moments import later
+from .money import Rate, currency_of
 from .phases import Tick
 from .program import Program, found_program
 from .states import Snapshot, last_snapshot
-from .texts import Bill, PhaseEnd, bill_of, report_of
+from .texts import Bill, PhaseEnd, Report, bill_of, report_of, report_text
+
+if TYPE_CHECKING:
+    from matplotlib.figure import Figure
+
+    from .figures import Figures
+    from .held import Held
 
 # The data frames of a run that are written to files, a file each.
 TABLES = ("prices", "powers", "bids", "states", "limited_groups", "violations", "accounts")
@@ -26,7 +34,6 @@ class Run:
     """A run of a cluster by the proved program.
 
     cluster: what was run
-    text:    the report, as the program wrote it
     ends:    the end of each phase
     changes: the number of changes of the run
     start:   the moment at which the first phase ends, if that is no tick
@@ -37,24 +44,29 @@ class Run:
     def __init__(
         self,
         cluster: Cluster,
-        text: bytes,
+        text: bytes | Report,
         start: datetime | None = None,
         program: Program | None = None,
         *,
         bill: Callable[[], Bill] | None = None,
     ) -> None:
-        """Takes the report that the program wrote of the cluster, and what gives its bill if that is not the program.
+        """Takes the report of the cluster, as the program wrote it or as values, and what gives its bill if that is not the program.
 
         Raises ProgramFault if the text has another form.
         """
-        report = report_of(text)
+        report = text if isinstance(text, Report) else report_of(text)
         self.cluster = cluster
-        self.text = text
+        self._text = None if isinstance(text, Report) else text
         self.ends: tuple[PhaseEnd, ...] = report.ends
         self.changes = report.changes
         self.start = start or frames.START
         self._program = program
         self._bill = bill
+
+    @cached_property
+    def text(self) -> bytes:
+        """The report, as the program writes it."""
+        return report_text(Report(self.ends, self.changes)) if self._text is None else self._text
 
     @property
     def program(self) -> Program:
@@ -66,10 +78,10 @@ class Run:
     @cached_property
     def times(self) -> list[datetime]:
         """The moment of each phase's end: the start and the minutes of all ticks up to it."""
-        found, now = [], self.start
+        found, passed = [], 0
         for phase in self.cluster.phases:
-            now += timedelta(minutes=phase.minutes if isinstance(phase, Tick) else 0)
-            found.append(now)
+            passed += phase.minutes if isinstance(phase, Tick) else 0
+            found.append(later(self.start, passed))
         return found
 
     @cached_property
@@ -100,8 +112,30 @@ class Run:
         return frames.prices(self._index, self.ends, self.durations)
 
     @cached_property
+    def held(self) -> Held:
+        """What holds over each tick, as arrays: powers, members and prices. It needs numpy, which comes with pandas."""
+        frames.arrays()
+        from .held import held_of
+
+        return held_of(self.cluster, self.ends)
+
+    def series(self) -> Any:
+        """The power of each device over time, as an index of times wants it: Int64 by device, <NA> if no member.
+
+        Only what holds for some time has a row, which begins at its time and is as long as all others. So the index is unique and has its
+        frequency, and means and sums over it are those of the bill: `run.series().resample("1h").mean()`. If ticks differ in length,
+        a row is as long as their greatest common divisor.
+        """
+        held = self.held
+        return frames.series(self.start, held.names, held.powers, held.members, held.minutes.tolist())
+
+    @cached_property
     def powers(self) -> Any:
-        """The power of each device in watts, positive if it takes power: (time, phase) by device, Int64, <NA> if no member."""
+        """The power of each device in watts, positive if it takes power: (time, phase) by device, Int64, <NA> if no member.
+
+        Phases that last no time have rows too. Drop them before you add up or take means: `powers[prices["minutes"] > 0]`, or take
+        `series`, which has none.
+        """
         return frames.wide(self._index, [it.name for it in self.cluster.devices], [it.powers for it in self.ends])
 
     @cached_property
@@ -137,7 +171,10 @@ class Run:
 
     @cached_property
     def bill(self) -> Bill:
-        """The accounts of the run, for which the program is asked when they are first wanted."""
+        """The accounts of the run, for which the program is asked when they are first wanted.
+
+        `run.bill` is exact. `run.bill("EUR", 0.001)` is the same in kilowatt-hours and money, as a data frame.
+        """
         return self._bill() if self._bill else bill_of(self.program.answer("bill", self.cluster.to_bytes()))
 
     @cached_property
@@ -153,6 +190,45 @@ class Run:
     def snapshot(self) -> Snapshot:
         """All devices at the end of the run: the state of each, and which are members."""
         return last_snapshot(self.cluster, self.ends)
+
+    def figures(self, connection: str | None = None, *, currency: str | None = None, per_kwh: Rate | None = None) -> Figures:
+        """What the run cost, with and without the market, whether limits were kept, and who flexed.
+
+        connection: the manual device that is the connection to the supplier; without it nothing is compared with the market
+        currency:   the unit of money, such as EUR; price units times kilowatt-hours if it is not given
+        per_kwh:    what a kilowatt-hour costs at price 1 in that unit
+
+        Raises ValueError if only one of the last two is given, NoConnection if the connection is none, and NoPackage without numpy.
+        """
+        frames.arrays()
+        from .figures.finding import figures_of
+
+        return figures_of(self, connection, currency_of(currency, per_kwh))
+
+    def plot(self, connection: str | None = None) -> Figure:
+        """A figure of the price, of what the devices take, and of what is left over. It needs matplotlib.
+
+        connection: as for `figures`; the figure then shows what is bought and sold, and the devices without it
+
+        Raises NoConnection, and NoPackage without matplotlib.
+        """
+        try:
+            from .report.overview import draw_overview
+        except ImportError:
+            raise NoPackage("a plot needs matplotlib: on Debian, apt-get install python3-matplotlib") from None
+        return draw_overview(self, connection)
+
+    def __repr__(self) -> str:
+        return (
+            f"Run({len(self.cluster.devices)} devices, {len(self.ends)} phases, {self.cluster.minutes} minutes "
+            f"from {self.start:%Y-%m-%d %H:%M})"
+        )
+
+    def _repr_html_(self) -> str:
+        """The run as a table of a notebook: its first and last phases. It needs pandas."""
+        from html import escape
+
+        return f"<p>{escape(repr(self))}</p>" + str(self.prices.to_html(max_rows=10))
 
     # Files.
 
@@ -172,6 +248,23 @@ class Run:
         engine = _parquet_engine()
         return self._write(folder, "parquet", lambda frame, path: _plain(frame).to_parquet(path, engine=engine))
 
+    def to_hdf5(self, path: str | os.PathLike[str]) -> Path:
+        """Writes the data frames into a file of HDF5, each under its name, and returns its path. It needs PyTables.
+
+        `amount` is text there. Columns with missing values are float64, with NaN for them.
+
+        Raises NoPackage without PyTables, and OSError.
+        """
+        from importlib.util import find_spec
+
+        pd = frames.pandas()
+        if find_spec("tables") is None:
+            raise NoPackage("HDF5 needs PyTables: on Debian, apt-get install python3-tables")
+        with pd.HDFStore(os.fspath(path), mode="w") as store:
+            for name, frame in self.tables().items():
+                store.put(name, frames.simple(frame))
+        return Path(path)
+
     def _write(self, folder: str | os.PathLike[str], ending: str, write: Any) -> list[Path]:
         place = Path(folder)
         place.mkdir(parents=True, exist_ok=True)
@@ -182,7 +275,7 @@ class Run:
         return paths
 
     def write(self, place: str | os.PathLike[str], kind: str) -> None:
-        """Writes the run as `csv` or `parquet` into a folder, or as `json-lines` into a file."""
+        """Writes the run as `csv` or `parquet` into a folder, or as `json-lines` or `hdf5` into a file."""
         match kind:
             case "csv":
                 self.to_csv(place)
@@ -190,6 +283,8 @@ class Run:
                 self.to_parquet(place)
             case "json-lines":
                 self.to_json_lines(place)
+            case "hdf5":
+                self.to_hdf5(place)
             case _:
                 raise ValueError(f"no format is called {kind}")
 

@@ -5,10 +5,14 @@ The program's lines are read here and nowhere else. docs/CLUSTER_FILE.md has the
 
 from __future__ import annotations
 
-from collections.abc import Iterator
+import sys
+from collections.abc import Iterable, Iterator
 from dataclasses import dataclass
+from decimal import Decimal
+from typing import Any
 
 from .errors import ProgramFault
+from .money import Currency, Rate, currency_of
 
 
 @dataclass(frozen=True)
@@ -68,14 +72,41 @@ class Account:
     given: int
 
 
-@dataclass(frozen=True)
+@dataclass(frozen=True, repr=False)
 class Bill:
-    """The text of `bill`: the account of each device in the order of the file, and of the grid; ticks and their minutes."""
+    """The text of `bill`: the account of each device in the order of the file, and of the grid; ticks and their minutes.
+
+    A bill is exact. Called with a currency, it gives the same as a data frame in kilowatt-hours and money.
+    """
 
     devices: dict[str, Account]
     grid: Account
     ticks: int
     minutes: int
+
+    def __call__(self, currency: str, per_kwh: Rate, number: type[float] | type[Decimal] = float) -> Any:
+        """A row for each device and for the grid, with the index (party, name): amount_UNIT, taken_kWh, given_kWh.
+
+        currency: the unit of money, such as EUR, which names the column
+        per_kwh:  what a kilowatt-hour costs at price 1 in that unit; a float counts as the decimal number that it prints as
+        number:   float, or `Decimal` for decimal numbers of 28 digits
+
+        Raises ValueError if per_kwh is not above 0, and NoPackage without pandas.
+        """
+        from .frames import money_accounts
+
+        return money_accounts(self, currency_of(currency, per_kwh), number)
+
+    def __repr__(self) -> str:
+        paid = sum(it.amount for it in self.devices.values())
+        return f"Bill({len(self.devices)} devices, {self.ticks} ticks, {self.minutes} minutes, devices pay {paid} price units\u00b7W\u00b7min)"
+
+    def _repr_html_(self) -> str:
+        """The accounts as a table of a notebook, in price units times kilowatt-hours. It needs pandas."""
+        from .frames import money_accounts
+
+        caption = f"<p>{self.ticks} ticks, {self.minutes} minutes. Amounts in price units \u00d7 kWh, above 0 if the account pays.</p>"
+        return caption + str(money_accounts(self, Currency(), float).to_html(max_rows=60))
 
 
 @dataclass(frozen=True)
@@ -137,26 +168,28 @@ def misread(words: list[str]) -> ProgramFault:
 
 def report_of(text: bytes) -> Report:
     """The report that a text of `run` or `free` is. Raises ProgramFault if it has another form."""
-    return _report(lines_of(text))[0]
+    # A line at a time: the words of a year's report at once would take ten times its memory.
+    return _report(it.decode("ascii").split(" ") for it in text.splitlines())
 
 
-def _report(lines: list[list[str]]) -> tuple[Report, list[list[str]]]:
-    """The report at the head of these lines, and the lines behind it."""
+def _report(lines: Iterable[list[str]]) -> Report:
+    """The report at the head of these lines. An iterator is left at the line behind it."""
     ends: list[PhaseEnd] = []
     groups: list[GroupEnd] = []
-    for at, words in enumerate(lines):
+    for words in lines:
         match words:
             case ["phase", phase, "price", price, "step", step, "total", total, "members", _]:
                 groups = []
                 ends.append(PhaseEnd(int(phase), int(price), int(step), int(total), {}, {}, ()))
             case ["member", name, "power", power, "bid", bid] if ends:
+                name = sys.intern(name)
                 ends[-1].powers[name] = int(power)
                 ends[-1].bids[name] = int(bid)
             case ["limited", name, "price", price, "step", step, "total", total] if ends:
-                groups.append(GroupEnd(name, int(price), int(step), int(total)))
+                groups.append(GroupEnd(sys.intern(name), int(price), int(step), int(total)))
                 object.__setattr__(ends[-1], "groups", tuple(groups))
             case ["end", "phases", _, "changes", changes]:
-                return Report(tuple(ends), int(changes)), lines[at + 1 :]
+                return Report(tuple(ends), int(changes))
             case _:
                 raise misread(words)
     raise ProgramFault("the program's report has no last line")
@@ -208,7 +241,8 @@ def answers_of(text: bytes) -> Answers:
 
 def moves_of(text: bytes) -> tuple[Report, tuple[Move, ...]]:
     """The report and the moves that a text of `trace` has. Raises ProgramFault if it has another form."""
-    report, lines = _report(lines_of(text))
+    words = iter(lines_of(text))
+    report, lines = _report(words), list(words)
     moves = tuple(_moves(lines))
     if not lines or lines[-1] != ["moves", str(len(moves))]:
         raise ProgramFault("the program's trace has no last line with the number of its moves")

@@ -218,6 +218,22 @@ def test_parquet_is_handed_amounts_as_text(tmp_path, monkeypatch):
     assert list(frame["amount"]) == [str(it) for it in done.accounts["amount"]]
 
 
+def test_hdf5_is_read_as_it_was_written(tmp_path):
+    pytest.importorskip("tables")
+    done = run(EXAMPLES / "village.json")
+    done.write(tmp_path / "run.h5", "hdf5")
+    assert pd.read_hdf(tmp_path / "run.h5", "prices").equals(done.prices)
+    powers = pd.read_hdf(tmp_path / "run.h5", "powers")
+    assert powers.equals(done.powers.astype("float64"))
+    assert [int(it) for it in pd.read_hdf(tmp_path / "run.h5", "accounts")["amount"]] == list(done.accounts["amount"])
+
+
+def test_hdf5_without_an_engine(tmp_path, monkeypatch):
+    monkeypatch.setattr("importlib.util.find_spec", lambda name: None)
+    with pytest.raises(NoPackage, match="python3-tables"):
+        run(EXAMPLES / "balance.json").to_hdf5(tmp_path / "run.h5")
+
+
 def test_frames_without_pandas(monkeypatch):
     monkeypatch.setitem(sys.modules, "pandas", None)
     done = Run(Cluster.load(EXAMPLES / "balance.json"), (EXAMPLES / "balance.txt").read_bytes())

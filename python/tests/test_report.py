@@ -9,6 +9,7 @@ import textwrap
 from dataclasses import replace
 from datetime import datetime
 from fractions import Fraction
+from html import unescape
 from html.parser import HTMLParser
 from pathlib import Path
 from typing import Any
@@ -32,10 +33,15 @@ TOP = Path(__file__).resolve().parents[2]
 from checks.oracle import targets as oracle
 from checks.oracle.accounts import bill_of as oracle_bill
 
+numpy = pytest.importorskip("numpy")
 pytest.importorskip("matplotlib")
 from cogmaula.report import report
-from cogmaula.report.figures import number, watts
-from cogmaula.report.sections import duration
+from cogmaula.report.course import Course
+from cogmaula.report.grouping import rows_of
+from cogmaula.report.page import STYLE
+from cogmaula.report.svg import inline
+from cogmaula.report.charts import number, watts
+from cogmaula.report.words import duration
 
 FEEDER = Cluster(
     Basis(0, 9, 10),
@@ -63,7 +69,7 @@ def test_spans_are_whole_ticks() -> None:
     ]
     assert list(spans_of(intervals_of(FEEDER), 60)) == [(0, 90, 0, 4), (90, 120, 4, 8), (120, 130, 8, 11)]
     assert list(spans_of([], 60)) == []
-    assert [span_for(it) for it in (0, 1440, 2880, 2881, 44640)] == [60, 60, 60, 120, 960]
+    assert [span_for(it) for it in (0, 1440, 2880, 2881, 44640, 525_600)] == [60, 60, 60, 120, 960, 8 * 1440]
 
 
 def test_violations_are_counted_and_listed(program: Program) -> None:
@@ -254,14 +260,14 @@ def test_a_run_without_time_or_members_has_a_page(program: Program) -> None:
 
 
 def test_many_devices_are_a_heat_map(program: Program) -> None:
-    """Nine devices and uneven ticks: the figure holds a picture, and each account is in the tables."""
+    """Nine devices and uneven ticks: the figure holds a picture, with a name for each; of seventy it has groups, which are named too."""
     nodes = [Load(f"house{at}", start=100 * at) for at in range(70)]
     cluster = Cluster(Basis(0, 9, 10), nodes)
     for few, has_names in ((9, True), (70, False)):
         small = Cluster(cluster.basis, nodes[:few])
         text = report(small.with_phases(small.join_all(), Tick(10), Tick(35)), program=program)
-        assert text.count("data:image/png;base64,") >= 1
-        assert (">house3</text>" in text) == has_names
+        assert ("data:image/png;base64," in text) == has_names
+        assert (">house3</text>" in text) == has_names and (">auctioneer: load (70)</text>" in text) != has_names
         assert all(f'<th scope="row">house{at}</th>' in text for at in range(few))
 
 
@@ -352,6 +358,85 @@ def test_a_script_that_is_too_long_for_one_run_has_a_page(program: Program) -> N
     assert "1 device, 0 concentrators, 1\u202f201 phases, 20 h" in text
     assert '<th scope="row">house</th><td>1.200</td><td>0.000</td><td>10.80</td>' in text
     assert summary(long.to_bytes(), program).amount == 60 * 1200 * 9
+
+
+def test_a_span_is_as_long_as_it_likes(program: Program) -> None:
+    """Worked by hand: a span of 1,200 ticks, which is longer than one run, has all of the bill. A span below a minute is refused."""
+    house = Cluster(Basis(0, 9, 10), [Load("house", start=60)])
+    long = house.with_phases(house.join_all(), *[Tick(1)] * 1200)
+    text = report(long, span=1200, program=program)
+    assert '<th scope="row">00:00 to 20:00</th><td>1.200</td><td>0.000</td><td>10.80</td><td>\u221210.80</td>' in text
+    for bad in (0, -5):
+        with pytest.raises(ValueError, match="a span has at least one"):
+            report(long.with_script(long.phases[:3]), span=bad, program=program)
+
+
+def test_the_connection_and_the_grid_are_one_account(tmp_path: Path, program: Program) -> None:
+    """Worked by hand on the cookbook's page: 0.5 kWh bought at 30 and 0.5 kWh sold at 8, where the connection alone gives 10 kWh."""
+    file = TOP / "examples" / "cookbook" / "connection.json"
+    text = report(file, connection="connection", program=program)
+    assert '<th scope="row">(the supplier)</th><td>0.500</td><td>0.500</td><td>\u221211.00</td>' in text
+    assert '<th scope="row">connection</th>' not in text and ">connection</text>" not in text
+    assert '<th scope="row">00:00 to 01:00</th><td>0.500</td><td>0.000</td><td>15.00</td><td>\u221215.00</td>' in text
+    assert "<h2>Bought and sold</h2>" in text and "<dt>Bought</dt><dd>0.500 kWh</dd>" in text
+    (first, second) = bills_of(run(file, program=program), 60, "connection")
+    assert (first.bill.grid, second.bill.grid) == (Account(-900_000, 0, 30_000), Account(240_000, 30_000, 0))
+    page = tmp_path / "page.html"
+    words = ["report", str(file), "-o", str(page), "--program", program.path, "--connection"]
+    assert cli.main([*words, "connection"]) == 0 and "(the supplier)" in page.read_text()
+    assert cli.main([*words, "roof"]) == 1
+
+
+def test_the_page_warns_of_a_bill_that_nobody_pays(program: Program) -> None:
+    """A battery of 5 kW beside 2 kW of sun, as in test_figures.py: all is sold above the price of sale, and the battery is idle."""
+    from test_figures import STORE, sunny
+
+    text = unescape(report(sunny(24), connection="supplier", program=program))
+    assert "48.000 of 48.000 kWh that were sold are billed above the connection's price of sale" in text
+    assert "at the connection's prices the run costs \u2212384.00 price units" in text
+    assert "Hardly used, with less than 0.1 cycles a day: store." in text
+    day = sunny(12)
+    night = day.with_phases(Events([State("roof", 0)]), *[Tick(60)] * 12)
+    follows = Cluster(day.basis, [it if it != STORE else replace(STORE, charge=2000, discharge=2000) for it in day.nodes], night.phases)
+    assert "Hardly used" not in report(follows, connection="supplier", program=program)
+    # The same costs stand in the table, and the rules that they stand on are said to be models.
+    assert '<th scope="row">by plain rules *</th><td>\u2212344.00</td>' in text and "a model beside the proved market, not proved" in text
+
+
+def test_print_and_dark_rules() -> None:
+    """On paper no row sticks over another and no heading is alone; in the dark there is other ink and paper, and figures take them."""
+    screen, _, paper = STYLE.partition("@media print")
+    assert "tr.sum > *, .wide tbody th, .wide thead th, caption { position: static; }" in paper
+    assert "h1, h2, h3, caption { break-after: avoid; }" in paper and "tr, figure" in paper and "prefers-color-scheme: dark" in screen
+    drawn = inline('<svg width="1pt" height="1pt" ><path d="M 1.23456 7" style="fill: #ffffff; stroke: #000000"/></svg>', "a")
+    assert 'd="M 1.23 7" style="fill: var(--paper); stroke: currentColor"' in drawn
+
+
+def test_the_course_of_a_long_run() -> None:
+    """Worked by hand: 2,001 ticks of 45 minutes. The first hour has a whole tick of 4 and a third of one of 8, which are (45*4 + 15*8) / 60."""
+    course = Course.of([45 * (at + 1) for at in range(2001)])
+    values = numpy.array([4, 8, 0] * 667)
+    assert course.word == "hour" and len(course.edges) == 1502 and course.edges[-1] == 2001 * 0.75
+    assert course.mean(values)[:3].tolist() == [5, 4, 3] and course.mean(values)[-1] == 0
+    assert course.least(values)[:3].tolist() == [4, 0, 0] and course.greatest(values)[:4].tolist() == [8, 8, 4, 8]
+    assert course.mean([values, values])[1, 1] == 4
+    assert (course.mean(values) * numpy.diff(course.edges)).sum() == pytest.approx(values.sum() * 0.75)
+    short = Course.of([45, 60])
+    assert short.word == "" and short.mean([1, 2]).tolist() == [1, 2]
+    assert Course.of([60 * (at + 1) for at in range(2001)]).word == "day"
+
+
+def test_groups_have_names() -> None:
+    """By kind and parent; by kind alone if these are too many."""
+    parents = [Limited(f"f{at}", floor=-9, ceiling=9) for at in range(2)]
+    loads = [Load(f"d{at}", parent=f"f{at % 2}", start=1) for at in range(61)]
+    powers = numpy.ones((3, 61))
+    assert list(rows_of(Cluster(Basis(0, 1, 2), [*parents, *loads]), powers, list(range(60)))) == [it.name for it in loads[:60]]
+    found = rows_of(Cluster(Basis(0, 1, 2), [*parents, *loads]), powers, list(range(61)))
+    assert {name: it.tolist() for name, it in found.items()} == {"f0: load (31)": [31] * 3, "f1: load (30)": [30] * 3}
+    many = [Limited(f"f{at}", floor=-9, ceiling=9) for at in range(61)]
+    apart = Cluster(Basis(0, 1, 2), [*many, *(replace(it, parent=f"f{at}") for at, it in enumerate(loads))])
+    assert list(rows_of(apart, powers, list(range(61)))) == ["load (61)"]
 
 
 def test_runs_know_their_program(program: Program) -> None:

@@ -6,7 +6,6 @@ import argparse
 
 from .. import calls, cli
 from ..errors import MarketError, NoPackage
-from .report import whole_positive
 
 HELP = "draws a picture of a small run, a clearing, a bill, or the answers to targets"
 MORE = (
@@ -20,7 +19,7 @@ def add_arguments(parser: argparse.ArgumentParser) -> None:
     parser.add_argument("what", choices=["run", "clearing", "bill", "ask"], help="what the picture shows")
     parser.add_argument("file", metavar="FILE", help="the cluster file")
     parser.add_argument("-o", "--output", metavar="PICTURE", required=True, help="the picture to write, such as day.svg")
-    parser.add_argument("--phase", type=whole_positive, metavar="NUMBER", help="of run the last, and of clearing the first if not given")
+    parser.add_argument("--phase", type=cli.whole_positive, metavar="NUMBER", help="of run the last, and of clearing the first if not given")
     parser.add_argument("--target", type=int, action="append", metavar="WATTS", help="of ask; may be repeated")
 
 

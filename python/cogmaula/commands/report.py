@@ -7,6 +7,7 @@ from fractions import Fraction
 from pathlib import Path
 
 from .. import cli
+from ..money import rate_of
 from ..report import Currency, report
 
 HELP = "runs a cluster file, and writes a page of prices, loads, powers, bills and flexibility"
@@ -16,22 +17,12 @@ MORE = (
 )
 
 
-def whole_positive(text: str) -> int:
-    """A whole number above 0."""
-    if not text.isascii() or not text.isdigit() or int(text) == 0:
-        raise argparse.ArgumentTypeError(f"{text!r} is no whole number above 0")
-    return int(text)
-
-
 def rate(text: str) -> Fraction:
     """A decimal number above 0, such as 0.001."""
     try:
-        found = Fraction(text)
-    except (ValueError, ZeroDivisionError):
-        raise argparse.ArgumentTypeError(f"{text!r} is no number") from None
-    if found <= 0:
-        raise argparse.ArgumentTypeError(f"{text!r} is not above 0")
-    return found
+        return rate_of(text)
+    except ValueError as error:
+        raise argparse.ArgumentTypeError(str(error)) from None
 
 
 def add_arguments(parser: argparse.ArgumentParser) -> None:
@@ -44,9 +35,12 @@ def add_arguments(parser: argparse.ArgumentParser) -> None:
     parser.add_argument(
         "--per-kwh", type=rate, metavar="AMOUNT", help="what a kilowatt-hour costs at price 1 in that unit, such as 0.01"
     )
-    parser.add_argument("--span", type=whole_positive, metavar="MINUTES", help="the spans of time of the bills; default an hour")
+    parser.add_argument("--span", type=cli.whole_positive, metavar="MINUTES", help="the spans of time of the bills; default an hour")
     parser.add_argument(
         "--target", type=int, action="append", metavar="WATTS", help="asks what the cluster does for so many watts; may be repeated"
+    )
+    parser.add_argument(
+        "--connection", metavar="NAME", help="the manual device that is the connection to the supplier: it and the grid are one account"
     )
     parser.add_argument("--quiet", action="store_true", help="tells no progress")
     parser.set_defaults(fail=parser.error)
@@ -64,6 +58,7 @@ def main(arguments: argparse.Namespace) -> int:
         currency=currency,
         span=arguments.span,
         targets=arguments.target,
+        connection=arguments.connection,
         program=cli.program_of(arguments),
         quiet=arguments.quiet,
     )

@@ -7,7 +7,7 @@ from matplotlib.figure import Figure
 from matplotlib.ticker import FuncFormatter
 
 from ..report.bills import energy
-from ..report.figures import number, set_powers, watts
+from ..report.charts import number, set_powers, watts
 from ..report.flexibility import Flexibility
 from ..report.svg import COLOURS, LIMIT, LINE, SETTINGS
 from ..texts import Bill

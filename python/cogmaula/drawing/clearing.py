@@ -6,7 +6,7 @@ import matplotlib
 from matplotlib.figure import Figure
 
 from ..program import Program, found_program
-from ..report.figures import number, set_powers, watts
+from ..report.charts import number, set_powers, watts
 from ..report.flexibility import demands_after
 from ..report.svg import COLOURS, LINE, SETTINGS
 from ..runs import Run

@@ -13,7 +13,7 @@ from ..cluster import Cluster
 from ..nodes import AUCTIONEER, Limited
 from ..phases import Tick
 from ..program import Program, found_program
-from ..report.figures import number, set_powers, watts
+from ..report.charts import number, set_powers, watts
 from ..report.flexibility import demands_after
 from ..report.svg import COLOURS, LIMIT, LINE, SETTINGS
 from ..runs import Run

@@ -1,49 +1,25 @@
 """Bills by device and span of time, in kilowatt-hours and a currency.
 
-Each number comes from the program's `bill`. The bill of a span is that of the cluster with the phases of the span alone, whose devices
-start with the states that they had there. All spans have to add up to the bill of the whole run.
+The bill of a span is the sum over its ticks of what the run's report says. All spans have to add up to the program's bill of the whole
+run, to the last unit.
 """
 
 from __future__ import annotations
 
-import itertools
 from collections.abc import Iterable, Iterator
-from concurrent.futures import ThreadPoolExecutor
 from dataclasses import dataclass
-from datetime import datetime, timedelta
-from fractions import Fraction
-from queue import SimpleQueue
+from datetime import datetime
 from typing import Any
 
 from .. import frames
-from ..calls import bill
-from ..cluster import Cluster
-from ..continuing import resumed
 from ..errors import ProgramFault
-from ..processors import count, dealt, keep_to_one
+from ..moments import later
+from ..money import WATT_MINUTES, Currency, energy
 from ..runs import Run
-from ..states import first_snapshot, snapshots
 from ..texts import Account, Bill
 from .times import intervals_of, spans_of
 
-# So many watts times minutes are a kilowatt-hour.
-WATT_MINUTES = 60_000
-
-
-@dataclass(frozen=True)
-class Currency:
-    """A unit of money, and how much of it a kilowatt-hour costs at price 1."""
-
-    unit: str = "price units \u00d7 kWh"
-    at_price_one: Fraction = Fraction(1)
-
-    def money(self, account: Account) -> Fraction:
-        """The amount of an account in this unit: above 0 if it pays."""
-        return Fraction(account.amount, WATT_MINUTES) * self.at_price_one
-
-    def price(self, price: Fraction) -> Fraction:
-        """What a kilowatt-hour costs at a price."""
-        return price * self.at_price_one
+__all__ = ["WATT_MINUTES", "Currency", "Span", "add_up", "bill_with_supplier", "bills_of", "energy", "frame_of", "sum_of"]
 
 
 @dataclass(frozen=True)
@@ -55,31 +31,26 @@ class Span:
     bill: Bill
 
 
-def energy(watt_minutes: int) -> Fraction:
-    """Watts times minutes in kilowatt-hours."""
-    return Fraction(watt_minutes, WATT_MINUTES)
+def bills_of(run: Run, minutes: int, connection: str | None = None) -> Iterator[Span]:
+    """The bills of a run over spans of so many minutes, in order. It needs numpy, which comes with pandas.
 
+    connection: a device whose account is one with that of the grid: together they are the supplier
 
-def bills_of(run: Run, minutes: int, runs: int | None = None) -> Iterator[Span]:
-    """The bills of a run over spans of so many minutes, in order; each as soon as it is known.
-
-    runs: how many runs of the program go at once; as many as the machine has processors if it is not given
-
-    Raises what `Program.answer` raises, and ProgramFault if the spans do not add up to the bill of the whole run.
+    Raises ValueError if the minutes are below 1, what `Program.answer` raises, and ProgramFault if the spans do not add up to the bill
+    of the whole run.
     """
+    if minutes < 1:
+        raise ValueError(f"a span of {minutes} minutes: a span has at least one")
     spans = list(spans_of(intervals_of(run.cluster), minutes))
-    scripts = list(scripts_of(run, [first for _, _, first, _ in spans], [last for _, _, _, last in spans]))
-    workers = runs or count()
-    queue: SimpleQueue[int] = SimpleQueue()
-    with ThreadPoolExecutor(workers, initializer=keep_to_one, initargs=(dealt(queue, workers),)) as pool:
-        whole = pool.submit(lambda: run.bill)
-        bills = pool.map(lambda script: bill(script, program=run.program), scripts)
-        found = []
-        for (begin, end, _, _), one in zip(spans, bills, strict=True):
-            found.append(one)
-            yield Span(begin, end, one)
-    if spans and not add_up(found, whole.result()):
+    places = {int(end): at + 1 for at, end in enumerate(run.held.ends)}
+    firsts = [places.get(begin, 0) for begin, *_ in spans]
+    bills = run.held.bills(firsts)
+    if spans and not add_up(bills, run.bill):
         raise ProgramFault("the bills of the spans do not add up to the bill of the run")
+    if connection is not None:
+        bills = run.held.bills(firsts, connection)
+    for (begin, end, _, _), one in zip(spans, bills, strict=True):
+        yield Span(begin, end, one)
 
 
 def frame_of(spans: Iterable[Span], start: datetime) -> Any:
@@ -93,23 +64,10 @@ def frame_of(spans: Iterable[Span], start: datetime) -> Any:
     Raises NoPackage without pandas.
     """
     pd = frames.pandas()
-    parts = [
-        frames.accounts(it.bill).assign(begin=start + timedelta(minutes=it.begin), end=start + timedelta(minutes=it.end))
-        for it in spans
-    ]
+    parts = [frames.accounts(it.bill).assign(begin=later(start, it.begin), end=later(start, it.end)) for it in spans]
     if not parts:
         parts = [frames.accounts(Bill({}, Account(0, 0, 0), 0, 0)).iloc[:0].assign(begin=start, end=start)]
     return pd.concat(parts).set_index(["begin", "end"], append=True).reorder_levels(["begin", "end", "party", "name"])
-
-
-def scripts_of(run: Run, firsts: Iterable[int], lasts: Iterable[int]) -> Iterator[Cluster]:
-    """The cluster from phase `first` on and before phase `last`, both from 0, with the states that its devices had there."""
-    cluster, spans = run.cluster, dict(zip(firsts, lasts, strict=True))
-    before = itertools.chain([first_snapshot(cluster)], snapshots(cluster, run.ends))
-    for first, now in enumerate(before):
-        if first in spans:
-            phases = cluster.phases[first : spans[first]]
-            yield resumed(cluster, now, phases) if first else cluster.with_script(phases)
 
 
 def add_up(parts: Iterable[Bill], whole: Bill) -> bool:
@@ -123,5 +81,15 @@ def add_up(parts: Iterable[Bill], whole: Bill) -> bool:
 
 def sum_of(accounts: Iterable[Account]) -> Account:
     """The sum of some accounts."""
-    them = list(accounts)
-    return Account(*(sum(getattr(it, word) for it in them) for word in ("amount", "taken", "given")))
+    amount = taken = given = 0
+    for it in accounts:
+        amount, taken, given = amount + it.amount, taken + it.taken, given + it.given
+    return Account(amount, taken, given)
+
+
+def bill_with_supplier(run: Run, connection: str | None) -> Bill:
+    """The bill of a run; with a connection its account and that of the grid are one."""
+    if connection is None or not run.bill.ticks:
+        return run.bill
+    (whole,) = run.held.bills([0], connection)
+    return whole

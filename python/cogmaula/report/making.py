@@ -8,18 +8,23 @@ from concurrent.futures import ThreadPoolExecutor
 from dataclasses import dataclass
 from datetime import datetime
 from pathlib import Path
+from typing import TYPE_CHECKING
 
 from ..cluster import Cluster, Source, bytes_of
 from ..continuing import continued
 from ..errors import NoPackage
+from ..figures import Figures
 from ..program import Program, found_program
-from ..progress import Progress
 from ..runs import Run
+from ..texts import Bill
 from ..whole import whole_run
-from .bills import Currency, Span, bills_of
+from .bills import Currency, Span, bill_with_supplier, bills_of
 from .flexibility import Flexibility, flexibility_of
 from .limits import Group, groups_of
-from .times import Interval, intervals_of, spans_of
+from .times import Interval, intervals_of
+
+if TYPE_CHECKING:
+    from .course import Course
 
 # The minutes of a bill's span if the user names none.
 SPAN = 60
@@ -31,12 +36,18 @@ MOST_SPANS = 48
 class Findings:
     """All that a report tells of a run, and that its sections are made of.
 
-    has_start: whether the user named the start of the run
+    has_start:  whether the user named the start of the run
+    connection: the manual device that is the connection to the supplier, or None if the user named none
+    bill:       the bill of the run, in which the connection and the grid are one account if there is a connection
     """
 
     title: str
     run: Run
     has_start: bool
+    connection: str | None
+    bill: Bill
+    figures: Figures
+    course: Course
     intervals: tuple[Interval, ...]
     groups: tuple[Group, ...]
     spans: tuple[Span, ...]
@@ -53,24 +64,31 @@ def findings_of(
     currency: Currency | None = None,
     span: int | None = None,
     targets: Iterable[int] | None = None,
+    connection: str | None = None,
     program: Program | None = None,
     quiet: bool = True,
 ) -> Findings:
     """Runs a cluster and finds what its report tells. The arguments are those of `report`."""
+    # These need numpy, which the command line does without until a page is made.
+    from ..figures.finding import figures_of
+    from ..figures.supply import connection_in
+    from .course import Course
+
     program, data = program or found_program(), bytes_of(source)
     cluster = source if isinstance(source, Cluster) else Cluster.from_json(data)
-    done = whole_run(cluster, start=start, program=program, quiet=quiet)
+    if connection is not None:
+        connection_in(cluster, connection)
+    done = whole_run(cluster, start=start, program=program, quiet=quiet, with_bill=True)
     intervals = intervals_of(cluster)
-    minutes = span or span_for(cluster.minutes)
-    with Progress("bills", sum(1 for _ in spans_of(intervals, minutes)), quiet=quiet) as progress:
-        spans = []
-        for it in bills_of(done, minutes):
-            spans.append(it)
-            progress.step()
+    spans = list(bills_of(done, span_for(cluster.minutes) if span is None else span, connection))
     return Findings(
         title or title_of(source),
         done,
         start is not None,
+        connection,
+        bill_with_supplier(done, connection),
+        figures_of(done, connection, currency),
+        Course.of([it.end for it in intervals]),
         tuple(intervals),
         tuple(groups_of(done, intervals)),
         tuple(spans),
@@ -81,8 +99,9 @@ def findings_of(
 
 
 def span_for(minutes: int) -> int:
-    """The minutes of a span of the bill of a run of so many minutes: an hour, or so many whole hours that there are few spans."""
-    return SPAN * max(1, -(-minutes // (SPAN * MOST_SPANS)))
+    """The minutes of a span of the bill of a run of so many minutes: an hour, or so many whole hours or days that there are few spans."""
+    hours = max(1, -(-minutes // (SPAN * MOST_SPANS)))
+    return SPAN * (hours if hours <= 24 else 24 * -(-hours // 24))
 
 
 def title_of(source: Source) -> str:
@@ -98,6 +117,7 @@ def report(
     currency: Currency | None = None,
     span: int | None = None,
     targets: Iterable[int] | None = None,
+    connection: str | None = None,
     program: Program | None = None,
     quiet: bool = True,
 ) -> str:
@@ -109,17 +129,20 @@ def report(
     currency: the unit of money, and what a kilowatt-hour costs at price 1; price units times kilowatt-hours if it is not given
     span:     the minutes of a span of the bill; if it is not given, an hour, or some hours if the run is long
     targets:  watts that the cluster is asked for at the end of the run; some of its range if they are not given
+    connection: the manual device that is the connection to the supplier: its account and that of the grid are then one, the page
+                shows what is bought and sold, and compares the cost with that without the market
     program:  the proved program; by default the one that `Program.find()` finds
     quiet:    whether no progress is told on standard error
 
-    Raises what `run` and `chain` raise, and NoPackage without matplotlib.
+    Raises what `run` and `chain` raise, NoConnection, ValueError if a span is below 1, and NoPackage without matplotlib.
     """
     asked = None if targets is None else list(targets)
     with ThreadPoolExecutor(1) as pool:
         # The program runs while matplotlib is loaded, which takes longer than a short run.
         found = pool.submit(
             lambda: findings_of(
-                source, title=title, start=start, currency=currency, span=span, targets=asked, program=program, quiet=quiet
+                source, title=title, start=start, currency=currency, span=span, targets=asked, connection=connection,
+                program=program, quiet=quiet,
             )
         )
         try:

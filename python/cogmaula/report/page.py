@@ -6,19 +6,29 @@ from collections.abc import Iterable, Sequence
 from html import escape
 
 STYLE = """
-:root { color-scheme: light; --ink: #1a1a1a; --soft: #5a5a5a; --line: #d9d9d9; --bad: #b3400a; --good: #00664a; }
+:root { color-scheme: light dark; --paper: #fff; --ink: #1a1a1a; --soft: #5a5a5a; --line: #d9d9d9; --head: #f4f4f4; --link: #00548a;
+  --bad: #b3400a; --good: #00664a; --warn: #fdf3d8; --blue: #0072b2; }
+@media (prefers-color-scheme: dark) { :root { --paper: #16181a; --ink: #e8e8e8; --soft: #a9adb1; --line: #3c4043; --head: #222629;
+  --link: #7cc0f2; --bad: #ff9a62; --good: #5fd0a5; --warn: #3a3115; --blue: #4aa8e0; } }
 * { box-sizing: border-box; }
-body { margin: 0 auto; max-width: 80rem; padding: 1rem; color: var(--ink); background: #fff;
+body { margin: 0 auto; max-width: 80rem; padding: 1rem; color: var(--ink); background: var(--paper);
   font: 1rem/1.45 system-ui, "DejaVu Sans", sans-serif; }
 h1 { font-size: 1.5rem; margin: .2rem 0; overflow-wrap: anywhere; }
 h2 { font-size: 1.2rem; margin: 2rem 0 .4rem; border-bottom: 1px solid var(--line); }
 h3 { font-size: 1rem; margin: 1rem 0 .2rem; overflow-wrap: anywhere; }
 p { max-width: 44rem; margin: .4rem 0; }
-a { color: #00548a; }
+a { color: var(--link); }
 nav a { display: inline-block; padding: .3rem .7rem .3rem 0; }
 .soft, figcaption, caption { color: var(--soft); }
+.small { font-size: .85rem; }
+.large { font-size: 1.4rem; font-weight: 600; overflow-wrap: anywhere; }
 .bad { color: var(--bad); font-weight: 600; }
 .good { color: var(--good); font-weight: 600; }
+.warning { background: var(--warn); border-left: .3rem solid var(--bad); padding: .4rem .7rem; max-width: none; }
+.cards { display: grid; grid-template-columns: repeat(auto-fit, minmax(min(100%, 17rem), 1fr)); gap: .8rem; margin: 1rem 0; }
+.cards section { border: 1px solid var(--line); border-radius: .4rem; padding: .5rem .8rem; min-width: 0; }
+.cards h2 { font-size: 1rem; margin: 0 0 .3rem; border: 0; }
+.cards table { width: 100%; }
 .facts { display: grid; grid-template-columns: repeat(auto-fill, minmax(min(100%, 10rem), 1fr)); gap: .6rem; margin: 1rem 0; padding: 0; }
 .facts div { border: 1px solid var(--line); border-radius: .4rem; padding: .5rem .7rem; }
 .facts dt { color: var(--soft); font-size: .85rem; }
@@ -29,20 +39,44 @@ main { display: grid; grid-template-columns: minmax(0, 1fr); gap: 0 3rem; }
 .beside > * { min-width: 0; }
 figure { margin: .5rem 0; max-width: 42rem; }
 figure svg { display: block; width: 100%; height: auto; }
+figure svg text { fill: currentColor; }
 figcaption { font-size: .9rem; }
 .wide { overflow-x: auto; max-width: 100%; max-height: 36rem; overflow-y: auto; margin: .5rem 0; }
 table { border-collapse: collapse; font-variant-numeric: tabular-nums; font-size: .9rem; }
+.wide table { min-width: min(100%, 20rem); }
+main section:not(.wide-part) .wide :is(th, td) { padding: .2rem .3rem; font-size: .82rem; }
 caption { text-align: left; padding: .2rem 0; }
 th, td { padding: .2rem .6rem; text-align: right; white-space: nowrap; border-bottom: 1px solid var(--line); }
-thead th { position: sticky; top: 0; background: #f4f4f4; vertical-align: bottom; white-space: normal; min-width: 4.5rem; }
+thead th { white-space: normal; vertical-align: bottom; }
+.wide thead th { position: sticky; top: 0; background: var(--head); min-width: 4.5rem; z-index: 1; }
 th:first-child, td:first-child { text-align: left; padding-left: .2rem; }
-tbody th { font-weight: normal; position: sticky; left: 0; background: #fff; }
-tr.sum > * { border-top: 2px solid var(--line); font-weight: 600; position: sticky; bottom: 0; background: #fff; }
+tbody th { font-weight: normal; }
+.wide tbody th { position: sticky; left: 0; background: var(--paper); }
+tr.sum > * { border-top: 2px solid var(--line); font-weight: 600; background: var(--paper); }
+.wide tr.sum > * { position: sticky; bottom: 0; }
 caption { caption-side: top; position: sticky; left: 0; white-space: normal; max-width: 80vw; }
-summary { cursor: pointer; padding: .4rem 0; color: #00548a; }
+summary { cursor: pointer; padding: .4rem 0; color: var(--link); }
 footer { margin-top: 2.5rem; border-top: 1px solid var(--line); font-size: .85rem; color: var(--soft); overflow-wrap: anywhere; }
-@media (max-width: 30rem) { th, td { padding: .2rem .35rem; } thead th { min-width: 3.5rem; } }
-@media print { .wide { overflow: visible; max-height: none; } nav { display: none; } }
+@media (max-width: 30rem) { th, td { padding: .2rem .3rem; } .wide thead th { min-width: 3.2rem; } .wide table { font-size: .8rem; }
+  tbody th { white-space: normal; overflow-wrap: break-word; } .facts { grid-template-columns: 1fr 1fr; } }
+@media print {
+  :root { color-scheme: light; --paper: #fff; --ink: #000; --soft: #444; --line: #bbb; --head: #eee; --link: #000; --bad: #8a2f00;
+    --good: #00553d; --warn: #fff; --blue: #0072b2; }
+  @page { margin: 14mm; }
+  body { padding: 0; font-size: 10pt; max-width: none; }
+  nav, details:not([open]) { display: none; }
+  main { display: block; }
+  .wide { overflow: visible; max-height: none; }
+  .wide th, .wide td, .wide tr.sum > *, .wide tbody th, .wide thead th, caption { position: static; }
+  table { font-size: 8pt; }
+  th, td { padding: .1rem .3rem; }
+  thead { display: table-header-group; }
+  tr, figure, .cards section, .facts div, .warning { break-inside: avoid; }
+  h1, h2, h3, caption { break-after: avoid; }
+  .beside { display: block; }
+  .beside > * { margin-bottom: 1rem; }
+  p { orphans: 3; widows: 3; }
+}
 """.strip()
 
 
@@ -92,6 +126,17 @@ def facts(pairs: Iterable[tuple[str, str]]) -> str:
 def figure(svg: str, caption: str, told: str) -> str:
     """A figure with its caption; `told` says in words what it shows, for readers who do not see it."""
     return f'<figure><div role="img" aria-label="{escape(told)}">{svg}</div><figcaption>{escape(caption)}</figcaption></figure>'
+
+
+def cards(them: Iterable[tuple[str, str]]) -> str:
+    """Short answers beside each other, each below its question."""
+    return '<div class="cards">' + "".join(f"<section><h2>{escape(title)}</h2>{it}</section>" for title, it in them) + "</div>"
+
+
+def plain_table(head: Sequence[str], rows: Iterable[Sequence[str]]) -> str:
+    """A small table without a caption."""
+    top = "".join(f'<th scope="col">{escape(it)}</th>' for it in head)
+    return f"<table><thead><tr>{top}</tr></thead><tbody>" + "".join(f"<tr>{row_of(it)}</tr>" for it in rows) + "</tbody></table>"
 
 
 def beside(*them: str) -> str:

@@ -3,35 +3,52 @@
 from __future__ import annotations
 
 from collections.abc import Callable, Iterable, Iterator, Sequence
-from datetime import timedelta
 from fractions import Fraction
 
 from ..texts import Account
 from . import page
-from .bills import Currency, energy
-from .figures import MOST_LINES, Hours, draw_curve, draw_left_over, draw_load, draw_powers, draw_prices, number, watts
+from .charts import MOST_LINES, Hours, draw_curve, draw_exchange, draw_load, draw_powers, draw_prices, number, watts
+from .glance import compared, facts, glance
+from .grouping import MOST_NAMED, rows_of
 from .limits import Group, Violation
 from .making import Findings
 from .svg import svg_of
+from .words import count, duration, hours, in_money, kilowatt_hours, moment, money, unit_of
 
 # So many limited groups get a figure, those that were outside their limits first; a table has all.
 MOST_FIGURES = 12
-# A table with more rows is folded.
-MOST_OPEN = 40
+# A table with more rows is folded, and has at most so many of them.
+MOST_OPEN, MOST_ROWS = 40, 400
+# So many spans have a column for each of them.
+MOST_COLUMNS = 60
+# What a plain rule is, wherever a figure stands on one.
+MODEL = (
+    "* By plain rules: a model beside the proved market, not proved. A battery follows the devices below its parent, a freezer, heat pump or "
+    "cogeneration unit runs between its temperatures, an objective asks nothing, and all others do what they did in the run."
+)
 
 
 def page_of(found: Findings) -> str:
     """The whole page."""
+    left_out = {"use"} if not has_use(found) else set[str]()
+    left_out |= set() if found.groups else {"limits"}
+    sections = [it for it in SECTIONS if it[0] not in left_out]
     body = [
         page.heading(found.title, 1),
         page.words(span_of(found), "soft"),
-        verdict(found),
-        page.facts(facts(found)),
-        page.contents((name, title) for name, title, _, _ in SECTIONS),
-        page.parts(page.section(name, title, is_wide, *make(found)) for name, title, is_wide, make in SECTIONS),
+        glance(found),
+        page.facts([*price_facts(found), *facts(found)]),
+        page.words(MODEL, "soft small"),
+        page.contents((name, title_of(found, name, title)) for name, title, _, _ in sections),
+        page.parts(page.section(name, title_of(found, name, title), is_wide, *make(found)) for name, title, is_wide, make in sections),
         foot(found),
     ]
     return page.page(f"{found.title}: report of a run", body)
+
+
+def title_of(found: Findings, name: str, title: str) -> str:
+    """The title of a section."""
+    return "Bought and sold" if name == "left-over" and found.connection is not None else title
 
 
 # What all sections use.
@@ -39,56 +56,16 @@ def page_of(found: Findings) -> str:
 
 def hours_of(found: Findings) -> Hours:
     """The time axis of the figures."""
-    return Hours(found.run.start, (0.0, *(it.end / 60 for it in found.intervals)))
+    return Hours(found.run.start, found.course)
 
 
-def moment(found: Findings, minutes: int) -> str:
-    """The time of so many minutes after the start: the hour, with the day if the run goes over a day."""
-    time = found.run.start + timedelta(minutes=minutes)
-    long = found.run.cluster.minutes > 1440
-    return f"{time:%d %b %H:%M}" if long else f"{time:%H:%M}"
+def means(found: Findings, many: str = "") -> str:
+    """What the figures of a long run show, in a sentence, or nothing."""
+    word = found.course.word
+    return f" The figure shows the mean of each {word}{many}." if word else ""
 
 
-def duration(minutes: int) -> str:
-    """A number of minutes in hours and minutes, and in days if it is long."""
-    hours, rest = divmod(minutes, 60)
-    days, hours = divmod(hours, 24) if hours >= 96 else (0, hours)
-    told = [f"{it} {unit}" for it, unit in ((days, "days"), (hours, "h"), (rest, "min")) if it]
-    return " ".join(told) or "0 min"
-
-
-def count(many: int, word: str) -> str:
-    """A number with its word."""
-    return f"{number(many)} {word}{'' if many == 1 else 's'}"
-
-
-def kilowatt_hours(watt_minutes: int) -> str:
-    """Watts times minutes in kilowatt-hours, rounded to a watt-hour."""
-    return number(float(energy(watt_minutes)), 3)
-
-
-def money(amount: Fraction) -> str:
-    """An amount of money, with two digits behind the point."""
-    return number(float(amount), 2)
-
-
-def unit_of(currency: Currency) -> str:
-    """The unit of a price, in words."""
-    if currency == Currency():
-        return "price units"
-    return f"1 is {number(float(currency.at_price_one), 6).rstrip('0').rstrip('.')} {currency.unit}/kWh"
-
-
-def held_prices(found: Findings) -> list[int]:
-    """The market's price over each interval; before the first phase the lowest, at which an empty market clears."""
-    ends = found.run.ends
-    return [ends[it.phases - 1].price if it.phases else found.run.cluster.basis.min for it in found.intervals]
-
-
-def held_totals(found: Findings) -> list[int]:
-    """What is left over at each interval, in watts: the sum of all devices' powers, as the grid's account counts it."""
-    ends = found.run.ends
-    return [sum(ends[it.phases - 1].powers.values()) if it.phases else 0 for it in found.intervals]
+WITH_BAND = ", and a band from its least to its greatest value"
 
 
 # The head of the page.
@@ -103,44 +80,15 @@ def span_of(found: Findings) -> str:
     return f"{tree}, {count(len(cluster.phases), 'phase')}, {duration(cluster.minutes)} {start}."
 
 
-def verdict(found: Findings) -> str:
-    """Whether the limits were kept."""
-    if not found.groups:
-        return page.words("No group has limits.", "soft")
-    broken = [it for it in found.groups if it.outside]
-    if not broken:
-        return page.words(f"\u2713 All limits were kept, in {count(len(found.groups), 'group')}.", "good")
-    lines = [
-        page.words(
-            f"\u26a0 {it.name} was outside its limits for {duration(it.minutes_outside)}, "
-            f"at the ends of {it.outside} of {count(len(found.run.ends), 'phase')}.",
-            "bad",
-        )
-        for it in broken[:5]
-    ]
-    if len(broken) > 5:
-        lines.append(page.words(f"\u26a0 So were {count(len(broken) - 5, 'more group')}.", "bad"))
-    return "\n".join(lines)
-
-
-def facts(found: Findings) -> Iterator[tuple[str, str]]:
-    """The figures that a reader looks for first."""
-    held = held_prices(found)
-    if held:
-        minutes = [it.end - it.begin for it in found.intervals]
-        mean = sum(price * it for price, it in zip(held, minutes, strict=True)) / sum(minutes)
-        yield "Price, lowest to highest", f"{number(min(held))} to {number(max(held))}"
-        yield "Mean price over the time", number(mean, 1) + in_money(found.currency, Fraction(mean))
-    bill = found.run.bill
-    yield "Taken by devices", f"{kilowatt_hours(sum(it.taken for it in bill.devices.values()))} kWh"
-    yield "Delivered by devices", f"{kilowatt_hours(sum(it.given for it in bill.devices.values()))} kWh"
-    yield "Left over, given to the grid", f"{kilowatt_hours(bill.grid.taken)} kWh"
-    yield "Lacking, taken from the grid", f"{kilowatt_hours(bill.grid.given)} kWh"
-
-
-def in_money(currency: Currency, price: Fraction) -> str:
-    """What a kilowatt-hour costs at a price, behind it; nothing if the user named no currency."""
-    return "" if currency == Currency() else f" ({number(float(currency.price(price)), 4)} {currency.unit}/kWh)"
+def price_facts(found: Findings) -> Iterator[tuple[str, str]]:
+    """The range and the mean of the market's price."""
+    held, minutes = found.run.held.prices[:, 0], found.run.held.minutes
+    if len(held):
+        mean = Fraction(sum(price * it for price, it in zip(held.tolist(), minutes.tolist(), strict=True)), int(minutes.sum()))
+        low, high, unit = Fraction(int(min(held))), Fraction(int(max(held))), " price units"
+        yield "Lowest price", number(float(low)) + (in_money(found.currency, low) or unit)
+        yield "Highest price", number(float(high)) + (in_money(found.currency, high) or unit)
+        yield "Mean price over the time", number(float(mean), 1) + (in_money(found.currency, mean) or unit)
 
 
 def foot(found: Findings) -> str:
@@ -160,22 +108,24 @@ def prices(found: Findings) -> Iterator[str]:
     if not found.intervals:
         yield page.words("No time passes in this run, so there is nothing to draw.")
         return
-    groups = {it.name: it.prices for it in found.groups}
-    held = held_prices(found)
+    held, groups = held_prices(found), {it.name: it.prices for it in found.groups}
     figure = draw_prices(hours_of(found), held, groups, unit_of(found.currency))
     told = f"The market's price goes from {min(held)} to {max(held)}"
     own = sum(list(it) != held for it in groups.values())
     caption = "The price that holds over each tick." + (f" At some time {count(own, 'limited group')} had another price." if own else "")
     if own > MOST_LINES:
         caption += f" The figure shows {MOST_LINES} of them."
-    yield page.figure(svg_of(figure, "price"), caption, told)
+    yield page.figure(svg_of(figure, "price"), caption + means(found, WITH_BAND), told)
+
+
+def held_prices(found: Findings) -> list[int]:
+    """The market's price over each interval; before the first phase the lowest, at which an empty market clears."""
+    ends = found.run.ends
+    return [ends[it.phases - 1].price if it.phases else found.run.cluster.basis.min for it in found.intervals]
 
 
 def limits(found: Findings) -> Iterator[str]:
     """The load of each limited group against its limits, and a list of the violations."""
-    if not found.groups:
-        yield page.words("The cluster has no limited group.")
-        return
     shown = sorted(found.groups, key=lambda it: -it.minutes_outside)[:MOST_FIGURES] if found.intervals else []
     figures = [load_of(found, at, it) for at, it in enumerate(shown)]
     tables = "\n".join(limit_tables(found))
@@ -187,11 +137,14 @@ def limits(found: Findings) -> Iterator[str]:
 
 def limit_tables(found: Findings) -> Iterator[str]:
     """The table of the groups, and the list of the violations."""
-    head = ["group", "floor", "ceiling", "least load", "greatest load", "outside", "ends of phases outside"]
+    head = ["group", "floor", "ceiling", "least load", "greatest load", "outside for", "ends of phases outside"]
     yield long_table("Limited groups", head, [group_row(it) for it in found.groups])
-    rows = [violation_row(found, group.name, it) for group in found.groups for it in group.violations]
+    broken = [(group.name, it) for group in found.groups for it in group.violations]
+    longest = sorted(broken, key=lambda it: it[1].begin - it[1].end)[:MOST_ROWS]
+    rows = [violation_row(found, name, it) for name, it in (broken if len(broken) <= MOST_ROWS else longest)]
     if rows:
-        title = f"Violations: {count(len(rows), 'span')} of time outside a limit"
+        title = f"Violations: {count(len(broken), 'span')} of time outside a limit"
+        title += f", the {MOST_ROWS} longest" if len(broken) > MOST_ROWS else ""
         yield long_table(title, ["group", "from", "to", "for", "limit", "farthest load", "beyond"], rows)
         yield page.words(
             "In these spans no price of the market brings the group within its limits. A phase that ends outside, "
@@ -223,57 +176,115 @@ def violation_row(found: Findings, name: str, it: Violation) -> list[str]:
     return [name, *times, watts(it.limit), watts(it.load), watts(abs(it.load - it.limit))]
 
 
-def long_table(title: str, head: Sequence[str], rows: Sequence[Sequence[str]]) -> str:
-    """A table, folded if it is long."""
+def long_table(title: str, head: Sequence[str], rows: Sequence[Sequence[str]], limit: int = MOST_OPEN) -> str:
+    """A table, folded if it has more rows than the limit."""
     made = page.table(title, head, rows)
-    return made if len(rows) <= MOST_OPEN else page.folded(f"{title} ({len(rows)} rows)", made)
+    return made if len(rows) <= limit else page.folded(f"{title} ({len(rows)} rows)", made)
 
 
 def powers(found: Findings) -> Iterator[str]:
     """The power of each device over the hours."""
-    names = [it.name for it in found.run.cluster.devices]
-    if not found.intervals or not names:
+    held = found.run.held
+    columns = held.without(found.connection)
+    if not found.intervals or not columns:
         yield page.words("No time passes in this run, or nobody is in it, so there is nothing to draw.")
         return
-    ends = found.run.ends
-    held = {name: [ends[it.phases - 1].powers.get(name, 0) if it.phases else 0 for it in found.intervals] for name in names}
-    caption = f"The power of each of {count(len(names), 'device')} over each tick: taken above 0, delivered below. "
-    caption += "Who is no member has 0." if len(names) <= 8 else "Who is no member has 0. The scale also tells small powers apart."
-    yield page.figure(svg_of(draw_powers(hours_of(found), held), "powers"), caption, caption)
+    rows = rows_of(found.run.cluster, held.powers, columns)
+    devices = count(len(columns), "device")
+    if len(columns) > MOST_NAMED:
+        caption = f"The power of {devices} in {count(len(rows), 'group')} of one kind below one parent: taken above 0, delivered below. "
+    else:
+        caption = f"The power of each of {devices} over each tick: taken above 0, delivered below. "
+    if found.connection is not None:
+        caption += f"The connection ({found.connection}) is not drawn. "
+    caption += "Who is no member has 0." if len(rows) <= 8 else "Who is no member has 0. The scale also tells small powers apart."
+    yield page.figure(svg_of(draw_powers(hours_of(found), rows), "powers"), caption + means(found), caption)
 
 
-def left_over(found: Findings) -> Iterator[str]:
-    """What the devices leave over."""
+def exchange(found: Findings) -> Iterator[str]:
+    """What the devices leave over, or buy and sell."""
     if not found.intervals:
         yield page.words("No time passes in this run, so there is nothing to draw.")
         return
-    totals = held_totals(found)
-    caption = (
-        "What all devices take, less what they deliver. Below 0 they deliver too much, and above 0 power is lacking. "
-        "The grid's account takes and gives it."
-    )
+    totals = found.run.held.exchange(found.connection)
+    if found.connection is None:
+        caption = (
+            "What all devices take, less what they deliver. Below 0 they deliver too much, and above 0 power is lacking. "
+            "The grid's account takes and gives it."
+        )
+    else:
+        caption = f"What the devices buy above 0 and sell below. The supplier is the connection ({found.connection}) and the grid together."
     told = f"{caption} It goes from {watts(min(totals))} to {watts(max(totals))}."
-    yield page.figure(svg_of(draw_left_over(hours_of(found), totals), "left-over"), caption, told)
+    yield page.figure(svg_of(draw_exchange(hours_of(found), totals), "left-over"), caption + means(found, WITH_BAND), told)
+
+
+def has_use(found: Findings) -> bool:
+    """Whether something is to be said of the use of devices."""
+    figures = found.figures
+    return bool(figures.batteries or any(figures.shifted_kWh.values()) or figures.cost_plain is not None)
+
+
+def use(found: Findings) -> Iterator[str]:
+    """What the market changed: costs with and without it, the use of batteries, and what each device shifted."""
+    figures, unit = found.figures, found.currency.unit
+    tables = []
+    if figures.cost_plain is not None:
+        rows = [["the market's bill", money(figures.cost)]]
+        rows += [[f"at the connection's prices, {name}", money(it or 0)] for name, it in compared(figures)]
+        tables.append(page.table("What it costs, and would cost", ["cost", f"amount ({unit})"], rows))
+    if figures.batteries:
+        head = ["battery", "charge, least (%)", "mean (%)", "greatest (%)", "at the end (%)", "cycles", "cycles a day"]
+        use = [
+            [name, *(number(100 * share, 0) for share in (it.least, it.mean, it.most, it.last)), number(it.cycles, 2), number(it.cycles_a_day, 2)]
+            for name, it in figures.batteries.items()
+        ]
+        tables.append(long_table("The use of batteries", head, use))
+    moved = [(name, it) for name, it in figures.shifted_kWh.items() if it]
+    if moved:
+        rows = [[name, hours(it)] for name, it in sorted(moved, key=lambda it: -it[1])]
+        tables.append(long_table("Energy at another time than by the device's plain rule *", ["device", "shifted (kWh)"], rows))
+    yield page.beside(*tables)
+    yield page.words(
+        "Costs at the connection's prices: what the connection asks for the power that is bought or sold over each tick, as the program answers. "
+        "What a battery holds more or less at the end than at the begin is not paid for in any of them. "
+        "Of a battery, half of what it took and delivered counts as shifted."
+    )
 
 
 def bills(found: Findings) -> Iterator[str]:
     """The bills by device and by span of time."""
-    bill, currency = found.run.bill, found.currency
-    yield page.words(f"Amounts are in {currency.unit}: above 0 if the account pays, below 0 if it earns. All amounts add up to 0. "
-                     "The grid takes and gives what the devices leave over.")
+    bill, currency = found.bill, found.currency
+    party = "(the grid)" if found.connection is None else "(the supplier)"
+    other = party.strip("()")
+    yield page.words(
+        f"Amounts are in {currency.unit}: above 0 if the account pays, below 0 if it earns. All amounts add up to 0. "
+        + (
+            "The grid takes and gives what the devices leave over."
+            if found.connection is None
+            else f"The supplier is the connection ({found.connection}) and the grid together: their amounts are one, and what they pass to each other is left out."
+        )
+    )
     head = ["account", "taken (kWh)", "given (kWh)", f"amount ({currency.unit})"]
-    grid = account_row(currency, "(the grid)", bill.grid)
-    by_device = page.table("By device", head, [account_row(currency, name, it) for name, it in bill.devices.items()], [grid])
-    head = ["span", "taken (kWh)", "given (kWh)", f"devices pay ({currency.unit})", f"the grid pays ({currency.unit})"]
-    by_span = page.table("By span of time, all devices", head, [span_row(found, at) for at in range(len(found.spans))])
+    sums = [account_row(found, party, bill.grid)]
+    by_device = page.table("By device", head, [account_row(found, name, it) for name, it in bill.devices.items()], sums)
+    head = ["span", "taken (kWh)", "given (kWh)", f"devices pay ({currency.unit})", f"{other} pays ({currency.unit})"]
+    by_span = long_table(
+        "By span of time, all devices", head, [span_row(found, at) for at in range(min(len(found.spans), MOST_ROWS))], limit=MOST_COLUMNS
+    )
     yield page.beside(by_device, by_span) if found.spans else by_device
-    if not found.spans:
-        return
+    if len(found.spans) > MOST_ROWS:
+        yield page.words(f"The table has the first {MOST_ROWS} of {count(len(found.spans), 'span')}. In Python, bills_of gives all.", "soft")
+    if 0 < len(found.spans) <= MOST_COLUMNS:
+        yield by_device_and_span(found)
+
+
+def by_device_and_span(found: Findings) -> str:
+    """Energies and amounts of each device in each span."""
     spans = [moment(found, it.begin) for it in found.spans]
-    names = list(bill.devices)
+    names, currency = list(found.bill.devices), found.currency
     energies = [[name, *(kilowatt_hours(net(it.bill.devices.get(name))) for it in found.spans)] for name in names]
-    amounts = [[name, *(money(paid(currency, it.bill.devices.get(name))) for it in found.spans)] for name in names]
-    yield page.folded(
+    amounts = [[name, *(money(paid(found, it.bill.devices.get(name))) for it in found.spans)] for name in names]
+    return page.folded(
         "By device and span of time",
         page.table("Energy taken, less what was given (kWh), by the begin of each span", ["account", *spans], energies),
         page.table(f"Amounts ({currency.unit}), by the begin of each span", ["account", *spans], amounts),
@@ -285,14 +296,14 @@ def net(account: Account | None) -> int:
     return account.taken - account.given if account else 0
 
 
-def paid(currency: Currency, account: Account | None) -> Fraction:
+def paid(found: Findings, account: Account | None) -> Fraction:
     """What an account paid."""
-    return currency.money(account) if account else Fraction(0)
+    return found.currency.money(account.amount) if account else Fraction(0)
 
 
-def account_row(currency: Currency, name: str, account: Account) -> list[str]:
+def account_row(found: Findings, name: str, account: Account) -> list[str]:
     """The row of an account."""
-    return [name, kilowatt_hours(account.taken), kilowatt_hours(account.given), money(currency.money(account))]
+    return [name, kilowatt_hours(account.taken), kilowatt_hours(account.given), money(paid(found, account))]
 
 
 def span_row(found: Findings, at: int) -> list[str]:
@@ -300,9 +311,9 @@ def span_row(found: Findings, at: int) -> list[str]:
     it, currency = found.spans[at], found.currency
     devices = it.bill.devices.values()
     taken, given = sum(one.taken for one in devices), sum(one.given for one in devices)
-    amount = sum((currency.money(one) for one in devices), Fraction(0))
+    amount = currency.money(sum(one.amount for one in devices))
     name = f"{moment(found, it.begin)} to {moment(found, it.end)}"
-    return [name, kilowatt_hours(taken), kilowatt_hours(given), money(amount), money(currency.money(it.bill.grid))]
+    return [name, kilowatt_hours(taken), kilowatt_hours(given), money(amount), money(currency.money(it.bill.grid.amount))]
 
 
 def flexibility(found: Findings) -> Iterator[str]:
@@ -318,7 +329,7 @@ def flexibility(found: Findings) -> Iterator[str]:
         "A target asks the cluster to take so much more than it delivers, or below 0 to deliver so much more. The price is the first at "
         "which the cluster takes at most the target. If the neighbouring steps differ much, no price delivers exactly the target."
     )
-    head = ["target", "price", "one step lower", "at the price", "one step higher", "taken less the target"]
+    head = ["target", f"price ({unit_of(found.currency)})", "one step lower", "at the price", "one step higher", "taken less the target"]
     yield page.table("What the cluster takes at and beside the price that answers each target", head, list(answer_rows(found)))
 
 
@@ -332,7 +343,8 @@ def answer_rows(found: Findings) -> Iterable[list[str]]:
 # Each section by its name and its title; whether it is as wide as the page; and what makes it.
 SECTIONS: list[tuple[str, str, bool, Callable[[Findings], Iterable[str]]]] = [
     ("price", "Price", False, prices),
-    ("left-over", "Left over", False, left_over),
+    ("left-over", "Left over", False, exchange),
+    ("use", "What the market changed", True, use),
     ("limits", "Limited groups", True, limits),
     ("powers", "Who took what", False, powers),
     ("flexibility", "Flexibility at the end", False, flexibility),

@@ -46,6 +46,10 @@ def inline(text: str, name: str) -> str:
     """The element `svg` of a file, without what only a file needs: its head, its metadata and the names of name spaces."""
     text = text[text.index("<svg ") :]
     text = re.sub(r"<metadata>.*?</metadata>\s*", "", text, flags=re.S)
+    # A page shows a hundredth of a point at most, and long numbers are half of its bytes.
+    text = re.sub(r'(?<= d=")[^"]*', lambda it: re.sub(r"(\.\d\d)\d+", r"\1", it[0]), text)
+    # Ink, paper and the first colour are those of the page, which may be dark.
+    text = re.sub(r"#000000\b", "currentColor", text).replace("#ffffff", "var(--paper)").replace(COLOURS[0].lower(), "var(--blue)")
     text = re.sub(r' xmlns(:\w+)?="[^"]*"', "", text)
     text = re.sub(r'<svg ([^>]*?)width="[^"]*" height="[^"]*"|<svg height="[^"]*" ([^>]*?)width="[^"]*"', r"<svg \1\2", text, count=1)
     text = re.sub(r'(<svg [^>]*?) (?:width|height)="[\d.]+pt"', r"\1", text)

@@ -1,7 +1,7 @@
 """The figures of a report: prices, loads of limited groups, powers of devices, what is left over, and the flexibility.
 
-Each function draws on new axes and gives the figure. Powers are in watts, positive if taken. `Hours` has the edges of the
-intervals, and each list of values has one value for each interval.
+Each function draws on new axes and gives the figure. Powers are in watts, positive if taken. `Hours` has the intervals, and each list
+of values has one value for each interval. Of a long run the figures show means, and a band from the least to the greatest value.
 """
 
 from __future__ import annotations
@@ -9,7 +9,7 @@ from __future__ import annotations
 import math
 from collections.abc import Mapping, Sequence
 from dataclasses import dataclass
-from datetime import datetime, timedelta
+from datetime import datetime
 from typing import Any
 
 import matplotlib
@@ -19,6 +19,8 @@ from matplotlib.colors import SymLogNorm
 from matplotlib.figure import Figure
 from matplotlib.ticker import FixedLocator, FuncFormatter, MaxNLocator
 
+from ..moments import later
+from .course import Course
 from .svg import COLOURS, LIMIT, LINE, SETTINGS, new_figure
 
 # Up to so many devices a figure stacks their powers; it shows more as a heat map.
@@ -27,24 +29,39 @@ MOST_STACKED = 8
 MOST_LINES = 7
 # So many names are beside each other above a figure.
 MOST_BESIDE = 3
-# Up to so many rows a heat map names each.
-MOST_NAMED = 60
 
 
 @dataclass(frozen=True)
 class Hours:
-    """The time axis: when the run begins, and the edges of its intervals in hours after that."""
+    """The time axis: when the run begins, and the course of its intervals."""
 
     start: datetime
-    edges: tuple[float, ...]
+    course: Course
+
+    @property
+    def edges(self) -> Any:
+        """The edges of what is shown, in hours after the start."""
+        return self.course.edges
 
     def label(self, hour: float) -> str:
         """The time of so many hours after the start, as an axis shows it."""
-        time = self.start + timedelta(hours=hour)
+        time = later(self.start, round(hour * 60))
         if self.edges[-1] <= 48:
             return f"{time:%H:%M}"
         day = f"{time.day} {time:%b}"
         return f"{day}\n{time:%H:%M}" if time.hour or time.minute else day
+
+    def places(self) -> list[float]:
+        """Where the axis has labels, at most nine: at equal distances, or of more than two months at the firsts of months."""
+        last = float(self.edges[-1])
+        if last > 60 * 24:
+            days = range(int(last // 24) + 1)
+            # From the first midnight on, by the calendar.
+            midnight = -(self.start.hour + self.start.minute / 60) % 24
+            firsts = [midnight + 24 * it for it in days if later(self.start, round((midnight + 24 * it) * 60)).day == 1]
+            return [it for it in firsts[:: 1 + (len(firsts) - 1) // 9] if it <= last]
+        width = next((it for it in (0.25, 0.5, 1, 2, 3, 6, 12, 24, 48, 96, 168) if last / it <= 8.01), last / 8)
+        return [float(it) for it in numpy.arange(0, last + width / 100, width)]
 
 
 def number(value: float, digits: int = 0) -> str:
@@ -83,12 +100,10 @@ def put_legend(axes: Axes) -> None:
 
 
 def set_hours(axes: Axes, hours: Hours) -> None:
-    """Puts the hours below axes, at most nine of them."""
-    last = hours.edges[-1]
-    width = next((it for it in (0.25, 0.5, 1, 2, 3, 6, 12, 24, 48, 96, 168) if last / it <= 8.01), last / 8)
-    axes.xaxis.set_major_locator(FixedLocator([float(it) for it in numpy.arange(0, last + width / 100, width)]))
+    """Puts the hours below axes."""
+    axes.xaxis.set_major_locator(FixedLocator(hours.places()))
     axes.xaxis.set_major_formatter(FuncFormatter(lambda hour, _: hours.label(hour)))
-    axes.set_xlim(0, last)
+    axes.set_xlim(0, hours.edges[-1])
 
 
 def set_powers(axes: Axes) -> None:
@@ -98,13 +113,22 @@ def set_powers(axes: Axes) -> None:
     axes.axhline(0, color="0.6", linewidth=0.8, zorder=0)
 
 
-def draw_prices(hours: Hours, market: Sequence[int], groups: Mapping[str, Sequence[int]], unit: str) -> Figure:
+def draw_line(axes: Axes, hours: Hours, values: Any, **look: Any) -> None:
+    """A line of the values over the hours; of a long run their means, on a band from the least to the greatest."""
+    course = hours.course
+    if course.word:
+        band = {"fill": True, "color": look["color"], "alpha": 0.25, "linewidth": 0}
+        axes.stairs(course.greatest(values), hours.edges, baseline=course.least(values), **band)
+    axes.stairs(course.mean(values), hours.edges, baseline=None, **look)
+
+
+def draw_prices(hours: Hours, market: Any, groups: Mapping[str, Any], unit: str) -> Figure:
     """The price of the market, and of the first limited groups whose price differs from it at some time."""
     own = {name: it for name, it in groups.items() if list(it) != list(market)}
     figure, axes = timed_axes(hours, **(legend_above(1 + min(len(own), MOST_LINES)) if own else {}))
     for at, (name, prices) in enumerate(list(own.items())[:MOST_LINES]):
-        axes.stairs(prices, hours.edges, baseline=None, color=COLOURS[at % 8], linewidth=1.2, label=f"below {name}")
-    axes.stairs(market, hours.edges, baseline=None, color=LINE, linewidth=1.8, label="market")
+        axes.stairs(hours.course.mean(prices), hours.edges, baseline=None, color=COLOURS[at % 8], linewidth=1.2, label=f"below {name}")
+    draw_line(axes, hours, market, color=LINE, linewidth=1.8, label="market")
     # A unit may have a dollar sign, which would begin a formula.
     axes.set_ylabel(f"price ({unit})", parse_math=False)
     axes.yaxis.set_major_locator(MaxNLocator(6, integer=True))
@@ -117,8 +141,8 @@ def draw_prices(hours: Hours, market: Sequence[int], groups: Mapping[str, Sequen
 def draw_load(hours: Hours, load: Sequence[int], floor: int, ceiling: int) -> Figure:
     """The load of a limited group between its limits; what is outside them is shaded."""
     figure, axes = timed_axes(hours, left=0.16)
-    axes.stairs(load, hours.edges, baseline=None, color=COLOURS[0], linewidth=1.8)
-    low, high = min(load), max(load)
+    draw_line(axes, hours, load, color=COLOURS[0], linewidth=1.8)
+    low, high, course = min(load), max(load), hours.course
     for limit, word, edge in ((ceiling, "ceiling", "bottom"), (floor, "floor", "top")):
         # A limit far from all that was taken would press the load flat.
         if low - 2 * (high - low + 1) <= limit <= high + 2 * (high - low + 1):
@@ -126,9 +150,10 @@ def draw_load(hours: Hours, load: Sequence[int], floor: int, ceiling: int) -> Fi
             axes.annotate(f"{word} {watts(limit)}", (1, limit), xycoords=("axes fraction", "data"), ha="right", va=edge,
                           xytext=(-3, 2 if edge == "bottom" else -2), textcoords="offset points", color=LIMIT, fontsize=10,
                           bbox={"facecolor": "white", "edgecolor": "none", "alpha": 0.7, "pad": 0.5}, zorder=5)
-    for begin, end in runs_of([not floor <= it <= ceiling for it in load]):
+    highest, lowest = course.greatest(load), course.least(load)
+    for begin, end in runs_of(list((highest > ceiling) | (lowest < floor))):
         axes.axvspan(hours.edges[begin], hours.edges[end], color=LIMIT, alpha=0.15, linewidth=0)
-    for limit, beyond in ((ceiling, numpy.maximum(load, ceiling)), (floor, numpy.minimum(load, floor))):
+    for limit, beyond in ((ceiling, numpy.maximum(highest, ceiling)), (floor, numpy.minimum(lowest, floor))):
         if any(beyond != limit):
             axes.stairs(beyond, hours.edges, baseline=limit, fill=True, color=LIMIT, alpha=0.55, linewidth=0)
     set_powers(axes)
@@ -147,18 +172,18 @@ def runs_of(flags: Sequence[bool]) -> list[tuple[int, int]]:
     return found
 
 
-def draw_powers(hours: Hours, powers: Mapping[str, Sequence[int]]) -> Figure:
+def draw_powers(hours: Hours, powers: Mapping[str, Any]) -> Figure:
     """What each device takes, stacked upwards, and delivers, stacked downwards; of many devices a heat map."""
     return draw_stack(hours, powers) if len(powers) <= MOST_STACKED else draw_heat(hours, powers)
 
 
-def draw_stack(hours: Hours, powers: Mapping[str, Sequence[int]]) -> Figure:
+def draw_stack(hours: Hours, powers: Mapping[str, Any]) -> Figure:
     """The powers of a few devices, one on another."""
     figure, axes = timed_axes(hours, left=0.16, **legend_above(len(powers)))
-    count = len(hours.edges) - 1
+    count, mean = len(hours.edges) - 1, hours.course.mean
     up, down = numpy.zeros(count), numpy.zeros(count)
     for at, (name, row) in enumerate(powers.items()):
-        taken, given = numpy.maximum(row, 0), numpy.minimum(row, 0)
+        taken, given = mean(numpy.maximum(row, 0)), mean(numpy.minimum(row, 0))
         look = {"fill": True, "color": COLOURS[at % 8], "linewidth": 0}
         axes.stairs(up + taken, hours.edges, baseline=up, label=name, **look)
         axes.stairs(down + given, hours.edges, baseline=down, **look)
@@ -169,11 +194,11 @@ def draw_stack(hours: Hours, powers: Mapping[str, Sequence[int]]) -> Figure:
     return figure
 
 
-def draw_heat(hours: Hours, powers: Mapping[str, Sequence[int]]) -> Figure:
-    """The powers of many devices: a row for each, and a colour for each power, on a scale that also tells small ones apart."""
-    names, rows = list(powers), numpy.array(list(powers.values()), dtype=float)
-    high = 1.3 + (0.15 if len(names) <= MOST_NAMED else 0.03) * len(names)
-    longest = max(map(len, names)) if len(names) <= MOST_NAMED else 4
+def draw_heat(hours: Hours, powers: Mapping[str, Any]) -> Figure:
+    """The powers of many devices or groups: a row for each, and a colour for each power, on a scale that also tells small ones apart."""
+    names, rows = list(powers), hours.course.mean(list(powers.values()))
+    high = 1.3 + 0.15 * len(names)
+    longest = max(map(len, names))
     with matplotlib.rc_context(SETTINGS):
         figure = new_figure(high=high, left=min(0.4, 0.035 + 0.014 * longest), bottom=0.85 / high, top=1 - 0.15 / high, right=0.94)
         axes = figure.add_subplot()
@@ -184,10 +209,7 @@ def draw_heat(hours: Hours, powers: Mapping[str, Sequence[int]]) -> Figure:
         image = axes.imshow(even, aspect="auto", interpolation="none", cmap="PuOr_r", norm=norm,
                             extent=(0, float(edges[-1]), len(names) - 0.5, -0.5))
         set_hours(axes, hours)
-        if len(names) <= MOST_NAMED:
-            axes.set_yticks(range(len(names)), names, fontsize=8)
-        else:
-            axes.set_ylabel("devices, in the order of the file", fontsize=9)
+        axes.set_yticks(range(len(names)), names, fontsize=8)
         beside = figure.add_axes((0.2, 0.28 / high, 0.65, 0.1 / high))
         bar = figure.colorbar(image, cax=beside, orientation="horizontal")
         # Between 0 and the most a power of ten, far enough from both that the words have room.
@@ -207,11 +229,13 @@ def resampled(rows: Any, edges: Any) -> Any:
     return rows[:, numpy.searchsorted(edges, moments, side="right") - 1]
 
 
-def draw_left_over(hours: Hours, totals: Sequence[int]) -> Figure:
-    """What the devices leave over: above 0 they take more than they deliver."""
+def draw_exchange(hours: Hours, totals: Any) -> Figure:
+    """What the devices take together, less what they deliver: above 0 it comes from outside, below 0 it goes there."""
     figure, axes = timed_axes(hours, left=0.16)
-    axes.stairs(totals, hours.edges, baseline=0, fill=True, color=COLOURS[4], linewidth=0)
-    axes.stairs(totals, hours.edges, baseline=None, color=COLOURS[0], linewidth=1.4)
+    means = hours.course.mean(totals)
+    axes.stairs(numpy.maximum(means, 0), hours.edges, baseline=0, fill=True, color=COLOURS[4], alpha=0.6, linewidth=0)
+    axes.stairs(numpy.minimum(means, 0), hours.edges, baseline=0, fill=True, color=COLOURS[1], alpha=0.6, linewidth=0)
+    draw_line(axes, hours, totals, color=COLOURS[0], linewidth=1.4)
     set_powers(axes)
     axes.margins(y=0.1)
     return figure

@@ -1,0 +1,199 @@
+"""Finds the figures of a run."""
+
+from __future__ import annotations
+
+from collections.abc import Sequence
+from dataclasses import dataclass
+from fractions import Fraction
+from typing import Any
+
+import numpy
+
+from ..held import Held
+from ..moments import later
+from ..money import WATT_MINUTES, Currency
+from ..nodes import Battery, Limited
+from ..phases import Tick
+from ..runs import Run
+from ..states import snapshots
+from .plain import WITHOUT_RULE, plain_powers
+from .supply import connection_in, prices_asked
+from .values import BatteryUse, Figures, NoConnection, Peak
+
+
+def figures_of(run: Run, connection: str | None = None, currency: Currency | None = None) -> Figures:
+    """The figures of a run. They need numpy, which comes with pandas.
+
+    connection: the manual device that is the connection to the supplier
+    currency:   the unit of money; price units times kilowatt-hours if it is not given
+
+    Raises NoConnection, and what `Program.answer` raises.
+    """
+    money, held = currency or Currency(), run.held
+    site = Site.of(run, connection)
+    exchange = site.exchange(held.powers)
+    plain = plain_powers(run.cluster, held, connection)
+    costs = UNKNOWN if connection is None else Costs.of(run, connection, [exchange, *site.without_market(run, plain)])
+    own = [at for at, it in enumerate(run.cluster.devices) if it.kind not in ("battery", "objective") and it.name != connection]
+    # Of a manual device nobody knows whether it is one of the site, unless another one is named as the connection.
+    knows_site = connection is not None or not any(it.kind == "manual" for it in run.cluster.devices)
+    consumed, produced = (total(numpy.maximum(sign * held.powers[:, own], 0).sum(axis=1), held) for sign in (1, -1))
+    bought, sold = (total(numpy.maximum(sign * exchange, 0), held) for sign in (1, -1))
+    paid = sum(account.amount for name, account in run.bill.devices.items() if name != connection)
+
+    def in_money(amount: int | None) -> float | None:
+        return None if amount is None else float(money.money(amount))
+
+    def hours(watt_minutes: int | None) -> float | None:
+        return None if watt_minutes is None else watt_minutes / WATT_MINUTES
+
+    return Figures(
+        unit=money.unit,
+        connection=connection,
+        minutes=run.cluster.minutes,
+        cost=float(money.money(paid)),
+        cost_at_connection=in_money(costs.market),
+        cost_plain=in_money(costs.plain),
+        cost_without_battery=in_money(costs.without_battery),
+        bought_kWh=bought / WATT_MINUTES,
+        sold_kWh=sold / WATT_MINUTES,
+        consumed_kWh=consumed / WATT_MINUTES,
+        produced_kWh=produced / WATT_MINUTES,
+        self_consumption=share_kept(produced, sold) if knows_site else None,
+        self_sufficiency=share_kept(consumed, bought) if knows_site else None,
+        peak_bought=peak_of(run, exchange),
+        peak_sold=peak_of(run, -exchange),
+        sold_above_kWh=hours(costs.sold_above),
+        bought_below_kWh=hours(costs.bought_below),
+        batteries=batteries_of(run),
+        shifted_kWh=shifted_of(run, plain, connection),
+        minutes_outside=minutes_outside_of(run),
+    )
+
+
+@dataclass(frozen=True)
+class Site:
+    """The columns of the devices of a site: all but its connection and objectives."""
+
+    columns: Any
+
+    @staticmethod
+    def of(run: Run, connection: str | None) -> Site:
+        """The site of a run. Raises NoConnection."""
+        if connection is not None:
+            connection_in(run.cluster, connection)
+        devices = enumerate(run.cluster.devices)
+        return Site(numpy.array([at for at, it in devices if it.kind != "objective" and it.name != connection], dtype=numpy.int64))
+
+    def exchange(self, powers: Any) -> Any:
+        """What the site takes from outside over each tick, in watts; below 0 it gives."""
+        return powers[:, self.columns].sum(axis=1)
+
+    def without_market(self, run: Run, plain: Any) -> list[Any]:
+        """The exchange that the devices have by these plain powers, and that without the batteries."""
+        batteries = [at for at, it in enumerate(run.cluster.devices) if isinstance(it, Battery)]
+        whole = self.exchange(plain)
+        return [whole, whole - plain[:, batteries].sum(axis=1)]
+
+
+@dataclass(frozen=True)
+class Costs:
+    """What exchanges cost at the prices that the connection asks, and what was billed at better ones; in the program's whole numbers.
+
+    Each is None if no connection was named.
+    """
+
+    market: int | None
+    plain: int | None
+    without_battery: int | None
+    sold_above: int | None
+    bought_below: int | None
+
+    @staticmethod
+    def of(run: Run, connection: str, exchanges: Sequence[Any]) -> Costs:
+        """The costs of three exchanges: of the run, of the plain rules, and of those without batteries. Raises NoConnection."""
+        held, own = run.held, run.held.column_of(connection)
+        if any(bool((~held.members[:, own] & (it != 0)).any()) for it in exchanges):
+            raise NoConnection(f"the connection {connection} is no member of the market all the time: its prices are not known")
+        asked = prices_asked(run.cluster, connection, exchanges, run.program)
+        market, plain, without = (exact_sum([it, price, held.minutes]) for it, price in zip(exchanges, asked, strict=True))
+        billed, exchange = held.prices[:, held.column[own]], exchanges[0]
+        above, below = (exchange < 0) & (billed > asked[0]), (exchange > 0) & (billed < asked[0])
+        return Costs(market, plain, without, -total(exchange * above, held), total(exchange * below, held))
+
+
+UNKNOWN = Costs(None, None, None, None, None)
+
+
+def exact_sum(factors: Sequence[Any]) -> int:
+    """The sum of the products of arrays, in whole numbers of any size."""
+    rows = zip(*(it.tolist() for it in factors), strict=True)
+    return sum(power * price * minutes for power, price, minutes in rows)
+
+
+def total(powers: Any, held: Held) -> int:
+    """The energy of powers over the ticks, in watts times minutes."""
+    return int((powers * held.minutes).sum())
+
+
+def share_kept(whole: int, away: int) -> float | None:
+    """The share of an energy that stayed, from 0 to 1."""
+    return None if whole == 0 else max(0.0, float(1 - Fraction(away, whole)))
+
+
+def peak_of(run: Run, powers: Any) -> Peak:
+    """The greatest of the powers, and when it begins."""
+    if not len(powers) or powers.max() <= 0:
+        return Peak(0, None)
+    at = int(powers.argmax())
+    begin = int(run.held.ends[at] - run.held.minutes[at])
+    return Peak(int(powers[at]), later(run.start, begin))
+
+
+def batteries_of(run: Run) -> dict[str, BatteryUse]:
+    """How each battery was used over the ticks."""
+    batteries = [it for it in run.cluster.devices if isinstance(it, Battery)]
+    if not batteries or not run.cluster.minutes:
+        return {}
+    charges, drops = {it.name: list[int]() for it in batteries}, {it.name: 0 for it in batteries}
+    before = {it.name: it.start for it in batteries}
+    for phase, now in zip(run.cluster.phases, snapshots(run.cluster, run.ends), strict=True):
+        for it in batteries:
+            charge = now.states[it.name]
+            assert isinstance(charge, int)
+            if isinstance(phase, Tick):
+                charges[it.name].append(charge)
+                drops[it.name] += max(0, before[it.name] - charge)
+            before[it.name] = charge
+    minutes = run.held.minutes
+    found = {}
+    for it in batteries:
+        shares = numpy.array(charges[it.name]) / it.capacity
+        cycles = drops[it.name] / it.capacity
+        # Between both ends whatever the rounding.
+        mean = min(max(float((shares * minutes).sum() / minutes.sum()), float(shares.min())), float(shares.max()))
+        a_day = cycles * 1440 / run.cluster.minutes
+        found[it.name] = BatteryUse(float(shares.min()), mean, float(shares.max()), float(shares[-1]), cycles, a_day)
+    return found
+
+
+def shifted_of(run: Run, plain: Any, connection: str | None) -> dict[str, float]:
+    """The energy that each device with a plain rule had at another time than by that rule, in kilowatt-hours."""
+    found, held = {}, run.held
+    for at, it in enumerate(run.cluster.devices):
+        if it.kind in (*WITHOUT_RULE, "objective") or it.name == connection:
+            continue
+        # A battery that follows its plain rule shifts too, so it is compared with one that rests.
+        against = 0 if isinstance(it, Battery) else plain[:, at]
+        found[it.name] = total(numpy.abs(held.powers[:, at] - against), held) / 2 / WATT_MINUTES
+    return found
+
+
+def minutes_outside_of(run: Run) -> dict[str, int]:
+    """For how long each limited group was outside its limits."""
+    found = {}
+    for at, node in enumerate(it for it in run.cluster.nodes if isinstance(it, Limited)):
+        loads = [it.groups[at].total for it in run.ends]
+        is_out = [not node.floor <= it <= node.ceiling for it in loads]
+        found[node.name] = sum(minutes for out, minutes in zip(is_out, run.durations, strict=True) if out)
+    return found

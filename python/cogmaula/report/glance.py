@@ -1,0 +1,121 @@
+"""The head of a report: were limits kept, what did it cost, who flexed; and what a reader should be warned of."""
+
+from __future__ import annotations
+
+from collections.abc import Iterator
+
+from ..figures import Figures
+from ..money import Currency
+from . import page
+from .charts import number, watts
+from .making import Findings
+from .words import count, duration, hours, kilowatt_hours, moment, money_of
+
+# A battery with fewer cycles a day than this is hardly used.
+FEW_CYCLES = 0.1
+# So many names are told in a sentence.
+MOST_TOLD = 3
+
+
+def glance(found: Findings) -> str:
+    """Three answers beside each other, and the warnings below them."""
+    answers = page.cards([("Were limits kept?", verdict(found)), ("What did it cost?", cost(found)), ("Who flexed?", flexed(found))])
+    return "\n".join([answers, *(page.words(f"\u26a0 {it}", "warning") for it in warnings(found))])
+
+
+def verdict(found: Findings) -> str:
+    """Whether the limits were kept."""
+    if not found.groups:
+        return page.words("No group has limits.", "soft")
+    broken = [it for it in found.groups if it.outside]
+    if not broken:
+        return page.words(f"\u2713 All limits were kept, in {count(len(found.groups), 'group')}.", "good")
+    lines = [
+        page.words(
+            f"\u26a0 {it.name} was outside its limits for {duration(it.minutes_outside)}, "
+            f"at the ends of {it.outside} of {count(len(found.run.ends), 'phase')}.",
+            "bad",
+        )
+        for it in broken[:5]
+    ]
+    if len(broken) > 5:
+        lines.append(page.words(f"\u26a0 So were {count(len(broken) - 5, 'more group')}.", "bad"))
+    return "\n".join(lines)
+
+
+def cost(found: Findings) -> str:
+    """What the devices paid, and what the same would have cost otherwise."""
+    figures, currency = found.figures, found.currency
+    lines = [page.words(money_of(currency, figures.cost), "large"), page.words("by the market's bill, paid by all devices together.", "soft")]
+    if figures.cost_at_connection is None:
+        lines.append(page.words("Name the connection to the supplier (--connection) to compare this with the cost without the market.", "soft"))
+    else:
+        rows = [[name, amount(currency, it)] for name, it in compared(figures)]
+        lines.append(page.plain_table(["At the connection's prices", currency.unit], rows))
+    return "\n".join(lines)
+
+
+def compared(figures: Figures) -> list[tuple[str, float | None]]:
+    """The costs that are compared, all at the prices that the connection asks."""
+    return [
+        ("the run", figures.cost_at_connection),
+        ("by plain rules *", figures.cost_plain),
+        ("without batteries *", figures.cost_without_battery),
+    ]
+
+
+def amount(currency: Currency, it: float | None) -> str:
+    """An amount with two digits behind the point."""
+    return "unknown" if it is None else number(it, 2)
+
+
+def flexed(found: Findings) -> str:
+    """The devices that shifted most energy."""
+    figures = found.figures
+    moved = sorted(((it, name) for name, it in figures.shifted_kWh.items() if it > 0), key=lambda it: (-it[0], it[1]))
+    if not moved:
+        return page.words("No device with a plain rule took or delivered energy at another time than by that rule.", "soft")
+    lines = [page.words(f"{hours(sum(it for it, _ in moved))} kWh", "large"), page.words(f"shifted by {count(len(moved), 'device')} *, most by", "soft")]
+    rows = [[name, hours(it)] for it, name in moved[:MOST_TOLD]]
+    return "\n".join([*lines, page.plain_table(["device", "kWh"], rows)])
+
+
+def warnings(found: Findings) -> Iterator[str]:
+    """What makes a bill misleading, or shows that a device is hardly used."""
+    figures, currency = found.figures, found.currency
+    if figures.sold_above_kWh:
+        yield (
+            f"{hours(figures.sold_above_kWh)} of {hours(figures.sold_kWh)} kWh that were sold are billed above the connection's price of sale. "
+            f"The supplier does not pay that: at the connection's prices the run costs {money_of(currency, figures.cost_at_connection)}."
+        )
+    if figures.bought_below_kWh:
+        yield f"{hours(figures.bought_below_kWh)} of {hours(figures.bought_kWh)} kWh that were bought are billed below the connection's price of purchase."
+    idle = [name for name, it in figures.batteries.items() if it.cycles_a_day < FEW_CYCLES]
+    if idle and found.run.cluster.minutes >= 1440:
+        told = ", ".join(idle[:MOST_TOLD]) + (f" and {count(len(idle) - MOST_TOLD, 'more')}" if len(idle) > MOST_TOLD else "")
+        yield (
+            f"Hardly used, with less than {FEW_CYCLES} cycles a day: {told}. A battery charges with its whole power or not at all, "
+            "so a power that is left over and smaller than that charges none of it. Several small ones in its place can follow."
+        )
+
+
+def facts(found: Findings) -> Iterator[tuple[str, str]]:
+    """The figures that a reader looks for next, each with its unit."""
+    figures, bill = found.figures, found.bill
+    if found.connection is None:
+        yield "Taken by devices", f"{kilowatt_hours(sum(it.taken for it in bill.devices.values()))} kWh"
+        yield "Delivered by devices", f"{kilowatt_hours(sum(it.given for it in bill.devices.values()))} kWh"
+        yield "Left over, given to the grid", f"{kilowatt_hours(bill.grid.taken)} kWh"
+        yield "Lacking, taken from the grid", f"{kilowatt_hours(bill.grid.given)} kWh"
+    else:
+        yield "Bought", f"{hours(figures.bought_kWh)} kWh"
+        yield "Sold", f"{hours(figures.sold_kWh)} kWh"
+        yield "Consumed", f"{hours(figures.consumed_kWh)} kWh"
+        yield "Produced", f"{hours(figures.produced_kWh)} kWh"
+    if figures.self_consumption is not None:
+        yield "Self-consumption", f"{number(100 * figures.self_consumption, 1)} % of what was produced"
+    if figures.self_sufficiency is not None:
+        yield "Self-sufficiency", f"{number(100 * figures.self_sufficiency, 1)} % of what was consumed"
+    for word, peak in (("Peak from outside", figures.peak_bought), ("Peak to outside", figures.peak_sold)):
+        if peak.at is not None:
+            yield word, f"{watts(peak.power_W)} at {moment(found, peak.at)}"
