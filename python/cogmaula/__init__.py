@@ -28,6 +28,7 @@ from .errors import (
     Unreadable,
 )
 from .explaining import Explanation, explain
+from .figures import Figures, NoConnection
 from .nodes import (
     Battery,
     Cogeneration,
@@ -48,6 +49,7 @@ from .runs import Run
 from .states import Bid, DeviceState, Snapshot
 from .study import study
 from .texts import Account, Answer, Answers, Bill, GroupEnd, Move, PhaseEnd, Range, Report
+from .varying import vary
 from .version import __version__
 
 __all__ = [
@@ -65,6 +67,7 @@ __all__ = [
     "Event",
     "Events",
     "Explanation",
+    "Figures",
     "Freezer",
     "GroupEnd",
     "HeatPump",
@@ -76,6 +79,7 @@ __all__ = [
     "Manual",
     "MarketError",
     "Move",
+    "NoConnection",
     "NoContinuation",
     "NoPackage",
     "NoProgram",
@@ -114,5 +118,6 @@ __all__ = [
     "run_parts",
     "study",
     "trace",
+    "vary",
     "whole_of",
 ]

@@ -2,18 +2,20 @@
 
 from __future__ import annotations
 
-import csv
 import hashlib
 import multiprocessing
 import os
-from collections.abc import Callable, Iterable, Iterator, Sequence
+import signal
+from collections.abc import Callable, Iterable, Iterator, Mapping, Sequence
 from concurrent.futures import ProcessPoolExecutor
-from dataclasses import astuple, dataclass, fields
+from dataclasses import dataclass, fields, is_dataclass
 from pathlib import Path
-from typing import Any, Generic, TypeVar
+from typing import Any, Generic, Literal, TypeVar
 
+from . import frames
 from .cluster import Cluster, Source, bytes_of
-from .errors import MarketError
+from .figures import Figures
+from .money import Rate
 from .processors import count, dealt, keep_to_one
 from .program import Program, found_program
 from .progress import tracked
@@ -23,6 +25,8 @@ T = TypeVar("T")
 # What a study does with each cluster: it is given the bytes of the file and the program. It has to be a function of a module, so that
 # another process finds it by its name.
 Work = Callable[[bytes, Program], T]
+# What an error of one cluster does: its outcome has it as its fault, or it ends the study.
+OnError = Literal["keep", "raise"]
 
 
 @dataclass(frozen=True)
@@ -100,6 +104,13 @@ def summary(file: bytes, program: Program) -> Summary:
     )
 
 
+def figures(
+    file: bytes, program: Program, connection: str | None = None, currency: str | None = None, per_kwh: Rate | None = None
+) -> Figures:
+    """Runs a cluster file of any length and finds its figures: work for a study, with the words of `Run.figures` by `functools.partial`."""
+    return whole_run(Cluster.from_json(file), program=program).figures(connection, currency=currency, per_kwh=per_kwh)
+
+
 @dataclass(frozen=True)
 class _Job(Generic[T]):
     """One cluster and what is done with it, as another process is told."""
@@ -108,15 +119,18 @@ class _Job(Generic[T]):
     source: str | bytes
     work: Work[T]
     program: Program | str | None
+    on_error: OnError = "keep"
 
     def __call__(self) -> Outcome[T]:
-        """Does the work. A cluster that the program refuses is an outcome, not an error of the study."""
+        """Does the work. An error is the fault of the outcome, unless it is to end the study."""
         digest = ""
         try:
             file = bytes_of(self.source)
             digest = hashlib.sha256(file).hexdigest()
             return Outcome(self.name, digest, self.work(file, _program_of(self.program)), "")
-        except (MarketError, OSError) as error:
+        except Exception as error:
+            if self.on_error == "raise":
+                raise
             return Outcome(self.name, digest, None, f"{type(error).__name__}: {error}")
 
 
@@ -133,39 +147,60 @@ def _do(job: _Job[T]) -> Outcome[T]:
 
 
 def study(
-    sources: Iterable[Source],
+    sources: Iterable[Source] | Mapping[str, Source],
     work: Work[T] = summary,  # type: ignore[assignment]
     *,
     processes: int | None = None,
     client: Any = None,
     program: Program | str | None = None,
+    on_error: OnError = "keep",
     quiet: bool = True,
 ) -> list[Outcome[T]]:
-    """Does the same work with many clusters, and gives an outcome for each, in their order.
+    """Does the same work with many clusters, and gives an outcome for each, in their order. The arguments are those of `outcomes_of`."""
+    found = outcomes_of(sources, work, processes=processes, client=client, program=program, on_error=on_error, quiet=quiet)
+    return list(found)
 
-    sources:   clusters, paths of their files, or bytes of files
+
+def outcomes_of(
+    sources: Iterable[Source] | Mapping[str, Source],
+    work: Work[T] = summary,  # type: ignore[assignment]
+    *,
+    processes: int | None = None,
+    client: Any = None,
+    program: Program | str | None = None,
+    on_error: OnError = "keep",
+    quiet: bool = True,
+) -> Iterator[Outcome[T]]:
+    """Does the same work with many clusters, and gives the outcome of each as soon as it and those before it are known.
+
+    sources:   clusters, paths of their files, or bytes of files; or a mapping that names them, such as that of `vary`
     work:      what is done with each: a function of a module that takes the bytes of the file and the program
     processes: how many processes share the work; as many as the machine has processors if it is not given
     client:    a `distributed.Client`: its workers share the work, on whatever machines they are. They are sent the files, and
                need this package and a proved program. `processes` counts for nothing then
     program:   the proved program of this machine, or a path, which each worker looks up on its own machine. If it is not given,
                each process finds one
+    on_error:  `keep`: a cluster that is refused or cannot be read, and one with which the work raises any other exception, has an outcome
+               with its fault, and ends nothing. `raise`: the first such error ends the study
     quiet:     whether no progress is told on standard error
 
-    A cluster that is refused or cannot be read has an outcome with its fault, and ends nothing. Results do not depend on the
-    number of processes or machines.
+    Results do not depend on the number of processes or machines.
     """
-    jobs = [_job_of(at, it, work, program, is_far=client is not None) for at, it in enumerate(sources, 1)]
-    outcomes = _by_client(client, jobs) if client is not None else _by_processes(processes or count(), jobs)
-    return list(tracked(outcomes, "study", len(jobs), quiet))
+    named = sources.items() if isinstance(sources, Mapping) else ((None, it) for it in sources)
+    is_far = client is not None
+    jobs = [_job_of(name or str(at), it, work, program, on_error, is_far, name) for at, (name, it) in enumerate(named, 1)]
+    outcomes = _by_client(client, jobs) if is_far else _by_processes(processes or count(), jobs)
+    yield from tracked(outcomes, "study", len(jobs), quiet)
 
 
-def _job_of(at: int, source: Source, work: Work[T], program: Program | str | None, is_far: bool) -> _Job[T]:
+def _job_of(
+    name: str, source: Source, work: Work[T], program: Program | str | None, on_error: OnError, is_far: bool, given: str | None
+) -> _Job[T]:
     """The job of a source. A far worker cannot read a file of this machine, so it is sent the bytes."""
     if isinstance(source, Cluster | bytes):
-        return _Job(str(at), bytes_of(source), work, program)
-    name = os.fspath(source)
-    return _Job(name, _read(name) if is_far else name, work, program)
+        return _Job(name, bytes_of(source), work, program, on_error)
+    path = os.fspath(source)
+    return _Job(given or path, _read(path) if is_far else path, work, program, on_error)
 
 
 def _read(path: str) -> str | bytes:
@@ -182,9 +217,20 @@ def _by_processes(processes: int, jobs: Sequence[_Job[T]]) -> Iterator[Outcome[T
         yield from map(_do, jobs)
         return
     queue: Any = multiprocessing.SimpleQueue()
-    with ProcessPoolExecutor(processes, initializer=keep_to_one, initargs=(dealt(queue, processes),)) as pool:
-        # A few jobs go at once, since handing one over takes about a tenth of a millisecond.
-        yield from pool.map(_do, jobs, chunksize=max(1, min(16, len(jobs) // (8 * processes))))
+    with ProcessPoolExecutor(processes, initializer=_begin_worker, initargs=(dealt(queue, processes),)) as pool:
+        try:
+            # A few jobs go at once, since handing one over takes about a tenth of a millisecond.
+            yield from pool.map(_do, jobs, chunksize=max(1, min(16, len(jobs) // (8 * processes))))
+        except BaseException:
+            # What has not begun is left out, so that an interrupted study ends soon.
+            pool.shutdown(wait=False, cancel_futures=True)
+            raise
+
+
+def _begin_worker(queue: Any) -> None:
+    """Begins a process of the study: it keeps to one processor, and leaves an interrupt from the keyboard to the study itself."""
+    keep_to_one(queue)
+    signal.signal(signal.SIGINT, signal.SIG_IGN)
 
 
 def _by_client(client: Any, jobs: Sequence[_Job[T]]) -> Iterator[Outcome[T]]:
@@ -193,14 +239,23 @@ def _by_client(client: Any, jobs: Sequence[_Job[T]]) -> Iterator[Outcome[T]]:
         yield future.result()
 
 
-def write_table(outcomes: Iterable[Outcome[Summary]], path: str | os.PathLike[str]) -> None:
-    """Writes a study as CSV: a row for each cluster with its name, its digest, its fault, and the numbers of its summary.
+def frame_of(outcomes: Iterable[Outcome[Any]]) -> Any:
+    """The outcomes as a data frame, which needs pandas: a row for each, by its name, with its digest, its fault and its result.
 
-    Raises OSError.
+    A result that is a data class has a column for each of its members, and any other one the column `result`.
     """
-    names = [it.name for it in fields(Summary)]
-    with open(path, "w", encoding="utf-8", newline="") as text:
-        lines = csv.writer(text, lineterminator="\n")
-        lines.writerow(["name", "sha256", "fault", *names])
-        for it in outcomes:
-            lines.writerow([it.name, it.digest, it.fault, *(astuple(it.result) if it.result else [""] * len(names))])
+    rows = [
+        {
+            "name": it.name,
+            "sha256": it.digest,
+            "fault": it.fault,
+            **(_members(it.result) if is_dataclass(it.result) else {} if it.result is None else {"result": it.result}),
+        }
+        for it in outcomes
+    ]
+    return frames.pandas().DataFrame(rows, columns=None if rows else ["name", "sha256", "fault"]).set_index("name")
+
+
+def _members(result: Any) -> dict[str, Any]:
+    """The members of a result, by their names."""
+    return {it.name: getattr(result, it.name) for it in fields(result)}

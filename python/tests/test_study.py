@@ -18,9 +18,10 @@ import pytest
 from hypothesis import given, settings
 
 from clusters import clusters
-from cogmaula import Basis, Cluster, Load, NoPackage, Program, Tick, cli, run
+from cogmaula import Basis, Cluster, Load, NoPackage, Program, Tick, Unreadable, cli, run, vary
 from cogmaula.commands import study as command
-from cogmaula.study import Outcome, Summary, study, summary, write_table
+from cogmaula.study import Outcome, Summary, figures, frame_of, outcomes_of, study, summary
+from cogmaula.study_table import HEAD, known_of, read_table, write_table, written
 
 TOP = Path(__file__).resolve().parents[2]
 from checks.oracle.accounts import bill_of
@@ -33,7 +34,7 @@ def house(power: int) -> Cluster:
     return one.with_phases(one.join_all(), Tick(60))
 
 
-def written(folder: Path, many: int) -> list[Path]:
+def written_files(folder: Path, many: int) -> list[Path]:
     """So many files, each with another load; and one that is refused in the middle."""
     paths = [folder / f"{at:03}.json" for at in range(many)]
     for at, path in enumerate(paths):
@@ -49,7 +50,7 @@ def text_of(file: bytes, program: Program) -> bytes:
 
 def test_outcomes_are_exact_and_in_order(tmp_path: Path, program: Program) -> None:
     """However many processes share the work: the load of file `n` is 100 n watts over an hour, at price 9."""
-    paths = written(tmp_path, 41)
+    paths = written_files(tmp_path, 41)
     alone = study(paths, processes=1, program=program)
     assert [it.name for it in alone] == [str(it) for it in paths]
     for at, it in enumerate(alone):
@@ -118,9 +119,25 @@ def test_the_example_of_the_page_runs(tmp_path: Path, program: Program) -> None:
     assert told.stdout == "[0, 9]\n", told.stderr
 
 
+def test_the_variants_of_the_page_run(
+    tmp_path: Path, program: Program, monkeypatch: pytest.MonkeyPatch, capsys: pytest.CaptureFixture[str]
+) -> None:
+    """The code of docs/REPORTS.md, on three hours of test_figures.py: each capacity with each power has a row, and none a fault."""
+    from test_figures import sunny
+
+    page = (TOP / "docs" / "REPORTS.md").read_text()
+    begin = page.index("    from functools import partial\n")
+    (tmp_path / "house.json").write_text(sunny(3).to_json().replace('"supplier"', '"connection"'))
+    monkeypatch.chdir(tmp_path)
+    names: dict[str, Any] = {}
+    exec(textwrap.dedent(page[begin : page.index("\n\n[measured", begin)]), names)
+    assert list(names["costs"].index) == [f"capacity={it} charge={power}" for it in (5000, 10000) for power in (1000, 2500)]
+    assert not any(names["costs"]["fault"]) and "self_sufficiency" in capsys.readouterr().out
+
+
 def test_a_table_has_a_row_for_each_outcome(tmp_path: Path, program: Program) -> None:
     """Whole numbers as they are, and a fault in words."""
-    outcomes: list[Outcome[Summary]] = study(written(tmp_path, 4), program=program)
+    outcomes: list[Outcome[Summary]] = study(written_files(tmp_path, 4), program=program)
     write_table(outcomes, tmp_path / "table.csv")
     with open(tmp_path / "table.csv", newline="") as text:
         head, *rows = list(csv.reader(text))
@@ -131,13 +148,80 @@ def test_a_table_has_a_row_for_each_outcome(tmp_path: Path, program: Program) ->
 
 def test_the_command_writes_the_table_and_tells_faults(tmp_path: Path, program: Program, capsys: pytest.CaptureFixture[str]) -> None:
     """The status is 0 if all files ran, and 1 if one has a fault."""
-    paths = [str(it) for it in written(tmp_path, 5)]
+    paths = [str(it) for it in written_files(tmp_path, 5)]
     words = ["study", "-o", str(tmp_path / "table.csv"), "--program", program.path, "--processes", "2", "--quiet"]
     assert cli.main([*words, *paths]) == 1
     told = capsys.readouterr().err
     assert paths[2] in told and "1 of 5 files have a fault" in told
     assert cli.main([*words, *paths[:2]]) == 0
     assert len((tmp_path / "table.csv").read_text().splitlines()) == 3
+
+
+def fails(file: bytes, program: Program) -> int:
+    """Work that raises an error of its own for each second file."""
+    power = Cluster.from_json(file).nodes[0].members()["start"]
+    if power % 200:
+        raise KeyError(f"no {power}")
+    return int(power)
+
+
+def test_an_exception_of_the_work_is_a_fault_or_ends_the_study(program: Program) -> None:
+    """KeyError of the second of four; with `raise` nothing else comes."""
+    them = [house(at * 100) for at in range(4)]
+    for processes in (1, 2):
+        found = study(them, fails, processes=processes, program=program)
+        assert [it.result for it in found] == [0, None, 200, None]
+        assert found[1].fault == "KeyError: 'no 100'"
+        with pytest.raises(KeyError, match="no 100"):
+            study(them, fails, processes=processes, program=program, on_error="raise")
+
+
+def test_an_interrupted_study_keeps_its_rows(tmp_path: Path, program: Program) -> None:
+    """Two rows are in the file when the third is interrupted, and a row that is cut off in the middle is left out."""
+    table = tmp_path / "table.csv"
+
+    def until_interrupted() -> Iterator[Outcome[Summary]]:
+        for at, it in enumerate(outcomes_of([house(100), house(200), house(300)], processes=1, program=program)):
+            if at == 2:
+                raise KeyboardInterrupt
+            yield it
+
+    with pytest.raises(KeyboardInterrupt):
+        list(written(until_interrupted(), table))
+    assert [it.result.taken_Wmin for it in read_table(table) if it.result] == [6000, 12000]
+    table.write_text(table.read_text() + "3,abc")
+    assert len(read_table(table)) == 2
+    table.write_text("a,b\n")
+    with pytest.raises(Unreadable, match="no table of a study"):
+        read_table(table)
+    table.write_text(",".join(HEAD) + "\na,b,c,1\n")
+    with pytest.raises(Unreadable, match="line 2 is no row"):
+        read_table(table)
+    assert known_of(tmp_path / "none.csv") == {}
+
+
+def test_a_study_is_resumed_by_the_digests(tmp_path: Path, program: Program) -> None:
+    """A known row is taken as it is, which a number shows that no run gives; a changed file, a refused one and a new one run."""
+    paths = [str(it) for it in written_files(tmp_path, 5)]
+    table = tmp_path / "table.csv"
+    words = ["study", "-o", str(table), "--program", program.path, "--processes", "1", "--quiet"]
+    assert cli.main([*words, *paths[:4]]) == 1
+    house(900).save(paths[1])
+    table.write_text(table.read_text().replace(",18000,", ",777,"))
+    assert cli.main([*words, "--resume", *paths]) == 1
+    rows = read_table(table)
+    assert [it.name for it in rows] == paths
+    assert [it.result.taken_Wmin if it.result else it.fault[:10] for it in rows] == [0, 54000, "Unreadable", 777, 24000]
+    assert cli.main([*words, "--on-error", "raise", *paths]) == 5
+
+
+def test_variants_and_their_figures(program: Program) -> None:
+    """A mapping names its clusters, and figures are a table: 1 and 2 kW over an hour at price 9."""
+    variants = vary(house(0), start=[1000, 2000])
+    found = study(variants, figures, processes=1, program=program)
+    table = frame_of(found)
+    assert list(table.index) == ["start=1000", "start=2000"] and table["cost"].tolist() == [9, 18]
+    assert frame_of([]).empty and frame_of(study([house(5)], text_of, program=program))["result"].iloc[0].startswith(b"phase 1 ")
 
 
 def test_a_scheduler_needs_dask(monkeypatch: pytest.MonkeyPatch) -> None:
@@ -159,7 +243,7 @@ def test_dask_gives_the_outcomes_of_one_process(tmp_path: Path, program: Program
     """The workers are sent the bytes, so they need no file; and the command takes a scheduler's address."""
     from distributed import Client
 
-    paths = written(tmp_path, 21)
+    paths = written_files(tmp_path, 21)
     alone = study(paths, processes=1, program=program)
     with Client(scheduler) as client:
         assert study(paths, client=client, program=program) == alone
