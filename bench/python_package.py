@@ -1,7 +1,9 @@
 #!/usr/bin/env python3
-"""Measures the Python package: the report of a day of 200 devices, a study of 1,000 files over 1 to 4 processes, and a month.
+"""Measures the Python package: pages of a day of 200 devices, a week and a year, a study of 1,000 files over 1 to 4 processes, and a month.
 
-    python3 bench/python_package.py report         makes the day and its report, five times
+    python3 bench/python_package.py report         makes the day and its report, five times, each beside a plain run of the program
+    python3 bench/python_package.py week           the same of a week of 97 devices, which is longer than one run, once
+    python3 bench/python_package.py year           makes the page of a house's year, with its connection, once
     python3 bench/python_package.py study [MANY]   makes so many files and runs them over 1, 2, 3 and 4 processes
     python3 bench/python_package.py month          makes a month of 156 devices, and runs it day by day
 
@@ -9,6 +11,7 @@ It needs matplotlib, and the proved program of this checkout or the one that COG
 measurement, with the load of the machine.
 """
 
+import math
 import os
 import random
 import resource
@@ -62,16 +65,70 @@ def processor_time() -> float:
     return sum(it.ru_utime + it.ru_stime for it in used)
 
 
+def year_of_a_house() -> Cluster:
+    """A house with a roof, a battery and a connection over 365 days in quarters of an hour, by a seed."""
+    draw = random.Random(1)
+    nodes = [
+        Manual("connection", points=[(79, 30_000), (80, 0), (299, 0), (300, -30_000)]),
+        Battery("battery", capacity=10_000, charge=5000, discharge=5000, spread=20, start=0),
+        Load("house", start=300),
+        Solar("roof", start=0),
+    ]
+    cluster = Cluster(Basis(0, 400, 401), nodes)
+    phases = [cluster.join_all(), Tick(15)]
+    for quarter in range(1, 365 * DAY):
+        hour, day = quarter % DAY / 4, quarter // DAY
+        height = max(0.0, math.sin((hour - 6) / 12 * math.pi)) * (3000 + 2000 * math.sin((day - 80) / 365 * 2 * math.pi))
+        evening = 1500 * draw.random() if 17 < hour < 22 else 0
+        sun, load = int(height * (0.3 + 0.7 * draw.random())), int(200 + 300 * draw.random() + evening)
+        phases += [Events([State("house", load), State("roof", sun)]), Tick(15)]
+    return cluster.with_phases(*phases)
+
+
+def measure_page(what: str, file: Path, *more: str) -> None:
+    """The page of a file, as a user makes it, with the start of Python."""
+    page = file.with_suffix(".html")
+    named = os.environ.get("COGMAULA_MARKET") or str(TOP)
+    words = [sys.executable, "-m", "cogmaula", "report", str(file), "-o", str(page), "--program", named, "--quiet", *more]
+    begun, used = time.monotonic(), processor_time()
+    subprocess.run(words, cwd=TOP / "python", check=True)
+    took, used = time.monotonic() - begun, processor_time() - used
+    most = resource.getrusage(resource.RUSAGE_CHILDREN).ru_maxrss // 1024
+    print(
+        f"report of {what}: {took:.2f} s, {used:.2f} s of a processor, {page.stat().st_size:,} bytes, "
+        f"at most {most} MB for a process, {load()}"
+    )
+
+
+def measure_run(file: Path) -> None:
+    """The plain run of a file by the program."""
+    program = Program.find(os.environ.get("COGMAULA_MARKET") or str(TOP))
+    begun, used = time.monotonic(), processor_time()
+    program.answer("run", file.read_bytes())
+    print(f"market run of it: {time.monotonic() - begun:.2f} s, {processor_time() - used:.2f} s of a processor, {load()}")
+
+
 def measure_report(folder: Path) -> None:
-    """The report of a day of 200 devices, as a user runs it, with the start of Python."""
-    file, page = folder / "day.json", folder / "day.html"
+    """The report of a day of 200 devices."""
+    file = folder / "day.json"
     script_of(199, DAY, 1).save(file)
-    words = [sys.executable, "-m", "cogmaula", "report", str(file), "-o", str(page), "--program", str(TOP), "--quiet"]
     for _ in range(5):
-        begun, used = time.monotonic(), processor_time()
-        subprocess.run(words, cwd=TOP / "python", check=True)
-        took, used = time.monotonic() - begun, processor_time() - used
-        print(f"report of 200 devices over {DAY} ticks: {took:.2f} s, {used:.2f} s of a processor, {page.stat().st_size:,} bytes, {load()}")
+        measure_run(file)
+        measure_page(f"200 devices over {DAY} ticks", file)
+
+
+def measure_week(folder: Path) -> None:
+    """The report of a week of 97 devices, with a span of the whole week."""
+    file = folder / "week.json"
+    script_of(96, 7 * DAY, 1).save(file)
+    measure_page(f"97 devices over {7 * DAY} ticks", file, "--span", "10080", "--connection", "grid")
+
+
+def measure_year(folder: Path) -> None:
+    """The report of a house's year."""
+    file = folder / "year.json"
+    year_of_a_house().save(file)
+    measure_page("a house's year", file, "--connection", "connection", "--currency", "EUR", "--per-kwh", "0.001", "--start", "2026-01-01")
 
 
 def measure_month(folder: Path) -> None:
@@ -117,6 +174,10 @@ def main() -> int:
         match sys.argv[1:]:
             case ["report"]:
                 measure_report(Path(folder))
+            case ["week"]:
+                measure_week(Path(folder))
+            case ["year"]:
+                measure_year(Path(folder))
             case ["study"]:
                 measure_study(Path(folder), 1000)
             case ["month"]:

@@ -33,7 +33,7 @@ MADE = {
     "pictures/limited_feeder.svg": ["draw", "run", "examples/limited_feeder.json", "--phase", "2"],
     "pictures/battery_day_bill.svg": ["draw", "bill", "examples/battery_day.json"],
     "pictures/battery_day_ask.svg": ["draw", "ask", "examples/battery_day.json", "--target", "-1000", "--target", "-2000"],
-    "examples/neighbourhood/neighbourhood.html": ["report", "examples/neighbourhood/neighbourhood.json", *MONEY],
+    "examples/neighbourhood/neighbourhood.html": ["report", "examples/neighbourhood/neighbourhood.json", *MONEY, "--connection", "connection"],
 }
 
 
