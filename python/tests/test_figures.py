@@ -2,9 +2,11 @@
 
 from __future__ import annotations
 
+import random
 from dataclasses import replace
 from datetime import datetime
 from decimal import Decimal
+from typing import Any
 from zoneinfo import ZoneInfo
 
 import pytest
@@ -69,6 +71,33 @@ def test_the_bill_of_the_cookbook_is_the_tariffs(program: Program) -> None:
     assert (figures.cost, figures.cost_at_connection, figures.cost_plain) == pytest.approx((0.11, 0.11, 0.11))
     assert (figures.bought_kWh, figures.sold_kWh, figures.sold_above_kWh) == (0.5, 0.5, 0)
     assert figures.self_sufficiency == pytest.approx(1 - 0.5 / 3) and figures.self_consumption == pytest.approx(1 - 0.5 / 3)
+
+
+def test_costs_by_pandas_alone(program: Program) -> None:
+    """Two days of drawn loads and sun in quarters of an hour: each cost from the powers, the two tariffs and a battery of floats."""
+    pd, draw = pytest.importorskip("pandas"), random.Random(7)
+    loads, suns = ([draw.randrange(0, most) for _ in range(192)] for most in (2500, 4000))
+    one = Cluster(Basis(0, 40, 41), [TARIFF, Load("house", start=loads[0]), Solar("roof", start=suns[0]), STORE])
+    phases = [one.join_all(), Tick(15)]
+    for load, sun in zip(loads[1:], suns[1:], strict=True):
+        phases += [Events([State("house", load), State("roof", sun)]), Tick(15)]
+    done = run(one.with_script(phases), program=program)
+    figures, net = done.figures("supplier"), pd.Series(loads) - pd.Series(suns)
+
+    def cost(exchange: Any) -> float:
+        return float((exchange.clip(lower=0) * 30 + exchange.clip(upper=0) * 8).sum() / 4000)
+
+    charge, rule = 5000.0, []
+    for power in net:
+        most = min(5000, (10_000 - charge) * 4) if power < 0 else min(5000, charge * 4)
+        rule.append(min(-power, most) if power < 0 else -min(power, most))
+        charge += rule[-1] / 4
+    assert figures.cost_at_connection == pytest.approx(cost(done.series().drop(columns="supplier").sum(axis=1).astype(float)))
+    assert figures.cost_without_battery == pytest.approx(cost(net))
+    # Whole watts and watt-hours may differ by one in each quarter of an hour.
+    assert figures.cost_plain == pytest.approx(cost(net + pd.Series(rule)), abs=192 * 4 * 30 / 4000)
+    bought = done.series().drop(columns="supplier").sum(axis=1).clip(lower=0).sum() / 4000
+    assert figures.bought_kWh == pytest.approx(bought) and figures.batteries["store"].cycles > 0
 
 
 def test_a_connection_with_a_price_for_each_hour(program: Program) -> None:
