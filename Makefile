@@ -21,7 +21,7 @@ VERSION := $(shell cat VERSION)
 tarball = build/market-$(VERSION).tar.gz
 package = build/market_$(VERSION)_amd64.deb
 
-.PHONY: help prove check install uninstall installcheck dist deb clean
+.PHONY: help prove quick check prebuilt install uninstall installcheck dist deb clean
 help: ## lists the targets, and the variables that say where to
 	@awk -F ':.*## ' '/^[a-z]+:.*## / { printf "make %-13s %s\n", $$1, $$2 }' Makefile
 	@echo
@@ -32,8 +32,14 @@ prove: ## proves and builds the programs: market in 13 to 25 minutes on four pro
 	./market prove
 	./market prove live
 
+quick: ## runs the checks of pages, Python, the script and texts, in at most 8 minutes; needs no proof and no kit
+	checks/run quick
+
 check: ## runs the gate: every proof, must-fail edit, test and check
 	.ci/run
+
+prebuilt: ## puts the programs that were proved here into prebuilt/, with their stamps
+	@bash packaging/prebuilt.sh
 
 install: ## installs the proved programs, their pages, completions, examples and units
 	@bash packaging/install.sh install

@@ -35,11 +35,19 @@ stage() {
     rm "$root/usr/share/market/installed"
     # The licence is on each Debian system.
     rm "$docs/LICENSE"
-    strip --strip-unneeded "$root/usr/libexec/market/market" "$root/usr/libexec/market/live"
+    strip_program market
+    strip_program live
     cp packaging/copyright "$docs/copyright"
     chmod 644 "$docs/copyright"
     write_changelog | gzip -9n >"$docs/changelog.gz"
     gzip -9n "$root"/usr/share/man/man1/*.1
+}
+
+# Takes the names out of a program, and says so in its stamp.
+strip_program() {
+    local program="$root/usr/libexec/market/$1"
+    strip --strip-unneeded "$program"
+    echo "stripped: $(sha256sum <"$program" | cut -d ' ' -f 1)" >>"$root/usr/share/market/$1.stamp"
 }
 
 write_changelog() {

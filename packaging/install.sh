@@ -25,17 +25,25 @@ require_places() {
     done
 }
 
-# Only programs that were proved from today's sources are installed.
+# Only programs that were proved from today's sources are installed: here, or by the gate elsewhere and prebuilt. Their stamps say
+# which. Sets `programs` and `stamps` to the files of each.
 require_proved() {
     local name
     # shellcheck source=script/program.sh
     . script/program.sh
+    # shellcheck source=script/prebuilt.sh
+    . script/prebuilt.sh
+    declare -gA programs=() stamps=()
     for name in market live; do
         choose_program "$name"
-        if ! is_current; then
+        if ! find_proved; then
+            tell_misfit
             say "there is no proved program $name of these sources: run \`make prove\` first"
             exit 1
         fi
+        programs[$name]="$program"
+        stamps[$name]="$work/$name.stamp"
+        stamp_to_hand_on >"${stamps[$name]}"
     done
 }
 
@@ -62,6 +70,8 @@ install_file() {
     make_folder "${place%/*}"
     case "$how" in
         copy) text="$source" ;;
+        program) text="${programs[$source]}" ;;
+        stamp) text="${stamps[$source]}" ;;
         fill)
             text="$work/text"
             filled "$(cat "$source")" >"$text"
@@ -71,7 +81,7 @@ install_file() {
             awk -f packaging/page.awk "$source" >"$text"
             ;;
         *)
-            say "packaging/files.txt has '$how' as a way to install: write copy, fill or page"
+            say "packaging/files.txt has '$how' as a way to install: write copy, fill, page, program or stamp"
             exit 1
             ;;
     esac

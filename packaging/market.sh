@@ -21,13 +21,30 @@ called=market pages="man market" example="@docdir@/examples/village.json" instal
 # shellcheck source=script/run.sh
 . "$root@datadir@/market/run.sh" || exit 1
 
+# Prints where, when and with which kit a program was proved, by its stamp.
+tell_stamp() {
+    local word rest kit="" day="" where=""
+    while read -r word rest; do
+        case "$word" in
+            kit:) kit="${rest%% *}" ;;
+            date:) day="$rest" ;;
+            proved:) where="$rest" ;;
+        esac
+    done <"$root@datadir@/market/$1.stamp"
+    echo "$1 was proved ${where%%,*} on $day with $kit"
+} 2>/dev/null
+
 case "${1-}" in
     "")
         help_text
         exit 2
         ;;
     help | --help | -h) print_help "${@:2}" ;;
-    version | --version) echo "market @version@ (@commit@)" ;;
+    version | --version)
+        echo "market @version@ (@commit@)"
+        tell_stamp market
+        tell_stamp live
+        ;;
     *)
         if is_node "$@"; then
             program="${program%/*}/live"

@@ -6,11 +6,13 @@
 # shellcheck shell=bash
 : "${top:?}"
 
-# Sets `program_name` to the name of a program, `program` to its path, and `stamp` to that of its stamp.
+# Sets `program_name` to the name of a program, `program` to its path, and `stamp` to that of its stamp. `sources_now` is the sum
+# of its sources once it was made.
 choose_program() {
     program_name="$1"
     program="$top/crates/$1/out/$1"
     stamp="$top/crates/$1/out/proved"
+    sources_now=""
 }
 choose_program market
 
@@ -54,13 +56,13 @@ list_folders() {
 }
 
 # Prints a sum of the names and contents of the sources: the files of these folders, and the crates' lines of crates.txt.
-# Its status is not 0 if one of them cannot be read.
+# Its status is not 0 if one of them cannot be read. Four processes read the files; each writes whole lines, which are then sorted.
 sources_sum() (
     set -o pipefail
     list_folders && cd "$top/crates" || exit 1
     {
         printf '%s\n' "${rows[@]}" | LC_ALL=C sort &&
-            find -L "${folders[@]}" ! -type d -print0 | LC_ALL=C sort -z | xargs -0 sha256sum --
+            find -L "${folders[@]}" ! -type d -print0 | xargs -0 -P 4 -n 300 sha256sum -- | LC_ALL=C sort -k 2
     } 2>/dev/null | sha256sum | cut -d ' ' -f 1
 )
 
@@ -102,7 +104,8 @@ is_current() {
     now="$(whole_state)"
     wait_a_tick
     lacking=sources
-    [ "$(sources_sum)" = "$sources" ] || return 1
+    sources_now="$(sources_sum)"
+    [ "$sources_now" = "$sources" ] || return 1
     lacking=build
     [ "$(program_sum)" = "$built" ] || return 1
     # The stamp keeps this state only if nothing changed under way. Otherwise the next look compares the contents again.
@@ -137,8 +140,21 @@ write_stamp() {
     replace_stamp "sources: $sum
 program: $built
 kit: $(rt version 2>/dev/null)
+linker: $(linker_version)
+libc: $(libc_needed "$program")
 date: $(date +%Y-%m-%d)
 state: $now"
+}
+
+# Prints the linker of the kit at hand, by its own words.
+linker_version() {
+    local rt
+    rt="$(command -v rt)" && rt="$(readlink -f -- "$rt")" && "${rt%/*}/../toolchain/bin/ld.lld" --version 2>/dev/null || echo unknown
+}
+
+# Prints the least version of the C library, glibc, that this program takes. It prints nothing if the program names none.
+libc_needed() {
+    LC_ALL=C grep -aoE 'GLIBC_[0-9]+[.][0-9]+' "$1" | sed 's/^GLIBC_//' | sort -V | tail -n 1
 }
 
 # Prints from how many to how many minutes the proof of all crates of `market` takes, by the number of processors here. It took

@@ -4,7 +4,7 @@
 #   called     the command's name, as the user writes it: ./market, or market when installed
 #   pages      where to read more: docs/CLUSTER_FILE.md, or `man market` when installed
 #   example    a cluster file: examples/village.json, or its place when installed
-#   installed  `yes` when installed: the lines on proving are then left out
+#   installed  `yes` when installed: the lines on proving are then left out. If not, `tell_program` prints where the program is from
 # shellcheck shell=bash
 : "${called:=./market}" "${pages:=docs/CLUSTER_FILE.md}" "${example:=examples/village.json}" "${installed:=}"
 
@@ -39,15 +39,14 @@ usage: $called COMMAND < INPUT > OUTPUT
            is one node of a market across machines, by the program live: reads
            frames, writes frames
 
-  help     prints this text; help refusals: what each refusal means;
-           help CODE: what this refusal means, and what to do
-  version  prints the version
+  help     prints this text; help refusals, help CODE: what refusals mean
+  version  prints the version, and where the programs come from
 END_OF_HELP
     [ "$installed" = yes ] || cat <<END_OF_HELP
   prove [live] [--jobs N]
            proves and builds the program market, or live, on N processors
   --proved COMMAND
-           runs the command only if a proved program is at hand
+           runs the command only if the program was proved on this machine
   --unproved COMMAND
            runs the command without a proof, to try changed sources
 END_OF_HELP
@@ -69,6 +68,7 @@ END_OF_HELP
         echo "More: $pages"
     else
         echo "More: README.md, $pages, man ./market.1"
+        tell_program
     fi
 }
 

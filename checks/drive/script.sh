@@ -11,7 +11,9 @@ trap 'rm -rf "$folder"' EXIT
 top="$folder/a clone"
 mkdir -p "$top"/crates/{low,high,other,market,live}/src "$top"/{script,.ci,checks/{drive,lint},docs} "$folder"/{bin,tools,git}
 cp market "$top/market"
-cp script/words.sh script/program.sh script/run.sh "$top/script"
+cp script/{words,program,prebuilt,packages,run}.sh "$top/script"
+mkdir -p "$top/packaging"
+cp packaging/prebuilt.sh "$top/packaging"
 cp .ci/run "$top/.ci"
 cp checks/run "$top/checks/run.kept"
 for crate in low high other market live; do
@@ -27,7 +29,7 @@ echo input >"$folder/input"
 cat >"$top/program" <<'END_OF_PROGRAM'
 #!/usr/bin/env bash
 case "$*" in
-    run | serve) given="$(cat)" ;;
+    run | trace | bill | free | check | ask | serve) given="$(cat)" ;;
     "demo "*) given="no input" ;;
     *) echo "usage: ..."; exit 2 ;;
 esac
@@ -97,7 +99,7 @@ if os.path.exists("meanwhile"):
         open(source, "w").write(kept)
 END_OF_PROVE
 # The checks tell their arguments and a last line; that of the program tells its arguments alone.
-all="program traces serve live network memory hostile script install python pages schema pictures names places definitions edits"
+all="program prebuilt traces serve live network memory hostile script install python pages schema pictures names places definitions edits"
 folder_of() {
     case "$1" in
         cases | traces | serve | nodes | network | memory | hostile | python) echo "$top/checks/drive" ;;
@@ -111,21 +113,21 @@ stub() {
     done
 }
 stub traces serve nodes network memory hostile python pages schema pictures names places definitions edits
-for name in script install; do
+for name in script install prebuilt; do
     echo 'echo "1 passed, 0 failed"' >"$top/checks/drive/$name.sh"
 done
 echo 'import sys; print(*sys.argv[1:])' >"$top/checks/drive/cases.py"
 
 # All that the script needs beside rt. git lies elsewhere.
-for tool in bash env cat cp cut date dirname find grep head mkdir mktemp mv nproc readlink rm sed sha256sum sleep sort tail tee \
-    wc xargs; do
+for tool in bash env cat chmod cmp cp cut date dirname find getconf grep head mkdir mktemp mv nproc readlink rm sed sha256sum sleep \
+    sort tail tee uname wc xargs; do
     ln -s "$(command -v "$tool")" "$folder/tools/$tool" || exit 1
 done
 ln -s "$(python3 -c 'import sys; print(sys.executable)')" "$folder/tools/python3"
 ln -s "$(command -v git)" "$folder/git/git"
 chmod +x "$top/program" "$top/nodes" "$folder/bin/rt"
 ln -s "$top/market" "$folder/link"
-for tool in awk chmod ln mkfifo script touch tr; do
+for tool in awk ln mkfifo script touch tr; do
     eval "$tool() { $(command -v "$tool") \"\$@\"; }"
 done
 mkfifo "$folder/keys"
@@ -473,7 +475,7 @@ is "the nodes' checks" 0 "crates/live/out/live all
 crates/live/out/live 1000
 1 passed, 0 failed" "" '{ checks/run live all; checks/run network 1000; } | sed "s|$top/||g"'
 is "the list" 0 "$all" "" 'echo $(checks/run | cut -d " " -f 1)'
-is "the list says how long and why" 0 "$(set -- $all; echo $#)" "" 'checks/run | grep -cE "^[a-z]+ +([0-9]+|some) s +[A-Z].*[?]$"'
+is "the list says how long and why" 0 "$(set -- $all; echo $#)" "" 'checks/run | grep -cE "^[a-z]+ +([0-9]+|some) s +(quick|program|proof) +[A-Z].*[?]$"'
 is "no such check" 2 "" "no check has the name rum: checks/run lists them" 'checks/run rum'
 is "all of something" 2 "" "checks/run all takes no arguments; checks/run NAME may" 'checks/run all traces'
 is "a check with arguments" 0 "crates/market/out/market all 10
@@ -493,6 +495,7 @@ due_of() {
         python | pages | schema | pictures | names | places) echo ;;
         definitions) echo check ;;
         edits) echo --self-test ;;
+        script | install | prebuilt) ;;
     esac
     echo "1 passed, 0 failed"
 }
@@ -511,6 +514,108 @@ is "all checks, one counts a failure and hides it" 1 "these checks failed: names
 is "all checks, one is gone" 1 "these checks failed: names (status 1) edits (status 1)" "" \
     'rm checks/lint/edits.py; checks/run all >wrote 2>/dev/null; s=$?; tail -n 1 wrote; (exit $s)'
 stub names edits
+
+# Prebuilt programs, which a gate elsewhere proved from these sources.
+echo "a source" >crates/other/src/lib.rt
+prove
+prove_live
+is "make prebuilt" 0 "prebuilt/x86_64-linux/market is the proved program: commit it with its stamp
+prebuilt/x86_64-linux/live is the proved program: commit it with its stamp" "" 'bash packaging/prebuilt.sh'
+place=prebuilt/x86_64-linux
+today="$(date +%Y-%m-%d)"
+is "the stamps say how they were built" 0 "sources program kit linker libc date
+sources program kit linker libc date" "" 'for name in market live; do echo $(cut -d : -f 1 $place/$name.stamp); done'
+forget
+is "make prebuilt without a proof" 1 "" "make: no program market was proved here from these sources: run \`make prove\` or the gate first" \
+    'bash packaging/prebuilt.sh'
+cp -r prebuilt "$folder/prebuilt"
+put_back() { rm -r prebuilt; cp -r "$folder/prebuilt" prebuilt; }
+alone='PATH="$folder/tools";'
+is "a fresh clone without rt, all commands" 0 "$(for name in run trace bill free check ask serve; do echo "proved $name: input"; done)
+proved demo 1 2: no input
+live relay 3 -1000 1000: input
+live auctioneer: input
+live device 2: input" "" "$alone"' for words in run trace bill free check ask serve "demo 1 2" "relay 3 -1000 1000" auctioneer "device 2"; do
+    ./market $words <../input || exit 1; done'
+is "the version, prebuilt" 0 "market 1.2.3
+a prebuilt program is at hand, proved by the gate elsewhere on $today with kit-1
+a prebuilt program live is at hand, proved by the gate elsewhere on $today with kit-1" "" "$alone"' ./market version'
+is "the help, prebuilt" 0 "Program: proved by the gate elsewhere on $today with kit-1" "" './market help | tail -n 1'
+is "nothing is read again" 0 "proved run: input" "" 'sleep 0.06; ./market demo 1 2 >/dev/null; rm "$folder/tools/cut"; ./market run'
+ln -s "$(PATH="$kept" command -v cut)" "$folder/tools/cut"
+is "what was found cannot be kept" 0 "proved run: input" "" 'rm -r crates/market/out; mv() { false; }; export -f mv; ./market run'
+is "prebuilt is not proved here" 1 "" "market: $none" './market --proved run'
+is "nor is the program of the nodes" 1 "" "market: device needs the proved program live, since it reads a stream: $none_live" \
+    './market --proved device 2'
+is "another source" 0 "tried run: input" "$first $none" 'echo more >>crates/low/src/lib.rt; ./market run'
+is "another source, serve" 1 "" "market: serve needs the proved program, since it reads a stream: $none" './market serve'
+is "another source, without rt" 1 "" \
+    "market: there is no proved program to run, and no rt to try the sources: install the kit that kit.txt names" "$alone"' ./market run'
+is "the source put back" 0 "proved run: input" "" 'echo "a source" >crates/low/src/lib.rt; ./market run'
+is "another source of the nodes" 1 "" "market: auctioneer needs the proved program live, since it reads a stream: $none_live" \
+    'echo more >>crates/other/src/lib.rt; ./market auctioneer; s=$?; echo "a source" >crates/other/src/lib.rt; (exit $s)'
+others="market: the prebuilt program market is not the one of its stamp: git checkout prebuilt brings that back"
+is "another byte" 0 "tried run: input" "$others
+$first $none" 'sed -i "s/input/Input/" $place/market; ./market run; put_back'
+is "a stamp with another sum" 0 "tried run: input" "$others
+$first $none" 'sed -i "s/^program: ./program: x/" $place/market.stamp; ./market run; put_back'
+is "a stamp of other sources" 0 "tried run: input" "$first $none" 'sed -i "s/^sources: ./sources: x/" $place/market.stamp; ./market run; put_back'
+is "another system" 0 "tried run: input" "market: the prebuilt program market is for x86-64 Linux, and this is Linux aarch64
+$first $none" 'uname() { echo Linux aarch64; }; export -f uname; ./market run'
+is "an older C library" 1 "" "market: the prebuilt program live needs glibc 2.34 or newer, and here is glibc 2.31
+market: device needs the proved program live, since it reads a stream: $none_live" \
+    'sed -i "s/^libc:.*/libc: 2.34/" $place/live.stamp; getconf() { echo glibc 2.31; }; export -f getconf; ./market device 2'
+is "another C library" 0 "no proved program live is at hand: $none_live" \
+    "market: the prebuilt program live needs glibc 2.34 or newer, and here is none" 'getconf() { false; }; export -f getconf; ./market version | tail -n 1'
+is "a newer C library" 0 "live device 2: input" "" 'getconf() { echo glibc 3.1; }; export -f getconf; ./market device 2; put_back'
+is "by the prebuilt program" 0 "by the prebuilt program market, proved by the gate elsewhere on $today with kit-1
+$place/market
+1 passed, 0 failed" "" "$alone"' checks/run traces | sed "s|$top/||g"'
+is "but not in the gate" 1 "no program is proved from the sources of today: checks/run program proves it first" "" \
+    "$alone"' checks/run all >wrote 2>/dev/null; s=$?; sed -n "/^checks.run traces/{n;p}" wrote; (exit $s)'
+quick="program script install python pages schema pictures names places definitions edits"
+forget
+is "the quick checks without rt" 0 "$(for name in $quick; do echo "checks/run $name"; done)" "" "$alone"' checks/run quick >wrote; s=$?; grep "^checks/run" wrote; (exit $s)'
+is "quick of something" 2 "" "checks/run quick takes no arguments; checks/run NAME may" 'checks/run quick traces'
+
+# The gate's check of them.
+cp "$repository/checks/drive/prebuilt.sh" checks/drive/prebuilt.sh
+remedy="\`make prebuilt\` puts the program there that was proved here"
+is "no proof to compare with" 1 "no program market is proved from the sources of today: \`make prove\` or the gate proves it first
+no program live is proved from the sources of today: \`make prove\` or the gate proves it first
+0 passed, 2 failed" "" 'checks/run prebuilt'
+prove
+prove_live
+is "proved here goes first" 0 "a proved program is at hand, proved here on $today with kit-1" "" './market version | grep "a .* program is"'
+is "the prebuilt are the built" 0 "2 passed, 0 failed" "" 'checks/run prebuilt'
+# refused NAME WHY COMMAND: whether the check refuses what the command does to the prebuilt programs.
+refused() {
+    is "$1" 1 "the prebuilt $2: $remedy
+1 passed, 1 failed" "" "$3; checks/run prebuilt; s=\$?; put_back; (exit \$s)"
+}
+refused "one byte" "market is not the program of its stamp" 'sed -i "s/input/Input/" $place/market'
+refused "another sum" "live is not the program of its stamp" 'sed -i "s/^program: ./program: x/" $place/live.stamp'
+refused "other sources" "market was proved from other sources, by its stamp" 'sed -i "s/^sources: ./sources: x/" $place/market.stamp'
+refused "another program with its sum" "live has other bytes than the sources give" \
+    'echo "# more" >>$place/live; sed -i "s/^program:.*/program: $(sha256sum <$place/live | cut -d " " -f 1)/" $place/live.stamp'
+refused "another kit" "market is by kit-2, and kit.txt names kit-1" 'sed -i "s/^kit: kit-1/kit: kit-2/" $place/market.stamp'
+refused "another build of the kit" "live has a stamp of another kit, linker or C library than built it" 'sed -i "s/ of today/ of old/" $place/live.stamp'
+is "none" 1 "there is no prebuilt market with a stamp: $remedy
+there is no prebuilt live with a stamp: $remedy
+0 passed, 2 failed" "" 'rm -r prebuilt; checks/run prebuilt; s=$?; cp -r "$folder/prebuilt" prebuilt; (exit $s)'
+otherwise="the kit at hand is kit-1 of today, and built other bytes than kit-2 would: what the prebuilt"
+sed -i s/kit-1/kit-2/ kit.txt $place/*.stamp
+is "what they write, by another kit" 0 "$otherwise market writes is compared
+$otherwise live writes is compared
+2 passed, 0 failed" "" 'echo "# other bytes" >>crates/market/out/market; sed -i "s/^program:.*/program: $(sha256sum <crates/market/out/market | cut -d " " -f 1)/" crates/market/out/proved
+    checks/run prebuilt'
+is "what one writes is wrong" 1 "$otherwise market writes is compared
+0 passed, 1 failed
+the prebuilt market does not write what it should: $remedy
+$otherwise live writes is compared
+1 passed, 1 failed" "" 'echo "print(\"0 passed, 1 failed\")" >checks/drive/cases.py; checks/run prebuilt'
+sed -i s/kit-2/kit-1/ kit.txt
+rm -r prebuilt "$folder/prebuilt"
 
 # Help and versions, with nothing but the script.
 forget
@@ -556,11 +661,11 @@ is "a commit" 0 "market 1.2.3 ($commit)" "" "$with_git"' touch VERSION; ./market
 is "an edit of a commit" 0 "market 1.2.3 ($commit-modified)" "" "$with_git"' echo 1.2.3 >old; echo >>old; cp old VERSION; ./market version | head -n 1'
 is "without git" 0 "market 1.2.3" "" './market version | head -n 1'
 prove
-is "the version, proved" 0 "a proved program is at hand, proved on $(date +%Y-%m-%d) with kit-1
+is "the version, proved" 0 "a proved program is at hand, proved here on $(date +%Y-%m-%d) with kit-1
 no proved program live is at hand: $none_live" "" './market version | tail -n 2'
 prove_live
-is "the version, both proved" 0 "a proved program is at hand, proved on $(date +%Y-%m-%d) with kit-1
-a proved program live is at hand, proved on $(date +%Y-%m-%d) with kit-1" "" './market version | tail -n 2'
+is "the version, both proved" 0 "a proved program is at hand, proved here on $(date +%Y-%m-%d) with kit-1
+a proved program live is at hand, proved here on $(date +%Y-%m-%d) with kit-1" "" './market version | tail -n 2'
 echo more >>crates/low/src/lib.rt
 is "the version, changed" 0 "no proved program is at hand: $stale
 no proved program live is at hand: $stale_live" "" './market version | tail -n 2'

@@ -1,7 +1,8 @@
 """The proved program: where it is found, how it is run, and what its statuses and lines mean.
 
 A `Program` is only ever one that was proved: the installed command, whose installer takes no other, or the program of a
-checkout whose stamp says that it was proved from the sources of today. Whoever names another program by a path answers for it.
+checkout whose stamp says that it was proved from the sources of today, there or by the gate elsewhere. Whoever names another program
+by a path answers for it. `live_command` finds the program `live` of the nodes.
 """
 
 from __future__ import annotations
@@ -17,7 +18,9 @@ from typing import NoReturn
 
 from .errors import Invalid, MarketError, NoProgram, OutOfMemory, Place, ProgramFault, Refused, TooLong, What
 
-VARIABLE = "COGMAULA_MARKET"
+VARIABLE, LIVE_VARIABLE = "COGMAULA_MARKET", "COGMAULA_LIVE"
+# Where a checkout has its program, by the words with which its script says that the program is at hand.
+PLACES = {"a proved program": "crates/{0}/out/{0}", "a prebuilt program": "prebuilt/x86_64-linux/{0}"}
 REFUSED = re.compile(rb"refused (\d+) (document|basis|node|phase|event|line)((?: \d+)*?)(?: item (\d+))?\n")
 TOO_LONG = re.compile(rb"too long, more than (\d+) bytes\n")
 INVALID = re.compile(rb"invalid line (\d+)\n")
@@ -144,19 +147,26 @@ def _named(path: Path) -> Program:
     real = path.resolve()
     if _is_checkout(real.parent) and real.name == "market":
         return _of_checkout(real.parent)
-    if real.parts[-4:] == ("crates", "market", "out", "market") and _is_checkout(real.parents[3]):
-        return _of_checkout(real.parents[3])
+    for place in PLACES.values():
+        inner = Path(place.format("market"))
+        above = real.parents[len(inner.parts) - 1] if len(real.parts) > len(inner.parts) else None
+        if above is not None and real == above / inner and _is_checkout(above):
+            return _of_checkout(above)
     return _installed(real) or _made(real, f"named as {path}")
 
 
-def _of_checkout(folder: Path) -> Program:
+def _of_checkout(folder: Path, name: str = "market") -> Program:
     """The program of a checkout, which says itself whether it was proved from the sources of today."""
     told = subprocess.run([str(folder / "market"), "version"], capture_output=True, text=True, check=False).stdout
-    lines = told.splitlines()
-    if len(lines) < 2 or not lines[1].startswith("a proved program is at hand, "):
-        why = lines[1].removeprefix("no proved program is at hand: ") if len(lines) > 1 else "its script market does not answer"
-        raise NoProgram(f"{folder}: {why}")
-    return _made(folder / "crates" / "market" / "out" / "market", f"the checkout {folder}: {lines[1]}")
+    named = "" if name == "market" else f" {name}"
+    lines = told.splitlines()[1:]
+    for words, place in PLACES.items():
+        for line in lines:
+            if line.startswith(f"{words}{named} is at hand, "):
+                return _made(folder / place.format(name), f"the checkout {folder}: {line}")
+    start = f"no proved program{named} is at hand: "
+    why = next((it.removeprefix(start) for it in lines if it.startswith(start)), "its script market does not answer")
+    raise NoProgram(f"{folder}: {why}")
 
 
 def _installed(script: Path) -> Program | None:
@@ -194,6 +204,19 @@ def _beside_package() -> Program:
     if not _is_checkout(folder):
         raise NoProgram("the package lies in no checkout")
     return _of_checkout(folder)
+
+
+def live_command() -> str:
+    """The program `live`, looked for in this order: the environment variable COGMAULA_LIVE, `live` on the PATH, the checkout that this
+    package lies in. If there is none, it is the name `live`, which then cannot be started."""
+    named = os.environ.get(LIVE_VARIABLE)
+    if named or shutil.which("live"):
+        return named or "live"
+    folder = Path(__file__).resolve().parents[2]
+    try:
+        return _of_checkout(folder, "live").path if _is_checkout(folder) else "live"
+    except NoProgram:
+        return "live"
 
 
 @cache

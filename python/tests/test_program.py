@@ -2,10 +2,13 @@
 
 from __future__ import annotations
 
+import hashlib
 import os
 import pickle
+import re
 import shutil
 import stat
+import subprocess
 import sys
 from pathlib import Path
 
@@ -13,7 +16,7 @@ import pytest
 from conftest import CASES, EXAMPLES, TOP
 
 from cogmaula import Invalid, MarketError, NoProgram, OutOfMemory, Place, Program, ProgramFault, Refused, TooLong, Unreadable
-from cogmaula.program import VARIABLE, found_program
+from cogmaula.program import LIVE_VARIABLE, VARIABLE, found_program, live_command
 
 FILE = (EXAMPLES / "balance.json").read_bytes()
 REPORT = (EXAMPLES / "balance.txt").read_bytes()
@@ -39,9 +42,10 @@ def pretending(tmp_path, status, text=b"", said=""):
 
 def test_a_checkout(checkout):
     assert checkout.answer("run", FILE) == REPORT
-    assert "a proved program is at hand" in checkout.found
-    for path in (TOP, TOP / "market", TOP / "crates/market/out/market"):
-        assert Program.find(path) == checkout
+    assert re.search(r": a (proved|prebuilt) program is at hand, proved (here|by the gate elsewhere) on ", checkout.found)
+    for path in (TOP, TOP / "market", TOP / "crates/market/out/market", TOP / "prebuilt/x86_64-linux/market"):
+        if path.exists():
+            assert Program.find(path) == checkout
 
 
 def test_the_variable(checkout, monkeypatch):
@@ -54,16 +58,66 @@ def test_the_variable(checkout, monkeypatch):
     assert Program.find(TOP) == checkout
 
 
-def unproved_checkout(folder):
-    """A checkout with a program that its stamp does not vouch for."""
-    for part in ("script", "crates/market/src"):
+def sources(folder):
+    """A checkout without a program."""
+    for part in ("script", "crates/market/src", "crates/live/src"):
         shutil.copytree(TOP / part, folder / part)
     for name in ("market", "crates.txt", "VERSION"):
         shutil.copy(TOP / name, folder / name)
-    out = folder / "crates/market/out"
+    return folder
+
+
+def unproved_checkout(folder):
+    """A checkout with a program that its stamp does not vouch for."""
+    out = sources(folder) / "crates/market/out"
     out.mkdir()
     script(out / "market", "#!/bin/sh\necho ran\n")
     return folder
+
+
+def prebuilt_checkout(folder):
+    """A checkout whose two programs are prebuilt, by stamps that vouch for them."""
+    place = sources(folder) / "prebuilt/x86_64-linux"
+    place.mkdir(parents=True)
+    summed = 'top="$1" && . "$1/script/program.sh" && choose_program "$2" && sources_sum'
+    for name in ("market", "live"):
+        text = f"#!/bin/sh\necho {name} ran\n"
+        done = subprocess.run(["bash", "-c", summed, "-", str(folder), name], capture_output=True, text=True, check=True)
+        program = hashlib.sha256(script(place / name, text).read_bytes()).hexdigest()
+        (place / f"{name}.stamp").write_text(f"sources: {done.stdout.strip()}\nprogram: {program}\nkit: kit-1\nlibc: 2.2\ndate: 2026-12-01\n")
+    return folder
+
+
+def test_a_prebuilt_program_of_the_sources(tmp_path, monkeypatch):
+    folder = prebuilt_checkout(tmp_path / "checkout")
+    place = folder / "prebuilt/x86_64-linux"
+    found = Program.find(folder)
+    assert found.path == str(place / "market")
+    assert found.found.endswith(": a prebuilt program is at hand, proved by the gate elsewhere on 2026-12-01 with kit-1")
+    assert found.answer("run", FILE) == b"market ran\n"
+    assert Program.find(place / "market") == found
+    # The program of the nodes.
+    monkeypatch.setattr("cogmaula.program.__file__", str(folder / "python/cogmaula/program.py"))
+    monkeypatch.delenv(LIVE_VARIABLE, raising=False)
+    monkeypatch.setenv("PATH", "/usr/bin:/bin")
+    assert live_command() == str(place / "live")
+    monkeypatch.setenv(LIVE_VARIABLE, "/opt/live")
+    assert live_command() == "/opt/live"
+    monkeypatch.delenv(LIVE_VARIABLE)
+    # Neither is run once the sources are others.
+    with (folder / "crates/market/src/main.rt").open("a") as file:
+        file.write("// An edit.\n")
+    (folder / "crates/live/src/more.rt").touch()
+    with pytest.raises(NoProgram, match="no program is proved here"):
+        Program.find(place / "market")
+    assert live_command() == "live"
+
+
+def test_a_prebuilt_program_of_other_bytes(tmp_path):
+    folder = prebuilt_checkout(tmp_path / "checkout")
+    script(folder / "prebuilt/x86_64-linux/market", "#!/bin/sh\necho market Ran\n")
+    with pytest.raises(NoProgram, match="no program is proved here"):
+        Program.find(folder)
 
 
 def test_no_unproved_program_is_run(tmp_path):

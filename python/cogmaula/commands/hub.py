@@ -12,7 +12,7 @@ from .. import cli
 from ..hub.settings import HubSettings, hub_settings_of, read_hub_toml
 from ..hub.tokens import TokenFile, child_of
 from ..live.errors import BadSettings, NodeRefused
-from ..live.settings import LIVE_VARIABLE
+from ..program import LIVE_VARIABLE
 from ..live.topics import require_name
 
 CALLS_PROGRAM = False
@@ -28,7 +28,7 @@ _OPTIONS: list[tuple[str, type, str, str]] = [
     ("name", str, "NAME", "the auctioneer in topics; default hub"),
     ("state", str, "FOLDER", "what the nodes keep over a restart; of this hub alone"),
     ("agents", str, "FILE", "the file of tokens"),
-    ("live", str, "PROGRAM", f"the program live; else ${LIVE_VARIABLE}, or live on the PATH"),
+    ("live", str, "PROGRAM", f"the program live; else ${LIVE_VARIABLE}, live on the PATH, or that of the checkout"),
     ("certificate", str, "FILE", "the hub's certificate: all connections are by TLS"),
     ("key", str, "FILE", "its key"),
     ("gone", float, "SECONDS", "an agent that is disconnected for so long leaves the market; default 60"),

@@ -4,11 +4,10 @@ from __future__ import annotations
 
 import argparse
 import json
-import os
 import sys
 
 from .. import cli
-from ..live.settings import LIVE_VARIABLE
+from ..program import LIVE_VARIABLE, live_command
 
 HELP = "judges the recordings of the nodes of a market across machines"
 MORE = (
@@ -23,7 +22,7 @@ def add_arguments(parser: argparse.ArgumentParser) -> None:
     """Adds the arguments of judge."""
     parser.add_argument("folder", metavar="FOLDER", help="the folder of the recordings")
     parser.add_argument("--json", action="store_true", help="writes an object of JSON")
-    parser.add_argument("--live", metavar="PROGRAM", help=f"the program live; else ${LIVE_VARIABLE}, or live on the PATH")
+    parser.add_argument("--live", metavar="PROGRAM", help=f"the program live; else ${LIVE_VARIABLE}, live on the PATH, or that of the checkout")
     parser.add_argument("--trace", metavar="PREFIX", help="writes PREFIX.json and PREFIX.trace if the recordings are valid")
 
 
@@ -31,7 +30,7 @@ def main(arguments: argparse.Namespace) -> int:
     """Judges the folder."""
     from ..judge import judge, judge_and_trace
 
-    live = arguments.live or os.environ.get(LIVE_VARIABLE) or "live"
+    live = arguments.live or live_command()
     traced = None
     if arguments.trace is None:
         verdict = judge(arguments.folder, live)

@@ -10,7 +10,8 @@ from typing import Any
 from .. import cli
 from ..live.errors import BadSettings, NodeRefused
 from ..live.frames import SORTS
-from ..live.settings import LIVE_VARIABLE, PASSWORD_VARIABLE, read_toml, settings_of
+from ..live.settings import PASSWORD_VARIABLE, read_toml, settings_of
+from ..program import LIVE_VARIABLE
 
 CALLS_PROGRAM = False
 HELP = "runs a node of a market across machines, joined to an MQTT broker"
@@ -25,7 +26,7 @@ MORE = (
 _OPTIONS: list[tuple[str, str, type, str, str]] = [
     ("node", "name", str, "NAME", "the node's name in topics"),
     ("node", "state", str, "FOLDER", "where the node keeps its Resume over a restart; of this node alone"),
-    ("node", "live", str, "PROGRAM", f"the program live; else ${LIVE_VARIABLE}, or live on the PATH"),
+    ("node", "live", str, "PROGRAM", f"the program live; else ${LIVE_VARIABLE}, live on the PATH, or that of the checkout"),
     ("node", "parent", str, "NAME", "the name of the node above, of a relay and a device"),
     ("node", "child", int, "CHILD", "its own number there, 1 to 256"),
     ("node", "floor", int, "WATTS", "the least power that a relay announces, 0 or below"),

@@ -13,8 +13,9 @@ from typing import Any, cast
 from ..cluster import Basis
 from ..live.errors import BadSettings
 from ..live.page_settings import PageSettings
-from ..live.settings import LIVE_VARIABLE, Settings, read_toml, value_of
+from ..live.settings import Settings, read_toml, value_of
 from ..live.topics import Topics, require_name
+from ..program import live_command
 from .words import Cluster
 
 TABLES = ("hub", "basis", "page")
@@ -144,7 +145,8 @@ class HubSettings:
 def hub_settings_of(tables: Mapping[str, Mapping[str, Any]]) -> HubSettings:
     """The settings that the tables `hub`, `basis` and `page` tell. Raises BadSettings."""
     hub = dict(tables.get("hub", {}))
-    hub.setdefault("live", os.environ.get(LIVE_VARIABLE) or "live")
+    if "live" not in hub:
+        hub["live"] = live_command()
     for name in ("listen", "listen_tcp"):
         hub[name] = _texts(hub.get(name, []), f"hub.{name}")
     if {"basis", "page", "addresses", "addresses_tcp"} & hub.keys():

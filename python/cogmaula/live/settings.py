@@ -10,12 +10,13 @@ from pathlib import Path
 from typing import Any, cast
 
 from ..cluster import Basis
+from ..program import live_command
 from .errors import BadSettings
 from .frames import CHILDREN, MOST, Sort
 from .page_settings import PageSettings
 from .topics import Topics, require_name, require_prefix
 
-PASSWORD_VARIABLE, LIVE_VARIABLE = "COGMAULA_PASSWORD", "COGMAULA_LIVE"
+PASSWORD_VARIABLE = "COGMAULA_PASSWORD"
 # The least size of a file of a recording, in bytes.
 LEAST_SIZE = 1_024
 
@@ -211,7 +212,8 @@ def read_toml(path: str | os.PathLike[str], tables: Sequence[str] = _TABLES) -> 
 def settings_of(sort: Sort, tables: Mapping[str, Mapping[str, Any]]) -> Settings:
     """The settings that the tables `node`, `basis`, `broker` and `page` tell. Raises BadSettings."""
     node = dict(tables.get("node", {}))
-    node.setdefault("live", os.environ.get(LIVE_VARIABLE) or "live")
+    if "live" not in node:
+        node["live"] = live_command()
     basis = value_of(Basis, tables.get("basis", {}), "basis")
     broker = value_of(BrokerSettings, tables.get("broker", {}), "broker")
     page = value_of(PageSettings, tables["page"], "page") if "page" in tables else None

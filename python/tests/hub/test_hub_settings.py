@@ -35,8 +35,9 @@ def with_hub(**members):
 
 def test_what_a_hub_has_by_default(monkeypatch):
     monkeypatch.delenv("COGMAULA_LIVE", raising=False)
+    monkeypatch.setattr("cogmaula.hub.settings.live_command", lambda: "/opt/live")
     found = hub_settings_of(TABLES)
-    assert (found.name, found.gone, found.pause, found.period, found.live) == ("hub", 60.0, 1.0, None, "live")
+    assert (found.name, found.gone, found.pause, found.period, found.live) == ("hub", 60.0, 1.0, None, "/opt/live")
     assert (found.cluster.id, found.cluster.commodity, found.cluster.currency) == ("hub", "electricity", "EUR")
     assert (found.addresses, found.addresses_tcp) == ((Address("127.0.0.1", 8443),), ())
     auctioneer, house = found.of_auctioneer(), found.of_agent("house", 7)

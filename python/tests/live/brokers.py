@@ -14,6 +14,8 @@ from pathlib import Path
 
 import pytest
 
+from cogmaula.program import live_command
+
 TOP = Path(__file__).resolve().parents[3]
 MOSQUITTO = shutil.which("mosquitto") or shutil.which("mosquitto", path="/usr/sbin")
 SECONDS = 60
@@ -28,9 +30,9 @@ def require_broker():
 
 def live_program():
     """The path of the program `live`. Skips the test if there is none."""
-    path = os.environ.get("COGMAULA_LIVE") or str(TOP / "crates" / "live" / "out" / "live")
-    if not os.access(path, os.X_OK):
-        pytest.skip(f"the program live is not built: there is no {path}")
+    path = shutil.which(live_command())
+    if path is None:
+        pytest.skip("no program live of these sources is at hand: ./market prove live makes it")
     return path
 
 
