@@ -1,13 +1,14 @@
 #!/usr/bin/env python3
 """Proves and builds a program, with all processors: the crates that it stands on side by side, the longest chain first.
 
-    python3 script/prove.py [market|live] [--jobs N]
+    python3 script/prove.py [market|live] [--jobs N] [--anew]
 
 `rt run` proves one crate after the other, and `rt ci` also every test and every must-fail edit. This script asks the kit's
 own calls behind `rt ci` for the proofs alone that the program stands on. Each crate is proved from nothing, and the program is
 held to HANDLES.
-What is proved is kept in crates/NAME/out/prove, so a run that is stopped goes on with the crates that were open. What the
-kit says of a crate is in crates/NAME/out/prove/log. Progress goes to standard error. The status is 0 only if all is proved and
+What is proved is kept in crates/NAME/out/prove, so a run that is stopped goes on with the crates that were open, and by content for all
+clones on the machine (script/kept.py); `--anew` takes nothing of either. What the kit says of a crate is in
+crates/NAME/out/prove/log. Progress goes to standard error. The status is 0 only if all is proved and
 the program is built, as crates/NAME/out/NAME. A kit without these calls is asked for `rt run` instead.
 """
 
@@ -30,6 +31,9 @@ from pathlib import Path
 from types import ModuleType
 from typing import Any
 
+sys.dont_write_bytecode = True
+import kept  # noqa: E402
+
 TOP = Path(__file__).resolve().parent.parent
 
 # The programs that a user runs, first the one that is meant if none is named.
@@ -49,11 +53,15 @@ MOST_JOBS = 4
 SAFE = 0.85
 STILL_TAKEN = 0.25
 
-# What it costs to read the libraries below a crate, in lines of code.
-LEAST_WORK = 80
+# The processor seconds that proofs took on one machine, a crate each line. Of a crate that is not there, so many for its lines of code
+# and for the libraries below it.
+SECONDS = TOP / "script" / "seconds.txt"
+SECONDS_A_LINE = 0.2
+LEAST_SECONDS = 15
 
-# The priority (nice) of proofs that the longest chain does not wait for.
-STANDS_BACK = 10
+# The priorities (nice) of proofs: of those that the longest chain waits for, of those with the longest chains beside it, as many as
+# there are processors, and of the others.
+PRIORITIES = (0, 5, 10)
 
 # A crate is on the longest chain if this part of its length is above it.
 NEARLY = 0.9
@@ -137,74 +145,82 @@ class Progress:
 class Lanes:
     """Proofs that run side by side, each once those below it have ended, and first those with the longest chain above them.
 
-    A proof takes one processor well, and up to four in some of its stages. What the longest chain waits for gets four, beside
-    proofs of other crates, which stand back for it: so there are twice as many jobs as processors.
+    A proof takes one processor well, and up to four in some of its stages. So one more proof runs than there are processors, and
+    those with the longest chains above them, as many as there are processors, wait for no other. What the longest chain waits for
+    gets four jobs, and the others stand back for it: the more, the shorter their chains are.
     """
 
-    def __init__(self, crates: list[Any], lines: dict[str, int], processors: int, need: Callable[[Any], float]) -> None:
-        self.waiting = crates
-        self.open = {it.name for it in crates}
+    def __init__(self, crates: list[Any], seconds: dict[str, float], processors: int, need: Callable[[Any], float]) -> None:
+        self.waiting = list(crates)
+        self.open = {str(it.name) for it in crates}
         self.processors = processors
-        self.jobs = 2 * processors
         self.need = need
-        # By its name, the jobs and the memory of each proof that runs.
-        self.running: dict[str, tuple[int, float]] = {}
+        # By its name, the memory of each proof that runs.
+        self.running: dict[str, float] = {}
         self.ended: queue.Queue[tuple[Any, bool]] = queue.Queue()
-        # The work from a crate to the top of the longest chain above it: its lines, and as much for each crate as some lines cost.
-        work = {it.name: lines[it.name] + LEAST_WORK for it in crates}
-        self.above: dict[str, int] = dict(work)
+        # The seconds from the beginning of a crate to the end of the longest chain above it.
+        self.above: dict[str, float] = {name: seconds[name] for name in self.open}
         for crate in reversed(crates):
             for below in crate.below():
                 if below.name in self.open:
-                    self.above[below.name] = max(self.above[below.name], work[below.name] + self.above[crate.name])
+                    self.above[below.name] = max(self.above[below.name], seconds[below.name] + self.above[crate.name])
 
     def run(self, prove: Callable[[Any, int], bool]) -> list[Any]:
         """Runs all proofs, and returns those that failed; once one did, none begins."""
         failed: list[Any] = []
         while (self.waiting and not failed) or self.running:
             if not failed:
-                self.start(prove)
+                for crate, jobs, rank in self.choose():
+                    threading.Thread(target=self.work, args=(crate, jobs, rank, prove), daemon=True).start()
             crate, is_proved = self.ended.get()
-            del self.running[crate.name]
-            if is_proved:
-                self.open.remove(crate.name)
-            else:
+            self.end(crate, is_proved)
+            if not is_proved:
                 failed.append(crate)
         return failed
 
+    def end(self, crate: Any, is_proved: bool) -> None:
+        """Takes note that a proof ended."""
+        del self.running[crate.name]
+        if is_proved:
+            self.open.remove(crate.name)
+
     def room(self, is_first: bool) -> float:
         """The memory for one more proof, in bytes. Those that run may still take a part of what the kit plans for them."""
-        later = 0 if is_first else STILL_TAKEN * sum(memory for _, memory in self.running.values())
+        later = 0 if is_first else STILL_TAKEN * sum(self.running.values())
         return SAFE * free_memory() - later
 
-    def work_above(self, crate: Any) -> int:
-        """The work from a crate to the top of the longest chain above it."""
+    def seconds_above(self, crate: Any) -> float:
+        """The seconds from the beginning of a crate to the end of the longest chain above it."""
         return self.above[str(crate.name)]
 
-    def start(self, prove: Callable[[Any, int], bool]) -> None:
-        """Starts the proofs that can begin, as many as there are processors and memory."""
+    def choose(self) -> list[tuple[Any, int, int]]:
+        """The proofs that start now: of each the crate, its jobs, and its rank among the priorities."""
         ready = [it for it in self.waiting if not any(below.name in self.open for below in it.below())]
-        ready.sort(key=self.work_above, reverse=True)
+        ready.sort(key=self.seconds_above, reverse=True)
         longest = max(self.above[name] for name in self.open)
+        chosen = []
         for place, crate in enumerate(ready):
-            idle = self.jobs - sum(jobs for jobs, _ in self.running.values())
             is_first = self.above[crate.name] > NEARLY * longest
-            if idle <= 0 and not is_first and self.running:
+            before = sum(self.above[name] >= self.above[crate.name] for name in self.running)
+            if len(self.running) > self.processors and not is_first and before >= self.processors:
                 continue
-            jobs = max(min(MOST_JOBS, self.processors) if is_first else 1, min(MOST_JOBS, idle // (len(ready) - place)))
             need = self.need(crate)
             if self.running and need > self.room(is_first):
                 continue
+            # There are twice as many jobs as processors, since a proof seldom takes all of its jobs.
+            share = 2 * self.processors // (len(self.running) + len(ready) - place)
+            jobs = min(MOST_JOBS, self.processors, max(1, share) if not is_first else self.processors)
             self.waiting.remove(crate)
-            self.running[crate.name] = (jobs, need)
-            threading.Thread(target=self.work, args=(crate, jobs, is_first, prove), daemon=True).start()
+            self.running[str(crate.name)] = need
+            chosen.append((crate, jobs, 0 if is_first else 1 if before < self.processors else 2))
+        return chosen
 
-    def work(self, crate: Any, jobs: int, is_first: bool, prove: Callable[[Any, int], bool]) -> None:
+    def work(self, crate: Any, jobs: int, rank: int, prove: Callable[[Any, int], bool]) -> None:
         """Does one proof, on a thread of its own, whose priority is that of the processes that it starts."""
         is_proved = False
         try:
-            if not is_first:
-                os.setpriority(os.PRIO_PROCESS, threading.get_native_id(), STANDS_BACK)
+            if rank:
+                os.setpriority(os.PRIO_PROCESS, threading.get_native_id(), PRIORITIES[rank])
             is_proved = prove(crate, jobs)
         finally:
             self.ended.put((crate, is_proved))
@@ -213,8 +229,9 @@ class Lanes:
 class Proofs:
     """The proofs of a program and of the crates below it, by the calls of the kit."""
 
-    def __init__(self, kit: Any, name: str) -> None:
+    def __init__(self, kit: Any, name: str, is_anew: bool) -> None:
         self.kit = kit
+        self.is_anew = is_anew
         # As `rt ci` sets the kit up: a library is built of its statements, and the program held to HANDLES.
         kit.rtlib.Crate = kit.Crate
         kit.Crate.cuts_libraries = True
@@ -222,8 +239,9 @@ class Proofs:
         self.program = kit.Crate(str(TOP / "crates" / name), str(TOP), {})
         self.crates = [*self.program.below(), self.program]
         for crate in self.crates:
-            crate.rlib = f"{crate.folder}/out/prove/{crate.name}.rlib"
+            crate.rlib = f"{crate.folder}/out/prove/out/rlib/{crate.name}.rlib"
         self.sums = {it.name: sum_of(it) for it in self.crates}
+        self.stores = kept.Stores(kit, self.crates) if kept.has_store(kit) else None
 
     def built_program(self) -> Path:
         """Where the built program is."""
@@ -248,16 +266,43 @@ class Proofs:
         return made.exists() and stamp.is_file() and stamp.read_text() == self.due_in_stamp(crate)
 
     def prove(self, crate: Any, jobs: int) -> bool:
-        """Proves a crate from nothing, and builds it."""
-        folder = self.stamp_of(crate).parent
-        shutil.rmtree(folder, ignore_errors=True)
-        folder.mkdir(parents=True)
-        crate = copy.copy(crate)
-        with (folder / "log").open("w+", encoding="utf-8") as crate.out:
-            status = self.build(crate, jobs)
-        if status == 0 and sum_of(crate) == self.sums[crate.name]:
-            (folder / "stamp").write_text(self.due_in_stamp(crate))
-        return status == 0
+        """Proves a crate from nothing and builds it, unless this machine keeps what an earlier proof of the same built."""
+        stamp = self.stamp_of(crate)
+        stamp.unlink(missing_ok=True)
+        kept.clear(crate)
+        is_kept = self.take(crate)
+        if not is_kept:
+            crate = copy.copy(crate)
+            with stamp.with_name("log").open("w+", encoding="utf-8") as crate.out:
+                if self.build(crate, jobs) != 0:
+                    return False
+        if sum_of(crate) == self.sums[crate.name]:
+            stamp.write_text(self.due_in_stamp(crate))
+            self.keep(crate, is_kept)
+        return True
+
+    def take(self, crate: Any) -> bool:
+        """Takes what this machine keeps of an earlier proof of the crate, and returns whether there is something."""
+        if self.stores is None or self.is_anew or not self.stores.take(crate):
+            return False
+        if crate.name == self.program.name:
+            copy_program(self.kept_program(), self.built_program())
+        self.stamp_of(crate).with_name("log").write_text("an earlier proof of the same files over the same libraries is kept on this machine\n")
+        return True
+
+    def keep(self, crate: Any, is_kept: bool) -> None:
+        """Keeps what was proved just now for all clones, and takes note of it for the crates above."""
+        if self.stores is None:
+            return
+        if crate.name == self.program.name and not is_kept:
+            copy_program(self.built_program(), self.kept_program())
+        self.stores.note(crate)
+        if not is_kept:
+            self.stores.keep(crate)
+
+    def kept_program(self) -> Path:
+        """Where the stores put the built program, and take it from."""
+        return Path(self.program.folder) / "out" / "prove" / "out" / str(self.program.name)
 
     def build(self, crate: Any, jobs: int) -> int:
         """Asks the kit for the proof and the build, and returns the status."""
@@ -272,14 +317,21 @@ class Proofs:
     def run(self, processors: int) -> bool:
         """Proves what is not kept, side by side, and returns whether all is proved."""
         lines = {it.name: lines_of(it) for it in self.crates}
-        kept = {it.name for it in self.crates if self.is_kept(it)}
-        progress = Progress(lines, kept)
+        held = {it.name for it in self.crates if not self.is_anew and self.is_kept(it)}
+        for crate in self.crates:
+            if crate.name in held and self.stores is not None:
+                self.stores.note(crate)
+        progress = Progress(lines, held)
         threading.Thread(target=progress.tell_at_times, daemon=True).start()
         progress.tell()
-        lanes = Lanes([it for it in self.crates if it.name not in kept], lines, processors, self.kit.need)
+        measured = measured_seconds()
+        seconds = {name: measured.get(name, LEAST_SECONDS + SECONDS_A_LINE * count) for name, count in lines.items()}
+        lanes = Lanes([it for it in self.crates if it.name not in held], seconds, processors, self.kit.need)
         failed = lanes.run(lambda crate, jobs: progress.run(crate.name, lambda: self.prove(crate, jobs)))
         for crate in failed:
             self.tell_of(crate)
+        if self.stores is not None:
+            self.stores.shrink()
         return not failed
 
     def tell_of(self, crate: Any) -> None:
@@ -304,6 +356,19 @@ def files_of(crate: Any) -> list[Path]:
 def lines_of(crate: Any) -> int:
     """How many lines of code a crate has. Its proof costs about so much, whatever lines of proof it has."""
     return sum(it.read_bytes().count(b"\n") for it in files_of(crate) if it.suffix == ".rt")
+
+
+def copy_program(one: Path, other: Path) -> None:
+    """Copies a built program, whole or not at all."""
+    new = other.with_name(f"{other.name}.new")
+    shutil.copy(one, new)
+    new.replace(other)
+
+
+def measured_seconds() -> dict[str, float]:
+    """The processor seconds of each proof that was measured, by the crate's name."""
+    rows = (it.split() for it in SECONDS.read_text().splitlines() if it and not it.startswith("#"))
+    return {name: float(seconds) for name, seconds in rows}
 
 
 def sum_of(crate: Any) -> str:
@@ -333,6 +398,8 @@ def main() -> int:
     processors = sorted(os.sched_getaffinity(0))
     # How many processors to use; all, if not said.
     parser.add_argument("--jobs", type=int, default=len(processors))
+    # Whether to prove all again, whatever is kept.
+    parser.add_argument("--anew", action="store_true")
     given = parser.parse_args()
     if given.jobs < 1:
         parser.error("--jobs takes a number from 1 on")
@@ -345,7 +412,7 @@ def main() -> int:
     kit.rtlib.guarded()
     for it in (signal.SIGTERM, signal.SIGHUP, signal.SIGINT):
         signal.signal(it, lambda number, _: os._exit(128 + number))
-    return 0 if Proofs(kit, given.program).run(given.jobs) else 1
+    return 0 if Proofs(kit, given.program, given.anew).run(given.jobs) else 1
 
 
 if __name__ == "__main__":
