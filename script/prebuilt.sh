@@ -26,8 +26,10 @@ read_stamp() {
 # that an edit could leave its time of change as it is, each state is another.
 prebuilt_state() (
     set -o pipefail
-    list_folders && cd "$top/crates" || exit 1
-    local now="${EPOCHREALTIME/[.,]/}" recent
+    list_folders
+    cd "$top/crates" || exit 1
+    local now recent
+    now="${EPOCHREALTIME/[.,]/}"
     recent="$((now - 50000))"
     find -L ../crates.txt "$prebuilt" "$prebuilt_stamp" "${folders[@]}" ! -type d -printf '%p %i %s %C@\n' \
         -newerct "@${recent:0:-6}.${recent: -6}" -printf "$now\n" 2>/dev/null | sha256sum
@@ -54,9 +56,10 @@ is_of_this_system() {
     misfit=system
     found="$(uname -sm 2>/dev/null)"
     [ "$found" = "Linux x86_64" ] || return 1
+    [ -n "${stamped[libc]-}" ] || return 0
     misfit=libc
     found="$(getconf GNU_LIBC_VERSION 2>/dev/null)" || found=""
-    IFS=. read -ra least <<<"${stamped[libc]:-0.0}"
+    IFS=. read -ra least <<<"${stamped[libc]}"
     IFS=. read -ra here <<<"${found#glibc }"
     [[ "${found#glibc }" =~ ^[0-9]+[.][0-9]+ ]] || return 1
     [ "$((here[0] * 1000 + here[1]))" -ge "$((least[0] * 1000 + least[1]))" ]

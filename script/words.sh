@@ -43,7 +43,7 @@ usage: $called COMMAND < INPUT > OUTPUT
   version  prints the version, and where the programs come from
 END_OF_HELP
     [ "$installed" = yes ] || cat <<END_OF_HELP
-  prove [live] [--jobs N]
+  prove [live] [--jobs N] [--anew]
            proves and builds the program market, or live, on N processors
   --proved COMMAND
            runs the command only if the program was proved on this machine

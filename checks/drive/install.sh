@@ -107,6 +107,8 @@ share/man/man1/cogmaula.1
 share/man/man1/market.1
 share/market/cluster.schema.json
 share/market/installed
+share/market/live.stamp
+share/market/market.stamp
 share/market/run.sh
 share/market/units/market-bridge.service
 share/market/units/market-hub.service
@@ -135,6 +137,28 @@ rights_are_due() {
     wrong="$(find "$1" '(' -perm /022 -o ! -perm -444 ')' -print -o -type d ! -perm -555 -print -o \
         '(' -path '*/bin/*' -o -path '*/libexec/*' ')' ! -perm -555 -print)"
     [ -z "$wrong" ] || { echo "$wrong"; return 1; }
+}
+
+# Where the program of an installed stamp was proved, by where it is found.
+declare -A where=([here]="where it was installed from" [elsewhere]="by the gate elsewhere")
+
+# Whether the stamps installed below a PREFIX are of the programs and the sources, and say where these were proved.
+stamps_are_due() {
+    local name file
+    for name in market live; do
+        file="$1/share/market/$name.stamp"
+        choose_program "$name"
+        cat "$file"
+        grep -qx "program: $(sha256sum <"${programs[$name]}" | cut -d ' ' -f 1)" "$file" || return 1
+        grep -qx "sources: $(sources_sum)" "$file" || return 1
+        grep -qE "^proved: ${where[${proofs[$name]}]}" "$file" || return 1
+        ! grep -q '^state:' "$file" || return 1
+    done
+}
+
+# Whether the stamp of a program that was stripped has its sum.
+stripped_is_stamped() {
+    grep -qx "stripped: $(sha256sum <"$1/libexec/market/$2" | cut -d ' ' -f 1)" "$1/share/market/$2.stamp"
 }
 
 # The village by the command that FILE is, as it was installed.
@@ -293,13 +317,18 @@ if ! has make; then
 fi
 # shellcheck source=script/program.sh
 . script/program.sh
+# shellcheck source=script/prebuilt.sh
+. script/prebuilt.sh
+declare -A programs proofs
 for name in live market; do
     choose_program "$name"
-    if ! is_current; then
+    if ! find_proved; then
         echo "there is no proved program $name of these sources: run \`make prove\` first"
         failed=$((failed + 1))
         end
     fi
+    programs[$name]="$program"
+    proofs[$name]="$proved_at"
 done
 
 # What is installed, where and with which rights, whatever rights a new file has by itself.
@@ -307,8 +336,9 @@ at="$work/usr"
 market="$at/bin/market"
 passes "install" make_it -s install PREFIX="$at"
 passes "installed files" same_files "$at"
-passes "the program is the proved one" cmp crates/market/out/market "$at/libexec/market/market"
-passes "that of the nodes is the proved one" cmp crates/live/out/live "$at/libexec/market/live"
+passes "the program is the proved one" cmp "${programs[market]}" "$at/libexec/market/market"
+passes "that of the nodes is the proved one" cmp "${programs[live]}" "$at/libexec/market/live"
+passes "the stamps are theirs" stamps_are_due "$at"
 passes "installcheck" make_it -s installcheck PREFIX="$at"
 passes "nothing of the sources" names_no_sources "$at"
 passes "nothing that is not installed" names_only_installed "$at"
@@ -326,7 +356,7 @@ is "run, all that is told" 0 "phase 1 *" "" run <examples/village.json
 passes "device" runs_device "$market"
 is "a device of no number" 2 "usage: live *" "" device
 is "a node's fault of reading" 3 "" "market: standard input could not be read*" auctioneer </
-is "demo" 0 "$(crates/market/out/market demo 7 1)" "" demo 7 1
+is "demo" 0 "$("${programs[market]}" demo 7 1)" "" demo 7 1
 is "help" 0 "*market*run*help refusals*" "" help
 is "--help" 0 "$("$market" help)" "" --help
 is "-h" 0 "$("$market" help)" "" -h
@@ -334,7 +364,9 @@ is "alone" 2 "$("$market" help)" ""
 is "help of a code" 0 "*17*demand*" "" help 17
 fails "help names nothing of the sources" "" grep -nE '\./market|README|docs/|prove' <("$market" help; "$market" help refusals; "$market" help 17)
 is "help of all refusals" 0 "*1 *25 *" "" help refusals
-is "version" 0 "market $version ($(bash packaging/commit.sh))" "" version
+is "version" 0 "market $version ($(bash packaging/commit.sh))
+market was proved ${where[${proofs[market]}]} on 20??-??-?? with *
+live was proved ${where[${proofs[live]}]} on 20??-??-?? with *" "" version
 is "--version" 0 "market $version (*" "" --version
 is "a refused file" 5 "refused 5 document" "" run <checks/cases/refusals/05_version.json
 is "help of no code" 2 "" "market: there is no help on 99*" help 99
@@ -389,15 +421,33 @@ is "a device, status 7" 7 "<device><7>input" "market: memory did not suffice*" d
 fails "installcheck of another program of the nodes" "is no auctioneer" make_it -s installcheck DESTDIR="$work/copy" PREFIX="$at"
 
 # The same sources with programs of which nothing says that they were proved, and then with one for which a stamp vouches.
-mkdir -p "$work/unproved"/crates/{market,live}/out
+mkdir -p "$work/unproved"/crates/{market,live}/{out,src}
+touch "$work/unproved"/crates/{market,live}/src/main.rt
 cp -R Makefile VERSION CHANGELOG.md crates.txt packaging script "$work/unproved"
-cp crates/market/out/market "$work/unproved/crates/market/out"
-cp crates/live/out/live "$work/unproved/crates/live/out"
+cp "${programs[market]}" "$work/unproved/crates/market/out/market"
+cp "${programs[live]}" "$work/unproved/crates/live/out/live"
 fails "install without a proved program" "no proved program market" make_it -s -C "$work/unproved" install PREFIX="$work/none"
 fails "deb without a proved program" "no proved program market" make_it -s -C "$work/unproved" deb
 (top="$work/unproved" && . script/program.sh && look_at_sources && write_stamp "$sum")
 fails "install without a proved program of the nodes" "no proved program live" make_it -s -C "$work/unproved" install PREFIX="$work/none"
 passes "nothing was installed" [ ! -e "$work/none" ]
+
+# The same with prebuilt programs: of these sources, and then of others.
+elsewhere="$work/unproved/prebuilt/x86_64-linux"
+mkdir -p "$elsewhere"
+for it in market live; do
+    mv "$work/unproved/crates/$it/out/$it" "$elsewhere/$it"
+    (top="$work/unproved" && . script/program.sh && choose_program "$it" && printf 'sources: %s\nprogram: %s\n' "$(sources_sum)" \
+        "$(sha256sum <"$elsewhere/$it" | cut -d ' ' -f 1)") >"$elsewhere/$it.stamp"
+done
+hands_on() {
+    (top="$work/unproved" && . script/program.sh && . script/prebuilt.sh && choose_program "$1" && find_proved && stamp_to_hand_on)
+}
+passes "a prebuilt program is taken" diff <(hands_on market) <(cat "$elsewhere/market.stamp"; echo "proved: by the gate elsewhere, and prebuilt")
+passes "and that of the nodes" diff <(hands_on live) <(cat "$elsewhere/live.stamp"; echo "proved: by the gate elsewhere, and prebuilt")
+sed -i 's/^market: /&pm_gen /' "$work/unproved/crates.txt"
+fails "install with prebuilt programs of other sources" "no proved program market" make_it -s -C "$work/unproved" install PREFIX="$work/none"
+passes "nothing of those was installed" [ ! -e "$work/none" ]
 
 # Completions and the manual page.
 passes "completion by bash" bash_completes "$at/share/bash-completion/completions/market"
@@ -459,6 +509,8 @@ if has dpkg-deb && has dpkg-shlibdeps; then
     dpkg-deb -x "$package" "$work/unpacked"
     passes "run from the unpacked package" runs_village "$work/unpacked/usr/bin/market"
     ! has_python || passes "cogmaula from the unpacked package" cogmaula_runs_village "$work/unpacked/usr"
+    passes "the stamp of a stripped program" stripped_is_stamped "$work/unpacked/usr" market
+    passes "and that of the nodes" stripped_is_stamped "$work/unpacked/usr" live
     passes "help from the unpacked package" "$work/unpacked/usr/bin/market" help
     passes "the package names nothing of the sources" names_no_sources "$work/unpacked"
     if has lintian; then
