@@ -86,6 +86,14 @@ class Stores:
         self.own.shrink()
 
 
+def stores_of(kit: Any, crates: list[Any]) -> Stores | None:
+    """The stores for these crates, or None if the kit has no such store or no folder can be made."""
+    try:
+        return Stores(kit, crates) if has_store(kit) else None
+    except OSError:
+        return None
+
+
 def clear(crate: Any) -> None:
     """Removes what an earlier run built below out/prove."""
     for it in ("out", f"{crate.name}.rlib"):

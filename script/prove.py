@@ -241,7 +241,7 @@ class Proofs:
         for crate in self.crates:
             crate.rlib = f"{crate.folder}/out/prove/out/rlib/{crate.name}.rlib"
         self.sums = {it.name: sum_of(it) for it in self.crates}
-        self.stores = kept.Stores(kit, self.crates) if kept.has_store(kit) else None
+        self.stores = kept.stores_of(kit, self.crates)
 
     def built_program(self) -> Path:
         """Where the built program is."""
