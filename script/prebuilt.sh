@@ -23,10 +23,9 @@ read_stamp() {
 } 2>/dev/null
 
 # Prints the state of the sources, of the prebuilt program and of its stamp, as `sources_state` does. While one of them is so young
-# that an edit could leave its time of change as it is, each state is another.
+# that an edit could leave its time of change as it is, each state is another. The caller has just listed the folders.
 prebuilt_state() (
     set -o pipefail
-    list_folders
     cd "$top/crates" || exit 1
     local now recent
     now="${EPOCHREALTIME/[.,]/}"
@@ -39,10 +38,11 @@ prebuilt_state() (
 # kept beside the crate with the state, so that the next look reads no content.
 has_its_sums() {
     local state kept="" seen="$top/crates/$program_name/out/prebuilt"
+    list_folders
     state="$(prebuilt_state)" && { read -r kept <"$seen"; } 2>/dev/null
     [ -z "$state" ] || [ "$kept" != "$state" ] || return 0
     misfit=sources
-    sources_now="${sources_now:-$(sources_sum)}"
+    sources_now="${sources_now:-$(folders_sum)}"
     [ "$sources_now" = "${stamped[sources]}" ] || return 1
     misfit=bytes
     [ "$(sha256sum <"$prebuilt" | cut -d ' ' -f 1)" = "${stamped[program]}" ] || return 1

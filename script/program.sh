@@ -56,10 +56,16 @@ list_folders() {
 }
 
 # Prints a sum of the names and contents of the sources: the files of these folders, and the crates' lines of crates.txt.
-# Its status is not 0 if one of them cannot be read. Four processes read the files; each writes whole lines, which are then sorted.
-sources_sum() (
+# Its status is not 0 if one of them cannot be read.
+sources_sum() {
+    list_folders
+    folders_sum
+}
+
+# Prints the same of the folders that were listed last. Four processes read the files; each writes whole lines, which are then sorted.
+folders_sum() (
     set -o pipefail
-    list_folders && cd "$top/crates" || exit 1
+    cd "$top/crates" || exit 1
     {
         printf '%s\n' "${rows[@]}" | LC_ALL=C sort &&
             find -L "${folders[@]}" ! -type d -print0 | xargs -0 -P 4 -n 300 sha256sum -- | LC_ALL=C sort -k 2
