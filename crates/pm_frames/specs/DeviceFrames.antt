@@ -11,7 +11,7 @@ use Rattle.pm_wire.specs.Framing.{Framing}
 use Rattle.pm_frames.specs.Kinds.{price_kind, old_kind, resume_kind, offer_kind, leave_kind, resume_gone_kind}
 use Rattle.pm_frames.specs.Places.{bid_place, steps_at, IsOpen, IsFresh, stage_behind, with_stage, IsNodePlace}
 use Rattle.pm_frames.specs.ParentFrames.{parent_bytes, IsParentFormed, IsParentAccepted}
-use Rattle.pm_frames.specs.Stored.{agent_resume_bytes, IsAgentStored, IsNewestAccepted}
+use Rattle.pm_frames.specs.Stored.{agent_resume_bytes, IsAgentStored, IsAgentStoredAccepted}
 use Rattle.pm_frames.specs.declared.place.NodePlace.{NodePlace}
 use Rattle.pm_frames.specs.declared.place.Stage.{Stage}
 use Rattle.pm_frames.specs.declared.place.Stage.TheVariants.{Start, Opened, Running}
@@ -33,14 +33,16 @@ abbrev pub device_size_open : ℕ → ℕ → Option ℕ
 device_size_open steps kind =
     if kind == offer_kind
     then Some (1 + 4 * steps)
-    else (if kind == leave_kind then Some 1 else (if kind == price_kind then Some 13 else (if kind == old_kind then Some 7 else None)))
+    else (if kind == leave_kind then Some 1 else (if kind == price_kind then Some 23 else (if kind == old_kind then Some 7 else None)))
 
 -- Hello stands first and only there, and what the agent comes back with directly after it
 abbrev pub device_size : Stage → ℕ → Option ℕ
 device_size Start kind = if kind == hello_kind then Some 11 else None
-device_size (Opened steps) kind =
-    if kind == resume_kind then Some (9 + 4 * steps) else (if kind == resume_gone_kind then Some 9 else device_size_open steps kind)
-device_size (Running steps) kind = device_size_open steps kind
+device_size (Opened basis) kind =
+    if kind == resume_kind
+    then Some (19 + 4 * basis.steps)
+    else (if kind == resume_gone_kind then Some 19 else device_size_open basis.steps kind)
+device_size (Running basis) kind = device_size_open basis.steps kind
 
 -- a frame of a kind that may stand at this place, each of whose fields has its bytes
 abbrev pub IsDeviceFormed : NodePlace → DeviceFrame → Type 0
@@ -56,11 +58,11 @@ abbrev pub IsDeviceAccepted : NodePlace → DeviceFrame → Type 0
 IsDeviceAccepted place (Hello basis) = IsAccepted (bids.TheVariants.Hello basis)
 IsDeviceAccepted place (Offer demand) = checked_bid (length demand) demand ≡ Ok demand
 IsDeviceAccepted place Leave = ⊤
-IsDeviceAccepted place (Parent frame) = IsParentAccepted place.child (steps_at place.stage) frame
-IsDeviceAccepted place (Resume stored) = IsNewestAccepted stored.number stored.newest
+IsDeviceAccepted place (Parent frame) = IsParentAccepted place.child frame
+IsDeviceAccepted place (Resume stored) = IsAgentStoredAccepted place.stage stored
 
 abbrev pub device_place_after : NodePlace → DeviceFrame → NodePlace
-device_place_after place (Hello basis) = with_stage place (Opened basis.steps)
+device_place_after place (Hello basis) = with_stage place (Opened basis)
 device_place_after place (Offer demand) = with_stage place (stage_behind place.stage)
 device_place_after place Leave = with_stage place (stage_behind place.stage)
 device_place_after place (Parent frame) = with_stage place (stage_behind place.stage)
@@ -68,7 +70,7 @@ device_place_after place (Resume stored) = with_stage place (stage_behind place.
 
 -- the most bytes of a frame: a Resume over the most steps
 abbrev pub device_frame_limit : ℕ
-device_frame_limit = 9 + 4 * most_steps
+device_frame_limit = 19 + 4 * most_steps
 
 -- the frames of the stream to a device's agent
 abbrev pub device_framing : Framing NodePlace DeviceFrame

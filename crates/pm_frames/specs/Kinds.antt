@@ -1,9 +1,6 @@
 -- The kinds of the frames of a market across machines, beside those of a stream of bids (1 to 8).
 use Rattle.std.specs.Prelude.{ℕ}
 
-abbrev pub price_kind : ℕ
-price_kind = 5
-
 abbrev pub old_kind : ℕ
 old_kind = 7
 
@@ -16,9 +13,6 @@ window_full_kind = 10
 abbrev pub dropped_kind : ℕ
 dropped_kind = 11
 
-abbrev pub resume_kind : ℕ
-resume_kind = 12
-
 abbrev pub offer_kind : ℕ
 offer_kind = 13
 
@@ -27,9 +21,6 @@ leave_kind = 14
 
 abbrev pub setpoint_kind : ℕ
 setpoint_kind = 15
-
-abbrev pub resume_gone_kind : ℕ
-resume_gone_kind = 16
 
 abbrev pub not_caught_up_kind : ℕ
 not_caught_up_kind = 17
@@ -42,3 +33,24 @@ expire_kind = 19
 
 abbrev pub limits_kind : ℕ
 limits_kind = 20
+
+abbrev pub bound_kind : ℕ
+bound_kind = 21
+
+abbrev pub too_much_kind : ℕ
+too_much_kind = 22
+
+abbrev pub price_kind : ℕ
+price_kind = 23
+
+abbrev pub other_basis_kind : ℕ
+other_basis_kind = 24
+
+abbrev pub resume_kind : ℕ
+resume_kind = 25
+
+abbrev pub resume_gone_kind : ℕ
+resume_gone_kind = 26
+
+abbrev pub out_of_limits_kind : ℕ
+out_of_limits_kind = 27

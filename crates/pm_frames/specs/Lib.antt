@@ -9,3 +9,5 @@ pub mod Offers
 pub mod Answers
 pub mod Expiries
 pub mod LimitsFrames
+pub mod NamedBases
+pub mod Terms

@@ -5,11 +5,12 @@ ghost use Rattle.pm_base.specs.Limits.{AreSteps};
 ghost use Rattle.pm_wire.specs.Frames.{hello_kind};
 ghost use Rattle.pm_wire.specs.Spelling.{IsOne};
 ghost use Rattle.pm_frames.specs.Kinds.{offer_kind, resume_kind, resume_gone_kind};
-ghost use Rattle.pm_frames.specs.Places.{bid_place, steps_at, IsOpen, IsFresh, IsStage};
+ghost use Rattle.pm_frames.specs.Places.{steps_at, IsOpen, IsFresh, IsStage};
 ghost use Rattle.pm_frames.specs.ParentFrames.{parent_size};
 ghost use Rattle.pm_frames.specs.Offers.{IsOffer};
 ghost use Rattle.pm_frames.specs.DeviceFrames.{device_size, device_size_open, device_framing};
 
+use crate::basis::read_basis;
 use crate::kinds::{HELLO, LEAVE, OFFER, OLD, PRICE, RESUME, RESUME_GONE};
 use crate::parent::{ParentFrame, read_accepted};
 use crate::place::{NodePlace, Stage};
@@ -43,7 +44,7 @@ fn size_open(steps: usize, kind: u8) -> Option<usize>
     match kind {
         OFFER => Some(1 + 4 * steps),
         LEAVE => Some(1),
-        PRICE => Some(13),
+        PRICE => Some(23),
         OLD => Some(7),
         _ => None,
     }
@@ -57,9 +58,9 @@ fn size_at(stage: Stage, kind: u8) -> Option<usize>
     match stage {
         Stage::Start if kind == HELLO => Some(11),
         Stage::Start => None,
-        Stage::Opened { steps } if kind == RESUME => Some(9 + 4 * steps),
-        Stage::Opened { .. } if kind == RESUME_GONE => Some(9),
-        Stage::Opened { steps } | Stage::Running { steps } => size_open(steps, kind),
+        Stage::Opened { basis } if kind == RESUME => Some(19 + 4 * basis.steps()),
+        Stage::Opened { .. } if kind == RESUME_GONE => Some(19),
+        Stage::Opened { basis } | Stage::Running { basis } => size_open(basis.steps(), kind),
     }
 }
 
@@ -120,20 +121,22 @@ fn read_resume(
 ) -> Result<Option<DeviceFrame>, AllocError>
     requires stage { IsStage place.stage }
     requires fresh { IsFresh place.stage }
-    requires size { length body.now ≡ 8 + 4 * steps_at place.stage }
+    requires size { length body.now ≡ 18 + 4 * steps_at place.stage }
     ensures { IfOk result (IsOne device_framing place (resume_kind ∷ body.now)) }
 {
     let (number, rest) = read_u32(body);
     let (index, rest) = read_u32(rest);
+    let (basis, rest) = read_basis(rest);
     let Some(demand) = read_offered(alloc, place.stage.steps(), rest)? else {
         return Ok(None);
     };
-    if number == 0 {
+    if number == 0 || number % 2 == 1 || !basis.is_at(place.stage) {
         return Ok(None);
     }
     Ok(Some(DeviceFrame::Resume(StoredAgent {
         number,
         index,
+        basis,
         newest: Some(demand),
     })))
 }
@@ -141,14 +144,19 @@ fn read_resume(
 /// Reads the fields of ResumeGone.
 fn read_resume_gone(place: NodePlace, body: &[u8]) -> Option<DeviceFrame>
     requires fresh { IsFresh place.stage }
-    requires size { length body.now ≡ 8 }
+    requires size { length body.now ≡ 18 }
     ensures { IsOne device_framing place (resume_gone_kind ∷ body.now) result }
 {
     let (number, rest) = read_u32(body);
-    let (index, _rest) = read_u32(rest);
+    let (index, rest) = read_u32(rest);
+    let (basis, _rest) = read_basis(rest);
+    if number % 2 == 1 || !basis.is_at(place.stage) {
+        return None;
+    }
     Some(DeviceFrame::Resume(StoredAgent {
         number,
         index,
+        basis,
         newest: None,
     }))
 }
@@ -159,7 +167,7 @@ fn read_from_parent(place: NodePlace, kind: u8, body: &[u8]) -> Option<DeviceFra
     requires size { parent_size kind ≡ Some (length body.now + 1) }
     ensures { IsOne device_framing place (kind ∷ body.now) result }
 {
-    let frame = read_accepted(place, kind, body)?;
+    let frame = read_accepted(place.child, kind, body)?;
     Some(DeviceFrame::Parent(frame))
 }
 
@@ -204,9 +212,7 @@ impl StreamFrame for DeviceFrame {
 
     fn place_after(&self, place: NodePlace) -> NodePlace {
         let stage = match self {
-            DeviceFrame::Hello { basis } => Stage::Opened {
-                steps: basis.steps(),
-            },
+            DeviceFrame::Hello { basis } => Stage::Opened { basis: *basis },
             DeviceFrame::Offer { .. }
             | DeviceFrame::Leave
             | DeviceFrame::Parent(_)

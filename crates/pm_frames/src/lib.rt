@@ -6,11 +6,13 @@
 //! passes bytes and changes none. All three read directly after Hello what they gave to be kept over a restart.
 //!
 //! The definitions stand in `specs/`: `Kinds` (the first byte of each frame), `Places` (where in its stream a frame stands),
-//! `ParentFrames`, `Stored` (what is kept over a restart), `RelayFrames`, `RootFrames`, `DeviceFrames` (which frame may stand
-//! where, and its bytes), `Answers` (the bytes of what only a node writes). The frames are this project's own profile.
+//! `Terms` (what the arguments say of a relay), `ParentFrames`, `LimitsFrames`, `NamedBases`, `Stored` (what is kept over a restart),
+//! `RelayFrames`, `RootFrames`, `DeviceFrames` (which frame may stand where, and its bytes), `Answers` (the bytes of what only a
+//! node writes). The frames are this project's own profile.
 #![tactic(auto)]
 
 mod answers;
+mod basis;
 mod device;
 mod expiry;
 mod kinds;
@@ -20,15 +22,18 @@ mod place;
 mod relay;
 mod root;
 mod stored;
+mod terms;
 
 pub use answers::{
     write_agent_resume, write_bid, write_dropped, write_gone, write_not_caught_up,
-    write_out_of_numbers, write_relay_resume, write_reply, write_root_resume, write_setpoint,
-    write_window_full,
+    write_other_basis, write_out_of_limits, write_out_of_numbers, write_prices, write_relay_resume,
+    write_reply, write_root_resume, write_setpoint, write_too_much, write_window_full,
 };
+pub use basis::NamedBasis;
 pub use device::DeviceFrame;
 pub use parent::ParentFrame;
-pub use place::{NodePlace, Stage};
+pub use place::{NodePlace, RelayPlace, Stage};
 pub use relay::RelayFrame;
 pub use root::RootFrame;
 pub use stored::{StoredAgent, StoredRelay, StoredRoot};
+pub use terms::RelayTerms;

@@ -1,9 +1,9 @@
-//! The limits of a relay in a frame.
+//! Limits in a frame: those of a relay, and the bound of a child.
 
 ghost use Rattle.std.specs.Prelude.{◌≡◌, ◌+◌, ◌≤◌, ◌∷◌, ◌++◌, ◌↔◌, IsTrue, length};
 ghost use Rattle.pm_relay.specs.Relays.{AreRelayLimits};
-ghost use Rattle.pm_frames.specs.LimitsFrames.{limits_bytes, AreLimitsFormed, given_bytes, IsGivenFormed, IsGivenAccepted};
-ghost use Rattle.pm_frames.specs.Kinds.{limits_kind};
+ghost use Rattle.pm_frames.specs.LimitsFrames.{limits_bytes, AreLimitsFormed, given_bytes, IsGivenFormed, IsGivenAccepted, bound_bytes, IsBoundFormed, IsBoundAccepted};
+ghost use Rattle.pm_frames.specs.Kinds.{limits_kind, bound_kind};
 
 use crate::expiry::is_child;
 use pm_base::{DEMAND_LIMIT, Limits};
@@ -30,21 +30,38 @@ pub(crate) fn are_relay_limits(limits: &Limits) -> bool
         && limits.ceiling <= DEMAND_LIMIT
 }
 
-/// The child, the number and the limits that a frame of new limits has.
-pub(crate) fn read_given(body: &[u8]) -> (u16, u32, Limits)
-    requires { 15 ≡ length body.now + 1 }
-    ensures formed { IsGivenFormed result.0 result.1 result.2 }
-    ensures spelled { limits_kind ∷ body.now ≡ given_bytes result.0 result.1 result.2 }
+/// The number and the limits that a Limits has.
+pub(crate) fn read_given(body: &[u8]) -> (u32, Limits)
+    requires { 13 ≡ length body.now + 1 }
+    ensures formed { IsGivenFormed result.0 result.1 }
+    ensures spelled { limits_kind ∷ body.now ≡ given_bytes result.0 result.1 }
 {
-    let (child, rest) = read_u16(body);
-    let (number, rest) = read_u32(rest);
+    let (number, rest) = read_u32(body);
     let (limits, _rest) = read_limits(rest);
-    (child, number, limits)
+    (number, limits)
 }
 
-/// Whether a child has this number, and a relay may have the limits.
-pub(crate) fn is_given(child: u16, limits: &Limits) -> bool
-    ensures { IsTrue result ↔ IsGivenAccepted child limits.now }
+/// Whether the number is one that is given, and a relay may have the limits.
+pub(crate) fn is_given(number: u32, limits: &Limits) -> bool
+    ensures { IsTrue result ↔ IsGivenAccepted number limits.now }
 {
-    is_child(child) && are_relay_limits(limits)
+    number >= 1 && number % 2 == 0 && are_relay_limits(limits)
+}
+
+/// The child and its bound that a Bound has.
+pub(crate) fn read_bound(body: &[u8]) -> (u16, Limits)
+    requires { 11 ≡ length body.now + 1 }
+    ensures formed { IsBoundFormed result.0 result.1 }
+    ensures spelled { bound_kind ∷ body.now ≡ bound_bytes result.0 result.1 }
+{
+    let (child, rest) = read_u16(body);
+    let (bound, _rest) = read_limits(rest);
+    (child, bound)
+}
+
+/// Whether a child has this number, and may have this bound.
+pub(crate) fn is_bound(child: u16, bound: &Limits) -> bool
+    ensures { IsTrue result ↔ IsBoundAccepted child bound.now }
+{
+    is_child(child) && are_relay_limits(bound)
 }

@@ -1,8 +1,10 @@
 //! Where a frame stands in the stream to a node.
 
 ghost use Rattle.std.specs.Prelude.{◌≡◌};
-ghost use Rattle.pm_frames.specs.Places.{bid_place, steps_at, stage_behind, stage_after};
+ghost use Rattle.pm_frames.specs.Places.{bid_place, basis_at, steps_at, stage_behind, stage_after};
 
+use crate::terms::RelayTerms;
+use pm_basis::Basis;
 use pm_wire::Frame;
 
 /// How far the stream to a node is.
@@ -10,13 +12,13 @@ use pm_wire::Frame;
 pub enum Stage {
     /// Before Hello.
     Start,
-    /// Directly after Hello, whose basis has so many steps. What the node comes back with may stand here.
-    Opened { steps: usize },
+    /// Directly after Hello, which has this basis. What the node comes back with may stand here.
+    Opened { basis: Basis },
     /// Further after Hello.
-    Running { steps: usize },
+    Running { basis: Basis },
 }
 
-/// A place in the stream to a node that has a parent.
+/// A place in the stream to a device's agent.
 #[derive(Clone, Copy, Debug, PartialEq, Eq)]
 pub struct NodePlace {
     /// The node's own number at its parent.
@@ -25,14 +27,35 @@ pub struct NodePlace {
     pub stage: Stage,
 }
 
+/// A place in the stream to a relay.
+#[derive(Clone, Copy, Debug, PartialEq, Eq)]
+pub struct RelayPlace {
+    /// The relay's own number at its parent.
+    pub child: u16,
+    /// What the arguments say of the relay.
+    pub terms: RelayTerms,
+    /// How far the stream is.
+    pub stage: Stage,
+}
+
 impl Stage {
+    /// The basis, None before Hello.
+    pub(crate) fn basis(self) -> Option<Basis>
+        ensures { result ≡ basis_at self }
+    {
+        match self {
+            Stage::Start => None,
+            Stage::Opened { basis } | Stage::Running { basis } => Some(basis),
+        }
+    }
+
     /// The place in a stream of bids: None before Hello, and after it the steps of its basis.
     pub(crate) fn bid_place(self) -> Option<usize>
         ensures { result ≡ bid_place self }
     {
         match self {
             Stage::Start => None,
-            Stage::Opened { steps } | Stage::Running { steps } => Some(steps),
+            Stage::Opened { basis } | Stage::Running { basis } => Some(basis.steps()),
         }
     }
 
@@ -42,7 +65,7 @@ impl Stage {
     {
         match self {
             Stage::Start => 0,
-            Stage::Opened { steps } | Stage::Running { steps } => steps,
+            Stage::Opened { basis } | Stage::Running { basis } => basis.steps(),
         }
     }
 
@@ -52,7 +75,7 @@ impl Stage {
     {
         match self {
             Stage::Start => Stage::Start,
-            Stage::Opened { steps } | Stage::Running { steps } => Stage::Running { steps },
+            Stage::Opened { basis } | Stage::Running { basis } => Stage::Running { basis },
         }
     }
 
@@ -61,9 +84,7 @@ impl Stage {
         ensures { result ≡ stage_after self frame.now }
     {
         match frame {
-            Frame::Hello { basis } => Stage::Opened {
-                steps: basis.steps(),
-            },
+            Frame::Hello { basis } => Stage::Opened { basis: *basis },
             Frame::Bid { .. } | Frame::Gone { .. } | Frame::Clear => self.behind(),
         }
     }

@@ -1,20 +1,21 @@
 //! The frames of the stream to a relay.
 
-ghost use Rattle.std.specs.Prelude.{◌≡◌, ◌≢◌, ◌+◌, ◌≤◌, ◌∷◌, length, Some, IfOk};
+ghost use Rattle.std.specs.Prelude.{◌≡◌, ◌≢◌, ◌+◌, ◌≤◌, ◌∷◌, ◌↔◌, IsTrue, length, Some, IfOk};
 ghost use Rattle.pm_base.specs.Limits.{most_steps};
 ghost use Rattle.pm_wire.specs.Frames.{clear_kind, size_at as bid_size_at};
 ghost use Rattle.pm_wire.specs.Spelling.{IsOne};
-ghost use Rattle.pm_frames.specs.Kinds.{resume_kind, expire_kind, limits_kind};
+ghost use Rattle.pm_frames.specs.Kinds.{resume_kind, expire_kind, limits_kind, bound_kind};
 ghost use Rattle.pm_frames.specs.Places.{bid_place, IsOpen, IsFresh, IsStage};
 ghost use Rattle.pm_frames.specs.ParentFrames.{parent_size};
 ghost use Rattle.pm_frames.specs.Stored.{relay_resume_size};
-ghost use Rattle.pm_frames.specs.RelayFrames.{relay_size, relay_size_open, relay_framing};
+ghost use Rattle.pm_frames.specs.RelayFrames.{relay_size, relay_size_open, relay_framing, IsForChild};
 
 use crate::expiry::{is_child, read_expiring};
-use crate::kinds::{BID, EXPIRE, GONE, HELLO, LIMITS, OLD, PRICE, RESUME, SEND};
-use crate::limits::{is_given, read_given};
+use crate::kinds::{BID, BOUND, EXPIRE, GONE, HELLO, LIMITS, OLD, PRICE, RESUME, SEND};
+use crate::limits::{is_bound, is_given, read_bound, read_given};
 use crate::parent::{ParentFrame, read_accepted};
-use crate::place::{NodePlace, Stage};
+use crate::place::{RelayPlace, Stage};
+use crate::terms::RelayTerms;
 use crate::stored::{StoredRelay, read_stored_relay};
 use pm_base::{Limits, MOST_NODES};
 use pm_wire::{Frame, StreamFrame};
@@ -31,8 +32,10 @@ pub enum RelayFrame {
     Send,
     /// The relay is to let a device go, which is this child.
     Expire { child: u16 },
-    /// The relay has new limits, which are given under this number in the place of this child.
-    NewLimits { child: u16, number: u32, limits: Limits },
+    /// The relay has these limits from now on, which are given under this number.
+    Limits { number: u32, limits: Limits },
+    /// The least and the greatest power that a child may bid, in watts.
+    Bound { child: u16, bound: Limits },
     /// What the relay comes back with.
     Resume(StoredRelay),
 }
@@ -45,10 +48,11 @@ fn size_open(steps: usize, kind: u8) -> Option<usize>
     match kind {
         BID => Some(7 + 4 * steps),
         GONE | OLD => Some(7),
-        PRICE => Some(13),
+        PRICE => Some(23),
         SEND => Some(1),
         EXPIRE => Some(3),
-        LIMITS => Some(15),
+        LIMITS => Some(13),
+        BOUND => Some(11),
         _ => None,
     }
 }
@@ -61,15 +65,25 @@ fn size_at(stage: Stage, kind: u8) -> Option<usize>
     match stage {
         Stage::Start if kind == HELLO => Some(11),
         Stage::Start => None,
-        Stage::Opened { .. } if kind == RESUME => Some(21 + 4 * MOST_NODES),
-        Stage::Opened { steps } | Stage::Running { steps } => size_open(steps, kind),
+        Stage::Opened { .. } if kind == RESUME => Some(41 + 4 * MOST_NODES),
+        Stage::Opened { basis } | Stage::Running { basis } => size_open(basis.steps(), kind),
+    }
+}
+
+/// Whether the frame is no Bid or Gone in the place in which limits are given.
+fn is_for_child(terms: &RelayTerms, frame: &Frame) -> bool
+    ensures { IsTrue result ↔ IsForChild terms.now frame.now }
+{
+    match frame {
+        Frame::Bid { child, .. } | Frame::Gone { child, .. } => !terms.is_giver(*child),
+        Frame::Hello { .. } | Frame::Clear => true,
     }
 }
 
 /// Reads the fields of Hello, or of the Bid or Gone of a child.
 fn read_child(
     alloc: Global,
-    place: NodePlace,
+    place: RelayPlace,
     kind: u8,
     body: &[u8],
 ) -> Result<Option<RelayFrame>, AllocError>
@@ -78,26 +92,29 @@ fn read_child(
     requires kind { kind ≢ clear_kind }
     ensures { IfOk result (IsOne relay_framing place (kind ∷ body.now)) }
 {
-    match Frame::read(alloc, place.stage.bid_place(), kind, body)? {
-        Some(frame) => Ok(Some(RelayFrame::Child(frame))),
-        None => Ok(None),
+    let Some(frame) = Frame::read(alloc, place.stage.bid_place(), kind, body)? else {
+        return Ok(None);
+    };
+    if !is_for_child(&place.terms, &frame) {
+        return Ok(None);
     }
+    Ok(Some(RelayFrame::Child(frame)))
 }
 
 /// Reads the fields of a frame of the parent.
-fn read_from_parent(place: NodePlace, kind: u8, body: &[u8]) -> Option<RelayFrame>
+fn read_from_parent(place: RelayPlace, kind: u8, body: &[u8]) -> Option<RelayFrame>
     requires open { IsOpen place.stage }
     requires size { parent_size kind ≡ Some (length body.now + 1) }
     ensures { IsOne relay_framing place (kind ∷ body.now) result }
 {
-    let frame = read_accepted(place, kind, body)?;
+    let frame = read_accepted(place.child, kind, body)?;
     Some(RelayFrame::Parent(frame))
 }
 
 /// Reads the fields of Resume.
 fn read_resume(
     alloc: Global,
-    place: NodePlace,
+    place: RelayPlace,
     body: &[u8],
 ) -> Result<Option<RelayFrame>, AllocError>
     requires fresh { IsFresh place.stage }
@@ -105,46 +122,55 @@ fn read_resume(
     ensures { IfOk result (IsOne relay_framing place (resume_kind ∷ body.now)) }
 {
     let stored = read_stored_relay(alloc, body)?;
-    if !stored.is_accepted() {
+    if !stored.is_accepted(place.stage, &place.terms) {
         return Ok(None);
     }
     Ok(Some(RelayFrame::Resume(stored)))
 }
 
 /// Reads the fields of Expire.
-fn read_expire(place: NodePlace, body: &[u8]) -> Option<RelayFrame>
+fn read_expire(place: RelayPlace, body: &[u8]) -> Option<RelayFrame>
     requires open { IsOpen place.stage }
     requires size { 3 ≡ length body.now + 1 }
     ensures { IsOne relay_framing place (expire_kind ∷ body.now) result }
 {
     let child = read_expiring(body);
-    if !is_child(child) {
+    if !is_child(child) || place.terms.is_giver(child) {
         return None;
     }
     Some(RelayFrame::Expire { child })
 }
 
-/// Reads the fields of new limits.
-fn read_new_limits(place: NodePlace, body: &[u8]) -> Option<RelayFrame>
+/// Reads the fields of Limits.
+fn read_new_limits(place: RelayPlace, body: &[u8]) -> Option<RelayFrame>
     requires open { IsOpen place.stage }
-    requires size { 15 ≡ length body.now + 1 }
+    requires size { 13 ≡ length body.now + 1 }
     ensures { IsOne relay_framing place (limits_kind ∷ body.now) result }
 {
-    let (child, number, limits) = read_given(body);
-    if !is_given(child, &limits) {
+    let (number, limits) = read_given(body);
+    if place.terms.giver.is_none() || !is_given(number, &limits) {
         return None;
     }
-    Some(RelayFrame::NewLimits {
-        child,
-        number,
-        limits,
-    })
+    Some(RelayFrame::Limits { number, limits })
+}
+
+/// Reads the fields of Bound.
+fn read_child_bound(place: RelayPlace, body: &[u8]) -> Option<RelayFrame>
+    requires open { IsOpen place.stage }
+    requires size { 11 ≡ length body.now + 1 }
+    ensures { IsOne relay_framing place (bound_kind ∷ body.now) result }
+{
+    let (child, bound) = read_bound(body);
+    if !is_bound(child, &bound) || place.terms.is_giver(child) {
+        return None;
+    }
+    Some(RelayFrame::Bound { child, bound })
 }
 
 /// Reads the fields of a frame of this kind.
 fn read_body(
     alloc: Global,
-    place: NodePlace,
+    place: RelayPlace,
     kind: u8,
     body: &[u8],
 ) -> Result<Option<RelayFrame>, AllocError>
@@ -157,40 +183,43 @@ fn read_body(
         SEND => Ok(Some(RelayFrame::Send)),
         EXPIRE => Ok(read_expire(place, body)),
         LIMITS => Ok(read_new_limits(place, body)),
+        BOUND => Ok(read_child_bound(place, body)),
         PRICE | OLD => Ok(read_from_parent(place, kind, body)),
         _ => read_child(alloc, place, kind, body),
     }
 }
 
 impl StreamFrame for RelayFrame {
-    type Place = NodePlace;
+    type Place = RelayPlace;
 
     ghost framing = { relay_framing };
 
-    fn size_at(place: NodePlace, kind: u8) -> Option<usize> {
+    fn size_at(place: RelayPlace, kind: u8) -> Option<usize> {
         size_at(place.stage, kind)
     }
 
     fn read(
         alloc: Global,
-        place: NodePlace,
+        place: RelayPlace,
         kind: u8,
         body: &[u8],
     ) -> Result<Option<RelayFrame>, AllocError> {
         read_body(alloc, place, kind, body)
     }
 
-    fn place_after(&self, place: NodePlace) -> NodePlace {
+    fn place_after(&self, place: RelayPlace) -> RelayPlace {
         let stage = match self {
             RelayFrame::Child(frame) => place.stage.after(frame),
             RelayFrame::Parent(_)
             | RelayFrame::Send
             | RelayFrame::Expire { .. }
-            | RelayFrame::NewLimits { .. }
+            | RelayFrame::Limits { .. }
+            | RelayFrame::Bound { .. }
             | RelayFrame::Resume(_) => place.stage.behind(),
         };
-        NodePlace {
+        RelayPlace {
             child: place.child,
+            terms: place.terms,
             stage,
         }
     }

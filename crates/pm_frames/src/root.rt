@@ -3,16 +3,17 @@
 ghost use Rattle.std.specs.Prelude.{◌≡◌, ◌+◌, ◌∷◌, length, Some, IfOk};
 ghost use Rattle.pm_wire.specs.Frames.{size_at as bid_size_at};
 ghost use Rattle.pm_wire.specs.Spelling.{IsOne};
-ghost use Rattle.pm_frames.specs.Kinds.{resume_kind, expire_kind};
+ghost use Rattle.pm_frames.specs.Kinds.{resume_kind, expire_kind, bound_kind};
 ghost use Rattle.pm_frames.specs.Places.{bid_place, IsOpen, IsFresh, IsStage};
 ghost use Rattle.pm_frames.specs.Stored.{root_resume_size};
 ghost use Rattle.pm_frames.specs.RootFrames.{root_size, root_framing};
 
 use crate::expiry::{is_child, read_expiring};
-use crate::kinds::{EXPIRE, RESUME};
+use crate::kinds::{BOUND, EXPIRE, RESUME};
+use crate::limits::{is_bound, read_bound};
 use crate::place::Stage;
 use crate::stored::{StoredRoot, read_stored_root};
-use pm_base::MOST_NODES;
+use pm_base::{Limits, MOST_NODES};
 use pm_wire::{Frame, StreamFrame};
 use std::alloc::{AllocError, Global};
 
@@ -23,6 +24,8 @@ pub enum RootFrame {
     Market(Frame),
     /// The auctioneer is to let a device go, which is this child.
     Expire { child: u16 },
+    /// The least and the greatest power that a child may bid, in watts.
+    Bound { child: u16, bound: Limits },
     /// What the auctioneer comes back with.
     Resume(StoredRoot),
 }
@@ -33,8 +36,9 @@ fn size_at(stage: Stage, kind: u8) -> Option<usize>
     ensures { result ≡ root_size stage kind }
 {
     match stage {
-        Stage::Opened { .. } if kind == RESUME => Some(5 + 4 * MOST_NODES),
+        Stage::Opened { .. } if kind == RESUME => Some(15 + 4 * MOST_NODES),
         Stage::Opened { .. } | Stage::Running { .. } if kind == EXPIRE => Some(3),
+        Stage::Opened { .. } | Stage::Running { .. } if kind == BOUND => Some(11),
         Stage::Start | Stage::Opened { .. } | Stage::Running { .. } => {
             <Frame as StreamFrame>::size_at(stage.bid_place(), kind)
         }
@@ -65,6 +69,9 @@ fn read_resume(alloc: Global, stage: Stage, body: &[u8]) -> Result<Option<RootFr
     ensures { IfOk result (IsOne root_framing stage (resume_kind ∷ body.now)) }
 {
     let stored = read_stored_root(alloc, body)?;
+    if !stored.is_accepted(stage) {
+        return Ok(None);
+    }
     Ok(Some(RootFrame::Resume(stored)))
 }
 
@@ -79,6 +86,19 @@ fn read_expire(stage: Stage, body: &[u8]) -> Option<RootFrame>
         return None;
     }
     Some(RootFrame::Expire { child })
+}
+
+/// Reads the fields of Bound.
+fn read_child_bound(stage: Stage, body: &[u8]) -> Option<RootFrame>
+    requires open { IsOpen stage }
+    requires size { 11 ≡ length body.now + 1 }
+    ensures { IsOne root_framing stage (bound_kind ∷ body.now) result }
+{
+    let (child, bound) = read_bound(body);
+    if !is_bound(child, &bound) {
+        return None;
+    }
+    Some(RootFrame::Bound { child, bound })
 }
 
 /// Reads the fields of a frame of this kind.
@@ -97,6 +117,9 @@ fn read_body(
     }
     if kind == EXPIRE {
         return Ok(read_expire(stage, body));
+    }
+    if kind == BOUND {
+        return Ok(read_child_bound(stage, body));
     }
     read_market(alloc, stage, kind, body)
 }
@@ -122,7 +145,9 @@ impl StreamFrame for RootFrame {
     fn place_after(&self, place: Stage) -> Stage {
         match self {
             RootFrame::Market(frame) => place.after(frame),
-            RootFrame::Expire { .. } | RootFrame::Resume(_) => place.behind(),
+            RootFrame::Expire { .. } | RootFrame::Bound { .. } | RootFrame::Resume(_) => {
+                place.behind()
+            }
         }
     }
 

@@ -1,14 +1,19 @@
 //! What a node keeps over a restart, and reads when it comes back.
 
-ghost use Rattle.std.specs.Prelude.{◌≡◌, ◌+◌, ◌*◌, ◌≤◌, ◌∷◌, ◌↔◌, IsTrue, length, IfOk};
+ghost use Rattle.std.specs.Prelude.{◌≡◌, ◌+◌, ◌*◌, ◌<◌, ◌≤◌, ◌∷◌, ◌↔◌, IsTrue, length, IfOk};
 ghost use Rattle.pm_base.specs.Limits.{most_nodes};
-ghost use Rattle.pm_frames.specs.Stored.{number_bytes, AreChildNumbers, relay_resume_bytes, root_resume_bytes, IsRelayStored, IsRelayStoredAccepted, IsRootStored};
+ghost use Rattle.pm_relay.specs.Numbers.{child_number};
+ghost use Rattle.pm_frames.specs.Kinds.{resume_kind};
+ghost use Rattle.pm_frames.specs.Stored.{number_bytes, AreChildNumbers, relay_resume_bytes, root_resume_bytes, IsRelayStored, IsOfTerms, IsRelayStoredAccepted, IsRootStored, IsRootStoredAccepted};
 
-use crate::limits::are_relay_limits;
+use crate::basis::{NamedBasis, read_basis};
+use crate::limits::{are_relay_limits, read_limits};
+use crate::place::Stage;
+use crate::terms::RelayTerms;
 use pm_base::{Limits, MOST_NODES};
 use pm_bid::ArrayBid;
 use pm_relay::Resume;
-use pm_wire::{read_i32, read_u32};
+use pm_wire::{read_u16, read_u32};
 use std::alloc::{AllocError, Global};
 use std::marker::Model;
 
@@ -18,6 +23,9 @@ pub struct StoredRelay {
     last: u32,
     answered: u32,
     index: u32,
+    basis: NamedBasis,
+    first: Limits,
+    giver: u16,
     limits: Limits,
     numbers: Vec<u32>,
 }
@@ -31,6 +39,9 @@ impl Model for StoredRelay {
       last = s.last;
       answered = s.answered;
       index = s.index;
+      basis = s.basis;
+      first = s.first;
+      giver = s.giver;
       limits = s.limits;
       numbers = s.numbers.items;
     } };
@@ -40,6 +51,7 @@ impl Model for StoredRelay {
 #[derive(Drop)]
 pub struct StoredRoot {
     last: u32,
+    basis: NamedBasis,
     numbers: Vec<u32>,
 }
 
@@ -48,7 +60,7 @@ impl Model for StoredRoot {
 
     ghost Value = { StoredRoot };
 
-    ghost view = { λ s. record { last = s.last; numbers = s.numbers.items } };
+    ghost view = { λ s. record { last = s.last; basis = s.basis; numbers = s.numbers.items } };
 }
 
 /// What a device's agent comes back with.
@@ -58,6 +70,8 @@ pub struct StoredAgent {
     pub number: u32,
     /// The index of the price that it took last, 0 where there is none.
     pub index: u32,
+    /// The basis of its offer.
+    pub basis: NamedBasis,
     /// The demand in watts of the offer under this number. None where the device left, or offered nothing.
     pub newest: Option<ArrayBid>,
 }
@@ -80,11 +94,32 @@ impl StoredRelay {
         }
     }
 
-    /// Whether the number answered is not above the last one, and a relay may have the limits.
-    pub(crate) fn is_accepted(&self) -> bool
-        ensures { IsTrue result ↔ IsRelayStoredAccepted self.now }
+    /// The number in the record of the child in this place, which counts from 0.
+    pub fn number_of(&self, child: usize) -> u32
+        requires { child < length self.now.numbers }
+        ensures { result ≡ child_number self.now.numbers child }
     {
-        self.answered <= self.last && are_relay_limits(&self.limits)
+        self.numbers[child]
+    }
+
+    /// Whether it is of this basis and of a relay with these terms, the number answered is not above the last one, and a relay may
+    /// have the limits.
+    pub(crate) fn is_accepted(&self, stage: Stage, terms: &RelayTerms) -> bool
+        ensures { IsTrue result ↔ IsRelayStoredAccepted stage terms.now self.now }
+    {
+        self.basis.is_at(stage)
+            && self.is_of(terms)
+            && self.answered <= self.last
+            && are_relay_limits(&self.limits)
+    }
+
+    /// Whether it is of a relay with these terms.
+    fn is_of(&self, terms: &RelayTerms) -> bool
+        ensures { IsTrue result ↔ IsOfTerms terms.now self.now }
+    {
+        self.first.floor == terms.limits.floor
+            && self.first.ceiling == terms.limits.ceiling
+            && self.giver == terms.giver_number()
     }
 }
 
@@ -101,6 +136,13 @@ impl StoredRoot {
         ensures { result.now ≡ self.now.numbers }
     {
         &self.numbers
+    }
+
+    /// Whether it is of the basis that Hello had.
+    pub(crate) fn is_accepted(&self, stage: Stage) -> bool
+        ensures { IsTrue result ↔ IsRootStoredAccepted stage self.now }
+    {
+        self.basis.is_at(stage)
     }
 }
 
@@ -122,32 +164,42 @@ fn read_numbers(alloc: Global, bytes: &[u8]) -> Result<Vec<u32>, AllocError>
 
 /// What a relay comes back with, by the bytes after the kind.
 pub(crate) fn read_stored_relay(alloc: Global, body: &[u8]) -> Result<StoredRelay, AllocError>
-    requires { length body.now ≡ 20 + 4 * most_nodes }
-    ensures spelled { IfOk result (λ stored. 12 ∷ body.now ≡ relay_resume_bytes stored) }
+    requires { length body.now ≡ 40 + 4 * most_nodes }
+    ensures spelled { IfOk result (λ stored. resume_kind ∷ body.now ≡ relay_resume_bytes stored) }
     ensures stored { IfOk result IsRelayStored }
 {
     let (last, rest) = read_u32(body);
     let (answered, rest) = read_u32(rest);
     let (index, rest) = read_u32(rest);
-    let (floor, rest) = read_i32(rest);
-    let (ceiling, rest) = read_i32(rest);
+    let (basis, rest) = read_basis(rest);
+    let (first, rest) = read_limits(rest);
+    let (giver, rest) = read_u16(rest);
+    let (limits, rest) = read_limits(rest);
     let numbers = read_numbers(alloc, rest)?;
     Ok(StoredRelay {
         last,
         answered,
         index,
-        limits: Limits { floor, ceiling },
+        basis,
+        first,
+        giver,
+        limits,
         numbers,
     })
 }
 
 /// What an auctioneer comes back with, by the bytes after the kind.
 pub(crate) fn read_stored_root(alloc: Global, body: &[u8]) -> Result<StoredRoot, AllocError>
-    requires { length body.now ≡ 4 + 4 * most_nodes }
-    ensures spelled { IfOk result (λ stored. 12 ∷ body.now ≡ root_resume_bytes stored) }
+    requires { length body.now ≡ 14 + 4 * most_nodes }
+    ensures spelled { IfOk result (λ stored. resume_kind ∷ body.now ≡ root_resume_bytes stored) }
     ensures stored { IfOk result IsRootStored }
 {
     let (last, rest) = read_u32(body);
+    let (basis, rest) = read_basis(rest);
     let numbers = read_numbers(alloc, rest)?;
-    Ok(StoredRoot { last, numbers })
+    Ok(StoredRoot {
+        last,
+        basis,
+        numbers,
+    })
 }

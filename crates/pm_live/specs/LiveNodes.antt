@@ -1,8 +1,8 @@
 -- The node that the arguments of the command line name.
-use Rattle.std.specs.Prelude.{◌≡◌, ℕ, ◌≤◌, List, [], ◌∷◌, codes, decimal, ⊤}
+use Rattle.std.specs.Prelude.{◌≡◌, ℕ, ◌≤◌, List, [], ◌∷◌, codes, decimal, Option, Some, None, ⊤}
 use Rattle.std.specs.Fmt.{signed_decimal}
 use Rattle.pm_base.specs.Limits.{most_nodes}
-use Rattle.pm_relay.specs.Relays.{AreRelayLimits}
+use Rattle.pm_frames.specs.Terms.{AreTerms}
 use Rattle.pm_live.specs.declared.named.LiveNode.{LiveNode}
 use Rattle.pm_live.specs.declared.named.LiveNode.TheVariants.{Relay, Auctioneer, Device}
 
@@ -13,13 +13,19 @@ pub record IsChild (child : ℕ) : Type 0 where
 
 -- a node that there may be
 abbrev pub MayBe : LiveNode → Type 0
-MayBe (Relay child limits) = IsChild child × AreRelayLimits limits
+MayBe (Relay child terms) = IsChild child × AreTerms terms
 MayBe Auctioneer = ⊤
 MayBe (Device child) = IsChild child
 
--- the arguments that name a node: its word, its number, and the floor and the ceiling of a relay
+-- the place in which a relay is given limits, if it is
+abbrev pub giver_words : Option ℕ → List (List ℕ)
+giver_words None = []
+giver_words (Some giver) = decimal giver ∷ []
+
+-- the arguments that name a node: its word, its number, and of a relay the floor, the ceiling and the place in which it is given limits
 abbrev pub words_of : LiveNode → List (List ℕ)
-words_of (Relay child limits) = codes "relay" ∷ decimal child ∷ signed_decimal limits.floor ∷ signed_decimal limits.ceiling ∷ []
+words_of (Relay child terms) =
+    codes "relay" ∷ decimal child ∷ signed_decimal terms.limits.floor ∷ signed_decimal terms.limits.ceiling ∷ giver_words terms.giver
 words_of Auctioneer = codes "auctioneer" ∷ []
 words_of (Device child) = codes "device" ∷ decimal child ∷ []
 

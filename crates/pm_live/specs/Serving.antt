@@ -2,7 +2,8 @@
 -- held; `rose_source` and `rose_sink` say that a fault of the source, or of the sink, was counted.
 use Rattle.std.specs.Prelude.{ℕ, ◌<◌, List, length, take, codes, Option, None}
 use Rattle.std.specs.Io.KnownBytes.{Appends}
-use Rattle.pm_base.specs.declared.limits.Limits.{Limits}
+use Rattle.pm_frames.specs.declared.terms.RelayTerms.{RelayTerms}
+use Rattle.pm_frames.specs.declared.place.RelayPlace.{RelayPlace}
 use Rattle.pm_wire.specs.Taking.{AnswersFrom}
 use Rattle.pm_wire.specs.Services.{EndsSo}
 use Rattle.pm_wire.specs.declared.stream.Served.{Served}
@@ -19,7 +20,7 @@ use Rattle.pm_live.specs.declared.named.LiveNode.{LiveNode}
 use Rattle.pm_live.specs.declared.named.LiveNode.TheVariants.{Relay, Auctioneer, Device}
 
 abbrev pub node_usage_line : List ℕ
-node_usage_line = codes "usage: live relay CHILD FLOOR CEILING | live auctioneer | live device CHILD\n"
+node_usage_line = codes "usage: live relay CHILD FLOOR CEILING [GIVER] | live auctioneer | live device CHILD\n"
 
 -- a prefix of the usage line was written, and not all of it
 abbrev pub WrotePartOfUsage : Option (List ℕ) → Option (List ℕ) → Type 0
@@ -30,18 +31,21 @@ WrotePartOfUsage held holds = (written : ℕ) × (written < length node_usage_li
 abbrev pub stream_start : ℕ → NodePlace
 stream_start child' = record { child = child'; stage = Start }
 
-abbrev pub new_relay_service : ℕ → Limits → RelayServiceValue
-new_relay_service child' limits' = record { child = child'; limits = limits'; relay = None }
+abbrev pub relay_start : ℕ → RelayTerms → RelayPlace
+relay_start child' terms' = record { child = child'; terms = terms'; stage = Start }
+
+abbrev pub new_relay_service : ℕ → RelayTerms → RelayServiceValue
+new_relay_service child' terms' = record { child = child'; terms = terms'; relay = None }
 
 abbrev pub new_device_service : ℕ → DeviceServiceValue
-new_device_service child' = record { child = child'; agent = None }
+new_device_service child' = record { child = child'; device = None }
 
 -- ---- how a node ends
 
 -- what it read and wrote, by how it ended
 abbrev pub ServesNode : LiveNode → (old new held holds : Option (List ℕ)) (rose_source rose_sink : Type 0) → Served → Type 0
-ServesNode (Relay child limits) old new held holds rose_source rose_sink served =
-    EndsSo relay_framing (stream_start child) (AnswersFrom AnswersRelay (new_relay_service child limits)) old new held holds rose_source rose_sink served
+ServesNode (Relay child terms) old new held holds rose_source rose_sink served =
+    EndsSo relay_framing (relay_start child terms) (AnswersFrom AnswersRelay (new_relay_service child terms)) old new held holds rose_source rose_sink served
 ServesNode Auctioneer old new held holds rose_source rose_sink served =
     EndsSo root_framing Start (AnswersFrom AnswersRoot None) old new held holds rose_source rose_sink served
 ServesNode (Device child) old new held holds rose_source rose_sink served =
@@ -49,8 +53,8 @@ ServesNode (Device child) old new held holds rose_source rose_sink served =
 
 -- how it ended by what the source had, where the source tells that
 abbrev pub EndsNodeAsDue : LiveNode → (all : List ℕ) (old new held holds : Option (List ℕ)) (rose_source rose_sink : Type 0) → Served → Type 0
-EndsNodeAsDue (Relay child limits) all old new held holds rose_source rose_sink served =
-    EndsAsDue relay_framing (stream_start child) (AnswersFrom AnswersRelay (new_relay_service child limits)) all old new held holds rose_source rose_sink served
+EndsNodeAsDue (Relay child terms) all old new held holds rose_source rose_sink served =
+    EndsAsDue relay_framing (relay_start child terms) (AnswersFrom AnswersRelay (new_relay_service child terms)) all old new held holds rose_source rose_sink served
 EndsNodeAsDue Auctioneer all old new held holds rose_source rose_sink served =
     EndsAsDue root_framing Start (AnswersFrom AnswersRoot None) all old new held holds rose_source rose_sink served
 EndsNodeAsDue (Device child) all old new held holds rose_source rose_sink served =

@@ -12,14 +12,14 @@ ghost use Rattle.pm_wire.specs.declared.stream.Served.{Served};
 use crate::ending::Ending;
 use crate::named::{LiveNode, named_node};
 use crate::serving::serve_from_start;
-use pm_frames::{NodePlace, Stage};
+use pm_frames::{NodePlace, RelayPlace, Stage};
 use pm_io::{Peer, Sink, Source, Wire, tell_all};
 use pm_services::{DeviceService, RelayService, RootService};
 use pm_wire::Served;
 use std::alloc::Global;
 
 const USAGE_LINE: &str =
-    "usage: live relay CHILD FLOOR CEILING | live auctioneer | live device CHILD\n";
+    "usage: live relay CHILD FLOOR CEILING [GIVER] | live auctioneer | live device CHILD\n";
 
 /// Writes the usage line.
 fn tell_usage<W: Peer>(wire: &mut W) -> Ending
@@ -56,12 +56,13 @@ fn serve_named<W: Peer>(alloc: Global, node: LiveNode, wire: &mut W) -> Served
     ensures sink_count { W.write_faults wire.old ≤ W.write_faults wire.new }
 {
     match node {
-        LiveNode::Relay { child, limits } => {
-            let place = NodePlace {
+        LiveNode::Relay { child, terms } => {
+            let place = RelayPlace {
                 child,
+                terms,
                 stage: Stage::Start,
             };
-            let mut relay = RelayService::new(alloc, child, limits);
+            let mut relay = RelayService::new(alloc, child, terms);
             serve_from_start(alloc, wire, place, &mut relay)
         }
         LiveNode::Auctioneer => {

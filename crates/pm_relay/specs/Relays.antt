@@ -1,9 +1,9 @@
 -- What a relay keeps, and what each call makes of it.
-use Rattle.std.specs.Prelude.{◌≡◌, ◌⊎◌, ℕ, ◌+◌, ◌-◌, ◌%◌, ◌<◌, ◌≤◌, ◌^◌, ℤ, pos, List, length, Option, Some, None}
+use Rattle.std.specs.Prelude.{◌≡◌, ◌⊎◌, ℕ, ◌+◌, ◌-◌, ◌%◌, ◌<◌, ◌≤◌, ◌^◌, ℤ, pos, List, length, Option, Some, None, ⊤}
 use Rattle.std.specs.Prelude.{if◌then◌else◌, nat_lt, slice_index_or}
 use Rattle.pm_base.specs.Limits.{AreLimits, IsWithin, demand_limit, most_nodes, window_size}
 use Rattle.pm_base.specs.declared.limits.Limits.{Limits}
-use Rattle.pm_bid.specs.Taken.{announced}
+use Rattle.pm_bid.specs.Taken.{announced, HasStepWithin}
 use Rattle.pm_cache.specs.Cache.{aggregate_of, kept_number}
 use Rattle.pm_cache.specs.Learning.{after_learning}
 use Rattle.pm_session.specs.Windows.{Sent, record_of}
@@ -125,6 +125,14 @@ abbrev pub LooksForRecord : RelayValue → RelayValue → Type 0
 LooksForRecord old new = (HearsItsRecord old × RecordRebuilt old new) ⊎ ((HearsItsRecord old → ⊥) × (new ≡ old))
 
 -- ---- a bid of its own
+
+-- some step of the sum of what it holds is within its limits
+abbrev pub HasStepWithinAny : Option Limits → List ℤ → Type 0
+HasStepWithinAny None sum = ⊤
+HasStepWithinAny (Some limits) sum = HasStepWithin limits sum
+
+abbrev pub HasOwnStepWithin : RelayValue → Type 0
+HasOwnStepWithin r = HasStepWithinAny r.gathered.limits (aggregate_of r.gathered.cache)
 
 -- what is taken where it settles goes up under the next number, and what went into it is its record
 pub record BidSent (old new : RelayValue) (number' : ℕ) : Type 0 where

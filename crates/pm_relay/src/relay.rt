@@ -12,19 +12,19 @@ ghost use Rattle.pm_concentrator.specs.Concentrators.{own_demand};
 ghost use Rattle.pm_concentrator.specs.Limited.{settled_step_of_record};
 ghost use Rattle.pm_relay.specs.Relays.{AreRelayLimits, ComesBack, IsCaughtUp, HearsNothingNewer, newest_bid_number, with_child_bid, with_new_limits, limits_of_number, LooksForRecord};
 ghost use Rattle.pm_relay.specs.Numbers.{known_number, parents_number};
-ghost use Rattle.pm_relay.specs.Relays.{BidSent, NotSent, HasRecord, record_at, TakesPrice};
+ghost use Rattle.pm_relay.specs.Relays.{HasOwnStepWithin, BidSent, NotSent, HasRecord, record_at, TakesPrice};
 
 use crate::fault::SendFault;
 use crate::numbers::{are_enough, are_reached, expiry_number, note_numbers};
 use crate::outcome::PriceOutcome;
 use crate::resume::Resume;
 use pm_base::{Limits, MOST_NODES, WINDOW_SIZE};
-use pm_bid::ArrayBid;
+use pm_bid::{ArrayBid, Steps};
 use pm_cache::CacheFault;
 use pm_concentrator::Concentrator;
 use pm_session::{PriceUpdate, Prices};
 use std::alloc::{AllocError, Global};
-use std::marker::Model;
+use std::marker::{Brand, Model};
 
 /// How many places there are for the limits of numbers.
 const LIMITS_PLACES: usize = 9;
@@ -220,6 +220,16 @@ impl Relay {
             unreachable!()
         };
         limits
+    }
+
+    /// Whether some step of the sum of what the children bid is within the limits that the next bid is made under. Directly after
+    /// [`Relay::send`], and where the relay has its record again, these are the sum and the limits of the newest bid.
+    pub fn has_step_within(&self) -> bool
+        ensures { IsTrue result ↔ HasOwnStepWithin self.now }
+    {
+        let limits = self.limits();
+        let sum = self.concentrator.cache().aggregate();
+        sum.has_step_within(&limits, &mut Steps::<Brand>::start())
     }
 
     /// Enters a child's bid.

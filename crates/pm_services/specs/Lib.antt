@@ -1,11 +1,17 @@
 pub mod Limits
 pub mod Receipts
+pub mod Bounds
+pub mod BoundsFields
+pub mod RelaySetups
+pub mod RelaySetupFields
 pub mod RelayAnswers
 pub mod RelayStands
+pub mod WaitingRelayFields
 pub mod OpenRelayFields
 pub mod RelayServiceFields
 pub mod RootAnswers
 pub mod RootStands
+pub mod HeldRootFields
 pub mod OpenRootFields
 pub mod DeviceAnswers
 pub mod DeviceServiceFields

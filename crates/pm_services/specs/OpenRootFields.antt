@@ -1,16 +1,11 @@
--- What the fields of an auctioneer after Hello keep.
-use Rattle.std.specs.Prelude.{◌≡◌, ℕ, ◌<◌, length}
-use Rattle.pm_base.specs.Limits.{AreSteps, most_nodes}
-use Rattle.pm_relay.specs.Roots.{RootValue}
+-- What the fields of an auctioneer after Hello stand for, and what they keep.
+use Rattle.std.specs.Prelude.{◌≡◌}
+use Rattle.pm_services.specs.RootAnswers.{OpenRoot}
 use Rattle.pm_services.specs.declared.open_root.OpenRoot.TheInside.{Inside}
 
--- an auctioneer over a basis of so many steps, which has an entry for each child
-pub record IsOpenRoot (steps' : ℕ) (r : RootValue) : Type 0 where
-  pub basis : AreSteps steps'
-  pub steps : r.auction.cache.steps ≡ steps'
-  pub children : length r.auction.cache.heads ≡ most_nodes
-  -- it cleared last at a step of the basis
-  pub inside : r.auction.step < steps'
+abbrev pub open_root_of : Inside → OpenRoot
+open_root_of inside = record { basis = inside.basis; bounds = inside.bounds; root = inside.held }
 
+-- the auctioneer has the steps of the basis
 abbrev pub AreOpenRootFields : Inside → Type 0
-AreOpenRootFields inside = IsOpenRoot inside.steps inside.root
+AreOpenRootFields inside = inside.held.auction.cache.steps ≡ inside.basis.steps

@@ -12,7 +12,7 @@ use std::alloc::{AllocError, Global};
 use std::marker::Model;
 
 /// The most bytes of the answers to a frame: a setpoint, a bid, and what the agent keeps over a restart.
-const REPLY_LIMIT: usize = 15 + (7 + 4 * MOST_STEPS) + (9 + 4 * MOST_STEPS);
+const REPLY_LIMIT: usize = 15 + (7 + 4 * MOST_STEPS) + (19 + 4 * MOST_STEPS);
 
 /// The agent of a device that takes the frames of the device's control and of its parent.
 ///
@@ -37,7 +37,7 @@ impl Model for DeviceService {
 impl DeviceService {
     /// The service of a device that is this child of its parent. It takes no memory.
     pub fn new(alloc: Global, child: u16) -> DeviceService
-        ensures { result ≡ record { child = child; agent = None } }
+        ensures { result ≡ record { child = child; device = None } }
     {
         DeviceService {
             alloc,
@@ -60,8 +60,8 @@ impl Service<DeviceFrame> for DeviceService {
         if let Some(device) = &mut self.device {
             return device.take(self.alloc, self.child, frame, out);
         }
-        if let DeviceFrame::Hello { .. } = frame {
-            self.device = Some(OpenDevice::new(self.alloc)?);
+        if let DeviceFrame::Hello { basis } = frame {
+            self.device = Some(OpenDevice::new(self.alloc, basis)?);
         }
         Ok(())
     }

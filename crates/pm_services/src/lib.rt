@@ -6,16 +6,20 @@
 //! a carrier that handles the frames in their order stores and sends in the right order.
 //!
 //! The definitions stand in `specs/`: `Receipts`, `RelayAnswers`, `RootAnswers` and `DeviceAnswers` (what is answered to each
-//! frame), `Limits` (the most bytes of the answers to a frame). The frames are this project's own profile.
+//! frame), `Bounds` (what a child may bid), `Limits` (the most bytes of the answers to a frame). The frames are this project's own profile.
 #![tactic(auto)]
 
+mod bounds;
 mod device;
+mod held_root;
 mod open_device;
 mod open_relay;
 mod open_root;
 mod relay;
 mod relay_bytes;
 mod root;
+mod setup;
+mod waiting_relay;
 
 pub use device::DeviceService;
 pub use relay::RelayService;

@@ -11,14 +11,16 @@ ghost use Rattle.pm_wire.specs.Memory.{frame_limit};
 ghost use Rattle.pm_frames.specs.DeviceFrames.{device_frame_limit};
 ghost use Rattle.pm_services.specs.Limits.{device_reply_limit};
 ghost use Rattle.pm_services.specs.DeviceAnswers.{own_resume_bytes, after_asking, offer_reply, after_asking_to_leave, leave_reply};
-ghost use Rattle.pm_services.specs.DeviceAnswers.{price_reply, sent_again, old_reply, open_agent_after, agent_reply};
+ghost use Rattle.pm_services.specs.DeviceAnswers.{price_reply, sent_again, old_reply, with_agent, after_price_of, price_reply_of, open_device_after, device_reply};
 ghost use Rattle.pm_services.specs.DeviceServiceFields.{HasSmallDemand, IsSmall};
 
+use pm_basis::Basis;
 use pm_bid::{ArrayBid, Steps};
 use pm_control::{ControlAgent, OfferFault};
 use pm_frames::{
-    DeviceFrame, ParentFrame, StoredAgent, write_agent_resume, write_bid, write_dropped,
-    write_gone, write_out_of_numbers, write_setpoint, write_window_full,
+    DeviceFrame, NamedBasis, ParentFrame, StoredAgent, write_agent_resume, write_bid,
+    write_dropped, write_gone, write_other_basis, write_out_of_numbers, write_setpoint,
+    write_window_full,
 };
 use pm_session::PriceUpdate;
 use std::alloc::{AllocError, Global};
@@ -26,20 +28,21 @@ use std::marker::{Brand, Model};
 
 /// A device that has a basis.
 ///
-/// Contracts see its agent. Each offer that the agent keeps fits a message.
+/// Contracts see its agent and the basis. Each offer that the agent keeps fits a message.
 #[derive(Drop)]
 pub(crate) struct OpenDevice {
     agent: ControlAgent,
+    basis: Basis,
 }
 
 impl Model for OpenDevice {
-    ghost use Rattle.pm_net.specs.Agents.{DeviceAgent};
+    ghost use Rattle.pm_services.specs.DeviceAnswers.{OpenDevice};
 
-    ghost Value = { DeviceAgent };
+    ghost Value = { OpenDevice };
 
-    ghost use Rattle.pm_services.specs.DeviceServiceFields.{AreOpenDeviceFields};
+    ghost use Rattle.pm_services.specs.DeviceServiceFields.{open_device_of, AreOpenDeviceFields};
 
-    ghost view = { λ device. device.agent };
+    ghost view = { open_device_of };
 
     ghost invariant = { AreOpenDeviceFields };
 }
@@ -97,11 +100,14 @@ fn send_again(child: u16, stored: &StoredAgent, out: &mut Vec<u8>)
 
 impl OpenDevice {
     /// A device whose control made no offer.
-    pub(crate) fn new(alloc: Global) -> Result<OpenDevice, AllocError>
-        ensures { IfOk result (λ device. device ≡ new_agent) }
+    pub(crate) fn new(alloc: Global, basis: &Basis) -> Result<OpenDevice, AllocError>
+        ensures { IfOk result (λ device. device ≡ record { agent = new_agent; basis = basis.now }) }
     {
         let agent = ControlAgent::new(alloc)?;
-        Ok(OpenDevice { agent })
+        Ok(OpenDevice {
+            agent,
+            basis: *basis,
+        })
     }
 
     /// Takes a frame after Hello, and appends the answers to it. Where an allocation fails nothing changes and nothing is
@@ -115,9 +121,9 @@ impl OpenDevice {
     ) -> Result<(), AllocError>
         requires small { HasSmallDemand frame.now }
         requires room { vec_len out.old + device_reply_limit ≤ vec_capacity out.old }
-        ensures taken { OnOk result (self.new ≡ open_agent_after self.old frame.now) }
+        ensures taken { OnOk result (self.new ≡ open_device_after self.old frame.now) }
         ensures answered { OnOk result (out.new.items ≡ out.old.items
-            ++ agent_reply child self.old frame.now) }
+            ++ device_reply child self.old frame.now) }
         ensures unchanged { OnErr result ((self.new ≡ self.old) × (out.new.items ≡ out.old.items)) }
         ensures few { length out.new.items ≤ length out.old.items + device_reply_limit }
     {
@@ -132,6 +138,7 @@ impl OpenDevice {
                     number,
                     index,
                     step,
+                    basis,
                     ..
                 },
             ) => {
@@ -140,7 +147,7 @@ impl OpenDevice {
                     number: *number,
                     index: *index,
                 };
-                self.take_price(price, out);
+                self.take_price_of(price, basis, out);
                 Ok(())
             }
             DeviceFrame::Resume(stored) => self.come_back(alloc, child, stored, out),
@@ -156,14 +163,14 @@ impl OpenDevice {
     /// Appends what the agent keeps over a restart.
     fn write_resume(&self, out: &mut Vec<u8>)
         requires room { vec_len out.old + device_frame_limit ≤ vec_capacity out.old }
-        ensures written { out.new.items ≡ out.old.items ++ own_resume_bytes self.now }
+        ensures written { out.new.items ≡ out.old.items ++ own_resume_bytes self.now.basis self.now.agent }
         ensures few { length out.new.items ≤ length out.old.items + device_frame_limit }
         ensures capacity { vec_capacity out.old ≤ vec_capacity out.new }
     {
         let resume = self.agent.resume();
         // The call tells a fact of the type: a bid has at most 1000 steps.
         let _steps = steps_if_some(resume.newest);
-        write_agent_resume(&resume, out);
+        write_agent_resume(&resume, &self.basis, out);
     }
 
     /// Makes an offer, and appends its Bid with what the agent keeps over a restart before it, or why there is none.
@@ -176,9 +183,9 @@ impl OpenDevice {
     ) -> Result<(), AllocError>
         requires small { AllWithinLimit demand_limit demand.now }
         requires room { vec_len out.old + device_reply_limit ≤ vec_capacity out.old }
-        ensures offered { OnOk result (self.new ≡ after_asking self.old demand.now) }
+        ensures offered { OnOk result (self.new ≡ with_agent self.old (after_asking self.old.agent demand.now)) }
         ensures answered { OnOk result (out.new.items ≡ out.old.items
-            ++ offer_reply child self.old demand.now) }
+            ++ offer_reply child self.old.basis self.old.agent demand.now) }
         ensures unchanged { OnErr result ((self.new ≡ self.old) × (out.new.items ≡ out.old.items)) }
         ensures few { length out.new.items ≤ length out.old.items + device_reply_limit }
     {
@@ -193,8 +200,8 @@ impl OpenDevice {
         requires small { AllWithinLimit demand_limit demand.now }
         requires steps { length demand.now ≤ most_steps }
         requires room { vec_len out.old + device_reply_limit ≤ vec_capacity out.old }
-        ensures offered { self.new ≡ after_asking self.old demand.now }
-        ensures answered { out.new.items ≡ out.old.items ++ offer_reply child self.old demand.now }
+        ensures offered { self.new ≡ with_agent self.old (after_asking self.old.agent demand.now) }
+        ensures answered { out.new.items ≡ out.old.items ++ offer_reply child self.old.basis self.old.agent demand.now }
         ensures few { length out.new.items ≤ length out.old.items + device_reply_limit }
     {
         match self.agent.offer(kept) {
@@ -210,8 +217,8 @@ impl OpenDevice {
     /// Leaves the market, and appends the Gone with what the agent keeps over a restart before it, or that no number is left.
     fn leave(&mut self, child: u16, out: &mut Vec<u8>)
         requires room { vec_len out.old + device_reply_limit ≤ vec_capacity out.old }
-        ensures left { self.new ≡ after_asking_to_leave self.old }
-        ensures answered { out.new.items ≡ out.old.items ++ leave_reply child self.old }
+        ensures left { self.new ≡ with_agent self.old (after_asking_to_leave self.old.agent) }
+        ensures answered { out.new.items ≡ out.old.items ++ leave_reply child self.old.basis self.old.agent }
         ensures few { length out.new.items ≤ length out.old.items + device_reply_limit }
     {
         let Some(number) = self.agent.leave() else {
@@ -222,14 +229,30 @@ impl OpenDevice {
         write_gone(child, number, out);
     }
 
+    /// Takes a price of the parent, unless it is of another basis, and appends what is answered.
+    fn take_price_of(&mut self, price: PriceUpdate, basis: &NamedBasis, out: &mut Vec<u8>)
+        requires step { price.step < 2 ^ 16 }
+        requires room { vec_len out.old + device_reply_limit ≤ vec_capacity out.old }
+        ensures taken { self.new ≡ after_price_of self.old (message_of price) basis.now }
+        ensures answered { out.new.items ≡ out.old.items
+            ++ price_reply_of self.old (message_of price) basis.now }
+        ensures few { length out.new.items ≤ length out.old.items + device_reply_limit }
+    {
+        if basis.is(&self.basis) {
+            self.take_price(price, out);
+        } else {
+            write_other_basis(price.number, price.index, out);
+        }
+    }
+
     /// Takes a price of the parent, and appends the setpoint with what the agent keeps over a restart after it, or that the
     /// price was dropped.
     fn take_price(&mut self, price: PriceUpdate, out: &mut Vec<u8>)
         requires step { price.step < 2 ^ 16 }
         requires room { vec_len out.old + device_reply_limit ≤ vec_capacity out.old }
-        ensures taken { self.new ≡ after_price self.old (message_of price) }
+        ensures taken { self.new ≡ with_agent self.old (after_price self.old.agent (message_of price)) }
         ensures answered { out.new.items ≡ out.old.items
-            ++ price_reply self.old (message_of price) }
+            ++ price_reply self.old.basis self.old.agent (message_of price) }
         ensures few { length out.new.items ≤ length out.old.items + device_reply_limit }
     {
         let Some(setpoint) = self.agent.take_price(price) else {
@@ -244,9 +267,9 @@ impl OpenDevice {
     /// anew: appends the Bid with what the agent keeps over a restart before it.
     fn take_old(&mut self, child: u16, kept: u32, out: &mut Vec<u8>)
         requires room { vec_len out.old + device_reply_limit ≤ vec_capacity out.old }
-        ensures taken { self.new ≡ after_old self.old kept }
+        ensures taken { self.new ≡ with_agent self.old (after_old self.old.agent kept) }
         ensures answered { out.new.items ≡ out.old.items
-            ++ old_reply child self.old (after_old self.old kept) }
+            ++ old_reply child self.old.basis self.old.agent (after_old self.old.agent kept) }
         ensures few { length out.new.items ≤ length out.old.items + device_reply_limit }
     {
         if self.agent.take_old(kept).is_none() {
@@ -260,7 +283,7 @@ impl OpenDevice {
     fn send_newest(&self, child: u16, out: &mut Vec<u8>)
         requires room { vec_len out.old + frame_limit ≤ vec_capacity out.old }
         ensures written { out.new.items ≡ out.old.items
-            ++ sent_again child self.now.number (newest_demand self.now) }
+            ++ sent_again child self.now.agent.number (newest_demand self.now.agent) }
         ensures few { length out.new.items ≤ length out.old.items + frame_limit }
     {
         let resume = self.agent.resume();
@@ -283,8 +306,8 @@ impl OpenDevice {
     ) -> Result<(), AllocError>
         requires small { IsSmall stored.now.newest }
         requires room { vec_len out.old + device_reply_limit ≤ vec_capacity out.old }
-        ensures back { OnOk result (self.new
-            ≡ agent_stored stored.now.number stored.now.newest stored.now.index) }
+        ensures back { OnOk result (self.new ≡ with_agent self.old
+            (agent_stored stored.now.number stored.now.newest stored.now.index)) }
         ensures answered { OnOk result (out.new.items ≡ out.old.items
             ++ sent_again child stored.now.number stored.now.newest) }
         ensures unchanged { OnErr result ((self.new ≡ self.old) × (out.new.items ≡ out.old.items)) }

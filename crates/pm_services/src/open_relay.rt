@@ -1,44 +1,35 @@
-//! A relay after Hello, with the price that waits until the relay has its record again.
+//! A relay after Hello: what it makes of each frame, and the bytes of its answers.
 
-ghost use Rattle.std.specs.Prelude.{◌≡◌, ◌+◌, ◌≤◌, ◌<◌, ◌++◌, [], length, replicate, vec_len, vec_capacity, IfOk};
-ghost use Rattle.std.specs.Prelude.{OnOk, OnErr, Some, None};
-ghost use Rattle.std.specs.Prelude.{if◌then◌else◌};
-ghost use Rattle.std.specs.Option.{option_copied};
-ghost use Rattle.pm_base.specs.Limits.{AreSteps, demand_limit, most_nodes};
+ghost use Rattle.std.specs.Prelude.{◌≡◌, ◌+◌, ◌≤◌, length, vec_len, vec_capacity, IfOk, OnOk, OnErr, Some, None};
+ghost use Rattle.pm_base.specs.Limits.{demand_limit, most_nodes};
 ghost use Rattle.pm_bid.specs.Bids.{AllWithinLimit};
-ghost use Rattle.pm_cache.specs.Cache.{kept_number};
-ghost use Rattle.pm_cache.specs.Learning.{demand_of_offer};
-ghost use Rattle.pm_relay.specs.Relays.{AreRelayLimits, with_child_bid, with_new_limits, LooksForRecord};
-ghost use Rattle.pm_wire.specs.Memory.{frame_limit};
-ghost use Rattle.pm_frames.specs.Stored.{relay_resume_size};
-ghost use Rattle.pm_services.specs.Limits.{relay_reply_limit, price_reply_limit};
-ghost use Rattle.pm_services.specs.Receipts.{Appended, sender_place, receipt_bytes};
-ghost use Rattle.pm_relay.specs.Numbers.{known_number, parents_number};
-ghost use Rattle.pm_services.specs.RelayAnswers.{AnswersOpen, AnswersPrice, AnswersExpire, AnswersLimits, AnswersBid, AnswersAsked, AnswersSend, Opens};
-ghost use Rattle.pm_services.specs.RelayAnswers.{TriesWaiting, kept_bid_bytes, dropped_with, waiting_with};
+ghost use Rattle.pm_relay.specs.Relays.{AreRelayLimits};
+ghost use Rattle.pm_services.specs.Limits.{relay_reply_limit};
+ghost use Rattle.pm_services.specs.Receipts.{Appended};
+ghost use Rattle.pm_services.specs.RelayAnswers.{AnswersOpen, AnswersBounded, AnswersGiven, AnswersTold, AnswersKept, ComesUp, ComesUpAgain, HasStored};
 ghost use Rattle.pm_services.specs.RelayStands.{MayStandWithSteps};
 
-use crate::relay_bytes::{write_down, write_own_bid, write_resume, write_sent};
+use crate::bounds::Bounds;
+use crate::setup::RelaySetup;
+use crate::waiting_relay::WaitingRelay;
 use pm_base::Limits;
 use pm_bid::ArrayBid;
-use pm_cache::CacheFault;
 use pm_frames::{
-    ParentFrame, RelayFrame, StoredRelay, write_dropped, write_not_caught_up, write_out_of_numbers,
-    write_reply, write_window_full,
+    NamedBasis, ParentFrame, RelayFrame, StoredRelay, write_other_basis, write_too_much,
 };
-use pm_relay::{PriceOutcome, Relay, SendFault};
 use pm_session::PriceUpdate;
-use pm_wire::{Frame, Reply};
+use pm_wire::Frame;
 use std::alloc::{AllocError, Global};
 use std::marker::Model;
 
-/// A relay that has a basis.
+/// A relay that has a basis, and the bounds of its children.
 ///
-/// Contracts see the relay, and the price that waits.
+/// Contracts see its setup, the bounds, and the relay with the price that waits.
 #[derive(Drop)]
 pub(crate) struct OpenRelay {
-    relay: Relay,
-    waiting: Option<PriceUpdate>,
+    setup: RelaySetup,
+    bounds: Bounds,
+    held: WaitingRelay,
 }
 
 impl Model for OpenRelay {
@@ -65,57 +56,30 @@ fn price_update(number: u32, index: u32, step: u16) -> PriceUpdate
 }
 
 impl OpenRelay {
-    /// A relay to which nothing was sent, over a basis of so many steps.
-    pub(crate) fn new(alloc: Global, steps: usize, limits: Limits) -> Result<OpenRelay, AllocError>
-        requires steps { AreSteps steps }
-        requires limits { AreRelayLimits limits }
-        ensures opens { IfOk result (λ r.
-            Opens limits steps 0 0 0 (replicate most_nodes 0) limits (Some r)) }
+    /// A relay of this setup to which nothing was sent, and whose children have no bounds.
+    pub(crate) fn new(alloc: Global, setup: RelaySetup) -> Result<OpenRelay, AllocError>
+        ensures opens { IfOk result (λ r. ComesUp setup (Some r)) }
     {
-        let relay = Relay::new(alloc, steps, limits)?;
+        let bounds = Bounds::new(alloc)?;
+        let held = WaitingRelay::new(alloc, setup.basis.steps(), setup.terms.limits)?;
         Ok(OpenRelay {
-            relay,
-            waiting: None,
+            setup,
+            bounds,
+            held,
         })
     }
 
-    /// The relay that comes back with what it gave before, over the basis of this one.
-    fn resumed(
-        &self,
-        alloc: Global,
-        limits: Limits,
-        stored: &StoredRelay,
-    ) -> Result<OpenRelay, AllocError>
-        requires limits { AreRelayLimits limits }
-        requires children { length stored.now.numbers ≡ most_nodes }
-        requires answered { stored.now.answered ≤ stored.now.last }
-        requires under { AreRelayLimits stored.now.limits }
-        ensures opens { IfOk result (λ r. Opens limits self.now.relay.gathered.cache.steps
-            stored.now.last stored.now.answered stored.now.index stored.now.numbers stored.now.limits
-            (Some r)) }
-    {
-        let steps = self.relay.demand().steps();
-        let relay = Relay::resumed(alloc, steps, limits, &stored.resume())?;
-        Ok(OpenRelay {
-            relay,
-            waiting: None,
-        })
-    }
-
-    /// Takes a frame after Hello, and appends what is answered, for which there is room. The relay is this child of its parent,
-    /// and has these limits if it comes back. Where an allocation fails nothing changes and nothing is appended.
+    /// Takes a frame after Hello, and appends what is answered, for which there is room. Where an allocation fails nothing changes
+    /// and nothing is appended.
     pub(crate) fn take(
         &mut self,
         alloc: Global,
-        own: u16,
-        limits: Limits,
         frame: &RelayFrame,
         out: &mut Vec<u8>,
     ) -> Result<(), AllocError>
-        requires limits { AreRelayLimits limits }
-        requires stands { MayStandWithSteps (Some self.old.relay.gathered.cache.steps) frame.now }
+        requires stands { MayStandWithSteps (Some self.old.setup.basis.steps) frame.now }
         requires room { vec_len out.old + relay_reply_limit ≤ vec_capacity out.old }
-        ensures answered { OnOk result (Appended (AnswersOpen own limits self.old frame.now
+        ensures answered { OnOk result (Appended (AnswersOpen self.old frame.now
             (Some self.new)) relay_reply_limit out.old.items out.new.items) }
         ensures unchanged { OnErr result (self.new ≡ self.old) }
         ensures nothing_appended { OnErr result (out.new.items ≡ out.old.items) }
@@ -128,11 +92,11 @@ impl OpenRelay {
                     demand,
                 },
             ) => {
-                self.take_bid(own, *child, *number, Some(demand), out);
+                self.take_bid(*child, *number, demand, out);
                 Ok(())
             }
             RelayFrame::Child(Frame::Gone { child, number }) => {
-                self.take_bid(own, *child, *number, None, out);
+                self.held.take_bid(&self.setup, *child, *number, None, out);
                 Ok(())
             }
             RelayFrame::Parent(
@@ -140,257 +104,111 @@ impl OpenRelay {
                     number,
                     index,
                     step,
+                    basis,
                     ..
                 },
             ) => {
-                self.take_price(price_update(*number, *index, *step), out);
+                self.take_price(price_update(*number, *index, *step), basis, out);
                 Ok(())
             }
             RelayFrame::Send => {
-                self.send(own, out);
+                self.held.send(&self.setup, out);
                 Ok(())
             }
             RelayFrame::Expire { child } => {
-                self.take_expire(own, *child, out);
+                self.held.take_expire(&self.setup, *child, out);
                 Ok(())
             }
-            RelayFrame::NewLimits {
-                child,
-                number,
-                limits: given,
-            } => {
-                self.take_limits(own, *child, *number, *given, out);
+            RelayFrame::Limits { number, limits } => {
+                self.take_limits(*number, *limits, out);
                 Ok(())
             }
-            RelayFrame::Resume(stored) => {
-                *self = self.resumed(alloc, limits, stored)?;
+            RelayFrame::Bound { child, bound } => {
+                self.bounds.set(*child, *bound);
                 Ok(())
             }
+            RelayFrame::Resume(stored) => self.come_back(alloc, stored, out),
             // Hello stands first, and Clear is for the auctioneer.
             RelayFrame::Child(Frame::Hello { .. } | Frame::Clear) => Ok(()),
             RelayFrame::Parent(ParentFrame::Old { .. }) => Ok(()),
         }
     }
 
-    /// Takes a Bid of a child, or its Gone where there is no demand, and appends what is answered: its receipt, the relay's own
-    /// bid where it has its record again, and what is due for the price that waits.
-    fn take_bid(
-        &mut self,
-        own: u16,
-        sender: u16,
-        number: u32,
-        demand: Option<&ArrayBid>,
-        out: &mut Vec<u8>,
-    )
+    /// Takes a Bid of a child, unless it is beyond the child's bound, and appends what is answered.
+    fn take_bid(&mut self, sender: u16, number: u32, demand: &ArrayBid, out: &mut Vec<u8>)
         requires first { 1 ≤ sender }
         requires last { sender ≤ most_nodes }
-        requires steps { length (demand_of_offer self.old.relay.gathered.cache
-            (option_copied demand)) ≡ self.old.relay.gathered.cache.steps }
-        requires small { AllWithinLimit demand_limit
-            (demand_of_offer self.old.relay.gathered.cache (option_copied demand)) }
+        requires steps { length demand.now ≡ self.old.setup.basis.steps }
+        requires small { AllWithinLimit demand_limit demand.now }
         requires room { vec_len out.old + relay_reply_limit ≤ vec_capacity out.old }
-        ensures answered { Appended (AnswersBid own self.old sender number
-            (option_copied demand.entry) self.new) relay_reply_limit out.old.items out.new.items }
-    {
-        let had_record = self.relay.resend().is_some();
-        self.learn(sender, number, demand, out);
-        self.send_again(own, had_record, out);
-        self.try_waiting(out);
-    }
-
-    /// Takes limits that are given in the place of a child, and appends what is answered: their receipt, the relay's own bid where
-    /// it has its record again, and what is due for the price that waits.
-    fn take_limits(
-        &mut self,
-        own: u16,
-        sender: u16,
-        number: u32,
-        limits: Limits,
-        out: &mut Vec<u8>,
-    )
-        requires first { 1 ≤ sender }
-        requires last { sender ≤ most_nodes }
-        requires limits { AreRelayLimits limits }
-        requires room { vec_len out.old + relay_reply_limit ≤ vec_capacity out.old }
-        ensures answered { Appended (AnswersLimits own self.old sender number limits self.new)
+        ensures answered { Appended (AnswersBounded self.old sender number demand.now self.new)
             relay_reply_limit out.old.items out.new.items }
     {
-        let had_record = self.relay.resend().is_some();
-        self.learn_limits(sender, number, limits, out);
-        self.send_again(own, had_record, out);
-        self.try_waiting(out);
+        if !self.bounds.admit(sender, demand) {
+            write_too_much(sender, number, out);
+            return;
+        }
+        self.held.take_bid(&self.setup, sender, number, Some(demand), out);
     }
 
-    /// Learns limits, and appends their receipt.
-    fn learn_limits(&mut self, sender: u16, number: u32, limits: Limits, out: &mut Vec<u8>)
-        requires first { 1 ≤ sender }
-        requires last { sender ≤ most_nodes }
+    /// Takes a price of the parent, unless it is of another basis, and appends what is answered.
+    fn take_price(&mut self, price: PriceUpdate, basis: &NamedBasis, out: &mut Vec<u8>)
+        requires step { price.step < basis.now.steps }
+        requires room { vec_len out.old + relay_reply_limit ≤ vec_capacity out.old }
+        ensures answered { Appended (AnswersTold self.old price basis.now self.new)
+            relay_reply_limit out.old.items out.new.items }
+    {
+        if !basis.is(&self.setup.basis) {
+            write_other_basis(price.number, price.index, out);
+            return;
+        }
+        self.held.take_price(&self.setup, price, out);
+    }
+
+    /// Takes limits, which are given in the place that the arguments name, and appends what is answered.
+    fn take_limits(&mut self, number: u32, limits: Limits, out: &mut Vec<u8>)
         requires limits { AreRelayLimits limits }
-        requires room { vec_len out.old + 7 ≤ vec_capacity out.old }
-        ensures learnt { LooksForRecord (with_new_limits self.old.relay (sender_place sender) number
-            limits) self.new.relay }
-        ensures waits { self.new.waiting ≡ self.old.waiting }
-        ensures written { out.new.items ≡ out.old.items ++ receipt_bytes
-            (kept_number self.old.relay.gathered.cache (sender_place sender)) sender number }
-        ensures few { vec_len out.new ≤ vec_len out.old + 7 }
-        ensures capacity { vec_capacity out.old ≤ vec_capacity out.new }
-    {
-        let place = usize::from(sender) - 1;
-        if let Err(CacheFault::Old { kept }) = self.relay.set_limits(place, number, limits) {
-            let receipt = Reply::Old {
-                child: sender,
-                kept,
-            };
-            write_reply(receipt, out);
-        }
-    }
-
-    /// Lets a child go, and appends what is answered: the relay's own bid where it has its record again, and what is due for the
-    /// price that waits.
-    fn take_expire(&mut self, own: u16, sender: u16, out: &mut Vec<u8>)
-        requires first { 1 ≤ sender }
-        requires last { sender ≤ most_nodes }
         requires room { vec_len out.old + relay_reply_limit ≤ vec_capacity out.old }
-        ensures answered { Appended (AnswersExpire own self.old sender self.new) relay_reply_limit
-            out.old.items out.new.items }
+        ensures answered { Appended (AnswersGiven self.old number limits self.new)
+            relay_reply_limit out.old.items out.new.items }
     {
-        let had_record = self.relay.resend().is_some();
-        self.expire(sender);
-        self.send_again(own, had_record, out);
-        self.try_waiting(out);
-    }
-
-    /// Lets a child go.
-    fn expire(&mut self, sender: u16)
-        requires first { 1 ≤ sender }
-        requires last { sender ≤ most_nodes }
-        ensures learnt { LooksForRecord (with_child_bid self.old.relay (sender_place sender)
-            (parents_number (known_number self.old.relay.recorded
-            self.old.relay.gathered.cache.heads (sender_place sender))) None) self.new.relay }
-        ensures waits { self.new.waiting ≡ self.old.waiting }
-    {
-        let place = usize::from(sender) - 1;
-        let _number = self.relay.expire(place);
-    }
-
-    /// Learns a child's Bid or Gone, and appends its receipt.
-    fn learn(&mut self, sender: u16, number: u32, demand: Option<&ArrayBid>, out: &mut Vec<u8>)
-        requires first { 1 ≤ sender }
-        requires last { sender ≤ most_nodes }
-        requires steps { length (demand_of_offer self.old.relay.gathered.cache
-            (option_copied demand)) ≡ self.old.relay.gathered.cache.steps }
-        requires small { AllWithinLimit demand_limit
-            (demand_of_offer self.old.relay.gathered.cache (option_copied demand)) }
-        requires room { vec_len out.old + 7 ≤ vec_capacity out.old }
-        ensures learnt { LooksForRecord (with_child_bid self.old.relay (sender_place sender) number
-            (option_copied demand.entry)) self.new.relay }
-        ensures waits { self.new.waiting ≡ self.old.waiting }
-        ensures written { out.new.items ≡ out.old.items ++ receipt_bytes
-            (kept_number self.old.relay.gathered.cache (sender_place sender)) sender number }
-        ensures few { vec_len out.new ≤ vec_len out.old + 7 }
-        ensures capacity { vec_capacity out.old ≤ vec_capacity out.new }
-    {
-        let place = usize::from(sender) - 1;
-        if let Err(CacheFault::Old { kept }) = self.relay.learn(place, number, demand) {
-            let receipt = Reply::Old {
-                child: sender,
-                kept,
-            };
-            write_reply(receipt, out);
+        if let Some(giver) = self.setup.terms.giver {
+            self.held.take_limits(&self.setup, giver, number, limits, out);
         }
     }
 
-    /// Appends the relay's newest bid, if the relay has the record of it and had not before.
-    fn send_again(&self, own: u16, had_record: bool, out: &mut Vec<u8>)
-        requires room { vec_len out.old + frame_limit ≤ vec_capacity out.old }
-        ensures written { out.new.items ≡ out.old.items
-            ++ (if had_record then [] else kept_bid_bytes own self.now.relay) }
-        ensures few { vec_len out.new ≤ vec_len out.old + frame_limit }
-        ensures capacity { vec_capacity out.old ≤ vec_capacity out.new }
-    {
-        if !had_record && self.relay.resend().is_some() {
-            write_own_bid(&self.relay, own, out);
-        }
-    }
-
-    /// Sends the relay's bid, or appends why there is none, and then tries the price that waits again.
-    fn send(&mut self, own: u16, out: &mut Vec<u8>)
+    /// Comes back with what the relay gave before, and learns by itself the limits that it was given, if it was given any.
+    fn come_back(
+        &mut self,
+        alloc: Global,
+        stored: &StoredRelay,
+        out: &mut Vec<u8>,
+    ) -> Result<(), AllocError>
+        requires stored { HasStored stored.now }
         requires room { vec_len out.old + relay_reply_limit ≤ vec_capacity out.old }
-        ensures answered { Appended (AnswersSend own self.old self.new) relay_reply_limit
+        ensures answered { OnOk result (Appended (ComesUpAgain self.old stored.now self.new)
+            relay_reply_limit out.old.items out.new.items) }
+        ensures unchanged { OnErr result (self.new ≡ self.old) }
+        ensures nothing_appended { OnErr result (out.new.items ≡ out.old.items) }
+    {
+        self.held = WaitingRelay::resumed(alloc, &self.setup, stored)?;
+        self.learn_kept(stored, out);
+        Ok(())
+    }
+
+    /// Learns the limits that the relay was given before it came back, if it was given any, and appends what is answered.
+    fn learn_kept(&mut self, stored: &StoredRelay, out: &mut Vec<u8>)
+        requires stored { HasStored stored.now }
+        requires room { vec_len out.old + relay_reply_limit ≤ vec_capacity out.old }
+        ensures answered { Appended (AnswersKept self.old stored.now self.new) relay_reply_limit
             out.old.items out.new.items }
     {
-        self.send_bid(own, out);
-        self.try_waiting(out);
-    }
-
-    /// Sends the relay's bid, and appends it with what the relay keeps over a restart before it, or why there is none.
-    fn send_bid(&mut self, own: u16, out: &mut Vec<u8>)
-        requires room { vec_len out.old + (relay_resume_size + frame_limit) ≤ vec_capacity out.old }
-        ensures answered { Appended (AnswersAsked own self.old.relay self.new.relay)
-            (relay_resume_size + frame_limit) out.old.items out.new.items }
-        ensures waits { self.new.waiting ≡ self.old.waiting }
-        ensures few { vec_len out.new ≤ vec_len out.old + (relay_resume_size + frame_limit) }
-        ensures capacity { vec_capacity out.old ≤ vec_capacity out.new }
-    {
-        match self.relay.send() {
-            Ok(_number) => write_sent(&self.relay, own, out),
-            Err(SendFault::NotCaughtUp) => write_not_caught_up(out),
-            Err(SendFault::NotChanged) => write_reply(Reply::NotChanged, out),
-            Err(SendFault::WindowFull) => write_window_full(out),
-            Err(SendFault::OutOfNumbers) => write_out_of_numbers(out),
-        }
-    }
-
-    /// Takes a price of the parent, and appends the prices for the children with what the relay keeps over a restart after them,
-    /// or that the price was dropped. A price whose record the relay may have again waits.
-    fn take_price(&mut self, price: PriceUpdate, out: &mut Vec<u8>)
-        requires step { price.step < self.old.relay.gathered.cache.steps }
-        requires room { vec_len out.old + price_reply_limit ≤ vec_capacity out.old }
-        ensures answered { Appended (AnswersPrice self.old price self.new) price_reply_limit
-            out.old.items out.new.items }
-    {
-        match self.relay.take_price(price) {
-            PriceOutcome::PassedOn => {
-                write_down(&self.relay, price, out);
-                write_resume(&self.relay, out);
-            }
-            PriceOutcome::Alone => write_resume(&self.relay, out),
-            PriceOutcome::Waits => self.wait_with(price, out),
-            PriceOutcome::Dropped => write_dropped(price.number, price.index, out),
-        }
-    }
-
-    /// Keeps the price, or the one that waits already: the one with the greater index, and of two with one index the first. Appends
-    /// that the other was dropped.
-    fn wait_with(&mut self, price: PriceUpdate, out: &mut Vec<u8>)
-        requires step { price.step < self.old.relay.gathered.cache.steps }
-        requires room { vec_len out.old + 9 ≤ vec_capacity out.old }
-        ensures waits { self.new.waiting ≡ waiting_with self.old.waiting price }
-        ensures relay { self.new.relay ≡ self.old.relay }
-        ensures written { out.new.items ≡ out.old.items ++ dropped_with self.old.waiting price }
-        ensures capacity { vec_capacity out.old ≤ vec_capacity out.new }
-    {
-        let Some(first) = self.waiting else {
-            self.waiting = Some(price);
+        let Some(giver) = self.setup.terms.giver else {
             return;
         };
-        if first.index < price.index {
-            self.waiting = Some(price);
-            write_dropped(first.number, first.index, out);
-        } else {
-            write_dropped(price.number, price.index, out);
-        }
-    }
-
-    /// Takes the price that waits, if there is one, as if it came now.
-    fn try_waiting(&mut self, out: &mut Vec<u8>)
-        requires room { vec_len out.old + price_reply_limit ≤ vec_capacity out.old }
-        ensures answered { Appended (TriesWaiting self.old.waiting self.old.relay self.new)
-            price_reply_limit out.old.items out.new.items }
-    {
-        if let Some(price) = self.waiting {
-            self.waiting = None;
-            self.take_price(price, out);
+        let number = stored.number_of(usize::from(giver) - 1);
+        if number > 0 {
+            self.take_limits(number, stored.resume().limits, out);
         }
     }
 }

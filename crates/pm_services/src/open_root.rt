@@ -1,86 +1,55 @@
 //! An auctioneer after Hello: what it makes of each frame, and the bytes of its answers.
 
-ghost use Rattle.std.specs.Prelude.{◌≡◌, ◌+◌, ◌≤◌, ◌++◌, length, replicate, vec_len, vec_capacity, IfOk, OnOk, OnErr};
-ghost use Rattle.std.specs.Prelude.{Some, None, if◌then◌else◌, []};
-ghost use Rattle.std.specs.Option.{option_copied};
-ghost use Rattle.pm_base.specs.Limits.{AreSteps, demand_limit, most_nodes};
+ghost use Rattle.std.specs.Prelude.{◌≡◌, ◌+◌, ◌≤◌, length, vec_len, vec_capacity, IfOk, OnOk, OnErr, Some};
+ghost use Rattle.pm_base.specs.Limits.{demand_limit, most_nodes};
 ghost use Rattle.pm_bid.specs.Bids.{AllWithinLimit};
-ghost use Rattle.pm_cache.specs.Cache.{kept_number};
-ghost use Rattle.pm_cache.specs.Learning.{demand_of_offer};
-ghost use Rattle.pm_wire.specs.Memory.{reply_limit};
-ghost use Rattle.pm_relay.specs.Roots.{RootComesBack, with_root_bid, LooksForClearing};
-ghost use Rattle.pm_relay.specs.Numbers.{known_number, parents_number};
 ghost use Rattle.pm_services.specs.Limits.{root_reply_limit};
-ghost use Rattle.pm_services.specs.Receipts.{sender_place, receipt_bytes, Appended};
-ghost use Rattle.pm_services.specs.RootAnswers.{AnswersRootExpire, AnswersRootBid, AnswersClear, AnswersOpenRoot, stored_root, not_cleared_reply, kept_prices_bytes};
-ghost use Rattle.pm_frames.specs.Stored.{root_resume_bytes, root_resume_size};
+ghost use Rattle.pm_services.specs.Receipts.{Appended};
+ghost use Rattle.pm_services.specs.RootAnswers.{AnswersOpenRoot, AnswersRootBounded, RootComesUp};
 ghost use Rattle.pm_services.specs.RootStands.{MayStandWithSteps};
 
+use crate::bounds::Bounds;
+use crate::held_root::HeldRoot;
+use pm_basis::Basis;
 use pm_bid::ArrayBid;
-use pm_cache::CacheFault;
-use pm_frames::{
-    RootFrame, StoredRoot, write_not_caught_up, write_out_of_numbers, write_reply,
-    write_root_resume,
-};
-use pm_relay::{Root, RootFault};
-use pm_wire::{Frame, Reply, write_prices};
+use pm_frames::{RootFrame, write_too_much};
+use pm_wire::Frame;
 use std::alloc::{AllocError, Global};
 use std::marker::Model;
 
-/// An auctioneer that has a basis, and how many steps the basis has.
+/// An auctioneer that has a basis, and the bounds of its children.
 ///
-/// Contracts see the auctioneer.
+/// Contracts see these.
 #[derive(Drop)]
 pub(crate) struct OpenRoot {
-    root: Root,
-    steps: usize,
+    basis: Basis,
+    bounds: Bounds,
+    held: HeldRoot,
 }
 
 impl Model for OpenRoot {
-    ghost use Rattle.pm_relay.specs.Roots.{RootValue};
+    ghost use Rattle.pm_services.specs.RootAnswers.{OpenRoot};
 
-    ghost Value = { RootValue };
+    ghost Value = { OpenRoot };
 
-    ghost use Rattle.pm_services.specs.OpenRootFields.{AreOpenRootFields};
+    ghost use Rattle.pm_services.specs.OpenRootFields.{open_root_of, AreOpenRootFields};
 
-    ghost view = { λ it. it.root };
+    ghost view = { open_root_of };
 
     ghost invariant = { AreOpenRootFields };
 }
 
-/// Appends why the market is not cleared.
-fn write_refusal(fault: RootFault, out: &mut Vec<u8>)
-    requires room { vec_len out.old + 1 ≤ vec_capacity out.old }
-    ensures written { out.new.items ≡ out.old.items ++ not_cleared_reply fault }
-    ensures few { length out.new.items ≤ length out.old.items + 1 }
-{
-    match fault {
-        RootFault::NotCaughtUp => write_not_caught_up(out),
-        RootFault::NotChanged => write_reply(Reply::NotChanged, out),
-        RootFault::OutOfNumbers => write_out_of_numbers(out),
-    }
-}
-
 impl OpenRoot {
-    /// An auctioneer over a basis of so many steps, to which nothing was sent.
-    pub(crate) fn new(alloc: Global, steps: usize) -> Result<OpenRoot, AllocError>
-        requires { AreSteps steps }
-        ensures { IfOk result (λ root. RootComesBack steps 0 (replicate most_nodes 0) root) }
+    /// An auctioneer of this basis to which nothing was sent, and whose children have no bounds.
+    pub(crate) fn new(alloc: Global, basis: &Basis) -> Result<OpenRoot, AllocError>
+        ensures opens { IfOk result (λ r. RootComesUp basis.now (Some r)) }
     {
-        let root = Root::new(alloc, steps)?;
-        Ok(OpenRoot { root, steps })
-    }
-
-    /// The auctioneer over the same basis that comes back with what one gave before a restart.
-    fn resumed(&self, alloc: Global, stored: &StoredRoot) -> Result<OpenRoot, AllocError>
-        requires { length stored.now.numbers ≡ most_nodes }
-        ensures { IfOk result (λ root. RootComesBack self.now.auction.cache.steps stored.now.last
-            stored.now.numbers root) }
-    {
-        let root = Root::resumed(alloc, self.steps, stored.last(), stored.numbers())?;
+        let bounds = Bounds::new(alloc)?;
+        let held = HeldRoot::new(alloc, basis.steps())?;
         Ok(OpenRoot {
-            root,
-            steps: self.steps,
+            basis: *basis,
+            bounds,
+            held,
         })
     }
 
@@ -92,7 +61,7 @@ impl OpenRoot {
         frame: &RootFrame,
         out: &mut Vec<u8>,
     ) -> Result<(), AllocError>
-        requires stands { MayStandWithSteps (Some self.old.auction.cache.steps) frame.now }
+        requires stands { MayStandWithSteps (Some self.old.basis.steps) frame.now }
         requires room { vec_len out.old + root_reply_limit ≤ vec_capacity out.old }
         ensures answered { OnOk result (Appended
             (AnswersOpenRoot self.old frame.now (Some self.new)) root_reply_limit out.old.items
@@ -108,155 +77,48 @@ impl OpenRoot {
                     demand,
                 },
             ) => {
-                self.take_bid(*child, *number, Some(demand), out);
+                self.take_bid(*child, *number, demand, out);
                 Ok(())
             }
             RootFrame::Market(Frame::Gone { child, number }) => {
-                self.take_bid(*child, *number, None, out);
+                self.held.take_bid(&self.basis, *child, *number, None, out);
                 Ok(())
             }
             RootFrame::Market(Frame::Clear) => {
-                self.clear(out);
+                self.held.clear(&self.basis, out);
                 Ok(())
             }
             RootFrame::Expire { child } => {
-                self.take_expire(*child, out);
+                self.held.take_expire(&self.basis, *child, out);
+                Ok(())
+            }
+            RootFrame::Bound { child, bound } => {
+                self.bounds.set(*child, *bound);
+                Ok(())
+            }
+            RootFrame::Resume(stored) => {
+                self.held = self.held.resumed(alloc, stored)?;
                 Ok(())
             }
             // Hello stands first and only there.
             RootFrame::Market(Frame::Hello { .. }) => Ok(()),
-            RootFrame::Resume(stored) => {
-                *self = self.resumed(alloc, stored)?;
-                Ok(())
-            }
         }
     }
 
-    /// Takes a child's Bid, or its Gone where there is no demand, and appends its receipt. If the auctioneer has its newest
-    /// clearing again with it, the prices of that clearing are appended again.
-    fn take_bid(&mut self, sender: u16, number: u32, demand: Option<&ArrayBid>, out: &mut Vec<u8>)
+    /// Takes a Bid of a child, unless it is beyond the child's bound, and appends what is answered.
+    fn take_bid(&mut self, sender: u16, number: u32, demand: &ArrayBid, out: &mut Vec<u8>)
         requires first { 1 ≤ sender }
         requires last { sender ≤ most_nodes }
-        requires steps { length (demand_of_offer self.old.auction.cache (option_copied demand))
-            ≡ self.old.auction.cache.steps }
-        requires small { AllWithinLimit demand_limit
-            (demand_of_offer self.old.auction.cache (option_copied demand)) }
-        requires room { vec_len out.old + (7 + reply_limit) ≤ vec_capacity out.old }
-        ensures answered { Appended (AnswersRootBid self.old sender number
-            (option_copied demand.entry) self.new) (7 + reply_limit) out.old.items out.new.items }
-    {
-        let had_prices = self.root.prices().is_some();
-        self.learn(sender, number, demand, out);
-        self.send_again(had_prices, out);
-    }
-
-    /// Lets a child go. If the auctioneer has its newest clearing again with it, the prices of that clearing are appended again.
-    fn take_expire(&mut self, sender: u16, out: &mut Vec<u8>)
-        requires first { 1 ≤ sender }
-        requires last { sender ≤ most_nodes }
-        requires room { vec_len out.old + reply_limit ≤ vec_capacity out.old }
-        ensures answered { Appended (AnswersRootExpire self.old sender self.new) reply_limit
-            out.old.items out.new.items }
-    {
-        let had_prices = self.root.prices().is_some();
-        self.expire(sender);
-        self.send_again(had_prices, out);
-    }
-
-    /// Lets a child go.
-    fn expire(&mut self, sender: u16)
-        requires first { 1 ≤ sender }
-        requires last { sender ≤ most_nodes }
-        ensures learnt { LooksForClearing (with_root_bid self.old (sender_place sender)
-            (parents_number (known_number self.old.recorded self.old.auction.cache.heads
-            (sender_place sender))) None) self.new }
-    {
-        let place = usize::from(sender) - 1;
-        let _number = self.root.expire(place);
-    }
-
-    /// Learns a child's Bid, or its Gone where there is no demand, and appends its receipt.
-    fn learn(&mut self, sender: u16, number: u32, demand: Option<&ArrayBid>, out: &mut Vec<u8>)
-        requires first { 1 ≤ sender }
-        requires last { sender ≤ most_nodes }
-        requires steps { length (demand_of_offer self.old.auction.cache (option_copied demand))
-            ≡ self.old.auction.cache.steps }
-        requires small { AllWithinLimit demand_limit
-            (demand_of_offer self.old.auction.cache (option_copied demand)) }
-        requires room { vec_len out.old + 7 ≤ vec_capacity out.old }
-        ensures learnt { LooksForClearing (with_root_bid self.old (sender_place sender) number
-            (option_copied demand.entry)) self.new }
-        ensures answered { out.new.items ≡ out.old.items ++ receipt_bytes
-            (kept_number self.old.auction.cache (sender_place sender)) sender number }
-        ensures few { length out.new.items ≤ length out.old.items + 7 }
-        ensures capacity { vec_capacity out.old ≤ vec_capacity out.new }
-    {
-        let place = usize::from(sender) - 1;
-        if let Err(CacheFault::Old { kept }) = self.root.learn(place, number, demand) {
-            let receipt = Reply::Old {
-                child: sender,
-                kept,
-            };
-            write_reply(receipt, out);
-        }
-    }
-
-    /// Appends the prices of the newest clearing, if the auctioneer has them and had not before.
-    fn send_again(&self, had_prices: bool, out: &mut Vec<u8>)
-        requires room { vec_len out.old + reply_limit ≤ vec_capacity out.old }
-        ensures written { out.new.items ≡ out.old.items
-            ++ (if had_prices then [] else kept_prices_bytes self.now) }
-        ensures few { length out.new.items ≤ length out.old.items + reply_limit }
-    {
-        if !had_prices {
-            self.write_prices(out);
-        }
-    }
-
-    /// Appends the prices of the newest clearing, if the auctioneer has them.
-    fn write_prices(&self, out: &mut Vec<u8>)
-        requires room { vec_len out.old + reply_limit ≤ vec_capacity out.old }
-        ensures written { out.new.items ≡ out.old.items ++ kept_prices_bytes self.now }
-        ensures few { length out.new.items ≤ length out.old.items + reply_limit }
-    {
-        if let Some(clearing) = self.root.prices() {
-            write_prices(&clearing, out);
-        }
-    }
-
-    /// Clears the market, and appends the prices with what the auctioneer keeps over a restart before them, or why the market is
-    /// not cleared.
-    fn clear(&mut self, out: &mut Vec<u8>)
+        requires steps { length demand.now ≡ self.old.basis.steps }
+        requires small { AllWithinLimit demand_limit demand.now }
         requires room { vec_len out.old + root_reply_limit ≤ vec_capacity out.old }
-        ensures answered { Appended (AnswersClear self.old self.new) root_reply_limit
-            out.old.items out.new.items }
+        ensures answered { Appended (AnswersRootBounded self.old sender number demand.now self.new)
+            root_reply_limit out.old.items out.new.items }
     {
-        match self.root.clear() {
-            Ok(_cleared) => self.write_cleared(out),
-            Err(fault) => write_refusal(fault, out),
+        if !self.bounds.admit(sender, demand) {
+            write_too_much(sender, number, out);
+            return;
         }
-    }
-
-    /// Appends what the auctioneer keeps over a restart, and after it the prices of its newest clearing, if it has them.
-    fn write_cleared(&self, out: &mut Vec<u8>)
-        requires room { vec_len out.old + (root_resume_size + reply_limit) ≤ vec_capacity out.old }
-        ensures written { out.new.items ≡ out.old.items
-            ++ (root_resume_bytes (stored_root self.now) ++ kept_prices_bytes self.now) }
-        ensures few { length out.new.items
-            ≤ length out.old.items + (root_resume_size + reply_limit) }
-    {
-        self.write_resume(out);
-        self.write_prices(out);
-    }
-
-    /// Appends what the auctioneer keeps over a restart.
-    fn write_resume(&self, out: &mut Vec<u8>)
-        requires room { vec_len out.old + root_resume_size ≤ vec_capacity out.old }
-        ensures written { out.new.items ≡ out.old.items
-            ++ root_resume_bytes (stored_root self.now) }
-        ensures size { vec_len out.new ≡ vec_len out.old + root_resume_size }
-        ensures capacity { vec_capacity out.old ≤ vec_capacity out.new }
-    {
-        write_root_resume(self.root.last(), self.root.numbers(), out);
+        self.held.take_bid(&self.basis, sender, number, Some(demand), out);
     }
 }

@@ -1,35 +1,36 @@
 //! A relay as a service: it reads its children's bids and its parent's prices, and writes its own bids and the prices down.
 
 ghost use Rattle.std.specs.Prelude.{◌≡◌, None};
-ghost use Rattle.pm_relay.specs.Relays.{AreRelayLimits};
+ghost use Rattle.pm_frames.specs.Terms.{AreTerms};
 ghost use Rattle.pm_services.specs.Limits.{relay_reply_limit};
 ghost use Rattle.pm_services.specs.RelayAnswers.{AnswersRelay, IsRelayStart};
 
 use crate::open_relay::OpenRelay;
-use pm_base::{Limits, MOST_NODES, MOST_STEPS};
-use pm_frames::RelayFrame;
+use crate::setup::RelaySetup;
+use pm_base::{MOST_NODES, MOST_STEPS};
+use pm_frames::{RelayFrame, RelayTerms};
 use pm_wire::{Frame, Service};
 use std::alloc::{AllocError, Global};
 use std::marker::Model;
 
-/// The most bytes of a relay's bid, of the prices for its children, and of what it keeps over a restart.
-const BID_LIMIT: usize = 7 + 4 * MOST_STEPS;
+/// The most bytes of a relay's bid, with what is said behind it, of the prices for its children, and of what it keeps over a restart.
+const BID_LIMIT: usize = 7 + 4 * MOST_STEPS + 5;
 
-const PRICES_LIMIT: usize = 13 * MOST_NODES;
+const PRICES_LIMIT: usize = 23 * MOST_NODES;
 
-const RESUME_BYTES: usize = 21 + 4 * MOST_NODES;
+const RESUME_BYTES: usize = 41 + 4 * MOST_NODES;
 
 /// The most bytes of the answers to a frame: a bid and prices, each with what the relay keeps over a restart.
 const REPLY_LIMIT: usize = BID_LIMIT + PRICES_LIMIT + 2 * RESUME_BYTES;
 
 /// A relay that takes the frames of its children and of its parent.
 ///
-/// Contracts see its own number at its parent, its limits, and the relay once there is a basis.
+/// Contracts see its own number at its parent, what the arguments say of it, and the relay once there is a basis.
 #[derive(Drop)]
 pub struct RelayService {
     alloc: Global,
     child: u16,
-    limits: Limits,
+    terms: RelayTerms,
     relay: Option<OpenRelay>,
 }
 
@@ -46,16 +47,15 @@ impl Model for RelayService {
 }
 
 impl RelayService {
-    /// The service of a relay that is this child of its parent, with limits on the power that it announces, in watts. It takes no
-    /// memory.
-    pub fn new(alloc: Global, child: u16, limits: Limits) -> RelayService
-        requires limits { AreRelayLimits limits }
-        ensures { result ≡ record { child = child; limits = limits; relay = None } }
+    /// The service of a relay that is this child of its parent, of which the arguments say this. It takes no memory.
+    pub fn new(alloc: Global, child: u16, terms: RelayTerms) -> RelayService
+        requires terms { AreTerms terms }
+        ensures { result ≡ record { child = child; terms = terms; relay = None } }
     {
         RelayService {
             alloc,
             child,
-            limits,
+            terms,
             relay: None,
         }
     }
@@ -72,10 +72,15 @@ impl Service<RelayFrame> for RelayService {
         // The room comes first, so that want of memory changes nothing.
         out.reserve(REPLY_LIMIT)?;
         if let Some(relay) = &mut self.relay {
-            return relay.take(self.alloc, self.child, self.limits, frame, out);
+            return relay.take(self.alloc, frame, out);
         }
         if let RelayFrame::Child(Frame::Hello { basis }) = frame {
-            self.relay = Some(OpenRelay::new(self.alloc, basis.steps(), self.limits)?);
+            let setup = RelaySetup {
+                child: self.child,
+                terms: self.terms,
+                basis: *basis,
+            };
+            self.relay = Some(OpenRelay::new(self.alloc, setup)?);
         }
         Ok(())
     }

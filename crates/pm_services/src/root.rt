@@ -12,7 +12,7 @@ use std::alloc::{AllocError, Global};
 use std::marker::Model;
 
 /// The most bytes of the answers to a frame: a receipt, what the auctioneer keeps over a restart, and a price for each child.
-const REPLY_LIMIT: usize = 7 + (5 + 4 * MOST_NODES) + 13 * MOST_NODES;
+const REPLY_LIMIT: usize = 7 + (15 + 4 * MOST_NODES) + 23 * MOST_NODES;
 
 /// An auctioneer that takes the frames of its children.
 ///
@@ -25,9 +25,9 @@ pub struct RootService {
 
 impl Model for RootService {
     ghost use Rattle.std.specs.Prelude.{Option};
-    ghost use Rattle.pm_relay.specs.Roots.{RootValue};
+    ghost use Rattle.pm_services.specs.RootAnswers.{OpenRoot};
 
-    ghost Value = { Option RootValue };
+    ghost Value = { Option OpenRoot };
 
     ghost view = { λ service. service.root };
 }
@@ -55,7 +55,7 @@ impl Service<RootFrame> for RootService {
             return root.take(self.alloc, frame, out);
         }
         if let RootFrame::Market(Frame::Hello { basis }) = frame {
-            self.root = Some(OpenRoot::new(self.alloc, basis.steps())?);
+            self.root = Some(OpenRoot::new(self.alloc, basis)?);
         }
         Ok(())
     }
